@@ -1,0 +1,6 @@
+-- What a buffer holds after a call.
+use Rattle.std.specs.Prelude.{ℕ, List, ◌++◌, length, take, drop}
+
+-- the buffer with these bytes at its front, as far as they fit, and its other bytes as they were
+abbrev pub overwritten : List ℕ → List ℕ → List ℕ
+overwritten buffer bytes = take (length buffer) bytes ++ drop (length bytes) buffer

@@ -1,0 +1,46 @@
+-- What a streaming encoder has taken of a message, and what a caller does with its answers.
+use Rattle.std.specs.Prelude.{◌≡◌, ℕ, ◌+◌, ◌≤◌, ◌==◌, Bool, List, [], ◌∷◌, ◌++◌, length, take, slice_set, if◌then◌else◌}
+use Rattle.cobs.specs.declared.enc.state.PushResult.{PushResult}
+use Rattle.cobs.specs.declared.enc.state.PushResult.TheVariants.{AddSingle, ModifyFromStartAndSkip, ModifyFromStartAndPushAndSkip}
+use Rattle.cobs.specs.Grammar.{IsEncodedFrame, IsOpenFrame, is_full, last_of}
+
+-- where the open block of a frame begins, and its code so far
+pub record OpenBlock : Type 0 where
+  pub index : ℕ
+  pub code : ℕ
+
+-- the encoder has taken m: some open frame of m ends in this block
+abbrev pub EncoderAfter : OpenBlock → List ℕ → Type 0
+EncoderAfter state m = (f : List ℕ) × IsOpenFrame f m state.index state.code
+
+-- g is f, but for the byte at i
+abbrev pub AgreeOutside : ℕ → List ℕ → List ℕ → Type 0
+AgreeOutside i f g = (x : ℕ) × (g ≡ slice_set f i x)
+
+-- the answer to a byte: a zero closes the open block, the 254th nonzero byte fills it, any other one joins it
+abbrev pub push_answer : OpenBlock → ℕ → PushResult
+push_answer state byte =
+    if byte == 0 then ModifyFromStartAndSkip (state.index, state.code)
+    else (if state.code == 254 then ModifyFromStartAndPushAndSkip (state.index, 255, byte) else AddSingle byte)
+
+-- the open block behind that byte
+abbrev pub next_open : OpenBlock → ℕ → OpenBlock
+next_open state byte =
+    if byte == 0 then record { index = state.index + state.code; code = 1 }
+    else (if state.code == 254 then record { index = state.index + 255; code = 1 } else record { index = state.index; code = state.code + 1 })
+
+-- the list g with an answer carried out, with x as the placeholder
+abbrev pub applied : List ℕ → PushResult → ℕ → List ℕ
+applied g (AddSingle b) x = g ++ b ∷ []
+applied g (ModifyFromStartAndSkip (i, c)) x = slice_set g i c ++ x ∷ []
+applied g (ModifyFromStartAndPushAndSkip (i, c, b)) x = slice_set g i c ++ b ∷ x ∷ []
+
+-- a `CobsEncoder` over this slice, with this open block, has taken m: the slice begins with the encoded frame of m,
+-- but for the byte at the open block's index, and `full` says whether that frame's last block is full
+pub record CobsEncoderAfter (slice : List ℕ) (state : OpenBlock) (full : Bool) (m : List ℕ) : Type 0 where
+  pub frame : List ℕ
+  pub encoded : IsEncodedFrame frame m
+  pub follows : EncoderAfter state m
+  pub fits : length frame ≤ length slice
+  pub begins : AgreeOutside state.index frame (take (length frame) slice)
+  pub noted : full ≡ is_full (last_of encoded.reads.blocks)

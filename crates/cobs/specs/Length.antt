@@ -1,0 +1,40 @@
+-- How long frames are.
+use Rattle.std.specs.Prelude.{◌≡◌, ◌<◌, ◌%◌, ℕ, ◌+◌, ◌-◌, ◌/◌, List, [], ◌∷◌, length, map, max}
+use Rattle.cobs.specs.Stream.{stretches}
+
+-- the lengths of a message's runs: the stretches of nonzero bytes between its zeros and its ends, empty ones too
+abbrev pub runs : List ℕ → List ℕ
+runs m = map length (stretches m)
+
+-- how many blocks more than zeros a message's encoded frame has, but for the last: a run fills a block with each 254
+-- bytes, and the last run closes its last block without one more behind it
+abbrev pub full_blocks : List ℕ → ℕ
+full_blocks [] = 0
+full_blocks (run ∷ []) = (run - 1) / 254
+full_blocks (run ∷ next ∷ more) = run / 254 + full_blocks (next ∷ more)
+
+-- the length of a message's encoded frame
+abbrev pub encoded_len : List ℕ → ℕ
+encoded_len m = length m + 1 + full_blocks (runs m)
+
+-- n / 254 rounded up, and 1 for the empty message
+abbrev pub max_overhead : ℕ → ℕ
+max_overhead n = max 1 ((n + 253) / 254)
+
+-- the length of the longest encoded frame of a message of n bytes
+abbrev pub max_encoded_len : ℕ → ℕ
+max_encoded_len n = n + max_overhead n
+
+-- the last number of a list
+abbrev pub last_number : List ℕ → ℕ
+last_number [] = 0
+last_number (n ∷ []) = n
+last_number (n ∷ next ∷ more) = last_number (next ∷ more)
+
+-- the length of a message's last run
+abbrev pub last_run : List ℕ → ℕ
+last_run m = last_number (runs m)
+
+-- the last run has a positive length divisible by 254
+abbrev pub EndsInFullRun : List ℕ → Type 0
+EndsInFullRun m = (0 < last_run m) × (last_run m % 254 ≡ 0)

@@ -1,0 +1,9 @@
+pub mod Grammar
+pub mod Length
+pub mod Sentinel
+pub mod Piece
+pub mod Stream
+pub mod Buffer
+pub mod Encoder
+pub mod Table
+pub mod Decoder

@@ -1,0 +1,28 @@
+-- The table of `DecoderState`: what each state answers to a byte, and the state behind it.
+use Rattle.std.specs.Prelude.{ℕ, zero, suc, ◌-◌, ◌==◌, Result, Ok, Err, if◌then◌else◌}
+use Rattle.cobs.specs.declared.dec.state.DecoderState.{DecoderState}
+use Rattle.cobs.specs.declared.dec.state.DecoderState.TheVariants.{Idle, Grab, GrabChain}
+use Rattle.cobs.specs.declared.dec.state.DecodeResult.{DecodeResult}
+use Rattle.cobs.specs.declared.dec.state.DecodeResult.TheVariants.{NoData, DataStart, DataComplete, DataContinue}
+use Rattle.cobs.specs.declared.dec.report.DecodeError.{DecodeError}
+use Rattle.cobs.specs.declared.dec.report.DecodeError.TheVariants.{InvalidFrame}
+
+-- the state behind a code: in a block that lacks all the bytes that the code counts
+abbrev pub opened_by : ℕ → DecoderState
+opened_by code = if code == 255 then GrabChain 254 else Grab (code - 1)
+
+-- the answer
+abbrev pub table_answer : DecoderState → ℕ → Result DecodeResult DecodeError
+table_answer Idle byte = if byte == 0 then Ok NoData else Ok DataStart
+table_answer (Grab (suc left)) byte = if byte == 0 then Err (InvalidFrame 0) else Ok (DataContinue byte)
+table_answer (GrabChain (suc left)) byte = if byte == 0 then Err (InvalidFrame 0) else Ok (DataContinue byte)
+table_answer (Grab zero) byte = if byte == 0 then Ok DataComplete else Ok (DataContinue 0)
+table_answer (GrabChain zero) byte = if byte == 0 then Ok DataComplete else Ok NoData
+
+-- the state behind it
+abbrev pub table_state : DecoderState → ℕ → DecoderState
+table_state Idle byte = if byte == 0 then Idle else opened_by byte
+table_state (Grab (suc left)) byte = if byte == 0 then Idle else Grab left
+table_state (GrabChain (suc left)) byte = if byte == 0 then Idle else GrabChain left
+table_state (Grab zero) byte = if byte == 0 then Idle else opened_by byte
+table_state (GrabChain zero) byte = if byte == 0 then Idle else opened_by byte

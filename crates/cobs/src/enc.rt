@@ -1,0 +1,5 @@
+//! Encoding: from messages to frames.
+
+pub mod state;
+
+pub use state::PushResult;
