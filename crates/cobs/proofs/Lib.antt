@@ -1,0 +1,4 @@
+pub mod GrammarLemmas
+pub mod LengthLemmas
+pub mod EncodeLemmas
+pub mod Examples
