@@ -1,4 +1,12 @@
 pub mod GrammarLemmas
 pub mod LengthLemmas
 pub mod EncodeLemmas
+pub mod OpenLemmas
+pub mod OpenedLemmas
+pub mod OpenLenLemmas
+pub mod MaskLemmas
+pub mod ReachLemmas
+pub mod MarkLemmas
+pub mod AfterLemmas
+pub mod CoreLemmas
 pub mod Examples

@@ -5,5 +5,6 @@ pub mod Piece
 pub mod Stream
 pub mod Buffer
 pub mod Encoder
+pub mod Mask
 pub mod Table
 pub mod Decoder

@@ -3,8 +3,10 @@ ghost use Rattle.std.specs.Prelude.{◌≡◌, ◌<◌, ◌≤◌, ◌+◌, ◌�
 ghost use Rattle.cobs.specs.Grammar.{HasNoZero, IsEncodedFrame};
 ghost use Rattle.cobs.specs.Length.{encoded_len};
 
+mod blocks;
 pub mod error;
 pub mod state;
+mod window;
 
 pub use error::DestBufTooSmallError;
 use memchr::memchr;
