@@ -9,7 +9,7 @@ mod enc;
 pub mod laws;
 
 pub use dec::{DecodeError, DecodeReport, DecodeResult, DecoderState, FrameDecoder, PushError};
-pub use enc::{DestBufTooSmallError, PushResult, encode, try_encode};
+pub use enc::{DestBufTooSmallError, EncoderState, PushResult, encode, try_encode};
 
 /// How many bytes longer than its message an encoded frame is at most, for a message of `source_len` bytes.
 ///
