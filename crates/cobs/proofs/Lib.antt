@@ -3,3 +3,4 @@ pub mod LengthLemmas
 pub mod EncodeLemmas
 pub mod Examples
 pub mod OpenLemmas
+pub mod SentinelLemmas

@@ -4,11 +4,15 @@ ghost use Rattle.cobs.specs.Grammar.{HasNoZero, IsEncodedFrame};
 ghost use Rattle.cobs.specs.Length.{encoded_len};
 
 pub mod error;
+pub mod sentinel;
 pub mod state;
+pub mod vector;
 
 pub use error::DestBufTooSmallError;
 use memchr::memchr;
+pub use sentinel::{encode_including_sentinels, encode_with_sentinel, try_encode_including_sentinels};
 pub use state::{EncoderState, PushResult};
+pub use vector::{encode_vec, encode_vec_including_sentinels, encode_vec_with_sentinel};
 
 /// How many bytes a full block has behind its code.
 const FULL_BLOCK_BYTES: usize = 254;

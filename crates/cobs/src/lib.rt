@@ -9,7 +9,11 @@ mod enc;
 pub mod laws;
 
 pub use dec::{DecodeError, DecodeReport, DecodeResult, DecoderState, FrameDecoder, PushError};
-pub use enc::{DestBufTooSmallError, EncoderState, PushResult, encode, try_encode};
+pub use enc::{
+    DestBufTooSmallError, EncoderState, PushResult, encode, encode_including_sentinels, encode_vec,
+    encode_vec_including_sentinels, encode_vec_with_sentinel, encode_with_sentinel, try_encode,
+    try_encode_including_sentinels,
+};
 
 /// How many bytes longer than its message an encoded frame is at most, for a message of `source_len` bytes.
 ///
