@@ -68,8 +68,8 @@ pub fn try_encode_including_sentinels(
         return Err(DestBufTooSmallError);
     }
     let last = dest.len() - 1;
-    let len = try_encode(source, &mut dest[1..last])?;
+    let written = try_encode(source, &mut dest[1..last])?;
     dest[0] = 0;
-    dest[len + 1] = 0;
-    Ok(len + 2)
+    dest[written + 1] = 0;
+    Ok(written + 2)
 }
