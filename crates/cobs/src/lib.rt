@@ -4,5 +4,8 @@
 mod dec;
 mod enc;
 
-pub use dec::{DecodeError, DecodeReport, DecodeResult, DecoderState, FrameDecoder, PushError};
+pub use dec::{
+    CobsDecoder, CobsDecoderHeapless, CobsDecoderOwned, DecodeError, DecodeReport, DecodeResult,
+    DecoderState, FrameDecoder, PushError,
+};
 pub use enc::PushResult;
