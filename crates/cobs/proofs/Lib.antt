@@ -1,2 +1,3 @@
 pub mod PieceLemmas
 pub mod FeedLemmas
+pub mod StreamLemmas
