@@ -1,0 +1,2 @@
+pub mod PieceCuts
+pub mod WindowSteps
