@@ -6,3 +6,5 @@ pub mod OpenLemmas
 pub mod PieceLemmas
 pub mod FeedLemmas
 pub mod StreamLemmas
+pub mod PieceCuts
+pub mod WindowSteps

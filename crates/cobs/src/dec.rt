@@ -5,8 +5,10 @@ pub mod heapless;
 mod inner;
 pub mod lent;
 pub mod owned;
+mod piece;
 pub mod report;
 pub mod state;
+mod window;
 
 pub use frame_decoder::FrameDecoder;
 pub use heapless::CobsDecoderHeapless;
