@@ -3,6 +3,8 @@
 
 mod dec;
 mod enc;
+mod stream;
 
 pub use dec::{DecodeError, DecodeReport, DecodeResult, DecoderState, FrameDecoder, PushError};
 pub use enc::PushResult;
+pub use stream::{FrameOutcome, decode_stream};
