@@ -8,3 +8,4 @@ pub mod FeedLemmas
 pub mod StreamLemmas
 pub mod PieceCuts
 pub mod WindowSteps
+pub mod SoFar

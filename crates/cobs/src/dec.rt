@@ -1,13 +1,13 @@
 //! Decoding: from frames to messages.
 
-pub mod frame_decoder;
-pub mod heapless;
+mod frame_decoder;
+mod heapless;
 mod inner;
-pub mod lent;
-pub mod owned;
+mod lent;
+mod owned;
 mod piece;
-pub mod report;
-pub mod state;
+mod report;
+mod state;
 mod window;
 
 pub use frame_decoder::FrameDecoder;
