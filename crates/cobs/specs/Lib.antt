@@ -7,3 +7,4 @@ pub mod Buffer
 pub mod Encoder
 pub mod Table
 pub mod Decoder
+pub mod Laws
