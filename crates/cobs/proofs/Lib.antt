@@ -1,3 +1,7 @@
 pub mod FrameLemmas
 pub mod OutcomeLemmas
 pub mod JoinLemmas
+pub mod GrammarLemmas
+pub mod LengthLemmas
+pub mod EncodeLemmas
+pub mod Examples
