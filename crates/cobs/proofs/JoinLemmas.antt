@@ -1,5 +1,5 @@
 -- Frames joined, the fronts of a frame, and frames for another sentinel.
-use Rattle.std.proofs.Common.{◌≡◌, ◌≢◌, ℕ, ◌+◌, ◌<◌, ◌↔◌, Bool, true, false, List, [], ◌∷◌, ◌++◌, length, All, if◌then◌else◌, refl, sym, ap, ◌∙◌, subst, arith, append-nil, append_assoc}
+use Rattle.std.proofs.Common.{◌≡◌, ◌≢◌, ℕ, ◌↔◌, List, [], ◌∷◌, ◌++◌, All, refl, sym, ap, ◌∙◌, subst, append-nil, append_assoc}
 use Rattle.std.specs.List.{concat}
 use Rattle.std.specs.Int.Bits.{bit_xor, xor_assoc, xor_self, xor_zero_r}
 use Rattle.std.proofs.lemmas.List.Elements.{All-head, All-tail, All-nil, All-cons, All-append, All-map, All-weaker}
@@ -7,11 +7,7 @@ use Rattle.cobs.specs.Grammar.{IsBlock, bytes_of, joint, message_of, last_of, Is
 use Rattle.cobs.specs.Piece.{parts}
 use Rattle.cobs.specs.Sentinel.{xor_each}
 use Rattle.cobs.specs.Laws.{EndsAtBlock}
-use Rattle.cobs.proofs.FrameLemmas.{parts-block, parts-frame, frame_nonzero, frame_output}
-
--- a frame has one message
-pub one_message : (f m k : List ℕ) → Reads f m → Reads f k → m ≡ k
-one_message f m k r s = frame_output f m r ∙ sym (frame_output f k s)
+use Rattle.cobs.proofs.FrameLemmas.{parts-block, parts-frame, frame_nonzero}
 
 -- JOINED
 

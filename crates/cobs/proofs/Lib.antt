@@ -5,3 +5,4 @@ pub mod GrammarLemmas
 pub mod LengthLemmas
 pub mod EncodeLemmas
 pub mod Examples
+pub mod UniqueLemmas

@@ -1,12 +1,12 @@
 -- What a whole piece comes to, and the first piece of a stream.
-use Rattle.std.proofs.Common.{◌≡◌, ◌≢◌, ℕ, zero, suc, ◌+◌, ◌-◌, ◌<◌, ◌≤◌, ◌==◌, ◌↔◌, nat_le, Bool, true, false, List, [], ◌∷◌, ◌++◌, length, take, drop, filter, All, IsTrue, Option, Some, None, if◌then◌else◌, refl, sym, ap, ◌∙◌, subst, arith, length-append, inl, inr, ⊎_elim}
-use Rattle.std.specs.List.{concat, slice_split, onto_first}
-use Rattle.std.proofs.lemmas.Bool.{cases_lt, cases_Bool, cases_eq, eq-eqb, ne_eqb, eqb-true, le-leb, true≢false}
+use Rattle.std.proofs.Common.{◌≡◌, ◌≢◌, ℕ, zero, suc, ◌-◌, ◌<◌, ◌≤◌, ◌==◌, ◌↔◌, Bool, true, false, List, [], ◌∷◌, ◌++◌, length, filter, All, Some, if◌then◌else◌, refl, sym, ap, ◌∙◌, subst, arith, length-append, ⊎_elim}
+use Rattle.std.specs.List.{concat, onto_first}
+use Rattle.std.proofs.lemmas.Bool.{cases_Bool, cases_eq, ne_eqb, le-leb}
 use Rattle.std.proofs.lemmas.List.Elements.{All-head, All-tail, All-cons, All-nil}
-use Rattle.std.proofs.lemmas.List.Splits.{slice_split-cons_yes, slice_split-cons_no}
-use Rattle.cobs.specs.Grammar.{HasNoZero, bytes_of, is_full, joint, message_of, Reads}
+use Rattle.std.proofs.lemmas.List.Splits.{slice_split-cons_no}
+use Rattle.cobs.specs.Grammar.{HasNoZero, is_full, joint, message_of, Reads}
 use Rattle.cobs.specs.Piece.{parts_behind, parts, is_whole, IsWhole, output}
-use Rattle.cobs.specs.Stream.{stretches, is_nonempty, first_of, first_found, first_piece, head, Outcome, Message, Broken, TooLong, outcome_of}
+use Rattle.cobs.specs.Stream.{stretches, is_nonempty, first_of, first_found, first_piece, head, Message, Broken, TooLong, outcome_of}
 use Rattle.cobs.proofs.FrameLemmas.{concat-parts, frame_some, frame_nonzero, frame_whole, frame_output, reads_output}
 
 -- A FRAME, BY ITS BYTES
