@@ -56,7 +56,7 @@ parts-append (b ∷ bs) rest h =
     ∙ parts-block b (concat bs ++ rest) (All-head IsBlock b bs h)
     ∙ ap (λ (x : List (List ℕ)). b ∷ x) (parts-append bs rest (All-tail IsBlock b bs h))
 
-All-left : (bs cs : List (List ℕ)) → All IsBlock (bs ++ cs) → All IsBlock bs
+pub All-left : (bs cs : List (List ℕ)) → All IsBlock (bs ++ cs) → All IsBlock bs
 All-left [] cs h = All-nil IsBlock
 All-left (b ∷ bs) cs h = All-cons IsBlock b bs (All-head IsBlock b (bs ++ cs) h) (All-left bs cs (All-tail IsBlock b (bs ++ cs) h))
 

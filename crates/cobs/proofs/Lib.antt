@@ -6,3 +6,4 @@ pub mod LengthLemmas
 pub mod EncodeLemmas
 pub mod Examples
 pub mod UniqueLemmas
+pub mod EnumerationLemmas
