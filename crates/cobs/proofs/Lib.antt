@@ -1,3 +1,6 @@
+pub mod FrameLemmas
+pub mod OutcomeLemmas
+pub mod JoinLemmas
 pub mod GrammarLemmas
 pub mod LengthLemmas
 pub mod EncodeLemmas
@@ -9,3 +12,5 @@ pub mod StreamLemmas
 pub mod PieceCuts
 pub mod WindowSteps
 pub mod SoFar
+pub mod UniqueLemmas
+pub mod EnumerationLemmas
