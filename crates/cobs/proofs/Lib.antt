@@ -14,3 +14,4 @@ pub mod WindowSteps
 pub mod SoFar
 pub mod UniqueLemmas
 pub mod EnumerationLemmas
+pub mod SentinelLemmas
