@@ -13,7 +13,11 @@ pub use dec::{
     CobsDecoder, CobsDecoderHeapless, CobsDecoderOwned, DecodeError, DecodeReport, DecodeResult,
     DecoderState, FrameDecoder, PushError,
 };
-pub use enc::{DestBufTooSmallError, EncoderState, PushResult, encode, try_encode};
+pub use enc::{
+    DestBufTooSmallError, EncoderState, PushResult, encode, encode_including_sentinels, encode_vec,
+    encode_vec_including_sentinels, encode_vec_with_sentinel, encode_with_sentinel, try_encode,
+    try_encode_including_sentinels,
+};
 pub use stream::{FrameOutcome, decode_stream};
 
 /// How many bytes longer than its message an encoded frame is at most, for a message of `source_len` bytes.
