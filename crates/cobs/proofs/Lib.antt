@@ -1,3 +1,5 @@
 pub mod PieceLemmas
 pub mod FeedLemmas
 pub mod StreamLemmas
+pub mod PushLemmas
+pub mod RunLemmas
