@@ -11,3 +11,5 @@ pub mod Report
 pub mod Machine
 pub mod Buffers
 pub mod Push
+pub mod Streaming
+pub mod Laws

@@ -1,12 +1,14 @@
 //! Decoding: from frames to messages.
 
-pub mod frame_decoder;
-pub mod heapless;
+mod frame_decoder;
+mod heapless;
 mod inner;
-pub mod lent;
-pub mod owned;
-pub mod report;
-pub mod state;
+mod lent;
+mod owned;
+mod piece;
+mod report;
+mod state;
+mod window;
 
 pub use frame_decoder::FrameDecoder;
 pub use heapless::CobsDecoderHeapless;
