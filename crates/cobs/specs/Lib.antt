@@ -10,5 +10,6 @@ pub mod Decoder
 pub mod Report
 pub mod Machine
 pub mod Buffers
+pub mod Push
 pub mod Streaming
 pub mod Laws
