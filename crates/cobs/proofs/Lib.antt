@@ -1,3 +1,6 @@
+pub mod FrameLemmas
+pub mod OutcomeLemmas
+pub mod JoinLemmas
 pub mod GrammarLemmas
 pub mod LengthLemmas
 pub mod EncodeLemmas
@@ -8,3 +11,5 @@ pub mod FeedLemmas
 pub mod StreamLemmas
 pub mod PieceCuts
 pub mod WindowSteps
+pub mod UniqueLemmas
+pub mod EnumerationLemmas
