@@ -13,3 +13,6 @@ pub mod PieceCuts
 pub mod WindowSteps
 pub mod UniqueLemmas
 pub mod EnumerationLemmas
+pub mod HeadLemmas
+pub mod FrontLemmas
+pub mod OutcomeSteps

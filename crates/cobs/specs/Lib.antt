@@ -11,3 +11,4 @@ pub mod Report
 pub mod Machine
 pub mod Buffers
 pub mod Laws
+pub mod Decoding

@@ -10,7 +10,7 @@ pub mod laws;
 
 pub use dec::{
     CobsDecoder, CobsDecoderHeapless, CobsDecoderOwned, DecodeError, DecodeReport, DecodeResult,
-    DecoderState, FrameDecoder, PushError,
+    DecoderState, FrameDecoder, PushError, decode,
 };
 pub use enc::{DestBufTooSmallError, EncoderState, PushResult, encode, try_encode};
 
