@@ -17,3 +17,8 @@ pub mod SoFar
 pub mod UniqueLemmas
 pub mod EnumerationLemmas
 pub mod SentinelLemmas
+pub mod UniqueLemmas
+pub mod EnumerationLemmas
+pub mod HeadLemmas
+pub mod FrontLemmas
+pub mod OutcomeSteps

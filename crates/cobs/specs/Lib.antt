@@ -13,3 +13,5 @@ pub mod Buffers
 pub mod Push
 pub mod Streaming
 pub mod Laws
+pub mod Laws
+pub mod Decoding
