@@ -1,2 +1,3 @@
 pub mod StreamLemmas
 pub mod SoFar
+pub mod ReadingLemmas

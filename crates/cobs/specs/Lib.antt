@@ -8,3 +8,5 @@ pub mod Encoder
 pub mod Table
 pub mod Decoder
 pub mod Streaming
+pub mod Reading
+pub mod Reader
