@@ -7,6 +7,10 @@ pub mod Buffer
 pub mod Encoder
 pub mod Table
 pub mod Decoder
+pub mod Report
+pub mod Machine
+pub mod Buffers
 pub mod Streaming
 pub mod Reading
 pub mod Reader
+pub mod Laws
