@@ -9,6 +9,8 @@ pub mod OpenLemmas
 pub mod PieceLemmas
 pub mod FeedLemmas
 pub mod StreamLemmas
+pub mod PushLemmas
+pub mod RunLemmas
 pub mod PieceCuts
 pub mod WindowSteps
 pub mod SoFar

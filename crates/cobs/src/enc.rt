@@ -3,10 +3,10 @@ ghost use Rattle.std.specs.Prelude.{◌≡◌, ◌<◌, ◌≤◌, ◌+◌, ◌�
 ghost use Rattle.cobs.specs.Grammar.{HasNoZero, IsEncodedFrame};
 ghost use Rattle.cobs.specs.Length.{encoded_len};
 
-pub mod error;
-pub mod sentinel;
-pub mod state;
-pub mod vector;
+mod error;
+mod sentinel;
+mod state;
+mod vector;
 
 pub use error::DestBufTooSmallError;
 use memchr::memchr;
