@@ -7,3 +7,4 @@ pub mod EncodeLemmas
 pub mod Examples
 pub mod UniqueLemmas
 pub mod EnumerationLemmas
+pub mod LawExamples
