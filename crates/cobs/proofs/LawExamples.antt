@@ -120,11 +120,14 @@ fronts_no_frames = (λ (m, r). true≢false (sym (frame_whole (3 ∷ 10 ∷ []) 
 
 -- JOINED
 
+not_none : (block : List ℕ) → block ∷ [] ≢ []
+not_none block = λ e. cc
+
 -- a block alone
 abbrev reads_block : (block : List ℕ) → IsBlock block → Reads block (bytes_of block)
 reads_block block is = record {
   blocks = block ∷ [];
-  frame = record { some = λ e. cc; each = All-cons IsBlock block [] is (All-nil IsBlock); whole = sym (append-nil block) };
+  frame = record { some = not_none block; each = All-cons IsBlock block [] is (All-nil IsBlock); whole = sym (append-nil block) };
   message = refl;
 }
 
