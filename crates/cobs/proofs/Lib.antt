@@ -5,6 +5,13 @@ pub mod GrammarLemmas
 pub mod LengthLemmas
 pub mod EncodeLemmas
 pub mod Examples
+pub mod OpenLemmas
+pub mod PieceLemmas
+pub mod FeedLemmas
+pub mod StreamLemmas
+pub mod PieceCuts
+pub mod WindowSteps
+pub mod SoFar
 pub mod UniqueLemmas
 pub mod EnumerationLemmas
 pub mod LawExamples

@@ -7,4 +7,8 @@ pub mod Buffer
 pub mod Encoder
 pub mod Table
 pub mod Decoder
+pub mod Report
+pub mod Machine
+pub mod Buffers
+pub mod Streaming
 pub mod Laws

@@ -1,9 +1,18 @@
 //! Decoding: from frames to messages.
 
-pub mod frame_decoder;
-pub mod report;
-pub mod state;
+mod frame_decoder;
+mod heapless;
+mod inner;
+mod lent;
+mod owned;
+mod piece;
+mod report;
+mod state;
+mod window;
 
 pub use frame_decoder::FrameDecoder;
+pub use heapless::CobsDecoderHeapless;
+pub use lent::CobsDecoder;
+pub use owned::CobsDecoderOwned;
 pub use report::{DecodeError, DecodeReport, PushError};
 pub use state::{DecodeResult, DecoderState};

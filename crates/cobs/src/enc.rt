@@ -8,7 +8,7 @@ pub mod state;
 
 pub use error::DestBufTooSmallError;
 use memchr::memchr;
-pub use state::PushResult;
+pub use state::{EncoderState, PushResult};
 
 /// How many bytes a full block has behind its code.
 const FULL_BLOCK_BYTES: usize = 254;
