@@ -14,6 +14,7 @@ pub mod RunLemmas
 pub mod PieceCuts
 pub mod WindowSteps
 pub mod SoFar
+pub mod ReadingLemmas
 pub mod UniqueLemmas
 pub mod EnumerationLemmas
 pub mod SentinelLemmas
@@ -22,3 +23,4 @@ pub mod EnumerationLemmas
 pub mod HeadLemmas
 pub mod FrontLemmas
 pub mod OutcomeSteps
+pub mod LawExamples

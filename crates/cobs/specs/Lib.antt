@@ -12,6 +12,8 @@ pub mod Machine
 pub mod Buffers
 pub mod Push
 pub mod Streaming
+pub mod Reading
+pub mod Reader
 pub mod Laws
 pub mod Laws
 pub mod Decoding
