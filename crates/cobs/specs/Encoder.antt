@@ -17,6 +17,11 @@ EncoderAfter state m = (f : List ℕ) × IsOpenFrame f m state.index state.code
 abbrev pub AgreeOutside : ℕ → List ℕ → List ℕ → Type 0
 AgreeOutside i f g = (x : ℕ) × (g ≡ slice_set f i x)
 
+-- what a caller has who carried out each answer over m: the open frame of m that ends in this block, but for the byte
+-- at the block's index
+abbrev pub IsOpenOutput : List ℕ → OpenBlock → List ℕ → Type 0
+IsOpenOutput g state m = (f : List ℕ) × IsOpenFrame f m state.index state.code × AgreeOutside state.index f g
+
 -- the answer to a byte: a zero closes the open block, the 254th nonzero byte fills it, any other one joins it
 abbrev pub push_answer : OpenBlock → ℕ → PushResult
 push_answer state byte =

@@ -1,8 +1,36 @@
 //! Consistent Overhead Byte Stuffing.
 #![tactic(auto)]
 
+ghost use Rattle.std.specs.Prelude.{◌≡◌, ◌<◌, ◌^◌};
+ghost use Rattle.cobs.specs.Length.{max_overhead, max_encoded_len};
+
 mod dec;
 mod enc;
+pub mod laws;
 
 pub use dec::{DecodeError, DecodeReport, DecodeResult, DecoderState, FrameDecoder, PushError};
-pub use enc::PushResult;
+pub use enc::{DestBufTooSmallError, EncoderState, PushResult, encode, try_encode};
+
+/// How many bytes longer than its message an encoded frame is at most, for a message of `source_len` bytes.
+///
+/// This is `source_len / 254` rounded up, and 1 for the empty message: each block of 254 bytes has a code of its own,
+/// and a frame has at least one block. A message without zeros reaches it. Sentinels round the frame aren't counted.
+pub fn max_encoding_overhead(source_len: usize) -> usize
+    ensures { result ≡ max_overhead source_len }
+{
+    if source_len == 0 {
+        return 1;
+    }
+    source_len.div_ceil(254)
+}
+
+/// How many bytes the longest encoded frame of a message of `source_len` bytes has, sentinels not counted: a buffer of
+/// this length has room for each message of that length.
+///
+/// The caller owes that this number fits a `usize`, as it does for each `source_len` up to `isize::MAX`.
+pub fn max_encoding_length(source_len: usize) -> usize
+    requires { max_encoded_len source_len < 2 ^ 64 }
+    ensures { result ≡ max_encoded_len source_len }
+{
+    source_len + max_encoding_overhead(source_len)
+}

@@ -1,0 +1,5 @@
+pub mod GrammarLemmas
+pub mod LengthLemmas
+pub mod EncodeLemmas
+pub mod Examples
+pub mod OpenLemmas

@@ -1,0 +1,11 @@
+use Rattle.cobs.proofs.LengthLemmas.{encoded_len-le, encoded_len-nonzero, encoded_len-reached}
+use Rattle.cobs.proofs.laws.law_4.Goals as goal
+
+pub returns-clause-upper : goal.returns-clause-upper
+returns-clause-upper c = encoded_len-le
+
+pub returns-clause-reached : goal.returns-clause-reached
+returns-clause-reached c = encoded_len-nonzero
+
+pub returns-clause-everywhere : goal.returns-clause-everywhere
+returns-clause-everywhere c = encoded_len-reached

@@ -1,0 +1,9 @@
+//! What an encoder answers where a frame doesn't fit.
+
+use serde::{Deserialize, Serialize};
+use thiserror::Error;
+
+/// The frame is longer than the slice that was to hold it.
+#[derive(Debug, Drop, PartialEq, Eq, Error, Serialize, Deserialize)]
+#[error("out of bounds error during encoding")]
+pub struct DestBufTooSmallError;
