@@ -1,3 +1,4 @@
 pub mod Words
 pub mod Input
 pub mod Text
+pub mod Output

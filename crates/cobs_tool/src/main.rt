@@ -16,7 +16,47 @@
 mod fault;
 mod input;
 mod mode;
+mod modes;
 mod output;
 mod text;
 
-fn main(_rt: HostRuntime) {}
+use fault::ToolFault;
+use mode::{Mode, mode_of};
+use modes::{run_encode, run_show};
+use std::env;
+use std::process::ExitCode;
+use text::fault_line;
+
+const USAGE: &str = "usage: cobs_tool [show|encode|decode]";
+
+fn main(rt: HostRuntime) -> ExitCode {
+    let Some(mode) = mode_of_arguments(&rt) else {
+        let _ = eprintln!(rt; "{USAGE}");
+        return ExitCode::from(2);
+    };
+    match run(&rt, &mode) {
+        Ok(()) => ExitCode::SUCCESS,
+        Err(fault) => {
+            let line = fault_line(&fault);
+            let _ = eprintln!(rt; "{line}");
+            ExitCode::FAILURE
+        }
+    }
+}
+
+/// The mode that the program's arguments ask for, or `None` where they ask for none or can't be read.
+fn mode_of_arguments(rt: &HostRuntime) -> Option<Mode> {
+    let words: Vec<String> = env::args(rt).ok()?.skip(1).collect(rt.alloc()).ok()?;
+    mode_of(&words)
+}
+
+/// Runs the mode from standard input to standard output.
+fn run(rt: &HostRuntime, mode: &Mode) -> Result<(), ToolFault> {
+    let mut input = rt.stdin();
+    let mut output = rt.stdout();
+    match mode {
+        Mode::Show => run_show(rt.alloc(), &mut input, &mut output),
+        Mode::Encode => run_encode(rt.alloc(), &mut input, &mut output),
+        Mode::Decode => run_encode(rt.alloc(), &mut input, &mut output),
+    }
+}
