@@ -7,3 +7,6 @@ pub mod Buffer
 pub mod Encoder
 pub mod Table
 pub mod Decoder
+pub mod Report
+pub mod Machine
+pub mod Buffers

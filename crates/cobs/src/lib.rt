@@ -8,7 +8,10 @@ mod dec;
 mod enc;
 pub mod laws;
 
-pub use dec::{DecodeError, DecodeReport, DecodeResult, DecoderState, FrameDecoder, PushError};
+pub use dec::{
+    CobsDecoder, CobsDecoderHeapless, CobsDecoderOwned, DecodeError, DecodeReport, DecodeResult,
+    DecoderState, FrameDecoder, PushError,
+};
 pub use enc::{DestBufTooSmallError, EncoderState, PushResult, encode, try_encode};
 
 /// How many bytes longer than its message an encoded frame is at most, for a message of `source_len` bytes.
