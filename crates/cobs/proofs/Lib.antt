@@ -6,3 +6,4 @@ pub mod OpenLemmas
 pub mod PieceLemmas
 pub mod FeedLemmas
 pub mod StreamLemmas
+pub mod SoFar

@@ -10,3 +10,4 @@ pub mod Decoder
 pub mod Report
 pub mod Machine
 pub mod Buffers
+pub mod Streaming

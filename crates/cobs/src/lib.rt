@@ -7,12 +7,14 @@ ghost use Rattle.cobs.specs.Length.{max_overhead, max_encoded_len};
 mod dec;
 mod enc;
 pub mod laws;
+mod stream;
 
 pub use dec::{
     CobsDecoder, CobsDecoderHeapless, CobsDecoderOwned, DecodeError, DecodeReport, DecodeResult,
     DecoderState, FrameDecoder, PushError,
 };
 pub use enc::{DestBufTooSmallError, EncoderState, PushResult, encode, try_encode};
+pub use stream::{FrameOutcome, decode_stream};
 
 /// How many bytes longer than its message an encoded frame is at most, for a message of `source_len` bytes.
 ///
