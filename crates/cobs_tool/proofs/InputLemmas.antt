@@ -1,5 +1,5 @@
 -- Lemmas on what a call has read.
-use Rattle.std.proofs.Common.{◌≡◌, ◌<◌, ◌≤◌, ℕ, List, ◌++◌, length, Option, Some, None, Result, Ok, Err, ap, sym, ◌∙◌, append_assoc, subst, arith, refl}
+use Rattle.std.proofs.Common.{◌≡◌, ◌<◌, ◌≤◌, ℕ, List, ◌++◌, length, Option, Some, None, Result, Ok, Err, ap, sym, ◌∙◌, append_assoc, arith, refl}
 use Rattle.std.specs.Prelude.{IsErrAnd}
 use Rattle.std.specs.Io.KnownBytes.{Consumes}
 use Rattle.cobs_tool.specs.declared.fault.ToolFault.{ToolFault}

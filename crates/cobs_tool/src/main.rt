@@ -18,11 +18,12 @@ mod input;
 mod mode;
 mod modes;
 mod output;
+mod report;
 mod text;
 
 use fault::ToolFault;
 use mode::{Mode, mode_of};
-use modes::{run_encode, run_show};
+use modes::{run_decode, run_encode, run_show};
 use std::env;
 use std::process::ExitCode;
 use text::fault_line;
@@ -57,6 +58,6 @@ fn run(rt: &HostRuntime, mode: &Mode) -> Result<(), ToolFault> {
     match mode {
         Mode::Show => run_show(rt.alloc(), &mut input, &mut output),
         Mode::Encode => run_encode(rt.alloc(), &mut input, &mut output),
-        Mode::Decode => run_encode(rt.alloc(), &mut input, &mut output),
+        Mode::Decode => run_decode(rt.alloc(), &mut input, &mut output),
     }
 }

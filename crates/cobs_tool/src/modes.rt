@@ -1,12 +1,14 @@
 //! The three modes, each over any reader and any writer.
 ghost use Rattle.std.specs.Prelude.{◌≡◌, ◌≢◌, ◌≤◌, length, IfErr, IfOk, IfSome, OnOk};
-ghost use Rattle.std.specs.Io.KnownBytes.{Keeps};
+ghost use Rattle.std.specs.Io.KnownBytes.{Appends, Keeps};
+ghost use Rattle.cobs_tool.specs.Report.{report};
 ghost use Rattle.cobs_tool.specs.Input.{HasRead};
 ghost use Rattle.cobs_tool.specs.Output.{IsShown, IsTerminatedFrame, WritesSome};
 
 use crate::fault::ToolFault;
 use crate::input::{MAX_INPUT, read_input};
 use crate::output::write_output;
+use crate::report::report_of;
 use crate::text::hex_line;
 use std::alloc::{AllocError, Global};
 use std::io::{Read, Write};
@@ -55,6 +57,26 @@ pub fn run_encode<R: Read, W: Write>(
     let message = read_input(alloc, input)?;
     let frame = terminated_frame(alloc, &message)?;
     write_output(output, &frame)
+}
+
+/// Prints what becomes of each piece of the input, a stream of frames that are each ended by a zero, as
+/// [`report_of`] says it.
+///
+/// The input is read, and its faults are told, as [`run_show`] does it.
+pub fn run_decode<R: Read, W: Write>(
+    alloc: Global,
+    input: &mut R,
+    output: &mut W,
+) -> Result<(), ToolFault>
+    ensures read { HasRead (R.remaining input.old) (R.remaining input.new) result }
+    ensures reported { OnOk result (IfSome (R.remaining input.old) (λ stream.
+        Appends (W.contents output.old) (W.contents output.new) (report stream))) }
+    ensures unwritten { IfErr result (λ fault. fault ≢ ToolFault.WriteFailed
+        → Keeps (W.contents output.old) (W.contents output.new)) }
+{
+    let stream = read_input(alloc, input)?;
+    let report = report_of(alloc, &stream)?;
+    write_output(output, report.as_bytes())
 }
 
 /// The encoded frame of a message and a zero behind it, the sentinel that ends the frame in a stream.

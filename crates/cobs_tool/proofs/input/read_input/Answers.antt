@@ -1,4 +1,4 @@
-use Rattle.std.proofs.Common.{◌≡◌, ◌++◌, length, take, arith, length-append}
+use Rattle.std.proofs.Common.{◌++◌, take, arith, length-append}
 use Rattle.cobs_tool.proofs.InputLemmas.{Consumes-append, HasRead-too_long, HasRead-no_memory}
 use Rattle.cobs_tool.proofs.input.read_input.Goals as goal
 
