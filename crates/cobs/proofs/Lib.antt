@@ -17,3 +17,4 @@ pub mod SoFar
 pub mod UniqueLemmas
 pub mod EnumerationLemmas
 pub mod SentinelLemmas
+pub mod StretchLemmas

@@ -1,5 +1,6 @@
 //! Decoding: from frames to messages.
 
+mod fit;
 mod frame_decoder;
 mod heapless;
 mod inner;
