@@ -1,5 +1,5 @@
 -- What contracts see of the outcomes of a stream, and when two lists of outcomes differ by a message's bytes alone.
-use Rattle.std.specs.Prelude.{ℕ, ◌≡◌, List, [], ◌∷◌, length, take, map, Option, Some, None, Result, Ok, Err}
+use Rattle.std.specs.Prelude.{ℕ, ◌≡◌, List, [], ◌∷◌, length, take, map, Vec, Option, Some, None, Result, Ok, Err}
 use Rattle.cobs.specs.Stream.{Outcome, Message, Broken, TooLong}
 use Rattle.cobs.specs.declared.dec.report.DecodeError.{DecodeError}
 use Rattle.cobs.specs.declared.dec.report.DecodeError.TheVariants as errors
