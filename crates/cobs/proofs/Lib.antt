@@ -22,3 +22,4 @@ pub mod HeadLemmas
 pub mod FrontLemmas
 pub mod OutcomeSteps
 pub mod LawExamples
+pub mod StretchLemmas
