@@ -18,9 +18,8 @@ pub mod ReadingLemmas
 pub mod UniqueLemmas
 pub mod EnumerationLemmas
 pub mod SentinelLemmas
-pub mod UniqueLemmas
-pub mod EnumerationLemmas
 pub mod HeadLemmas
 pub mod FrontLemmas
 pub mod OutcomeSteps
 pub mod LawExamples
+pub mod KindLemmas
