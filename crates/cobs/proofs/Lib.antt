@@ -23,3 +23,4 @@ pub mod FrontLemmas
 pub mod OutcomeSteps
 pub mod LawExamples
 pub mod StretchLemmas
+pub mod KindLemmas
