@@ -91,9 +91,13 @@ encoded_len-nonzero m h =
 
 pub encoded_len-reached : (n : ℕ) → (m : List ℕ) × (length m ≡ n) × (encoded_len m ≡ max_encoded_len n)
 encoded_len-reached n =
-    let l : length (replicate n 1) ≡ n = length-replicate n 1 in
-    let h = encoded_len-nonzero (replicate n 1) (All-replicate (λ b. b ≢ 0) n 1 (λ e. omega arith)) in
-    (replicate n 1, l, h ∙ ap max_encoded_len l)
+    let ones : List ℕ = replicate n 1 in
+    let l : length ones ≡ n = length-replicate n 1 in
+    let h = encoded_len-nonzero ones (All-replicate (λ byte. byte ≢ 0) n 1 (λ e. cc)) in
+    (ones, l, h ∙ ap max_encoded_len l)
+
+-- the bound, for the tactics of a function
+pub ruleset bounds = encoded_len-le
 
 -- the three lemmas on a first block, for what is left of a message behind `read` bytes, of which the first `len` are nonzero
 module _ (source : List ℕ) (read len : ℕ) (short : len ≤ length (drop read source)) (nonzero : HasNoZero (take len (drop read source))) where

@@ -8,3 +8,12 @@ pub mod Encoder
 pub mod Mask
 pub mod Table
 pub mod Decoder
+pub mod Report
+pub mod Machine
+pub mod Buffers
+pub mod Push
+pub mod Streaming
+pub mod Reading
+pub mod Reader
+pub mod Laws
+pub mod Decoding

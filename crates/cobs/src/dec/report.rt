@@ -1,4 +1,6 @@
 //! What the decoders answer.
+ghost use Rattle.std.specs.Prelude.{◌≡◌};
+ghost use Rattle.cobs.specs.Report.{frame_size_of, parsed_size_of, report_of};
 
 use serde::{Deserialize, Serialize};
 use thiserror::Error;
@@ -22,17 +24,52 @@ pub enum DecodeError {
     TargetBufTooSmall,
 }
 
-/// A decoded message.
+/// The sizes of a decoded message: how many bytes were consumed for it, and how many it has.
 #[derive(Clone, Copy, Debug, PartialEq, Eq, Serialize, Deserialize)]
 pub struct DecodeReport {
     pub(crate) parsed_size: usize,
     pub(crate) frame_size: usize,
 }
 
-/// Why a `push` found no message, and how many bytes it consumed, the one that raised the error included.
+impl DecodeReport {
+    /// The report of these sizes.
+    pub(crate) fn new(parsed_size: usize, frame_size: usize) -> Self
+        ensures { result ≡ report_of parsed_size frame_size }
+    {
+        DecodeReport {
+            parsed_size,
+            frame_size,
+        }
+    }
+
+    /// How many bytes of the source were consumed. The call that made the report says whether leading sentinels
+    /// and the one behind the frame are among them.
+    pub fn parsed_size(&self) -> usize
+        ensures { result ≡ parsed_size_of self.now }
+    {
+        self.parsed_size
+    }
+
+    /// How many bytes the message has; they stand at the front of the buffer.
+    pub fn frame_size(&self) -> usize
+        ensures { result ≡ frame_size_of self.now }
+    {
+        self.frame_size
+    }
+}
+
+/// The name that [`DecodeReport`] had. It is deprecated since version 0.5.0: use `DecodeReport`.
+pub type DecodingResult = DecodeReport;
+
+/// Why a `push` of a streaming decoder found no message, and after how many bytes.
+///
+/// The decoder has taken these bytes and none behind them, so the caller goes on by pushing the others.
 #[derive(Debug, Drop, PartialEq, Eq, Error)]
 #[error("{error}")]
 pub struct PushError {
+    /// The answer to the last byte that was consumed.
     pub error: DecodeError,
+
+    /// How many bytes were consumed, the one that raised the error included.
     pub parsed_size: usize,
 }

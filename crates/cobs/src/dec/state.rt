@@ -1,6 +1,7 @@
 //! The state machine of a decoder, without a buffer.
-ghost use Rattle.std.specs.Prelude.{◌≡◌};
-ghost use Rattle.cobs.specs.Table.{table_answer, table_state};
+ghost use Rattle.std.specs.Prelude.{◌≡◌, ◌≢◌, ◌≤◌};
+ghost use Rattle.cobs.specs.Machine.{left_in, skipped};
+ghost use Rattle.cobs.specs.Table.{opened_by, table_answer, table_state};
 
 use crate::dec::report::DecodeError;
 
@@ -34,4 +35,96 @@ pub enum DecodeResult {
 
     /// This byte belongs to the message, at its end.
     DataContinue(u8),
+}
+
+impl DecoderState {
+    /// The state behind a code, which lacks all the bytes that the code counts.
+    fn opened(code: u8) -> DecoderState
+        requires { code ≢ 0 }
+        ensures { result ≡ opened_by code }
+    {
+        if code == 255 {
+            DecoderState::GrabChain(254)
+        } else {
+            DecoderState::Grab(code - 1)
+        }
+    }
+
+    /// How many bytes the open block lacks.
+    pub(crate) fn left(&self) -> u8
+        ensures { result ≡ left_in self.now }
+    {
+        match self {
+            DecoderState::Idle => 0,
+            DecoderState::Grab(left) | DecoderState::GrabChain(left) => *left,
+        }
+    }
+
+    /// Goes on behind so many bytes of the open block.
+    pub(crate) fn skip(&mut self, run: u8)
+        requires { run ≤ left_in self.old }
+        ensures { self.new ≡ skipped self.old run }
+    {
+        let next = match &*self {
+            DecoderState::Idle => DecoderState::Idle,
+            DecoderState::Grab(left) => DecoderState::Grab(*left - run),
+            DecoderState::GrabChain(left) => DecoderState::GrabChain(*left - run),
+        };
+        *self = next;
+    }
+
+    /// Takes the next byte of a frame, and answers what it brought.
+    ///
+    /// A sentinel, the byte 0, is `DataComplete` where the last block has all the bytes that its code counts,
+    /// and `NoData` where no frame has begun. Inside a block it is the error `InvalidFrame`, whose
+    /// `decoded_bytes` is always 0 here, since the state counts no output. Behind each sentinel the state is
+    /// `Idle`.
+    ///
+    /// Any other byte is a code where no block is open: `DataStart` for the first one, `NoData` behind a full
+    /// block, and behind any other block `DataContinue(0)`, the zero that joins the two blocks. Inside a block it
+    /// is `DataContinue` of the byte itself.
+    ///
+    /// Every state has an answer to every byte, also one that no frame leads to, such as `Grab(255)`. These are
+    /// the block rules of the paper by Cheshire and Baker; the names of the answers are those of the crate `cobs`.
+    pub fn feed(&mut self, byte: u8) -> Result<DecodeResult, DecodeError>
+        ensures answer { result ≡ table_answer self.old byte }
+        ensures state { self.new ≡ table_state self.old byte }
+    {
+        let (answer, next) = match (&*self, byte) {
+            (DecoderState::Idle, 0) => (Ok(DecodeResult::NoData), DecoderState::Idle),
+            (DecoderState::Idle, code) => (Ok(DecodeResult::DataStart), DecoderState::opened(code)),
+            (DecoderState::Grab(0) | DecoderState::GrabChain(0), 0) => {
+                (Ok(DecodeResult::DataComplete), DecoderState::Idle)
+            }
+            (DecoderState::Grab(0), code) => {
+                (
+                    Ok(DecodeResult::DataContinue(0)),
+                    DecoderState::opened(code),
+                )
+            }
+            (DecoderState::GrabChain(0), code) => {
+                (Ok(DecodeResult::NoData), DecoderState::opened(code))
+            }
+            (_, 0) => {
+                (
+                    Err(DecodeError::InvalidFrame { decoded_bytes: 0 }),
+                    DecoderState::Idle,
+                )
+            }
+            (DecoderState::Grab(left), byte) => {
+                (
+                    Ok(DecodeResult::DataContinue(byte)),
+                    DecoderState::Grab(*left - 1),
+                )
+            }
+            (DecoderState::GrabChain(left), byte) => {
+                (
+                    Ok(DecodeResult::DataContinue(byte)),
+                    DecoderState::GrabChain(*left - 1),
+                )
+            }
+        };
+        *self = next;
+        answer
+    }
 }

@@ -1,4 +1,10 @@
 //! The state machine of an encoder, without a buffer.
+ghost use Rattle.std.specs.Prelude.{◌≡◌, ◌<◌, ◌+◌, ◌↔◌, ◌∷◌, ◌++◌, [], ℕ, List, IsTrue, slice_set};
+ghost use Rattle.cobs.specs.Grammar.{IsOpenFrame};
+ghost use Rattle.cobs.specs.Encoder.{EncoderAfter, IsOpenOutput, push_answer, next_open, applied};
+
+use std::alloc::AllocError;
+use std::marker::Model;
 
 /// What a byte of the message changes in the encoded output.
 #[derive(Drop)]
@@ -11,4 +17,107 @@ pub enum PushResult {
 
     /// The byte at the index becomes the code, and the last byte and then a placeholder go to the end.
     ModifyFromStartAndPushAndSkip((usize, u8, u8)),
+}
+
+/// Where the open block of an output begins, and the code that it has so far, from 1 to 254.
+///
+/// The state holds no output, so a caller can stream the encoded bytes into a container of its own. That output begins
+/// as one placeholder, a byte of any value. Each answer of [`push`](EncoderState::push) says what a byte of the message
+/// changes in it, and [`finalize`](EncoderState::finalize) gives the last change. A caller who carries out all of them
+/// has the frame of the message whose last block isn't full. That is the frame that [`encode`](crate::encode) writes,
+/// but where the message's last run of nonzero bytes has a positive length divisible by 254: then it is the longer
+/// frame, the encoded one with a `1` behind it.
+#[derive(Debug, Drop)]
+pub struct EncoderState {
+    code_index: usize,
+    code: u8,
+}
+
+impl Model for EncoderState {
+    ghost use Rattle.std.specs.Prelude.{◌<◌};
+    ghost use Rattle.cobs.specs.Encoder.{OpenBlock};
+
+    ghost Value = { OpenBlock };
+
+    ghost view = { λ s. record { index = s.code_index; code = s.code } };
+
+    ghost invariant = { λ s. (0 < s.code) × (s.code < 255) };
+}
+
+impl Default for EncoderState {
+    ghost is_default = { λ state. state ≡ record { index = 0; code = 1 } };
+
+    /// The start: the open block is the placeholder at index 0, and has no bytes yet.
+    fn default() -> Self
+        ensures start { result ≡ record { index = 0; code = 1 } }
+        ensures after_nothing { EncoderAfter result [] }
+        ensures output { (placeholder : ℕ) → IsOpenOutput (placeholder ∷ []) result [] }
+    {
+        EncoderState {
+            code_index: 0,
+            code: 1,
+        }
+    }
+}
+
+impl Clone for EncoderState {
+    ghost use Rattle.std.specs.Prelude.{◌≡◌, ⊤};
+
+    ghost is_clone = { λ state copy. copy ≡ state };
+
+    ghost is_infallible = { λ _. ⊤ };
+
+    /// An equal state. This takes no memory, so the answer is always Ok.
+    fn clone(&self) -> Result<EncoderState, AllocError> {
+        Ok(EncoderState {
+            code_index: self.code_index,
+            code: self.code,
+        })
+    }
+}
+
+impl EncoderState {
+    /// Whether a byte more can be pushed: whether the index of the next block fits a `usize`, whatever the byte.
+    pub fn can_push(&self) -> bool
+        ensures { IsTrue result ↔ (self.now.index + self.now.code < usize.MAX) }
+    {
+        self.code_index < usize::MAX - self.code as usize
+    }
+
+    /// Takes the next byte of the message, and answers what it changes in the output.
+    ///
+    /// The caller owes that [`can_push`](EncoderState::can_push) is true. Indices count from the start of the output.
+    pub fn push(&mut self, byte: u8) -> PushResult
+        requires { self.old.index + self.old.code < usize.MAX }
+        ensures answer { result ≡ push_answer self.old byte }
+        ensures open { self.new ≡ next_open self.old byte }
+        ensures after { (m : List ℕ) → EncoderAfter self.old m → EncoderAfter self.new (m ++ byte ∷ []) }
+        ensures carried { (m g : List ℕ) (placeholder : ℕ) → IsOpenOutput g self.old m
+            → IsOpenOutput (applied g result placeholder) self.new (m ++ byte ∷ []) }
+    {
+        if byte == 0 {
+            let answer = PushResult::ModifyFromStartAndSkip((self.code_index, self.code));
+            self.code_index += self.code as usize;
+            self.code = 1;
+            answer
+        } else if self.code == 254 {
+            let answer = PushResult::ModifyFromStartAndPushAndSkip((self.code_index, 255, byte));
+            self.code_index += 255;
+            self.code = 1;
+            answer
+        } else {
+            self.code += 1;
+            PushResult::AddSingle(byte)
+        }
+    }
+
+    /// Ends the message: the index at which the last code belongs in the output, and that code.
+    pub fn finalize(self) -> (usize, u8)
+        ensures index { result.0 ≡ self.index }
+        ensures code { result.1 ≡ self.code }
+        ensures completed { (m g : List ℕ) → IsOpenOutput g self m
+            → IsOpenFrame (slice_set g result.0 result.1) m result.0 result.1 }
+    {
+        (self.code_index, self.code)
+    }
 }

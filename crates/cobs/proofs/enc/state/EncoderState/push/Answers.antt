@@ -1,0 +1,35 @@
+use Rattle.std.proofs.Common.{ℕ, ◌+◌, List, [], ◌∷◌, ◌++◌, set, subst, sym, refl}
+use Rattle.cobs.specs.Grammar.{IsOpenFrame}
+use Rattle.cobs.specs.Encoder.{OpenBlock, AgreeOutside, IsOpenOutput}
+use Rattle.cobs.proofs.OpenLemmas.{open-zero, open-more, open-full}
+use Rattle.cobs.proofs.enc.state.EncoderState.push.Goals as goal
+
+pub returns-then-byte-eq0-clause-carried : goal.returns-then-byte-eq0-clause-carried
+returns-then-byte-eq0-clause-carried c = λ m g x o.
+    let index = c.self.inside.code_index in
+    let code = c.self.inside.code in
+    let o' = subst (λ (s : OpenBlock). IsOpenOutput g s m) (sym c.self.view_is) o in
+    subst (λ (b : ℕ). (h : List ℕ) × IsOpenFrame h (m ++ b ∷ []) (index + code) 1 × AgreeOutside (index + code) h (set g index code ++ x ∷ [])) (sym c.if-byte-eq0.true)
+    (open-zero m o'.0 g index code o'.1 o'.2 x)
+
+pub returns-then-byte-eq0-clause-after : goal.returns-then-byte-eq0-clause-after
+returns-then-byte-eq0-clause-after c = λ m o.
+    let r = returns-then-byte-eq0-clause-carried c m (set o.0 c.args.self.now.index 0) 0 (o.0, o.1, (0, refl)) in (r.0, r.1)
+
+pub returns-then-self-clause-carried : goal.returns-then-self-clause-carried
+returns-then-self-clause-carried c = λ m g x o.
+    let o' = subst (λ (s : OpenBlock). IsOpenOutput g s m) (sym c.self.view_is) o in
+    open-full m o'.0 g c.self.inside.code_index c.self.inside.code o'.1 o'.2 c.args.byte x c.if-byte-eq0.false c.if-self.true
+
+pub returns-then-self-clause-after : goal.returns-then-self-clause-after
+returns-then-self-clause-after c = λ m o.
+    let r = returns-then-self-clause-carried c m (set o.0 c.args.self.now.index 0) 0 (o.0, o.1, (0, refl)) in (r.0, r.1)
+
+pub returns-else-self-clause-carried : goal.returns-else-self-clause-carried
+returns-else-self-clause-carried c = λ m g x o.
+    let o' = subst (λ (s : OpenBlock). IsOpenOutput g s m) (sym c.self.view_is) o in
+    open-more m o'.0 g c.self.inside.code_index c.self.inside.code o'.1 o'.2 c.args.byte c.if-byte-eq0.false c.if-self.false
+
+pub returns-else-self-clause-after : goal.returns-else-self-clause-after
+returns-else-self-clause-after c = λ m o.
+    let r = returns-else-self-clause-carried c m (set o.0 c.args.self.now.index 0) 0 (o.0, o.1, (0, refl)) in (r.0, r.1)

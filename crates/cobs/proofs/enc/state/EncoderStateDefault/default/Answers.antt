@@ -1,0 +1,10 @@
+use Rattle.std.proofs.Common.{refl}
+use Rattle.cobs.specs.Grammar.{lone_block}
+use Rattle.cobs.proofs.OpenLemmas.{IsOpenFrame-start}
+use Rattle.cobs.proofs.enc.state.EncoderStateDefault.default.Goals as goal
+
+pub returns-clause-after_nothing : goal.returns-clause-after_nothing
+returns-clause-after_nothing c = (lone_block, IsOpenFrame-start)
+
+pub returns-clause-output : goal.returns-clause-output
+returns-clause-output c = λ placeholder. (lone_block, IsOpenFrame-start, (placeholder, refl))

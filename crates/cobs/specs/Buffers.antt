@@ -1,0 +1,60 @@
+-- What contracts see of the three streaming decoders: their buffers, and where they stand.
+use Rattle.std.specs.Prelude.{ℕ, List, []}
+use Rattle.std.specs.Borrow.{Lends, MutBor, Fml, RattleType, u8, Array}
+use Rattle.std.specs.Vec.{with_items}
+use denote.Param.{value_of}
+use mir.Syntax.{named}
+use Rattle.arrayvec.specs.ArrayVec.{with_items as refilled}
+use Rattle.cobs.specs.declared.dec.lent.CobsDecoder.{CobsDecoder}
+use Rattle.cobs.specs.declared.dec.owned.CobsDecoderOwned.{CobsDecoderOwned}
+use Rattle.cobs.specs.declared.dec.heapless.CobsDecoderHeapless.{CobsDecoderHeapless}
+use Rattle.cobs.specs.contracts.dec.lent.CobsDecoder.{the_row as lent_row}
+use Rattle.cobs.specs.contracts.dec.owned.CobsDecoderOwned.{the_row as owned_row}
+use Rattle.cobs.specs.contracts.dec.heapless.CobsDecoderHeapless.{the_row as heapless_row}
+use Rattle.cobs.specs.Decoder.{Phase}
+use Rattle.cobs.specs.Machine.{phase_of}
+
+-- the bytes of the slice that was lent to a `CobsDecoder`
+abbrev pub lent_buffer : CobsDecoder → List ℕ
+lent_buffer decoder = decoder.dest.now
+
+-- where it stands
+abbrev pub lent_phase : CobsDecoder → Phase
+lent_phase decoder = phase_of decoder.inner
+
+-- which slice that is
+abbrev pub lent_slice : CobsDecoder → ℕ
+lent_slice decoder = decoder.dest.ghost_name
+
+-- the decoder with these bytes in its slice
+abbrev pub with_lent_buffer : CobsDecoder → List ℕ → CobsDecoder
+with_lent_buffer decoder bytes = record decoder { dest = record decoder.dest { now = bytes } }
+
+-- the decoder ends with what the caller leaves behind the reference, and is otherwise as it was
+abbrev pub LendsSlice : MutBor CobsDecoder → MutBor (List ℕ) → Fml
+LendsSlice decoder bytes = Lends (lent_row (record { mir = named 1; lft = [] })) (Array u8 0) decoder bytes (with_lent_buffer decoder.now)
+
+-- the bytes of the vector of a `CobsDecoderOwned`
+abbrev pub owned_buffer : CobsDecoderOwned → List ℕ
+owned_buffer decoder = decoder.dest.items
+
+-- where it stands
+abbrev pub owned_phase : CobsDecoderOwned → Phase
+owned_phase decoder = phase_of decoder.inner
+
+-- the decoder ends with what the caller leaves behind the reference, and is otherwise as it was
+abbrev pub LendsOwned : MutBor CobsDecoderOwned → MutBor (List ℕ) → Fml
+LendsOwned decoder bytes = Lends owned_row (Array u8 0) decoder bytes (λ left. record decoder.now { dest = with_items decoder.now.dest left })
+
+module _ {N : ℕ} where
+  -- the bytes of the vector of a `CobsDecoderHeapless`
+  abbrev pub heapless_buffer : CobsDecoderHeapless N → List ℕ
+  heapless_buffer decoder = decoder.dest.items
+
+  -- where it stands
+  abbrev pub heapless_phase : CobsDecoderHeapless N → Phase
+  heapless_phase decoder = phase_of decoder.inner
+
+-- the decoder ends with what the caller leaves behind the reference, and is otherwise as it was
+abbrev pub LendsHeapless : (N : RattleType) → MutBor (CobsDecoderHeapless (value_of N)) → MutBor (List ℕ) → Fml
+LendsHeapless N decoder bytes = Lends (heapless_row N) (Array u8 0) decoder bytes (λ left. record decoder.now { dest = refilled decoder.now.dest left })

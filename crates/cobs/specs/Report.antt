@@ -1,0 +1,15 @@
+-- What a report of a decoded message tells.
+use Rattle.std.specs.Prelude.{ℕ}
+use Rattle.cobs.specs.declared.dec.report.DecodeReport.{DecodeReport}
+
+-- how many bytes of the source were consumed
+abbrev pub parsed_size_of : DecodeReport → ℕ
+parsed_size_of report = report.parsed_size
+
+-- how many bytes the message has
+abbrev pub frame_size_of : DecodeReport → ℕ
+frame_size_of report = report.frame_size
+
+-- the report of these two sizes
+abbrev pub report_of : ℕ → ℕ → DecodeReport
+report_of parsed frame = record { parsed_size = parsed; frame_size = frame }

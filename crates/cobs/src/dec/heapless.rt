@@ -1,0 +1,132 @@
+//! The streaming decoder over a buffer that lies in the value itself.
+ghost use Rattle.std.specs.Prelude.{◌≡◌, ◌-◌, ◌++◌, [], replicate};
+ghost use Rattle.std.specs.Borrow.{sem};
+ghost use Rattle.arrayvec.specs.ArrayVec.{array_vec_len};
+ghost use Rattle.cobs.specs.Decoder.{DecoderAfter, Feeds};
+ghost use Rattle.cobs.specs.Push.{PushesBytes};
+ghost use Rattle.cobs.specs.Buffers.{heapless_buffer, heapless_phase, LendsHeapless};
+
+use crate::dec::frame_decoder::FrameDecoder;
+use crate::dec::inner::CobsDecoderInner;
+use crate::dec::report::{DecodeError, DecodeReport, PushError};
+use arrayvec::ArrayVec;
+
+/// Decodes a stream of frames, each ended by a zero, into a buffer of `N` bytes that lies in the value itself.
+///
+/// It answers as `CobsDecoder` does, and takes no memory.
+#[derive(Debug, Drop)]
+pub struct CobsDecoderHeapless<const N: usize> {
+    dest: ArrayVec<u8, N>,
+    inner: CobsDecoderInner,
+}
+
+impl<const N: usize> CobsDecoderHeapless<N> {
+    /// An idle decoder over `N` zeros.
+    pub fn new() -> Self
+        ensures buffer { heapless_buffer result ≡ replicate N 0 }
+        ensures idle { DecoderAfter (heapless_buffer result) (heapless_phase result) [] }
+    {
+        CobsDecoderHeapless::new_with_vec(ArrayVec::new())
+    }
+
+    /// An idle decoder over the vector, which keeps what stands in it and is filled with zeros to its capacity,
+    /// `N` bytes.
+    pub fn new_with_vec(vec: ArrayVec<u8, N>) -> Self
+        ensures buffer { heapless_buffer result ≡ vec.entry.items ++ replicate (N - array_vec_len vec.entry) 0 }
+        ensures idle { DecoderAfter (heapless_buffer result) (heapless_phase result) [] }
+    {
+        let mut dest = vec;
+        'fill: for _i in 0..dest.remaining_capacity() {
+            dest.push(0);
+        }
+        CobsDecoderHeapless {
+            dest,
+            inner: CobsDecoderInner::new(),
+        }
+    }
+
+    /// Takes the next byte of the stream, as `CobsDecoder::feed` does.
+    ///
+    /// `Ok(None)`: no piece has ended. `Ok(Some(n))`: a whole frame has, and its message is the buffer's first `n`
+    /// bytes.
+    ///
+    /// # Errors
+    /// `InvalidFrame`: a zero came inside a block; `decoded_bytes` counts the piece's output, which stands at the
+    /// front of the buffer. `TargetBufTooSmall`: the piece's output is longer than the buffer; so is each further
+    /// byte answered, through the zero.
+    pub fn feed(&mut self, byte: u8) -> Result<Option<usize>, DecodeError>
+        ensures feeds { Feeds (heapless_buffer self.old) (heapless_phase self.old) byte result (heapless_buffer self.new) (heapless_phase self.new) }
+    {
+        self.inner.feed(self.dest.as_mut_slice(), byte)
+    }
+
+    /// Takes bytes of the stream, up to the first one whose answer by `feed` isn't `Ok(None)`.
+    ///
+    /// `Ok(None)`: all bytes were taken, and no piece has ended in them. `Ok(Some(report))`: a whole frame has ended;
+    /// `frame_size` is the length of its message, which stands at the front of the buffer, and `parsed_size` counts
+    /// the bytes that were taken, the zero behind the frame included. The others are not looked at: push them next.
+    ///
+    /// # Errors
+    /// A `PushError` has the error of `feed` and how many bytes were taken, the one that raised it included.
+    /// Pushing the bytes behind these goes on with the stream: a piece whose zero raised the error is over, and
+    /// while a piece is too long for the buffer, each push of its bytes takes one, through its zero.
+    pub fn push(&mut self, bytes: &[u8]) -> Result<Option<DecodeReport>, PushError>
+        ensures pushes { PushesBytes (heapless_buffer self.old) (heapless_phase self.old) bytes.now result (heapless_buffer self.new) (heapless_phase self.new) }
+    {
+        self.inner.push(self.dest.as_mut_slice(), bytes)
+    }
+
+    /// Makes the decoder idle, so that the next byte begins a new piece. The buffer is as it was.
+    pub fn reset(&mut self)
+        ensures buffer { heapless_buffer self.new ≡ heapless_buffer self.old }
+        ensures idle { DecoderAfter (heapless_buffer self.new) (heapless_phase self.new) [] }
+    {
+        self.inner = CobsDecoderInner::new();
+    }
+
+    /// The whole buffer, `N` bytes.
+    pub fn dest(&self) -> &[u8]
+        ensures { result.now ≡ heapless_buffer self.now }
+    {
+        self.dest.as_slice()
+    }
+
+    /// The whole buffer, to be written to.
+    ///
+    /// What is written inside a piece changes no answer that this piece gets: only the bytes of its message are
+    /// then not known.
+    pub fn dest_mut(&mut self) -> &mut [u8]
+        ensures* writes_back { sem 𝓛 (LendsHeapless N.row self.entry result) }
+        ensures value { result.now ≡ heapless_buffer self.old }
+    {
+        self.dest.as_mut_slice()
+    }
+}
+
+impl<const N: usize> Default for CobsDecoderHeapless<N> {
+    /// An idle decoder over `N` zeros, as `new` makes it.
+    fn default() -> Self
+        ensures buffer { heapless_buffer result ≡ replicate N 0 }
+        ensures idle { DecoderAfter (heapless_buffer result) (heapless_phase result) [] }
+    {
+        CobsDecoderHeapless::new()
+    }
+}
+
+impl<const N: usize> FrameDecoder for CobsDecoderHeapless<N> {
+    ghost use Rattle.cobs.specs.Buffers.{heapless_buffer, heapless_phase};
+
+    ghost bytes = { heapless_buffer };
+
+    ghost phase = { heapless_phase };
+
+    ghost loan = { λ _. 0 };
+
+    fn feed_byte(&mut self, byte: u8) -> Result<Option<usize>, DecodeError> {
+        self.feed(byte)
+    }
+
+    fn buffer(&self) -> &[u8] {
+        self.dest()
+    }
+}

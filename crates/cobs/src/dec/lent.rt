@@ -1,0 +1,107 @@
+//! The streaming decoder over a slice that is lent to it.
+ghost use Rattle.std.specs.Prelude.{◌≡◌, []};
+ghost use Rattle.std.specs.Borrow.{sem};
+ghost use Rattle.cobs.specs.Decoder.{DecoderAfter, Feeds};
+ghost use Rattle.cobs.specs.Push.{PushesBytes};
+ghost use Rattle.cobs.specs.Buffers.{lent_buffer, lent_phase, lent_slice, LendsSlice};
+
+use crate::dec::frame_decoder::FrameDecoder;
+use crate::dec::inner::CobsDecoderInner;
+use crate::dec::report::{DecodeError, DecodeReport, PushError};
+
+/// Decodes a stream of frames, each ended by a zero, into a slice that is lent to it.
+///
+/// The decoder takes the stream byte by byte, in calls as they come. Where a frame ends, its message stands at the
+/// front of the slice, until the next frame begins. Each piece of the stream, that is what stands between two
+/// zeros, is judged by its own bytes and the slice's length alone: after every zero the decoder is idle, so a
+/// broken frame costs no other.
+#[derive(Debug, Drop)]
+pub struct CobsDecoder<'a> {
+    dest: &'a mut [u8],
+    inner: CobsDecoderInner,
+}
+
+impl<'a> CobsDecoder<'a> {
+    /// An idle decoder over the slice, which may be of any length, also empty. No byte of it is changed.
+    pub fn new(dest: &'a mut [u8]) -> CobsDecoder<'a>
+        ensures same_slice { lent_slice result ≡ dest.entry.ghost_name }
+        ensures buffer { lent_buffer result ≡ dest.old }
+        ensures idle { DecoderAfter (lent_buffer result) (lent_phase result) [] }
+    {
+        CobsDecoder {
+            dest,
+            inner: CobsDecoderInner::new(),
+        }
+    }
+
+    /// Takes the next byte of the stream.
+    ///
+    /// `Ok(None)`: no piece has ended, and the output of this piece so far fits the slice; the slice begins with
+    /// it. `Ok(Some(n))`: the byte was the zero behind a whole frame, and the message is the slice's first `n`
+    /// bytes. All other bytes of the slice are as they were.
+    ///
+    /// # Errors
+    /// `InvalidFrame`: the byte was a zero inside a block; `decoded_bytes` counts the piece's output, which stands
+    /// at the front of the slice. `TargetBufTooSmall`: the output of the piece is longer than the slice, which
+    /// holds its first bytes; that is the answer to each byte from the one that finds no room through the zero.
+    /// After every zero the decoder is idle. (What is answered after an overflow is a choice of this library.)
+    pub fn feed(&mut self, byte: u8) -> Result<Option<usize>, DecodeError>
+        ensures feeds { Feeds (lent_buffer self.old) (lent_phase self.old) byte result (lent_buffer self.new) (lent_phase self.new) }
+        ensures same_slice { lent_slice self.new ≡ lent_slice self.old }
+    {
+        self.inner.feed(self.dest, byte)
+    }
+
+    /// Takes bytes of the stream, up to the first one whose answer by `feed` isn't `Ok(None)`.
+    ///
+    /// `Ok(None)`: all bytes were taken, and no piece has ended in them. `Ok(Some(report))`: a whole frame has ended;
+    /// `frame_size` is the length of its message, which stands at the front of the slice, and `parsed_size` counts
+    /// the bytes that were taken, the zero behind the frame included. The others are not looked at: push them next.
+    ///
+    /// # Errors
+    /// A `PushError` has the error of `feed` and how many bytes were taken, the one that raised it included.
+    /// Pushing the bytes behind these goes on with the stream: a piece whose zero raised the error is over, and
+    /// while a piece is too long for the slice, each push of its bytes takes one, through its zero.
+    pub fn push(&mut self, bytes: &[u8]) -> Result<Option<DecodeReport>, PushError>
+        ensures pushes { PushesBytes (lent_buffer self.old) (lent_phase self.old) bytes.now result (lent_buffer self.new) (lent_phase self.new) }
+        ensures same_slice { lent_slice self.new ≡ lent_slice self.old }
+    {
+        self.inner.push(self.dest, bytes)
+    }
+
+    /// The whole slice.
+    pub fn dest(&self) -> &[u8]
+        ensures { result.now ≡ lent_buffer self.now }
+    {
+        self.dest
+    }
+
+    /// The whole slice, to be written to.
+    ///
+    /// What is written inside a piece changes no answer that this piece gets: only the bytes of its message are
+    /// then not known.
+    pub fn dest_mut(&mut self) -> &mut [u8]
+        ensures* writes_back { sem 𝓛 (LendsSlice self.entry result) }
+        ensures value { result.now ≡ lent_buffer self.old }
+    {
+        self.dest
+    }
+}
+
+impl FrameDecoder for CobsDecoder<'_> {
+    ghost use Rattle.cobs.specs.Buffers.{lent_buffer, lent_phase, lent_slice};
+
+    ghost bytes = { lent_buffer };
+
+    ghost phase = { lent_phase };
+
+    ghost loan = { lent_slice };
+
+    fn feed_byte(&mut self, byte: u8) -> Result<Option<usize>, DecodeError> {
+        self.feed(byte)
+    }
+
+    fn buffer(&self) -> &[u8] {
+        self.dest()
+    }
+}

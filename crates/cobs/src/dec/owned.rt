@@ -1,0 +1,111 @@
+//! The streaming decoder over a buffer of its own, in memory that it takes once.
+ghost use Rattle.std.specs.Prelude.{◌≡◌, [], replicate, IfOk};
+ghost use Rattle.std.specs.Borrow.{sem};
+ghost use Rattle.cobs.specs.Decoder.{DecoderAfter, Feeds};
+ghost use Rattle.cobs.specs.Push.{PushesBytes};
+ghost use Rattle.cobs.specs.Buffers.{owned_buffer, owned_phase, LendsOwned};
+
+use crate::dec::frame_decoder::FrameDecoder;
+use crate::dec::inner::CobsDecoderInner;
+use crate::dec::report::{DecodeError, DecodeReport, PushError};
+use std::alloc::{AllocError, Global};
+
+/// Decodes a stream of frames, each ended by a zero, into a buffer of its own.
+///
+/// It answers as `CobsDecoder` does. Its memory is taken once, by `new`, and its buffer keeps its length.
+#[derive(Debug, Drop)]
+pub struct CobsDecoderOwned {
+    dest: Vec<u8>,
+    inner: CobsDecoderInner,
+}
+
+impl CobsDecoderOwned {
+    /// An idle decoder over a buffer of this many zeros.
+    ///
+    /// # Errors
+    /// `AllocError`: no memory was found for the buffer.
+    pub fn new(alloc: Global, dest_buf_size: usize) -> Result<Self, AllocError>
+        ensures buffer { IfOk result (λ decoder. owned_buffer decoder ≡ replicate dest_buf_size 0) }
+        ensures idle { IfOk result (λ decoder. DecoderAfter (owned_buffer decoder) (owned_phase decoder) []) }
+    {
+        Ok(CobsDecoderOwned {
+            dest: vec![in alloc; 0; dest_buf_size]?,
+            inner: CobsDecoderInner::new(),
+        })
+    }
+
+    /// Takes the next byte of the stream, as `CobsDecoder::feed` does.
+    ///
+    /// `Ok(None)`: no piece has ended. `Ok(Some(n))`: a whole frame has, and its message is the buffer's first `n`
+    /// bytes.
+    ///
+    /// # Errors
+    /// `InvalidFrame`: a zero came inside a block; `decoded_bytes` counts the piece's output, which stands at the
+    /// front of the buffer. `TargetBufTooSmall`: the piece's output is longer than the buffer; so is each further
+    /// byte answered, through the zero.
+    pub fn feed(&mut self, byte: u8) -> Result<Option<usize>, DecodeError>
+        ensures feeds { Feeds (owned_buffer self.old) (owned_phase self.old) byte result (owned_buffer self.new) (owned_phase self.new) }
+    {
+        self.inner.feed(&mut self.dest, byte)
+    }
+
+    /// Takes bytes of the stream, up to the first one whose answer by `feed` isn't `Ok(None)`.
+    ///
+    /// `Ok(None)`: all bytes were taken, and no piece has ended in them. `Ok(Some(report))`: a whole frame has ended;
+    /// `frame_size` is the length of its message, which stands at the front of the buffer, and `parsed_size` counts
+    /// the bytes that were taken, the zero behind the frame included. The others are not looked at: push them next.
+    ///
+    /// # Errors
+    /// A `PushError` has the error of `feed` and how many bytes were taken, the one that raised it included.
+    /// Pushing the bytes behind these goes on with the stream: a piece whose zero raised the error is over, and
+    /// while a piece is too long for the buffer, each push of its bytes takes one, through its zero.
+    pub fn push(&mut self, bytes: &[u8]) -> Result<Option<DecodeReport>, PushError>
+        ensures pushes { PushesBytes (owned_buffer self.old) (owned_phase self.old) bytes.now result (owned_buffer self.new) (owned_phase self.new) }
+    {
+        self.inner.push(&mut self.dest, bytes)
+    }
+
+    /// Makes the decoder idle, so that the next byte begins a new piece. The buffer is as it was.
+    pub fn reset(&mut self)
+        ensures buffer { owned_buffer self.new ≡ owned_buffer self.old }
+        ensures idle { DecoderAfter (owned_buffer self.new) (owned_phase self.new) [] }
+    {
+        self.inner = CobsDecoderInner::new();
+    }
+
+    /// The whole buffer.
+    pub fn dest(&self) -> &[u8]
+        ensures { result.now ≡ owned_buffer self.now }
+    {
+        self.dest.as_slice()
+    }
+
+    /// The whole buffer, to be written to.
+    ///
+    /// What is written inside a piece changes no answer that this piece gets: only the bytes of its message are
+    /// then not known.
+    pub fn dest_mut(&mut self) -> &mut [u8]
+        ensures* writes_back { sem 𝓛 (LendsOwned self.entry result) }
+        ensures value { result.now ≡ owned_buffer self.old }
+    {
+        self.dest.as_mut_slice()
+    }
+}
+
+impl FrameDecoder for CobsDecoderOwned {
+    ghost use Rattle.cobs.specs.Buffers.{owned_buffer, owned_phase};
+
+    ghost bytes = { owned_buffer };
+
+    ghost phase = { owned_phase };
+
+    ghost loan = { λ _. 0 };
+
+    fn feed_byte(&mut self, byte: u8) -> Result<Option<usize>, DecodeError> {
+        self.feed(byte)
+    }
+
+    fn buffer(&self) -> &[u8] {
+        self.dest()
+    }
+}
