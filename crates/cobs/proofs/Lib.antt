@@ -3,7 +3,6 @@ pub mod OutcomeLemmas
 pub mod JoinLemmas
 pub mod GrammarLemmas
 pub mod LengthLemmas
-pub mod EncodeLemmas
 pub mod OpenLemmas
 pub mod OpenedLemmas
 pub mod OpenLenLemmas
@@ -12,8 +11,8 @@ pub mod ReachLemmas
 pub mod MarkLemmas
 pub mod AfterLemmas
 pub mod CoreLemmas
+pub mod RoomLemmas
 pub mod Examples
-pub mod OpenLemmas
 pub mod PieceLemmas
 pub mod FeedLemmas
 pub mod StreamLemmas
