@@ -7,7 +7,9 @@ use Rattle.std.proofs.lemmas.List.{length-set, length-take, drop_all, set-set, s
 use Rattle.std.proofs.lemmas.List.Elements.{All-nil}
 use Rattle.cobs.specs.Grammar.{IsBlock, IsEncodedFrame, lone_block}
 use Rattle.cobs.specs.Encoder.{OpenBlock, Reached, CobsEncoderAfter, next_of, end_of, open_len}
+use Rattle.cobs.specs.Length.{encoded_len}
 use Rattle.cobs.proofs.OpenedLemmas.{Opened}
+use Rattle.cobs.proofs.OpenLenLemmas.{Opened-len}
 use Rattle.cobs.proofs.ReachLemmas.{Reaches, Reaches-at, Reaches-start, IsNotFull, taken-full, ends-full, rest-full, taken-open, ends-open}
 use Rattle.cobs.proofs.AfterLemmas.{at, from_after, to_after, end-is, IsEncodedFrame-length}
 use Rattle.cobs.proofs.OpenLemmas.{concat-append}
@@ -107,3 +109,13 @@ after-nothing slice some = to_after slice [] 0 1 1 false refl (omega arith) (ome
   stands = drop_all 1 (take 1 slice) (let l = length-take 1 slice in omega arith);
   noted = refl;
 })
+
+-- how long the frame is once the encoder has taken some bytes more
+pub after-len : (slice m bytes : List ℕ) (r : Reached) → bytes ≢ [] → CobsEncoderAfter slice r m → encoded_len (m ++ bytes) ≡ r.block.index + open_len r.block.code bytes
+after-len slice m bytes r some h =
+    let code : next_of r - r.block.index ≡ r.block.code = omega arith in
+    Opened-len slice m r.block.index (next_of r) r.full bytes (λ full. some) (from_after slice m r h) ∙ ap (λ (n : ℕ). r.block.index + open_len n bytes) code
+
+-- the frame is within the slice
+pub after-fits : (slice m : List ℕ) (r : Reached) → CobsEncoderAfter slice r m → encoded_len m ≤ length slice
+after-fits slice m r h = let l = IsEncodedFrame-length h.frame m h.encoded in let f = h.fits in omega arith

@@ -4,6 +4,7 @@ ghost use Rattle.cobs.specs.Grammar.{IsEncodedFrame};
 ghost use Rattle.cobs.specs.Length.{encoded_len};
 
 mod blocks;
+mod encoder;
 mod error;
 mod room;
 mod sentinel;
@@ -11,8 +12,9 @@ mod state;
 mod vector;
 mod window;
 
-pub use error::DestBufTooSmallError;
 use blocks::{Progress, append, close};
+pub use encoder::CobsEncoder;
+pub use error::DestBufTooSmallError;
 use room::fits;
 pub use sentinel::{
     encode_including_sentinels, encode_with_sentinel, try_encode_including_sentinels,
@@ -34,7 +36,8 @@ pub fn encode(source: &[u8], dest: &mut [u8]) -> usize
     ensures len { result ≡ encoded_len source.now }
     ensures rest { drop result dest.new ≡ drop result dest.old }
 {
-    let progress = append(source, dest, Progress::new());
+    let mut progress = Progress::new();
+    append(source, dest, &mut progress);
     close(dest, progress)
 }
 

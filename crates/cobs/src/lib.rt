@@ -15,9 +15,9 @@ pub use dec::{
     DecoderState, DecodingResult, FrameDecoder, PushError, decode,
 };
 pub use enc::{
-    DestBufTooSmallError, EncoderState, PushResult, encode, encode_including_sentinels, encode_vec,
-    encode_vec_including_sentinels, encode_vec_with_sentinel, encode_with_sentinel, try_encode,
-    try_encode_including_sentinels,
+    CobsEncoder, DestBufTooSmallError, EncoderState, PushResult, encode,
+    encode_including_sentinels, encode_vec, encode_vec_including_sentinels,
+    encode_vec_with_sentinel, encode_with_sentinel, try_encode, try_encode_including_sentinels,
 };
 pub use framed::{FrameReader, FrameSource, Next, ReadFault, Recorded};
 pub use stream::{FrameOutcome, decode_stream};
