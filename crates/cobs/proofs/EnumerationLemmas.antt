@@ -172,11 +172,6 @@ frames_from f m (inr (x, (g, e, is))) = subst (λ (l : List ℕ). Reads l m) (sy
 pub all_frames : (f m : List ℕ) → Reads f m ↔ IsFrameFor f m
 all_frames f m = (frames_of f m, frames_from f m)
 
--- a frame is as long as the encoded one, or one byte longer
-pub frame_lengths : (f m : List ℕ) → Reads f m → (length f ≡ encoded_len m) ⊎ (EndsInFullRun m × (length f ≡ encoded_len m + 1))
-frame_lengths f m r = ⊎_elim
-    (λ e. inl (length-encoded f m e))
-    (λ (w : EndsInFullRun m × ((g : List ℕ) × IsEncodedFrame g m × (f ≡ g ++ lone_block))).
-    let g = w.1.0 in
-    inr (w.0, ap length w.1.2 ∙ length_push g 1 ∙ ap (λ (n : ℕ). n + 1) (length-encoded g m w.1.1)))
-    (frames_of f m r)
+-- the second is one byte longer
+pub length-second : (f m : List ℕ) → IsEncodedFrame f m → EndsInFullRun m → length (f ++ lone_block) ≡ encoded_len m + 1
+length-second f m e x = length_push f 1 ∙ ap (λ (n : ℕ). n + 1) (length-encoded f m e)

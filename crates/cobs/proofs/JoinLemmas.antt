@@ -6,7 +6,7 @@ use Rattle.std.proofs.lemmas.List.Elements.{All-head, All-tail, All-nil, All-con
 use Rattle.cobs.specs.Grammar.{IsBlock, bytes_of, joint, message_of, last_of, IsFrameOf, Reads, IsFrame}
 use Rattle.cobs.specs.Piece.{parts}
 use Rattle.cobs.specs.Sentinel.{xor_each}
-use Rattle.cobs.specs.Laws.{EndsAtBlock}
+use Rattle.cobs.specs.Laws.{EndsAtBlock, IsFront}
 use Rattle.cobs.proofs.FrameLemmas.{parts-block, parts-frame, frame_nonzero}
 
 -- JOINED
@@ -94,7 +94,7 @@ message_of-front first (b ∷ rest) some = (
 pub front_frame : (p q m : List ℕ) (r : Reads (p ++ q) m) → p ≢ [] → IsFrame p ↔ EndsAtBlock p r.blocks
 front_frame p q m r some = (λ (k, s). front_ends p q k r.blocks r.frame s, front_reads p q r.blocks r.frame some)
 
-pub front_message : (p q k m : List ℕ) → Reads (p ++ q) m → Reads p k → (more : List ℕ) × (m ≡ k ++ more)
+pub front_message : (p q k m : List ℕ) → Reads (p ++ q) m → Reads p k → IsFront k m
 front_message p q k m r s =
     let more = message_of-front s.blocks (parts q) s.frame.some in
     (more.0, r.message ∙ ap message_of (first_blocks p q r.blocks s.blocks r.frame s.frame) ∙ more.1 ∙ ap (λ (l : List ℕ). l ++ more.0) (sym s.message))
@@ -105,6 +105,6 @@ xor_twice : (b s : ℕ) → bit_xor (bit_xor b s) s ≡ b
 xor_twice b s = xor_assoc b s s ∙ ap (bit_xor b) (xor_self s) ∙ xor_zero_r b
 
 -- the sentinel stands in no frame for it
-pub no_sentinel : (f m : List ℕ) (s : ℕ) → Reads f m → All (λ b. b ≢ s) (xor_each s f)
-no_sentinel f m s r = All-map (λ b. b ≢ s) (λ b. bit_xor b s) f
+pub no_sentinel : (f : List ℕ) (s : ℕ) → IsFrame f → All (λ b. b ≢ s) (xor_each s f)
+no_sentinel f s (m, r) = All-map (λ b. b ≢ s) (λ b. bit_xor b s) f
     (All-weaker (λ x. x ≢ 0) (λ x. bit_xor x s ≢ s) (λ x nz e. nz (sym (xor_twice x s) ∙ ap (λ (y : ℕ). bit_xor y s) e ∙ xor_self s)) f (frame_nonzero f m r))

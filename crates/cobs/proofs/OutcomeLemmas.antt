@@ -2,8 +2,8 @@
 use Rattle.std.proofs.Common.{◌≡◌, ◌≢◌, ℕ, zero, suc, ◌-◌, ◌<◌, ◌≤◌, ◌==◌, ◌↔◌, Bool, true, false, List, [], ◌∷◌, ◌++◌, length, filter, All, Some, if◌then◌else◌, refl, sym, ap, ◌∙◌, subst, arith, length-append, ⊎_elim}
 use Rattle.std.specs.List.{concat, onto_first}
 use Rattle.std.proofs.lemmas.Bool.{cases_Bool, cases_eq, ne_eqb, le-leb}
-use Rattle.std.proofs.lemmas.List.Elements.{All-head, All-tail, All-cons, All-nil}
-use Rattle.std.proofs.lemmas.List.Splits.{slice_split-cons_no}
+use Rattle.std.proofs.lemmas.List.Elements.{All-head, All-tail, All-cons, All-nil, All-weaker}
+use Rattle.std.proofs.lemmas.List.Splits.{slice_split-cons_no, slice_split_none}
 use Rattle.cobs.specs.Grammar.{HasNoZero, is_full, joint, message_of, Reads}
 use Rattle.cobs.specs.Piece.{parts_behind, parts, is_whole, IsWhole, output}
 use Rattle.cobs.specs.Stream.{stretches, is_nonempty, first_of, first_found, first_piece, head, Message, Broken, TooLong, outcome_of}
@@ -128,3 +128,17 @@ head_reads byte bytes m some below =
     let h = output_within (head (byte ∷ bytes)) in
     let l = length-head (byte ∷ bytes) in
     outcome_reads (head (byte ∷ bytes)) m (length (byte ∷ bytes)) (λ e. (let k = sym (head-cons byte bytes some) ∙ e in cc)) (head_nonzero (byte ∷ bytes)) (head_all (λ b. b < 256) (byte ∷ bytes) below) (omega arith)
+
+-- A PIECE ALONE IS ITS OWN FIRST PIECE AND HEAD
+
+one_stretch : (p : List ℕ) → HasNoZero p → stretches p ≡ p ∷ []
+one_stretch p h = slice_split_none (λ b. b == 0) p (All-weaker (λ b. b ≢ 0) (λ b. (b == 0) ≡ false) (λ b some. ne_eqb b 0 some) p h)
+
+pub head_alone : (p : List ℕ) → HasNoZero p → head p ≡ p
+unfolding head
+head_alone p h = ap first_of (one_stretch p h)
+
+pub first_piece_alone : (p : List ℕ) → p ≢ [] → HasNoZero p → first_piece p ≡ Some p
+unfolding first_piece
+first_piece_alone [] some h = absurd (some refl)
+first_piece_alone (byte ∷ bytes) some h = ap (λ (ps : List (List ℕ)). first_found (filter is_nonempty ps)) (one_stretch (byte ∷ bytes) h)

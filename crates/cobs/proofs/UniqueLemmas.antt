@@ -4,9 +4,9 @@ use Rattle.std.specs.List.{concat}
 use Rattle.std.proofs.lemmas.Bool.{cases_order, cases_lt, cases_eq, cases_Bool, eqb-true}
 use Rattle.std.proofs.lemmas.List.{drop_more, get_or_at, get_or-take, append_cancel_left}
 use Rattle.std.proofs.lemmas.List.Elements.{All-head, All-tail, All-cons, All-nil, All-get_or}
-use Rattle.cobs.specs.Grammar.{HasNoZero, IsBlock, IsFull, is_full, joint, lone_block, message_of, bytes_of, IsEncodedFrame}
+use Rattle.cobs.specs.Grammar.{HasNoZero, IsBlock, IsFull, is_full, joint, lone_block, message_of, bytes_of, IsEncodedFrame, Reads}
 use Rattle.cobs.specs.Length.{encoded_len}
-use Rattle.cobs.proofs.GrammarLemmas.{one_frame, IsEncodedFrame-last, IsEncodedFrame-zero, IsEncodedFrame-full}
+use Rattle.cobs.proofs.GrammarLemmas.{one_frame, one_message, IsEncodedFrame-last, IsEncodedFrame-zero, IsEncodedFrame-full}
 use Rattle.cobs.proofs.LengthLemmas.{encoded_len-last-at, encoded_len-zero-at, encoded_len-full-at}
 
 -- THE FIRST BLOCK OF A MESSAGE
@@ -201,3 +201,7 @@ one_encoded f g m e d =
 
 pub length-encoded : (f m : List ℕ) → IsEncodedFrame f m → length f ≡ encoded_len m
 length-encoded f m e = let r = encoded_frame m in ap length (one_encoded f r.0 m e r.1) ∙ r.2
+
+-- equal frames have equal messages
+pub same_message : (f g m k : List ℕ) → IsEncodedFrame f m → IsEncodedFrame g k → f ≡ g → m ≡ k
+same_message f g m k e d same = one_message f m k e.reads (subst (λ (x : List ℕ). Reads x k) (sym same) d.reads)

@@ -11,3 +11,7 @@ IsFrameFor f m = IsEncodedFrame f m ⊎ (EndsInFullRun m × ((g : List ℕ) × I
 -- p is the first of these blocks end to end
 abbrev pub EndsAtBlock : List ℕ → List (List ℕ) → Type 0
 EndsAtBlock p blocks = (first : List (List ℕ)) × (rest : List (List ℕ)) × (blocks ≡ first ++ rest) × (p ≡ concat first)
+
+-- the list begins with the front
+abbrev pub IsFront : List ℕ → List ℕ → Type 0
+IsFront front xs = (rest : List ℕ) × (xs ≡ front ++ rest)

@@ -3,22 +3,24 @@ ghost use Rattle.std.specs.Prelude.{◌≡◌, length};
 ghost use Rattle.cobs.specs.Buffer.{overwritten};
 ghost use Rattle.cobs.specs.Decoding.{decode_answer, first_output};
 
-pub mod frame_decoder;
-pub mod heapless;
+mod frame_decoder;
+mod heapless;
+mod in_place;
 mod inner;
-pub mod lent;
-pub mod owned;
+mod lent;
+mod owned;
 mod piece;
-pub mod report;
-pub mod state;
+mod report;
+mod state;
 mod window;
 
 pub use frame_decoder::FrameDecoder;
 pub use heapless::CobsDecoderHeapless;
+pub use in_place::{decode_in_place, decode_in_place_report, decode_in_place_with_sentinel};
 pub use lent::CobsDecoder;
 pub use owned::CobsDecoderOwned;
 use piece::{decode_ended, leading_zeros, piece_len};
-pub use report::{DecodeError, DecodeReport, PushError};
+pub use report::{DecodeError, DecodeReport, DecodingResult, PushError};
 pub use state::{DecodeResult, DecoderState};
 
 /// Decodes the first frame of the source into `dest`, and answers how many bytes were consumed and how many the

@@ -1,0 +1,233 @@
+-- A stream so far: what a loop that feeds one byte after another keeps.
+use Rattle.std.proofs.Common.{◌≡◌, ◌≢◌, ℕ, zero, suc, ◌+◌, ◌<◌, Bool, true, false, cond, leb, List, [], ◌∷◌, ◌++◌, length, take, drop, get_or, refl, sym, ap, ◌∙◌, subst, arith, append_assoc, length-take, inl, inr, ◌⊎◌, Option, Some, None, Result, Ok, Err}
+use Rattle.std.specs.List.{Contains}
+use Rattle.std.proofs.lemmas.List.{append-nil, take_all, take_more, take-append-drop}
+use Rattle.std.proofs.lemmas.List.Elements.{All-nil, All-cons, All-append, Contains-push_cases}
+use Rattle.std.proofs.lemmas.Bool.{leb-true}
+use Rattle.cobs.specs.Grammar.{HasNoZero}
+use Rattle.cobs.specs.Piece.{output, is_whole, parts, parts_behind}
+use Rattle.cobs.specs.Stream.{unended, Outcome, Message, Broken, TooLong, outcome_of, stream_outcomes}
+use Rattle.cobs.specs.Decoder.{Phase, Idle, PhaseAfter, DecoderAfter, Feeds, fed, told, answer_to, answer_at_end, phase_after}
+use Rattle.cobs.specs.Streaming.{outcome_told, AreAlike, AreAlikeAtFirst}
+use Rattle.cobs.specs.declared.dec.report.DecodeError.{DecodeError}
+use Rattle.cobs.proofs.StreamLemmas.{stream_outcomes-no_zero, unended-no_zero, stream_outcomes-push, unended-push, outcomes_at, outcomes_at-nonzero, stream_outcomes-append}
+
+-- from a buffer and a phase before, these bytes led to a buffer, a phase and these outcomes
+pub record SoFar (buffer₀ : List ℕ) (phase₀ : Phase) (buffer : List ℕ) (phase : Phase) (done : List ℕ) (found : List Outcome) : Type 0 where
+  pub len : length buffer ≡ length buffer₀
+  pub phased : (p : List ℕ) → PhaseAfter (length buffer₀) phase₀ p → PhaseAfter (length buffer₀) phase (unended (p ++ done))
+  pub after : (p : List ℕ) → DecoderAfter buffer₀ phase₀ p → DecoderAfter buffer phase (unended (p ++ done))
+  pub outcomes : (p : List ℕ) → DecoderAfter buffer₀ phase₀ p → found ≡ stream_outcomes (p ++ done) (length buffer₀)
+  pub alike : (p : List ℕ) → PhaseAfter (length buffer₀) phase₀ p → AreAlikeAtFirst found (stream_outcomes (p ++ done) (length buffer₀))
+  pub after_zero : (p : List ℕ) → PhaseAfter (length buffer₀) phase₀ p → Contains done 0 → DecoderAfter buffer phase (unended (p ++ done))
+
+-- AN IDLE DECODER
+
+output-nil : output [] ≡ []
+unfolding output parts parts_behind
+output-nil = refl
+
+-- an idle decoder has taken nothing of a piece, whatever its buffer holds
+pub DecoderAfter-idle : (buffer : List ℕ) (phase : Phase) → phase ≡ Idle → DecoderAfter buffer phase []
+unfolding phase_after
+DecoderAfter-idle buffer phase e = record {
+  phased = record { piece = All-nil (λ b. b ≢ 0); phase_is = e };
+  begins = rw output-nil (nothing buffer);
+}
+  where
+    nothing : (xs : List ℕ) → take 0 xs ≡ take (length xs) []
+    nothing [] = refl
+    nothing (x ∷ xs) = refl
+
+-- WHAT IS TOLD AT A ZERO
+
+-- the answer to the zero behind a piece tells its outcome, over a buffer that begins with the output
+told-after : (buffer : List ℕ) (phase : Phase) (p : List ℕ) → DecoderAfter buffer phase p → outcome_told (answer_to p 0 (length buffer)) buffer ≡ outcomes_at p 0 (length buffer)
+unfolding answer_to answer_at_end outcome_of
+told-after buffer phase [] h = refl
+told-after buffer phase (c ∷ q) h = at_test (leb (length (output (c ∷ q))) (length buffer)) refl (is_whole (c ∷ q))
+  where
+    at_test : (fits : Bool) → leb (length (output (c ∷ q))) (length buffer) ≡ fits → (whole : Bool)
+        → outcome_told (told (cond fits (cond whole (Message (output (c ∷ q))) (Broken (length (output (c ∷ q))))) TooLong)) buffer
+        ≡ cond fits (cond whole (Message (output (c ∷ q))) (Broken (length (output (c ∷ q))))) TooLong ∷ []
+    at_test false e whole = refl
+    at_test true e false = refl
+    at_test true e true = ap (λ (x : List ℕ). Message x ∷ []) (h.begins ∙ take_all (length buffer) (output (c ∷ q)) (leb-true _ _ e))
+
+-- over any buffer of that length it tells it but for the bytes of the message
+told-phased : (buffer p : List ℕ) → AreAlikeAtFirst (outcome_told (answer_to p 0 (length buffer)) buffer) (outcomes_at p 0 (length buffer))
+unfolding answer_to answer_at_end outcome_of
+told-phased buffer [] = tt
+told-phased buffer (c ∷ q) = at_test (leb (length (output (c ∷ q))) (length buffer)) refl (is_whole (c ∷ q))
+  where
+    at_test : (fits : Bool) → leb (length (output (c ∷ q))) (length buffer) ≡ fits → (whole : Bool)
+        → AreAlikeAtFirst (outcome_told (told (cond fits (cond whole (Message (output (c ∷ q))) (Broken (length (output (c ∷ q))))) TooLong)) buffer)
+        (cond fits (cond whole (Message (output (c ∷ q))) (Broken (length (output (c ∷ q))))) TooLong ∷ [])
+    at_test false e whole = (refl, refl)
+    at_test true e false = (refl, refl)
+    at_test true e true = (length-take (length (output (c ∷ q))) buffer ∙ omega (arith, leb-true _ _ e), refl)
+
+-- LISTS OF OUTCOMES
+
+alike-nil : (xs : List Outcome) → AreAlikeAtFirst xs [] → xs ≡ []
+alike-nil [] h = refl
+alike-nil (x ∷ xs) h = absurd h
+
+alike-refl : (x : Outcome) → AreAlike x x
+alike-refl (Message m) = refl
+alike-refl (Broken n) = refl
+alike-refl TooLong = refl
+
+alike_first-refl : (xs : List Outcome) → AreAlikeAtFirst xs xs
+alike_first-refl [] = tt
+alike_first-refl (x ∷ xs) = (alike-refl x, refl)
+
+alike-append : (xs ys zs : List Outcome) → AreAlikeAtFirst xs ys → AreAlikeAtFirst (xs ++ zs) (ys ++ zs)
+alike-append [] [] zs h = alike_first-refl zs
+alike-append [] (y ∷ ys) zs h = absurd h
+alike-append (x ∷ xs) [] zs h = absurd h
+alike-append (x ∷ xs) (y ∷ ys) zs h = (h.0, ap (λ (t : List Outcome). t ++ zs) h.1)
+
+-- where nothing is in two lists joined, nothing is in the first
+pub left_nothing : (xs ys : List Outcome) → xs ++ ys ≡ [] → xs ≡ []
+left_nothing [] ys e = refl
+left_nothing (x ∷ xs) ys e = cc
+
+right_nothing : (xs ys : List Outcome) → xs ++ ys ≡ [] → ys ≡ []
+right_nothing [] ys e = e
+right_nothing (x ∷ xs) ys e = cc
+
+zero_or_none : (xs : List ℕ) → Contains xs 0 ⊎ HasNoZero xs
+zero_or_none [] = inr (All-nil (λ b. b ≢ 0))
+zero_or_none (zero ∷ xs) = inl (0, omega arith, refl)
+zero_or_none (suc b ∷ xs) = elim (zero_or_none xs) [ inl h ↦ inl (suc h.0, omega arith, h.2) | inr h ↦ inr (All-cons (λ b. b ≢ 0) (suc b) xs (λ e. omega arith) h) ]
+
+-- THE STEPS
+
+-- before any byte
+pub SoFar-start : (buffer : List ℕ) (phase : Phase) → SoFar buffer phase buffer phase [] []
+SoFar-start buffer phase = record {
+  len = refl;
+  phased = λ p h. rw (append-nil p, unended-no_zero p h.piece) h;
+  after = λ p h. rw (append-nil p, unended-no_zero p h.phased.piece) h;
+  outcomes = λ p h. sym (ap (λ (x : List ℕ). stream_outcomes x (length buffer)) (append-nil p) ∙ stream_outcomes-no_zero p (length buffer) h.phased.piece);
+  alike = λ p h. rw (append-nil p, stream_outcomes-no_zero p (length buffer) h.piece) tt;
+  after_zero = λ p h z. absurd (omega (arith, z.1));
+}
+
+-- what is unended behind one more byte
+unended_on : (p done : List ℕ) (b : ℕ) → unended (p ++ (done ++ b ∷ [])) ≡ fed (unended (p ++ done)) b
+unended_on p done b = ap unended (sym (append_assoc p done (b ∷ []))) ∙ unended-push (p ++ done) b
+
+-- the outcomes with one more byte
+outcomes_on : (p done : List ℕ) (b n : ℕ) → stream_outcomes (p ++ (done ++ b ∷ [])) n ≡ stream_outcomes (p ++ done) n ++ outcomes_at (unended (p ++ done)) b n
+outcomes_on p done b n = ap (λ (x : List ℕ). stream_outcomes x n) (sym (append_assoc p done (b ∷ []))) ∙ stream_outcomes-push (p ++ done) b n
+
+-- the front behind which the decoder stands, over its own buffer
+here : {buffer₀ buffer : List ℕ} {phase₀ phase : Phase} {done : List ℕ} {found : List Outcome} → SoFar buffer₀ phase₀ buffer phase done found
+    → (p : List ℕ) → PhaseAfter (length buffer₀) phase₀ p → PhaseAfter (length buffer) phase (unended (p ++ done))
+here {buffer₀} {buffer} {phase₀} {phase} {done} s p h = subst (λ n. PhaseAfter n phase (unended (p ++ done))) (sym s.len) (s.phased p h)
+
+after_on : {buffer buffer' : List ℕ} {phase phase' : Phase} {result : Result (Option ℕ) DecodeError} (p done : List ℕ) (b : ℕ) → Feeds buffer phase b result buffer' phase'
+    → DecoderAfter buffer phase (unended (p ++ done)) → DecoderAfter buffer' phase' (unended (p ++ (done ++ b ∷ [])))
+after_on p done b f w = rw (unended_on p done b) (f.after _ w)
+
+module _ {buffer₀ buffer buffer' : List ℕ} {phase₀ phase phase' : Phase} {done : List ℕ} {found : List Outcome} {result : Result (Option ℕ) DecodeError} where
+  phased_on : (b : ℕ) → SoFar buffer₀ phase₀ buffer phase done found → Feeds buffer phase b result buffer' phase' → (p : List ℕ) → PhaseAfter (length buffer₀) phase₀ p
+      → PhaseAfter (length buffer₀) phase' (unended (p ++ (done ++ b ∷ [])))
+  phased_on b s f p h = rw (unended_on p done b) (subst (λ n. PhaseAfter n phase' (fed (unended (p ++ done)) b)) s.len (f.phased _ (here s p h)))
+
+  -- a byte that is no zero brings no outcome
+  SoFar-nonzero : (b : ℕ) → b ≢ 0 → SoFar buffer₀ phase₀ buffer phase done found → Feeds buffer phase b result buffer' phase' → SoFar buffer₀ phase₀ buffer' phase' (done ++ b ∷ []) found
+  SoFar-nonzero b nz s f =
+      let same : (p : List ℕ) → stream_outcomes (p ++ (done ++ b ∷ [])) (length buffer₀) ≡ stream_outcomes (p ++ done) (length buffer₀)
+      = λ p. outcomes_on p done b (length buffer₀) ∙ ap (λ (x : List Outcome). stream_outcomes (p ++ done) (length buffer₀) ++ x) (outcomes_at-nonzero (unended (p ++ done)) b (length buffer₀) nz) ∙ append-nil _ in
+      record {
+        len = f.len ∙ s.len;
+        phased = phased_on b s f;
+        after = λ p h. after_on p done b f (s.after p h);
+        outcomes = λ p h. s.outcomes p h ∙ sym (same p);
+        alike = λ p h. rw (same p) (s.alike p h);
+        after_zero = λ p h z. elim (Contains-push_cases done b 0 z) [ inl old ↦ after_on p done b f (s.after_zero p h old) | inr new ↦ absurd (nz new) ];
+      }
+
+  told_on : SoFar buffer₀ phase₀ buffer phase done found → Feeds buffer phase 0 result buffer' phase' → (p : List ℕ) → PhaseAfter (length buffer₀) phase₀ p → DecoderAfter buffer phase (unended (p ++ done))
+      → outcome_told result buffer' ≡ outcomes_at (unended (p ++ done)) 0 (length buffer₀)
+  told_on s f p h w =
+      ap (λ (x : Result (Option ℕ) DecodeError). outcome_told x buffer') (f.answer _ (here s p h))
+      ∙ ap (outcome_told (answer_to (unended (p ++ done)) 0 (length buffer))) (f.zero_unchanged refl)
+      ∙ told-after buffer phase (unended (p ++ done)) w
+      ∙ ap (outcomes_at (unended (p ++ done)) 0) s.len
+
+  alike_on : SoFar buffer₀ phase₀ buffer phase done found → Feeds buffer phase 0 result buffer' phase' → (p : List ℕ) → PhaseAfter (length buffer₀) phase₀ p
+      → AreAlikeAtFirst (outcome_told result buffer') (outcomes_at (unended (p ++ done)) 0 (length buffer₀))
+  alike_on s f p h = rw (f.answer _ (here s p h), f.zero_unchanged refl, ← s.len) (told-phased buffer (unended (p ++ done)))
+
+  -- a zero brings the outcome that its answer tells
+  SoFar-zero : SoFar buffer₀ phase₀ buffer phase done found → Feeds buffer phase 0 result buffer' phase' → SoFar buffer₀ phase₀ buffer' phase' (done ++ 0 ∷ []) (found ++ outcome_told result buffer')
+  SoFar-zero s f = record {
+    len = f.len ∙ s.len;
+    phased = phased_on 0 s f;
+    after = λ p h. after_on p done 0 f (s.after p h);
+    outcomes = λ p h. ap (λ (x : List Outcome). x ++ outcome_told result buffer') (s.outcomes p h)
+        ∙ ap (λ (x : List Outcome). stream_outcomes (p ++ done) (length buffer₀) ++ x) (told_on s f p h.phased (s.after p h)) ∙ sym (outcomes_on p done 0 (length buffer₀));
+    alike = λ p h. elim (zero_or_none done) [
+      | inl old ↦ rw (outcomes_on p done 0 (length buffer₀), told_on s f p h (s.after_zero p h old)) (alike-append _ _ _ (s.alike p h))
+      | inr none ↦
+          let plain : stream_outcomes (p ++ done) (length buffer₀) ≡ [] = stream_outcomes-no_zero (p ++ done) (length buffer₀) (All-append (λ b. b ≢ 0) p done h.piece none) in
+          rw (outcomes_on p done 0 (length buffer₀), plain, alike-nil found (rw plain at (s.alike p h))) (alike_on s f p h)
+    ];
+    after_zero = λ p h z. rw (unended_on p done 0) (DecoderAfter-idle buffer' phase' (f.zero_idle refl));
+  }
+
+-- NOTHING TOLD
+
+nothing_at : (q : List ℕ) (n : ℕ) → outcomes_at q 0 n ≡ [] → q ≡ []
+nothing_at [] n e = refl
+nothing_at (c ∷ q) n e = cc
+
+tells_nothing : (q buffer : List ℕ) (n : ℕ) → q ≡ [] → outcome_told (answer_to q 0 n) buffer ≡ []
+unfolding answer_to answer_at_end
+tells_nothing q buffer n e = rw e refl
+
+-- the bytes around a zero
+pub around_zero : (bytes : List ℕ) (i : ℕ) → i < length bytes → get_or bytes i 0 ≡ 0 → bytes ≡ take i bytes ++ 0 ∷ [] ++ drop (i + 1) bytes
+around_zero bytes i within z =
+    sym (ap (λ (x : List ℕ). x ++ drop (i + 1) bytes) (ap (λ (x : ℕ). take i bytes ++ x ∷ []) (sym z) ∙ sym (take_more bytes i 0 within)) ∙ take-append-drop (i + 1) bytes)
+
+-- where the whole stream gives nothing, a zero in it tells nothing
+nothing_told : {buffer₀ buffer buffer' : List ℕ} {phase₀ phase phase' : Phase} {found : List Outcome} {result : Result (Option ℕ) DecodeError}
+    (bytes : List ℕ) (i : ℕ) → i < length bytes → get_or bytes i 0 ≡ 0
+    → SoFar buffer₀ phase₀ buffer phase (take i bytes) found → Feeds buffer phase 0 result buffer' phase'
+    → (p : List ℕ) → PhaseAfter (length buffer₀) phase₀ p → stream_outcomes (p ++ bytes) (length buffer₀) ≡ [] → outcome_told result buffer' ≡ []
+nothing_told {buffer₀} {buffer} {buffer'} bytes i within z s f p h none =
+    let n = length buffer₀ in
+    let whole : stream_outcomes (p ++ bytes) n ≡ stream_outcomes (p ++ (take i bytes ++ 0 ∷ [])) n ++ stream_outcomes (unended (p ++ (take i bytes ++ 0 ∷ [])) ++ drop (i + 1) bytes) n
+    = ap (λ (x : List ℕ). stream_outcomes x n) (ap (λ (x : List ℕ). p ++ x) (around_zero bytes i within z) ∙ sym (append_assoc p (take i bytes ++ 0 ∷ []) (drop (i + 1) bytes)))
+    ∙ stream_outcomes-append (p ++ (take i bytes ++ 0 ∷ [])) (drop (i + 1) bytes) n in
+    let front : stream_outcomes (p ++ (take i bytes ++ 0 ∷ [])) n ≡ [] = left_nothing _ _ (sym whole ∙ none) in
+    let nil : unended (p ++ take i bytes) ≡ [] = nothing_at _ _ (right_nothing _ _ (sym (outcomes_on p (take i bytes) 0 n) ∙ front)) in
+    ap (λ (x : Result (Option ℕ) DecodeError). outcome_told x buffer') (f.answer _ (here s p h)) ∙ tells_nothing _ buffer' (length buffer) nil
+
+-- AT A PLACE IN THE BYTES
+
+module _ {buffer₀ buffer buffer' : List ℕ} {phase₀ phase phase' : Phase} {found : List Outcome} {result : Result (Option ℕ) DecodeError} (bytes : List ℕ) (i : ℕ) (within : i < length bytes) where
+  -- a zero there brings the outcome that its answer tells
+  pub step_zero : get_or bytes i 0 ≡ 0 → SoFar buffer₀ phase₀ buffer phase (take i bytes) found → Feeds buffer phase (get_or bytes i 0) result buffer' phase'
+      → SoFar buffer₀ phase₀ buffer' phase' (take (i + 1) bytes) (found ++ outcome_told result buffer')
+  step_zero z s f = rw (take_more bytes i 0 within, z) (SoFar-zero s (subst (λ b. Feeds buffer phase b result buffer' phase') z f))
+
+  -- another byte brings none
+  pub step_nonzero : get_or bytes i 0 ≢ 0 → SoFar buffer₀ phase₀ buffer phase (take i bytes) found → Feeds buffer phase (get_or bytes i 0) result buffer' phase'
+      → SoFar buffer₀ phase₀ buffer' phase' (take (i + 1) bytes) found
+  step_nonzero nz s f = rw (take_more bytes i 0 within) (SoFar-nonzero (get_or bytes i 0) nz s f)
+
+  -- a zero whose answer tells nothing brings none
+  pub step_none : get_or bytes i 0 ≡ 0 → outcome_told result buffer' ≡ [] → SoFar buffer₀ phase₀ buffer phase (take i bytes) found → Feeds buffer phase (get_or bytes i 0) result buffer' phase'
+      → SoFar buffer₀ phase₀ buffer' phase' (take (i + 1) bytes) found
+  step_none z none s f = rw append-nil at (rw none at (step_zero z s f))
+
+  -- where the whole stream gives nothing, a zero there tells nothing
+  pub told_nothing : get_or bytes i 0 ≡ 0 → SoFar buffer₀ phase₀ buffer phase (take i bytes) found → Feeds buffer phase (get_or bytes i 0) result buffer' phase'
+      → (p : List ℕ) → PhaseAfter (length buffer₀) phase₀ p → stream_outcomes (p ++ bytes) (length buffer₀) ≡ [] → outcome_told result buffer' ≡ []
+  told_nothing z s f = nothing_told bytes i within z s (subst (λ b. Feeds buffer phase b result buffer' phase') z f)

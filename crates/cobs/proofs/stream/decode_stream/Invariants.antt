@@ -1,0 +1,14 @@
+use Rattle.std.proofs.Common.{◌≡◌, take}
+use Rattle.cobs.specs.Streaming.{outcomes_in}
+use Rattle.cobs.proofs.SoFar.{SoFar}
+use Rattle.cobs.proofs.stream.decode_stream.Given as goal
+
+abbrev pub invariant-by_byte : goal.invariant-by_byte
+invariant-by_byte g l =
+    let bytes = g.D.FrameDecoder.bytes in
+    let phase = g.D.FrameDecoder.phase in
+    let loan = g.D.FrameDecoder.loan in
+    record {
+      so_far : SoFar (bytes l.fn.decoder) (phase l.fn.decoder) (bytes l.decoder) (phase l.decoder) (take l.byte-index l.bytes) (outcomes_in l.outcomes.items);
+      same_loan : loan l.decoder ≡ loan l.fn.decoder;
+    }

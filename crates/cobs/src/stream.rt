@@ -1,0 +1,96 @@
+//! Whole streams: the outcomes of all pieces that end in some bytes, and frames one behind another.
+//!
+//! A stream is cut at its zeros. What stands between two of them is a piece, and each nonempty piece is judged by
+//! itself: it is a message, or it breaks off inside a block, or it decodes to more than the buffer holds. So what
+//! is damaged in one piece is gone at the next zero.
+ghost use Rattle.std.specs.Prelude.{◌≡◌, ℕ, ◌≤◌, List, [], ◌++◌, length, option_to_list, IfOk, IfSome, IsOk, OnOk, OnErr, Contains};
+ghost use Rattle.cobs.specs.Decoder.{Idle as IdlePhase, DecoderAfter, PhaseAfter};
+ghost use Rattle.cobs.specs.Stream.{stream_outcomes, unended};
+ghost use Rattle.cobs.specs.Streaming.{outcome_told, outcomes_in, AreAlikeAtFirst};
+
+use crate::dec::DecodeError;
+pub use crate::dec::FrameDecoder;
+use std::alloc::{AllocError, Global};
+
+/// What became of a piece of a stream: a nonempty stretch of bytes that a zero ended.
+#[derive(Debug, PartialEq, Eq, Drop)]
+pub enum FrameOutcome {
+    /// The piece is a frame, and these are the bytes of its message.
+    Message(Vec<u8>),
+
+    /// The piece breaks off inside a block. It decodes to this many bytes, those of the broken block included.
+    Broken(usize),
+
+    /// The piece decodes to more bytes than the decoder's buffer holds.
+    TooLong,
+}
+
+/// The outcome that the answer to a zero tells: none where no piece has ended.
+fn outcome_of(
+    alloc: Global,
+    answer: Result<Option<usize>, DecodeError>,
+    buffer: &[u8],
+) -> Result<Option<FrameOutcome>, AllocError>
+    requires { IfOk answer (λ found. IfSome found (λ n. n ≤ length buffer.now)) }
+    ensures told { IfOk result (λ found. outcomes_in (option_to_list found) ≡ outcome_told answer buffer.now) }
+    ensures succeeds { outcome_told answer buffer.now ≡ [] → IsOk result }
+{
+    match answer {
+        Ok(None) | Err(DecodeError::EmptyFrame) => Ok(None),
+        Ok(Some(n)) => Ok(Some(FrameOutcome::Message(Vec::from_slice(alloc, &buffer[..n])?))),
+        Err(DecodeError::InvalidFrame { decoded_bytes }) => {
+            Ok(Some(FrameOutcome::Broken(decoded_bytes)))
+        }
+        Err(DecodeError::TargetBufTooSmall) => Ok(Some(FrameOutcome::TooLong)),
+    }
+}
+
+/// Decodes a part of a stream: one outcome for each piece that ends in the bytes, in order.
+///
+/// The first of these pieces may have begun before this call, and what no zero has ended yet is kept for the next
+/// one: the decoder goes on from where it stands. So a stream can be given in parts, cut anywhere, and the answers
+/// joined are those of the whole stream. Leading and doubled zeros make no piece.
+///
+/// `Err` says that memory was wanting for an outcome. The outcomes are lost then, and the decoder is idle, so the
+/// next byte begins a new piece. Memory is taken for messages and for the list of outcomes alone: where no piece
+/// ends, the answer is `Ok`.
+///
+/// Where the decoder's buffer was written to inside a piece, the bytes of that piece's message, the first that
+/// comes out, aren't determined; its length is, and so is everything behind it.
+pub fn decode_stream<D: FrameDecoder>(
+    alloc: Global,
+    decoder: &mut D,
+    bytes: &[u8],
+) -> Result<Vec<FrameOutcome>, AllocError>
+    // Behind any front p of a piece, the outcomes are those of the stream that p and the bytes make.
+    ensures outcomes { (p : List ℕ) → DecoderAfter (D.bytes decoder.old) (D.phase decoder.old) p →
+        IfOk result (λ found. outcomes_in found.items ≡ stream_outcomes (p ++ bytes.now) (length (D.bytes decoder.old))) }
+    ensures after { (p : List ℕ) → DecoderAfter (D.bytes decoder.old) (D.phase decoder.old) p →
+        OnOk result (DecoderAfter (D.bytes decoder.new) (D.phase decoder.new) (unended (p ++ bytes.now))) }
+    ensures succeeds { (p : List ℕ) → PhaseAfter (length (D.bytes decoder.old)) (D.phase decoder.old) p →
+        stream_outcomes (p ++ bytes.now) (length (D.bytes decoder.old)) ≡ [] → IsOk result }
+
+    // Where the buffer was written to inside p, the same but for the first message's bytes.
+    ensures alike { (p : List ℕ) → PhaseAfter (length (D.bytes decoder.old)) (D.phase decoder.old) p →
+        IfOk result (λ found. AreAlikeAtFirst (outcomes_in found.items) (stream_outcomes (p ++ bytes.now) (length (D.bytes decoder.old)))) }
+    ensures phase_after { (p : List ℕ) → PhaseAfter (length (D.bytes decoder.old)) (D.phase decoder.old) p →
+        OnOk result (PhaseAfter (length (D.bytes decoder.old)) (D.phase decoder.new) (unended (p ++ bytes.now))) }
+    ensures after_zero { (p : List ℕ) → PhaseAfter (length (D.bytes decoder.old)) (D.phase decoder.old) p → Contains bytes.now 0 →
+        OnOk result (DecoderAfter (D.bytes decoder.new) (D.phase decoder.new) (unended (p ++ bytes.now))) }
+
+    // In every phase.
+    ensures out_of_memory { OnErr result (D.phase decoder.new ≡ IdlePhase) }
+    ensures len { length (D.bytes decoder.new) ≡ length (D.bytes decoder.old) }
+    ensures same_loan { D.loan decoder.new ≡ D.loan decoder.old }
+{
+    let mut outcomes = Vec::new(alloc);
+    'by_byte: for byte in bytes {
+        let answer = decoder.feed_byte(*byte);
+        if *byte == 0 {
+            if let Some(outcome) = outcome_of(alloc, answer, decoder.buffer())? {
+                outcomes.push(outcome)?;
+            }
+        }
+    }
+    Ok(outcomes)
+}

@@ -1,0 +1,5 @@
+pub mod Words
+pub mod Input
+pub mod Text
+pub mod Report
+pub mod Output
