@@ -25,3 +25,5 @@ pub mod KeptLemmas
 pub mod BlockSteps
 pub mod InPlaceSteps
 pub mod LawExamples
+pub mod StretchLemmas
+pub mod KindLemmas

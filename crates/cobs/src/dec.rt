@@ -3,6 +3,7 @@ ghost use Rattle.std.specs.Prelude.{◌≡◌, length};
 ghost use Rattle.cobs.specs.Buffer.{overwritten};
 ghost use Rattle.cobs.specs.Decoding.{decode_answer, first_output};
 
+mod fit;
 mod frame_decoder;
 mod heapless;
 mod in_place;
