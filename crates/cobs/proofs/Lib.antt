@@ -29,6 +29,9 @@ pub mod SentinelLemmas
 pub mod HeadLemmas
 pub mod FrontLemmas
 pub mod OutcomeSteps
+pub mod KeptLemmas
+pub mod BlockSteps
+pub mod InPlaceSteps
 pub mod LawExamples
 pub mod StretchLemmas
 pub mod KindLemmas

@@ -12,6 +12,7 @@ mod window;
 
 pub use error::DestBufTooSmallError;
 use memchr::memchr;
+pub(crate) use sentinel::xor_bytes;
 pub use sentinel::{
     encode_including_sentinels, encode_with_sentinel, try_encode_including_sentinels,
 };
