@@ -19,3 +19,4 @@ pub mod UniqueLemmas
 pub mod EnumerationLemmas
 pub mod SentinelLemmas
 pub mod LawExamples
+pub mod MessagesLemmas
