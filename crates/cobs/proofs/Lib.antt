@@ -13,7 +13,6 @@ pub mod MarkLemmas
 pub mod AfterLemmas
 pub mod CoreLemmas
 pub mod Examples
-pub mod OpenLemmas
 pub mod PieceLemmas
 pub mod FeedLemmas
 pub mod StreamLemmas
