@@ -3,7 +3,6 @@ pub mod OutcomeLemmas
 pub mod JoinLemmas
 pub mod GrammarLemmas
 pub mod LengthLemmas
-pub mod EncodeLemmas
 pub mod OpenLemmas
 pub mod OpenedLemmas
 pub mod OpenLenLemmas
@@ -12,6 +11,7 @@ pub mod ReachLemmas
 pub mod MarkLemmas
 pub mod AfterLemmas
 pub mod CoreLemmas
+pub mod RoomLemmas
 pub mod Examples
 pub mod PieceLemmas
 pub mod FeedLemmas

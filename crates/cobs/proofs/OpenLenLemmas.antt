@@ -12,7 +12,7 @@ use Rattle.cobs.proofs.LengthLemmas.{onto_parts, stretches-append, encoded_len-l
 use Rattle.cobs.proofs.OpenLemmas.{append-some}
 use Rattle.cobs.proofs.OpenedLemmas.{Opened, ends_in_full}
 
-same_lengths : (a b : List ℕ) (parts : List (List ℕ)) → length a ≡ length b → map length (onto_parts a parts) ≡ map length (onto_parts b parts)
+pub same_lengths : (a b : List ℕ) (parts : List (List ℕ)) → length a ≡ length b → map length (onto_parts a parts) ≡ map length (onto_parts b parts)
 same_lengths a b [] e = ap (λ (n : ℕ). n ∷ []) e
 same_lengths a b (p ∷ ps) e = ap (λ (n : ℕ). n ∷ map length ps) (let l = length-append a p in let k = length-append b p in omega arith)
 
@@ -24,10 +24,10 @@ same_start a b t na nb e =
     let l = length-append a t in let k = length-append b t in
     omega arith
 
-length-ones : (n : ℕ) → length {A = ℕ} (replicate n 1) ≡ n
+pub length-ones : (n : ℕ) → length {A = ℕ} (replicate n 1) ≡ n
 length-ones n = length-replicate n 1
 
-ones : (n : ℕ) → HasNoZero (replicate n 1)
+pub ones : (n : ℕ) → HasNoZero (replicate n 1)
 ones n = All-replicate (λ byte. byte ≢ 0) n 1 (λ e. omega arith)
 
 -- nonzero bytes join the open block

@@ -9,7 +9,7 @@ pub(crate) const WINDOW: usize = 32;
 
 /// Which of the 32 bytes from `at` on are zeros.
 #[inline(always)]
-fn zeros_at(source: &[u8], at: usize) -> u64
+pub(crate) fn zeros_at(source: &[u8], at: usize) -> u64
     requires { at + 32 ≤ length source.now }
     ensures { result ≡ zero_mask (take 32 (drop at source.now)) }
 {
