@@ -4,8 +4,15 @@ pub mod JoinLemmas
 pub mod GrammarLemmas
 pub mod LengthLemmas
 pub mod EncodeLemmas
-pub mod Examples
 pub mod OpenLemmas
+pub mod OpenedLemmas
+pub mod OpenLenLemmas
+pub mod MaskLemmas
+pub mod ReachLemmas
+pub mod MarkLemmas
+pub mod AfterLemmas
+pub mod CoreLemmas
+pub mod Examples
 pub mod PieceLemmas
 pub mod FeedLemmas
 pub mod StreamLemmas
@@ -21,6 +28,10 @@ pub mod SentinelLemmas
 pub mod HeadLemmas
 pub mod FrontLemmas
 pub mod OutcomeSteps
+pub mod KeptLemmas
+pub mod BlockSteps
+pub mod InPlaceSteps
 pub mod LawExamples
 pub mod StretchLemmas
 pub mod KindLemmas
+pub mod MessagesLemmas

@@ -6,6 +6,7 @@ ghost use Rattle.cobs.specs.Decoding.{decode_answer, first_output};
 mod fit;
 mod frame_decoder;
 mod heapless;
+mod in_place;
 mod inner;
 mod lent;
 mod owned;
@@ -16,6 +17,7 @@ mod window;
 
 pub use frame_decoder::FrameDecoder;
 pub use heapless::CobsDecoderHeapless;
+pub use in_place::{decode_in_place, decode_in_place_report, decode_in_place_with_sentinel};
 pub use lent::CobsDecoder;
 pub use owned::CobsDecoderOwned;
 use piece::{decode_ended, leading_zeros, piece_len};

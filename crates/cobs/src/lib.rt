@@ -12,7 +12,8 @@ mod stream;
 
 pub use dec::{
     CobsDecoder, CobsDecoderHeapless, CobsDecoderOwned, DecodeError, DecodeReport, DecodeResult,
-    DecoderState, DecodingResult, FrameDecoder, PushError, decode,
+    DecoderState, DecodingResult, FrameDecoder, PushError, decode, decode_in_place,
+    decode_in_place_report, decode_in_place_with_sentinel,
 };
 pub use enc::{
     DestBufTooSmallError, EncoderState, PushResult, encode, encode_including_sentinels, encode_vec,
@@ -20,7 +21,7 @@ pub use enc::{
     try_encode_including_sentinels,
 };
 pub use framed::{FrameReader, FrameSource, Next, ReadFault, Recorded};
-pub use stream::{FrameOutcome, decode_stream};
+pub use stream::{FrameOutcome, decode_stream, encode_frames};
 
 /// How many bytes longer than its message an encoded frame is at most, for a message of `source_len` bytes.
 ///

@@ -1,4 +1,4 @@
-use Rattle.std.proofs.Common.{◌≡◌, ℕ, ◌∙◌, refl, subst, take, Some, [], arith}
+use Rattle.std.proofs.Common.{◌∙◌, refl, subst, take, Some, [], arith}
 use Rattle.cobs.proofs.ReadingLemmas.{HasTaken-any, Going-start, Going-push, ReadsNext-kept, ReadsNext-failed, ReadsNext-end, ReadsNext-piece, ReadsNext-too_many, range_from_start, range_nonempty}
 use Rattle.cobs.proofs.framed.FrameReader.next_frame.Goals as goal
 
