@@ -27,3 +27,4 @@ pub mod InPlaceSteps
 pub mod LawExamples
 pub mod StretchLemmas
 pub mod KindLemmas
+pub mod SourceSteps
