@@ -97,7 +97,7 @@ module _ (h done : List ℕ) (read : ℕ) (b : BlocksRead h done read) where
       joins-last : length h ≤ read + code → [] ≡ joins code rest
       joins-last last = sym (ap (joins code) (drop_all (read + code) h last))
 
-      joins-zero : code ≢ 255 → read + code < length h → 0 ∷ [] ≡ joins code rest
+      pub joins-zero : code ≢ 255 → read + code < length h → 0 ∷ [] ≡ joins code rest
       joins-zero other before = one rest (let l = length-drop (read + code) h in omega arith)
         where
           one : (xs : List ℕ) → 0 < length xs → 0 ∷ [] ≡ joins code xs

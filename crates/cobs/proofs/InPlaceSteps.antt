@@ -23,7 +23,7 @@ pub in_place-started : (before : List ℕ) (end : ℕ) → end ≤ length before
 in_place-started before end fits = record { order = omega arith; within = omega arith; fits = fits; len = refl; rest = refl; blocks = blocks-started (take end before) }
 
 -- what two lists have behind n bytes they have behind more
-drop-later : (n m : ℕ) (xs ys : List ℕ) → n ≤ m → drop n xs ≡ drop n ys → drop m xs ≡ drop m ys
+pub drop-later : (n m : ℕ) (xs ys : List ℕ) → n ≤ m → drop n xs ≡ drop n ys → drop m xs ≡ drop m ys
 drop-later n m xs ys h e =
     let k : n + (m - n) ≡ m = omega arith in
     sym (ap (λ (j : ℕ). drop j xs) k) ∙ sym (drop-drop (m - n) n xs) ∙ ap (drop (m - n)) e ∙ drop-drop (m - n) n ys ∙ ap (λ (j : ℕ). drop j ys) k

@@ -12,6 +12,7 @@ mod lent;
 mod owned;
 mod piece;
 mod report;
+mod sentinel;
 mod state;
 mod window;
 
@@ -22,6 +23,7 @@ pub use lent::CobsDecoder;
 pub use owned::CobsDecoderOwned;
 use piece::{decode_ended, leading_zeros, piece_len};
 pub use report::{DecodeError, DecodeReport, DecodingResult, PushError};
+pub use sentinel::decode_with_sentinel;
 pub use state::{DecodeResult, DecoderState};
 
 /// Decodes the first frame of the source into `dest`, and answers how many bytes were consumed and how many the
