@@ -91,7 +91,8 @@ pub fn law_8()
 /// So a receiver may be given a stream in parts of any length, as reads happen to bring it, and gets what one call over
 /// the whole stream would give: `decode_stream`, `push` and `FrameReader` rest on this.
 pub fn law_9()
-    ensures { (x y : List ℕ) (n : ℕ) → stream_outcomes (x ++ y) n ≡ stream_outcomes x n ++ stream_outcomes (unended x ++ y) n }
+    ensures { (x y : List ℕ) (n : ℕ) →
+        stream_outcomes (x ++ y) n ≡ stream_outcomes x n ++ stream_outcomes (unended x ++ y) n }
 {}
 
 /// Damage between two sentinels stays between them: what is changed, lost or added there, sentinels too, leaves the
@@ -101,9 +102,10 @@ pub fn law_9()
 /// So a receiver of a noisy link, or a reader of a damaged file of records, loses no message but those that the damage
 /// touches.
 pub fn law_10()
-    ensures apart { (a d z : List ℕ) (n : ℕ) → IsAtSentinel a →
-        stream_outcomes (a ++ d ++ 0 ∷ z) n ≡ stream_outcomes a n ++ stream_outcomes (d ++ 0 ∷ []) n ++ stream_outcomes z n }
-    ensures one { (d : List ℕ) (n : ℕ) → d ≢ [] → HasNoZero d → stream_outcomes (d ++ 0 ∷ []) n ≡ outcome_of d n ∷ [] }
+    ensures apart { (a d z : List ℕ) (n : ℕ) → IsAtSentinel a → stream_outcomes (a ++ d ++ 0 ∷ z) n
+        ≡ stream_outcomes a n ++ stream_outcomes (d ++ 0 ∷ []) n ++ stream_outcomes z n }
+    ensures one { (d : List ℕ) (n : ℕ) → d ≢ [] → HasNoZero d
+        → stream_outcomes (d ++ 0 ∷ []) n ≡ outcome_of d n ∷ [] }
 {}
 
 /// A frame in a stream comes to its message in each buffer that holds the message.

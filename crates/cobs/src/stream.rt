@@ -34,7 +34,7 @@ fn outcome_of(
     buffer: &[u8],
 ) -> Result<Option<FrameOutcome>, AllocError>
     requires { IfOk answer (λ found. IfSome found (λ n. n ≤ length buffer.now)) }
-    ensures told { IfOk result (λ found. outcomes_in (option_to_list found) ≡ outcome_told answer buffer.now) }
+    ensures told { IfOk result (λ one. outcomes_in (option_to_list one) ≡ outcome_told answer buffer.now) }
     ensures succeeds { outcome_told answer buffer.now ≡ [] → IsOk result }
 {
     match answer {
@@ -64,20 +64,22 @@ pub fn decode_stream<D: FrameDecoder>(
     decoder: &mut D,
     bytes: &[u8],
 ) -> Result<Vec<FrameOutcome>, AllocError>
-    // Behind any front p of a piece, the outcomes are those of the stream that p and the bytes make.
-    ensures outcomes { (p : List ℕ) → DecoderAfter (D.bytes decoder.old) (D.phase decoder.old) p →
-        IfOk result (λ found. outcomes_in found.items ≡ stream_outcomes (p ++ bytes.now) (length (D.bytes decoder.old))) }
+    // Behind each front p of a piece, the outcomes are those of the stream that p and the bytes make.
+    ensures outcomes { (p : List ℕ) → DecoderAfter (D.bytes decoder.old) (D.phase decoder.old) p → IfOk result
+        (λ found. outcomes_in found.items ≡ stream_outcomes (p ++ bytes.now) (length (D.bytes decoder.old))) }
     ensures after { (p : List ℕ) → DecoderAfter (D.bytes decoder.old) (D.phase decoder.old) p →
         OnOk result (DecoderAfter (D.bytes decoder.new) (D.phase decoder.new) (unended (p ++ bytes.now))) }
     ensures succeeds { (p : List ℕ) → PhaseAfter (length (D.bytes decoder.old)) (D.phase decoder.old) p →
         stream_outcomes (p ++ bytes.now) (length (D.bytes decoder.old)) ≡ [] → IsOk result }
 
-    // Where the buffer was written to inside p, the same but for the first message's bytes.
-    ensures alike { (p : List ℕ) → PhaseAfter (length (D.bytes decoder.old)) (D.phase decoder.old) p →
-        IfOk result (λ found. AreAlikeAtFirst (outcomes_in found.items) (stream_outcomes (p ++ bytes.now) (length (D.bytes decoder.old)))) }
-    ensures phase_after { (p : List ℕ) → PhaseAfter (length (D.bytes decoder.old)) (D.phase decoder.old) p →
-        OnOk result (PhaseAfter (length (D.bytes decoder.old)) (D.phase decoder.new) (unended (p ++ bytes.now))) }
-    ensures after_zero { (p : List ℕ) → PhaseAfter (length (D.bytes decoder.old)) (D.phase decoder.old) p → Contains bytes.now 0 →
+    // Where the buffer was written to inside p, the same but for the bytes of the first message.
+    ensures alike { (p : List ℕ) → PhaseAfter (length (D.bytes decoder.old)) (D.phase decoder.old) p → IfOk result
+        (λ found. AreAlikeAtFirst (outcomes_in found.items)
+        (stream_outcomes (p ++ bytes.now) (length (D.bytes decoder.old)))) }
+    ensures phase_after { (p : List ℕ) → PhaseAfter (length (D.bytes decoder.old)) (D.phase decoder.old) p → OnOk result
+        (PhaseAfter (length (D.bytes decoder.new)) (D.phase decoder.new) (unended (p ++ bytes.now))) }
+    ensures after_zero { (p : List ℕ) → PhaseAfter (length (D.bytes decoder.old)) (D.phase decoder.old) p →
+        Contains bytes.now 0 →
         OnOk result (DecoderAfter (D.bytes decoder.new) (D.phase decoder.new) (unended (p ++ bytes.now))) }
 
     // In every phase.
