@@ -1,16 +1,14 @@
 -- The step from a front of a piece to the next one, in phases.
-use Rattle.std.proofs.Common.{◌≡◌, ◌≢◌, ℕ, zero, suc, ◌+◌, ◌-◌, ◌<◌, ◌≤◌, Bool, true, false, cond, ltb, leb, eqb, List, [], ◌∷◌, ◌++◌, length, take, drop, set, refl, sym, ap, ◌∙◌, arith, rules, append_assoc, length-append, inl, inr, Some, None, Ok, Err, Option, Result, add-one}
+use Rattle.std.proofs.Common.{◌≡◌, ◌≢◌, ℕ, zero, suc, ◌+◌, ◌-◌, ◌<◌, ◌≤◌, Bool, true, false, cond, leb, eqb, List, [], ◌∷◌, ◌++◌, length, take, drop, set, refl, sym, ap, ◌∙◌, arith, length-append, inl, inr, None, Ok, Err, add-one}
 use Rattle.std.proofs.lemmas.List.{take_all, take-append-le, append-nil, length_push, take_more_set, set_past, drop-set-lt, length-set}
 use Rattle.std.proofs.lemmas.List.Elements.{All-push, All-nil}
-use Rattle.std.proofs.lemmas.Bool.{cases_lt, cases_eq, cond-true, cond-false, ne_eqb, eq-eqb, le-leb, lt-leb, lt-ltb, le-ltb, leb-true, leb-false}
-use Rattle.std.proofs.lemmas.Grind.{common_steps}
-use Rattle.cobs.specs.Grammar.{HasNoZero, joint, is_full, message_of}
+use Rattle.std.proofs.lemmas.Bool.{cases_lt, cond-true, cond-false, ne_eqb, le-leb, lt-leb}
+use Rattle.cobs.specs.Grammar.{HasNoZero, is_full}
 use Rattle.cobs.specs.Piece.{lacks, output, last_part, is_whole, parts, parts_behind}
 use Rattle.cobs.specs.Stream.{outcome_of, Message, Broken, TooLong}
 use Rattle.cobs.specs.Decoder.{Phase, Idle, Within, Over, phase_after, PhaseAfter, DecoderAfter, fed, told, answer_at_end, answer_to, Feeds}
 use Rattle.cobs.specs.Machine.{grows, next_phase, next_buffer, if_over, end_answer, next_answer}
-use Rattle.cobs.specs.declared.dec.report.DecodeError.{DecodeError}
-use Rattle.cobs.specs.declared.dec.report.DecodeError.TheVariants.{InvalidFrame, TargetBufTooSmall}
+use Rattle.cobs.specs.declared.dec.report.DecodeError.TheVariants.{TargetBufTooSmall}
 use Rattle.std.specs.Prelude.{IfOk, IfSome}
 use Rattle.cobs.proofs.PieceLemmas.{output-one, last_part-one, output-push_more, output-push_next, last_part-push_next, lacks-push_more, is_full-push_more, output-push}
 

@@ -1,3 +1,6 @@
+pub mod FrameLemmas
+pub mod OutcomeLemmas
+pub mod JoinLemmas
 pub mod GrammarLemmas
 pub mod LengthLemmas
 pub mod EncodeLemmas
@@ -6,4 +9,18 @@ pub mod OpenLemmas
 pub mod PieceLemmas
 pub mod FeedLemmas
 pub mod StreamLemmas
+pub mod PushLemmas
+pub mod RunLemmas
+pub mod PieceCuts
+pub mod WindowSteps
 pub mod SoFar
+pub mod ReadingLemmas
+pub mod UniqueLemmas
+pub mod EnumerationLemmas
+pub mod SentinelLemmas
+pub mod UniqueLemmas
+pub mod EnumerationLemmas
+pub mod HeadLemmas
+pub mod FrontLemmas
+pub mod OutcomeSteps
+pub mod LawExamples

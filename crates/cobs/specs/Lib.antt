@@ -10,4 +10,10 @@ pub mod Decoder
 pub mod Report
 pub mod Machine
 pub mod Buffers
+pub mod Push
 pub mod Streaming
+pub mod Reading
+pub mod Reader
+pub mod Laws
+pub mod Laws
+pub mod Decoding

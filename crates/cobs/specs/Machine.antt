@@ -63,3 +63,15 @@ abbrev pub FedInTurn : List ℕ → Phase → List ℕ → List ℕ → Phase �
 FedInTurn buffer phase [] buffer' phase' = (buffer' ≡ buffer) × (phase' ≡ phase)
 FedInTurn buffer phase (byte ∷ bytes) buffer' phase' =
     (next_answer (length buffer) phase byte ≡ Ok None) × FedInTurn (next_buffer buffer phase byte) (next_phase (length buffer) phase byte) bytes buffer' phase'
+
+-- how many bytes the block of a state lacks
+abbrev pub left_in : DecoderState → ℕ
+left_in states.Idle = 0
+left_in (states.Grab left) = left
+left_in (states.GrabChain left) = left
+
+-- the state behind so many bytes of the block
+abbrev pub skipped : DecoderState → ℕ → DecoderState
+skipped states.Idle run = states.Idle
+skipped (states.Grab left) run = states.Grab (left - run)
+skipped (states.GrabChain left) run = states.GrabChain (left - run)

@@ -1,6 +1,15 @@
--- Frames for another sentinel than 0.
-use Rattle.std.specs.Prelude.{ℕ, List, map, bit_xor}
+-- Frames for another sentinel than 0, and frames between sentinels.
+use Rattle.std.specs.Prelude.{◌≡◌, ℕ, List, [], ◌∷◌, ◌++◌, map, bit_xor}
+use Rattle.cobs.specs.Grammar.{IsEncodedFrame}
 
 -- each byte changed by exclusive or with s; a frame for the sentinel s is a frame for 0 so changed, and the other way round
 abbrev pub xor_each : ℕ → List ℕ → List ℕ
 xor_each s bytes = map (λ byte. bit_xor byte s) bytes
+
+-- f is the frame that encoders give for m and the sentinel s
+abbrev pub IsEncodedFrameFor : ℕ → List ℕ → List ℕ → Type 0
+IsEncodedFrameFor s f m = IsEncodedFrame (xor_each s f) m
+
+-- the bytes are the frame that encoders give for m, between two sentinels
+abbrev pub IsDelimitedFrame : List ℕ → List ℕ → Type 0
+IsDelimitedFrame bytes m = (f : List ℕ) × IsEncodedFrame f m × (bytes ≡ 0 ∷ f ++ 0 ∷ [])

@@ -3,12 +3,18 @@ ghost use Rattle.std.specs.Prelude.{◌≡◌, ◌<◌, ◌≤◌, ◌+◌, ◌�
 ghost use Rattle.cobs.specs.Grammar.{HasNoZero, IsEncodedFrame};
 ghost use Rattle.cobs.specs.Length.{encoded_len};
 
-pub mod error;
-pub mod state;
+mod error;
+mod sentinel;
+mod state;
+mod vector;
 
 pub use error::DestBufTooSmallError;
 use memchr::memchr;
+pub use sentinel::{
+    encode_including_sentinels, encode_with_sentinel, try_encode_including_sentinels,
+};
 pub use state::{EncoderState, PushResult};
+pub use vector::{encode_vec, encode_vec_including_sentinels, encode_vec_with_sentinel};
 
 /// How many bytes a full block has behind its code.
 const FULL_BLOCK_BYTES: usize = 254;
@@ -99,3 +105,6 @@ fn write_block(bytes: &[u8], dest: &mut [u8])
     dest[0] = end as u8;
     dest[1..end].copy_from_slice(bytes);
 }
+
+#[cfg(test)]
+mod tests;

@@ -1,8 +1,43 @@
 //! What holds of messages, frames, pieces and streams. These functions do nothing when they run: their contracts are
 //! the laws, and a caller who calls one may use it in its own proof.
-ghost use Rattle.std.specs.Prelude.{◌≡◌, ◌≤◌, ◌+◌, ℕ, List, length};
-ghost use Rattle.cobs.specs.Grammar.{HasNoZero};
-ghost use Rattle.cobs.specs.Length.{encoded_len, max_encoded_len};
+ghost use Rattle.std.specs.Prelude.{◌≡◌, ◌≢◌, ◌↔◌, ◌<◌, ◌≤◌, ◌+◌, ℕ, List, [], ◌∷◌, ◌++◌, length, All};
+ghost use Rattle.cobs.specs.Grammar.{HasNoZero, IsEncodedFrame, IsFrame, Reads, joint, last_of, lone_block};
+ghost use Rattle.cobs.specs.Laws.{EndsAtBlock, IsFrameFor, IsFront};
+ghost use Rattle.cobs.specs.Length.{EndsInFullRun, encoded_len, max_encoded_len};
+ghost use Rattle.cobs.specs.Piece.{IsWhole, output};
+ghost use Rattle.cobs.specs.Sentinel.{xor_each};
+ghost use Rattle.cobs.specs.Stream.{Message, first_piece, head, outcome_of};
+
+/// A frame reads as its output: a list of bytes reads as a message exactly where it isn't empty, has no zero, its last
+/// block has all the bytes that its code counts, and the message is what it decodes to.
+///
+/// So whether a list is a frame, and of what, can be told by cutting it at its codes. Each decoder does so, and its
+/// users know by this law that what it accepts are the frames and nothing else.
+pub fn law_1()
+    ensures { (f m : List ℕ) → All (λ byte. byte < 256) f
+        → (Reads f m ↔ ((f ≢ []) × HasNoZero f × IsWhole f × (m ≡ output f))) }
+{}
+
+/// Each message has exactly one encoded frame.
+///
+/// So what encoders give may be compared byte by byte, be it to find a message in a store or to check a signature, and
+/// two encoders that keep to the definition agree. Its length is that by which `try_encode` and `CobsEncoder` accept
+/// and refuse.
+pub fn law_2()
+    ensures one { (m : List ℕ) → (f : List ℕ) × IsEncodedFrame f m }
+    ensures only { (f g m : List ℕ) → IsEncodedFrame f m → IsEncodedFrame g m → f ≡ g }
+    ensures len { (f m : List ℕ) → IsEncodedFrame f m → length f ≡ encoded_len m }
+{}
+
+/// All frames of a message: the encoded one and, only where the message ends in a full run, that one followed by 01.
+///
+/// The second is one byte longer. A receiver that wants one frame a message, as a request protocol that compares
+/// frames, refuses just this second one; [`frame_kind`](crate::frame_kind) tells them apart.
+pub fn law_3()
+    ensures frames { (f m : List ℕ) → Reads f m ↔ IsFrameFor f m }
+    ensures longer { (f m : List ℕ) → IsEncodedFrame f m → EndsInFullRun m
+        → length (f ++ lone_block) ≡ encoded_len m + 1 }
+{}
 
 /// The bounds of an encoded frame's length: it is longer than its message, and at most as long as
 /// [`max_encoding_length`](crate::max_encoding_length) says. A message without zeros reaches that bound, so each
@@ -12,4 +47,51 @@ pub fn law_4()
     ensures upper { (m : List ℕ) → encoded_len m ≤ max_encoded_len (length m) }
     ensures reached { (m : List ℕ) → HasNoZero m → encoded_len m ≡ max_encoded_len (length m) }
     ensures everywhere { (n : ℕ) → (m : List ℕ) × (length m ≡ n) × (encoded_len m ≡ max_encoded_len n) }
+{}
+
+/// Messages with equal encoded frames are equal, and a frame has one message at all.
+///
+/// So nothing of a message is lost in its frame, and a receiver can't read another message out of it than the sender
+/// put in.
+pub fn law_5()
+    ensures message { (f m k : List ℕ) → Reads f m → Reads f k → m ≡ k }
+    ensures encoded { (f g m k : List ℕ) → IsEncodedFrame f m → IsEncodedFrame g k → f ≡ g → m ≡ k }
+{}
+
+/// No byte of a frame for a sentinel is that sentinel.
+///
+/// This is what COBS is for: whoever puts the sentinel between frames can find their ends by it alone.
+pub fn law_6()
+    ensures { (f : List ℕ) (s : ℕ) → IsFrame f → All (λ byte. byte ≢ s) (xor_each s f) }
+{}
+
+/// A front of a frame, unless it is empty, is a frame exactly where it ends at a block's end, and its message is then a
+/// front of the frame's message.
+///
+/// So a frame that was cut short, as by a lost link, is noticed unless the cut fell between two blocks, and then what
+/// is read is still the beginning of what was sent.
+pub fn law_7()
+    ensures frame { (p q m : List ℕ) (r : Reads (p ++ q) m) → p ≢ [] → (IsFrame p ↔ EndsAtBlock p r.blocks) }
+    ensures message { (p q k m : List ℕ) → Reads (p ++ q) m → Reads p k → IsFront k m }
+{}
+
+/// Frames joined without a sentinel read as their messages joined, with a zero between them unless the first frame ends
+/// in a full block.
+///
+/// So a sentinel that was lost between two frames makes them one message, which a receiver can't tell from one that
+/// was sent so: what must be told apart needs a check of its own in the message.
+pub fn law_8()
+    ensures { (f m g k : List ℕ) (r : Reads f m) → Reads g k
+        → Reads (f ++ g) (m ++ joint (last_of r.blocks) ++ k) }
+{}
+
+/// In a stream that begins with a nonzero byte the first piece is what stands before the first zero, and, in a buffer
+/// of the stream's length, it comes to a message exactly where it reads as that message.
+///
+/// So `decode`, into a buffer as long as its source, and `decode_in_place` both refuse, or both give the same message.
+pub fn law_12()
+    ensures piece { (byte : ℕ) (bytes : List ℕ) → byte ≢ 0
+        → first_piece (byte ∷ bytes) ≡ Some (head (byte ∷ bytes)) }
+    ensures reads { (byte : ℕ) (bytes m : List ℕ) → let t = byte ∷ bytes in byte ≢ 0 → All (λ byte. byte < 256) t
+        → ((outcome_of (head t) (length t) ≡ Message m) ↔ Reads (head t) m) }
 {}

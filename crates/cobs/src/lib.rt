@@ -6,6 +6,7 @@ ghost use Rattle.cobs.specs.Length.{max_overhead, max_encoded_len};
 
 mod dec;
 mod enc;
+mod framed;
 pub mod laws;
 mod stream;
 
@@ -13,7 +14,12 @@ pub use dec::{
     CobsDecoder, CobsDecoderHeapless, CobsDecoderOwned, DecodeError, DecodeReport, DecodeResult,
     DecoderState, FrameDecoder, PushError,
 };
-pub use enc::{DestBufTooSmallError, EncoderState, PushResult, encode, try_encode};
+pub use enc::{
+    DestBufTooSmallError, EncoderState, PushResult, encode, encode_including_sentinels, encode_vec,
+    encode_vec_including_sentinels, encode_vec_with_sentinel, encode_with_sentinel, try_encode,
+    try_encode_including_sentinels,
+};
+pub use framed::{FrameReader, FrameSource, Next, ReadFault, Recorded};
 pub use stream::{FrameOutcome, decode_stream};
 
 /// How many bytes longer than its message an encoded frame is at most, for a message of `source_len` bytes.

@@ -3,11 +3,12 @@ ghost use Rattle.std.specs.Prelude.{◌≡◌, ◌-◌, ◌++◌, [], replicate}
 ghost use Rattle.std.specs.Borrow.{sem};
 ghost use Rattle.arrayvec.specs.ArrayVec.{array_vec_len};
 ghost use Rattle.cobs.specs.Decoder.{DecoderAfter, Feeds};
+ghost use Rattle.cobs.specs.Push.{PushesBytes};
 ghost use Rattle.cobs.specs.Buffers.{heapless_buffer, heapless_phase, LendsHeapless};
 
 use crate::dec::frame_decoder::FrameDecoder;
 use crate::dec::inner::CobsDecoderInner;
-use crate::dec::report::DecodeError;
+use crate::dec::report::{DecodeError, DecodeReport, PushError};
 use arrayvec::ArrayVec;
 
 /// Decodes a stream of frames, each ended by a zero, into a buffer of `N` bytes that lies in the value itself.
@@ -57,6 +58,22 @@ impl<const N: usize> CobsDecoderHeapless<N> {
         ensures feeds { Feeds (heapless_buffer self.old) (heapless_phase self.old) byte result (heapless_buffer self.new) (heapless_phase self.new) }
     {
         self.inner.feed(self.dest.as_mut_slice(), byte)
+    }
+
+    /// Takes bytes of the stream, up to the first one whose answer by `feed` isn't `Ok(None)`.
+    ///
+    /// `Ok(None)`: all bytes were taken, and no piece has ended in them. `Ok(Some(report))`: a whole frame has ended;
+    /// `frame_size` is the length of its message, which stands at the front of the buffer, and `parsed_size` counts
+    /// the bytes that were taken, the zero behind the frame included. The others are not looked at: push them next.
+    ///
+    /// # Errors
+    /// A `PushError` has the error of `feed` and how many bytes were taken, the one that raised it included.
+    /// Pushing the bytes behind these goes on with the stream: a piece whose zero raised the error is over, and
+    /// while a piece is too long for the buffer, each push of its bytes takes one, through its zero.
+    pub fn push(&mut self, bytes: &[u8]) -> Result<Option<DecodeReport>, PushError>
+        ensures pushes { PushesBytes (heapless_buffer self.old) (heapless_phase self.old) bytes.now result (heapless_buffer self.new) (heapless_phase self.new) }
+    {
+        self.inner.push(self.dest.as_mut_slice(), bytes)
     }
 
     /// Makes the decoder idle, so that the next byte begins a new piece. The buffer is as it was.

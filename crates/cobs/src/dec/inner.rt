@@ -1,10 +1,13 @@
 //! What the three streaming decoders share: the machine, over a buffer that is passed to each call.
-ghost use Rattle.std.specs.Prelude.{◌≡◌, ◌≤◌, ℕ, List, [], length, IfOk, IfSome};
+ghost use Rattle.std.specs.Prelude.{◌≡◌, ◌≤◌, ℕ, List, [], length, take, IfOk, IfSome};
+ghost use Rattle.cobs.specs.Grammar.{HasNoZero};
 ghost use Rattle.cobs.specs.Decoder.{DecoderAfter, Feeds};
-ghost use Rattle.cobs.specs.Machine.{phase_of, next_phase, next_buffer, next_answer};
+ghost use Rattle.cobs.specs.Machine.{phase_of, next_phase, next_buffer, next_answer, FedInTurn};
+ghost use Rattle.cobs.specs.Push.{PushesBytes};
 
-use crate::dec::report::DecodeError;
+use crate::dec::report::{DecodeError, DecodeReport, PushError};
 use crate::dec::state::{DecodeResult, DecoderState};
+use memchr::memchr;
 
 /// Where a streaming decoder stands: in which state, with how many bytes written, and whether the output of this
 /// piece was too long for the buffer.
@@ -76,5 +79,56 @@ impl CobsDecoderInner {
         ensures { Feeds dest.old (phase_of self.old) byte result dest.new (phase_of self.new) }
     {
         self.step(dest, byte)
+    }
+
+    /// Takes those of the first bytes of a stretch without zeros that the open block lacks, as far as they fit the
+    /// buffer, and answers how many.
+    fn take_open_block(&mut self, dest: &mut [u8], stretch: &[u8]) -> usize
+        requires { HasNoZero stretch.now }
+        ensures within { result ≤ length stretch.now }
+        ensures fed { FedInTurn dest.old (phase_of self.old) (take result stretch.now) dest.new (phase_of self.new) }
+    {
+        if self.over {
+            return 0;
+        }
+        let at = self.dest_idx;
+        let room = dest.len().saturating_sub(at);
+        let run = stretch.len().min(room).min(self.state.left() as usize);
+        if run == 0 {
+            return 0;
+        }
+        dest[at..at + run].copy_from_slice(&stretch[..run]);
+        self.dest_idx = at + run;
+        self.state.skip(run as u8);
+        run
+    }
+
+    /// Takes bytes of the stream up to the first answer that isn't `Ok(None)`.
+    pub(crate) fn push(
+        &mut self,
+        dest: &mut [u8],
+        bytes: &[u8],
+    ) -> Result<Option<DecodeReport>, PushError>
+        ensures { PushesBytes dest.old (phase_of self.old) bytes.now result dest.new (phase_of self.new) }
+    {
+        let mut at = 0;
+        'by_stretch: while at < bytes.len() {
+            let end = match memchr(0, &bytes[at..]) {
+                Some(zero) => at + zero,
+                None => bytes.len(),
+            };
+            at += self.take_open_block(dest, &bytes[at..end]);
+            if at < bytes.len() {
+                match self.feed(dest, bytes[at]) {
+                    Ok(None) => at += 1,
+                    Ok(Some(n)) => return Ok(Some(DecodeReport::new(at + 1, n))),
+                    Err(error) => return Err(PushError {
+                        error,
+                        parsed_size: at + 1,
+                    }),
+                }
+            }
+        }
+        Ok(None)
     }
 }

@@ -2,11 +2,12 @@
 ghost use Rattle.std.specs.Prelude.{◌≡◌, []};
 ghost use Rattle.std.specs.Borrow.{sem};
 ghost use Rattle.cobs.specs.Decoder.{DecoderAfter, Feeds};
+ghost use Rattle.cobs.specs.Push.{PushesBytes};
 ghost use Rattle.cobs.specs.Buffers.{lent_buffer, lent_phase, lent_slice, LendsSlice};
 
 use crate::dec::frame_decoder::FrameDecoder;
 use crate::dec::inner::CobsDecoderInner;
-use crate::dec::report::DecodeError;
+use crate::dec::report::{DecodeError, DecodeReport, PushError};
 
 /// Decodes a stream of frames, each ended by a zero, into a slice that is lent to it.
 ///
@@ -49,6 +50,23 @@ impl<'a> CobsDecoder<'a> {
         ensures same_slice { lent_slice self.new ≡ lent_slice self.old }
     {
         self.inner.feed(self.dest, byte)
+    }
+
+    /// Takes bytes of the stream, up to the first one whose answer by `feed` isn't `Ok(None)`.
+    ///
+    /// `Ok(None)`: all bytes were taken, and no piece has ended in them. `Ok(Some(report))`: a whole frame has ended;
+    /// `frame_size` is the length of its message, which stands at the front of the slice, and `parsed_size` counts
+    /// the bytes that were taken, the zero behind the frame included. The others are not looked at: push them next.
+    ///
+    /// # Errors
+    /// A `PushError` has the error of `feed` and how many bytes were taken, the one that raised it included.
+    /// Pushing the bytes behind these goes on with the stream: a piece whose zero raised the error is over, and
+    /// while a piece is too long for the slice, each push of its bytes takes one, through its zero.
+    pub fn push(&mut self, bytes: &[u8]) -> Result<Option<DecodeReport>, PushError>
+        ensures pushes { PushesBytes (lent_buffer self.old) (lent_phase self.old) bytes.now result (lent_buffer self.new) (lent_phase self.new) }
+        ensures same_slice { lent_slice self.new ≡ lent_slice self.old }
+    {
+        self.inner.push(self.dest, bytes)
     }
 
     /// The whole slice.

@@ -2,11 +2,12 @@
 ghost use Rattle.std.specs.Prelude.{◌≡◌, [], replicate, IfOk};
 ghost use Rattle.std.specs.Borrow.{sem};
 ghost use Rattle.cobs.specs.Decoder.{DecoderAfter, Feeds};
+ghost use Rattle.cobs.specs.Push.{PushesBytes};
 ghost use Rattle.cobs.specs.Buffers.{owned_buffer, owned_phase, LendsOwned};
 
 use crate::dec::frame_decoder::FrameDecoder;
 use crate::dec::inner::CobsDecoderInner;
-use crate::dec::report::DecodeError;
+use crate::dec::report::{DecodeError, DecodeReport, PushError};
 use std::alloc::{AllocError, Global};
 
 /// Decodes a stream of frames, each ended by a zero, into a buffer of its own.
@@ -46,6 +47,22 @@ impl CobsDecoderOwned {
         ensures feeds { Feeds (owned_buffer self.old) (owned_phase self.old) byte result (owned_buffer self.new) (owned_phase self.new) }
     {
         self.inner.feed(&mut self.dest, byte)
+    }
+
+    /// Takes bytes of the stream, up to the first one whose answer by `feed` isn't `Ok(None)`.
+    ///
+    /// `Ok(None)`: all bytes were taken, and no piece has ended in them. `Ok(Some(report))`: a whole frame has ended;
+    /// `frame_size` is the length of its message, which stands at the front of the buffer, and `parsed_size` counts
+    /// the bytes that were taken, the zero behind the frame included. The others are not looked at: push them next.
+    ///
+    /// # Errors
+    /// A `PushError` has the error of `feed` and how many bytes were taken, the one that raised it included.
+    /// Pushing the bytes behind these goes on with the stream: a piece whose zero raised the error is over, and
+    /// while a piece is too long for the buffer, each push of its bytes takes one, through its zero.
+    pub fn push(&mut self, bytes: &[u8]) -> Result<Option<DecodeReport>, PushError>
+        ensures pushes { PushesBytes (owned_buffer self.old) (owned_phase self.old) bytes.now result (owned_buffer self.new) (owned_phase self.new) }
+    {
+        self.inner.push(&mut self.dest, bytes)
     }
 
     /// Makes the decoder idle, so that the next byte begins a new piece. The buffer is as it was.

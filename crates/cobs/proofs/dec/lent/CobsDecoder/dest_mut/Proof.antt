@@ -5,11 +5,10 @@ use mathlib.Core.List.{List, [], ◌∷◌}
 use lib.ListN.{length}
 use base.Fraction.{full_share}
 use base.Fml.{Lft, GName, fat, ftrue, flft, fobs, fbor}
-use mir.Syntax.{named, erased, mut, w8, w64, Ty, ty_int, ty_ref}
+use mir.Syntax.{named, erased, mut, w8, Ty, ty_int, ty_ref}
 use mir.Val.{Val}
-use contract.Running.{tables}
 use types.Logic.{Logic}
-use types.Kit.{‵, ◌⊛◌, some, later, ◌$◌, ◌∵◌, !, qed, done, move, keep, drop, use1, use2, use3, split, split3, join, fsplit, fsplit3, fjoin, fjoin3, feq_l, feq_i, flt_l, flt_i, pick, await, rewrite, suffices, frame}
+use types.Kit.{‵, ◌⊛◌, some, later, ◌$◌, ◌∵◌, !, qed, done, move, keep, drop, use1, use2, use3, split, split3, join, fsplit3, fjoin, fjoin3, feq_l, feq_i, flt_l, flt_i, pick, await, rewrite, suffices, frame}
 use types.SemTy.{Body}
 use types.Mut.{open_ref, close_ref}
 use types.Part.{agg, whole, sub, look_in}

@@ -1,0 +1,185 @@
+-- A piece is its first part and what follows it: what that says of its output and of its last part.
+use Rattle.std.proofs.Common.{◌≡◌, ◌≢◌, ℕ, zero, suc, ◌+◌, ◌-◌, ◌/◌, ◌⊎◌, ◌<◌, ◌≤◌, false, eqb, List, [], ◌∷◌, ◌++◌, length, take, drop, replicate, if◌then◌else◌, ◌==◌, refl, sym, ap, ◌∙◌, inl, inr, arith, length-append, take_all, length-take-le, length-drop, get_or}
+use Rattle.std.proofs.lemmas.List.{drop-drop, drop_more}
+use Rattle.std.proofs.lemmas.Bool.{cases_lt, cases_eq, ne_eqb, eq-eqb}
+use Rattle.cobs.specs.Grammar.{bytes_of, joint, message_of, last_of}
+use Rattle.cobs.specs.Piece.{last_part, is_whole, lacks, parts, parts_behind, output}
+
+parts_behind-drop : (n : ℕ) (p : List ℕ) → parts_behind n p ≡ parts_behind 0 (drop n p)
+unfolding parts_behind
+parts_behind-drop zero p = refl
+parts_behind-drop (suc n) [] = refl
+parts_behind-drop (suc n) (x ∷ p) = parts_behind-drop n p
+
+parts_behind-some : (p : List ℕ) → 0 < length p → 0 < length (parts_behind 0 p)
+unfolding parts_behind
+parts_behind-some [] h = absurd (omega arith)
+parts_behind-some (x ∷ p) h = omega arith
+
+message_of-cons : (part : List ℕ) (parts : List (List ℕ)) → 0 < length parts → message_of (part ∷ parts) ≡ (bytes_of part ++ joint part) ++ message_of parts
+message_of-cons part [] h = absurd (omega arith)
+message_of-cons part (next ∷ parts) h = refl
+
+-- the last part
+pub output-last : (code : ℕ) (bytes : List ℕ) → length bytes ≤ code - 1 → output (code ∷ bytes) ≡ bytes
+unfolding output parts parts_behind
+output-last code bytes short =
+    ap (λ (x : List (List ℕ)). message_of ((code ∷ take (code - 1) bytes) ∷ x)) (none (code - 1) bytes short) ∙ take_all (code - 1) bytes short
+  where
+    none : (n : ℕ) (p : List ℕ) → length p ≤ n → parts_behind n p ≡ []
+    none n [] h = refl
+    none zero (x ∷ p) h = absurd (omega arith)
+    none (suc n) (x ∷ p) h = none n p (omega arith)
+
+abbrev pub joint_of : ℕ → List ℕ
+joint_of code = if code == 255 then [] else 0 ∷ []
+
+-- a part before others
+pub output-more : (code : ℕ) (bytes : List ℕ) → code - 1 < length bytes → output (code ∷ bytes) ≡ (take (code - 1) bytes ++ joint_of code) ++ output (drop (code - 1) bytes)
+unfolding output parts parts_behind
+output-more code bytes more =
+    let next : parts_behind (code - 1) bytes ≡ parts_behind 0 (drop (code - 1) bytes) = parts_behind-drop (code - 1) bytes in
+    let l = length-drop (code - 1) bytes in
+    ap (λ (x : List (List ℕ)). message_of ((code ∷ take (code - 1) bytes) ∷ x)) next
+    ∙ message_of-cons (code ∷ take (code - 1) bytes) (parts_behind 0 (drop (code - 1) bytes)) (parts_behind-some (drop (code - 1) bytes) (omega arith))
+
+pub joint-length : (code : ℕ) → (code ≡ 255) × (length (joint_of code) ≡ 0) ⊎ (code ≢ 255) × (length (joint_of code) ≡ 1)
+joint-length code = elim (cases_eq code 255) [
+  | inl full ↦ inl (full, ap (λ t. length {A = ℕ} (if t then [] else 0 ∷ [])) (eq-eqb code 255 full))
+  | inr other ↦ inr (other, ap (λ t. length {A = ℕ} (if t then [] else 0 ∷ [])) (ne_eqb code 255 other))
+]
+
+pub output-empty : (p : List ℕ) → length p ≡ 0 → output p ≡ []
+unfolding output parts parts_behind
+output-empty [] e = refl
+output-empty (x ∷ p) e = absurd (omega arith)
+
+last_of-cons : (part : List ℕ) (parts : List (List ℕ)) → 0 < length parts → last_of (part ∷ parts) ≡ last_of parts
+last_of-cons part [] h = absurd (omega arith)
+last_of-cons part (next ∷ parts) h = refl
+
+pub last_part-more : (code : ℕ) (bytes : List ℕ) → code - 1 < length bytes → last_part (code ∷ bytes) ≡ last_part (drop (code - 1) bytes)
+unfolding last_part parts parts_behind
+last_part-more code bytes more =
+    let l = length-drop (code - 1) bytes in
+    ap (λ (x : List (List ℕ)). last_of ((code ∷ take (code - 1) bytes) ∷ x)) (parts_behind-drop (code - 1) bytes)
+    ∙ last_of-cons (code ∷ take (code - 1) bytes) (parts_behind 0 (drop (code - 1) bytes)) (parts_behind-some (drop (code - 1) bytes) (omega arith))
+
+parts_behind-none : (n : ℕ) (p : List ℕ) → length p ≤ n → parts_behind n p ≡ []
+unfolding parts_behind
+parts_behind-none n [] h = refl
+parts_behind-none zero (x ∷ p) h = absurd (omega arith)
+parts_behind-none (suc n) (x ∷ p) h = parts_behind-none n p (omega arith)
+
+pub last_part-last : (code : ℕ) (bytes : List ℕ) → length bytes ≤ code - 1 → last_part (code ∷ bytes) ≡ code ∷ bytes
+unfolding last_part parts parts_behind
+last_part-last code bytes short =
+    ap (λ (x : List (List ℕ)). last_of ((code ∷ take (code - 1) bytes) ∷ x)) (parts_behind-none (code - 1) bytes short) ∙ ap (λ (x : List ℕ). code ∷ x) (take_all (code - 1) bytes short)
+
+pub is_whole-of : (p : List ℕ) → 0 < length p → is_whole p ≡ eqb (lacks (last_part p)) 0
+unfolding is_whole
+is_whole-of [] h = absurd (omega arith)
+is_whole-of (x ∷ p) h = refl
+
+pub is_whole-empty : (p : List ℕ) → length p ≡ 0 → is_whole p ≡ false
+unfolding is_whole
+is_whole-empty [] h = refl
+is_whole-empty (x ∷ p) h = absurd (omega arith)
+
+pub same_test : (m n : ℕ) → n ≤ m → eqb m n ≡ eqb (m - n) 0
+same_test m n le = elim (cases_eq m n) [
+  | inl is ↦ eq-eqb m n is ∙ sym (eq-eqb (m - n) 0 (omega arith))
+  | inr other ↦ ne_eqb m n other ∙ sym (ne_eqb (m - n) 0 (λ e. other (omega arith)))
+]
+
+pub last_part-ones : (n : ℕ) (p : List ℕ) → 0 < length p → last_part (replicate n 1 ++ p) ≡ last_part p
+last_part-ones zero p some = refl
+last_part-ones (suc n) p some =
+    let l = length-append (replicate n 1) p in
+    last_part-more 1 (replicate n 1 ++ p) (omega arith) ∙ last_part-ones n p some
+
+-- an output is at most one byte in 255 shorter than its piece, and one
+long_step : (code : ℕ) (bytes : List ℕ) → code - 1 < length bytes → length (drop (code - 1) bytes) ≤ length (output (drop (code - 1) bytes)) + 1 + length (drop (code - 1) bytes) / 255
+    → length (code ∷ bytes) ≤ length (output (code ∷ bytes)) + 1 + length (code ∷ bytes) / 255
+long_step code bytes more ih =
+    let e = ap length (output-more code bytes more) in
+    let l = length-append (take (code - 1) bytes ++ joint_of code) (output (drop (code - 1) bytes)) in
+    let k = length-append (take (code - 1) bytes) (joint_of code) in
+    let t = length-take-le (code - 1) bytes (omega arith) in
+    let d = length-drop (code - 1) bytes in
+    elim (joint-length code) [
+      | inl full ↦ (let f = full.0 in let g = full.1 in omega arith)
+      | inr other ↦ (let g = other.1 in omega arith)
+    ]
+
+long_by : (n : ℕ) (p : List ℕ) → length p ≤ n → length p ≤ length (output p) + 1 + length p / 255
+long_by n [] h = omega arith
+long_by zero (code ∷ bytes) h = absurd (omega arith)
+long_by (suc n) (code ∷ bytes) h = elim (cases_lt (code - 1) (length bytes)) [
+  | inl more ↦ long_step code bytes more (long_by n (drop (code - 1) bytes) (let d = length-drop (code - 1) bytes in omega arith))
+  | inr short ↦ (let e = ap length (output-last code bytes short) in omega arith)
+]
+
+le_step : (code : ℕ) (bytes : List ℕ) → code - 1 < length bytes → length (output (drop (code - 1) bytes)) + 1 ≤ length (drop (code - 1) bytes) → length (output (code ∷ bytes)) + 1 ≤ length (code ∷ bytes)
+le_step code bytes more ih =
+    let e = ap length (output-more code bytes more) in
+    let l = length-append (take (code - 1) bytes ++ joint_of code) (output (drop (code - 1) bytes)) in
+    let k = length-append (take (code - 1) bytes) (joint_of code) in
+    let t = length-take-le (code - 1) bytes (omega arith) in
+    let d = length-drop (code - 1) bytes in
+    elim (joint-length code) [
+      | inl full ↦ (let g = full.1 in omega arith)
+      | inr other ↦ (let g = other.1 in omega arith)
+    ]
+
+le_by : (n : ℕ) (p : List ℕ) → length p ≤ n → 0 < length p → length (output p) + 1 ≤ length p
+le_by n [] h some = absurd (omega arith)
+le_by zero (code ∷ bytes) h some = absurd (omega arith)
+le_by (suc n) (code ∷ bytes) h some = elim (cases_lt (code - 1) (length bytes)) [
+  | inl more ↦ le_step code bytes more (let d = length-drop (code - 1) bytes in le_by n (drop (code - 1) bytes) (omega arith) (omega arith))
+  | inr short ↦ (let e = ap length (output-last code bytes short) in omega arith)
+]
+
+-- an output is shorter than its piece
+pub output-le : (p : List ℕ) → 0 < length p → length (output p) + 1 ≤ length p
+output-le p some = le_by (length p) p (omega arith) some
+
+-- a short piece has no full part before its last one
+pub output-short : (p : List ℕ) → 0 < length p → length p < 255 → length (output p) + 1 ≡ length p
+output-short p some few = let l = long_by (length p) p (omega arith) in let k = le_by (length p) p (omega arith) some in omega arith
+
+pub output-long : (p : List ℕ) → 40 ≤ length p → 33 ≤ length (output p)
+output-long p h = let l = long_by (length p) p (omega arith) in short_case (length p) (length (output p)) h l
+  where
+    short_case : (n m : ℕ) → 40 ≤ n → n ≤ m + 1 + n / 255 → 33 ≤ m
+    short_case n m h l = omega arith
+
+-- parts of a code alone
+pub output-ones : (n : ℕ) (p : List ℕ) → 0 < length p → output (replicate n 1 ++ p) ≡ replicate n 0 ++ output p
+output-ones zero p some = refl
+output-ones (suc n) p some =
+    let l = length-append (replicate n 1) p in
+    output-more 1 (replicate n 1 ++ p) (omega arith) ∙ ap (λ (x : List ℕ). 0 ∷ x) (output-ones n p some)
+
+-- how long the output of what is left of a piece is, where one part is left
+pub length-output-last : (piece : List ℕ) (read : ℕ) → read < length piece → length piece - read ≤ get_or piece read 0 → length (output (drop read piece)) + 1 ≡ length piece - read
+length-output-last piece read within last =
+    let l = length-drop (read + 1) piece in
+    let e = ap length (ap output (drop_more piece read 0 within) ∙ output-last (get_or piece read 0) (drop (read + 1) piece) (omega arith)) in
+    omega arith
+
+-- and where more parts follow
+pub length-output-more : (piece : List ℕ) (read : ℕ) → read < length piece → 0 < get_or piece read 0 → get_or piece read 0 < length piece - read
+    → length (output (drop read piece)) ≡ get_or piece read 0 - 1 + length (joint_of (get_or piece read 0)) + length (output (drop (read + get_or piece read 0) piece))
+length-output-more piece read within some more =
+    let code : ℕ = get_or piece read 0 in
+    let bytes : List ℕ = drop (read + 1) piece in
+    let l = length-drop (read + 1) piece in
+    let next : drop (code - 1) bytes ≡ drop (read + code) piece = drop-drop (code - 1) (read + 1) piece ∙ ap (λ (k : ℕ). drop k piece) (omega arith) in
+    let is : output (drop read piece) ≡ (take (code - 1) bytes ++ joint_of code) ++ output (drop (read + code) piece) =
+    ap output (drop_more piece read 0 within) ∙ output-more code bytes (omega arith) ∙ ap (λ (x : List ℕ). (take (code - 1) bytes ++ joint_of code) ++ output x) next in
+    let e = ap length is in
+    let j = length-append (take (code - 1) bytes ++ joint_of code) (output (drop (read + code) piece)) in
+    let k = length-append (take (code - 1) bytes) (joint_of code) in
+    let t = length-take-le (code - 1) bytes (omega arith) in
+    omega arith

@@ -1,0 +1,278 @@
+-- Reads, one after another, and the first piece that ends in what they gave.
+use Rattle.std.proofs.Common.{◌≡◌, ◌≢◌, ℕ, zero, suc, ◌+◌, ◌-◌, ◌<◌, ◌≤◌, Bool, true, false, cond, leb, List, [], ◌∷◌, ◌++◌, length, take, drop, get_or, refl, sym, ap, ◌∙◌, subst, arith, append_assoc, length-append, Option, Some, None, Result, Ok, Err}
+use Rattle.std.specs.List.{All, flat_map}
+use Rattle.std.proofs.lemmas.List.{append-nil, take_all, take_more, take-append-le, take-append-drop, flat_map_more, length_push, same_from_push}
+use Rattle.std.proofs.lemmas.List.Elements.{All-nil, All-push, All-take, All-head, All-tail}
+use Rattle.std.proofs.lemmas.Grind.{flat_map-append}
+use Rattle.std.proofs.Math.Logic.{∥∥₁_elim}
+use Rattle.std.proofs.Math.Bool.{Bool-set}
+use Rattle.cobs.specs.Grammar.{is_full}
+use Rattle.cobs.specs.Piece.{output, lacks, last_part}
+use Rattle.cobs.specs.Stream.{Outcome, Message, Broken, TooLong, stream_outcomes, unended, is_nonempty}
+use Rattle.cobs.specs.Decoder.{Phase, Idle, Within, Over, DecoderAfter, Feeds, phase_after}
+use Rattle.cobs.specs.Streaming.{outcome_told}
+use Rattle.cobs.specs.Reading.{Read, bytes_given, GaveBytes, all_given, EndsIn, Runs, CallsForMore, EachCalledFor, EndsFirst, EndsFirstIn, ReaderState, IsBehind, AtPieceEnd, AtStreamEnd, Tells, ReadsNext, HasTaken, IsOutcome}
+use Rattle.cobs.specs.declared.framed.Next.{Next}
+use Rattle.cobs.specs.declared.framed.Next.TheVariants as nexts
+use Rattle.cobs.specs.declared.framed.ReadFault.{ReadFault}
+use Rattle.cobs.specs.declared.framed.ReadFault.TheVariants as faults
+use Rattle.cobs.specs.declared.dec.report.DecodeError.{DecodeError}
+use Rattle.cobs.proofs.StreamLemmas.{stream_outcomes-append, stream_outcomes-no_zero, unended-append, unended-no_zero, unended-zero}
+use Rattle.cobs.proofs.SoFar.{SoFar, step_zero, around_zero, left_nothing}
+
+-- THE FIRST PIECE THAT ENDS
+
+-- a zero whose answer tells an outcome, where nothing was told before
+pub EndsFirstIn-at_zero : {buffer₀ buffer buffer' : List ℕ} {phase₀ phase phase' : Phase} {result : Result (Option ℕ) DecodeError} (bytes : List ℕ) (i : ℕ) → i < length bytes → get_or bytes i 0 ≡ 0
+    → SoFar buffer₀ phase₀ buffer phase (take i bytes) [] → Feeds buffer phase (get_or bytes i 0) result buffer' phase'
+    → (outcome : Outcome) → outcome_told result buffer' ≡ outcome ∷ [] → (p : List ℕ) → DecoderAfter buffer₀ phase₀ p → EndsFirstIn p bytes (length buffer₀) outcome (drop (i + 1) bytes)
+EndsFirstIn-at_zero {buffer₀} bytes i within z s f outcome e p h = record {
+  front = take i bytes;
+  cut = around_zero bytes i within z ∙ append_assoc (take i bytes) (0 ∷ []) (drop (i + 1) bytes);
+  none_before = sym (s.outcomes p h);
+  here = ap (λ (x : List ℕ). stream_outcomes (p ++ x) (length buffer₀)) (ap (λ (x : ℕ). take i bytes ++ x ∷ []) (sym z) ∙ sym (take_more bytes i 0 within))
+      ∙ sym ((step_zero bytes i within z s f).outcomes p h) ∙ e;
+}
+
+-- bytes behind a stream t in which no piece has ended
+pub EndsFirst-behind : (t : List ℕ) {bytes behind : List ℕ} {n : ℕ} {outcome : Outcome} → stream_outcomes t n ≡ [] → EndsFirstIn (unended t) bytes n outcome behind → EndsFirst (t ++ bytes) n outcome behind
+EndsFirst-behind t {bytes} {behind} {n} {outcome} none w = record {
+  front = t ++ w.front;
+  cut = ap (λ (x : List ℕ). t ++ x) w.cut ∙ sym (append_assoc t w.front (0 ∷ behind));
+  none_before = stream_outcomes-append t w.front n ∙ ap (λ (x : List Outcome). x ++ stream_outcomes (unended t ++ w.front) n) none ∙ w.none_before;
+  outcomes =
+      ap (λ (x : List ℕ). stream_outcomes x n) (ap (λ (x : List ℕ). t ++ x) (w.cut ∙ sym (append_assoc w.front (0 ∷ []) behind)) ∙ sym (append_assoc t (w.front ++ 0 ∷ []) behind))
+      ∙ stream_outcomes-append (t ++ (w.front ++ 0 ∷ [])) behind n
+      ∙ ap (λ (x : List Outcome). x ++ stream_outcomes (unended (t ++ (w.front ++ 0 ∷ [])) ++ behind) n) at_zero
+      ∙ ap (λ (x : List ℕ). outcome ∷ stream_outcomes (x ++ behind) n) (ap unended (sym (append_assoc t w.front (0 ∷ []))) ∙ unended-zero (t ++ w.front));
+}
+  where
+    at_zero : stream_outcomes (t ++ (w.front ++ 0 ∷ [])) n ≡ outcome ∷ []
+    at_zero = stream_outcomes-append t (w.front ++ 0 ∷ []) n ∙ ap (λ (x : List Outcome). x ++ stream_outcomes (unended t ++ (w.front ++ 0 ∷ [])) n) none ∙ w.here
+
+-- THE READER'S OWN NOTE OF A BEGUN PIECE
+
+not_idle : Phase → Bool
+not_idle Idle = false
+not_idle (Within full left count) = true
+not_idle Over = true
+
+nonempty_phase : (p : List ℕ) (n : ℕ) → is_nonempty p ≡ not_idle (phase_after p n)
+unfolding phase_after not_idle
+nonempty_phase [] n = refl
+nonempty_phase (c ∷ q) n = elim (leb (length (output (c ∷ q))) n) as (λ v. true ≡ not_idle (cond v (Within (is_full (last_part (c ∷ q))) (lacks (last_part (c ∷ q))) (length (output (c ∷ q)))) Over)) [ true ↦ refl | false ↦ refl ]
+
+-- a flag that is right behind some front is right behind each front that the decoder has taken
+pub HasTaken-any : (buffer : List ℕ) (phase : Phase) (flag : Bool) (q : List ℕ) → ∥ ((p : List ℕ) × HasTaken buffer phase flag p) ∥₁ → DecoderAfter buffer phase q → HasTaken buffer phase flag q
+HasTaken-any buffer phase flag q some h = record {
+  after = h;
+  flag = ∥∥₁_elim some (Bool-set flag (is_nonempty q)) (λ w.
+      w.1.flag ∙ nonempty_phase w.0 (length buffer) ∙ ap not_idle (sym w.1.after.phased.phase_is ∙ h.phased.phase_is) ∙ sym (nonempty_phase q (length buffer)));
+}
+
+-- ONE MORE READ
+
+Runs-push : {S : Type 0} (step : S → Read → S → Type 0) (a : S) (reads : List Read) (b c : S) (read : Read) → Runs step a reads b → step b read c → Runs step a (reads ++ read ∷ []) c
+Runs-push step a [] b c read r s = (c, subst (λ x. step x read c) (sym r) s, refl)
+Runs-push step a (first ∷ reads) b c read r s = (r.0, r.1, Runs-push step r.0 reads b c read r.2 s)
+
+given-push : (front : List ℕ) (reads : List Read) (read : Read) → front ++ all_given (reads ++ read ∷ []) ≡ front ++ all_given reads ++ bytes_given read
+given-push front reads read = sym (flat_map_more bytes_given front reads read)
+
+-- the last read is the one that was made last
+last_read : (reads : List Read) (read last : Read) → EndsIn (reads ++ read ∷ []) last → read ≡ last
+last_read reads read last e = (same_from_push reads e.0 read last e.1).1
+
+-- the reads in front of one of some reads and one more
+earlier_reads : (reads earlier later : List Read) (last read : Read) → reads ++ last ∷ [] ≡ earlier ++ read ∷ later → reads ≡ earlier ++ drop (length earlier) reads
+earlier_reads reads earlier later last read e =
+    let within : length earlier ≤ length reads = omega (arith, ap length e, length_push reads last, length-append earlier (read ∷ later)) in
+    sym (take-append-drop (length earlier) reads)
+    ∙ ap (λ (x : List Read). x ++ drop (length earlier) reads)
+    (sym (take-append-le (length earlier) reads (last ∷ []) within) ∙ ap (take (length earlier)) e ∙ take-append-le (length earlier) earlier (read ∷ later) (omega arith) ∙ take_all (length earlier) earlier (omega arith))
+
+-- what calls for a read behind some reads called for those as well
+called_earlier : (front : List ℕ) (n : ℕ) (reads earlier later : List Read) → reads ≡ earlier ++ later → length earlier < 65536 → All GaveBytes reads → stream_outcomes (front ++ all_given reads) n ≡ []
+    → CallsForMore front n earlier
+called_earlier front n reads earlier later e few gave none = record {
+  few = few;
+  gave = subst (λ (x : List Read). All GaveBytes x) (ap (take (length earlier)) e ∙ take-append-le (length earlier) earlier later (omega arith) ∙ take_all (length earlier) earlier (omega arith)) (All-take GaveBytes (length earlier) reads gave);
+  none_ended = left_nothing _ _ (sym (stream_outcomes-append (front ++ all_given earlier) (all_given later) n)
+      ∙ ap (λ (x : List ℕ). stream_outcomes x n) (append_assoc front (all_given earlier) (all_given later) ∙ ap (λ (x : List ℕ). front ++ x) (sym (flat_map-append bytes_given earlier later) ∙ ap all_given (sym e))) ∙ none);
+}
+
+-- each of some reads was called for, where another is called for behind them
+EachCalledFor-push : (front : List ℕ) (n : ℕ) (reads : List Read) (last : Read) → CallsForMore front n reads → EachCalledFor front n (reads ++ last ∷ [])
+EachCalledFor-push front n reads last more = λ earlier later read e.
+    called_earlier front n reads earlier (drop (length earlier) reads) (earlier_reads reads earlier later last read e)
+    (omega (arith, ap length e, length_push reads last, length-append earlier (read ∷ later), more.few)) more.gave more.none_ended
+
+-- the same of reads of which none is called for any more
+EachCalledFor-all : (front : List ℕ) (n : ℕ) (reads : List Read) → length reads ≤ 65536 → All GaveBytes reads → stream_outcomes (front ++ all_given reads) n ≡ [] → EachCalledFor front n reads
+EachCalledFor-all front n reads few gave none = λ earlier later read e.
+    called_earlier front n reads earlier (read ∷ later) e (omega (arith, ap length e, length-append earlier (read ∷ later))) gave none
+
+-- no reads
+EachCalledFor-nil : (front : List ℕ) (n : ℕ) → EachCalledFor front n []
+EachCalledFor-nil front n = λ earlier later read e. absurd (omega (arith, ap length e, length-append earlier (read ∷ later)))
+
+-- A CALL THAT GOES ON
+
+-- reads that all gave bytes and ended no piece: where the source and the reader are behind them
+pub record Going {S : Type 0} (step : S → Read → S → Type 0) (from to : S) (reader₀ reader : ReaderState) (unfinished : Bool) (count : ℕ) : Type 0 where
+  pub reads : List Read
+  pub runs : Runs step from reads to
+  pub count_is : length reads ≡ count
+  pub gave : All GaveBytes reads
+  pub none_ended : (p : List ℕ) → IsBehind reader₀ p → stream_outcomes (p ++ reader₀.kept ++ all_given reads) (length reader₀.buffer) ≡ []
+  pub taken : (p : List ℕ) → IsBehind reader₀ p → HasTaken reader.buffer reader.phase unfinished (unended (p ++ reader₀.kept ++ all_given reads))
+  pub nothing_kept : (p : List ℕ) → IsBehind reader₀ p → reader.kept ≡ []
+  pub len : length reader.buffer ≡ length reader₀.buffer
+
+-- before any read
+pub Going-start : {S : Type 0} (step : S → Read → S → Type 0) (source : S) (reader₀ reader : ReaderState) (unfinished : Bool)
+    → ((p : List ℕ) → IsBehind reader₀ p → (stream_outcomes (p ++ reader₀.kept) (length reader₀.buffer) ≡ []) × HasTaken reader.buffer reader.phase unfinished (unended (p ++ reader₀.kept)) × (reader.kept ≡ []))
+    → length reader.buffer ≡ length reader₀.buffer → Going step source source reader₀ reader unfinished 0
+Going-start step source reader₀ reader unfinished h len = record {
+  reads = [];
+  runs = refl;
+  count_is = refl;
+  gave = All-nil GaveBytes;
+  none_ended = λ p b. ap (λ (x : List ℕ). stream_outcomes x (length reader₀.buffer)) (append-nil (p ++ reader₀.kept)) ∙ (h p b).0;
+  taken = λ p b. rw (append-nil (p ++ reader₀.kept)) (h p b).1;
+  nothing_kept = λ p b. (h p b).2;
+  len = len;
+}
+
+some_is_none : (bytes : List ℕ) → Some bytes ≡ None → ⊥
+some_is_none bytes e = cc
+
+module _ {S : Type 0} {step : S → Read → S → Type 0} {from to : S} {reader₀ reader : ReaderState} {unfinished : Bool} {count : ℕ} where
+  more_called_for : count < 65536 → (g : Going step from to reader₀ reader unfinished count) → (p : List ℕ) → IsBehind reader₀ p → CallsForMore (p ++ reader₀.kept) (length reader₀.buffer) g.reads
+  more_called_for few g p b = record { few = omega (arith, g.count_is); gave = g.gave; none_ended = g.none_ended p b }
+
+  -- a read that gave nothing leaves the stream as it is
+  nothing_more : (g : Going step from to reader₀ reader unfinished count) (read : Read) → bytes_given read ≡ [] → (p : List ℕ) → p ++ reader₀.kept ++ all_given (g.reads ++ read ∷ []) ≡ p ++ reader₀.kept ++ all_given g.reads
+  nothing_more g read none p = given-push (p ++ reader₀.kept) g.reads read ∙ ap (λ (x : List ℕ). p ++ reader₀.kept ++ all_given g.reads ++ x) none ∙ append-nil _
+
+  -- the stream has come to its end
+  at_end : (kept : List ℕ) → kept ≡ [] → (g : Going step from to reader₀ reader unfinished count) → (p : List ℕ) → IsBehind reader₀ p → AtStreamEnd (p ++ reader₀.kept ++ all_given g.reads) (record reader { kept = kept })
+  at_end kept e g p b = record { none_ended = ap (stream_outcomes (p ++ reader₀.kept ++ all_given g.reads)) g.len ∙ g.none_ended p b; behind = (g.taken p b).after; nothing_kept = e }
+
+  -- WHERE THE SOURCE GIVES NO MORE
+
+  -- a read failed
+  pub ReadsNext-failed : {to' : S} (kept : List ℕ) → kept ≡ [] → count < 65536 → Going step from to reader₀ reader unfinished count → step to None to'
+      → ReadsNext step from to' reader₀ (Err faults.Io) (record reader { kept = kept })
+  ReadsNext-failed {to'} kept e few g s = record {
+    reads = g.reads ++ None ∷ [];
+    runs = Runs-push step from g.reads to to' None g.runs s;
+    failed = (λ _. (g.reads, refl), λ _. refl);
+    called_for = λ p b. EachCalledFor-push _ _ g.reads None (more_called_for few g p b);
+    tells = λ p b. rw (nothing_more g None refl p) (at_end kept e g p b, (g.reads, refl));
+  }
+
+  -- a read gave no bytes
+  pub ReadsNext-end : {to' : S} (kept : List ℕ) → kept ≡ [] → count < 65536 → Going step from to reader₀ reader unfinished count → step to (Some []) to'
+      → ReadsNext step from to' reader₀ (Ok (nexts.End unfinished)) (record reader { kept = kept })
+  ReadsNext-end {to'} kept e few g s = record {
+    reads = g.reads ++ Some [] ∷ [];
+    runs = Runs-push step from g.reads to to' (Some []) g.runs s;
+    failed = (λ f. absurd cc, λ l. absurd (some_is_none [] (last_read g.reads (Some []) None l)));
+    called_for = λ p b. EachCalledFor-push _ _ g.reads (Some []) (more_called_for few g p b);
+    tells = λ p b. rw (nothing_more g (Some []) refl p) (at_end kept e g p b, (g.reads, refl), (g.taken p b).flag);
+  }
+
+-- THE SAME, BEHIND A PIECE'S END
+
+-- an outcome is told
+Tells-piece : (next : Next) (reads : List Read) (t : List ℕ) (reader : ReaderState) (outcome : Outcome)
+    → IsOutcome next reader.buffer outcome → EndsFirst t (length reader.buffer) outcome reader.kept → reader.phase ≡ Idle → Tells (Ok next) reads t reader
+Tells-piece (nexts.Message n) reads t reader outcome i w b = (record { first = subst (λ o. EndsFirst t (length reader.buffer) o reader.kept) i.0 w; idle = b }, i.1)
+Tells-piece (nexts.Broken n) reads t reader outcome i w b = record { first = subst (λ o. EndsFirst t (length reader.buffer) o reader.kept) i w; idle = b }
+Tells-piece nexts.TooLong reads t reader outcome i w b = record { first = subst (λ o. EndsFirst t (length reader.buffer) o reader.kept) i w; idle = b }
+Tells-piece (nexts.End unfinished) reads t reader outcome i w b = absurd i
+
+-- the kept bytes end a piece: nothing is read
+pub ReadsNext-kept : {S : Type 0} (step : S → Read → S → Type 0) (source : S) (reader reader' : ReaderState) (next : Next) → length reader'.buffer ≡ length reader.buffer
+    → ((p : List ℕ) → IsBehind reader p → (outcome : Outcome) × IsOutcome next reader'.buffer outcome × EndsFirstIn p reader.kept (length reader.buffer) outcome reader'.kept × (reader'.phase ≡ Idle))
+    → ReadsNext step source source reader (Ok next) reader'
+ReadsNext-kept step source reader reader' next len h = record {
+  reads = [];
+  runs = refl;
+  failed = (λ f. absurd cc, λ l. absurd (omega (arith, ap length l.1, length_push l.0 None)));
+  called_for = λ p b. EachCalledFor-nil _ _;
+  tells = λ p b.
+      let o = h p b in
+      let none : stream_outcomes p (length reader.buffer) ≡ [] = stream_outcomes-no_zero p _ b.phased.piece in
+      let w : EndsFirst (p ++ reader.kept) (length reader.buffer) o.0 reader'.kept
+      = EndsFirst-behind p none (rw (unended-no_zero p b.phased.piece) o.2) in
+      Tells-piece next [] _ reader' o.0 o.1 (rw (append-nil (p ++ reader.kept), len) w) o.3;
+}
+
+All-last : {X : Type 0} (P : X → Type 0) (xs : List X) (x : X) → All P (xs ++ x ∷ []) → P x
+All-last P [] x h = All-head P x [] h
+All-last P (y ∷ xs) x h = All-last P xs x (All-tail P y (xs ++ x ∷ []) h)
+
+module _ {S : Type 0} {step : S → Read → S → Type 0} {from to to' : S} {reader₀ reader reader' : ReaderState} {unfinished : Bool} {count : ℕ} where
+  -- the bytes that were read end a piece
+  pub ReadsNext-piece : (bytes kept : List ℕ) (next : Next) → kept ≡ bytes → count < 65536 → Going step from to reader₀ reader unfinished count → step to (Some bytes) to' → length reader'.buffer ≡ length reader.buffer
+      → ((q : List ℕ) → HasTaken reader.buffer reader.phase unfinished q → (outcome : Outcome) × IsOutcome next reader'.buffer outcome × EndsFirstIn q kept (length reader.buffer) outcome reader'.kept × (reader'.phase ≡ Idle))
+      → ReadsNext step from to' reader₀ (Ok next) reader'
+  ReadsNext-piece bytes kept next same few g s len h = record {
+    reads = g.reads ++ Some bytes ∷ [];
+    runs = Runs-push step from g.reads to to' (Some bytes) g.runs s;
+    failed = (λ f. absurd cc, λ l. absurd (some_is_none bytes (last_read g.reads (Some bytes) None l)));
+    called_for = λ p b. EachCalledFor-push _ _ g.reads (Some bytes) (more_called_for few g p b);
+    tells = λ p b.
+        let t = p ++ reader₀.kept ++ all_given g.reads in
+        let o = h _ (g.taken p b) in
+        let none : stream_outcomes t (length reader.buffer) ≡ [] = ap (stream_outcomes t) g.len ∙ g.none_ended p b in
+        let w : EndsFirst (t ++ bytes) (length reader.buffer) o.0 reader'.kept
+        = EndsFirst-behind t none (subst (λ (x : List ℕ). EndsFirstIn (unended t) x (length reader.buffer) o.0 reader'.kept) same o.2) in
+        Tells-piece next _ _ reader' o.0 o.1 (rw (given-push (p ++ reader₀.kept) g.reads (Some bytes), len) w) o.3;
+  }
+
+  -- they end none, and the call goes on
+  pub Going-push : (bytes kept : List ℕ) (unfinished' : Bool) → kept ≡ bytes → bytes ≢ [] → Going step from to reader₀ reader unfinished count → step to (Some bytes) to' → length reader'.buffer ≡ length reader.buffer
+      → ((q : List ℕ) → HasTaken reader.buffer reader.phase unfinished q → (stream_outcomes (q ++ kept) (length reader.buffer) ≡ []) × HasTaken reader'.buffer reader'.phase unfinished' (unended (q ++ kept)) × (reader'.kept ≡ []))
+      → Going step from to' reader₀ reader' unfinished' (count + 1)
+  Going-push bytes kept unfinished' same some g s len h = record {
+    reads = g.reads ++ Some bytes ∷ [];
+    runs = Runs-push step from g.reads to to' (Some bytes) g.runs s;
+    count_is = length_push g.reads (Some bytes) ∙ ap (λ (k : ℕ). k + 1) g.count_is;
+    gave = All-push GaveBytes g.reads (Some bytes) g.gave some;
+    none_ended = λ p b.
+        let t = p ++ reader₀.kept ++ all_given g.reads in
+        ap (λ (x : List ℕ). stream_outcomes x (length reader₀.buffer)) (given-push (p ++ reader₀.kept) g.reads (Some bytes))
+        ∙ stream_outcomes-append t bytes (length reader₀.buffer)
+        ∙ ap (λ (x : List Outcome). x ++ stream_outcomes (unended t ++ bytes) (length reader₀.buffer)) (g.none_ended p b)
+        ∙ ap (λ (x : List ℕ). stream_outcomes (unended t ++ x) (length reader₀.buffer)) (sym same)
+        ∙ ap (stream_outcomes (unended t ++ kept)) (sym g.len) ∙ (h _ (g.taken p b)).0;
+    taken = λ p b.
+        let t = p ++ reader₀.kept ++ all_given g.reads in
+        rw (given-push (p ++ reader₀.kept) g.reads (Some bytes), unended-append t bytes, ← same) (h _ (g.taken p b)).1;
+    nothing_kept = λ p b. (h _ (g.taken p b)).2;
+    len = len ∙ g.len;
+  }
+
+-- the last read that is allowed ended no piece
+pub ReadsNext-too_many : {S : Type 0} {step : S → Read → S → Type 0} {from to : S} {reader₀ reader : ReaderState} {unfinished : Bool} {count : ℕ} → count ≡ 65536 → Going step from to reader₀ reader unfinished count
+    → ReadsNext step from to reader₀ (Err faults.TooManyReads) reader
+ReadsNext-too_many {reader₀} {reader} all g = record {
+  reads = g.reads;
+  runs = g.runs;
+  failed = (λ f. absurd cc, λ l. absurd (All-last GaveBytes l.0 None (subst (λ (x : List Read). All GaveBytes x) l.1 g.gave) refl));
+  called_for = λ p b. EachCalledFor-all _ _ g.reads (omega (arith, g.count_is)) g.gave (g.none_ended p b);
+  tells = λ p b. (at_end reader.kept (g.nothing_kept p b) g p b, g.count_is ∙ all, g.gave);
+}
+
+-- THE FRONT OF A CHUNK
+
+-- the bytes from the start on
+pub range_from_start : (xs : List ℕ) (n : ℕ) → take (n - 0) (drop 0 xs) ≡ take n xs
+range_from_start xs n = let e : n - 0 ≡ n = omega arith in ap (λ (k : ℕ). take k xs) e
+
+-- there are some, where they are counted and the count isn't zero
+pub range_nonempty : (xs : List ℕ) (n : ℕ) → length (take (n - 0) (drop 0 xs)) + 0 ≡ n → n ≢ 0 → take n xs ≢ []
+range_nonempty xs n count some = λ e. some (sym count ∙ omega (arith, ap length (range_from_start xs n), ap length e))

@@ -1,0 +1,126 @@
+-- So many bytes of a block at once are so many feeds.
+use Rattle.std.proofs.Common.{◌≡◌, ◌≢◌, ℕ, zero, suc, ◌+◌, ◌-◌, ◌<◌, ◌≤◌, Bool, true, false, cond, eqb, List, [], ◌∷◌, ◌++◌, length, take, drop, set, get_or, sym, ap, ◌∙◌, subst, arith, append_assoc, None, Ok, IfOk, IfSome}
+use Rattle.std.proofs.lemmas.List.{take_more_set, drop-set-lt, length-set, take-append-drop, length-take-le, get_or-take, get_or-drop, drop-drop}
+use Rattle.std.proofs.Common.{length-drop, length-take, min}
+use borrow.Rule.Slice.PartMut.{put_mid}
+use Rattle.cobs.specs.declared.dec.inner.CobsDecoderInner.{CobsDecoderInner}
+use Rattle.cobs.specs.declared.dec.state.DecoderState.{DecoderState}
+use Rattle.cobs.specs.declared.dec.state.DecoderState.TheVariants as states
+use Rattle.cobs.specs.Machine.{left_in, skipped}
+use Rattle.std.proofs.lemmas.List.Elements.{All-head, All-tail, All-from_get_or}
+use Rattle.std.proofs.lemmas.Bool.{ne_eqb, lt-ltb, eq-eqb}
+use Rattle.cobs.specs.Grammar.{HasNoZero}
+use Rattle.cobs.specs.Decoder.{Phase, Idle, Within, Over, Feeds}
+use Rattle.cobs.specs.Machine.{phase_of, phase_of_state, grows, next_phase, next_buffer, next_answer, end_answer, if_over, FedInTurn}
+use Rattle.cobs.proofs.FeedLemmas.{Feeds-step}
+use Rattle.cobs.proofs.PushLemmas.{Pushed, Pushed-more}
+
+-- the list with xs written over as many elements from the place on
+abbrev pub over : ℕ → List ℕ → List ℕ → List ℕ
+over count buffer xs = take count buffer ++ (xs ++ drop (count + length xs) buffer)
+
+over-nil : (count : ℕ) (buffer : List ℕ) → over count buffer [] ≡ buffer
+over-nil count buffer = ap (λ (k : ℕ). take count buffer ++ drop k buffer) (omega arith) ∙ take-append-drop count buffer
+
+over-cons : (count x : ℕ) (xs buffer : List ℕ) → count < length buffer → over (count + 1) (set buffer count x) xs ≡ over count buffer (x ∷ xs)
+over-cons count x xs buffer room =
+    ap (λ (l : List ℕ). l ++ (xs ++ drop (count + 1 + length xs) (set buffer count x))) (take_more_set buffer count x room)
+    ∙ append_assoc (take count buffer) (x ∷ []) (xs ++ drop (count + 1 + length xs) (set buffer count x))
+    ∙ ap (λ (l : List ℕ). take count buffer ++ (x ∷ (xs ++ l)))
+    (drop-set-lt (count + 1 + length xs) buffer count x (omega arith) ∙ ap (λ (k : ℕ). drop k buffer) (omega arith))
+
+module _ (n : ℕ) (full : Bool) (left count x : ℕ) (nz : 0 < x) (room : count < n) where
+  phase_is : next_phase n (Within full (suc left) count) x ≡ Within full left (count + 1)
+  phase_is = ap (λ (v : Bool). cond v Idle (grows n full left count)) (ne_eqb x 0 (λ e. omega arith))
+      ∙ ap (λ (v : Bool). cond v (Within full left (count + 1)) Over) (lt-ltb count n room)
+
+  answer_is : next_answer n (Within full (suc left) count) x ≡ Ok None
+  answer_is = ap (λ (v : Bool). cond v (end_answer n (Within full (suc left) count)) (if_over (next_phase n (Within full (suc left) count) x))) (ne_eqb x 0 (λ e. omega arith))
+      ∙ ap if_over phase_is
+
+-- THE BULK LEMMA: bytes of a block that fit are fed by one copy
+pub FedInTurn-within : (xs buffer : List ℕ) (full : Bool) (left count : ℕ) → HasNoZero xs → length xs ≤ left → count + length xs ≤ length buffer
+    → FedInTurn buffer (Within full left count) xs (over count buffer xs) (Within full (left - length xs) (count + length xs))
+FedInTurn-within [] buffer full left count h l r = (
+  over-nil count buffer,
+  ap (λ (k : ℕ). Within full k (count + 0)) (omega arith) ∙ ap (λ (k : ℕ). Within full left k) (omega arith),
+)
+FedInTurn-within (x ∷ xs) buffer full zero count h l r = absurd (omega arith)
+FedInTurn-within (x ∷ xs) buffer full (suc left) count h l r =
+    let nz : 0 < x = omega (arith, All-head (λ b. b ≢ 0) x xs h) in
+    let room : count < length buffer = omega arith in
+    let again : FedInTurn (set buffer count x) (Within full left (count + 1)) xs (over (count + 1) (set buffer count x) xs) (Within full (left - length xs) (count + 1 + length xs))
+    = FedInTurn-within xs (set buffer count x) full left (count + 1) (All-tail (λ b. b ≢ 0) x xs h) (omega arith) (omega (arith, length-set buffer count x)) in (
+      answer_is (length buffer) full left count x nz room,
+      subst (λ (z : List ℕ). FedInTurn z (next_phase (length buffer) (Within full (suc left) count) x) xs (over count buffer (x ∷ xs)) (Within full (suc left - length (x ∷ xs)) (count + length (x ∷ xs))))
+          (sym (ap (λ (v : Bool). cond v buffer (set buffer count x)) (ne_eqb x 0 (λ e. omega arith))))
+          (subst (λ (z : Phase). FedInTurn (set buffer count x) z xs (over count buffer (x ∷ xs)) (Within full (suc left - length (x ∷ xs)) (count + length (x ∷ xs))))
+          (sym (phase_is (length buffer) full left count x nz room))
+          (subst (λ (z : List ℕ). FedInTurn (set buffer count x) (Within full left (count + 1)) xs z (Within full (suc left - length (x ∷ xs)) (count + length (x ∷ xs))))
+          (over-cons count x xs buffer room)
+          (subst (λ (z : Phase). FedInTurn (set buffer count x) (Within full left (count + 1)) xs (over (count + 1) (set buffer count x) xs) z)
+          (ap (λ (k : ℕ). Within full k (count + 1 + length xs)) (omega arith) ∙ ap (λ (k : ℕ). Within full (suc left - length (x ∷ xs)) k) (omega arith))
+          again))),
+    )
+
+-- a push so far goes on over bytes that are fed in turn
+pub Pushed-run : {buffer₀ buffer' : List ℕ} {phase₀ phase' : Phase} (bytes xs buffer : List ℕ) (phase : Phase) (i : ℕ)
+    → i + length xs ≤ length bytes → ((j : ℕ) → j < length xs → get_or bytes (i + j) 0 ≡ get_or xs j 0)
+    → Pushed buffer₀ phase₀ buffer phase bytes i → FedInTurn buffer phase xs buffer' phase' → Pushed buffer₀ phase₀ buffer' phase' bytes (i + length xs)
+Pushed-run {buffer₀} {buffer'} {phase₀} {phase'} bytes [] buffer phase i within same s f =
+    subst (λ (z : List ℕ). Pushed buffer₀ phase₀ z phase' bytes (i + 0)) (sym f.0)
+    (subst (λ (z : Phase). Pushed buffer₀ phase₀ buffer z bytes (i + 0)) (sym f.1) (subst (λ (k : ℕ). Pushed buffer₀ phase₀ buffer phase bytes k) (omega arith) s))
+Pushed-run {buffer₀} {buffer'} {phase₀} {phase'} bytes (x ∷ xs) buffer phase i within same s f =
+    let at : get_or bytes i 0 ≡ x = ap (λ (k : ℕ). get_or bytes k 0) (omega arith) ∙ same 0 (omega arith) in
+    let fits : IfOk (next_answer (length buffer) phase x) (λ found. IfSome found (λ n. n ≤ length buffer)) = rw f.0 tt in
+    let step : Feeds buffer phase (get_or bytes i 0) (next_answer (length buffer) phase x) (next_buffer buffer phase x) (next_phase (length buffer) phase x)
+    = subst (λ (b : ℕ). Feeds buffer phase b (next_answer (length buffer) phase x) (next_buffer buffer phase x) (next_phase (length buffer) phase x)) (sym at) (Feeds-step buffer phase x fits) in
+    subst (λ (k : ℕ). Pushed buffer₀ phase₀ buffer' phase' bytes k) (omega arith)
+    (Pushed-run bytes xs (next_buffer buffer phase x) (next_phase (length buffer) phase x) (i + 1) (omega arith)
+    (λ j below. ap (λ (k : ℕ). get_or bytes k 0) (omega arith) ∙ same (suc j) (omega arith))
+    (Pushed-more bytes i (omega arith) s step f.0) f.1)
+
+-- the first r of the m bytes from the place i on are fed
+pub Pushed-ran : {buffer₀ buffer' : List ℕ} {phase₀ phase' : Phase} (bytes buffer : List ℕ) (phase : Phase) (i m r : ℕ) → i ≤ length bytes → r ≤ length (take m (drop i bytes))
+    → Pushed buffer₀ phase₀ buffer phase bytes i → FedInTurn buffer phase (take r (take m (drop i bytes))) buffer' phase' → Pushed buffer₀ phase₀ buffer' phase' bytes (i + r)
+Pushed-ran {buffer₀} {buffer'} {phase₀} {phase'} bytes buffer phase i m r here within s f =
+    let tail : List ℕ = take m (drop i bytes) in
+    let long : length (take r tail) ≡ r = length-take-le r tail within in
+    let most : length tail ≡ min m (length (drop i bytes)) = length-take m (drop i bytes) in
+    let rest : length (drop i bytes) ≡ length bytes - i = length-drop i bytes in
+    subst (λ (k : ℕ). Pushed buffer₀ phase₀ buffer' phase' bytes (i + k)) long
+    (Pushed-run bytes (take r tail) buffer phase i (omega arith)
+    (λ j below. sym (get_or-take r tail j 0 (omega arith) ∙ get_or-take m (drop i bytes) j 0 (omega arith) ∙ get_or-drop i bytes j 0)) s f)
+
+-- THE RUN OF A DECODER
+
+state_fed : (state : DecoderState) (buffer xs : List ℕ) (count : ℕ) → HasNoZero xs → 0 < length xs → length xs ≤ left_in state → count + length xs ≤ length buffer
+    → FedInTurn buffer (phase_of_state state count) xs (over count buffer xs) (phase_of_state (skipped state (length xs)) (count + length xs))
+state_fed states.Idle buffer xs count h some l r = absurd (omega arith)
+state_fed (states.Grab left) buffer xs count h some l r = FedInTurn-within xs buffer false left count h l r
+state_fed (states.GrabChain left) buffer xs count h some l r = FedInTurn-within xs buffer true left count h l r
+
+over-put : (count run : ℕ) (buffer xs : List ℕ) → length xs ≡ run → over count buffer xs ≡ put_mid count (count + run - count) buffer xs
+over-put count run buffer xs e = ap (λ (l : List ℕ). take count buffer ++ (xs ++ l)) (ap (λ (k : ℕ). drop k buffer) (omega arith) ∙ sym (drop-drop (count + run - count) count buffer))
+
+pub run_fed : (inner : CobsDecoderInner) (next : DecoderState) (dest bytes ys : List ℕ) (run : ℕ) → inner.over ≡ false → next ≡ skipped inner.state run
+    → 0 < run → run ≤ left_in inner.state → inner.dest_idx + run ≤ length dest → run ≤ length bytes → HasNoZero (take run bytes) → ys ≡ take run bytes
+    → FedInTurn dest (phase_of inner) (take run bytes) (put_mid inner.dest_idx (inner.dest_idx + run - inner.dest_idx) dest ys)
+    (phase_of (record { dest_idx = inner.dest_idx + run; state = next; over = inner.over }))
+run_fed inner next dest bytes ys run plain skips some left room within nz same =
+    let long : length (take run bytes) ≡ run = length-take-le run bytes within in
+    let fed : FedInTurn dest (phase_of_state inner.state inner.dest_idx) (take run bytes) (over inner.dest_idx dest (take run bytes)) (phase_of_state (skipped inner.state (length (take run bytes))) (inner.dest_idx + length (take run bytes)))
+    = state_fed inner.state dest (take run bytes) inner.dest_idx nz (omega arith) (omega arith) (omega arith) in
+    subst (λ (v : Bool). FedInTurn dest (cond v Over (phase_of_state inner.state inner.dest_idx)) (take run bytes) (put_mid inner.dest_idx (inner.dest_idx + run - inner.dest_idx) dest ys) (cond v Over (phase_of_state next (inner.dest_idx + run)))) (sym plain)
+    (subst (λ (s : DecoderState). FedInTurn dest (phase_of_state inner.state inner.dest_idx) (take run bytes) (put_mid inner.dest_idx (inner.dest_idx + run - inner.dest_idx) dest ys) (phase_of_state s (inner.dest_idx + run))) (sym skips)
+    (subst (λ (l : List ℕ). FedInTurn dest (phase_of_state inner.state inner.dest_idx) (take run bytes) l (phase_of_state (skipped inner.state run) (inner.dest_idx + run)))
+    (over-put inner.dest_idx run dest (take run bytes) long ∙ ap (put_mid inner.dest_idx (inner.dest_idx + run - inner.dest_idx) dest) (sym same))
+    (subst (λ (k : ℕ). FedInTurn dest (phase_of_state inner.state inner.dest_idx) (take run bytes) (over inner.dest_idx dest (take run bytes)) (phase_of_state (skipped inner.state k) (inner.dest_idx + k))) long fed)))
+
+-- no zero stands where none was found
+pub no_zero : (most run : ℕ) (bytes : List ℕ) → run ≤ most → run ≤ length bytes → ((k : ℕ) → 0 ≤ k → k < run → ¬ (eqb (get_or (take most bytes) k 0) 0 ≡ true)) → HasNoZero (take run bytes)
+no_zero most run bytes low within none = All-from_get_or (λ b. b ≢ 0) (take run bytes) 0 (λ i below.
+    let long : length (take run bytes) ≡ run = length-take-le run bytes within in
+    let same : get_or (take run bytes) i 0 ≡ get_or (take most bytes) i 0 = get_or-take run bytes i 0 (omega arith) ∙ sym (get_or-take most bytes i 0 (omega arith)) in
+    let other : get_or (take most bytes) i 0 ≡ 0 → ⊥ = λ e. none i (omega arith) (omega arith) (eq-eqb _ _ e) in
+    omega (arith, same, other))

@@ -1,0 +1,37 @@
+-- Lemmas on frames for another sentinel, and on frames between sentinels.
+use Rattle.std.proofs.Common.{◌≡◌, ℕ, suc, ◌+◌, ◌<◌, ◌≤◌, List, [], ◌∷◌, ◌++◌, length, drop, take, set, refl, sym, ap, ◌∙◌, subst, arith, take_at, length-take-le, take-append-drop}
+use borrow.Rule.Slice.PartMut.{put_mid}
+use Rattle.std.specs.Int.Bits.{bit_xor, xor_assoc, xor_self, xor_zero_r}
+use Rattle.std.proofs.lemmas.List.{length-map, drop-append-le, drop-drop, drop-set-lt}
+use Rattle.cobs.specs.Grammar.{IsEncodedFrame}
+use Rattle.cobs.specs.Sentinel.{xor_each}
+
+-- exclusive or with the same byte twice changes nothing
+pub xor_twice : (b s : ℕ) → bit_xor (bit_xor b s) s ≡ b
+xor_twice b s = xor_assoc b s s ∙ ap (bit_xor b) (xor_self s) ∙ xor_zero_r b
+
+pub xor_each-twice : (s : ℕ) (f : List ℕ) → xor_each s (xor_each s f) ≡ f
+xor_each-twice s [] = refl
+xor_each-twice s (b ∷ f) = ap (λ (x : ℕ). x ∷ xor_each s (xor_each s f)) (xor_twice b s) ∙ ap (λ (l : List ℕ). b ∷ l) (xor_each-twice s f)
+
+-- a slice whose front is an encoded frame, changed for another sentinel
+pub changed_frame : (s n : ℕ) (dest changed rest m : List ℕ) → IsEncodedFrame (take n dest) m → changed ≡ xor_each s (take n dest) → n ≤ length dest
+    → IsEncodedFrame (xor_each s (take n (changed ++ rest))) m
+changed_frame s n dest changed rest m frame is within =
+    let len : length changed ≡ n = ap length is ∙ length-map (take n dest) (λ b. bit_xor b s) ∙ length-take-le n dest within in
+    let back : xor_each s (take n (changed ++ rest)) ≡ take n dest = ap (xor_each s) (take_at changed rest n len ∙ is) ∙ xor_each-twice s (take n dest) in
+    subst (λ (f : List ℕ). IsEncodedFrame f m) (sym back) frame
+
+-- behind a frame and two sentinels a slice is as it was, where the part between its ends is behind the frame
+pub behind_sentinels : (dest part : List ℕ) (k n : ℕ) → n ≤ k → length part ≡ k → k < length dest → drop n part ≡ drop n (take k (drop 1 dest))
+    → drop (n + 2) (set (set (put_mid 1 k dest part) 0 0) (n + 1) 0) ≡ drop (n + 2) dest
+behind_sentinels [] part k n short len within behind = absurd (omega arith)
+behind_sentinels (x ∷ xs) part k n short len within behind =
+    let after : List ℕ = part ++ drop k xs in
+    let two : n + 2 ≡ suc (n + 1) = omega arith in
+    let front : length (take k xs) ≡ k = length-take-le k xs (omega arith) in
+    let same : drop n after ≡ drop n xs =
+    drop-append-le n part (drop k xs) (omega arith) ∙ ap (λ (l : List ℕ). l ++ drop k xs) behind
+    ∙ sym (drop-append-le n (take k xs) (drop k xs) (omega arith)) ∙ ap (drop n) (take-append-drop k xs) in
+    drop-set-lt (n + 2) (0 ∷ after) (n + 1) 0 (omega arith) ∙ ap (λ (i : ℕ). drop i (0 ∷ after)) two
+    ∙ sym (drop-drop 1 n after) ∙ ap (drop 1) same ∙ drop-drop 1 n xs ∙ ap (λ (i : ℕ). drop i (x ∷ xs)) (sym two)

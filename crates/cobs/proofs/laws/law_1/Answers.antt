@@ -1,0 +1,5 @@
+use Rattle.cobs.proofs.OutcomeLemmas.{reads_iff}
+use Rattle.cobs.proofs.laws.law_1.Goals as goal
+
+pub returns : goal.returns
+returns c = reads_iff

@@ -1,0 +1,11 @@
+use Rattle.cobs.proofs.UniqueLemmas.{encoded_frame, length-encoded, one_encoded}
+use Rattle.cobs.proofs.laws.law_2.Goals as goal
+
+pub returns-clause-one : goal.returns-clause-one
+returns-clause-one c = λ m. let w = encoded_frame m in (w.0, w.1)
+
+pub returns-clause-only : goal.returns-clause-only
+returns-clause-only c = one_encoded
+
+pub returns-clause-len : goal.returns-clause-len
+returns-clause-len c = length-encoded

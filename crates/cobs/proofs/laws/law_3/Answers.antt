@@ -1,0 +1,8 @@
+use Rattle.cobs.proofs.EnumerationLemmas.{all_frames, length-second}
+use Rattle.cobs.proofs.laws.law_3.Goals as goal
+
+pub returns-clause-frames : goal.returns-clause-frames
+returns-clause-frames c = all_frames
+
+pub returns-clause-longer : goal.returns-clause-longer
+returns-clause-longer c = length-second

@@ -1,0 +1,5 @@
+use Rattle.cobs.proofs.JoinLemmas.{no_sentinel}
+use Rattle.cobs.proofs.laws.law_6.Goals as goal
+
+pub returns : goal.returns
+returns c = no_sentinel

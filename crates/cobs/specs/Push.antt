@@ -1,0 +1,81 @@
+-- What a push of bytes to a streaming decoder answers, and how it leaves the decoder.
+use Rattle.std.specs.Prelude.{ℕ, ◌≡◌, ◌+◌, ◌-◌, ◌<◌, ◌≤◌, ◌==◌, List, [], ◌∷◌, ◌++◌, length, take, drop, filter, slice_index, Option, Some, None, Result, Ok, Err, IfOk, IfSome, if◌then◌else◌}
+use Rattle.cobs.specs.Grammar.{last_of}
+use Rattle.cobs.specs.Piece.{output}
+use Rattle.cobs.specs.Stream.{stretches, is_nonempty, unended, Outcome, Message, Broken, TooLong, stream_outcomes}
+use Rattle.cobs.specs.Decoder.{Phase, Idle, PhaseAfter, DecoderAfter, answer_to}
+use Rattle.cobs.specs.Buffer.{overwritten}
+use Rattle.cobs.specs.Report.{parsed_size_of, frame_size_of}
+use Rattle.cobs.specs.declared.dec.report.DecodeReport.{DecodeReport}
+use Rattle.cobs.specs.declared.dec.report.PushError.{PushError}
+use Rattle.cobs.specs.declared.dec.report.DecodeError.{DecodeError}
+use Rattle.cobs.specs.declared.dec.report.DecodeError.TheVariants.{EmptyFrame, InvalidFrame, TargetBufTooSmall}
+
+-- the last piece of a stream, whether a zero ends it or the stream does; the empty list where there is none
+unfoldable pub last_piece : List ℕ → List ℕ
+last_piece t = last_of (filter is_nonempty (stretches t))
+
+-- the answer to the byte at this place, where a decoder over n bytes behind the front p is fed the bytes one by one
+abbrev pub answer_at : List ℕ → List ℕ → ℕ → ℕ → Result (Option ℕ) DecodeError
+answer_at p bytes n place = answer_to (unended (p ++ take place bytes)) (slice_index bytes place) n
+
+-- the first bytes, so many, are each answered by `Ok(None)`
+abbrev pub IsQuiet : List ℕ → List ℕ → ℕ → ℕ → Type 0
+IsQuiet p bytes n count = (place : ℕ) → place < count → answer_at p bytes n place ≡ Ok None
+
+-- the bytes but the last of the first so many are each answered by `Ok(None)`, and that last one is answered so
+pub record StopsAfter (p bytes : List ℕ) (n count : ℕ) (answer : Result (Option ℕ) DecodeError) : Type 0 where
+  pub place : ℕ
+  pub within : place < length bytes
+  pub last : count ≡ place + 1
+  pub quiet : IsQuiet p bytes n place
+  pub answered : answer_at p bytes n place ≡ answer
+
+-- a push behind the front p answers what the first byte is answered that isn't answered by `Ok(None)`, with the
+-- count of bytes through that one
+abbrev pub Answers : List ℕ → List ℕ → ℕ → Result (Option DecodeReport) PushError → Type 0
+Answers p bytes n (Ok None) = IsQuiet p bytes n (length bytes)
+Answers p bytes n (Ok (Some report)) = StopsAfter p bytes n (parsed_size_of report) (Ok (Some (frame_size_of report)))
+Answers p bytes n (Err refusal) = StopsAfter p bytes n refusal.parsed_size (Err refusal.error)
+
+-- how many bytes a push consumed: so many as it says, or all
+abbrev pub consumed_size : List ℕ → Result (Option DecodeReport) PushError → ℕ
+consumed_size bytes (Ok None) = length bytes
+consumed_size bytes (Ok (Some report)) = parsed_size_of report
+consumed_size bytes (Err refusal) = refusal.parsed_size
+
+-- these bytes
+abbrev pub consumed : List ℕ → Result (Option DecodeReport) PushError → List ℕ
+consumed bytes result = take (consumed_size bytes result) bytes
+
+-- what the error that a zero is answered with tells of the piece that it ends
+abbrev pub refused_outcomes : DecodeError → List Outcome
+refused_outcomes EmptyFrame = []
+refused_outcomes (InvalidFrame count) = Broken count ∷ []
+refused_outcomes TargetBufTooSmall = TooLong ∷ []
+
+-- the outcomes that a push tells of: the message at the buffer's front; for an error the outcome of its piece, where
+-- the last byte consumed is a zero
+abbrev pub pushed_outcomes : List ℕ → Result (Option DecodeReport) PushError → List ℕ → List Outcome
+pushed_outcomes bytes (Ok None) buffer = []
+pushed_outcomes bytes (Ok (Some report)) buffer = Message (take (frame_size_of report) buffer) ∷ []
+pushed_outcomes bytes (Err refusal) buffer =
+    if slice_index bytes (refusal.parsed_size - 1) == 0 then refused_outcomes refusal.error else []
+
+-- a push of the bytes takes a decoder from the one buffer and phase to the other, and this is its answer
+pub record PushesBytes (buffer : List ℕ) (phase : Phase) (bytes : List ℕ) (result : Result (Option DecodeReport) PushError) (buffer' : List ℕ) (phase' : Phase) : Type 0 where
+  pub answer : (p : List ℕ) → PhaseAfter (length buffer) phase p → Answers p bytes (length buffer) result
+  -- it has taken the bytes that were consumed
+  pub phased : (p : List ℕ) → PhaseAfter (length buffer) phase p → PhaseAfter (length buffer) phase' (unended (p ++ consumed bytes result))
+  pub after : (p : List ℕ) → DecoderAfter buffer phase p → DecoderAfter buffer' phase' (unended (p ++ consumed bytes result))
+  -- its buffer begins with the output of the piece that was read last, as far as it fits
+  pub holds : (p : List ℕ) → DecoderAfter buffer phase p → buffer' ≡ overwritten buffer (output (last_piece (p ++ consumed bytes result)))
+  pub untouched : (p : List ℕ) → PhaseAfter (length buffer) phase p
+      → let written = length (output (last_piece (p ++ consumed bytes result))) in drop written buffer' ≡ drop written buffer
+  -- it tells of each piece that ended in these bytes
+  pub outcomes : (p : List ℕ) → DecoderAfter buffer phase p → stream_outcomes (p ++ consumed bytes result) (length buffer) ≡ pushed_outcomes bytes result buffer'
+  -- in every phase
+  pub within : consumed_size bytes result ≤ length bytes
+  pub bound : IfOk result (λ found. IfSome found (λ report. frame_size_of report ≤ length buffer))
+  pub zero_idle : (front : List ℕ) → consumed bytes result ≡ front ++ 0 ∷ [] → phase' ≡ Idle
+  pub len : length buffer' ≡ length buffer

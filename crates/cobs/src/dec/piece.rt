@@ -1,0 +1,227 @@
+//! Pieces that are at hand as a whole: where they end, how long their outputs are, and the outputs.
+ghost use Rattle.std.specs.Prelude.{◌≡◌, ◌+◌, ◌++◌, ◌<◌, ◌≤◌, length, take, drop, slice_index};
+ghost use Rattle.cobs.specs.Grammar.{HasNoZero, is_full};
+ghost use Rattle.cobs.specs.Buffer.{overwritten};
+ghost use Rattle.cobs.specs.Decoding.{leading_zeros, sized};
+ghost use Rattle.cobs.specs.Piece.{output, last_part, lacks};
+ghost use Rattle.cobs.specs.Stream.{outcome_of};
+
+use crate::dec::report::DecodeError;
+use crate::dec::window::{copy_32, is_ones, write_zeros};
+use memchr::memchr;
+
+/// What is to be known of a piece once its output is written.
+#[derive(Clone, Copy)]
+pub(crate) struct PieceEnd {
+    /// The length of the output.
+    pub(crate) written: usize,
+    /// Whether the code of the last part is 255.
+    pub(crate) full: bool,
+    /// How many bytes the last part lacks of those that its code counts.
+    pub(crate) left: usize,
+}
+
+/// Where the first zero of a source that is not short stands, or its length.
+fn first_zero(source: &[u8]) -> usize
+    ensures within { result ≤ length source.now }
+    ensures nonzero { HasNoZero (take result source.now) }
+    ensures stop { result < length source.now → slice_index source.now result ≡ 0 }
+{
+    memchr(0, source).unwrap_or(source.len())
+}
+
+/// Where the first zero of the source stands, or the source's length where it has none.
+pub(crate) fn piece_len(source: &[u8]) -> usize
+    ensures within { result ≤ length source.now }
+    ensures nonzero { HasNoZero (take result source.now) }
+    ensures stop { result < length source.now → slice_index source.now result ≡ 0 }
+{
+    if source.len() < 24 {
+        'by_byte: for i in 0..source.len() {
+            if source[i] == 0 {
+                return i;
+            }
+        }
+        return source.len();
+    }
+    first_zero(source)
+}
+
+/// How many zeros the source begins with.
+pub(crate) fn leading_zeros(source: &[u8]) -> usize
+    ensures count { result ≡ leading_zeros source.now }
+    ensures within { result ≤ length source.now }
+{
+    'by_byte: for i in 0..source.len() {
+        if source[i] != 0 {
+            return i;
+        }
+    }
+    source.len()
+}
+
+/// The length of a piece's output, by one step for each code.
+pub(crate) fn output_len(piece: &[u8]) -> usize
+    requires some { 0 < length piece.now }
+    requires nonzero { HasNoZero piece.now }
+    ensures { result ≡ length (output piece.now) }
+{
+    // Each byte behind the first gives one byte of the output, but for a code behind a full part.
+    let mut len = piece.len() - 1;
+    let mut read = 0;
+    'by_code: loop {
+        let code = piece[read] as usize;
+        if piece.len() - read <= code {
+            return len;
+        }
+        if code == 255 {
+            len -= 1;
+        }
+        read += code;
+    }
+}
+
+/// Decodes the first codes of a piece, those within 33 bytes, and says how many bytes it has read and written.
+#[inline(always)]
+fn decode_window(piece: &[u8], dest: &mut [u8]) -> usize
+    requires nonzero { HasNoZero piece.now }
+    requires long { 40 ≤ length piece.now }
+    requires first { slice_index piece.now 0 < 33 }
+    requires room { length (output piece.now) ≤ length dest.old }
+    ensures some { 0 < result }
+    ensures within { result < length piece.now }
+    ensures count { result + length (output (drop result piece.now)) ≡ length (output piece.now) }
+    ensures begins { take result dest.new ++ output (drop result piece.now) ≡ output piece.now }
+    ensures last { last_part (drop result piece.now) ≡ last_part piece.now }
+    ensures rest { drop (length (output piece.now)) dest.new ≡ drop (length (output piece.now)) dest.old }
+{
+    let mut code = piece[0] as usize;
+    if code == 1 && is_ones(piece) {
+        write_zeros(dest);
+        return 32;
+    }
+    copy_32(&piece[1..], dest);
+    let mut read = 0;
+    'by_code: loop {
+        dest[read + (code - 1)] = 0;
+        read += code;
+        code = piece[read] as usize;
+        if 33 - read <= code {
+            return read;
+        }
+    }
+}
+
+/// Decodes a piece in which no code stands behind a full part: one copy, and a zero at each code.
+fn decode_end(piece: &[u8], dest: &mut [u8]) -> PieceEnd
+    requires some { 0 < length piece.now }
+    requires nonzero { HasNoZero piece.now }
+    requires flat { length (output piece.now) + 1 ≡ length piece.now }
+    requires room { length (output piece.now) ≤ length dest.old }
+    ensures written { result.written ≡ length (output piece.now) }
+    ensures begins { take result.written dest.new ≡ output piece.now }
+    ensures rest { drop result.written dest.new ≡ drop result.written dest.old }
+    ensures full { result.full ≡ is_full (last_part piece.now) }
+    ensures left { result.left ≡ lacks (last_part piece.now) }
+{
+    dest[..piece.len() - 1].copy_from_slice(&piece[1..]);
+    let mut read = 0;
+    let mut code = piece[0] as usize;
+    'by_code: while code < piece.len() - read {
+        dest[read + (code - 1)] = 0;
+        read += code;
+        code = piece[read] as usize;
+    }
+    PieceEnd {
+        written: piece.len() - 1,
+        full: code == 255,
+        left: code - (piece.len() - read),
+    }
+}
+
+/// Writes the output of a piece at the front of `dest`, and answers its length and what its last part is.
+///
+/// The caller owes room for the output. No byte behind it is written.
+pub(crate) fn decode_piece(piece: &[u8], dest: &mut [u8]) -> PieceEnd
+    requires some { 0 < length piece.now }
+    requires nonzero { HasNoZero piece.now }
+    requires room { length (output piece.now) ≤ length dest.old }
+    ensures written { result.written ≡ length (output piece.now) }
+    ensures begins { take result.written dest.new ≡ output piece.now }
+    ensures rest { drop result.written dest.new ≡ drop result.written dest.old }
+    ensures full { result.full ≡ is_full (last_part piece.now) }
+    ensures left { result.left ≡ lacks (last_part piece.now) }
+{
+    let mut read = 0;
+    let mut written = 0;
+    'by_window: while 128 <= piece.len() - read {
+        let code = piece[read] as usize;
+        if code < 33 {
+            let step = decode_window(&piece[read..], &mut dest[written..]);
+            read += step;
+            written += step;
+        } else if piece.len() - read <= code {
+            break;
+        } else {
+            dest[written..written + (code - 1)].copy_from_slice(&piece[read + 1..read + code]);
+            read += code;
+            written += code - 1;
+            if code != 255 {
+                dest[written] = 0;
+                written += 1;
+            }
+        }
+    }
+    let end = decode_end(&piece[read..], &mut dest[written..]);
+    PieceEnd {
+        written: written + end.written,
+        full: end.full,
+        left: end.left,
+    }
+}
+
+/// The length of the shortest front of a piece whose output has this many bytes, fewer than the piece's own.
+fn front_len(piece: &[u8], count: usize) -> usize
+    requires nonzero { HasNoZero piece.now }
+    requires fewer { count < length (output piece.now) }
+    ensures some { 0 < result }
+    ensures within { result ≤ length piece.now }
+    ensures front { output (take result piece.now) ≡ take count (output piece.now) }
+{
+    let mut left = count;
+    let mut read = 0;
+    'by_code: loop {
+        let code = piece[read] as usize;
+        if left < code {
+            return read + 1 + left;
+        }
+        left -= if code == 255 { 254 } else { code };
+        read += code;
+    }
+}
+
+/// Decodes a piece that has ended, and answers its message's length.
+///
+/// Where the output is longer than `dest`, its first bytes fill `dest`; else it stands at the front of `dest`, whole
+/// or broken off, and no byte behind it is written.
+pub(crate) fn decode_ended(piece: &[u8], dest: &mut [u8]) -> Result<usize, DecodeError>
+    requires some { 0 < length piece.now }
+    requires nonzero { HasNoZero piece.now }
+    ensures answer { result ≡ sized (outcome_of piece.now (length dest.old)) }
+    ensures buffer { dest.new ≡ overwritten dest.old (output piece.now) }
+{
+    // An output is shorter than its piece, so it is counted only where it may be too long.
+    if dest.len() < piece.len() - 1 && dest.len() < output_len(piece) {
+        let front = front_len(piece, dest.len());
+        decode_piece(&piece[..front], dest);
+        return Err(DecodeError::TargetBufTooSmall);
+    }
+    let end = decode_piece(piece, dest);
+    if end.left == 0 {
+        Ok(end.written)
+    } else {
+        Err(DecodeError::InvalidFrame {
+            decoded_bytes: end.written,
+        })
+    }
+}

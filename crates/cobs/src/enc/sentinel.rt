@@ -1,0 +1,76 @@
+//! Frames for another sentinel than 0, and frames between sentinels.
+ghost use Rattle.std.specs.Prelude.{◌≡◌, ◌≤◌, ◌+◌, ◌↔◌, length, take, drop, IsOk, IfOk, OnErr};
+ghost use Rattle.cobs.specs.Length.{encoded_len};
+ghost use Rattle.cobs.specs.Sentinel.{xor_each, IsEncodedFrameFor, IsDelimitedFrame};
+
+use crate::enc::error::DestBufTooSmallError;
+use crate::enc::{encode, try_encode};
+
+/// Writes the encoded frame of `source` for this sentinel to the front of `dest`, and answers its length in bytes.
+///
+/// It is the frame that [`encode`] writes, each byte changed by exclusive or with `sentinel`, so no byte of it is the
+/// sentinel. No sentinel is written, and the bytes of `dest` behind the frame stay as they were.
+///
+/// The caller owes room for the frame; [`max_encoding_length`](crate::max_encoding_length) of the message's length
+/// is room enough.
+pub fn encode_with_sentinel(source: &[u8], dest: &mut [u8], sentinel: u8) -> usize
+    requires { encoded_len source.now ≤ length dest.old }
+    ensures frame { IsEncodedFrameFor sentinel (take result dest.new) source.now }
+    ensures len { result ≡ encoded_len source.now }
+    ensures rest { drop result dest.new ≡ drop result dest.old }
+{
+    let len = encode(source, dest);
+    xor_bytes(&mut dest[..len], sentinel);
+    len
+}
+
+/// Changes each byte by exclusive or with `sentinel`.
+pub(crate) fn xor_bytes(bytes: &mut [u8], sentinel: u8)
+    ensures { bytes.new ≡ xor_each sentinel bytes.old }
+{
+    for byte in bytes.iter_mut() {
+        *byte ^= sentinel;
+    }
+}
+
+/// Writes 0, the encoded frame of `source` and 0 to the front of `dest`, and answers the length of the three in bytes.
+///
+/// The bytes of `dest` behind them stay as they were. The caller owes room for the frame and 2 bytes;
+/// [`max_encoding_length`](crate::max_encoding_length) of the message's length, plus 2, is room enough.
+/// [`try_encode_including_sentinels`] tests the room itself.
+pub fn encode_including_sentinels(source: &[u8], dest: &mut [u8]) -> usize
+    requires { encoded_len source.now + 2 ≤ length dest.old }
+    ensures frame { IsDelimitedFrame (take result dest.new) source.now }
+    ensures len { result ≡ encoded_len source.now + 2 }
+    ensures rest { drop result dest.new ≡ drop result dest.old }
+{
+    let len = encode(source, &mut dest[1..]);
+    dest[0] = 0;
+    dest[len + 1] = 0;
+    len + 2
+}
+
+/// Does what [`encode_including_sentinels`] does, where the frame and both sentinels fit `dest`.
+///
+/// They are refused exactly where the three together are longer than `dest`, and then no byte of `dest` has changed.
+#[tactic(auto, using(crate::proofs::SentinelLemmas::behind_sentinels))]
+pub fn try_encode_including_sentinels(
+    source: &[u8],
+    dest: &mut [u8],
+) -> Result<usize, DestBufTooSmallError>
+    ensures fits { IsOk result ↔ (encoded_len source.now + 2 ≤ length dest.old) }
+    ensures frame { IfOk result (λ n. IsDelimitedFrame (take n dest.new) source.now) }
+    ensures len { IfOk result (λ n. n ≡ encoded_len source.now + 2) }
+    ensures rest { IfOk result (λ n. drop n dest.new ≡ drop n dest.old) }
+    ensures refused { OnErr result (dest.new ≡ dest.old) }
+{
+    // Both sentinels and the shortest frame.
+    if dest.len() < 3 {
+        return Err(DestBufTooSmallError);
+    }
+    let last = dest.len() - 1;
+    let written = try_encode(source, &mut dest[1..last])?;
+    dest[0] = 0;
+    dest[written + 1] = 0;
+    Ok(written + 2)
+}

@@ -1,0 +1,60 @@
+//! Frames in vectors of their own.
+ghost use Rattle.std.specs.Prelude.{◌<◌, ◌+◌, ◌^◌, length, IfOk};
+ghost use Rattle.cobs.specs.Grammar.{IsEncodedFrame};
+ghost use Rattle.cobs.specs.Length.{max_encoded_len};
+ghost use Rattle.cobs.specs.Sentinel.{IsEncodedFrameFor, IsDelimitedFrame};
+
+use crate::enc::encode;
+use crate::enc::sentinel::{encode_including_sentinels, encode_with_sentinel};
+use crate::max_encoding_length;
+use std::alloc::{AllocError, Global};
+
+/// The encoded frame of `source`, in a vector of exactly its bytes. No sentinel stands before or behind it.
+///
+/// The caller owes that [`max_encoding_length`](crate::max_encoding_length) of the message's length fits a `usize`.
+/// Memory is asked for once, for that many bytes, and `AllocError` says that it was refused.
+#[tactic(auto, using(crate::proofs::LengthLemmas::bounds))]
+pub fn encode_vec(alloc: Global, source: &[u8]) -> Result<Vec<u8>, AllocError>
+    requires { max_encoded_len (length source.now) < 2 ^ 64 }
+    ensures { IfOk result (λ bytes. IsEncodedFrame bytes.items source.now) }
+{
+    let mut frame = vec![in alloc; 0; max_encoding_length(source.len())]?;
+    let len = encode(source, &mut frame);
+    frame.truncate(len);
+    Ok(frame)
+}
+
+/// 0, the encoded frame of `source` and 0, in a vector of exactly these bytes.
+///
+/// The caller owes that [`max_encoding_length`](crate::max_encoding_length) of the message's length, plus 2, fits a
+/// `usize`. Memory is asked for once, for that many bytes, and `AllocError` says that it was refused.
+#[tactic(auto, using(crate::proofs::LengthLemmas::bounds))]
+pub fn encode_vec_including_sentinels(alloc: Global, source: &[u8]) -> Result<Vec<u8>, AllocError>
+    requires { max_encoded_len (length source.now) + 2 < 2 ^ 64 }
+    ensures { IfOk result (λ bytes. IsDelimitedFrame bytes.items source.now) }
+{
+    let mut delimited = vec![in alloc; 0; max_encoding_length(source.len()) + 2]?;
+    let len = encode_including_sentinels(source, &mut delimited);
+    delimited.truncate(len);
+    Ok(delimited)
+}
+
+/// The encoded frame of `source` for this sentinel, in a vector of exactly its bytes: each byte of the frame of
+/// [`encode_vec`], changed by exclusive or with `sentinel`.
+///
+/// The caller owes that [`max_encoding_length`](crate::max_encoding_length) of the message's length fits a `usize`.
+/// Memory is asked for once, for that many bytes, and `AllocError` says that it was refused.
+#[tactic(auto, using(crate::proofs::LengthLemmas::bounds))]
+pub fn encode_vec_with_sentinel(
+    alloc: Global,
+    source: &[u8],
+    sentinel: u8,
+) -> Result<Vec<u8>, AllocError>
+    requires { max_encoded_len (length source.now) < 2 ^ 64 }
+    ensures { IfOk result (λ bytes. IsEncodedFrameFor sentinel bytes.items source.now) }
+{
+    let mut changed = vec![in alloc; 0; max_encoding_length(source.len())]?;
+    let len = encode_with_sentinel(source, &mut changed, sentinel);
+    changed.truncate(len);
+    Ok(changed)
+}

@@ -1,0 +1,251 @@
+//! A reader of frames over any source of bytes.
+//!
+//! `FrameReader` reads chunks of 64 bytes from a file, a socket, a serial port or anything else that is a
+//! `FrameSource`, and answers one outcome a call. It reads only where the bytes that it has kept end no piece, and
+//! no byte is lost: what it has read and not used yet is used first by the next call, after a fault too.
+ghost use Rattle.std.specs.Prelude.{◌≡◌, ℕ, ◌≤◌, List, [], ◌∷◌, ◌++◌, length, take, drop, Option, option_map, IfOk, IfSome, OnSome, MatchOption};
+ghost use Rattle.cobs.specs.Grammar.{HasNoZero};
+ghost use Rattle.cobs.specs.Stream.{Outcome, stream_outcomes, unended, is_nonempty};
+ghost use Rattle.cobs.specs.Decoder.{Idle as IdlePhase, DecoderAfter};
+ghost use Rattle.cobs.specs.Streaming.{outcome_told};
+ghost use Rattle.cobs.specs.Reading.{HasTaken, IsOutcome, EndsFirstIn};
+
+use crate::dec::{DecodeError, FrameDecoder};
+use std::io::Read;
+
+/// What a call of `next_frame` found.
+#[derive(Debug, PartialEq, Eq, Drop)]
+pub enum Next {
+    /// A piece ended that is a frame. Its message is the first so many bytes of the decoder's buffer.
+    Message(usize),
+
+    /// A piece ended that breaks off inside a block. It decodes to this many bytes, those of the broken block
+    /// included.
+    Broken(usize),
+
+    /// A piece ended that decodes to more bytes than the decoder's buffer holds.
+    TooLong,
+
+    /// The source gave no more bytes, and no piece ended.
+    End {
+        /// Whether a piece has begun that no zero has ended yet.
+        unfinished: bool,
+    },
+}
+
+/// Why a call of `next_frame` found nothing. No byte is lost by it: a later call goes on from there.
+#[derive(Debug, PartialEq, Eq, Drop)]
+pub enum ReadFault {
+    /// A read failed; an interrupted read is a failed one.
+    Io,
+
+    /// The call made 65,536 reads that all gave bytes, and no piece ended.
+    TooManyReads,
+}
+
+/// Where the bytes of a stream come from.
+///
+/// Contracts see a source by its own relation of steps: a read, that is a failure or the bytes that it gave, takes
+/// it from one state to the next.
+pub trait FrameSource {
+    /// Whether this read may take the source from the one state to the other.
+    ghost step: { Self → Option (List ℕ) → Self → Type 0 };
+
+    /// Reads once.
+    ///
+    /// `Some(n)` says that the read gave the first n bytes of the chunk, none where the source has come to its end,
+    /// and `None` that it failed.
+    fn read_some(&mut self, chunk: &mut [u8; 64]) -> Option<usize>
+        ensures bound { IfSome result (λ n. n ≤ 64) }
+        ensures step { step self.old (option_map (λ n. take n chunk.new) result) self.new };
+}
+
+/// Any reader as a source of bytes: one `read` a call, and each error of it is a failed read.
+pub struct Recorded<R> {
+    reader: R,
+}
+
+impl<R: Read> Recorded<R> {
+    ghost use Rattle.std.specs.Prelude.{◌≡◌};
+    ghost use Rattle.cobs.specs.Reader.{reader_of};
+
+    /// A source that reads from this reader.
+    pub fn new(reader: R) -> Self
+        ensures { reader_of result ≡ reader }
+    {
+        Recorded { reader }
+    }
+
+    /// The reader, as the reads so far have left it.
+    pub fn into_inner(self) -> R
+        ensures { result ≡ reader_of self }
+    {
+        let Recorded { reader } = self;
+        reader
+    }
+}
+
+impl<R: Read> FrameSource for Recorded<R> {
+    ghost use Rattle.cobs.specs.Reader.{reader_of};
+    ghost use Rattle.cobs.specs.Reading.{IsReadOf};
+
+    ghost step = { λ from read to. IsReadOf (R.remaining (reader_of from)) read (R.remaining (reader_of to)) };
+
+    fn read_some(&mut self, chunk: &mut [u8; 64]) -> Option<usize> {
+        match self.reader.read(chunk) {
+            Ok(n) => Some(n),
+            Err(_) => None,
+        }
+    }
+}
+
+/// What the answer to a zero tells: nothing where no piece has ended.
+fn next_of(answer: Result<Option<usize>, DecodeError>) -> Option<Next>
+    ensures { (buffer : List ℕ) → IfOk answer (λ found. IfSome found (λ n. n ≤ length buffer)) →
+        MatchOption result (outcome_told answer buffer ≡ [])
+        (λ next. (outcome : Outcome) × (outcome_told answer buffer ≡ outcome ∷ []) × IsOutcome next buffer outcome) }
+{
+    match answer {
+        Ok(None) | Err(DecodeError::EmptyFrame) => None,
+        Ok(Some(n)) => Some(Next::Message(n)),
+        Err(DecodeError::InvalidFrame { decoded_bytes }) => Some(Next::Broken(decoded_bytes)),
+        Err(DecodeError::TargetBufTooSmall) => Some(Next::TooLong),
+    }
+}
+
+/// Feeds bytes until a piece ends: what it came to, and how many bytes were fed.
+fn feed_until<D: FrameDecoder>(decoder: &mut D, bytes: &[u8]) -> Option<(Next, usize)>
+    ensures within { IfSome result (λ found. found.1 ≤ length bytes.now) }
+    ensures told { (p : List ℕ) → DecoderAfter (D.bytes decoder.old) (D.phase decoder.old) p → MatchOption result
+        ((stream_outcomes (p ++ bytes.now) (length (D.bytes decoder.old)) ≡ []) × DecoderAfter (D.bytes decoder.new) (D.phase decoder.new) (unended (p ++ bytes.now)))
+        (λ found. (outcome : Outcome) × IsOutcome found.0 (D.bytes decoder.new) outcome × EndsFirstIn p bytes.now (length (D.bytes decoder.old)) outcome (drop found.1 bytes.now)) }
+    ensures idle { OnSome result (D.phase decoder.new ≡ IdlePhase) }
+    ensures len { length (D.bytes decoder.new) ≡ length (D.bytes decoder.old) }
+    ensures same_loan { D.loan decoder.new ≡ D.loan decoder.old }
+{
+    'by_byte: for (i, byte) in bytes.iter().enumerate() {
+        let answer = decoder.feed_byte(*byte);
+        if *byte == 0 {
+            if let Some(next) = next_of(answer) {
+                return Some((next, i + 1));
+            }
+        }
+    }
+    None
+}
+
+/// Whether a piece is unfinished behind these bytes, given whether one was before them.
+fn is_unfinished(before: bool, bytes: &[u8]) -> bool
+    ensures { (p : List ℕ) → before ≡ is_nonempty p → HasNoZero p → result ≡ is_nonempty (unended (p ++ bytes.now)) }
+{
+    match bytes {
+        [] => before,
+        [.., last] => *last != 0,
+    }
+}
+
+/// How many reads a call makes at most.
+const MOST_READS: usize = 65536;
+
+/// Reads the frames of a stream, one a call, with a decoder of its own.
+pub struct FrameReader<D: FrameDecoder> {
+    decoder: D,
+    chunk: [u8; 64],
+    start: usize,
+    end: usize,
+    unfinished: bool,
+    ghost ordered: { start ≤ end },
+    ghost in_chunk: { end ≤ 64 },
+    ghost has_taken: { ∥ ((p : List ℕ) × HasTaken (D.bytes decoder) (D.phase decoder) unfinished p) ∥₁ },
+}
+
+impl<D: FrameDecoder> FrameReader<D> {
+    ghost use Rattle.std.specs.Prelude.{◌≡◌, ℕ, ◌+◌, List, [], ◌++◌, length, MatchOption};
+    ghost use Rattle.cobs.specs.Stream.{Outcome, stream_outcomes, unended};
+    ghost use Rattle.cobs.specs.Decoder.{Idle as IdlePhase};
+    ghost use Rattle.cobs.specs.Reading.{HasTaken, IsOutcome, EndsFirstIn, ReadsNext};
+    ghost use Rattle.cobs.specs.Reader.{decoder_of, kept_of, reader_state};
+
+    /// A reader with this decoder. The caller owes an idle one.
+    pub fn new(decoder: D) -> Self
+        requires { D.phase decoder ≡ IdlePhase }
+        ensures decoder { decoder_of result ≡ decoder }
+        ensures kept { kept_of result ≡ [] }
+    {
+        FrameReader {
+            decoder,
+            chunk: [0; 64],
+            start: 0,
+            end: 0,
+            unfinished: false,
+        }
+    }
+
+    /// The decoder. Behind a `Next::Message(n)` the message is the first n bytes of its buffer.
+    pub fn decoder(&self) -> &D
+        ensures { result.now ≡ decoder_of self.now }
+    {
+        &self.decoder
+    }
+
+    /// Feeds the kept bytes until a piece ends.
+    fn next_kept(&mut self) -> Option<Next>
+        ensures told { (p : List ℕ) → HasTaken (D.bytes (decoder_of self.old)) (D.phase (decoder_of self.old)) self.old.unfinished p → MatchOption result
+            ((stream_outcomes (p ++ kept_of self.old) (length (D.bytes (decoder_of self.old))) ≡ [])
+            × HasTaken (D.bytes (decoder_of self.new)) (D.phase (decoder_of self.new)) self.new.unfinished (unended (p ++ kept_of self.old)) × (kept_of self.new ≡ []))
+            (λ next. (outcome : Outcome) × IsOutcome next (D.bytes (decoder_of self.new)) outcome
+            × EndsFirstIn p (kept_of self.old) (length (D.bytes (decoder_of self.old))) outcome (kept_of self.new) × (D.phase (decoder_of self.new) ≡ IdlePhase)) }
+        ensures len { length (D.bytes (decoder_of self.new)) ≡ length (D.bytes (decoder_of self.old)) }
+        ensures same_loan { D.loan (decoder_of self.new) ≡ D.loan (decoder_of self.old) }
+        ensures count { length (kept_of self.old) + self.old.start ≡ self.old.end }
+    {
+        let chunk = self.chunk;
+        let kept = &chunk[self.start..self.end];
+        match feed_until(&mut self.decoder, kept) {
+            None => {
+                self.unfinished = is_unfinished(self.unfinished, kept);
+                self.start = self.end;
+                None
+            }
+            Some((next, fed)) => {
+                self.unfinished = false;
+                self.start += fed;
+                Some(next)
+            }
+        }
+    }
+
+    /// The next frame of the source.
+    ///
+    /// The bytes that are kept from earlier calls are used first, and what stands behind the sentinel of the piece
+    /// that ends is kept for the next call. While no piece ends, the source is read, at most 65,536 times; nothing
+    /// is read behind a piece's end, behind a read that failed, or behind one that gave no bytes.
+    pub fn next_frame<S: FrameSource>(&mut self, source: &mut S) -> Result<Next, ReadFault>
+        ensures next { ReadsNext S.step source.old source.new (reader_state D.bytes D.phase self.old) result (reader_state D.bytes D.phase self.new) }
+        ensures len { length (D.bytes (decoder_of self.new)) ≡ length (D.bytes (decoder_of self.old)) }
+        ensures same_loan { D.loan (decoder_of self.new) ≡ D.loan (decoder_of self.old) }
+    {
+        if let Some(next) = self.next_kept() {
+            return Ok(next);
+        }
+        'by_read: for _read in 0..MOST_READS {
+            self.start = 0;
+            self.end = 0;
+            match source.read_some(&mut self.chunk) {
+                None => return Err(ReadFault::Io),
+                Some(0) => {
+                    return Ok(Next::End {
+                        unfinished: self.unfinished,
+                    });
+                }
+                Some(n) => {
+                    self.end = n;
+                    if let Some(next) = self.next_kept() {
+                        return Ok(next);
+                    }
+                }
+            }
+        }
+        Err(ReadFault::TooManyReads)
+    }
+}
