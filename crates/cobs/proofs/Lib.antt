@@ -18,8 +18,6 @@ pub mod ReadingLemmas
 pub mod UniqueLemmas
 pub mod EnumerationLemmas
 pub mod SentinelLemmas
-pub mod UniqueLemmas
-pub mod EnumerationLemmas
 pub mod HeadLemmas
 pub mod FrontLemmas
 pub mod OutcomeSteps

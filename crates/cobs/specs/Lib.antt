@@ -15,5 +15,4 @@ pub mod Streaming
 pub mod Reading
 pub mod Reader
 pub mod Laws
-pub mod Laws
 pub mod Decoding

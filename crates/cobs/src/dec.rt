@@ -18,7 +18,7 @@ pub use heapless::CobsDecoderHeapless;
 pub use lent::CobsDecoder;
 pub use owned::CobsDecoderOwned;
 use piece::{decode_ended, leading_zeros, piece_len};
-pub use report::{DecodeError, DecodeReport, PushError};
+pub use report::{DecodeError, DecodeReport, DecodingResult, PushError};
 pub use state::{DecodeResult, DecoderState};
 
 /// Decodes the first frame of the source into `dest`, and answers how many bytes were consumed and how many the

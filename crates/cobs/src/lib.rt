@@ -12,7 +12,7 @@ mod stream;
 
 pub use dec::{
     CobsDecoder, CobsDecoderHeapless, CobsDecoderOwned, DecodeError, DecodeReport, DecodeResult,
-    DecoderState, FrameDecoder, PushError,
+    DecoderState, DecodingResult, FrameDecoder, PushError, decode,
 };
 pub use enc::{
     DestBufTooSmallError, EncoderState, PushResult, encode, encode_including_sentinels, encode_vec,
