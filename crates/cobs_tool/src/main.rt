@@ -15,6 +15,7 @@
 
 mod fault;
 mod input;
+mod memory;
 mod mode;
 mod modes;
 mod output;
