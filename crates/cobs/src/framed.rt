@@ -61,6 +61,7 @@ pub trait FrameSource {
 }
 
 /// Any reader as a source of bytes: one `read` a call, and each error of it is a failed read.
+#[derive(Drop)]
 pub struct Recorded<R> {
     reader: R,
 }
@@ -148,6 +149,7 @@ fn is_unfinished(before: bool, bytes: &[u8]) -> bool
 const MOST_READS: usize = 65536;
 
 /// Reads the frames of a stream, one a call, with a decoder of its own.
+#[derive(Drop)]
 pub struct FrameReader<D: FrameDecoder> {
     decoder: D,
     chunk: [u8; 64],
