@@ -198,7 +198,7 @@ opened_open slice m r h open' =
     }
   where
     not_full : (bytes : List ℕ) → (is_full (last_of h.open'.front) ≡ true → bytes ≢ []) → ends_in_full h.open'.front bytes ≡ false
-    not_full [] apart = elim (cases_Bool (is_full (last_of h.open'.front))) [ | inl full ↦ absurd (apart full refl) | inr other ↦ other ]
+    not_full [] apart = elim (cases_Bool (is_full (last_of h.open'.front))) [ inl full ↦ absurd (apart full refl) | inr other ↦ other ]
     not_full (b ∷ bytes) apart = refl
 
 -- an encoder's slice, where the open block is a placeholder behind the frame
@@ -238,7 +238,7 @@ opened_full slice m r h full =
     }
 
 pub from_after : (slice m : List ℕ) (r : Reached) → CobsEncoderAfter slice r m → Opened slice m r.block.index (next_of r) r.full
-from_after slice m r h = elim (cases_Bool r.full) [ | inl full ↦ opened_full slice m r h full | inr open' ↦ opened_open slice m r h open' ]
+from_after slice m r h = elim (cases_Bool r.full) [ inl full ↦ opened_full slice m r h full | inr open' ↦ opened_open slice m r h open' ]
 
 -- where the frame of an encoder ends
 pub end-is : (slice m : List ℕ) (r : Reached) → CobsEncoderAfter slice r m → encoded_len m ≡ end_of r

@@ -135,7 +135,7 @@ highest (b ∷ bytes) some =
       ])
       | inr more ↦ (let h = highest bytes more in
           let p = h.place in let s = h.sum in let a = h.above in let l = h.below in
-          let r : run_after 0 (b ∷ bytes) ≡ run_after 0 bytes = elim (cases_eq b 0) [ | inl is ↦ run-zero 0 b bytes is | inr other ↦ run-other 0 b bytes other ∙ run-any (0 + 1) 0 bytes more ] in
+          let r : run_after 0 (b ∷ bytes) ≡ run_after 0 bytes = elim (cases_eq b 0) [ inl is ↦ run-zero 0 b bytes is | inr other ↦ run-other 0 b bytes other ∙ run-any (0 + 1) 0 bytes more ] in
           let up = pow-suc 2 (h.place + 1) in
           let up' = pow-suc 2 h.place in
           let one : suc h.place ≡ h.place + 1 = omega arith in

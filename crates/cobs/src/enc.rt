@@ -11,8 +11,8 @@ mod state;
 mod vector;
 mod window;
 
-pub use error::DestBufTooSmallError;
 use blocks::{Progress, append, close};
+pub use error::DestBufTooSmallError;
 use room::fits;
 pub(crate) use sentinel::xor_bytes;
 pub use sentinel::{

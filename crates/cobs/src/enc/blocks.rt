@@ -68,7 +68,11 @@ pub(crate) fn append(source: &[u8], dest: &mut [u8], progress: Progress) -> Prog
             index += FULL_CODE;
             next = index + 1;
             if read == source.len() {
-                return Progress { index, next, full: true };
+                return Progress {
+                    index,
+                    next,
+                    full: true,
+                };
             }
         } else {
             if zeros == ALL_ZEROS {
