@@ -28,6 +28,11 @@ pub mod SentinelLemmas
 pub mod HeadLemmas
 pub mod FrontLemmas
 pub mod OutcomeSteps
+pub mod KeptLemmas
+pub mod BlockSteps
+pub mod InPlaceSteps
 pub mod LawExamples
 pub mod StretchLemmas
 pub mod KindLemmas
+pub mod MessagesLemmas
+pub mod SourceSteps

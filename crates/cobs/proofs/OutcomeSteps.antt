@@ -2,10 +2,10 @@
 use Rattle.std.proofs.Common.{◌≡◌, ◌≢◌, ℕ, ◌<◌, ◌≤◌, Bool, true, false, List, [], ◌∷◌, length, Option, Some, None, Result, Ok, Err, if◌then◌else◌, refl, sym, ap, ◌∙◌, arith}
 use Rattle.std.proofs.lemmas.Bool.{le-leb, lt-leb, ne_eqb, eq-eqb}
 use Rattle.cobs.specs.Piece.{output, last_part, lacks, is_whole}
-use Rattle.cobs.specs.Stream.{Message, Broken, TooLong, outcome_of, first_piece}
+use Rattle.cobs.specs.Stream.{Message, Broken, TooLong, outcome_of, first_piece, head}
 use Rattle.cobs.specs.Buffer.{overwritten}
 use Rattle.cobs.specs.Report.{report_of}
-use Rattle.cobs.specs.Decoding.{sized, reported, consumed, decode_answer, answer_by_piece}
+use Rattle.cobs.specs.Decoding.{sized, reported, consumed, decode_answer, answer_by_piece, head_answer, in_place_answer, in_place_report}
 use Rattle.cobs.specs.declared.dec.report.DecodeReport.{DecodeReport}
 use Rattle.cobs.specs.declared.dec.report.DecodeError.{DecodeError}
 use Rattle.cobs.specs.declared.dec.report.DecodeError.TheVariants.{InvalidFrame, TargetBufTooSmall}
@@ -55,3 +55,20 @@ module _ (source p : List ℕ) (n : ℕ) (some : 0 < length source) (is : first_
 pub overwritten-none : (buffer : List ℕ) → overwritten buffer [] ≡ buffer
 overwritten-none [] = refl
 overwritten-none (byte ∷ buffer) = refl
+
+-- the answer to a buffer that isn't empty, by what stands before its first zero
+in_place_answer-head : (buffer : List ℕ) → 0 < length buffer → in_place_answer buffer ≡ head_answer (head buffer)
+in_place_answer-head [] some = absurd (omega arith)
+in_place_answer-head (byte ∷ bytes) some = refl
+
+module _ (buffer h : List ℕ) (some : 0 < length buffer) (is : h ≡ head buffer) (result : Result ℕ DecodeError) (result-is : result ≡ head_answer h) where
+  by_head : reported (length h) result ≡ in_place_report buffer
+  by_head =
+      ap (reported (length h)) (result-is ∙ ap head_answer is ∙ sym (in_place_answer-head buffer some))
+      ∙ ap (λ (x : List ℕ). reported (length x) (in_place_answer buffer)) is
+
+  pub in_place_report-refused : (error : DecodeError) → result ≡ Err error → Err error ≡ in_place_report buffer
+  in_place_report-refused error e = ap (reported (length h)) (sym e) ∙ by_head
+
+  pub in_place_report-decoded : (size parsed : ℕ) → result ≡ Ok size → parsed ≡ length h → (report : DecodeReport) → report ≡ report_of parsed size → Ok report ≡ in_place_report buffer
+  in_place_report-decoded size parsed e count report r = ap Ok (r ∙ ap (λ (k : ℕ). report_of k size) count) ∙ ap (reported (length h)) (sym e) ∙ by_head

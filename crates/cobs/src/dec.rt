@@ -6,20 +6,24 @@ ghost use Rattle.cobs.specs.Decoding.{decode_answer, first_output};
 mod fit;
 mod frame_decoder;
 mod heapless;
+mod in_place;
 mod inner;
 mod lent;
 mod owned;
 mod piece;
 mod report;
+mod sentinel;
 mod state;
 mod window;
 
 pub use frame_decoder::FrameDecoder;
 pub use heapless::CobsDecoderHeapless;
+pub use in_place::{decode_in_place, decode_in_place_report, decode_in_place_with_sentinel};
 pub use lent::CobsDecoder;
 pub use owned::CobsDecoderOwned;
 use piece::{decode_ended, leading_zeros, piece_len};
 pub use report::{DecodeError, DecodeReport, DecodingResult, PushError};
+pub use sentinel::decode_with_sentinel;
 pub use state::{DecodeResult, DecoderState};
 
 /// Decodes the first frame of the source into `dest`, and answers how many bytes were consumed and how many the

@@ -16,6 +16,7 @@ use blocks::{Progress, append, close};
 pub use encoder::CobsEncoder;
 pub use error::DestBufTooSmallError;
 use room::fits;
+pub(crate) use sentinel::xor_bytes;
 pub use sentinel::{
     encode_including_sentinels, encode_with_sentinel, try_encode_including_sentinels,
 };
@@ -24,9 +25,10 @@ pub use vector::{encode_vec, encode_vec_including_sentinels, encode_vec_with_sen
 
 /// Writes the encoded frame of `source` to the front of `dest`, and answers its length in bytes.
 ///
-/// The frame is the shorter one of Cheshire and Baker's: a message whose last run of nonzero bytes fills its blocks
-/// exactly ends with the last full block, with no `1` behind it. No byte of it is the sentinel 0, and no sentinel is
-/// written. The bytes of `dest` behind the frame stay as they were.
+/// A frame is made of blocks, as Cheshire and Baker's paper has them. Where the message's last run of nonzero bytes has
+/// a positive length divisible by 254, two frames stand for the message, one of them with a `1` more at its end: this
+/// writes the shorter one, which is a choice of ours. No byte of the frame is the sentinel 0, and no sentinel is written.
+/// The bytes of `dest` behind the frame stay as they were.
 ///
 /// The caller owes room for the frame; [`max_encoding_length`](crate::max_encoding_length) of the message's length
 /// is room enough for each message of that length. [`try_encode`] tests the room itself.

@@ -12,7 +12,8 @@ mod stream;
 
 pub use dec::{
     CobsDecoder, CobsDecoderHeapless, CobsDecoderOwned, DecodeError, DecodeReport, DecodeResult,
-    DecoderState, DecodingResult, FrameDecoder, PushError, decode,
+    DecoderState, DecodingResult, FrameDecoder, PushError, decode, decode_in_place,
+    decode_in_place_report, decode_in_place_with_sentinel, decode_with_sentinel,
 };
 pub use enc::{
     CobsEncoder, DestBufTooSmallError, EncoderState, PushResult, encode,
@@ -20,7 +21,7 @@ pub use enc::{
     encode_vec_with_sentinel, encode_with_sentinel, try_encode, try_encode_including_sentinels,
 };
 pub use framed::{FrameReader, FrameSource, Next, ReadFault, Recorded};
-pub use stream::{FrameOutcome, decode_stream};
+pub use stream::{FrameOutcome, decode_stream, encode_frames};
 
 /// How many bytes longer than its message an encoded frame is at most, for a message of `source_len` bytes.
 ///
