@@ -28,3 +28,4 @@ pub mod LawExamples
 pub mod StretchLemmas
 pub mod KindLemmas
 pub mod SourceSteps
+pub mod VectorSteps
