@@ -27,12 +27,6 @@ last_of-push (c ∷ bs) b = last_of-cons c (bs ++ b ∷ []) (not_none bs) ∙ la
     not_none [] e = cc
     not_none (c ∷ bs) e = cc
 
--- one block alone is canonical
-pub IsShorter-one : (b : List ℕ) → IsShorter (b ∷ [])
-IsShorter-one b [] block full e = cc
-IsShorter-one b (x ∷ []) block full e = cc
-IsShorter-one b (x ∷ y ∷ front) block full e = cc
-
 -- a block behind others makes them canonical unless it is the lone block behind a full one
 pub IsShorter-push : (bs : List (List ℕ)) (b : List ℕ) → (IsFull (last_of bs) → b ≢ lone_block) → IsShorter (bs ++ b ∷ [])
 IsShorter-push bs b apart front block full e =

@@ -3,9 +3,16 @@ pub mod OutcomeLemmas
 pub mod JoinLemmas
 pub mod GrammarLemmas
 pub mod LengthLemmas
-pub mod EncodeLemmas
-pub mod Examples
 pub mod OpenLemmas
+pub mod OpenedLemmas
+pub mod OpenLenLemmas
+pub mod MaskLemmas
+pub mod ReachLemmas
+pub mod MarkLemmas
+pub mod AfterLemmas
+pub mod CoreLemmas
+pub mod RoomLemmas
+pub mod Examples
 pub mod PieceLemmas
 pub mod FeedLemmas
 pub mod StreamLemmas
@@ -27,5 +34,6 @@ pub mod InPlaceSteps
 pub mod LawExamples
 pub mod StretchLemmas
 pub mod KindLemmas
+pub mod MessagesLemmas
 pub mod SourceSteps
 pub mod VectorSteps

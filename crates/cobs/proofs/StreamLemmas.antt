@@ -1,5 +1,5 @@
 -- A stream in two parts, and one more byte of it.
-use Rattle.std.proofs.Common.{◌≡◌, ◌≢◌, ℕ, zero, suc, ◌+◌, ◌-◌, ◌<◌, Bool, true, false, cond, eqb, List, [], ◌∷◌, ◌++◌, length, take, map, refl, sym, ap, ◌∙◌, arith, append_assoc, length-append, filter, not, get_or}
+use Rattle.std.proofs.Common.{◌≡◌, ◌≢◌, ℕ, zero, suc, ◌+◌, ◌-◌, ◌<◌, Bool, true, false, cond, eqb, List, [], ◌∷◌, ◌++◌, length, take, map, refl, sym, ap, ◌∙◌, arith, append_assoc, length-append, filter, not, get_or, inl, inr}
 use Rattle.std.proofs.lemmas.List.{map-append, take_all, take_more}
 use Rattle.std.proofs.lemmas.List.Elements.{All-push, All-nil, All-cons, All-head, All-tail}
 use Rattle.std.proofs.lemmas.List.Splits.{slice_split-cons_no}
@@ -8,6 +8,7 @@ use Rattle.std.specs.List.{onto_first}
 use Rattle.cobs.specs.Grammar.{HasNoZero, last_of}
 use Rattle.cobs.specs.Stream.{stretches, is_nonempty, but_last, ended_pieces, unended, Outcome, outcome_of, stream_outcomes}
 use Rattle.cobs.specs.Decoder.{fed}
+use Rattle.cobs.specs.Laws.{IsAtSentinel}
 
 -- whether a byte ends a piece
 abbrev pub is_zero : ℕ → Bool
@@ -207,3 +208,24 @@ nonempty-unended_last p bytes h =
     = sym (take_all (length bytes - 1 + 1) bytes (omega arith)) ∙ take_more bytes (length bytes - 1) 0 (omega arith) in
     nonempty-unended_push (p ++ take (length bytes - 1) bytes) (get_or bytes (length bytes - 1) 0)
     ∙ ap (λ (x : List ℕ). is_nonempty (unended x)) (append_assoc p (take (length bytes - 1) bytes) _ ∙ ap (λ (x : List ℕ). p ++ x) (sym same))
+
+-- DAMAGE BETWEEN TWO SENTINELS
+
+-- nothing is unended at a sentinel
+unended-at_sentinel : (t : List ℕ) → IsAtSentinel t → unended t ≡ []
+unended-at_sentinel t (inl none) = ap unended none ∙ unended-no_zero [] (All-nil (λ x. x ≢ 0))
+unended-at_sentinel t (inr (front, ends)) = ap unended ends ∙ unended-zero front
+
+-- what stands in front of a sentinel, up to the next one, and behind that one has its outcomes by itself
+pub stream_outcomes-apart : (a d z : List ℕ) (n : ℕ) → IsAtSentinel a → stream_outcomes (a ++ d ++ 0 ∷ z) n ≡ stream_outcomes a n ++ stream_outcomes (d ++ 0 ∷ []) n ++ stream_outcomes z n
+stream_outcomes-apart a d z n h =
+    ap (λ (x : List ℕ). stream_outcomes x n) (sym (append_assoc (a ++ d) (0 ∷ []) z) ∙ ap (λ (x : List ℕ). x ++ z) (append_assoc a d (0 ∷ [])))
+    ∙ stream_outcomes-append (a ++ (d ++ 0 ∷ [])) z n
+    ∙ ap (λ (x : List ℕ). stream_outcomes (a ++ (d ++ 0 ∷ [])) n ++ stream_outcomes (x ++ z) n) (ap unended (sym (append_assoc a d (0 ∷ []))) ∙ unended-zero (a ++ d))
+    ∙ ap (λ (x : List Outcome). x ++ stream_outcomes z n)
+    (stream_outcomes-append a (d ++ 0 ∷ []) n ∙ ap (λ (x : List ℕ). stream_outcomes a n ++ stream_outcomes (x ++ (d ++ 0 ∷ [])) n) (unended-at_sentinel a h))
+
+-- one piece between two sentinels has one outcome
+pub stream_outcomes-one : (d : List ℕ) (n : ℕ) → d ≢ [] → HasNoZero d → stream_outcomes (d ++ 0 ∷ []) n ≡ outcome_of d n ∷ []
+stream_outcomes-one [] n some h = absurd (some refl)
+stream_outcomes-one (c ∷ d) n some h = stream_outcomes-piece (c ∷ d) n h

@@ -1,5 +1,5 @@
 -- Words of the laws.
-use Rattle.std.specs.Prelude.{◌≡◌, ℕ, List, ◌++◌, ◌⊎◌}
+use Rattle.std.specs.Prelude.{◌≡◌, ℕ, List, [], ◌∷◌, ◌++◌, ◌⊎◌}
 use Rattle.std.specs.List.{concat}
 use Rattle.cobs.specs.Grammar.{lone_block, IsEncodedFrame}
 use Rattle.cobs.specs.Length.{EndsInFullRun}
@@ -15,3 +15,7 @@ EndsAtBlock p blocks = (first : List (List ℕ)) × (rest : List (List ℕ)) × 
 -- the list begins with the front
 abbrev pub IsFront : List ℕ → List ℕ → Type 0
 IsFront front xs = (rest : List ℕ) × (xs ≡ front ++ rest)
+
+-- the stream ends in a sentinel, or nothing of it has come
+abbrev pub IsAtSentinel : List ℕ → Type 0
+IsAtSentinel t = (t ≡ []) ⊎ ((front : List ℕ) × (t ≡ front ++ 0 ∷ []))

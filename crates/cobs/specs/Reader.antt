@@ -1,5 +1,5 @@
 -- What contracts see of a `FrameReader` and of a `Recorded`.
-use Rattle.std.specs.Prelude.{ℕ, List, Bool, slice_range}
+use Rattle.std.specs.Prelude.{ℕ, List, slice_range}
 use Rattle.cobs.specs.Decoder.{Phase}
 use Rattle.cobs.specs.Reading.{ReaderState}
 use Rattle.cobs.specs.declared.framed.FrameReader.{FrameReader}

@@ -1,5 +1,9 @@
--- What contracts see of the outcomes of a stream, and when two lists of outcomes differ by a message's bytes alone.
-use Rattle.std.specs.Prelude.{ℕ, ◌≡◌, List, [], ◌∷◌, length, take, map, Vec, Option, Some, None, Result, Ok, Err}
+-- Whole streams: what contracts see of their outcomes, and of the frames of several messages.
+use Rattle.std.specs.Prelude.{ℕ, ◌≡◌, ◌+◌, List, [], ◌∷◌, ◌++◌, length, take, map, sum_by, Option, Some, None, Result, Ok, Err}
+use Rattle.std.specs.List.{AllZip, flat_map}
+use Rattle.std.specs.Global.{Vec}
+use Rattle.cobs.specs.Grammar.{IsEncodedFrame}
+use Rattle.cobs.specs.Length.{max_encoded_len}
 use Rattle.cobs.specs.Stream.{Outcome, Message, Broken, TooLong}
 use Rattle.cobs.specs.declared.dec.report.DecodeError.{DecodeError}
 use Rattle.cobs.specs.declared.dec.report.DecodeError.TheVariants as errors
@@ -38,3 +42,17 @@ AreAlikeAtFirst [] [] = Unit {0}
 AreAlikeAtFirst [] (y ∷ ys) = ⊥
 AreAlikeAtFirst (x ∷ xs) [] = ⊥
 AreAlikeAtFirst (x ∷ xs) (y ∷ ys) = AreAlike x y × (xs ≡ ys)
+
+-- the messages that some vectors hold
+abbrev pub messages_in : List (Vec ℕ) → List (List ℕ)
+messages_in vectors = map (λ vector. vector.items) vectors
+
+-- these bytes are, for each message in order, its encoded frame and the zero that ends it
+pub record AreFrames (messages : List (List ℕ)) (bytes : List ℕ) : Type 0 where
+  pub frames : List (List ℕ)
+  pub each : AllZip IsEncodedFrame frames messages
+  pub joined : bytes ≡ flat_map (λ frame. frame ++ 0 ∷ []) frames
+
+-- how many bytes have room for the frames of the messages and their zeros, by the messages' lengths alone
+abbrev pub room_for_frames : List (List ℕ) → ℕ
+room_for_frames messages = sum_by (λ message. max_encoded_len (length message) + 1) messages

@@ -61,6 +61,7 @@ pub trait FrameSource {
 }
 
 /// Any reader as a source of bytes: one `read` a call, and each error of it is a failed read.
+#[derive(Drop)]
 pub struct Recorded<R> {
     reader: R,
 }
@@ -73,7 +74,7 @@ impl<R: Read> Recorded<R> {
     pub fn new(reader: R) -> Self
         ensures { reader_of result ≡ reader }
     {
-        Recorded { reader }
+        Self { reader }
     }
 
     /// The reader, as the reads so far have left it.
@@ -148,6 +149,7 @@ fn is_unfinished(before: bool, bytes: &[u8]) -> bool
 const MOST_READS: usize = 65536;
 
 /// Reads the frames of a stream, one a call, with a decoder of its own.
+#[derive(Drop)]
 pub struct FrameReader<D: FrameDecoder> {
     decoder: D,
     chunk: [u8; 64],
@@ -221,12 +223,13 @@ impl<D: FrameDecoder> FrameReader<D> {
     /// that ends is kept for the next call. While no piece ends, the source is read, at most 65,536 times; nothing
     /// is read behind a piece's end, behind a read that failed, or behind one that gave no bytes.
     pub fn next_frame<S: FrameSource>(&mut self, source: &mut S) -> Result<Next, ReadFault>
-        ensures next { ReadsNext S.step source.old source.new (reader_state D.bytes D.phase self.old) result (reader_state D.bytes D.phase self.new) }
+        ensures next { ReadsNext S.step source.old source.new
+            (reader_state D.bytes D.phase self.old) result (reader_state D.bytes D.phase self.new) }
         ensures len { length (D.bytes (decoder_of self.new)) ≡ length (D.bytes (decoder_of self.old)) }
         ensures same_loan { D.loan (decoder_of self.new) ≡ D.loan (decoder_of self.old) }
     {
-        if let Some(next) = self.next_kept() {
-            return Ok(next);
+        if let Some(kept) = self.next_kept() {
+            return Ok(kept);
         }
         'by_read: for _read in 0..MOST_READS {
             self.start = 0;

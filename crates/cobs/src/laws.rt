@@ -2,11 +2,11 @@
 //! the laws, and a caller who calls one may use it in its own proof.
 ghost use Rattle.std.specs.Prelude.{◌≡◌, ◌≢◌, ◌↔◌, ◌<◌, ◌≤◌, ◌+◌, ℕ, List, [], ◌∷◌, ◌++◌, length, All};
 ghost use Rattle.cobs.specs.Grammar.{HasNoZero, IsEncodedFrame, IsFrame, Reads, joint, last_of, lone_block};
-ghost use Rattle.cobs.specs.Laws.{EndsAtBlock, IsFrameFor, IsFront};
+ghost use Rattle.cobs.specs.Laws.{EndsAtBlock, IsAtSentinel, IsFrameFor, IsFront};
 ghost use Rattle.cobs.specs.Length.{EndsInFullRun, encoded_len, max_encoded_len};
 ghost use Rattle.cobs.specs.Piece.{IsWhole, output};
 ghost use Rattle.cobs.specs.Sentinel.{xor_each};
-ghost use Rattle.cobs.specs.Stream.{Message, first_piece, head, outcome_of};
+ghost use Rattle.cobs.specs.Stream.{Message, first_piece, head, outcome_of, stream_outcomes, unended};
 
 /// A frame reads as its output: a list of bytes reads as a message exactly where it isn't empty, has no zero, its last
 /// block has all the bytes that its code counts, and the message is what it decodes to.
@@ -83,6 +83,37 @@ pub fn law_7()
 pub fn law_8()
     ensures { (f m g k : List ℕ) (r : Reads f m) → Reads g k
         → Reads (f ++ g) (m ++ joint (last_of r.blocks) ++ k) }
+{}
+
+/// A stream that is cut in two anywhere: the outcomes of its first part, and then those of the second part behind what
+/// the first left unended.
+///
+/// So a receiver may be given a stream in parts of any length, as reads happen to bring it, and gets what one call over
+/// the whole stream would give: `decode_stream`, `push` and `FrameReader` rest on this.
+pub fn law_9()
+    ensures { (x y : List ℕ) (n : ℕ) →
+        stream_outcomes (x ++ y) n ≡ stream_outcomes x n ++ stream_outcomes (unended x ++ y) n }
+{}
+
+/// Damage between two sentinels stays between them: what is changed, lost or added there, sentinels too, leaves the
+/// outcomes in front of the first and behind the second as they are. Where no sentinel stands between them, one piece
+/// does, with one outcome.
+///
+/// So a receiver of a noisy link, or a reader of a damaged file of records, loses no message but those that the damage
+/// touches.
+pub fn law_10()
+    ensures apart { (a d z : List ℕ) (n : ℕ) → IsAtSentinel a → stream_outcomes (a ++ d ++ 0 ∷ z) n
+        ≡ stream_outcomes a n ++ stream_outcomes (d ++ 0 ∷ []) n ++ stream_outcomes z n }
+    ensures one { (d : List ℕ) (n : ℕ) → d ≢ [] → HasNoZero d
+        → stream_outcomes (d ++ 0 ∷ []) n ≡ outcome_of d n ∷ [] }
+{}
+
+/// A frame in a stream comes to its message in each buffer that holds the message.
+///
+/// So what was sent as frames with a sentinel behind each comes out as exactly the messages, and no frame, the longer
+/// one of a message with two included, is taken for broken or for too long.
+pub fn law_11()
+    ensures { (f m : List ℕ) (n : ℕ) → Reads f m → length m ≤ n → outcome_of f n ≡ Message m }
 {}
 
 /// In a stream that begins with a nonzero byte the first piece is what stands before the first zero, and, in a buffer

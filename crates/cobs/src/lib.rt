@@ -22,7 +22,7 @@ pub use enc::{
     try_encode_including_sentinels,
 };
 pub use framed::{FrameReader, FrameSource, Next, ReadFault, Recorded};
-pub use stream::{FrameOutcome, decode_stream};
+pub use stream::{FrameOutcome, decode_stream, encode_frames};
 
 /// How many bytes longer than its message an encoded frame is at most, for a message of `source_len` bytes.
 ///

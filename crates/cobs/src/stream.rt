@@ -3,13 +3,15 @@
 //! A stream is cut at its zeros. What stands between two of them is a piece, and each nonempty piece is judged by
 //! itself: it is a message, or it breaks off inside a block, or it decodes to more than the buffer holds. So what
 //! is damaged in one piece is gone at the next zero.
-ghost use Rattle.std.specs.Prelude.{◌≡◌, ℕ, ◌≤◌, List, [], ◌++◌, length, option_to_list, IfOk, IfSome, IsOk, OnOk, OnErr, Contains};
+ghost use Rattle.std.specs.Prelude.{◌≡◌, ℕ, ◌<◌, ◌≤◌, ◌^◌, List, [], ◌++◌, All, length, map, take, option_to_list, IfOk, IfSome, IsOk, OnOk, OnErr, Contains};
 ghost use Rattle.cobs.specs.Decoder.{Idle as IdlePhase, DecoderAfter, PhaseAfter};
-ghost use Rattle.cobs.specs.Stream.{stream_outcomes, unended};
-ghost use Rattle.cobs.specs.Streaming.{outcome_told, outcomes_in, AreAlikeAtFirst};
+ghost use Rattle.cobs.specs.Stream.{Message, stream_outcomes, unended};
+ghost use Rattle.cobs.specs.Streaming.{outcome_told, outcomes_in, AreAlikeAtFirst, AreFrames, messages_in, room_for_frames};
 
 use crate::dec::DecodeError;
 pub use crate::dec::FrameDecoder;
+use crate::enc::encode;
+use crate::max_encoding_length;
 use std::alloc::{AllocError, Global};
 
 /// What became of a piece of a stream: a nonempty stretch of bytes that a zero ended.
@@ -32,7 +34,7 @@ fn outcome_of(
     buffer: &[u8],
 ) -> Result<Option<FrameOutcome>, AllocError>
     requires { IfOk answer (λ found. IfSome found (λ n. n ≤ length buffer.now)) }
-    ensures told { IfOk result (λ found. outcomes_in (option_to_list found) ≡ outcome_told answer buffer.now) }
+    ensures told { IfOk result (λ one. outcomes_in (option_to_list one) ≡ outcome_told answer buffer.now) }
     ensures succeeds { outcome_told answer buffer.now ≡ [] → IsOk result }
 {
     match answer {
@@ -62,20 +64,22 @@ pub fn decode_stream<D: FrameDecoder>(
     decoder: &mut D,
     bytes: &[u8],
 ) -> Result<Vec<FrameOutcome>, AllocError>
-    // Behind any front p of a piece, the outcomes are those of the stream that p and the bytes make.
-    ensures outcomes { (p : List ℕ) → DecoderAfter (D.bytes decoder.old) (D.phase decoder.old) p →
-        IfOk result (λ found. outcomes_in found.items ≡ stream_outcomes (p ++ bytes.now) (length (D.bytes decoder.old))) }
+    // Behind each front p of a piece, the outcomes are those of the stream that p and the bytes make.
+    ensures outcomes { (p : List ℕ) → DecoderAfter (D.bytes decoder.old) (D.phase decoder.old) p → IfOk result
+        (λ found. outcomes_in found.items ≡ stream_outcomes (p ++ bytes.now) (length (D.bytes decoder.old))) }
     ensures after { (p : List ℕ) → DecoderAfter (D.bytes decoder.old) (D.phase decoder.old) p →
         OnOk result (DecoderAfter (D.bytes decoder.new) (D.phase decoder.new) (unended (p ++ bytes.now))) }
     ensures succeeds { (p : List ℕ) → PhaseAfter (length (D.bytes decoder.old)) (D.phase decoder.old) p →
         stream_outcomes (p ++ bytes.now) (length (D.bytes decoder.old)) ≡ [] → IsOk result }
 
-    // Where the buffer was written to inside p, the same but for the first message's bytes.
-    ensures alike { (p : List ℕ) → PhaseAfter (length (D.bytes decoder.old)) (D.phase decoder.old) p →
-        IfOk result (λ found. AreAlikeAtFirst (outcomes_in found.items) (stream_outcomes (p ++ bytes.now) (length (D.bytes decoder.old)))) }
-    ensures phase_after { (p : List ℕ) → PhaseAfter (length (D.bytes decoder.old)) (D.phase decoder.old) p →
-        OnOk result (PhaseAfter (length (D.bytes decoder.old)) (D.phase decoder.new) (unended (p ++ bytes.now))) }
-    ensures after_zero { (p : List ℕ) → PhaseAfter (length (D.bytes decoder.old)) (D.phase decoder.old) p → Contains bytes.now 0 →
+    // Where the buffer was written to inside p, the same but for the bytes of the first message.
+    ensures alike { (p : List ℕ) → PhaseAfter (length (D.bytes decoder.old)) (D.phase decoder.old) p → IfOk result
+        (λ found. AreAlikeAtFirst (outcomes_in found.items)
+        (stream_outcomes (p ++ bytes.now) (length (D.bytes decoder.old)))) }
+    ensures phase_after { (p : List ℕ) → PhaseAfter (length (D.bytes decoder.old)) (D.phase decoder.old) p → OnOk result
+        (PhaseAfter (length (D.bytes decoder.new)) (D.phase decoder.new) (unended (p ++ bytes.now))) }
+    ensures after_zero { (p : List ℕ) → PhaseAfter (length (D.bytes decoder.old)) (D.phase decoder.old) p →
+        Contains bytes.now 0 →
         OnOk result (DecoderAfter (D.bytes decoder.new) (D.phase decoder.new) (unended (p ++ bytes.now))) }
 
     // In every phase.
@@ -93,4 +97,50 @@ pub fn decode_stream<D: FrameDecoder>(
         }
     }
     Ok(outcomes)
+}
+
+/// The stream of some messages: the encoded frame of each one and a zero behind it, in order.
+///
+/// Whoever feeds these bytes to an idle decoder whose buffer holds each message gets exactly the messages back. For
+/// no messages the stream is empty.
+///
+/// The caller owes that the sum of [`max_encoding_length`](crate::max_encoding_length) plus 1 over the messages fits
+/// a `usize`. Memory is asked for once, for that many bytes, and `AllocError` says that it was refused.
+pub fn encode_frames(alloc: Global, messages: &[Vec<u8>]) -> Result<Vec<u8>, AllocError>
+    requires { room_for_frames (messages_in messages.now) < 2 ^ 64 }
+    ensures frames { IfOk result (λ bytes. AreFrames (messages_in messages.now) bytes.items) }
+    ensures comes_back { (n : ℕ) → All (λ message. length message ≤ n) (messages_in messages.now) →
+        IfOk result (λ bytes. stream_outcomes bytes.items n ≡ map Message (messages_in messages.now)) }
+{
+    let mut frames = vec![in alloc; 0; room_for(messages)]?;
+    let len = write_frames(messages, &mut frames);
+    frames.truncate(len);
+    Ok(frames)
+}
+
+/// How many bytes have room for the frames of the messages and their zeros.
+fn room_for(messages: &[Vec<u8>]) -> usize
+    requires { room_for_frames (messages_in messages.now) < 2 ^ 64 }
+    ensures { result ≡ room_for_frames (messages_in messages.now) }
+{
+    let mut room = 0;
+    'by_message: for message in messages {
+        room += max_encoding_length(message.len()) + 1;
+    }
+    room
+}
+
+/// Writes the frames of the messages and their zeros to the front of `dest`, and answers their length in bytes.
+fn write_frames(messages: &[Vec<u8>], dest: &mut [u8]) -> usize
+    requires { room_for_frames (messages_in messages.now) ≤ length dest.old }
+    ensures frames { AreFrames (messages_in messages.now) (take result dest.new) }
+    ensures within { result ≤ length dest.new }
+{
+    let mut end = 0;
+    'by_message: for message in messages {
+        let len = encode(message, &mut dest[end..]);
+        dest[end + len] = 0;
+        end += len + 1;
+    }
+    end
 }

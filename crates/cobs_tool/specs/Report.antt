@@ -17,8 +17,10 @@ outcome_line (Message message) = codes "message " ++ decimal (length message) ++
 outcome_line (Broken count) = codes "broken " ++ decimal count ++ codes "\n"
 outcome_line TooLong = codes "too long\n"
 
--- a line for each piece that has ended in the stream, in order, and a last one where a piece has begun behind them
+-- the last line, where a piece has begun behind the last zero
+abbrev pub unfinished_line : List ℕ → List ℕ
+unfinished_line stream = if is_nonempty (unended stream) then codes "unfinished\n" else []
+
+-- a line for each piece that has ended in the stream, in order, and that last one
 abbrev pub report : List ℕ → List ℕ
-report stream =
-    flat_map outcome_line (stream_outcomes stream DECODE_BUFFER_LEN)
-    ++ (if is_nonempty (unended stream) then codes "unfinished\n" else [])
+report stream = flat_map outcome_line (stream_outcomes stream DECODE_BUFFER_LEN) ++ unfinished_line stream

@@ -15,16 +15,21 @@
 
 mod fault;
 mod input;
+mod memory;
 mod mode;
 mod modes;
 mod output;
 mod report;
+#[cfg(test)]
+mod tests;
 mod text;
 
 use fault::ToolFault;
 use mode::{Mode, mode_of};
 use modes::{run_decode, run_encode, run_show};
+use std::alloc::Global;
 use std::env;
+use std::io::{Read, Write};
 use std::process::ExitCode;
 use text::fault_line;
 
@@ -35,7 +40,7 @@ fn main(rt: HostRuntime) -> ExitCode {
         let _ = eprintln!(rt; "{USAGE}");
         return ExitCode::from(2);
     };
-    match run(&rt, &mode) {
+    match run(rt.alloc(), &mode, &mut rt.stdin(), &mut rt.stdout()) {
         Ok(()) => ExitCode::SUCCESS,
         Err(fault) => {
             let line = fault_line(&fault);
@@ -51,13 +56,16 @@ fn mode_of_arguments(rt: &HostRuntime) -> Option<Mode> {
     mode_of(&words)
 }
 
-/// Runs the mode from standard input to standard output.
-fn run(rt: &HostRuntime, mode: &Mode) -> Result<(), ToolFault> {
-    let mut input = rt.stdin();
-    let mut output = rt.stdout();
+/// Runs the mode from the input to the output.
+fn run<R: Read, W: Write>(
+    alloc: Global,
+    mode: &Mode,
+    input: &mut R,
+    output: &mut W,
+) -> Result<(), ToolFault> {
     match mode {
-        Mode::Show => run_show(rt.alloc(), &mut input, &mut output),
-        Mode::Encode => run_encode(rt.alloc(), &mut input, &mut output),
-        Mode::Decode => run_decode(rt.alloc(), &mut input, &mut output),
+        Mode::Show => run_show(alloc, input, output),
+        Mode::Encode => run_encode(alloc, input, output),
+        Mode::Decode => run_decode(alloc, input, output),
     }
 }

@@ -84,10 +84,7 @@ fn terminated_frame(alloc: Global, message: &[u8]) -> Result<Vec<u8>, AllocError
     requires { length message.now ≤ MAX_INPUT }
     ensures { IfOk result (λ bytes. IsTerminatedFrame bytes.items message.now) }
 {
-    cobs::laws::law_4();
-    let mut bytes = vec![in alloc; 0u8; cobs::max_encoding_length(message.len())]?;
-    let end = cobs::encode(message, &mut bytes);
-    bytes.truncate(end);
+    let mut bytes = cobs::encode_vec(alloc, message)?;
     bytes.push(0)?;
     Ok(bytes)
 }

@@ -1,10 +1,11 @@
 //! What becomes of the pieces of a stream, in words.
-ghost use Rattle.std.specs.Prelude.{◌≡◌, ◌++◌, IfOk, OnOk, string_bytes};
-ghost use Rattle.cobs.specs.Stream.{Broken, Message, TooLong, is_nonempty, unended};
-ghost use Rattle.cobs.specs.Streaming.{outcome_in};
+ghost use Rattle.std.specs.Prelude.{◌≡◌, ◌≤◌, ◌++◌, length, IfOk, OnOk, string_bytes};
+ghost use Rattle.cobs.specs.Stream.{Broken, Message};
 ghost use Rattle.cobs_tool.specs.Report.{outcome_line, report};
 
-use cobs::{CobsDecoderOwned, FrameOutcome, decode_stream};
+use crate::input::MAX_INPUT;
+use crate::memory::InMemory;
+use cobs::{CobsDecoderOwned, FrameReader, Next};
 use std::alloc::{AllocError, Global};
 
 /// The length of the longest message that is decoded, 64 KiB: a piece that decodes to more is too long.
@@ -17,42 +18,29 @@ pub const DECODE_BUFFER_LEN: usize = 65_536;
 /// - `broken N`: the piece breaks off inside a block, and decodes to N bytes.
 /// - `too long`: the piece decodes to more than [`DECODE_BUFFER_LEN`] bytes.
 pub fn report_of(alloc: Global, stream: &[u8]) -> Result<String, AllocError>
+    requires { length stream.now ≤ MAX_INPUT }
     ensures { IfOk result (λ text. string_bytes text ≡ report stream.now) }
 {
-    let mut decoder = CobsDecoderOwned::new(alloc, DECODE_BUFFER_LEN)?;
-    let outcomes = decode_stream(alloc, &mut decoder, stream)?;
-    let mut report = String::new(alloc);
-    'by_outcome: for outcome in &outcomes {
-        push_outcome(alloc, &mut report, outcome)?;
-    }
-    if is_unfinished(stream) {
-        report.push_str("unfinished\n")?;
-    }
-    Ok(report)
-}
-
-/// Whether a piece has begun in the stream that no zero has ended.
-fn is_unfinished(stream: &[u8]) -> bool
-    ensures { result ≡ is_nonempty (unended stream.now) }
-{
-    match stream {
-        [] => false,
-        [.., last] => *last != 0,
-    }
-}
-
-fn push_outcome(
-    alloc: Global,
-    report: &mut String,
-    outcome: &FrameOutcome,
-) -> Result<(), AllocError>
-    ensures { OnOk result (string_bytes report.new
-        ≡ string_bytes report.old ++ outcome_line (outcome_in outcome.now)) }
-{
-    match outcome {
-        FrameOutcome::Message(message) => push_message(alloc, report, message),
-        FrameOutcome::Broken(count) => push_broken(report, *count),
-        FrameOutcome::TooLong => report.push_str("too long\n"),
+    let decoder = CobsDecoderOwned::new(alloc, DECODE_BUFFER_LEN)?;
+    let mut frames = FrameReader::new(decoder);
+    let mut source = InMemory::new(stream);
+    let mut text = String::new(alloc);
+    'by_piece: loop {
+        match frames.next_frame(&mut source) {
+            Ok(Next::Message(len)) => {
+                let message = &frames.decoder().dest()[..len];
+                push_message(alloc, &mut text, message)?;
+            }
+            Ok(Next::Broken(count)) => push_broken(&mut text, count)?,
+            Ok(Next::TooLong) => text.push_str("too long\n")?,
+            Ok(Next::End { unfinished }) => {
+                if unfinished {
+                    text.push_str("unfinished\n")?;
+                }
+                return Ok(text);
+            }
+            Err(_) => unreachable!(),
+        }
     }
 }
 

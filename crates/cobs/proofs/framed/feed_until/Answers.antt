@@ -1,4 +1,4 @@
-use Rattle.std.proofs.Common.{◌≡◌, ◌∙◌, refl, get_or}
+use Rattle.std.proofs.Common.{◌∙◌, refl, get_or}
 use Rattle.cobs.specs.Decoder.{Feeds}
 use Rattle.cobs.proofs.SoFar.{SoFar-start, step_none, step_nonzero}
 use Rattle.cobs.proofs.ReadingLemmas.{EndsFirstIn-at_zero}

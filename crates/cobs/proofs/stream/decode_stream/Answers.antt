@@ -1,11 +1,11 @@
-use Rattle.std.proofs.Common.{◌≡◌, ℕ, ◌+◌, ◌<◌, List, [], ◌∷◌, ◌++◌, length, take, map, get_or, refl, sym, ap, ◌∙◌, subst, arith, option_to_list, Option, Some, None}
-use Rattle.std.proofs.lemmas.List.{map_push, append-nil}
+use Rattle.std.proofs.Common.{◌≡◌, List, [], ◌∷◌, get_or, refl, sym, ap, ◌∙◌, option_to_list, Option, Some, None}
+use Rattle.std.proofs.lemmas.List.{map_push}
 use Rattle.std.proofs.lemmas.Bool.{false≢true}
 use Rattle.cobs.specs.Streaming.{outcome_in, outcomes_in, outcome_told}
 use Rattle.cobs.specs.Stream.{Outcome}
 use Rattle.cobs.specs.declared.stream.FrameOutcome.{FrameOutcome}
 use Rattle.cobs.specs.Decoder.{Feeds}
-use Rattle.cobs.proofs.SoFar.{SoFar, SoFar-start, step_zero, step_nonzero, step_none, told_nothing}
+use Rattle.cobs.proofs.SoFar.{SoFar-start, step_zero, step_nonzero, step_none, told_nothing}
 use Rattle.cobs.proofs.stream.decode_stream.Goals as goal
 use Rattle.cobs.proofs.stream.decode_stream.Goals.{then-byte-eq0+in_ok-outcome+in-Some+in_ok-push, then-byte-eq0+in_ok-outcome+in_default, else-byte-eq0, After-feed_byte-answer}
 

@@ -1,4 +1,4 @@
-use Rattle.std.proofs.Common.{◌≡◌, ℕ, ◌∙◌, refl, subst, take, Some, [], arith}
+use Rattle.std.proofs.Common.{◌∙◌, refl, subst, take, Some, [], arith}
 use Rattle.cobs.proofs.ReadingLemmas.{HasTaken-any, Going-start, Going-push, ReadsNext-kept, ReadsNext-failed, ReadsNext-end, ReadsNext-piece, ReadsNext-too_many, range_from_start, range_nonempty}
 use Rattle.cobs.proofs.framed.FrameReader.next_frame.Goals as goal
 
@@ -12,17 +12,17 @@ by_read-init g c = record {
 }
 
 pub returns-in-None-clause-next : goal.returns-in-None-clause-next
-returns-in-None-clause-next g c = ReadsNext-failed _ refl c.by_read-test.true c.by_read.invariant.going c.in-None.ensures.step
+returns-in-None-clause-next g c = ReadsNext-failed _ refl (omega arith) c.by_read.invariant.going c.in-None.ensures.step
 
 pub returns-in-Some-eq0-clause-next : goal.returns-in-Some-eq0-clause-next
 returns-in-Some-eq0-clause-next g c =
     let step : g.S.FrameSource.step c.by_read.source (Some []) c.read_some.new.self
     = subst (λ k. g.S.FrameSource.step c.by_read.source (Some (take k c.read_some.new.chunk)) c.read_some.new.self) c.in-Some-eq0.field-0-test c.in-Some-eq0.ensures.step in
-    ReadsNext-end _ refl c.by_read-test.true c.by_read.invariant.going step
+    ReadsNext-end _ refl (omega arith) c.by_read.invariant.going step
 
 pub returns-in-Some-next_kept-clause-next : goal.returns-in-Some-next_kept-clause-next
 returns-in-Some-next_kept-clause-next g c =
-    ReadsNext-piece (take c.in-Some-read_some.n c.read_some.new.chunk) _ _ (range_from_start c.read_some.new.chunk c.in-Some-read_some.n) c.by_read-test.true c.by_read.invariant.going
+    ReadsNext-piece (take c.in-Some-read_some.n c.read_some.new.chunk) _ _ (range_from_start c.read_some.new.chunk c.in-Some-read_some.n) (omega arith) c.by_read.invariant.going
     c.in-Some-read_some.ensures.step c.in-Some-next_kept.ensures.len c.in-Some-next_kept.ensures.told
 
 pub by_read-preserved : goal.by_read-preserved

@@ -1,0 +1,5 @@
+use Rattle.cobs.proofs.StreamLemmas.{stream_outcomes-apart, stream_outcomes-one}
+use Rattle.cobs.proofs.laws.law_10.Goals as goal
+
+pub returns : goal.returns
+returns c = record { apart = stream_outcomes-apart; one = stream_outcomes-one }

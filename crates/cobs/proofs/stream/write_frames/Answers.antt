@@ -1,0 +1,60 @@
+use Rattle.std.proofs.Common.{◌≡◌, ℕ, ◌+◌, ◌-◌, ◌<◌, ◌≤◌, List, length, take, drop, ap, subst, arith, length-take, length-drop}
+use Rattle.std.proofs.lemmas.List.{length-set}
+use Rattle.cobs.specs.Grammar.{IsEncodedFrame}
+use Rattle.cobs.specs.Length.{encoded_len}
+use Rattle.cobs.proofs.MessagesLemmas.{AreFrames-push, messages_in-more, room-step, room-left, written, length-written}
+use Rattle.cobs.proofs.LengthLemmas.{encoded_len-le}
+use Rattle.cobs.proofs.stream.write_frames.Goals as goal
+use Rattle.cobs.proofs.stream.write_frames.Goals.{After-deref, After-encode-len}
+
+-- there is room for the message's frame and a zero
+room : (c : After-deref) → c.by_message.end + (encoded_len c.deref.result.now + 1) ≤ length c.by_message.dest
+room c =
+    let left = room-left c.args.messages.now c.by_message.message-index c.message-item.result c.by_message.end (length c.args.dest.now) c.by_message-test.true c.message-item.is c.by_message.invariant.within c.requires in
+    let message : encoded_len c.deref.result.now ≡ encoded_len c.message-item.result.items = ap encoded_len c.deref.ensures.value in
+    omega (arith, c.by_message.auto.dest)
+
+-- the part of the list behind what is written
+length-part : (dest : List ℕ) (end : ℕ) → length (take (length dest - end) (drop end dest)) ≡ length dest - end
+length-part dest end = omega (arith, length-take (length dest - end) (drop end dest), length-drop end dest)
+
+pub encode-len-requires : goal.encode-len-requires
+encode-len-requires c = omega (arith, room (goal.at.encode-len-requires c).After-deref, length-part c.by_message.dest c.by_message.end)
+
+-- the frame and a zero fit behind those that are written
+fits : (c : After-encode-len) → (c.by_message.end + (c.encode-len.result + 1) ≤ length c.by_message.dest) × (c.by_message.end + length c.encode-len.new.dest ≡ length c.by_message.dest)
+fits c =
+    let left = room-left c.args.messages.now c.by_message.message-index c.message-item.result c.by_message.end (length c.args.dest.now) c.by_message-test.true c.message-item.is c.by_message.invariant.within c.requires in
+    let message : encoded_len c.deref.result.now ≡ encoded_len c.message-item.result.items = ap encoded_len c.deref.ensures.value in (
+      omega (arith, c.by_message.auto.dest, c.encode-len.ensures.len),
+      omega (arith, c.encode-len.auto.dest, length-part c.by_message.dest c.by_message.end, c.by_message.invariant.in_dest),
+    )
+
+pub overflow_add-dest : goal.overflow_add-dest
+overflow_add-dest c = let f = fits (goal.at.overflow_add-dest c).After-encode-len in omega arith
+
+pub bounds-dest-end : goal.bounds-dest-end
+bounds-dest-end c =
+    let f = fits (goal.at.bounds-dest-end c).After-encode-len in
+    omega (arith, length-written c.by_message.dest c.encode-len.new.dest c.by_message.end (length c.by_message.dest - c.by_message.end) c.by_message.invariant.in_dest)
+
+pub overflow_add-end : goal.overflow_add-end
+overflow_add-end c = let f = fits (goal.at.overflow_add-end c).After-encode-len in omega arith
+
+pub overflow_add-end-in-by_message : goal.overflow_add-end-in-by_message
+overflow_add-end-in-by_message c = let f = fits (goal.at.overflow_add-end-in-by_message c).After-encode-len in omega arith
+
+pub by_message-preserved : goal.by_message-preserved
+by_message-preserved c =
+    let f = fits (goal.at.by_message-preserved c).After-encode-len in
+    let messages = c.args.messages.now in
+    let i = c.by_message.message-index in
+    let e = c.deref.ensures.value in
+    let len : c.encode-len.result < length c.encode-len.new.dest = omega arith in
+    record {
+      frames = rw (messages_in-more messages i c.message-item.result c.by_message-test.true, ← c.message-item.is, written c.by_message.dest c.encode-len.new.dest _ c.by_message.end c.encode-len.result c.by_message.invariant.in_dest len)
+          (AreFrames-push _ _ _ _ c.by_message.invariant.frames (subst (λ (m : List ℕ). IsEncodedFrame (take c.encode-len.result c.encode-len.new.dest) m) e c.encode-len.ensures.frame));
+      within = rw (room-step messages i c.message-item.result c.by_message-test.true c.message-item.is)
+          (let most = encoded_len-le c.message-item.result.items in let message : encoded_len c.deref.result.now ≡ encoded_len c.message-item.result.items = ap encoded_len e in omega (arith, c.by_message.invariant.within, c.encode-len.ensures.len));
+      in_dest = simp length-set (omega (arith, length-written c.by_message.dest c.encode-len.new.dest c.by_message.end (length c.by_message.dest - c.by_message.end) c.by_message.invariant.in_dest));
+    }
