@@ -35,3 +35,4 @@ pub mod LawExamples
 pub mod StretchLemmas
 pub mod KindLemmas
 pub mod MessagesLemmas
+pub mod HeadlineLemmas
