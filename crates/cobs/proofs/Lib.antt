@@ -37,3 +37,4 @@ pub mod KindLemmas
 pub mod MessagesLemmas
 pub mod SourceSteps
 pub mod VectorSteps
+pub mod HeadlineLemmas
