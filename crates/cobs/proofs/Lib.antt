@@ -36,3 +36,5 @@ pub mod StretchLemmas
 pub mod KindLemmas
 pub mod MessagesLemmas
 pub mod SourceSteps
+pub mod VectorSteps
+pub mod HeadlineLemmas

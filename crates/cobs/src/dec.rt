@@ -14,6 +14,7 @@ mod piece;
 mod report;
 mod sentinel;
 mod state;
+mod vector;
 mod window;
 
 pub use frame_decoder::FrameDecoder;
@@ -25,6 +26,7 @@ use piece::{decode_ended, leading_zeros, piece_len};
 pub use report::{DecodeError, DecodeReport, DecodingResult, PushError};
 pub use sentinel::decode_with_sentinel;
 pub use state::{DecodeResult, DecoderState};
+pub use vector::{DecodeVecError, decode_vec, decode_vec_with_sentinel};
 
 /// Decodes the first frame of the source into `dest`, and answers how many bytes were consumed and how many the
 /// message has.
