@@ -98,7 +98,8 @@ ends_in_full g m e =
 abbrev EndsInLone : List (List ℕ) → Type 0
 EndsInLone bs = (cs : List (List ℕ)) × (bs ≡ cs ++ lone_block ∷ []) × (cs ≢ []) × IsShorter cs × IsFull (last_of cs)
 
-IsShorter-single : (b : List ℕ) → IsShorter (b ∷ [])
+-- one block alone is canonical
+pub IsShorter-single : (b : List ℕ) → IsShorter (b ∷ [])
 IsShorter-single b [] block full e = cc
 IsShorter-single b (x ∷ []) block full e = cc
 IsShorter-single b (x ∷ y ∷ front) block full e = cc

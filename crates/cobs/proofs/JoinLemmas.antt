@@ -1,12 +1,13 @@
 -- Frames joined, the fronts of a frame, and frames for another sentinel.
 use Rattle.std.proofs.Common.{◌≡◌, ◌≢◌, ℕ, ◌↔◌, List, [], ◌∷◌, ◌++◌, All, refl, sym, ap, ◌∙◌, subst, append-nil, append_assoc}
 use Rattle.std.specs.List.{concat}
-use Rattle.std.specs.Int.Bits.{bit_xor, xor_assoc, xor_self, xor_zero_r}
+use Rattle.std.specs.Int.Bits.{bit_xor, xor_self}
 use Rattle.std.proofs.lemmas.List.Elements.{All-head, All-tail, All-nil, All-cons, All-append, All-map, All-weaker}
 use Rattle.cobs.specs.Grammar.{IsBlock, bytes_of, joint, message_of, last_of, IsFrameOf, Reads, IsFrame}
 use Rattle.cobs.specs.Piece.{parts}
 use Rattle.cobs.specs.Sentinel.{xor_each}
 use Rattle.cobs.specs.Laws.{EndsAtBlock, IsFront}
+use Rattle.cobs.proofs.SentinelLemmas.{xor_twice}
 use Rattle.cobs.proofs.FrameLemmas.{parts-block, parts-frame, frame_nonzero}
 
 -- JOINED
@@ -100,9 +101,6 @@ front_message p q k m r s =
     (more.0, r.message ∙ ap message_of (first_blocks p q r.blocks s.blocks r.frame s.frame) ∙ more.1 ∙ ap (λ (l : List ℕ). l ++ more.0) (sym s.message))
 
 -- ANOTHER SENTINEL
-
-xor_twice : (b s : ℕ) → bit_xor (bit_xor b s) s ≡ b
-xor_twice b s = xor_assoc b s s ∙ ap (bit_xor b) (xor_self s) ∙ xor_zero_r b
 
 -- the sentinel stands in no frame for it
 pub no_sentinel : (f : List ℕ) (s : ℕ) → IsFrame f → All (λ b. b ≢ s) (xor_each s f)

@@ -96,6 +96,9 @@ encoded_len-reached n =
     let h = encoded_len-nonzero ones (All-replicate (λ byte. byte ≢ 0) n 1 (λ e. cc)) in
     (ones, l, h ∙ ap max_encoded_len l)
 
+-- the bound, for the tactics of a function
+pub ruleset bounds = encoded_len-le
+
 -- the three lemmas on a first block, for what is left of a message behind `read` bytes, of which the first `len` are nonzero
 module _ (source : List ℕ) (read len : ℕ) (short : len ≤ length (drop read source)) (nonzero : HasNoZero (take len (drop read source))) where
   pub encoded_len-last-at : len < 255 → read + len ≡ length source → encoded_len (drop read source) ≡ len + 1

@@ -1,11 +1,11 @@
 -- Lemmas on open frames, whose last block isn't full.
-use Rattle.std.proofs.Common.{◌≡◌, ◌≢◌, ℕ, ◌+◌, Bool, false, if◌then◌else◌, List, [], ◌∷◌, ◌++◌, length, set, All, refl, sym, ap, ◌∙◌, subst, arith, append-nil, append_assoc, length-append}
+use Rattle.std.proofs.Common.{◌≡◌, ◌≢◌, ℕ, ◌+◌, ◌<◌, Bool, false, if◌then◌else◌, List, [], ◌∷◌, ◌++◌, length, set, All, refl, sym, ap, ◌∙◌, subst, arith, append-nil, append_assoc, length-append}
 use Rattle.std.specs.List.{concat}
 use Rattle.std.proofs.lemmas.Bool.{ne_eqb}
 use Rattle.std.proofs.lemmas.List.{set_at, length_push}
 use Rattle.std.proofs.lemmas.List.Elements.{All-head, All-tail, All-cons, All-nil, All-append, All-push}
 use Rattle.cobs.specs.Grammar.{IsBlock, is_full, bytes_of, joint, lone_block, message_of, IsFrameOf, IsOpenFrame}
-use Rattle.cobs.specs.Encoder.{AgreeOutside}
+use Rattle.cobs.specs.Encoder.{OpenBlock, AgreeOutside, IsOpenOutput}
 use Rattle.cobs.proofs.GrammarLemmas.{lone_block-is_block}
 
 pub concat-append : (a b : List (List ℕ)) → concat (a ++ b) ≡ concat a ++ concat b
@@ -73,7 +73,7 @@ module _ (m f g : List ℕ) (index code : ℕ) (o : IsOpenFrame f m index code) 
   pub set-f : (y : ℕ) → set f index y ≡ concat o.front ++ y ∷ o.bytes
   set-f y = ap (λ (l : List ℕ). set l index y) f-is ∙ set_at (concat o.front) code o.bytes y index (sym o.begins)
 
-  g-is : g ≡ concat o.front ++ same.0 ∷ o.bytes
+  pub g-is : g ≡ concat o.front ++ same.0 ∷ o.bytes
   g-is = same.1 ∙ set-f same.0
 
   -- g with another code
@@ -165,3 +165,16 @@ module _ (m f g : List ℕ) (index code : ℕ) (o : IsOpenFrame f m index code) 
         },
         (x, out ∙ sym (ap (λ (l : List ℕ). set l (index + 255) x) whole ∙ set_at p 1 [] x (index + 255) len)),
       )
+
+-- what a caller has who carried out the answers ends with the open block
+module _ (g : List ℕ) (state : OpenBlock) (m : List ℕ) (o : IsOpenOutput g state m) where
+  pub length-IsOpenOutput : length g ≡ state.index + state.code
+  length-IsOpenOutput =
+      let is = (blocks-of m o.0 g state.index state.code o.1 o.2).1 in
+      let all = ap length (g-is m o.0 g state.index state.code o.1 o.2) ∙ length-append (concat o.1.front) (o.2.0 ∷ o.1.bytes) in
+      let code = is.0 in
+      let begins = o.1.begins in
+      omega arith
+
+  pub index-IsOpenOutput : state.index < length g
+  index-IsOpenOutput = let is = (blocks-of m o.0 g state.index state.code o.1 o.2).1 in let code = is.0 in let len = length-IsOpenOutput in omega arith

@@ -143,7 +143,8 @@ drop-later to n xs ys h e =
     let k : to + (n - to) ≡ n = omega arith in
     sym (ap (λ (m : ℕ). drop m xs) k) ∙ sym (drop-drop (n - to) to xs) ∙ ap (drop (n - to)) e ∙ drop-drop (n - to) to ys ∙ ap (λ (m : ℕ). drop m ys) k
 
-output-longer : (q : List ℕ) (b : ℕ) → length (output q) ≤ length (output (q ++ b ∷ []))
+-- an output grows by each byte of its piece
+pub output-longer : (q : List ℕ) (b : ℕ) → length (output q) ≤ length (output (q ++ b ∷ []))
 unfolding output parts parts_behind
 output-longer [] b = omega arith
 output-longer (c ∷ q) b = omega (arith, ap length (output-push c q b).1, length-append (output (c ∷ q)) (output-push c q b).0)

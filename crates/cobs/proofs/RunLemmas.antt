@@ -19,7 +19,7 @@ use Rattle.cobs.proofs.PushLemmas.{Pushed, Pushed-more}
 abbrev pub over : ℕ → List ℕ → List ℕ → List ℕ
 over count buffer xs = take count buffer ++ (xs ++ drop (count + length xs) buffer)
 
-over-nil : (count : ℕ) (buffer : List ℕ) → over count buffer [] ≡ buffer
+pub over-nil : (count : ℕ) (buffer : List ℕ) → over count buffer [] ≡ buffer
 over-nil count buffer = ap (λ (k : ℕ). take count buffer ++ drop k buffer) (omega arith) ∙ take-append-drop count buffer
 
 over-cons : (count x : ℕ) (xs buffer : List ℕ) → count < length buffer → over (count + 1) (set buffer count x) xs ≡ over count buffer (x ∷ xs)

@@ -1,8 +1,9 @@
 -- Lemmas on frames for another sentinel, and on frames between sentinels.
-use Rattle.std.proofs.Common.{◌≡◌, ℕ, suc, ◌+◌, ◌<◌, ◌≤◌, List, [], ◌∷◌, ◌++◌, length, drop, take, set, refl, sym, ap, ◌∙◌, arith, length-take-le, take-append-drop}
+use Rattle.std.proofs.Common.{◌≡◌, ℕ, suc, ◌+◌, ◌<◌, ◌≤◌, List, [], ◌∷◌, ◌++◌, length, drop, take, set, refl, sym, ap, ◌∙◌, subst, arith, take_at, length-take-le, take-append-drop}
 use borrow.Rule.Slice.PartMut.{put_mid}
 use Rattle.std.specs.Int.Bits.{bit_xor, xor_assoc, xor_self, xor_zero_r}
-use Rattle.std.proofs.lemmas.List.{drop-append-le, drop-drop, drop-set-lt}
+use Rattle.std.proofs.lemmas.List.{length-map, drop-append-le, drop-drop, drop-set-lt}
+use Rattle.cobs.specs.Grammar.{IsEncodedFrame}
 use Rattle.cobs.specs.Sentinel.{xor_each}
 
 -- exclusive or with the same byte twice changes nothing
@@ -12,6 +13,14 @@ xor_twice b s = xor_assoc b s s ∙ ap (bit_xor b) (xor_self s) ∙ xor_zero_r b
 pub xor_each-twice : (s : ℕ) (f : List ℕ) → xor_each s (xor_each s f) ≡ f
 xor_each-twice s [] = refl
 xor_each-twice s (b ∷ f) = ap (λ (x : ℕ). x ∷ xor_each s (xor_each s f)) (xor_twice b s) ∙ ap (λ (l : List ℕ). b ∷ l) (xor_each-twice s f)
+
+-- a slice whose front is an encoded frame, changed for another sentinel
+pub changed_frame : (s n : ℕ) (dest changed rest m : List ℕ) → IsEncodedFrame (take n dest) m → changed ≡ xor_each s (take n dest) → n ≤ length dest
+    → IsEncodedFrame (xor_each s (take n (changed ++ rest))) m
+changed_frame s n dest changed rest m frame is within =
+    let len : length changed ≡ n = ap length is ∙ length-map (take n dest) (λ b. bit_xor b s) ∙ length-take-le n dest within in
+    let back : xor_each s (take n (changed ++ rest)) ≡ take n dest = ap (xor_each s) (take_at changed rest n len ∙ is) ∙ xor_each-twice s (take n dest) in
+    subst (λ (f : List ℕ). IsEncodedFrame f m) (sym back) frame
 
 -- behind a frame and two sentinels a slice is as it was, where the part between its ends is behind the frame
 pub behind_sentinels : (dest part : List ℕ) (k n : ℕ) → n ≤ k → length part ≡ k → k < length dest → drop n part ≡ drop n (take k (drop 1 dest))

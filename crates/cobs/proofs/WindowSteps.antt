@@ -207,7 +207,7 @@ long-decoded piece old dest read written code p is some more k part room k-is pa
     (zero-step piece old after read written code q is some more other (omega arith) here)
 
 -- the front of a list behind another one
-take-past : (xs ys : List ℕ) (n m k : ℕ) → length xs ≡ n → k ≡ n + m → take k (xs ++ ys) ≡ xs ++ take m ys
+pub take-past : (xs ys : List ℕ) (n m k : ℕ) → length xs ≡ n → k ≡ n + m → take k (xs ++ ys) ≡ xs ++ take m ys
 take-past xs ys n m k long is = ap (λ (j : ℕ). take j (xs ++ ys)) (is ∙ ap (λ (j : ℕ). j + m) (sym long)) ∙ past xs
   where
     past : (xs : List ℕ) → take (length xs + m) (xs ++ ys) ≡ xs ++ take m ys
@@ -217,7 +217,7 @@ take-past xs ys n m k long is = ap (λ (j : ℕ). take j (xs ++ ys)) (is ∙ ap 
         ap (λ (j : ℕ). take j (x ∷ xs ++ ys)) e ∙ ap (λ (zs : List ℕ). x ∷ zs) (past xs)
 
 -- what a list is behind its front and more
-drop-past : (xs ys : List ℕ) (n m k : ℕ) → length xs ≡ n → k ≡ n + m → drop k (xs ++ ys) ≡ drop m ys
+pub drop-past : (xs ys : List ℕ) (n m k : ℕ) → length xs ≡ n → k ≡ n + m → drop k (xs ++ ys) ≡ drop m ys
 drop-past xs ys n m k long is =
     ap (λ (j : ℕ). drop j (xs ++ ys)) is ∙ sym (drop-drop m n (xs ++ ys)) ∙ ap (drop m) (drop_at xs ys n long)
 

@@ -1,8 +1,9 @@
 -- What a streaming encoder has taken of a message, and what a caller does with its answers.
-use Rattle.std.specs.Prelude.{◌≡◌, ℕ, ◌+◌, ◌≤◌, ◌==◌, Bool, List, [], ◌∷◌, ◌++◌, length, take, slice_set, if◌then◌else◌}
+use Rattle.std.specs.Prelude.{◌≡◌, ℕ, ◌+◌, ◌-◌, ◌≤◌, ◌==◌, Bool, List, [], ◌∷◌, ◌++◌, length, take, replicate, slice_set, if◌then◌else◌}
 use Rattle.cobs.specs.declared.enc.state.PushResult.{PushResult}
 use Rattle.cobs.specs.declared.enc.state.PushResult.TheVariants.{AddSingle, ModifyFromStartAndSkip, ModifyFromStartAndPushAndSkip}
-use Rattle.cobs.specs.Grammar.{IsEncodedFrame, IsOpenFrame, is_full, last_of}
+use Rattle.cobs.specs.Grammar.{IsEncodedFrame, IsOpenFrame, is_full, last_of, lone_block}
+use Rattle.cobs.specs.Length.{encoded_len}
 
 -- where the open block of a frame begins, and its code so far
 pub record OpenBlock : Type 0 where
@@ -40,12 +41,33 @@ applied g (AddSingle b) x = g ++ b ∷ []
 applied g (ModifyFromStartAndSkip (i, c)) x = slice_set g i c ++ x ∷ []
 applied g (ModifyFromStartAndPushAndSkip (i, c, b)) x = slice_set g i c ++ b ∷ x ∷ []
 
--- a `CobsEncoder` over this slice, with this open block, has taken m: the slice begins with the encoded frame of m,
--- but for the byte at the open block's index, and `full` says whether that frame's last block is full
-pub record CobsEncoderAfter (slice : List ℕ) (state : OpenBlock) (full : Bool) (m : List ℕ) : Type 0 where
+-- how long the encoded frame is, counted from the open block's index, once the block with this code has taken these
+-- bytes: the bytes that it had are as good as ones
+abbrev pub open_len : ℕ → List ℕ → ℕ
+open_len code bytes = encoded_len (replicate (code - 1) 1 ++ bytes)
+
+-- how far a frame in a slice has come: its open block, and whether the encoded frame's last block is full, so that the
+-- open one is a placeholder behind it
+pub record Reached : Type 0 where
+  pub block : OpenBlock
+  pub full : Bool
+
+-- where the next byte goes
+abbrev pub next_of : Reached → ℕ
+next_of reached = reached.block.index + reached.block.code
+
+-- where the encoded frame ends
+abbrev pub end_of : Reached → ℕ
+end_of reached = if reached.full then reached.block.index else next_of reached
+
+-- A `CobsEncoder` over this slice, which has come so far, has taken m: the slice begins with the encoded frame of m, but
+-- for the byte at the open block's index. The open frame of m is that frame, with the lone block behind a last full one.
+pub record CobsEncoderAfter (slice : List ℕ) (reached : Reached) (m : List ℕ) : Type 0 where
   pub frame : List ℕ
   pub encoded : IsEncodedFrame frame m
-  pub follows : EncoderAfter state m
+  pub noted : reached.full ≡ is_full (last_of encoded.reads.blocks)
+  pub longer : List ℕ
+  pub open' : IsOpenFrame longer m reached.block.index reached.block.code
+  pub same : longer ≡ frame ++ (if reached.full then lone_block else [])
   pub fits : length frame ≤ length slice
-  pub begins : AgreeOutside state.index frame (take (length frame) slice)
-  pub noted : full ≡ is_full (last_of encoded.reads.blocks)
+  pub begins : AgreeOutside reached.block.index frame (take (length frame) slice)

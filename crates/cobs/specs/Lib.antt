@@ -5,6 +5,7 @@ pub mod Piece
 pub mod Stream
 pub mod Buffer
 pub mod Encoder
+pub mod Mask
 pub mod Table
 pub mod Decoder
 pub mod Report
@@ -15,3 +16,4 @@ pub mod Streaming
 pub mod Reading
 pub mod Reader
 pub mod Laws
+pub mod Decoding

@@ -1,18 +1,61 @@
 //! Decoding: from frames to messages.
+ghost use Rattle.std.specs.Prelude.{◌≡◌, length};
+ghost use Rattle.cobs.specs.Buffer.{overwritten};
+ghost use Rattle.cobs.specs.Decoding.{decode_answer, first_output};
 
+mod fit;
 mod frame_decoder;
 mod heapless;
+mod in_place;
 mod inner;
 mod lent;
 mod owned;
 mod piece;
 mod report;
+mod sentinel;
 mod state;
 mod window;
 
 pub use frame_decoder::FrameDecoder;
 pub use heapless::CobsDecoderHeapless;
+pub use in_place::{decode_in_place, decode_in_place_report, decode_in_place_with_sentinel};
 pub use lent::CobsDecoder;
 pub use owned::CobsDecoderOwned;
-pub use report::{DecodeError, DecodeReport, PushError};
+use piece::{decode_ended, leading_zeros, piece_len};
+pub use report::{DecodeError, DecodeReport, DecodingResult, PushError};
+pub use sentinel::decode_with_sentinel;
 pub use state::{DecodeResult, DecoderState};
+
+/// Decodes the first frame of the source into `dest`, and answers how many bytes were consumed and how many the
+/// message has.
+///
+/// Zeros in front of the frame are skipped. The frame ends at the next zero or with the source, and what stands behind
+/// that zero isn't read. The first `frame_size` bytes of `dest` are the message, and the others are as they were.
+/// `parsed_size` counts the skipped zeros, the frame, and the zero behind it where there is one.
+///
+/// # Errors
+///
+/// - `EmptyFrame` where the source is empty, and `InvalidFrame` with 0 where it has zeros alone; `dest` is as it was.
+/// - `TargetBufTooSmall` where `dest` is shorter than what the frame decodes to; it then holds the first bytes of that.
+/// - `InvalidFrame` where the frame breaks off inside a block: `dest` begins with what was decoded, the bytes of the
+///   broken block included, `decoded_bytes` says how many these are, and the others are as they were.
+///
+/// The format is that of Cheshire and Baker's paper; how a broken frame is answered is a choice of this library.
+pub fn decode(source: &[u8], dest: &mut [u8]) -> Result<DecodeReport, DecodeError>
+    ensures answer { result ≡ decode_answer source.now (length dest.old) }
+    ensures buffer { dest.new ≡ overwritten dest.old (first_output source.now) }
+{
+    if source.is_empty() {
+        return Err(DecodeError::EmptyFrame);
+    }
+    let start = leading_zeros(source);
+    let rest = &source[start..];
+    let len = piece_len(rest);
+    if len == 0 {
+        return Err(DecodeError::InvalidFrame { decoded_bytes: 0 });
+    }
+    let frame_size = decode_ended(&rest[..len], dest)?;
+    let end = start + len;
+    let parsed_size = if end < source.len() { end + 1 } else { end };
+    Ok(DecodeReport::new(parsed_size, frame_size))
+}

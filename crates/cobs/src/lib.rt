@@ -12,7 +12,8 @@ mod stream;
 
 pub use dec::{
     CobsDecoder, CobsDecoderHeapless, CobsDecoderOwned, DecodeError, DecodeReport, DecodeResult,
-    DecoderState, FrameDecoder, PushError,
+    DecoderState, DecodingResult, FrameDecoder, PushError, decode, decode_in_place,
+    decode_in_place_report, decode_in_place_with_sentinel, decode_with_sentinel,
 };
 pub use enc::{
     DestBufTooSmallError, EncoderState, PushResult, encode, encode_including_sentinels, encode_vec,

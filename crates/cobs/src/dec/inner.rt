@@ -1,10 +1,12 @@
 //! What the three streaming decoders share: the machine, over a buffer that is passed to each call.
-ghost use Rattle.std.specs.Prelude.{◌≡◌, ◌≤◌, ℕ, List, [], length, take, IfOk, IfSome};
+ghost use Rattle.std.specs.Prelude.{◌≡◌, ◌<◌, ◌≤◌, ℕ, false, List, [], length, take, IfOk, IfSome};
 ghost use Rattle.cobs.specs.Grammar.{HasNoZero};
 ghost use Rattle.cobs.specs.Decoder.{DecoderAfter, Feeds};
-ghost use Rattle.cobs.specs.Machine.{phase_of, next_phase, next_buffer, next_answer, FedInTurn};
+ghost use Rattle.cobs.specs.Machine.{left_in, phase_of, next_phase, next_buffer, next_answer, FedInTurn};
 ghost use Rattle.cobs.specs.Push.{PushesBytes};
 
+use crate::dec::fit::fitting_len;
+use crate::dec::piece::decode_piece;
 use crate::dec::report::{DecodeError, DecodeReport, PushError};
 use crate::dec::state::{DecodeResult, DecoderState};
 use memchr::memchr;
@@ -103,6 +105,55 @@ impl CobsDecoderInner {
         run
     }
 
+    /// Takes the first bytes of a stretch without zeros whose code stands at its front, as far as their output fits
+    /// the buffer, and answers how many.
+    fn take_blocks(&mut self, dest: &mut [u8], stretch: &[u8]) -> usize
+        requires some { 0 < length stretch.now }
+        requires nonzero { HasNoZero stretch.now }
+        requires boundary { left_in self.old.state ≡ 0 }
+        requires going { self.old.over ≡ false }
+        ensures within { result ≤ length stretch.now }
+        ensures fed { FedInTurn dest.old (phase_of self.old) (take result stretch.now) dest.new (phase_of self.new) }
+    {
+        let at = match &self.state {
+            DecoderState::Idle => 0,
+            DecoderState::Grab(_) => {
+                if dest.len() <= self.dest_idx {
+                    return 0;
+                }
+                dest[self.dest_idx] = 0;
+                self.dest_idx + 1
+            }
+            DecoderState::GrabChain(_) => self.dest_idx,
+        };
+        if dest.len() < at {
+            return 0;
+        }
+        let fit = fitting_len(stretch, dest.len() - at);
+        let end = decode_piece(&stretch[..fit], &mut dest[at..]);
+        self.dest_idx = at + end.written;
+        self.state = if end.full {
+            DecoderState::GrabChain(end.left as u8)
+        } else {
+            DecoderState::Grab(end.left as u8)
+        };
+        fit
+    }
+
+    /// Takes the first bytes of a stretch without zeros, as far as their output fits the buffer, and answers how
+    /// many.
+    fn take_stretch(&mut self, dest: &mut [u8], stretch: &[u8]) -> usize
+        requires { HasNoZero stretch.now }
+        ensures within { result ≤ length stretch.now }
+        ensures fed { FedInTurn dest.old (phase_of self.old) (take result stretch.now) dest.new (phase_of self.new) }
+    {
+        let run = self.take_open_block(dest, stretch);
+        if self.over || run == stretch.len() || self.state.left() != 0 {
+            return run;
+        }
+        run + self.take_blocks(dest, &stretch[run..])
+    }
+
     /// Takes bytes of the stream up to the first answer that isn't `Ok(None)`.
     pub(crate) fn push(
         &mut self,
@@ -117,7 +168,7 @@ impl CobsDecoderInner {
                 Some(zero) => at + zero,
                 None => bytes.len(),
             };
-            at += self.take_open_block(dest, &bytes[at..end]);
+            at += self.take_stretch(dest, &bytes[at..end]);
             if at < bytes.len() {
                 match self.feed(dest, bytes[at]) {
                     Ok(None) => at += 1,

@@ -1,8 +1,12 @@
 //! Pieces that are at hand as a whole: where they end, how long their outputs are, and the outputs.
 ghost use Rattle.std.specs.Prelude.{◌≡◌, ◌+◌, ◌++◌, ◌<◌, ◌≤◌, length, take, drop, slice_index};
 ghost use Rattle.cobs.specs.Grammar.{HasNoZero, is_full};
+ghost use Rattle.cobs.specs.Buffer.{overwritten};
+ghost use Rattle.cobs.specs.Decoding.{leading_zeros, sized};
 ghost use Rattle.cobs.specs.Piece.{output, last_part, lacks};
+ghost use Rattle.cobs.specs.Stream.{outcome_of};
 
+use crate::dec::report::DecodeError;
 use crate::dec::window::{copy_32, is_ones, write_zeros};
 use memchr::memchr;
 
@@ -41,6 +45,19 @@ pub(crate) fn piece_len(source: &[u8]) -> usize
         return source.len();
     }
     first_zero(source)
+}
+
+/// How many zeros the source begins with.
+pub(crate) fn leading_zeros(source: &[u8]) -> usize
+    ensures count { result ≡ leading_zeros source.now }
+    ensures within { result ≤ length source.now }
+{
+    'by_byte: for i in 0..source.len() {
+        if source[i] != 0 {
+            return i;
+        }
+    }
+    source.len()
 }
 
 /// The length of a piece's output, by one step for each code.
@@ -160,5 +177,51 @@ pub(crate) fn decode_piece(piece: &[u8], dest: &mut [u8]) -> PieceEnd
         written: written + end.written,
         full: end.full,
         left: end.left,
+    }
+}
+
+/// The length of the shortest front of a piece whose output has this many bytes, fewer than the piece's own.
+fn front_len(piece: &[u8], count: usize) -> usize
+    requires nonzero { HasNoZero piece.now }
+    requires fewer { count < length (output piece.now) }
+    ensures some { 0 < result }
+    ensures within { result ≤ length piece.now }
+    ensures front { output (take result piece.now) ≡ take count (output piece.now) }
+{
+    let mut left = count;
+    let mut read = 0;
+    'by_code: loop {
+        let code = piece[read] as usize;
+        if left < code {
+            return read + 1 + left;
+        }
+        left -= if code == 255 { 254 } else { code };
+        read += code;
+    }
+}
+
+/// Decodes a piece that has ended, and answers its message's length.
+///
+/// Where the output is longer than `dest`, its first bytes fill `dest`; else it stands at the front of `dest`, whole
+/// or broken off, and no byte behind it is written.
+pub(crate) fn decode_ended(piece: &[u8], dest: &mut [u8]) -> Result<usize, DecodeError>
+    requires some { 0 < length piece.now }
+    requires nonzero { HasNoZero piece.now }
+    ensures answer { result ≡ sized (outcome_of piece.now (length dest.old)) }
+    ensures buffer { dest.new ≡ overwritten dest.old (output piece.now) }
+{
+    // An output is shorter than its piece, so it is counted only where it may be too long.
+    if dest.len() < piece.len() - 1 && dest.len() < output_len(piece) {
+        let front = front_len(piece, dest.len());
+        decode_piece(&piece[..front], dest);
+        return Err(DecodeError::TargetBufTooSmall);
+    }
+    let end = decode_piece(piece, dest);
+    if end.left == 0 {
+        Ok(end.written)
+    } else {
+        Err(DecodeError::InvalidFrame {
+            decoded_bytes: end.written,
+        })
     }
 }

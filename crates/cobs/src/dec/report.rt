@@ -58,6 +58,9 @@ impl DecodeReport {
     }
 }
 
+/// The name that [`DecodeReport`] had. It is deprecated since version 0.5.0: use `DecodeReport`.
+pub type DecodingResult = DecodeReport;
+
 /// Why a `push` of a streaming decoder found no message, and after how many bytes.
 ///
 /// The decoder has taken these bytes and none behind them, so the caller goes on by pushing the others.

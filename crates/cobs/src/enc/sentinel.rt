@@ -53,6 +53,7 @@ pub fn encode_including_sentinels(source: &[u8], dest: &mut [u8]) -> usize
 /// Does what [`encode_including_sentinels`] does, where the frame and both sentinels fit `dest`.
 ///
 /// They are refused exactly where the three together are longer than `dest`, and then no byte of `dest` has changed.
+#[tactic(auto, using(crate::proofs::SentinelLemmas::behind_sentinels))]
 pub fn try_encode_including_sentinels(
     source: &[u8],
     dest: &mut [u8],

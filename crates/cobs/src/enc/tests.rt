@@ -1,10 +1,12 @@
 //! Worked examples, and what no clause says: printed texts, and calls that succeed.
-ghost use Rattle.std.specs.Prelude.{◌≡◌, ◌≤◌, length};
+ghost use Rattle.std.specs.Prelude.{◌≡◌, ◌≤◌, ℕ, length, IfOk};
+ghost use Rattle.cobs.specs.Grammar.{IsOpenFrame};
 ghost use Rattle.cobs.specs.Length.{encoded_len, max_encoded_len};
 
 use super::*;
 use crate::laws::law_4;
 use crate::{max_encoding_length, max_encoding_overhead};
+use std::alloc::{AllocError, Global};
 use std::test::Fail;
 
 /// A caller who has room for the longest frame calls `encode` by the law of the bounds.
@@ -14,6 +16,31 @@ fn encode_by_longest(source: &[u8], dest: &mut [u8]) -> usize
 {
     law_4();
     encode(source, dest)
+}
+
+/// A caller who carries out each answer of an `EncoderState` in a vector has the open frame of the message.
+fn encode_by_state(alloc: Global, source: &[u8]) -> Result<Vec<u8>, AllocError>
+    ensures { IfOk result (λ bytes. (index code : ℕ) × IsOpenFrame bytes.items source.now index code) }
+{
+    let mut output = vec![in alloc; 0]?;
+    let mut state = EncoderState::default();
+    'by_byte: for byte in source {
+        match state.push(*byte) {
+            PushResult::AddSingle(single) => output.push(single)?,
+            PushResult::ModifyFromStartAndSkip((index, code)) => {
+                output[index] = code;
+                output.push(0)?;
+            }
+            PushResult::ModifyFromStartAndPushAndSkip((index, code, last)) => {
+                output[index] = code;
+                output.push(last)?;
+                output.push(0)?;
+            }
+        }
+    }
+    let (index, code) = state.finalize();
+    output[index] = code;
+    Ok(output)
 }
 
 #[test]
@@ -114,4 +141,16 @@ fn answers_of_the_state(rt: HostRuntime) {
     assert!(rt; matches!(state.push(0), PushResult::ModifyFromStartAndSkip((0, 2))));
     assert!(rt; matches!(state.push(12), PushResult::AddSingle(12)));
     assert_eq!(rt; state.finalize(), (2, 2));
+}
+
+#[test]
+fn frames_by_the_state(rt: HostRuntime) -> Result<(), Fail> {
+    let frame = encode_by_state(rt.alloc(), &[10, 11, 0, 12])?;
+    assert_eq!(rt; frame.as_slice(), [3, 10, 11, 2, 12].as_slice());
+    let longer = encode_by_state(rt.alloc(), &[1; 254])?;
+    assert_eq!(rt; longer.len(), 256);
+    assert_eq!(rt; longer[0], 255);
+    assert_eq!(rt; longer[254], 1);
+    assert_eq!(rt; longer[255], 1);
+    Ok(())
 }

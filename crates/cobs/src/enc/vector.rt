@@ -13,6 +13,7 @@ use std::alloc::{AllocError, Global};
 ///
 /// The caller owes that [`max_encoding_length`](crate::max_encoding_length) of the message's length fits a `usize`.
 /// Memory is asked for once, for that many bytes, and `AllocError` says that it was refused.
+#[tactic(auto, using(crate::proofs::LengthLemmas::bounds))]
 pub fn encode_vec(alloc: Global, source: &[u8]) -> Result<Vec<u8>, AllocError>
     requires { max_encoded_len (length source.now) < 2 ^ 64 }
     ensures { IfOk result (λ bytes. IsEncodedFrame bytes.items source.now) }
@@ -27,6 +28,7 @@ pub fn encode_vec(alloc: Global, source: &[u8]) -> Result<Vec<u8>, AllocError>
 ///
 /// The caller owes that [`max_encoding_length`](crate::max_encoding_length) of the message's length, plus 2, fits a
 /// `usize`. Memory is asked for once, for that many bytes, and `AllocError` says that it was refused.
+#[tactic(auto, using(crate::proofs::LengthLemmas::bounds))]
 pub fn encode_vec_including_sentinels(alloc: Global, source: &[u8]) -> Result<Vec<u8>, AllocError>
     requires { max_encoded_len (length source.now) + 2 < 2 ^ 64 }
     ensures { IfOk result (λ bytes. IsDelimitedFrame bytes.items source.now) }
@@ -42,6 +44,7 @@ pub fn encode_vec_including_sentinels(alloc: Global, source: &[u8]) -> Result<Ve
 ///
 /// The caller owes that [`max_encoding_length`](crate::max_encoding_length) of the message's length fits a `usize`.
 /// Memory is asked for once, for that many bytes, and `AllocError` says that it was refused.
+#[tactic(auto, using(crate::proofs::LengthLemmas::bounds))]
 pub fn encode_vec_with_sentinel(
     alloc: Global,
     source: &[u8],

@@ -1,0 +1,109 @@
+-- Where the core of the encoder begins and ends, said of the slice of a `CobsEncoder`.
+use Rattle.std.proofs.Common.{◌≡◌, ◌≢◌, ℕ, ◌+◌, ◌-◌, ◌<◌, ◌≤◌, Bool, true, false, if◌then◌else◌, List, [], ◌∷◌, ◌++◌, length, drop, take, refl, sym, ap, ◌∙◌, subst, arith, append-nil}
+use Rattle.std.proofs.Math.ListN.{set}
+use Rattle.std.specs.List.{concat}
+use Rattle.std.proofs.Math.Seq.{take-set-lt}
+use Rattle.std.proofs.lemmas.List.{length-set, length-take, drop_all, set-set, set_at, set_past}
+use Rattle.std.proofs.lemmas.List.Elements.{All-nil}
+use Rattle.cobs.specs.Grammar.{IsBlock, IsEncodedFrame, lone_block}
+use Rattle.cobs.specs.Encoder.{OpenBlock, Reached, CobsEncoderAfter, next_of, end_of, open_len}
+use Rattle.cobs.proofs.OpenedLemmas.{Opened}
+use Rattle.cobs.proofs.ReachLemmas.{Reaches, Reaches-at, Reaches-start, IsNotFull, taken-full, ends-full, rest-full, taken-open, ends-open}
+use Rattle.cobs.proofs.AfterLemmas.{at, from_after, to_after, end-is, IsEncodedFrame-length}
+use Rattle.cobs.proofs.OpenLemmas.{concat-append}
+use Rattle.cobs.proofs.MarkLemmas.{WindowTaken}
+
+-- where the frame is to end
+abbrev pub end_with : Reached → List ℕ → ℕ
+end_with r source = r.block.index + open_len r.block.code source
+
+pub core-start : (source old : List ℕ) (r : Reached) (index next : ℕ) (full : Bool) → at index (next - index) full ≡ r → index < next → next < index + 255
+    → Reaches (CobsEncoderAfter old r) source old old (end_with r source) 0 index next (λ _. Unit {0})
+core-start source old r index next full is ordered short =
+    let sum : index + (next - index) ≡ next = omega arith in
+    Reaches-start (CobsEncoderAfter old r) source old (end_with r source) index next full ordered short (ap (λ (x : Reached). end_with x source) is)
+    (λ m h. subst (λ (n : ℕ). Opened old m index n full) sum (from_after old m (at index (next - index) full) (subst (λ (x : Reached). CobsEncoderAfter old x m) (sym is) h)))
+
+-- the last byte of the source filled its block
+module _ (H : List ℕ → Type 0) (source old slice : List ℕ) (end pos index : ℕ) (r : Reaches H source old slice end pos index (index + 255) (λ _. Unit {0})) (fits : end ≤ length slice) (last : pos ≡ length source) where
+  abbrev P : Bool → Type 0
+  P full = Unit {0}
+
+  pub full-after : (m : List ℕ) → H m → CobsEncoderAfter (set slice index 255) (at (index + 255) (index + 255 + 1 - (index + 255)) true) (m ++ source)
+  full-after m h =
+      let e = ends-full H source old slice end pos index (index + 255) P P last (omega arith) r in
+      let l = length-set slice index 255 in
+      to_after (set slice index 255) (m ++ source) (index + 255) (index + 255 + 1) (index + 255 + 1 - (index + 255)) true (omega arith) (omega arith) (omega arith)
+      (taken-full H source old slice end pos index (index + 255) P P last (omega arith) fits r m h)
+
+  pub full-end : end ≡ index + 255
+  full-end = ends-full H source old slice end pos index (index + 255) P P last (omega arith) r
+
+  pub full-rest : drop (index + 255) (set slice index 255) ≡ drop (index + 255) old
+  full-rest = let e = full-end in subst (λ (n : ℕ). drop n (set slice index 255) ≡ drop n old) e (rest-full H source old slice end pos index (index + 255) P P (omega arith) r)
+
+-- a window of the source left its block open
+module _ (H : List ℕ → Type 0) (source old slice : List ℕ) (end read len index next : ℕ) (w : WindowTaken H source old slice end read len index next) (fits : end ≤ length slice) where
+  pub still-open : Reaches H source old slice end (read + len) index (next + len) (λ _. Unit {0})
+  still-open =
+      Reaches-at H source old slice end (read + len) index (next + len) IsNotFull (λ _. Unit {0}) slice (read + len) index (next + len) refl refl refl refl (λ full p. tt) w.reaches
+
+  -- it was the last window
+  module _ (last : read + len ≡ length source) where
+    pub open-end : end ≡ next + len
+    open-end = ends-open H source old slice end (read + len) index (next + len) IsNotFull IsNotFull last w.reaches
+
+    pub open-after : (m : List ℕ) → H m → CobsEncoderAfter slice (at index (next + len - index) false) (m ++ source)
+    open-after m h =
+        let e = open-end in
+        let o = w.ordered in
+        let s = w.open' in
+        to_after slice (m ++ source) index (next + len) (next + len - index) false (omega arith) (omega arith) (omega arith)
+        (taken-open H source old slice end (read + len) index (next + len) IsNotFull IsNotFull last (λ full p. p) w.reaches m h)
+
+    pub open-rest : drop (index + (next + len - index)) slice ≡ drop (index + (next + len - index)) old
+    open-rest =
+        let e = open-end in let o = w.ordered in
+        let sum : end ≡ index + (next + len - index) = omega arith in
+        subst (λ (n : ℕ). drop n slice ≡ drop n old) sum w.reaches.rest
+
+-- the code of the open block completes the frame; a frame that ends in a full block is complete
+module _ (slice m : List ℕ) (r : Reached) (h : CobsEncoderAfter slice r m) where
+  length-frame : length h.frame ≡ end_of r
+  length-frame = sym (IsEncodedFrame-length h.frame m h.encoded) ∙ end-is slice m r h
+
+  pub closed-full : r.full ≡ true → IsEncodedFrame (take r.block.index slice) m
+  closed-full full =
+      let long : length h.frame ≡ r.block.index = length-frame ∙ ap (λ (b : Bool). if b then r.block.index else next_of r) full in
+      let is : take r.block.index slice ≡ h.frame = ap (λ (n : ℕ). take n slice) (sym long) ∙ h.begins.1 ∙ set_past h.frame r.block.index h.begins.0 (omega arith) in
+      subst (λ (f : List ℕ). IsEncodedFrame f m) (sym is) h.encoded
+
+  pub closed-open : r.full ≡ false → 0 < r.block.code → IsEncodedFrame (take (next_of r) (set slice r.block.index r.block.code)) m
+  closed-open open' some =
+      let long : length h.frame ≡ next_of r = length-frame ∙ ap (λ (b : Bool). if b then r.block.index else next_of r) open' in
+      let o = h.open' in
+      let same : h.longer ≡ h.frame = h.same ∙ ap (λ (b : Bool). h.frame ++ (if b then lone_block else [])) open' ∙ append-nil h.frame in
+      let whole : h.frame ≡ concat o.front ++ r.block.code ∷ o.bytes =
+      sym same ∙ o.frame.whole ∙ concat-append o.front ((r.block.code ∷ o.bytes) ∷ []) ∙ ap (λ (x : List ℕ). concat o.front ++ x) (append-nil (r.block.code ∷ o.bytes)) in
+      let own : set h.frame r.block.index r.block.code ≡ h.frame =
+      ap (λ (x : List ℕ). set x r.block.index r.block.code) whole ∙ set_at (concat o.front) r.block.code o.bytes r.block.code r.block.index (sym o.begins) ∙ sym whole in
+      let is : take (next_of r) (set slice r.block.index r.block.code) ≡ h.frame =
+      take-set-lt (next_of r) slice r.block.index r.block.code (omega arith) ∙ ap (λ (n : ℕ). set (take n slice) r.block.index r.block.code) (sym long)
+      ∙ ap (λ (x : List ℕ). set x r.block.index r.block.code) h.begins.1 ∙ set-set h.frame r.block.index h.begins.0 r.block.code ∙ own in
+      subst (λ (f : List ℕ). IsEncodedFrame f m) (sym is) h.encoded
+
+-- the encoder that has taken nothing
+pub after-nothing : (slice : List ℕ) → 0 < length slice → CobsEncoderAfter slice (at 0 1 false) []
+after-nothing slice some = to_after slice [] 0 1 1 false refl (omega arith) (omega arith) (record {
+  front = [];
+  bytes = [];
+  each = All-nil IsBlock;
+  nonzero = All-nil (λ byte. byte ≢ 0);
+  few = omega arith;
+  message = refl;
+  begins = refl;
+  place = refl;
+  written = refl;
+  stands = drop_all 1 (take 1 slice) (let l = length-take 1 slice in omega arith);
+  noted = refl;
+})

@@ -1,0 +1,97 @@
+-- The output of a front of a piece is a front of its output.
+use Rattle.std.proofs.Common.{◌≡◌, ℕ, ◌+◌, ◌-◌, ◌<◌, ◌≤◌, List, ◌∷◌, ◌++◌, length, take, drop, get_or, suc, sym, ap, ◌∙◌, subst, arith, length-take-le, length-drop, length-append, append_assoc, inl, inr}
+use Rattle.std.proofs.lemmas.Bool.{cases_lt}
+use Rattle.std.proofs.lemmas.List.{drop-drop, drop-take, drop_more, take-take, take-append-le}
+use Rattle.cobs.specs.Piece.{output}
+use Rattle.cobs.proofs.PieceCuts.{output-last, output-more, output-le, length-output-last, joint_of}
+use Rattle.cobs.proofs.WindowSteps.{take-past}
+
+-- a front that ends behind the first part
+front-more : (code : ℕ) (bytes : List ℕ) (k : ℕ) → code - 1 < length bytes → 0 < k → k ≤ length (drop (code - 1) bytes)
+    → output (code ∷ take (code - 1 + k) bytes) ≡ (take (code - 1) bytes ++ joint_of code) ++ output (take k (drop (code - 1) bytes))
+front-more code bytes k more some within =
+    let d = length-drop (code - 1) bytes in
+    let l = length-take-le (code - 1 + k) bytes (omega arith) in
+    output-more code (take (code - 1 + k) bytes) (omega arith)
+    ∙ ap (λ (x : List ℕ). (x ++ joint_of code) ++ output (drop (code - 1) (take (code - 1 + k) bytes))) (take-take (code - 1) (code - 1 + k) bytes (omega arith))
+    ∙ ap (λ (x : List ℕ). (take (code - 1) bytes ++ joint_of code) ++ output x) (drop-take (code - 1) k bytes)
+
+-- a front that ends inside the first part
+front-inside : (code : ℕ) (bytes : List ℕ) (left : ℕ) → left < code → left ≤ length bytes → output (code ∷ take left bytes) ≡ take left (output (code ∷ bytes))
+front-inside code bytes left few within =
+    let l = length-take-le left bytes within in
+    let whole : take left (output (code ∷ bytes)) ≡ take left bytes = elim (cases_lt (code - 1) (length bytes)) [
+      | inl more ↦ ap (take left) (output-more code bytes more ∙ append_assoc (take (code - 1) bytes) (joint_of code) (output (drop (code - 1) bytes)))
+          ∙ take-append-le left (take (code - 1) bytes) (joint_of code ++ output (drop (code - 1) bytes)) (let t = length-take-le (code - 1) bytes (omega arith) in omega arith)
+          ∙ take-take left (code - 1) bytes (omega arith)
+      | inr short ↦ ap (take left) (output-last code bytes (omega arith))
+    ] in
+    output-last code (take left bytes) (omega arith) ∙ sym whole
+
+-- what the loop over the codes of a piece keeps, which looks for its front with n bytes of output: behind the codes that
+-- it has read it looks for the front of what is left with the bytes that are left
+pub record FrontSought (piece : List ℕ) (n read left : ℕ) : Type 0 where
+  pub within : read < length piece
+  pub enough : left < length (output (drop read piece))
+  pub suffices : (k : ℕ) → 0 < k → read + k ≤ length piece → output (take k (drop read piece)) ≡ take left (output (drop read piece)) → output (take (read + k) piece) ≡ take n (output piece)
+
+pub front-started : (piece : List ℕ) (n : ℕ) → n < length (output piece) → 0 < length piece → FrontSought piece n 0 n
+front-started piece n fewer some = record {
+  within = some;
+  enough = fewer;
+  suffices = λ k pos within is. (let z : 0 + k ≡ k = omega arith in ap (λ (j : ℕ). output (take j piece)) z ∙ is);
+}
+
+module _ (piece : List ℕ) (n read left code : ℕ) (s : FrontSought piece n read left) (is : code ≡ get_or piece read 0) where
+  cons : drop read piece ≡ code ∷ drop (read + 1) piece
+  cons = drop_more piece read 0 s.within ∙ ap (λ (k : ℕ). k ∷ drop (read + 1) piece) (sym is)
+
+  -- the front ends inside this part
+  pub front-ends : left < code → (read + 1 + left ≤ length piece) × (output (take (read + 1 + left) piece) ≡ take n (output piece))
+  front-ends few =
+      let w = s.within in
+      let e = s.enough in
+      let o = ap length (ap output cons) in
+      let d = length-drop (read + 1) piece in
+      let within : left ≤ length (drop (read + 1) piece) = (let le = output-le (drop read piece) (let r = length-drop read piece in omega arith) in let r = length-drop read piece in omega arith) in
+      let sum : read + 1 + left ≡ read + suc left = omega arith in
+      (omega arith, ap (λ (k : ℕ). output (take k piece)) sum ∙ s.suffices (suc left) (omega arith) (omega arith) (ap (λ (xs : List ℕ). output (take (suc left) xs)) cons ∙ front-inside code (drop (read + 1) piece) left few within ∙ ap (λ (xs : List ℕ). take left (output xs)) (sym cons)))
+
+  -- or another part follows
+  module _ (pos : 0 < code) (far : code ≤ left) where
+    pub front-follows : code < length piece - read
+    front-follows = elim (cases_lt code (length piece - read)) [
+      | inl more ↦ more
+      | inr last ↦ absurd (let o = length-output-last piece read s.within (subst (λ (c : ℕ). length piece - read ≤ c) is last) in let e = s.enough in omega arith)
+    ]
+
+    pub front-more-left : (left' : ℕ) → left' + (code - 1 + length (joint_of code)) ≡ left → FrontSought piece n (read + code) left'
+    front-more-left left' sum =
+        let follows = front-follows in
+        let w = s.within in
+        let e = s.enough in
+        let bytes : List ℕ = drop (read + 1) piece in
+        let next : drop (code - 1) bytes ≡ drop (read + code) piece = drop-drop (code - 1) (read + 1) piece ∙ ap (λ (k : ℕ). drop k piece) (omega arith) in
+        let d = length-drop (read + 1) piece in
+        let part : List ℕ = take (code - 1) bytes ++ joint_of code in
+        let long : length part ≡ code - 1 + length (joint_of code) = length-append (take (code - 1) bytes) (joint_of code) ∙ ap (λ (k : ℕ). k + length (joint_of code)) (length-take-le (code - 1) bytes (omega arith)) in
+        let whole : output (drop read piece) ≡ part ++ output (drop (read + code) piece) =
+        ap output cons ∙ output-more code bytes (omega arith) ∙ ap (λ (x : List ℕ). part ++ output x) next in
+        let o = ap length whole ∙ length-append part (output (drop (read + code) piece)) in
+        record {
+          within = omega arith;
+          enough = omega arith;
+          suffices = λ k some within is'. (
+              let dn = length-drop (read + code) piece in
+              let dl = ap length next in
+              let count : read + code + k ≡ read + (code + k) = omega arith in
+              let inner : code + k ≡ suc (code - 1 + k) = omega arith in
+              let front : output (take (code + k) (drop read piece)) ≡ take left (output (drop read piece)) =
+              ap (λ (j : ℕ). output (take j (drop read piece))) inner ∙ ap (λ (xs : List ℕ). output (take (suc (code - 1 + k)) xs)) cons
+              ∙ front-more code bytes k (omega arith) some (omega arith)
+              ∙ ap (λ (xs : List ℕ). part ++ output (take k xs)) next ∙ ap (λ (xs : List ℕ). part ++ xs) is'
+              ∙ sym (take-past part (output (drop (read + code) piece)) (code - 1 + length (joint_of code)) left' left long (omega arith))
+              ∙ ap (take left) (sym whole) in
+              ap (λ (j : ℕ). output (take j piece)) count ∙ s.suffices (code + k) (omega arith) (omega arith) front
+              );
+        }

@@ -1,0 +1,220 @@
+-- A stretch without zeros behind a block boundary, fed as a whole: its output is written, and the phase is that of its last part.
+use Rattle.std.proofs.Common.{◌≡◌, ◌≢◌, ℕ, zero, suc, ◌+◌, ◌-◌, ◌<◌, ◌≤◌, Bool, true, false, cond, eqb, List, [], ◌∷◌, ◌++◌, length, take, drop, set, refl, sym, ap, ◌∙◌, subst, arith, append_assoc, inl, inr, length-append, length-drop, None, Ok}
+use Rattle.std.proofs.lemmas.List.{append-nil, set-append_right, length-set, length_push, length-take-le, take-append-drop, drop_more, drop_all, drop-drop, take_rest}
+use Rattle.std.proofs.lemmas.List.Elements.{All-head, All-tail, All-drop}
+use Rattle.std.proofs.lemmas.Bool.{ne_eqb, lt-ltb, cases_lt}
+use Rattle.std.specs.List.{All}
+use borrow.Rule.Slice.PartMut.{put_mid}
+use Rattle.std.proofs.Math.Seq.{set-append_seam}
+use Rattle.cobs.specs.Grammar.{HasNoZero, is_full}
+use Rattle.cobs.specs.Piece.{output, last_part, lacks, parts, parts_behind}
+use Rattle.cobs.specs.Decoder.{Phase, Idle, Within, Over}
+use Rattle.cobs.specs.declared.dec.state.DecoderState.{DecoderState}
+use Rattle.cobs.specs.declared.dec.state.DecoderState.TheVariants as states
+use Rattle.cobs.specs.declared.dec.inner.CobsDecoderInner.{CobsDecoderInner}
+use Rattle.cobs.specs.Machine.{left_in, phase_of, phase_of_state, grows, next_phase, next_buffer, next_answer, end_answer, if_over, FedInTurn}
+use Rattle.cobs.proofs.PieceLemmas.{output-one, last_part-one, output-push_more, output-push_next, last_part-push_next, lacks-push_more, is_full-push_more}
+use Rattle.cobs.proofs.PieceCuts.{last_part-more, last_part-last}
+use Rattle.cobs.proofs.PushLemmas.{output-longer}
+use Rattle.cobs.proofs.RunLemmas.{over, over-nil}
+
+-- the bytes are fed in two parts
+pub FedInTurn-append : (xs ys buffer buffer' buffer'' : List ℕ) (phase phase' phase'' : Phase)
+    → FedInTurn buffer phase xs buffer' phase' → FedInTurn buffer' phase' ys buffer'' phase'' → FedInTurn buffer phase (xs ++ ys) buffer'' phase''
+FedInTurn-append [] ys buffer buffer' buffer'' phase phase' phase'' f g =
+    subst (λ (z : List ℕ). FedInTurn z phase ys buffer'' phase'') f.0 (subst (λ (z : Phase). FedInTurn buffer' z ys buffer'' phase'') f.1 g)
+FedInTurn-append (x ∷ xs) ys buffer buffer' buffer'' phase phase' phase'' f g =
+    (f.0, FedInTurn-append xs ys (next_buffer buffer phase x) buffer' buffer'' (next_phase (length buffer) phase x) phase' phase'' f.1 g)
+
+-- an output grows with its piece
+pub output-grows : (q tail : List ℕ) → length (output q) ≤ length (output (q ++ tail))
+output-grows q [] = omega (arith, ap (λ (x : List ℕ). length (output x)) (append-nil q))
+output-grows q (x ∷ tail) = omega (arith, output-longer q x, output-grows (q ++ x ∷ []) tail, ap (λ (z : List ℕ). length (output z)) (append_assoc q (x ∷ []) tail))
+
+-- one more byte behind what was written at a place
+over-push : (base : ℕ) (buffer xs : List ℕ) (x : ℕ) → base + length xs < length buffer → set (over base buffer xs) (base + length xs) x ≡ over base buffer (xs ++ x ∷ [])
+over-push base buffer xs x room =
+    let front : length (take base buffer) ≡ base = length-take-le base buffer (omega arith) in
+    let one : length (xs ++ x ∷ []) ≡ length xs + 1 = length_push xs x in
+    set-append_right (take base buffer) (xs ++ drop (base + length xs) buffer) base (base + length xs) x front (omega arith)
+    ∙ ap (λ (k : ℕ). take base buffer ++ set (xs ++ drop (base + length xs) buffer) k x) (omega arith)
+    ∙ ap (λ (l : List ℕ). take base buffer ++ set (xs ++ l) (length xs) x) (drop_more buffer (base + length xs) 0 room)
+    ∙ ap (λ (l : List ℕ). take base buffer ++ l) (set-append_seam xs _ (drop (base + length xs + 1) buffer) x
+    ∙ sym (append_assoc xs (x ∷ []) (drop (base + length xs + 1) buffer))
+    ∙ ap (λ (k : ℕ). (xs ++ x ∷ []) ++ drop k buffer) (omega arith))
+
+length-over : (base : ℕ) (buffer xs : List ℕ) → base + length xs ≤ length buffer → length (over base buffer xs) ≡ length buffer
+length-over base buffer xs room = omega (arith, length-append (take base buffer) (xs ++ drop (base + length xs) buffer), length-append xs (drop (base + length xs) buffer), length-take-le base buffer (omega arith), length-drop (base + length xs) buffer)
+
+-- the phase behind the front q of a stretch whose output begins at base
+abbrev pub phase_at : ℕ → List ℕ → Phase
+phase_at base q = Within (is_full (last_part q)) (lacks (last_part q)) (base + length (output q))
+
+-- a byte behind a front of the stretch
+record Steps (base : ℕ) (buffer : List ℕ) (phase : Phase) (before q' : List ℕ) (x : ℕ) : Type 0 where
+  answer : next_answer (length buffer) phase x ≡ Ok None
+  phase_is : next_phase (length buffer) phase x ≡ phase_at base q'
+  buffer_is : next_buffer (over base buffer before) phase x ≡ over base buffer (output q')
+
+nonzero : (b : ℕ) → b ≢ 0 → eqb b 0 ≡ false
+nonzero b h = ne_eqb b 0 h
+
+answer_if : (n : ℕ) (phase phase' : Phase) (x : ℕ) → x ≢ 0 → next_phase n phase x ≡ phase' → if_over phase' ≡ Ok None → next_answer n phase x ≡ Ok None
+answer_if n phase phase' x nz e o = ap (λ (v : Bool). cond v (end_answer n phase) (if_over (next_phase n phase x))) (nonzero x nz) ∙ ap if_over e ∙ o
+
+grown_phase : (n : ℕ) (full : Bool) (left count : ℕ) → count < n → grows n full left count ≡ Within full left (count + 1)
+grown_phase n full left count room = ap (λ (v : Bool). cond v (Within full left (count + 1)) Over) (lt-ltb count n room)
+
+pub within_same : (full full' : Bool) (left left' count count' : ℕ) → full ≡ full' → left ≡ left' → count ≡ count' → Within full left count ≡ Within full' left' count'
+within_same full full' left left' count count' f l c = ap (λ (v : Bool). Within v left count) f ∙ ap (λ (k : ℕ). Within full' k count) l ∙ ap (λ (k : ℕ). Within full' left' k) c
+
+step_at : (base : ℕ) (buffer : List ℕ) (c : ℕ) (q : List ℕ) (x : ℕ) (full : Bool) (left : ℕ) → is_full (last_part (c ∷ q)) ≡ full → lacks (last_part (c ∷ q)) ≡ left → x ≢ 0
+    → base + length (output (c ∷ q ++ x ∷ [])) ≤ length buffer → Steps base buffer (Within full left (base + length (output (c ∷ q)))) (output (c ∷ q)) (c ∷ q ++ x ∷ []) x
+step_at base buffer c q x full (suc left) f l nz room =
+    let n : ℕ = length buffer in
+    let count : ℕ = base + length (output (c ∷ q)) in
+    let out : output (c ∷ q ++ x ∷ []) ≡ output (c ∷ q) ++ x ∷ [] = output-push_more (c ∷ q) x (omega arith) in
+    let long : length (output (c ∷ q ++ x ∷ [])) ≡ length (output (c ∷ q)) + 1 = ap length out ∙ length_push (output (c ∷ q)) x in
+    let is : next_phase n (Within full (suc left) count) x ≡ phase_at base (c ∷ q ++ x ∷ []) =
+    ap (λ (v : Bool). cond v Idle (grows n full left count)) (nonzero x nz) ∙ grown_phase n full left count (omega arith)
+    ∙ within_same _ _ _ _ _ _ (sym (is_full-push_more (c ∷ q) x (omega arith) ∙ f)) (omega (arith, lacks-push_more (c ∷ q) x (omega arith))) (omega arith) in
+    record {
+      answer = answer_if n (Within full (suc left) count) _ x nz is refl;
+      phase_is = is;
+      buffer_is = ap (λ (v : Bool). cond v (over base buffer (output (c ∷ q))) (set (over base buffer (output (c ∷ q))) count x)) (nonzero x nz)
+          ∙ over-push base buffer (output (c ∷ q)) x (omega arith) ∙ ap (over base buffer) (sym out);
+    }
+step_at base buffer c q x true zero f l nz room =
+    let n : ℕ = length buffer in
+    let count : ℕ = base + length (output (c ∷ q)) in
+    let out : output (c ∷ q ++ x ∷ []) ≡ output (c ∷ q) = output-push_next c q x l ∙ ap (λ (v : Bool). output (c ∷ q) ++ cond v [] (0 ∷ [])) f ∙ append-nil (output (c ∷ q)) in
+    let is : next_phase n (Within true zero count) x ≡ phase_at base (c ∷ q ++ x ∷ []) =
+    ap (λ (v : Bool). cond v Idle (Within (eqb x 255) (x - 1) count)) (nonzero x nz)
+    ∙ within_same _ _ _ _ _ _ (sym (ap is_full (last_part-push_next c q x l))) (sym (ap lacks (last_part-push_next c q x l))) (ap (λ (o : List ℕ). base + length o) (sym out)) in
+    record { answer = answer_if n (Within true zero count) _ x nz is refl; phase_is = is; buffer_is = ap (over base buffer) (sym out) }
+step_at base buffer c q x false zero f l nz room =
+    let n : ℕ = length buffer in
+    let count : ℕ = base + length (output (c ∷ q)) in
+    let out : output (c ∷ q ++ x ∷ []) ≡ output (c ∷ q) ++ 0 ∷ [] = output-push_next c q x l ∙ ap (λ (v : Bool). output (c ∷ q) ++ cond v [] (0 ∷ [])) f in
+    let long : length (output (c ∷ q ++ x ∷ [])) ≡ length (output (c ∷ q)) + 1 = ap length out ∙ length_push (output (c ∷ q)) 0 in
+    let is : next_phase n (Within false zero count) x ≡ phase_at base (c ∷ q ++ x ∷ []) =
+    ap (λ (v : Bool). cond v Idle (grows n (eqb x 255) (x - 1) count)) (nonzero x nz) ∙ grown_phase n (eqb x 255) (x - 1) count (omega arith)
+    ∙ within_same _ _ _ _ _ _ (sym (ap is_full (last_part-push_next c q x l))) (sym (ap lacks (last_part-push_next c q x l))) (omega arith) in
+    record {
+      answer = answer_if n (Within false zero count) _ x nz is refl;
+      phase_is = is;
+      buffer_is = ap (λ (v : Bool). cond v (over base buffer (output (c ∷ q))) (set (over base buffer (output (c ∷ q))) count 0)) (nonzero x nz)
+          ∙ over-push base buffer (output (c ∷ q)) 0 (omega arith) ∙ ap (over base buffer) (sym out);
+    }
+
+-- a stretch behind the front of it that was fed
+FedInTurn-on : (base : ℕ) (buffer : List ℕ) (c : ℕ) (q tail : List ℕ) → HasNoZero tail → base + length (output (c ∷ q ++ tail)) ≤ length buffer
+    → FedInTurn (over base buffer (output (c ∷ q))) (phase_at base (c ∷ q)) tail (over base buffer (output (c ∷ q ++ tail))) (phase_at base (c ∷ q ++ tail))
+FedInTurn-on base buffer c q [] h room = (ap (λ (z : List ℕ). over base buffer (output z)) (append-nil (c ∷ q)), ap (phase_at base) (append-nil (c ∷ q)))
+FedInTurn-on base buffer c q (x ∷ tail) h room =
+    let same : (c ∷ q ++ x ∷ []) ++ tail ≡ c ∷ q ++ x ∷ tail = append_assoc (c ∷ q) (x ∷ []) tail in
+    let long : length (over base buffer (output (c ∷ q))) ≡ length buffer = length-over base buffer (output (c ∷ q)) (omega (arith, output-grows (c ∷ q) (x ∷ tail))) in
+    let fits : base + length (output ((c ∷ q ++ x ∷ []) ++ tail)) ≤ length buffer = omega (arith, ap (λ (z : List ℕ). length (output z)) same) in
+    let s : Steps base buffer (phase_at base (c ∷ q)) (output (c ∷ q)) (c ∷ q ++ x ∷ []) x
+    = step_at base buffer c q x _ _ refl refl (All-head (λ b. b ≢ 0) x tail h) (omega (arith, output-grows (c ∷ q ++ x ∷ []) tail)) in
+    let again : FedInTurn (over base buffer (output (c ∷ q ++ x ∷ []))) (phase_at base (c ∷ q ++ x ∷ [])) tail (over base buffer (output ((c ∷ q ++ x ∷ []) ++ tail))) (phase_at base ((c ∷ q ++ x ∷ []) ++ tail))
+    = FedInTurn-on base buffer c (q ++ x ∷ []) tail (All-tail (λ b. b ≢ 0) x tail h) fits in
+    let to : FedInTurn (over base buffer (output (c ∷ q ++ x ∷ []))) (phase_at base (c ∷ q ++ x ∷ [])) tail (over base buffer (output (c ∷ q ++ x ∷ tail))) (phase_at base (c ∷ q ++ x ∷ tail))
+    = subst (λ (z : List ℕ). FedInTurn (over base buffer (output (c ∷ q ++ x ∷ []))) (phase_at base (c ∷ q ++ x ∷ [])) tail (over base buffer (output z)) (phase_at base z)) same again in (
+      ap (λ (n : ℕ). next_answer n (phase_at base (c ∷ q)) x) long ∙ s.answer,
+      subst (λ (z : List ℕ). FedInTurn z (next_phase (length (over base buffer (output (c ∷ q)))) (phase_at base (c ∷ q)) x) tail (over base buffer (output (c ∷ q ++ x ∷ tail))) (phase_at base (c ∷ q ++ x ∷ tail))) (sym s.buffer_is)
+          (subst (λ (z : Phase). FedInTurn (over base buffer (output (c ∷ q ++ x ∷ []))) z tail (over base buffer (output (c ∷ q ++ x ∷ tail))) (phase_at base (c ∷ q ++ x ∷ tail)))
+          (sym (ap (λ (n : ℕ). next_phase n (phase_at base (c ∷ q)) x) long ∙ s.phase_is)) to),
+    )
+
+-- where the output of a stretch begins that stands behind a block boundary
+abbrev pub base_of : DecoderState → ℕ → ℕ
+base_of states.Idle count = 0
+base_of (states.Grab left) count = count + 1
+base_of (states.GrabChain left) count = count
+
+-- the buffer with the zero that joins the stretch to the block before it
+abbrev pub joined : DecoderState → ℕ → List ℕ → List ℕ
+joined states.Idle count buffer = buffer
+joined (states.Grab left) count buffer = set buffer count 0
+joined (states.GrabChain left) count buffer = buffer
+
+over-start : (base c : ℕ) (buffer : List ℕ) → over base buffer (output (c ∷ [])) ≡ buffer
+over-start base c buffer = ap (over base buffer) (output-one c) ∙ over-nil base buffer
+
+phase-start : (base c : ℕ) → phase_at base (c ∷ []) ≡ Within (eqb c 255) (c - 1) base
+phase-start base c = within_same _ _ _ _ _ _ (ap is_full (last_part-one c)) (ap lacks (last_part-one c)) (omega (arith, ap length (output-one c)))
+
+-- the code at a boundary, and the bytes behind it
+first_fed : (base : ℕ) (buffer buffer₁ : List ℕ) (phase : Phase) (c : ℕ) (q : List ℕ) → HasNoZero (c ∷ q) → length buffer₁ ≡ length buffer → base + length (output (c ∷ q)) ≤ length buffer
+    → next_phase (length buffer) phase c ≡ Within (eqb c 255) (c - 1) base → next_buffer buffer phase c ≡ buffer₁
+    → FedInTurn buffer phase (c ∷ q) (over base buffer₁ (output (c ∷ q))) (phase_at base (c ∷ q))
+first_fed base buffer buffer₁ phase c q h same room phase_is buffer_is =
+    let on : FedInTurn (over base buffer₁ (output (c ∷ []))) (phase_at base (c ∷ [])) q (over base buffer₁ (output (c ∷ q))) (phase_at base (c ∷ q))
+    = FedInTurn-on base buffer₁ c [] q (All-tail (λ b. b ≢ 0) c q h) (omega arith) in (
+      answer_if (length buffer) phase _ c (All-head (λ b. b ≢ 0) c q h) phase_is refl,
+      subst (λ (z : List ℕ). FedInTurn z (next_phase (length buffer) phase c) q (over base buffer₁ (output (c ∷ q))) (phase_at base (c ∷ q))) (over-start base c buffer₁ ∙ sym buffer_is)
+          (subst (λ (z : Phase). FedInTurn (over base buffer₁ (output (c ∷ []))) z q (over base buffer₁ (output (c ∷ q))) (phase_at base (c ∷ q))) (phase-start base c ∙ sym phase_is) on),
+    )
+
+-- THE BULK LEMMA: a stretch behind a block boundary is fed by writing its output
+pub FedInTurn-blocks : (state : DecoderState) (count : ℕ) (buffer : List ℕ) (c : ℕ) (q : List ℕ) → left_in state ≡ 0 → HasNoZero (c ∷ q)
+    → base_of state count + length (output (c ∷ q)) ≤ length buffer
+    → FedInTurn buffer (phase_of_state state count) (c ∷ q) (over (base_of state count) (joined state count buffer) (output (c ∷ q))) (phase_at (base_of state count) (c ∷ q))
+FedInTurn-blocks states.Idle count buffer c q l h room =
+    first_fed 0 buffer buffer Idle c q h refl room (ap (λ (v : Bool). cond v Idle (Within (eqb c 255) (c - 1) 0)) (nonzero c (All-head (λ b. b ≢ 0) c q h))) refl
+FedInTurn-blocks (states.Grab zero) count buffer c q l h room =
+    let nz : eqb c 0 ≡ false = nonzero c (All-head (λ b. b ≢ 0) c q h) in
+    first_fed (count + 1) buffer (set buffer count 0) (Within false 0 count) c q h (length-set buffer count 0) room
+    (ap (λ (v : Bool). cond v Idle (grows (length buffer) (eqb c 255) (c - 1) count)) nz ∙ grown_phase (length buffer) (eqb c 255) (c - 1) count (omega arith))
+    (ap (λ (v : Bool). cond v buffer (set buffer count 0)) nz)
+FedInTurn-blocks (states.Grab (suc left)) count buffer c q l h room = absurd (omega arith)
+FedInTurn-blocks (states.GrabChain zero) count buffer c q l h room =
+    first_fed count buffer buffer (Within true 0 count) c q h refl room (ap (λ (v : Bool). cond v Idle (Within (eqb c 255) (c - 1) count)) (nonzero c (All-head (λ b. b ≢ 0) c q h))) refl
+FedInTurn-blocks (states.GrabChain (suc left)) count buffer c q l h room = absurd (omega arith)
+
+-- THE RUN OF A DECODER
+
+put_over : (at written : ℕ) (dest ys out : List ℕ) → at + length out ≤ length dest → written ≡ length out → take written ys ≡ out → drop written ys ≡ drop written (take (length dest - at) (drop at dest))
+    → put_mid at (length dest - at) dest ys ≡ over at dest out
+put_over at written dest ys out room long front rest =
+    let end : drop (length dest - at) (drop at dest) ≡ [] = drop_all (length dest - at) (drop at dest) (omega (arith, length-drop at dest)) in
+    let whole : ys ≡ out ++ drop (at + length out) dest =
+    sym (take-append-drop written ys) ∙ ap (λ (l : List ℕ). l ++ drop written ys) front
+    ∙ ap (λ (l : List ℕ). out ++ l) (rest ∙ ap (drop written) (take_rest dest at) ∙ drop-drop written at dest ∙ ap (λ (k : ℕ). drop k dest) (omega arith)) in
+    ap (λ (l : List ℕ). take at dest ++ (ys ++ l)) end ∙ ap (λ (l : List ℕ). take at dest ++ l) (append-nil ys ∙ whole)
+
+some_fed : (state : DecoderState) (count : ℕ) (buffer piece : List ℕ) → left_in state ≡ 0 → HasNoZero piece → 0 < length piece
+    → base_of state count + length (output piece) ≤ length buffer
+    → FedInTurn buffer (phase_of_state state count) piece (over (base_of state count) (joined state count buffer) (output piece)) (phase_at (base_of state count) piece)
+some_fed state count buffer [] l h some room = absurd (omega arith)
+some_fed state count buffer (c ∷ q) l h some room = FedInTurn-blocks state count buffer c q l h room
+
+pub blocks_fed : (inner : CobsDecoderInner) (next : DecoderState) (dest dest₁ piece ys : List ℕ) (at written : ℕ) → inner.over ≡ false → left_in inner.state ≡ 0
+    → HasNoZero piece → 0 < length piece → at ≡ base_of inner.state inner.dest_idx → dest₁ ≡ joined inner.state inner.dest_idx dest → length dest₁ ≡ length dest → at + length (output piece) ≤ length dest
+    → written ≡ length (output piece) → take written ys ≡ output piece → drop written ys ≡ drop written (take (length dest₁ - at) (drop at dest₁))
+    → phase_of_state next (at + written) ≡ phase_at at piece
+    → FedInTurn dest (phase_of inner) piece (put_mid at (length dest₁ - at) dest₁ ys) (phase_of (record { dest_idx = at + written; state = next; over = inner.over }))
+blocks_fed inner next dest dest₁ piece ys at written going boundary nz some at-is dest-is same room long front rest next-is =
+    let fed : FedInTurn dest (phase_of_state inner.state inner.dest_idx) piece (over (base_of inner.state inner.dest_idx) (joined inner.state inner.dest_idx dest) (output piece)) (phase_at (base_of inner.state inner.dest_idx) piece)
+    = some_fed inner.state inner.dest_idx dest piece boundary nz some (omega arith) in
+    let buffer_is : over (base_of inner.state inner.dest_idx) (joined inner.state inner.dest_idx dest) (output piece) ≡ put_mid at (length dest₁ - at) dest₁ ys
+    = ap (λ (k : ℕ). over k (joined inner.state inner.dest_idx dest) (output piece)) (sym at-is) ∙ ap (λ (l : List ℕ). over at l (output piece)) (sym dest-is)
+    ∙ sym (put_over at written dest₁ ys (output piece) (omega arith) long front rest) in
+    let phase_is : phase_at (base_of inner.state inner.dest_idx) piece ≡ phase_of_state next (at + written) = ap (λ (k : ℕ). phase_at k piece) (sym at-is) ∙ sym next-is in
+    subst (λ (v : Bool). FedInTurn dest (cond v Over (phase_of_state inner.state inner.dest_idx)) piece (put_mid at (length dest₁ - at) dest₁ ys) (cond v Over (phase_of_state next (at + written)))) (sym going)
+    (subst (λ (z : Phase). FedInTurn dest (phase_of_state inner.state inner.dest_idx) piece (put_mid at (length dest₁ - at) dest₁ ys) z) phase_is
+    (subst (λ (z : List ℕ). FedInTurn dest (phase_of_state inner.state inner.dest_idx) piece z (phase_at (base_of inner.state inner.dest_idx) piece)) buffer_is fed))
+
+-- a part of a piece of bytes lacks less than 256 bytes
+lacks_by : (n : ℕ) (p : List ℕ) → length p ≤ n → All (λ b. b < 256) p → lacks (last_part p) < 256
+unfolding last_part parts parts_behind
+lacks_by n [] h small = omega arith
+lacks_by zero (code ∷ bytes) h small = absurd (omega arith)
+lacks_by (suc n) (code ∷ bytes) h small = elim (cases_lt (code - 1) (length bytes)) [
+  | inl more ↦ rw (last_part-more code bytes more) (lacks_by n (drop (code - 1) bytes) (omega (arith, length-drop (code - 1) bytes)) (All-drop (λ b. b < 256) (code - 1) bytes (All-tail (λ b. b < 256) code bytes small)))
+  | inr short ↦ rw (last_part-last code bytes short) (omega (arith, All-head (λ b. b < 256) code bytes small))
+]
+
+pub lacks_small : (p : List ℕ) → All (λ b. b < 256) p → lacks (last_part p) < 256
+lacks_small p small = lacks_by (length p) p (omega arith) small

@@ -1,0 +1,187 @@
+use Rattle.std.proofs.Common.{◌≡◌, ◌<◌, ◌≤◌, ◌+◌, ◌-◌, ◌++◌, ℕ, List, true, false, length, take, drop, refl, sym, ◌∙◌, subst, arith}
+use Rattle.std.proofs.lemmas.Bool.{eqb-false}
+use Rattle.std.proofs.lemmas.List.{length-set}
+use Rattle.cobs.specs.Encoder.{CobsEncoderAfter}
+use Rattle.cobs.proofs.ReachLemmas.{Reaches, Reaches-full}
+use Rattle.cobs.proofs.MarkLemmas.{WindowTaken, WindowTaken-at, copied-reaches, filled, marks-start, marks-step, marks-end, ones-room, ones-taken, place-le, place-lt, bit-le}
+use Rattle.cobs.proofs.CoreLemmas.{end_with, core-start, full-after, full-end, full-rest, open-after, open-rest, still-open}
+use Rattle.cobs.proofs.enc.blocks.append.Goals.{then-zeros-eq-ALL_ZEROS, else-zeros-eq-ALL_ZEROS+else-by_zero-test}
+use Rattle.cobs.proofs.enc.blocks.append.Goals as goal
+
+pub by_window-init : goal.by_window-init
+by_window-init c =
+    let p = c.progress.inside in
+    let bounds = c.progress.invariant in
+    record {
+      more = (let n = eqb-false (length c.args.source.now) 0 (sym c.is_empty.ensures ∙ c.if-is_empty.false) in omega arith);
+      open' = bounds.1;
+      reaches = core-start c.args.source.now c.args.dest.now c.args.progress p.index p.next p.full c.progress.view_is bounds.0 bounds.1;
+    }
+
+pub returns-then-read-source-clause-after : goal.returns-then-read-source-clause-after
+returns-then-read-source-clause-after c =
+    let H : List ℕ → Type 0 = CobsEncoderAfter c.args.dest.now c.args.progress in
+    let end : ℕ = end_with c.args.progress c.args.source.now in
+    let fits : end ≤ length c.by_window.dest = omega arith in
+    let inside : c.by_window.read + c.min-len.result ≤ length c.args.source.now = omega arith in
+    let few : c.min-len.result ≤ 32 = omega arith in
+    let lacking : ℕ = c.by_window.index + 255 - c.by_window.next in
+    let short = c.by_window.invariant.open' in
+    let sum : c.by_window.next + lacking ≡ c.by_window.index + 255 = omega arith in
+    let joined = filled H c.args.source.now c.args.dest.now c.by_window.dest c.copy_window-zeros.new.dest end c.by_window.read c.min-len.result c.by_window.index c.by_window.next c.copy_window-zeros.result c.by_window.invariant.reaches fits inside few c.copy_window-zeros.ensures.copied c.copy_window-zeros.ensures.zeros lacking refl (omega arith) in
+    let r = subst (λ (n : ℕ). Reaches H c.args.source.now c.args.dest.now c.copy_window-zeros.new.dest end (c.by_window.read + lacking) c.by_window.index n (λ _. Unit {0})) sum joined in
+    let room : end ≤ length c.copy_window-zeros.new.dest = omega arith in
+    full-after H c.args.source.now c.args.dest.now c.copy_window-zeros.new.dest end (c.by_window.read + lacking) c.by_window.index r room (omega arith)
+
+pub returns-then-read-source-clause-rest : goal.returns-then-read-source-clause-rest
+returns-then-read-source-clause-rest c =
+    let H : List ℕ → Type 0 = CobsEncoderAfter c.args.dest.now c.args.progress in
+    let end : ℕ = end_with c.args.progress c.args.source.now in
+    let fits : end ≤ length c.by_window.dest = omega arith in
+    let inside : c.by_window.read + c.min-len.result ≤ length c.args.source.now = omega arith in
+    let few : c.min-len.result ≤ 32 = omega arith in
+    let lacking : ℕ = c.by_window.index + 255 - c.by_window.next in
+    let short = c.by_window.invariant.open' in
+    let sum : c.by_window.next + lacking ≡ c.by_window.index + 255 = omega arith in
+    let joined = filled H c.args.source.now c.args.dest.now c.by_window.dest c.copy_window-zeros.new.dest end c.by_window.read c.min-len.result c.by_window.index c.by_window.next c.copy_window-zeros.result c.by_window.invariant.reaches fits inside few c.copy_window-zeros.ensures.copied c.copy_window-zeros.ensures.zeros lacking refl (omega arith) in
+    let r = subst (λ (n : ℕ). Reaches H c.args.source.now c.args.dest.now c.copy_window-zeros.new.dest end (c.by_window.read + lacking) c.by_window.index n (λ _. Unit {0})) sum joined in
+    let room : end ≤ length c.copy_window-zeros.new.dest = omega arith in
+    full-rest H c.args.source.now c.args.dest.now c.copy_window-zeros.new.dest end (c.by_window.read + lacking) c.by_window.index r room (omega arith)
+
+pub by_window-preserved-else-read-source : goal.by_window-preserved-else-read-source
+by_window-preserved-else-read-source c =
+    let H : List ℕ → Type 0 = CobsEncoderAfter c.args.dest.now c.args.progress in
+    let end : ℕ = end_with c.args.progress c.args.source.now in
+    let fits : end ≤ length c.by_window.dest = omega arith in
+    let inside : c.by_window.read + c.min-len.result ≤ length c.args.source.now = omega arith in
+    let few : c.min-len.result ≤ 32 = omega arith in
+    let lacking : ℕ = c.by_window.index + 255 - c.by_window.next in
+    let short = c.by_window.invariant.open' in
+    let sum : c.by_window.next + lacking ≡ c.by_window.index + 255 = omega arith in
+    let joined = filled H c.args.source.now c.args.dest.now c.by_window.dest c.copy_window-zeros.new.dest end c.by_window.read c.min-len.result c.by_window.index c.by_window.next c.copy_window-zeros.result c.by_window.invariant.reaches fits inside few c.copy_window-zeros.ensures.copied c.copy_window-zeros.ensures.zeros lacking refl (omega arith) in
+    let r = subst (λ (n : ℕ). Reaches H c.args.source.now c.args.dest.now c.copy_window-zeros.new.dest end (c.by_window.read + lacking) c.by_window.index n (λ _. Unit {0})) sum joined in
+    let room : end ≤ length c.copy_window-zeros.new.dest = omega arith in
+    record {
+      more = omega arith;
+      open' = omega arith;
+      reaches = Reaches-full H c.args.source.now c.args.dest.now c.copy_window-zeros.new.dest end (c.by_window.read + lacking) c.by_window.index (c.by_window.index + 255) (λ _. Unit {0}) (λ _. Unit {0}) (omega arith) refl room tt r;
+    }
+
+pub write_ones-requires : goal.write_ones-requires
+write_ones-requires c =
+    let H : List ℕ → Type 0 = CobsEncoderAfter c.args.dest.now c.args.progress in
+    let end : ℕ = end_with c.args.progress c.args.source.now in
+    let fits : end ≤ length c.by_window.dest = omega arith in
+    let inside : c.by_window.read + c.min-len.result ≤ length c.args.source.now = omega arith in
+    let few : c.min-len.result ≤ 32 = omega arith in
+    let r = copied-reaches H c.args.source.now c.args.dest.now c.by_window.dest c.copy_window-zeros.new.dest end c.by_window.read c.min-len.result c.by_window.index c.by_window.next c.copy_window-zeros.result c.by_window.invariant.reaches fits inside few c.copy_window-zeros.ensures.copied c.copy_window-zeros.ensures.zeros in
+    let room : end ≤ length c.copy_window-zeros.new.dest = omega arith in
+    let l = ones-room H c.args.source.now c.args.dest.now c.copy_window-zeros.new.dest end c.by_window.read c.min-len.result c.by_window.index c.by_window.next c.copy_window-zeros.result r room inside few c.copy_window-zeros.ensures.zeros c.if-zeros-eq-ALL_ZEROS.true in
+    let n = length-set c.copy_window-zeros.new.dest c.by_window.index (c.by_window.next - c.by_window.index) in
+    omega arith
+
+pub by_zero-init : goal.by_zero-init
+by_zero-init c =
+    let H : List ℕ → Type 0 = CobsEncoderAfter c.args.dest.now c.args.progress in
+    let end : ℕ = end_with c.args.progress c.args.source.now in
+    let fits : end ≤ length c.by_window.dest = omega arith in
+    let inside : c.by_window.read + c.min-len.result ≤ length c.args.source.now = omega arith in
+    let few : c.min-len.result ≤ 32 = omega arith in
+    marks-start H c.args.source.now c.args.dest.now c.by_window.dest c.copy_window-zeros.new.dest end c.by_window.read c.min-len.result c.by_window.index c.by_window.next c.copy_window-zeros.result c.by_window.invariant.reaches fits inside few c.copy_window-zeros.ensures.copied c.copy_window-zeros.ensures.zeros (omega arith) (omega arith)
+
+pub overflow_sub-dest-in-by_zero : goal.overflow_sub-dest-in-by_zero
+overflow_sub-dest-in-by_zero c =
+    let H : List ℕ → Type 0 = CobsEncoderAfter c.args.dest.now c.args.progress in
+    let end : ℕ = end_with c.args.progress c.args.source.now in
+    place-le H c.args.source.now c.args.dest.now c.by_zero.dest end c.by_window.read c.min-len.result c.by_zero.index c.by_window.next c.by_zero.zeros (c.by_zero.index + 1 - c.by_window.next) c.by_zero.invariant c.by_zero-test.true
+
+pub overflow_cast-dest-in-by_zero-2 : goal.overflow_cast-dest-in-by_zero-2
+overflow_cast-dest-in-by_zero-2 c =
+    let H : List ℕ → Type 0 = CobsEncoderAfter c.args.dest.now c.args.progress in
+    let end : ℕ = end_with c.args.progress c.args.source.now in
+    let lt = place-lt H c.args.source.now c.args.dest.now c.by_zero.dest end c.by_window.read c.min-len.result c.by_zero.index c.by_window.next c.by_zero.zeros (c.by_zero.index + 1 - c.by_window.next) c.by_zero.invariant c.by_zero-test.true in
+    omega arith
+
+pub overflow_sub-zeros : goal.overflow_sub-zeros
+overflow_sub-zeros c =
+    let H : List ℕ → Type 0 = CobsEncoderAfter c.args.dest.now c.args.progress in
+    let end : ℕ = end_with c.args.progress c.args.source.now in
+    bit-le H c.args.source.now c.args.dest.now c.by_zero.dest end c.by_window.read c.min-len.result c.by_zero.index c.by_window.next c.by_zero.zeros (c.by_zero.index + 1 - c.by_window.next) c.by_zero.invariant c.by_zero-test.true
+
+pub by_zero-preserved : goal.by_zero-preserved
+by_zero-preserved c =
+    let H : List ℕ → Type 0 = CobsEncoderAfter c.args.dest.now c.args.progress in
+    let end : ℕ = end_with c.args.progress c.args.source.now in
+    marks-step H c.args.source.now c.args.dest.now c.by_zero.dest end c.by_window.read c.min-len.result c.by_zero.index c.by_window.next c.by_zero.zeros (c.by_zero.index + 1 - c.by_window.next) c.by_zero.invariant c.by_zero-test.true (omega arith)
+
+pub invariant_of-result-then-read-source-2 : goal.invariant_of-result-then-read-source-2
+invariant_of-result-then-read-source-2 c =
+    let H : List ℕ → Type 0 = CobsEncoderAfter c.args.dest.now c.args.progress in
+    let end : ℕ = end_with c.args.progress c.args.source.now in
+    let fits : end ≤ length c.by_window.dest = omega arith in
+    let inside : c.by_window.read + c.min-len.result ≤ length c.args.source.now = omega arith in
+    let few : c.min-len.result ≤ 32 = omega arith in
+    let r = copied-reaches H c.args.source.now c.args.dest.now c.by_window.dest c.copy_window-zeros.new.dest end c.by_window.read c.min-len.result c.by_window.index c.by_window.next c.copy_window-zeros.result c.by_window.invariant.reaches fits inside few c.copy_window-zeros.ensures.copied c.copy_window-zeros.ensures.zeros in
+    let room : end ≤ length c.copy_window-zeros.new.dest = omega arith in
+    let taken : WindowTaken H c.args.source.now c.args.dest.now c.if-zeros-eq-ALL_ZEROS.dest end c.by_window.read c.min-len.result c.if-zeros-eq-ALL_ZEROS.index c.by_window.next = elim c.if-zeros-eq-ALL_ZEROS.branch [
+      | then-zeros-eq-ALL_ZEROS w ↦ WindowTaken-at _ _ _ _ _ _ _ _ _ _ _ (sym w.dest-is) (sym w.index-is)
+          (ones-taken H c.args.source.now c.args.dest.now c.copy_window-zeros.new.dest end c.by_window.read c.min-len.result c.by_window.index c.by_window.next c.copy_window-zeros.result r room inside few c.copy_window-zeros.ensures.zeros w.if-zeros-eq-ALL_ZEROS.true w.write_ones.new.dest c.by_window.invariant.open' w.write_ones.ensures)
+      | else-zeros-eq-ALL_ZEROS+else-by_zero-test w ↦ WindowTaken-at _ _ _ _ _ _ _ _ _ _ _ (sym w.dest-is) (sym w.index-is)
+          (marks-end _ _ _ _ _ _ _ _ _ _ _ w.by_zero.invariant w.by_zero-test.false (omega arith))
+    ] in
+    (taken.ordered, taken.open')
+
+pub returns-then-read-source-2-clause-after : goal.returns-then-read-source-2-clause-after
+returns-then-read-source-2-clause-after c =
+    let H : List ℕ → Type 0 = CobsEncoderAfter c.args.dest.now c.args.progress in
+    let end : ℕ = end_with c.args.progress c.args.source.now in
+    let fits : end ≤ length c.by_window.dest = omega arith in
+    let inside : c.by_window.read + c.min-len.result ≤ length c.args.source.now = omega arith in
+    let few : c.min-len.result ≤ 32 = omega arith in
+    let r = copied-reaches H c.args.source.now c.args.dest.now c.by_window.dest c.copy_window-zeros.new.dest end c.by_window.read c.min-len.result c.by_window.index c.by_window.next c.copy_window-zeros.result c.by_window.invariant.reaches fits inside few c.copy_window-zeros.ensures.copied c.copy_window-zeros.ensures.zeros in
+    let room : end ≤ length c.copy_window-zeros.new.dest = omega arith in
+    let taken : WindowTaken H c.args.source.now c.args.dest.now c.if-zeros-eq-ALL_ZEROS.dest end c.by_window.read c.min-len.result c.if-zeros-eq-ALL_ZEROS.index c.by_window.next = elim c.if-zeros-eq-ALL_ZEROS.branch [
+      | then-zeros-eq-ALL_ZEROS w ↦ WindowTaken-at _ _ _ _ _ _ _ _ _ _ _ (sym w.dest-is) (sym w.index-is)
+          (ones-taken H c.args.source.now c.args.dest.now c.copy_window-zeros.new.dest end c.by_window.read c.min-len.result c.by_window.index c.by_window.next c.copy_window-zeros.result r room inside few c.copy_window-zeros.ensures.zeros w.if-zeros-eq-ALL_ZEROS.true w.write_ones.new.dest c.by_window.invariant.open' w.write_ones.ensures)
+      | else-zeros-eq-ALL_ZEROS+else-by_zero-test w ↦ WindowTaken-at _ _ _ _ _ _ _ _ _ _ _ (sym w.dest-is) (sym w.index-is)
+          (marks-end _ _ _ _ _ _ _ _ _ _ _ w.by_zero.invariant w.by_zero-test.false (omega arith))
+    ] in
+    open-after H c.args.source.now c.args.dest.now c.if-zeros-eq-ALL_ZEROS.dest end c.by_window.read c.min-len.result c.if-zeros-eq-ALL_ZEROS.index c.by_window.next taken (omega arith) (omega arith)
+
+pub returns-then-read-source-2-clause-rest : goal.returns-then-read-source-2-clause-rest
+returns-then-read-source-2-clause-rest c =
+    let H : List ℕ → Type 0 = CobsEncoderAfter c.args.dest.now c.args.progress in
+    let end : ℕ = end_with c.args.progress c.args.source.now in
+    let fits : end ≤ length c.by_window.dest = omega arith in
+    let inside : c.by_window.read + c.min-len.result ≤ length c.args.source.now = omega arith in
+    let few : c.min-len.result ≤ 32 = omega arith in
+    let r = copied-reaches H c.args.source.now c.args.dest.now c.by_window.dest c.copy_window-zeros.new.dest end c.by_window.read c.min-len.result c.by_window.index c.by_window.next c.copy_window-zeros.result c.by_window.invariant.reaches fits inside few c.copy_window-zeros.ensures.copied c.copy_window-zeros.ensures.zeros in
+    let room : end ≤ length c.copy_window-zeros.new.dest = omega arith in
+    let taken : WindowTaken H c.args.source.now c.args.dest.now c.if-zeros-eq-ALL_ZEROS.dest end c.by_window.read c.min-len.result c.if-zeros-eq-ALL_ZEROS.index c.by_window.next = elim c.if-zeros-eq-ALL_ZEROS.branch [
+      | then-zeros-eq-ALL_ZEROS w ↦ WindowTaken-at _ _ _ _ _ _ _ _ _ _ _ (sym w.dest-is) (sym w.index-is)
+          (ones-taken H c.args.source.now c.args.dest.now c.copy_window-zeros.new.dest end c.by_window.read c.min-len.result c.by_window.index c.by_window.next c.copy_window-zeros.result r room inside few c.copy_window-zeros.ensures.zeros w.if-zeros-eq-ALL_ZEROS.true w.write_ones.new.dest c.by_window.invariant.open' w.write_ones.ensures)
+      | else-zeros-eq-ALL_ZEROS+else-by_zero-test w ↦ WindowTaken-at _ _ _ _ _ _ _ _ _ _ _ (sym w.dest-is) (sym w.index-is)
+          (marks-end _ _ _ _ _ _ _ _ _ _ _ w.by_zero.invariant w.by_zero-test.false (omega arith))
+    ] in
+    open-rest H c.args.source.now c.args.dest.now c.if-zeros-eq-ALL_ZEROS.dest end c.by_window.read c.min-len.result c.if-zeros-eq-ALL_ZEROS.index c.by_window.next taken (omega arith) (omega arith)
+
+pub by_window-preserved : goal.by_window-preserved
+by_window-preserved c =
+    let H : List ℕ → Type 0 = CobsEncoderAfter c.args.dest.now c.args.progress in
+    let end : ℕ = end_with c.args.progress c.args.source.now in
+    let fits : end ≤ length c.by_window.dest = omega arith in
+    let inside : c.by_window.read + c.min-len.result ≤ length c.args.source.now = omega arith in
+    let few : c.min-len.result ≤ 32 = omega arith in
+    let r = copied-reaches H c.args.source.now c.args.dest.now c.by_window.dest c.copy_window-zeros.new.dest end c.by_window.read c.min-len.result c.by_window.index c.by_window.next c.copy_window-zeros.result c.by_window.invariant.reaches fits inside few c.copy_window-zeros.ensures.copied c.copy_window-zeros.ensures.zeros in
+    let room : end ≤ length c.copy_window-zeros.new.dest = omega arith in
+    let taken : WindowTaken H c.args.source.now c.args.dest.now c.if-zeros-eq-ALL_ZEROS.dest end c.by_window.read c.min-len.result c.if-zeros-eq-ALL_ZEROS.index c.by_window.next = elim c.if-zeros-eq-ALL_ZEROS.branch [
+      | then-zeros-eq-ALL_ZEROS w ↦ WindowTaken-at _ _ _ _ _ _ _ _ _ _ _ (sym w.dest-is) (sym w.index-is)
+          (ones-taken H c.args.source.now c.args.dest.now c.copy_window-zeros.new.dest end c.by_window.read c.min-len.result c.by_window.index c.by_window.next c.copy_window-zeros.result r room inside few c.copy_window-zeros.ensures.zeros w.if-zeros-eq-ALL_ZEROS.true w.write_ones.new.dest c.by_window.invariant.open' w.write_ones.ensures)
+      | else-zeros-eq-ALL_ZEROS+else-by_zero-test w ↦ WindowTaken-at _ _ _ _ _ _ _ _ _ _ _ (sym w.dest-is) (sym w.index-is)
+          (marks-end _ _ _ _ _ _ _ _ _ _ _ w.by_zero.invariant w.by_zero-test.false (omega arith))
+    ] in
+    record {
+      more = omega arith;
+      open' = taken.open';
+      reaches = still-open H c.args.source.now c.args.dest.now c.if-zeros-eq-ALL_ZEROS.dest end c.by_window.read c.min-len.result c.if-zeros-eq-ALL_ZEROS.index c.by_window.next taken (omega arith);
+    }

@@ -1,0 +1,92 @@
+use Rattle.std.proofs.Common.{◌≡◌, ◌<◌, ◌≤◌, ◌==◌, ℕ, Bool, true, false, List, [], ◌∷◌, ◌++◌, if◌then◌else◌, length, take, get_or, set, sym, ap, subst, arith, take_all, append_assoc}
+use Rattle.std.proofs.lemmas.List.{take_more}
+use Rattle.cobs.specs.declared.enc.state.PushResult.{PushResult}
+use Rattle.cobs.specs.declared.enc.state.PushResult.TheVariants.{AddSingle, ModifyFromStartAndSkip, ModifyFromStartAndPushAndSkip}
+use Rattle.cobs.specs.Encoder.{OpenBlock, IsOpenOutput, push_answer, applied}
+use Rattle.cobs.proofs.OpenLemmas.{length-IsOpenOutput, index-IsOpenOutput}
+use Rattle.cobs.proofs.enc.tests.encode_by_state.Goals.{in-AddSingle+in_ok-push-in-AddSingle, in-ModifyFromStartAndSkip+in_ok-push-in-ModifyFromStartAndSkip, in-ModifyFromStartAndPushAndSkip+in_ok-push-in-ModifyFromStartAndPushAndSkip+in_ok-push-in-ModifyFromStartAndPushAndSkip-2}
+use Rattle.cobs.proofs.enc.tests.encode_by_state.Goals as goal
+
+-- the index that an answer names
+abbrev index_of : PushResult → ℕ
+index_of (AddSingle b) = 0
+index_of (ModifyFromStartAndSkip (i, c)) = i
+index_of (ModifyFromStartAndPushAndSkip (i, c, b)) = i
+
+-- it is the open block's
+index_of-push_answer : (state : OpenBlock) (byte : ℕ) → index_of (push_answer state byte) ≤ state.index
+index_of-push_answer state byte = go (byte == 0) (state.code == 254)
+  where
+    go : (zero full : Bool) → index_of (if zero then ModifyFromStartAndSkip (state.index, state.code) else (if full then ModifyFromStartAndPushAndSkip (state.index, 255, byte) else AddSingle byte)) ≤ state.index
+    go true full = omega arith
+    go false true = omega arith
+    go false false = omega arith
+
+within : (g : List ℕ) (state : OpenBlock) (m : List ℕ) (byte : ℕ) (answer : PushResult) → IsOpenOutput g state m → answer ≡ push_answer state byte → index_of answer < length g
+within g state m byte answer o is =
+    let at = index_of-push_answer state byte in
+    let same = ap index_of is in
+    let end = index-IsOpenOutput g state m o in
+    omega arith
+
+pub by_byte-init : goal.by_byte-init
+by_byte-init c = subst (λ (g : List ℕ). IsOpenOutput g c.default-state.result []) (sym c.in_ok-output.ensures.items) (c.default-state.ensures.output 0)
+
+pub push-requires : goal.push-requires
+push-requires c = let len = length-IsOpenOutput _ _ _ c.by_byte.invariant in omega arith
+
+pub index_mut-requires : goal.index_mut-requires
+index_mut-requires c =
+    let h = within _ _ _ _ c.push.result c.by_byte.invariant c.push.ensures.answer in
+    let i = ap index_of c.in-ModifyFromStartAndSkip.is in
+    omega arith
+
+pub index_mut-requires-in-ModifyFromStartAndPushAndSkip : goal.index_mut-requires-in-ModifyFromStartAndPushAndSkip
+index_mut-requires-in-ModifyFromStartAndPushAndSkip c =
+    let h = within _ _ _ _ c.push.result c.by_byte.invariant c.push.ensures.answer in
+    let i = ap index_of c.in-ModifyFromStartAndPushAndSkip.is in
+    omega arith
+
+pub by_byte-preserved : goal.by_byte-preserved
+by_byte-preserved c =
+    let source : List ℕ = c.args.source.now in
+    let i : ℕ = c.by_byte.byte-index in
+    let g : List ℕ = c.by_byte.output.items in
+    let carried = c.push.ensures.carried (take i source) g 0 c.by_byte.invariant in
+    let more = take_more source i 0 (omega arith) in
+    let carry : (answer : PushResult) → c.push.result ≡ answer → applied g c.push.result 0 ≡ applied g answer 0 = λ answer is. ap (λ (r : PushResult). applied g r 0) is in
+    let same : c.match-push.output.items ≡ applied g c.push.result 0 = elim c.match-push.branch [
+      | in-AddSingle+in_ok-push-in-AddSingle w ↦
+          let is = carry _ w.in-AddSingle.is in
+          let items = w.in_ok-push-in-AddSingle.ensures.items in
+          let out = w.output-is in
+          cc
+      | in-ModifyFromStartAndSkip+in_ok-push-in-ModifyFromStartAndSkip w ↦
+          let is = carry _ w.in-ModifyFromStartAndSkip.is in
+          let items = w.in_ok-push-in-ModifyFromStartAndSkip.ensures.items in
+          let out = w.output-is in
+          cc
+      | in-ModifyFromStartAndPushAndSkip+in_ok-push-in-ModifyFromStartAndPushAndSkip+in_ok-push-in-ModifyFromStartAndPushAndSkip-2 w ↦
+          let is = carry _ w.in-ModifyFromStartAndPushAndSkip.is in
+          let last = w.in_ok-push-in-ModifyFromStartAndPushAndSkip.ensures.items in
+          let placeholder = w.in_ok-push-in-ModifyFromStartAndPushAndSkip-2.ensures.items in
+          let out = w.output-is in
+          let join = append_assoc (set g w.in-ModifyFromStartAndPushAndSkip.index w.in-ModifyFromStartAndPushAndSkip.code) (w.in-ModifyFromStartAndPushAndSkip.last ∷ []) (0 ∷ []) in
+          cc
+    ] in
+    subst (λ (l : List ℕ). IsOpenOutput c.match-push.output.items c.push.new.self l) (sym more) (subst (λ (l : List ℕ). IsOpenOutput l c.push.new.self (take i source ++ get_or source i 0 ∷ [])) (sym same) carried)
+
+pub index_mut-requires-2 : goal.index_mut-requires-2
+index_mut-requires-2 c =
+    let end = index-IsOpenOutput _ _ _ c.by_byte.invariant in
+    let i = c.finalize-index.ensures.index in
+    omega arith
+
+pub returns : goal.returns
+returns c =
+    let i = c.finalize-index.result.0 in
+    let code = c.finalize-index.result.1 in
+    let source = c.args.source.now in
+    let done = c.finalize-index.ensures.completed _ _ c.by_byte.invariant in
+    let all : take c.by_byte.byte-index source ≡ source = take_all c.by_byte.byte-index source (omega arith) in
+    (i, code, rw all at done)

@@ -1,0 +1,109 @@
+//! Decoding a frame in the buffer in which it stands.
+ghost use Rattle.std.specs.Prelude.{◌≡◌, ◌≢◌, ◌+◌, ◌++◌, ◌≤◌, length, take, drop, IfErr};
+ghost use Rattle.cobs.specs.Buffer.{overwritten};
+ghost use Rattle.cobs.specs.Decoding.{head_answer, in_place, in_place_answer, in_place_report};
+ghost use Rattle.cobs.specs.Grammar.{HasNoZero};
+ghost use Rattle.cobs.specs.Piece.{kept_output};
+ghost use Rattle.cobs.specs.Sentinel.{xor_each};
+ghost use Rattle.cobs.specs.declared.dec.report.DecodeError.TheVariants.{TargetBufTooSmall};
+
+use crate::dec::piece::piece_len;
+use crate::dec::report::{DecodeError, DecodeReport};
+use crate::enc::xor_bytes;
+
+/// Moves `len` bytes that stand at `from` to the front, to where `to` says.
+fn move_down(buffer: &mut [u8], from: usize, to: usize, len: usize)
+    requires order { to ≤ from }
+    requires within { from + len ≤ length buffer.old }
+    ensures { buffer.new ≡ take to buffer.old ++ take len (drop from buffer.old) ++ drop (to + len) buffer.old }
+{
+    if len < 16 {
+        'by_byte: for i in 0..len {
+            buffer[to + i] = buffer[from + i];
+        }
+    } else {
+        buffer.copy_within(from..from + len, to);
+    }
+}
+
+/// Decodes the blocks in the first `end` bytes of the buffer, and answers how many bytes they give.
+fn decode_blocks(buffer: &mut [u8], end: usize) -> Result<usize, DecodeError>
+    requires within { end ≤ length buffer.old }
+    requires nonzero { HasNoZero (take end buffer.old) }
+    ensures answer { result ≡ head_answer (take end buffer.old) }
+    ensures buffer { buffer.new ≡ overwritten buffer.old (kept_output (take end buffer.old)) }
+{
+    let mut read = 0;
+    let mut written = 0;
+    'by_block: while read < end {
+        let code = buffer[read] as usize;
+        if end - read < code {
+            return Err(DecodeError::InvalidFrame {
+                decoded_bytes: written,
+            });
+        }
+        move_down(buffer, read + 1, written, code - 1);
+        read += code;
+        written += code - 1;
+        if code != 255 && read < end {
+            buffer[written] = 0;
+            written += 1;
+        }
+    }
+    Ok(written)
+}
+
+/// Decodes the frame at the front of the buffer in its own place, up to the first zero or the buffer's end, and answers
+/// how many bytes the frame and the message have.
+///
+/// The first `frame_size` bytes of the buffer are then the message, and every other byte is as it was. `parsed_size`
+/// counts the bytes before the zero or the end; the zero isn't counted. Unlike `decode`, this reads a leading zero as
+/// an empty message, and answers the sizes 0 and 0. `TargetBufTooSmall` never comes, since a message is shorter than
+/// its frame.
+///
+/// # Errors
+///
+/// - `EmptyFrame` where the buffer is empty.
+/// - `InvalidFrame` where the frame breaks off inside a block: the buffer begins with what the whole blocks before it
+///   gave, `decoded_bytes` says how many bytes these are, and every other byte is as it was.
+///
+/// That the bytes behind the decoded ones are kept, refused or not, is a choice of this library.
+pub fn decode_in_place_report(buf: &mut [u8]) -> Result<DecodeReport, DecodeError>
+    ensures answer { result ≡ in_place_report buf.old }
+    ensures buffer { buf.new ≡ in_place buf.old }
+    ensures room { IfErr result (λ error. error ≢ TargetBufTooSmall) }
+{
+    if buf.is_empty() {
+        return Err(DecodeError::EmptyFrame);
+    }
+    let end = piece_len(buf);
+    let frame_size = decode_blocks(buf, end)?;
+    Ok(DecodeReport::new(end, frame_size))
+}
+
+/// Decodes the frame at the front of the buffer in its own place, up to the first zero or the buffer's end, and answers
+/// the message's length.
+///
+/// The message then stands at the front of the buffer, and every byte behind it is as it was. Unlike `decode`, this
+/// reads a leading zero as an empty message. Errors are those of `decode_in_place_report`.
+pub fn decode_in_place(buff: &mut [u8]) -> Result<usize, DecodeError>
+    ensures answer { result ≡ in_place_answer buff.old }
+    ensures buffer { buff.new ≡ in_place buff.old }
+    ensures room { IfErr result (λ error. error ≢ TargetBufTooSmall) }
+{
+    Ok(decode_in_place_report(buff)?.frame_size())
+}
+
+/// Decodes the frame at the front of the buffer in its own place, where the sentinel is another byte than 0.
+///
+/// First every byte of the buffer is changed by exclusive or with the sentinel, those behind the frame too; then it is
+/// decoded as by `decode_in_place`, whose answer and errors these are. So the frame ends at the first sentinel or with
+/// the buffer, and a leading sentinel is read as an empty message.
+pub fn decode_in_place_with_sentinel(buff: &mut [u8], sentinel: u8) -> Result<usize, DecodeError>
+    ensures answer { result ≡ in_place_answer (xor_each sentinel buff.old) }
+    ensures buffer { buff.new ≡ in_place (xor_each sentinel buff.old) }
+    ensures room { IfErr result (λ error. error ≢ TargetBufTooSmall) }
+{
+    xor_bytes(buff, sentinel);
+    decode_in_place(buff)
+}

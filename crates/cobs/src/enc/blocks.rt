@@ -1,0 +1,116 @@
+//! How a message is cut into blocks: the core that every encoder into a slice stands on.
+ghost use Rattle.std.specs.Prelude.{◌≡◌, ◌<◌, ◌≤◌, ◌+◌, ◌++◌, [], ℕ, List, false, length, take, drop};
+ghost use Rattle.cobs.specs.Grammar.{IsEncodedFrame};
+ghost use Rattle.cobs.specs.Encoder.{CobsEncoderAfter, end_of, open_len};
+
+use crate::enc::window::{WINDOW, copy_window, write_ones};
+use std::marker::Model;
+
+/// The code of a full block, which is how many bytes the block has with its code.
+const FULL_CODE: usize = 255;
+
+/// The mask of a window that has no byte but zeros.
+const ALL_ZEROS: u64 = 0xffff_ffff;
+
+/// How far the frame in a slice has come: where the code of its open block belongs, and where the next byte goes. Where
+/// the frame's last block is full, the open block is a placeholder behind it, and not yet part of the frame.
+#[derive(Debug, Drop)]
+pub(crate) struct Progress {
+    index: usize,
+    next: usize,
+    full: bool,
+}
+
+impl Model for Progress {
+    ghost use Rattle.std.specs.Prelude.{◌<◌, ◌+◌, ◌-◌};
+    ghost use Rattle.cobs.specs.Encoder.{Reached};
+
+    ghost Value = { Reached };
+
+    ghost view = { λ p. record { block = record { index = p.index; code = p.next - p.index }; full = p.full } };
+
+    ghost invariant = { λ p. (p.index < p.next) × (p.next < p.index + 255) };
+}
+
+impl Progress {
+    /// The start: one open block without bytes at the front of the slice.
+    pub(crate) fn new() -> Progress
+        ensures { result ≡ record { block = record { index = 0; code = 1 }; full = false } }
+    {
+        Progress {
+            index: 0,
+            next: 1,
+            full: false,
+        }
+    }
+}
+
+/// Takes `source` into the frame that `dest` holds as far as `progress` says. The code of the open block isn't written.
+pub(crate) fn append(source: &[u8], dest: &mut [u8], progress: Progress) -> Progress
+    requires { progress.block.index + open_len progress.block.code source.now ≤ length dest.old }
+    ensures after { (m : List ℕ) → CobsEncoderAfter dest.old progress m → CobsEncoderAfter dest.new result (m ++ source.now) }
+    ensures fits { end_of result ≤ length dest.new }
+    ensures rest { drop (end_of result) dest.new ≡ drop (end_of result) dest.old }
+{
+    if source.is_empty() {
+        return progress;
+    }
+    let mut index = progress.index;
+    let mut next = progress.next;
+    let mut read = 0;
+    'by_window: loop {
+        let len = (source.len() - read).min(WINDOW);
+        let mut zeros = copy_window(source, read, len, dest, next);
+        let lacking = index + FULL_CODE - next;
+        if (zeros.trailing_zeros() as usize).min(len) >= lacking {
+            dest[index] = FULL_CODE as u8;
+            read += lacking;
+            index += FULL_CODE;
+            next = index + 1;
+            if read == source.len() {
+                return Progress {
+                    index,
+                    next,
+                    full: true,
+                };
+            }
+        } else {
+            if zeros == ALL_ZEROS {
+                dest[index] = (next - index) as u8;
+                write_ones(dest, next);
+                index = next + WINDOW - 1;
+            } else {
+                'by_zero: while zeros != 0 {
+                    let first = zeros.trailing_zeros();
+                    dest[index] = (next + first as usize - index) as u8;
+                    index = next + first as usize;
+                    zeros -= 1 << first;
+                }
+            }
+            read += len;
+            next += len;
+            if read == source.len() {
+                return Progress {
+                    index,
+                    next,
+                    full: false,
+                };
+            }
+        }
+    }
+}
+
+/// Writes the code of the open block where that block is part of the frame, and answers where the frame ends.
+pub(crate) fn close(dest: &mut [u8], progress: Progress) -> usize
+    requires { end_of progress ≤ length dest.old }
+    ensures frame { (m : List ℕ) → CobsEncoderAfter dest.old progress m → IsEncodedFrame (take result dest.new) m }
+    ensures end { result ≡ end_of progress }
+    ensures rest { drop result dest.new ≡ drop result dest.old }
+{
+    let Progress { index, next, full } = progress;
+    if full {
+        return index;
+    }
+    dest[index] = (next - index) as u8;
+    next
+}

@@ -1,0 +1,4 @@
+pub mod InputLemmas
+pub mod TextLemmas
+pub mod ReportLemmas
+pub mod MemoryLemmas

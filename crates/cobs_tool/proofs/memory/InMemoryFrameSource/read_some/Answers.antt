@@ -1,0 +1,7 @@
+use Rattle.cobs_tool.proofs.MemoryLemmas.{TakesChunk-read}
+use Rattle.cobs_tool.proofs.memory.InMemoryFrameSource.read_some.Goals as goal
+
+pub returns-clause-step : goal.returns-clause-step
+returns-clause-step c =
+    let read = c.read.ensures in
+    rw c.ok.ensures.value (TakesChunk-read _ _ _ _ _ c.told-chunk read.count read.copied read.rest)

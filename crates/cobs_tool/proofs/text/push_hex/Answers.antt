@@ -1,0 +1,8 @@
+use Rattle.cobs_tool.proofs.TextLemmas.{hex_of_is}
+use Rattle.cobs_tool.proofs.text.push_hex.Goals as goal
+
+pub returns : goal.returns
+returns c =
+    let text = hex_of_is c.args.byte c.ranges.byte.fits in
+    let written = rw (c.laid_out.ensures, c.in_radix.ensures) at c.write.ensures.bytes in
+    rw text at written

@@ -1,0 +1,21 @@
+-- What the modes write.
+use Rattle.std.specs.Prelude.{ℕ, ◌≡◌, List, [], ◌∷◌, ◌++◌, Option}
+use Rattle.std.specs.Io.KnownBytes.{Appends}
+use Rattle.cobs.specs.Grammar.{IsEncodedFrame}
+use Rattle.cobs_tool.specs.Text.{hex_line}
+
+-- a writer that tells its bytes has got some more, of which P holds
+abbrev pub WritesSome : (List ℕ → Type 0) → Option (List ℕ) → Option (List ℕ) → Type 0
+WritesSome P old new = (bytes : List ℕ) × P bytes × Appends old new bytes
+
+-- the encoded frame of the message, and a zero behind it
+pub record IsTerminatedFrame (bytes message : List ℕ) : Type 0 where
+  pub frame : List ℕ
+  pub encoded : IsEncodedFrame frame message
+  pub terminated : bytes ≡ frame ++ 0 ∷ []
+
+-- the same as hexadecimal digits
+pub record IsShown (line message : List ℕ) : Type 0 where
+  pub bytes : List ℕ
+  pub frame : IsTerminatedFrame bytes message
+  pub digits : line ≡ hex_line bytes

@@ -1,0 +1,29 @@
+//! What can go wrong once the arguments are read.
+ghost use Rattle.std.specs.Prelude.{◌≡◌};
+ghost use Rattle.cobs_tool.specs.declared.fault.ToolFault.TheVariants.{OutOfMemory};
+
+use std::alloc::AllocError;
+
+/// Why a mode ended early.
+#[derive(Debug, PartialEq, Eq, Drop)]
+pub enum ToolFault {
+    /// A read of the input failed, or was interrupted. Nothing has been written.
+    ReadFailed,
+
+    /// A write of the output failed. How much of it went out is not known.
+    WriteFailed,
+
+    /// Memory was refused. Nothing has been written.
+    OutOfMemory,
+
+    /// The input has more bytes than the program reads. Nothing has been written.
+    InputTooLong,
+}
+
+impl From<AllocError> for ToolFault {
+    ghost from_gives = { λ _ fault. fault ≡ OutOfMemory };
+
+    fn from(_error: AllocError) -> ToolFault {
+        ToolFault::OutOfMemory
+    }
+}

@@ -1,0 +1,42 @@
+//! Reading the whole input.
+ghost use Rattle.std.specs.Prelude.{◌≡◌, ◌≢◌, ◌≤◌, IfOk, IfErr, IfSome, vec_len};
+ghost use Rattle.cobs_tool.specs.Input.{HasRead};
+
+use crate::fault::ToolFault;
+use std::alloc::Global;
+use std::io::Read;
+
+/// The most bytes of input that the program takes, 1 MiB.
+pub const MAX_INPUT: usize = 1_048_576;
+
+/// How many bytes a read asks for.
+const CHUNK_LEN: usize = 8_192;
+
+/// Reads to the end of the input, that is, to the first read that gives 0 bytes.
+///
+/// - `ReadFailed`: a read failed. An interrupted read is a failed read, and is not tried again.
+/// - `InputTooLong`: a read brought the byte behind the first [`MAX_INPUT`]. No memory was taken for that read.
+/// - `OutOfMemory`: memory for a read's bytes was refused.
+///
+/// Nothing is read once a read has failed, has given 0 bytes or has brought too many.
+pub fn read_input<R: Read>(alloc: Global, input: &mut R) -> Result<Vec<u8>, ToolFault>
+    ensures read { HasRead (R.remaining input.old) (R.remaining input.new) result }
+    ensures whole { IfOk result (λ bytes. IfSome (R.remaining input.old) (λ m. bytes.items ≡ m)) }
+    ensures limit { IfOk result (λ bytes. vec_len bytes ≤ MAX_INPUT) }
+    ensures no_write { IfErr result (λ fault. fault ≢ ToolFault.WriteFailed) }
+{
+    let mut bytes = Vec::new(alloc);
+    let mut chunk = [0u8; CHUNK_LEN];
+    'by_read: loop {
+        let Ok(count) = input.read(&mut chunk) else {
+            return Err(ToolFault::ReadFailed);
+        };
+        if count == 0 {
+            return Ok(bytes);
+        }
+        if count > MAX_INPUT - bytes.len() {
+            return Err(ToolFault::InputTooLong);
+        }
+        bytes.extend_from_slice(&chunk[..count])?;
+    }
+}

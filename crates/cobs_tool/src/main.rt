@@ -1,0 +1,71 @@
+//! Frames on the command line.
+//!
+//! `cobs_tool` reads standard input to its end, at most [`input::MAX_INPUT`] bytes, and then writes to standard
+//! output:
+//!
+//! | argument | input | output |
+//! |---|---|---|
+//! | none, or `show` | a message | its frame and a zero, as hexadecimal digits, on one line |
+//! | `encode` | a message | the same bytes raw |
+//! | `decode` | a stream of frames | a line for each piece of the stream that a zero ends |
+//!
+//! The exit status is 0, or 1 for a fault while it reads or writes, with a line on standard error, or 2 for other
+//! arguments, with the usage.
+#![tactic(auto)]
+
+mod fault;
+mod input;
+mod memory;
+mod mode;
+mod modes;
+mod output;
+mod report;
+#[cfg(test)]
+mod tests;
+mod text;
+
+use fault::ToolFault;
+use mode::{Mode, mode_of};
+use modes::{run_decode, run_encode, run_show};
+use std::alloc::Global;
+use std::env;
+use std::io::{Read, Write};
+use std::process::ExitCode;
+use text::fault_line;
+
+const USAGE: &str = "usage: cobs_tool [show|encode|decode]";
+
+fn main(rt: HostRuntime) -> ExitCode {
+    let Some(mode) = mode_of_arguments(&rt) else {
+        let _ = eprintln!(rt; "{USAGE}");
+        return ExitCode::from(2);
+    };
+    match run(rt.alloc(), &mode, &mut rt.stdin(), &mut rt.stdout()) {
+        Ok(()) => ExitCode::SUCCESS,
+        Err(fault) => {
+            let line = fault_line(&fault);
+            let _ = eprintln!(rt; "{line}");
+            ExitCode::FAILURE
+        }
+    }
+}
+
+/// The mode that the program's arguments ask for, or `None` where they ask for none or can't be read.
+fn mode_of_arguments(rt: &HostRuntime) -> Option<Mode> {
+    let words: Vec<String> = env::args(rt).ok()?.skip(1).collect(rt.alloc()).ok()?;
+    mode_of(&words)
+}
+
+/// Runs the mode from the input to the output.
+fn run<R: Read, W: Write>(
+    alloc: Global,
+    mode: &Mode,
+    input: &mut R,
+    output: &mut W,
+) -> Result<(), ToolFault> {
+    match mode {
+        Mode::Show => run_show(alloc, input, output),
+        Mode::Encode => run_encode(alloc, input, output),
+        Mode::Decode => run_decode(alloc, input, output),
+    }
+}

@@ -1,0 +1,31 @@
+//! Bytes in memory as the source of a stream.
+use cobs::FrameSource;
+use std::io::Read;
+
+/// Bytes that a stream is read from. No read of them fails, and each gives 64 bytes or all that are left.
+#[derive(Drop)]
+pub struct InMemory<'a> {
+    left: &'a [u8],
+}
+
+impl<'a> InMemory<'a> {
+    ghost use Rattle.std.specs.Prelude.{◌≡◌};
+    ghost use Rattle.cobs_tool.specs.Memory.{bytes_left};
+
+    /// A source of all these bytes.
+    pub fn new(bytes: &'a [u8]) -> Self
+        ensures { bytes_left result ≡ bytes.now }
+    {
+        InMemory { left: bytes }
+    }
+}
+
+impl FrameSource for InMemory<'_> {
+    ghost use Rattle.cobs_tool.specs.Memory.{TakesChunk, bytes_left};
+
+    ghost step = { λ from read to. TakesChunk (bytes_left from) read (bytes_left to) };
+
+    fn read_some(&mut self, chunk: &mut [u8; 64]) -> Option<usize> {
+        self.left.read(chunk).ok()
+    }
+}

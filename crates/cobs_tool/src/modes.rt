@@ -1,0 +1,90 @@
+//! The three modes, each over any reader and any writer.
+ghost use Rattle.std.specs.Prelude.{◌≡◌, ◌≢◌, ◌≤◌, length, IfErr, IfOk, IfSome, OnOk};
+ghost use Rattle.std.specs.Io.KnownBytes.{Appends, Keeps};
+ghost use Rattle.cobs_tool.specs.Report.{report};
+ghost use Rattle.cobs_tool.specs.Input.{HasRead};
+ghost use Rattle.cobs_tool.specs.Output.{IsShown, IsTerminatedFrame, WritesSome};
+
+use crate::fault::ToolFault;
+use crate::input::{MAX_INPUT, read_input};
+use crate::output::write_output;
+use crate::report::report_of;
+use crate::text::hex_line;
+use std::alloc::{AllocError, Global};
+use std::io::{Read, Write};
+
+/// Prints the encoded frame of the input and the zero behind it, as two hexadecimal digits a byte.
+///
+/// The whole input is one message. It is read to its end first, and the whole line is made before any of it is written.
+/// So every fault but `WriteFailed` has written nothing. How much went out before a `WriteFailed`, and whether an
+/// interrupted write is tried again, is left open.
+///
+/// - `ReadFailed`: a read failed. An interrupted read is a failed read.
+/// - `InputTooLong`: the reader gave more than [`MAX_INPUT`] bytes.
+/// - `OutOfMemory`: memory was refused for the input, its frame or the line.
+/// - `WriteFailed`: a write or the flush failed.
+pub fn run_show<R: Read, W: Write>(
+    alloc: Global,
+    input: &mut R,
+    output: &mut W,
+) -> Result<(), ToolFault>
+    ensures read { HasRead (R.remaining input.old) (R.remaining input.new) result }
+    ensures shown { OnOk result (IfSome (R.remaining input.old) (λ message.
+        WritesSome (λ line. IsShown line message) (W.contents output.old) (W.contents output.new))) }
+    ensures unwritten { IfErr result (λ fault. fault ≢ ToolFault.WriteFailed
+        → Keeps (W.contents output.old) (W.contents output.new)) }
+{
+    let message = read_input(alloc, input)?;
+    let frame = terminated_frame(alloc, &message)?;
+    let line = hex_line(alloc, &frame)?;
+    write_output(output, line.as_bytes())
+}
+
+/// Writes the encoded frame of the input and a zero behind it.
+///
+/// The whole input is one message. It is read, and its faults are told, as [`run_show`] does it.
+pub fn run_encode<R: Read, W: Write>(
+    alloc: Global,
+    input: &mut R,
+    output: &mut W,
+) -> Result<(), ToolFault>
+    ensures read { HasRead (R.remaining input.old) (R.remaining input.new) result }
+    ensures encoded { OnOk result (IfSome (R.remaining input.old) (λ message.
+        WritesSome (λ bytes. IsTerminatedFrame bytes message) (W.contents output.old) (W.contents output.new))) }
+    ensures unwritten { IfErr result (λ fault. fault ≢ ToolFault.WriteFailed
+        → Keeps (W.contents output.old) (W.contents output.new)) }
+{
+    let message = read_input(alloc, input)?;
+    let frame = terminated_frame(alloc, &message)?;
+    write_output(output, &frame)
+}
+
+/// Prints what becomes of each piece of the input, a stream of frames that are each ended by a zero, as
+/// [`report_of`] says it.
+///
+/// The input is read, and its faults are told, as [`run_show`] does it.
+pub fn run_decode<R: Read, W: Write>(
+    alloc: Global,
+    input: &mut R,
+    output: &mut W,
+) -> Result<(), ToolFault>
+    ensures read { HasRead (R.remaining input.old) (R.remaining input.new) result }
+    ensures reported { OnOk result (IfSome (R.remaining input.old) (λ stream.
+        Appends (W.contents output.old) (W.contents output.new) (report stream))) }
+    ensures unwritten { IfErr result (λ fault. fault ≢ ToolFault.WriteFailed
+        → Keeps (W.contents output.old) (W.contents output.new)) }
+{
+    let stream = read_input(alloc, input)?;
+    let report = report_of(alloc, &stream)?;
+    write_output(output, report.as_bytes())
+}
+
+/// The encoded frame of a message and a zero behind it, the sentinel that ends the frame in a stream.
+fn terminated_frame(alloc: Global, message: &[u8]) -> Result<Vec<u8>, AllocError>
+    requires { length message.now ≤ MAX_INPUT }
+    ensures { IfOk result (λ bytes. IsTerminatedFrame bytes.items message.now) }
+{
+    let mut bytes = cobs::encode_vec(alloc, message)?;
+    bytes.push(0)?;
+    Ok(bytes)
+}

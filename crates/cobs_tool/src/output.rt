@@ -1,0 +1,20 @@
+//! Writing what was made of the input.
+ghost use Rattle.std.specs.Prelude.{◌≡◌, OnOk, IfErr};
+ghost use Rattle.std.specs.Io.KnownBytes.{Appends};
+
+use crate::fault::ToolFault;
+use std::io::Write;
+
+/// Writes all of the bytes and flushes the writer.
+///
+/// `WriteFailed`: a write or the flush failed, and how many bytes went out is not known.
+pub fn write_output<W: Write>(output: &mut W, bytes: &[u8]) -> Result<(), ToolFault>
+    ensures ok { OnOk result (Appends (W.contents output.old) (W.contents output.new) bytes.now) }
+    ensures err { IfErr result (λ fault. fault ≡ ToolFault.WriteFailed) }
+{
+    let written = output.write_all(bytes);
+    if written.is_err() || output.flush().is_err() {
+        return Err(ToolFault::WriteFailed);
+    }
+    Ok(())
+}

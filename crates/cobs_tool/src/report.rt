@@ -1,0 +1,64 @@
+//! What becomes of the pieces of a stream, in words.
+ghost use Rattle.std.specs.Prelude.{◌≡◌, ◌≤◌, ◌++◌, length, IfOk, OnOk, string_bytes};
+ghost use Rattle.cobs.specs.Stream.{Broken, Message};
+ghost use Rattle.cobs_tool.specs.Report.{outcome_line, report};
+
+use crate::input::MAX_INPUT;
+use crate::memory::InMemory;
+use cobs::{CobsDecoderOwned, FrameReader, Next};
+use std::alloc::{AllocError, Global};
+
+/// The length of the longest message that is decoded, 64 KiB: a piece that decodes to more is too long.
+pub const DECODE_BUFFER_LEN: usize = 65_536;
+
+/// One line for each piece of the stream that a zero ends, in order, and then the line `unfinished` where a piece has
+/// begun behind the last zero.
+///
+/// - `message N HEX`: a message of N bytes, as lower-case hexadecimal digits; `message 0` for the empty message.
+/// - `broken N`: the piece breaks off inside a block, and decodes to N bytes.
+/// - `too long`: the piece decodes to more than [`DECODE_BUFFER_LEN`] bytes.
+pub fn report_of(alloc: Global, stream: &[u8]) -> Result<String, AllocError>
+    requires { length stream.now ≤ MAX_INPUT }
+    ensures { IfOk result (λ text. string_bytes text ≡ report stream.now) }
+{
+    let decoder = CobsDecoderOwned::new(alloc, DECODE_BUFFER_LEN)?;
+    let mut frames = FrameReader::new(decoder);
+    let mut source = InMemory::new(stream);
+    let mut text = String::new(alloc);
+    'by_piece: loop {
+        match frames.next_frame(&mut source) {
+            Ok(Next::Message(len)) => {
+                let message = &frames.decoder().dest()[..len];
+                push_message(alloc, &mut text, message)?;
+            }
+            Ok(Next::Broken(count)) => push_broken(&mut text, count)?,
+            Ok(Next::TooLong) => text.push_str("too long\n")?,
+            Ok(Next::End { unfinished }) => {
+                if unfinished {
+                    text.push_str("unfinished\n")?;
+                }
+                return Ok(text);
+            }
+            Err(_) => unreachable!(),
+        }
+    }
+}
+
+fn push_message(alloc: Global, report: &mut String, message: &[u8]) -> Result<(), AllocError>
+    ensures { OnOk result (string_bytes report.new
+        ≡ string_bytes report.old ++ outcome_line (Message message.now)) }
+{
+    if message.is_empty() {
+        return report.push_str("message 0\n");
+    }
+    let len = message.len();
+    let digits = hex::encode(alloc, message)?;
+    writeln!(report, "message {len} {digits}")
+}
+
+fn push_broken(report: &mut String, count: usize) -> Result<(), AllocError>
+    ensures { OnOk result (string_bytes report.new
+        ≡ string_bytes report.old ++ outcome_line (Broken count)) }
+{
+    writeln!(report, "broken {count}")
+}

@@ -1,0 +1,40 @@
+//! What the program prints.
+ghost use Rattle.std.specs.Prelude.{◌≡◌, ◌++◌, IfOk, OnOk, string_bytes};
+ghost use Rattle.cobs_tool.specs.Text.{fault_text, hex_line, hex_of};
+
+use crate::fault::ToolFault;
+use std::alloc::{AllocError, Global};
+
+/// The line that the program prints on standard error for a fault, without the newline.
+pub fn fault_line(fault: &ToolFault) -> &'static str
+    ensures { result.now ≡ fault_text fault.now }
+{
+    match fault {
+        ToolFault::ReadFailed => "cobs_tool: read failed",
+        ToolFault::WriteFailed => "cobs_tool: write failed",
+        ToolFault::OutOfMemory => "cobs_tool: out of memory",
+        ToolFault::InputTooLong => "cobs_tool: input too long",
+    }
+}
+
+/// The bytes on one line: two lower-case hexadecimal digits a byte, one space between two bytes, then a newline. The
+/// line is the newline alone where there is no byte.
+pub fn hex_line(alloc: Global, bytes: &[u8]) -> Result<String, AllocError>
+    ensures { IfOk result (λ line. string_bytes line ≡ hex_line bytes.now) }
+{
+    let mut line = String::new(alloc);
+    for (at, byte) in bytes.iter().enumerate() {
+        if at > 0 {
+            line.push(' ')?;
+        }
+        push_hex(&mut line, *byte)?;
+    }
+    line.push('\n')?;
+    Ok(line)
+}
+
+fn push_hex(line: &mut String, byte: u8) -> Result<(), AllocError>
+    ensures { OnOk result (string_bytes line.new ≡ string_bytes line.old ++ hex_of byte) }
+{
+    write!(line, "{byte:02x}")
+}
