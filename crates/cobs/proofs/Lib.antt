@@ -18,3 +18,4 @@ pub mod UniqueLemmas
 pub mod EnumerationLemmas
 pub mod SentinelLemmas
 pub mod StretchLemmas
+mod LentSlice

@@ -11,7 +11,7 @@ mod stream;
 
 pub use dec::{
     CobsDecoder, CobsDecoderHeapless, CobsDecoderOwned, DecodeError, DecodeReport, DecodeResult,
-    DecoderState, FrameDecoder, PushError,
+    DecoderState, FrameDecoder, PushError, WriteBuffer,
 };
 pub use enc::{
     DestBufTooSmallError, EncoderState, PushResult, encode, encode_including_sentinels, encode_vec,
