@@ -16,6 +16,7 @@ mod sentinel;
 mod state;
 mod vector;
 mod window;
+mod write_buffer;
 
 pub use frame_decoder::FrameDecoder;
 pub use heapless::CobsDecoderHeapless;
@@ -27,6 +28,10 @@ pub use report::{DecodeError, DecodeReport, DecodingResult, PushError};
 pub use sentinel::decode_with_sentinel;
 pub use state::{DecodeResult, DecoderState};
 pub use vector::{DecodeVecError, decode_vec, decode_vec_with_sentinel};
+pub use write_buffer::WriteBuffer;
+
+#[cfg(test)]
+mod decoder_tests;
 
 /// Decodes the first frame of the source into `dest`, and answers how many bytes were consumed and how many the
 /// message has.

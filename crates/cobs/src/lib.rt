@@ -12,7 +12,7 @@ mod stream;
 
 pub use dec::{
     CobsDecoder, CobsDecoderHeapless, CobsDecoderOwned, DecodeError, DecodeReport, DecodeResult,
-    DecoderState, DecodingResult, FrameDecoder, PushError, decode, decode_in_place,
+    DecoderState, DecodingResult, FrameDecoder, PushError, WriteBuffer, decode, decode_in_place,
     decode_in_place_report, decode_in_place_with_sentinel, decode_with_sentinel,
 };
 pub use enc::{
