@@ -19,3 +19,4 @@ pub mod EnumerationLemmas
 pub mod SentinelLemmas
 pub mod StretchLemmas
 mod LentSlice
+pub mod FewLemmas
