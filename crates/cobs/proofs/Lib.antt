@@ -38,3 +38,5 @@ pub mod MessagesLemmas
 pub mod SourceSteps
 pub mod VectorSteps
 pub mod HeadlineLemmas
+mod LentSlice
+pub mod FewLemmas

@@ -16,6 +16,7 @@ mod sentinel;
 mod state;
 mod vector;
 mod window;
+mod write_buffer;
 
 pub use frame_decoder::FrameDecoder;
 pub use heapless::CobsDecoderHeapless;
@@ -61,3 +62,7 @@ pub fn decode(source: &[u8], dest: &mut [u8]) -> Result<DecodeReport, DecodeErro
     let parsed_size = if end < source.len() { end + 1 } else { end };
     Ok(DecodeReport::new(parsed_size, frame_size))
 }
+pub use write_buffer::WriteBuffer;
+
+#[cfg(test)]
+mod decoder_tests;
