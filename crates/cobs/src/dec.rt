@@ -8,6 +8,7 @@ mod frame_decoder;
 mod heapless;
 mod in_place;
 mod inner;
+mod kind;
 mod lent;
 mod owned;
 mod piece;
@@ -21,6 +22,7 @@ mod write_buffer;
 pub use frame_decoder::FrameDecoder;
 pub use heapless::CobsDecoderHeapless;
 pub use in_place::{decode_in_place, decode_in_place_report, decode_in_place_with_sentinel};
+pub use kind::{FrameKind, frame_kind};
 pub use lent::CobsDecoder;
 pub use owned::CobsDecoderOwned;
 use piece::{decode_ended, leading_zeros, piece_len};
@@ -66,3 +68,6 @@ pub use write_buffer::WriteBuffer;
 
 #[cfg(test)]
 mod decoder_tests;
+
+#[cfg(test)]
+mod decoding_tests;
