@@ -40,3 +40,4 @@ pub mod VectorSteps
 pub mod HeadlineLemmas
 mod LentSlice
 pub mod FewLemmas
+pub mod PushHeadline
