@@ -39,3 +39,5 @@ pub mod SourceSteps
 pub mod VectorSteps
 pub mod HeadlineLemmas
 mod LentSlice
+pub mod FewLemmas
+pub mod PushHeadline

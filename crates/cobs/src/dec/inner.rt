@@ -155,8 +155,8 @@ impl CobsDecoderInner {
         run + self.take_blocks(dest, &stretch[run..])
     }
 
-    /// Takes the first bytes that belong to the open block, up to a zero and as far as they fit the buffer, one by
-    /// one, and answers how many: for bytes so few that a search and a copy cost more.
+    /// Takes the first bytes up to a zero, as far as their output fits the buffer, one by one, and answers how many:
+    /// for bytes so few that a search and copies cost more.
     fn take_few(&mut self, dest: &mut [u8], bytes: &[u8]) -> usize
         ensures within { result ≤ length bytes.now }
         ensures fed { FedInTurn dest.old (phase_of self.old) (take result bytes.now) dest.new (phase_of self.new) }
@@ -164,17 +164,42 @@ impl CobsDecoderInner {
         if self.over {
             return 0;
         }
-        let at = self.dest_idx;
-        let room = dest.len().saturating_sub(at);
-        let most = bytes.len().min(room).min(self.state.left() as usize);
+        // A decoder that is idle takes a code as one behind a full block does: no zero joins it to anything.
+        let (mut full, mut left, mut at) = match &self.state {
+            DecoderState::Idle => (true, 0, 0),
+            DecoderState::Grab(left) => (false, *left, self.dest_idx),
+            DecoderState::GrabChain(left) => (true, *left, self.dest_idx),
+        };
         let mut run = 0;
-        'by_byte: while run < most && bytes[run] != 0 {
-            dest[at + run] = bytes[run];
+        'by_byte: while run < bytes.len() && bytes[run] != 0 {
+            let byte = bytes[run];
+            if left != 0 {
+                if dest.len() <= at {
+                    break;
+                }
+                dest[at] = byte;
+                at += 1;
+                left -= 1;
+            } else {
+                if !full {
+                    if dest.len() <= at {
+                        break;
+                    }
+                    dest[at] = 0;
+                    at += 1;
+                }
+                full = byte == 255;
+                left = byte - 1;
+            }
             run += 1;
         }
         if run != 0 {
-            self.dest_idx = at + run;
-            self.state.skip(run as u8);
+            self.dest_idx = at;
+            self.state = if full {
+                DecoderState::GrabChain(left)
+            } else {
+                DecoderState::Grab(left)
+            };
         }
         run
     }
