@@ -1,5 +1,5 @@
 -- A piece is a nonempty stretch of a stream without a zero. It is read in parts: blocks, of which the last may be cut short.
-use Rattle.std.specs.Prelude.{ℕ, zero, suc, ◌-◌, ◌==◌, Bool, false, List, [], ◌∷◌, length, take, if◌then◌else◌, IsTrue}
+use Rattle.std.specs.Prelude.{◌≡◌, ℕ, zero, suc, ◌+◌, ◌-◌, ◌<◌, ◌==◌, Bool, false, List, [], ◌∷◌, length, take, if◌then◌else◌, IsTrue}
 use Rattle.cobs.specs.Grammar.{code_of, bytes_of, message_of, last_of}
 
 -- the parts of what stands behind the first n bytes: a part is as many bytes as its code says, or what is left
@@ -35,3 +35,9 @@ output p = message_of (parts p)
 -- the output without the bytes of a last part that is cut short; the zero in front of that part stays
 unfoldable pub kept_output : List ℕ → List ℕ
 kept_output p = if is_whole p then output p else take (length (output p) - length (bytes_of (last_part p))) (output p)
+
+-- a whole piece whose parts but the last aren't full, so that each byte behind the first gives one byte of the output
+pub record IsFlat (p : List ℕ) : Type 0 where
+  pub some : 0 < length p
+  pub len : length (output p) + 1 ≡ length p
+  pub whole : lacks (last_part p) ≡ 0

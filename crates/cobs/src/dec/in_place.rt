@@ -1,9 +1,9 @@
 //! Decoding a frame in the buffer in which it stands.
-ghost use Rattle.std.specs.Prelude.{◌≡◌, ◌≢◌, ◌+◌, ◌++◌, ◌≤◌, length, take, drop, IfErr};
+ghost use Rattle.std.specs.Prelude.{◌≡◌, ◌≢◌, ◌+◌, ◌-◌, ◌++◌, ◌≤◌, length, take, drop, IfErr, IsTrue};
 ghost use Rattle.cobs.specs.Buffer.{overwritten};
 ghost use Rattle.cobs.specs.Decoding.{head_answer, in_place, in_place_answer, in_place_report};
 ghost use Rattle.cobs.specs.Grammar.{HasNoZero};
-ghost use Rattle.cobs.specs.Piece.{kept_output};
+ghost use Rattle.cobs.specs.Piece.{kept_output, output, IsFlat};
 ghost use Rattle.cobs.specs.Sentinel.{xor_each};
 ghost use Rattle.cobs.specs.declared.dec.report.DecodeError.TheVariants.{TargetBufTooSmall};
 
@@ -53,6 +53,72 @@ fn decode_blocks(buffer: &mut [u8], end: usize) -> Result<usize, DecodeError>
     Ok(written)
 }
 
+/// Whether a piece is a frame in which no block but the last is full: then each byte behind the first gives one byte of
+/// the message. Codes of one value in a row go by a loop of their own, which needn't wait for each.
+fn is_flat(piece: &[u8]) -> bool
+    requires { HasNoZero piece.now }
+    ensures { IsTrue result → IsFlat piece.now }
+{
+    if piece.is_empty() {
+        return false;
+    }
+    let mut read = 0;
+    'by_code: loop {
+        let code = piece[read] as usize;
+        'alike: loop {
+            if piece.len() - read <= code {
+                return piece.len() - read == code;
+            }
+            if code == FULL_CODE {
+                return false;
+            }
+            read += code;
+            if piece[read] as usize != code {
+                break;
+            }
+        }
+    }
+}
+
+/// Decodes such a frame in the first `end` bytes of the buffer: one move of all its bytes, and a zero at each code.
+fn decode_flat(buffer: &mut [u8], end: usize)
+    requires within { end ≤ length buffer.old }
+    requires nonzero { HasNoZero (take end buffer.old) }
+    requires flat { IsFlat (take end buffer.old) }
+    ensures begins { take (end - 1) buffer.new ≡ output (take end buffer.old) }
+    ensures rest { drop (end - 1) buffer.new ≡ drop (end - 1) buffer.old }
+{
+    let mut code = buffer[0] as usize;
+    buffer.copy_within(1..end, 0);
+    let mut read = 0;
+    'by_code: while code < end - read {
+        'alike: loop {
+            let at = read + (code - 1);
+            let next = buffer[at] as usize;
+            buffer[at] = 0;
+            read += code;
+            if end - read <= code || next != code {
+                code = next;
+                break;
+            }
+        }
+    }
+}
+
+/// Decodes the piece in the first `end` bytes of the buffer, and answers how many bytes it gives.
+fn decode_front(buffer: &mut [u8], end: usize) -> Result<usize, DecodeError>
+    requires within { end ≤ length buffer.old }
+    requires nonzero { HasNoZero (take end buffer.old) }
+    ensures answer { result ≡ head_answer (take end buffer.old) }
+    ensures buffer { buffer.new ≡ overwritten buffer.old (kept_output (take end buffer.old)) }
+{
+    if is_flat(&buffer[..end]) {
+        decode_flat(buffer, end);
+        return Ok(end - 1);
+    }
+    decode_blocks(buffer, end)
+}
+
 /// Decodes the frame at the front of the buffer in its own place, up to the first zero or the buffer's end, and answers
 /// how many bytes the frame and the message have.
 ///
@@ -77,7 +143,7 @@ pub fn decode_in_place_report(buf: &mut [u8]) -> Result<DecodeReport, DecodeErro
         return Err(DecodeError::EmptyFrame);
     }
     let end = piece_len(buf);
-    let frame_size = decode_blocks(buf, end)?;
+    let frame_size = decode_front(buf, end)?;
     Ok(DecodeReport::new(end, frame_size))
 }
 
