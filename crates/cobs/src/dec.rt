@@ -64,10 +64,10 @@ pub fn decode(source: &[u8], dest: &mut [u8]) -> Result<DecodeReport, DecodeErro
     let parsed_size = if end < source.len() { end + 1 } else { end };
     Ok(DecodeReport::new(parsed_size, frame_size))
 }
+
 pub use write_buffer::WriteBuffer;
 
 #[cfg(test)]
 mod decoder_tests;
-
 #[cfg(test)]
 mod decoding_tests;
