@@ -186,7 +186,7 @@ module _ {S : Type 0} {step : S → Read → S → Type 0} {from to : S} {reader
 
 -- an outcome is told
 Tells-piece : (next : Next) (reads : List Read) (t : List ℕ) (reader : ReaderState) (outcome : Outcome)
-    → IsOutcome next reader.buffer outcome → EndsFirst t (length reader.buffer) outcome reader.kept → reader.phase ≡ Idle → Tells (Ok next) reads t reader
+    → IsOutcome next reader.buffer outcome → EndsFirst t (length reader.buffer) outcome reader.kept → IsBehind reader [] → Tells (Ok next) reads t reader
 Tells-piece (nexts.Message n) reads t reader outcome i w b = (record { first = subst (λ o. EndsFirst t (length reader.buffer) o reader.kept) i.0 w; idle = b }, i.1)
 Tells-piece (nexts.Broken n) reads t reader outcome i w b = record { first = subst (λ o. EndsFirst t (length reader.buffer) o reader.kept) i w; idle = b }
 Tells-piece nexts.TooLong reads t reader outcome i w b = record { first = subst (λ o. EndsFirst t (length reader.buffer) o reader.kept) i w; idle = b }
@@ -194,7 +194,7 @@ Tells-piece (nexts.End unfinished) reads t reader outcome i w b = absurd i
 
 -- the kept bytes end a piece: nothing is read
 pub ReadsNext-kept : {S : Type 0} (step : S → Read → S → Type 0) (source : S) (reader reader' : ReaderState) (next : Next) → length reader'.buffer ≡ length reader.buffer
-    → ((p : List ℕ) → IsBehind reader p → (outcome : Outcome) × IsOutcome next reader'.buffer outcome × EndsFirstIn p reader.kept (length reader.buffer) outcome reader'.kept × (reader'.phase ≡ Idle))
+    → ((p : List ℕ) → IsBehind reader p → (outcome : Outcome) × IsOutcome next reader'.buffer outcome × EndsFirstIn p reader.kept (length reader.buffer) outcome reader'.kept × IsBehind reader' [])
     → ReadsNext step source source reader (Ok next) reader'
 ReadsNext-kept step source reader reader' next len h = record {
   reads = [];
@@ -216,7 +216,7 @@ All-last P (y ∷ xs) x h = All-last P xs x (All-tail P y (xs ++ x ∷ []) h)
 module _ {S : Type 0} {step : S → Read → S → Type 0} {from to to' : S} {reader₀ reader reader' : ReaderState} {unfinished : Bool} {count : ℕ} where
   -- the bytes that were read end a piece
   pub ReadsNext-piece : (bytes kept : List ℕ) (next : Next) → kept ≡ bytes → count < 65536 → Going step from to reader₀ reader unfinished count → step to (Some bytes) to' → length reader'.buffer ≡ length reader.buffer
-      → ((q : List ℕ) → HasTaken reader.buffer reader.phase unfinished q → (outcome : Outcome) × IsOutcome next reader'.buffer outcome × EndsFirstIn q kept (length reader.buffer) outcome reader'.kept × (reader'.phase ≡ Idle))
+      → ((q : List ℕ) → HasTaken reader.buffer reader.phase unfinished q → (outcome : Outcome) × IsOutcome next reader'.buffer outcome × EndsFirstIn q kept (length reader.buffer) outcome reader'.kept × IsBehind reader' [])
       → ReadsNext step from to' reader₀ (Ok next) reader'
   ReadsNext-piece bytes kept next same few g s len h = record {
     reads = g.reads ++ Some bytes ∷ [];

@@ -18,3 +18,4 @@ pub mod Reading
 pub mod Reader
 pub mod Laws
 pub mod Decoding
+pub mod Headline

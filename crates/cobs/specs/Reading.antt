@@ -3,7 +3,7 @@ use Rattle.std.specs.Prelude.{ℕ, ◌≡◌, ◌≢◌, ◌<◌, ◌≤◌, ◌
 use Rattle.std.specs.List.{flat_map}
 use Rattle.std.specs.Io.KnownBytes.{Consumes}
 use Rattle.cobs.specs.Stream.{Outcome, Message, Broken, TooLong, stream_outcomes, unended, is_nonempty}
-use Rattle.cobs.specs.Decoder.{Phase, Idle, DecoderAfter}
+use Rattle.cobs.specs.Decoder.{Phase, DecoderAfter}
 use Rattle.cobs.specs.declared.framed.Next.{Next}
 use Rattle.cobs.specs.declared.framed.Next.TheVariants as nexts
 use Rattle.cobs.specs.declared.framed.ReadFault.{ReadFault}
@@ -78,7 +78,7 @@ IsBehind reader p = DecoderAfter reader.buffer reader.phase p
 -- a piece has ended in the stream t, and the reader has come to its end: the decoder is idle, and what stands behind is kept
 pub record AtPieceEnd (t : List ℕ) (outcome : Outcome) (reader : ReaderState) : Type 0 where
   pub first : EndsFirst t (length reader.buffer) outcome reader.kept
-  pub idle : reader.phase ≡ Idle
+  pub idle : IsBehind reader []
 
 -- no piece has ended in the stream t, and the reader has come to the end of t: the decoder has taken it, and nothing is kept
 pub record AtStreamEnd (t : List ℕ) (reader : ReaderState) : Type 0 where

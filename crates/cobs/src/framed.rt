@@ -6,7 +6,7 @@
 ghost use Rattle.std.specs.Prelude.{◌≡◌, ℕ, ◌≤◌, List, [], ◌∷◌, ◌++◌, length, take, drop, Option, option_map, IfOk, IfSome, OnSome, MatchOption};
 ghost use Rattle.cobs.specs.Grammar.{HasNoZero};
 ghost use Rattle.cobs.specs.Stream.{Outcome, stream_outcomes, unended, is_nonempty};
-ghost use Rattle.cobs.specs.Decoder.{Idle as IdlePhase, DecoderAfter};
+ghost use Rattle.cobs.specs.Decoder.{DecoderAfter};
 ghost use Rattle.cobs.specs.Streaming.{outcome_told};
 ghost use Rattle.cobs.specs.Reading.{HasTaken, IsOutcome, EndsFirstIn};
 
@@ -120,7 +120,7 @@ fn feed_until<D: FrameDecoder>(decoder: &mut D, bytes: &[u8]) -> Option<(Next, u
     ensures told { (p : List ℕ) → DecoderAfter (D.bytes decoder.old) (D.phase decoder.old) p → MatchOption result
         ((stream_outcomes (p ++ bytes.now) (length (D.bytes decoder.old)) ≡ []) × DecoderAfter (D.bytes decoder.new) (D.phase decoder.new) (unended (p ++ bytes.now)))
         (λ found. (outcome : Outcome) × IsOutcome found.0 (D.bytes decoder.new) outcome × EndsFirstIn p bytes.now (length (D.bytes decoder.old)) outcome (drop found.1 bytes.now)) }
-    ensures idle { OnSome result (D.phase decoder.new ≡ IdlePhase) }
+    ensures idle { OnSome result (DecoderAfter (D.bytes decoder.new) (D.phase decoder.new) []) }
     ensures len { length (D.bytes decoder.new) ≡ length (D.bytes decoder.old) }
     ensures same_loan { D.loan decoder.new ≡ D.loan decoder.old }
 {
@@ -164,13 +164,14 @@ pub struct FrameReader<D: FrameDecoder> {
 impl<D: FrameDecoder> FrameReader<D> {
     ghost use Rattle.std.specs.Prelude.{◌≡◌, ℕ, ◌+◌, List, [], ◌++◌, length, MatchOption};
     ghost use Rattle.cobs.specs.Stream.{Outcome, stream_outcomes, unended};
-    ghost use Rattle.cobs.specs.Decoder.{Idle as IdlePhase};
+    ghost use Rattle.cobs.specs.Decoder.{DecoderAfter};
     ghost use Rattle.cobs.specs.Reading.{HasTaken, IsOutcome, EndsFirstIn, ReadsNext};
     ghost use Rattle.cobs.specs.Reader.{decoder_of, kept_of, reader_state};
 
-    /// A reader with this decoder. The caller owes an idle one.
+    /// A reader with this decoder, which has read nothing yet. The caller owes an idle decoder: one that is new, reset,
+    /// or behind a zero.
     pub fn new(decoder: D) -> Self
-        requires { D.phase decoder ≡ IdlePhase }
+        requires { DecoderAfter (D.bytes decoder) (D.phase decoder) [] }
         ensures decoder { decoder_of result ≡ decoder }
         ensures kept { kept_of result ≡ [] }
     {
@@ -196,7 +197,8 @@ impl<D: FrameDecoder> FrameReader<D> {
             ((stream_outcomes (p ++ kept_of self.old) (length (D.bytes (decoder_of self.old))) ≡ [])
             × HasTaken (D.bytes (decoder_of self.new)) (D.phase (decoder_of self.new)) self.new.unfinished (unended (p ++ kept_of self.old)) × (kept_of self.new ≡ []))
             (λ next. (outcome : Outcome) × IsOutcome next (D.bytes (decoder_of self.new)) outcome
-            × EndsFirstIn p (kept_of self.old) (length (D.bytes (decoder_of self.old))) outcome (kept_of self.new) × (D.phase (decoder_of self.new) ≡ IdlePhase)) }
+            × EndsFirstIn p (kept_of self.old) (length (D.bytes (decoder_of self.old))) outcome (kept_of self.new)
+            × DecoderAfter (D.bytes (decoder_of self.new)) (D.phase (decoder_of self.new)) []) }
         ensures len { length (D.bytes (decoder_of self.new)) ≡ length (D.bytes (decoder_of self.old)) }
         ensures same_loan { D.loan (decoder_of self.new) ≡ D.loan (decoder_of self.old) }
         ensures count { length (kept_of self.old) + self.old.start ≡ self.old.end }
@@ -252,3 +254,6 @@ impl<D: FrameDecoder> FrameReader<D> {
         Err(ReadFault::TooManyReads)
     }
 }
+
+#[cfg(test)]
+mod tests;

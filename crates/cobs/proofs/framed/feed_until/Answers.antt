@@ -1,6 +1,6 @@
 use Rattle.std.proofs.Common.{◌∙◌, refl, get_or}
 use Rattle.cobs.specs.Decoder.{Feeds}
-use Rattle.cobs.proofs.SoFar.{SoFar-start, step_none, step_nonzero}
+use Rattle.cobs.proofs.SoFar.{DecoderAfter-idle, SoFar-start, step_none, step_nonzero}
 use Rattle.cobs.proofs.ReadingLemmas.{EndsFirstIn-at_zero}
 use Rattle.cobs.proofs.framed.feed_until.Goals as goal
 use Rattle.cobs.proofs.framed.feed_until.Goals.{then-byte-eq0+in_default, else-byte-eq0, After-feed_byte-answer}
@@ -33,3 +33,6 @@ by_byte-preserved g c =
       }
       | else-byte-eq0 w ↦ record { so_far = step_nonzero _ _ c.by_byte-test.true w.if-byte-eq0.false s f; same_loan = same_loan }
     ]
+
+pub returns-in-Some-clause-idle : goal.returns-in-Some-clause-idle
+returns-in-Some-clause-idle g c = DecoderAfter-idle _ _ (c.feed_byte-answer.ensures.feeds.zero_idle c.if-byte-eq0.true)

@@ -1,7 +1,6 @@
 use Rattle.std.proofs.Common.{◌≡◌, ℕ, ◌+◌, ◌-◌, ◌≤◌, List, [], ◌∷◌, ◌++◌, length-take, take, drop, refl, ap, ◌∙◌, arith}
 use Rattle.std.proofs.lemmas.List.{drop-take, drop-drop}
 use Rattle.std.proofs.Math.Logic.{∥∥₁_map}
-use Rattle.cobs.proofs.SoFar.{DecoderAfter-idle}
 use Rattle.cobs.proofs.framed.FrameReader.next_kept.Goals as goal
 
 -- what is left of a range after its first n bytes
@@ -31,4 +30,4 @@ invariant_of-self-clause-has_taken g c = ∥∥₁_map c.args.self.now.has_taken
 ))
 
 pub invariant_of-self-in-Some-clause-has_taken : goal.invariant_of-self-in-Some-clause-has_taken
-invariant_of-self-in-Some-clause-has_taken g c = ∣ ([], record { after = DecoderAfter-idle _ _ c.in-Some.ensures.idle; flag = refl }) ∣₁
+invariant_of-self-in-Some-clause-has_taken g c = ∣ ([], record { after = c.in-Some.ensures.idle; flag = refl }) ∣₁
