@@ -10,12 +10,15 @@ use crate::dec::report::DecodeError;
 use crate::dec::window::{copy_32, is_ones, write_zeros};
 use memchr::memchr;
 
+/// The code of a full block.
+pub(crate) const FULL_CODE: usize = 255;
+
 /// What is to be known of a piece once its output is written.
 #[derive(Clone, Copy)]
 pub(crate) struct PieceEnd {
     /// The length of the output.
     pub(crate) written: usize,
-    /// Whether the code of the last part is 255.
+    /// Whether the last part has the code of a full block.
     pub(crate) full: bool,
     /// How many bytes the last part lacks of those that its code counts.
     pub(crate) left: usize,
@@ -74,7 +77,7 @@ pub(crate) fn output_len(piece: &[u8]) -> usize
         if piece.len() - read <= code {
             return len;
         }
-        if code == 255 {
+        if code == FULL_CODE {
             len -= 1;
         }
         read += code;
@@ -134,7 +137,7 @@ fn decode_end(piece: &[u8], dest: &mut [u8]) -> PieceEnd
     }
     PieceEnd {
         written: piece.len() - 1,
-        full: code == 255,
+        full: code == FULL_CODE,
         left: code - (piece.len() - read),
     }
 }
@@ -166,7 +169,7 @@ pub(crate) fn decode_piece(piece: &[u8], dest: &mut [u8]) -> PieceEnd
             dest[written..written + (code - 1)].copy_from_slice(&piece[read + 1..read + code]);
             read += code;
             written += code - 1;
-            if code != 255 {
+            if code != FULL_CODE {
                 dest[written] = 0;
                 written += 1;
             }
@@ -195,7 +198,11 @@ fn front_len(piece: &[u8], count: usize) -> usize
         if left < code {
             return read + 1 + left;
         }
-        left -= if code == 255 { 254 } else { code };
+        left -= if code == FULL_CODE {
+            FULL_CODE - 1
+        } else {
+            code
+        };
         read += code;
     }
 }
