@@ -119,9 +119,15 @@ IsOutcome (nexts.Broken count) buffer outcome = outcome ≡ Broken count
 IsOutcome nexts.TooLong buffer outcome = outcome ≡ TooLong
 IsOutcome (nexts.End unfinished) buffer outcome = ⊥
 
--- in these bytes behind p a piece ends for the first time; it comes to this outcome, and these bytes stand behind its zero
+-- in these bytes behind p a piece ends for the first time; it comes to this outcome, and these bytes follow its zero
 pub record EndsFirstIn (p bytes : List ℕ) (n : ℕ) (outcome : Outcome) (behind : List ℕ) : Type 0 where
   pub front : List ℕ
   pub cut : bytes ≡ front ++ 0 ∷ behind
   pub none_before : stream_outcomes (p ++ front) n ≡ []
   pub here : stream_outcomes (p ++ (front ++ 0 ∷ [])) n ≡ outcome ∷ []
+
+-- the answer tells of that piece, over the buffer
+pub record TellsFirst (next : Next) (p bytes buffer behind : List ℕ) : Type 0 where
+  pub outcome : Outcome
+  pub is : IsOutcome next buffer outcome
+  pub first : EndsFirstIn p bytes (length buffer) outcome behind
