@@ -2,7 +2,8 @@
 //!
 //! `FrameReader` reads chunks of 64 bytes from a file, a socket, a serial port or anything else that is a
 //! `FrameSource`, and answers one outcome a call. It reads only where the bytes that it has kept end no piece, and
-//! no byte is lost: what it has read and not used yet is used first by the next call, after a fault too.
+//! no byte is lost: what it has read and not used yet is used first by the next call, after a fault too. No call
+//! here takes memory. (That a zero ends each piece is Cheshire and Baker's; the rest of this module is our own.)
 ghost use Rattle.std.specs.Prelude.{◌≡◌, ℕ, ◌≤◌, List, [], ◌∷◌, ◌++◌, length, take, drop, Option, option_map, IfOk, IfNone, IfSome, OnSome, MatchOption};
 ghost use Rattle.cobs.specs.Grammar.{HasNoZero};
 ghost use Rattle.cobs.specs.Stream.{Outcome, stream_outcomes, unended, is_nonempty};
@@ -153,6 +154,9 @@ fn is_unfinished(before: bool, bytes: &[u8]) -> bool
 const MOST_READS: usize = 65536;
 
 /// Reads the frames of a stream, one a call, with a decoder of its own.
+///
+/// The source isn't part of it but given to each call, so a stream may go on in another source. Contracts see it as
+/// its decoder and the bytes that it has read and not yet fed to the decoder.
 #[derive(Drop)]
 pub struct FrameReader<D: FrameDecoder> {
     decoder: D,
@@ -223,11 +227,16 @@ impl<D: FrameDecoder> FrameReader<D> {
         }
     }
 
-    /// The next frame of the source.
+    /// What the next piece of the stream comes to, once a zero has ended it, or that the source gives no more.
     ///
-    /// The bytes that are kept from earlier calls are used first, and what stands behind the sentinel of the piece
-    /// that ends is kept for the next call. While no piece ends, the source is read, at most 65,536 times; nothing
-    /// is read behind a piece's end, behind a read that failed, or behind one that gave no bytes.
+    /// The bytes that are kept from earlier calls are used first, and what stands behind the zero of the piece that
+    /// ends is kept for the next call. While no piece ends, the source is read, at most 65,536 times; nothing is read
+    /// behind a piece's end, behind a read that failed, or behind one that gave no bytes. Behind `Next::End` the
+    /// stream may go on, in this source or in another one.
+    ///
+    /// # Errors
+    /// `Io`: the last read of this call failed. `TooManyReads`: this call made 65,536 reads that all gave bytes. In
+    /// both no piece ended, the decoder has taken all bytes that were read, and the next call goes on behind them.
     pub fn next_frame<S: FrameSource>(&mut self, source: &mut S) -> Result<Next, ReadFault>
         ensures next { ReadsNext S.step source.old source.new
             (reader_state D.bytes D.phase self.old) result (reader_state D.bytes D.phase self.new) }
