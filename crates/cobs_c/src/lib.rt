@@ -1,49 +1,86 @@
-//! The library for C: one function for each call, over slices and plain structs.
+//! The library for C: one function for each call, over slices and a plain struct.
 //!
-//! `include/cobs.h` declares them. Where a contract here has a `requires`, nothing checks that a C caller meets it.
+//! `include/cobs.h` declares them and says what a C caller owes. Nothing checks that he keeps to it.
 #![tactic(auto)]
 
-ghost use Rattle.std.specs.Prelude.{◌≡◌, ◌≤◌, ◌<◌, ◌↔◌, ◌^◌, length, take, drop, if◌then◌else◌, nat_lt};
+ghost use Rattle.std.specs.Prelude.{◌≡◌, ◌≤◌, ◌<◌, ◌^◌, length, take, drop};
 ghost use Rattle.cobs.specs.Grammar.{IsEncodedFrame};
 ghost use Rattle.cobs.specs.Length.{encoded_len, max_encoded_len};
 ghost use Rattle.cobs.specs.Buffer.{overwritten};
-ghost use Rattle.cobs.specs.Decoding.{decode_answer, first_output};
-ghost use Rattle.cobs_c.specs.Answer.{decoded, refused};
+ghost use Rattle.cobs.specs.Decoding.{decode_answer, first_output, in_place, in_place_report};
+ghost use Rattle.cobs_c.specs.Answer.{answer_of};
 
-use cobs::{CobsDecoder, DecodeError, DecodeReport};
+mod answer;
+mod streams;
 
-/// The call did what it is for.
-pub const OK: u32 = 0;
+pub use answer::Answer;
+use answer::{OK, TOO_SMALL, answer_of};
 
-/// The destination is too short.
-pub const TOO_SMALL: u32 = 1;
-
-/// The frame breaks off inside a block, or there is none.
-pub const BROKEN: u32 = 2;
-
-/// There was no byte to decode.
-pub const EMPTY: u32 = 3;
-
-/// The answer of a call: its status, how many bytes of the source it consumed, and how many bytes stand at the front
-/// of the destination.
-#[repr(C)]
-#[derive(Clone, Copy)]
-pub struct Answer {
-    pub status: u32,
-    pub parsed: usize,
-    pub len: usize,
+/// How many bytes the longest encoded frame of a message of `source_len` bytes has, or 0 where that number doesn't
+/// fit.
+#[unsafe(no_mangle)]
+pub extern "C" fn cobs_max_encoding_length(source_len: usize) -> usize
+    ensures fits { max_encoded_len source_len < 2 ^ 64 → result ≡ max_encoded_len source_len }
+    ensures too_long { 2 ^ 64 ≤ max_encoded_len source_len → result ≡ 0 }
+{
+    source_len
+        .checked_add(cobs::max_encoding_overhead(source_len))
+        .unwrap_or(0)
 }
 
-/// The answer to what a decoding call answers.
-fn decoded(result: Result<DecodeReport, DecodeError>) -> Answer
-    ensures { result ≡ decoded result }
+/// As `cobs::encode`: writes the frame at the front of `dest`, where the caller owes room for it, and answers its
+/// length.
+#[unsafe(no_mangle)]
+pub extern "C" fn cobs_encode(source: &[u8], dest: &mut [u8]) -> usize
+    requires { encoded_len source.now ≤ length dest.old }
+    ensures frame { IsEncodedFrame (take result dest.new) source.now }
+    ensures len { result ≡ encoded_len source.now }
+    ensures rest { drop result dest.new ≡ drop result dest.old }
 {
-    match result {
-        Ok(report) => Answer {
+    cobs::encode(source, dest)
+}
+
+/// As `cobs::try_encode`: the frame where it fits, and else `TOO_SMALL` with `dest` unchanged.
+#[unsafe(no_mangle)]
+pub extern "C" fn cobs_try_encode(source: &[u8], dest: &mut [u8]) -> Answer
+    ensures fits { encoded_len source.now ≤ length dest.old
+        → result ≡ record { status = OK; parsed = length source.now; len = encoded_len source.now } }
+    ensures frame { encoded_len source.now ≤ length dest.old
+        → IsEncodedFrame (take result.len dest.new) source.now }
+    ensures rest { encoded_len source.now ≤ length dest.old
+        → drop result.len dest.new ≡ drop result.len dest.old }
+    ensures too_small { length dest.old < encoded_len source.now
+        → result ≡ record { status = TOO_SMALL; parsed = 0; len = 0 } }
+    ensures refused { length dest.old < encoded_len source.now → dest.new ≡ dest.old }
+{
+    match cobs::try_encode(source, dest) {
+        Ok(len) => Answer {
             status: OK,
-            parsed: report.parsed_size(),
-            len: report.frame_size(),
+            parsed: source.len(),
+            len,
         },
-        Err(error) => refused(&error),
+        Err(_) => Answer {
+            status: TOO_SMALL,
+            parsed: 0,
+            len: 0,
+        },
     }
+}
+
+/// As `cobs::decode`: the first frame of the source, decoded to the front of `dest`.
+#[unsafe(no_mangle)]
+pub extern "C" fn cobs_decode(source: &[u8], dest: &mut [u8]) -> Answer
+    ensures answer { result ≡ answer_of (decode_answer source.now (length dest.old)) }
+    ensures buffer { dest.new ≡ overwritten dest.old (first_output source.now) }
+{
+    answer_of(cobs::decode(source, dest))
+}
+
+/// As `cobs::decode_in_place_report`: the frame at the front of the buffer, decoded in its own place.
+#[unsafe(no_mangle)]
+pub extern "C" fn cobs_decode_in_place(buffer: &mut [u8]) -> Answer
+    ensures answer { result ≡ answer_of (in_place_report buffer.old) }
+    ensures buffer { buffer.new ≡ in_place buffer.old }
+{
+    answer_of(cobs::decode_in_place_report(buffer))
 }

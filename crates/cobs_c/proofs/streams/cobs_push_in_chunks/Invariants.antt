@@ -1,0 +1,14 @@
+use Rattle.std.proofs.Common.{◌≤◌, ◌-◌, length, take}
+use Rattle.cobs.specs.Buffers.{lent_buffer, lent_phase}
+use Rattle.cobs_c.proofs.TallyLemmas.{TalliedTo}
+use Rattle.cobs_c.proofs.streams.cobs_push_in_chunks.Given as goal
+
+abbrev pub invariant-by_push : goal.invariant-by_push
+invariant-by_push l = record {
+  order : l.at ≤ l.end;
+  within : l.end ≤ length l.stream;
+  tally : TalliedTo (lent_buffer l.decoder) (lent_phase l.decoder) (length l.fn.dest) (take l.at l.stream) l.messages l.sum;
+}
+
+abbrev pub decreases-by_push : goal.decreases-by_push
+decreases-by_push l = length l.stream - l.at

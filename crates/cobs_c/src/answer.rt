@@ -1,0 +1,63 @@
+//! What a call answers, as C sees it.
+ghost use Rattle.std.specs.Prelude.{◌≡◌};
+
+use cobs::{DecodeError, DecodeReport};
+
+/// The call did what it is for.
+pub const OK: u32 = 0;
+
+/// The destination is too short.
+pub const TOO_SMALL: u32 = 1;
+
+/// The frame breaks off inside a block, or there is none.
+pub const BROKEN: u32 = 2;
+
+/// There was no byte to decode.
+pub const EMPTY: u32 = 3;
+
+/// A status, how many bytes of the source were consumed, and how many bytes stand at the front of the destination.
+#[repr(C)]
+#[derive(Clone, Copy)]
+pub struct Answer {
+    pub status: u32,
+    pub parsed: usize,
+    pub len: usize,
+}
+
+/// The status that says why a frame was refused.
+pub(crate) fn status_of(error: &DecodeError) -> u32
+    ensures { result ≡ (refusal_of error.now).status }
+{
+    match error {
+        DecodeError::EmptyFrame => EMPTY,
+        DecodeError::InvalidFrame { .. } => BROKEN,
+        DecodeError::TargetBufTooSmall => TOO_SMALL,
+    }
+}
+
+ghost use Rattle.cobs_c.specs.Answer.{answer_of, refusal_of};
+
+/// The answer for what a decoding call answers.
+pub(crate) fn answer_of(decoded: Result<DecodeReport, DecodeError>) -> Answer
+    ensures { result ≡ answer_of decoded }
+{
+    match decoded {
+        Ok(report) => Answer {
+            status: OK,
+            parsed: report.parsed_size(),
+            len: report.frame_size(),
+        },
+        Err(error) => {
+            let status = status_of(&error);
+            let len = match error {
+                DecodeError::InvalidFrame { decoded_bytes } => decoded_bytes,
+                _ => 0,
+            };
+            Answer {
+                status,
+                parsed: 0,
+                len,
+            }
+        }
+    }
+}
