@@ -1,6 +1,6 @@
 -- The tally of a stream that is fed to a decoder: what a loop keeps.
-use Rattle.std.proofs.Common.{◌≡◌, ◌≢◌, ℕ, zero, suc, ◌+◌, ◌-◌, ◌<◌, ◌≤◌, Bool, true, false, cond, eqb, leb, List, [], ◌∷◌, ◌++◌, length, take, drop, get_or, Option, Some, None, Result, Ok, Err, refl, sym, ap, ◌∙◌, subst, inl, inr, ◌⊎◌, arith, append_assoc, append-nil, take_all, length-append, length-take-le, take-append-drop}
-use Rattle.std.proofs.lemmas.Bool.{leb-true, leb-false, ne_eqb, eq-eqb}
+use Rattle.std.proofs.Common.{◌≡◌, ◌≢◌, ℕ, zero, suc, ◌+◌, ◌-◌, ◌<◌, ◌≤◌, Bool, true, false, cond, leb, List, [], ◌∷◌, ◌++◌, length, take, drop, get_or, Option, Some, None, Result, Ok, Err, refl, sym, ap, ◌∙◌, subst, arith, append_assoc, append-nil, take_all, length-append, take-append-drop}
+use Rattle.std.proofs.lemmas.Bool.{leb-true, leb-false, ne_eqb}
 use Rattle.std.proofs.lemmas.List.{take_more, drop_more}
 use Rattle.std.proofs.lemmas.List.Elements.{All-push, All-nil}
 use Rattle.cobs.specs.Grammar.{HasNoZero}
@@ -12,7 +12,7 @@ use Rattle.cobs.specs.Report.{parsed_size_of, frame_size_of}
 use Rattle.cobs.specs.declared.dec.report.DecodeReport.{DecodeReport}
 use Rattle.cobs.specs.declared.dec.report.PushError.{PushError}
 use Rattle.cobs.specs.declared.dec.report.DecodeError.{DecodeError}
-use Rattle.cobs.specs.declared.dec.report.DecodeError.TheVariants.{EmptyFrame, InvalidFrame, TargetBufTooSmall}
+use Rattle.cobs.specs.declared.dec.report.DecodeError.TheVariants.{InvalidFrame, TargetBufTooSmall}
 use Rattle.cobs.proofs.StreamLemmas.{stream_outcomes-append, unended-append, unended-no_zero, unended-zero, unended-push, fed-nonzero, unended_no_zero, stream_outcomes-no_zero, stream_outcomes-piece, stream_outcomes-push, outcomes_at, outcomes_at-nonzero}
 use Rattle.cobs.proofs.PieceCuts.{output-empty}
 use Rattle.cobs.proofs.OutcomeLemmas.{output_within}
@@ -20,7 +20,7 @@ use Rattle.cobs.proofs.PushLemmas.{output-longer}
 use Rattle.cobs_c.specs.Answer.{refusal_of}
 use Rattle.cobs_c.specs.Tally.{tallied, outcomes_to_end}
 use Rattle.cobs_c.specs.declared.answer.Answer.{Answer}
-use Rattle.cobs_c.specs.declared.answer.TheConstants.{OK, TOO_SMALL, BROKEN}
+use Rattle.cobs_c.specs.declared.answer.TheConstants.{OK, TOO_SMALL}
 
 not-leb : (m n : ℕ) → n < m → leb m n ≡ false
 not-leb m n lt = at_test (leb m n) refl

@@ -1,5 +1,5 @@
 -- The answers of the library's calls, as C sees them.
-use Rattle.std.specs.Prelude.{ℕ, Result, Ok, Err}
+use Rattle.std.specs.Prelude.{Result, Ok, Err}
 use Rattle.cobs.specs.Report.{parsed_size_of, frame_size_of}
 use Rattle.cobs.specs.declared.dec.report.DecodeReport.{DecodeReport}
 use Rattle.cobs.specs.declared.dec.report.DecodeError.{DecodeError}

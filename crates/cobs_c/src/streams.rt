@@ -112,8 +112,8 @@ pub extern "C" fn cobs_feed_each(stream: &[u8], dest: &mut [u8]) -> Answer
         match decoder.feed(*byte) {
             Ok(None) => {}
             Ok(Some(n)) => {
-                messages += 1;
-                sum += n;
+                messages = usize::saturating_add(messages, 1);
+                sum = usize::saturating_add(sum, n);
             }
             Err(error) => {
                 return Answer {

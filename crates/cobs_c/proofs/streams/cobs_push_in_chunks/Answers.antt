@@ -1,5 +1,4 @@
-use Rattle.std.proofs.Common.{◌≡◌, ◌<◌, ◌≤◌, ◌+◌, ◌-◌, ◌++◌, [], ◌∙◌, ℕ, List, length, take, drop, Some, Ok, ap, sym, subst, rules, arith, length-take-le, length-drop, take-append-drop, append_assoc}
-use Rattle.std.proofs.lemmas.List.{take-take, drop-drop}
+use Rattle.std.proofs.Common.{◌<◌, ◌≤◌, ◌+◌, ◌-◌, ◌++◌, [], ◌∙◌, ℕ, List, length, take, drop, Ok, ap, subst, arith, length-take-le, length-drop}
 use Rattle.cobs.specs.Buffers.{lent_buffer, lent_phase}
 use Rattle.cobs.specs.Report.{parsed_size_of, frame_size_of}
 use Rattle.cobs_c.specs.Tally.{tallied, outcomes_to_end}
