@@ -30,6 +30,7 @@ pub use report::{DecodeError, DecodeReport, DecodingResult, PushError};
 pub use sentinel::decode_with_sentinel;
 pub use state::{DecodeResult, DecoderState};
 pub use vector::{DecodeVecError, decode_vec, decode_vec_with_sentinel};
+pub use write_buffer::WriteBuffer;
 
 /// Decodes the first frame of the source into `dest`, and answers how many bytes were consumed and how many the
 /// message has.
@@ -64,8 +65,6 @@ pub fn decode(source: &[u8], dest: &mut [u8]) -> Result<DecodeReport, DecodeErro
     let parsed_size = if end < source.len() { end + 1 } else { end };
     Ok(DecodeReport::new(parsed_size, frame_size))
 }
-
-pub use write_buffer::WriteBuffer;
 
 #[cfg(test)]
 mod decoder_tests;

@@ -142,6 +142,6 @@ impl<const N: usize> WriteBuffer for CobsDecoderHeapless<N> {
     ghost with_bytes = { with_heapless_buffer };
 
     fn dest_mut(&mut self) -> &mut [u8] {
-        self.dest.as_mut_slice()
+        CobsDecoderHeapless::dest_mut(self)
     }
 }

@@ -121,6 +121,6 @@ impl WriteBuffer for CobsDecoderOwned {
     ghost with_bytes = { with_owned_buffer };
 
     fn dest_mut(&mut self) -> &mut [u8] {
-        self.dest.as_mut_slice()
+        CobsDecoderOwned::dest_mut(self)
     }
 }
