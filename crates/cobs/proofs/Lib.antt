@@ -36,3 +36,8 @@ pub mod StretchLemmas
 pub mod KindLemmas
 pub mod MessagesLemmas
 pub mod SourceSteps
+pub mod VectorSteps
+pub mod HeadlineLemmas
+mod LentSlice
+pub mod FewLemmas
+pub mod PushHeadline

@@ -1,5 +1,5 @@
 -- What the free decoders answer, and what their buffers hold then.
-use Rattle.std.specs.Prelude.{ℕ, ◌+◌, ◌==◌, nat_le, min, List, [], ◌∷◌, length, Option, Some, None, Result, Ok, Err, if◌then◌else◌}
+use Rattle.std.specs.Prelude.{◌≡◌, ⊤, ℕ, ◌+◌, ◌==◌, nat_le, min, List, [], ◌∷◌, length, Option, Some, None, Result, Ok, Err, if◌then◌else◌}
 use Rattle.std.specs.List.{prefix_len}
 use Rattle.cobs.specs.Buffer.{overwritten}
 use Rattle.cobs.specs.Piece.{output, kept_output, is_whole}
@@ -8,6 +8,8 @@ use Rattle.cobs.specs.Report.{report_of}
 use Rattle.cobs.specs.declared.dec.report.DecodeReport.{DecodeReport}
 use Rattle.cobs.specs.declared.dec.report.DecodeError.{DecodeError}
 use Rattle.cobs.specs.declared.dec.report.DecodeError.TheVariants.{EmptyFrame, InvalidFrame, TargetBufTooSmall}
+use Rattle.cobs.specs.declared.dec.vector.DecodeVecError.{DecodeVecError}
+use Rattle.cobs.specs.declared.dec.vector.DecodeVecError.TheVariants.{Decode, Memory}
 
 -- how many zeros a source begins with
 abbrev pub leading_zeros : List ℕ → ℕ
@@ -74,3 +76,30 @@ head_answer_within h n = if nat_le (length (kept_output h)) n then head_answer h
 abbrev pub source_answer : List ℕ → ℕ → Result ℕ DecodeError
 source_answer [] n = Err EmptyFrame
 source_answer (byte ∷ bytes) n = head_answer_within (head (byte ∷ bytes)) n
+
+-- the message of a piece, if there is a piece, or why there is none
+abbrev pub message_of_piece : Option (List ℕ) → Result (List ℕ) DecodeError
+message_of_piece None = Err (InvalidFrame 0)
+message_of_piece (Some p) = if is_whole p then Ok (output p) else Err (InvalidFrame (length (output p)))
+
+-- the message of a source, by its first piece, or why there is none
+abbrev pub decoded : List ℕ → Result (List ℕ) DecodeError
+decoded [] = Err EmptyFrame
+decoded (byte ∷ bytes) = message_of_piece (first_piece (byte ∷ bytes))
+
+-- the message of what stands before the first zero of a list, or why there is none
+abbrev pub message_of_head : List ℕ → Result (List ℕ) DecodeError
+message_of_head [] = Ok []
+message_of_head (byte ∷ bytes) =
+    let h = byte ∷ bytes in
+    if is_whole h then Ok (output h) else Err (InvalidFrame (length (kept_output h)))
+
+-- the message of a source for the sentinel 0, by what stands before its first zero, or why there is none
+abbrev pub decoded_head : List ℕ → Result (List ℕ) DecodeError
+decoded_head [] = Err EmptyFrame
+decoded_head (byte ∷ bytes) = message_of_head (head (byte ∷ bytes))
+
+-- an error of a vector form is the refusal of the source, or want of memory
+abbrev pub IsRefusal : Result (List ℕ) DecodeError → DecodeVecError → Type 0
+IsRefusal answer (Decode error) = answer ≡ Err error
+IsRefusal answer (Memory error) = ⊤

@@ -8,23 +8,28 @@ mod frame_decoder;
 mod heapless;
 mod in_place;
 mod inner;
+mod kind;
 mod lent;
 mod owned;
 mod piece;
 mod report;
 mod sentinel;
 mod state;
+mod vector;
 mod window;
+mod write_buffer;
 
 pub use frame_decoder::FrameDecoder;
 pub use heapless::CobsDecoderHeapless;
 pub use in_place::{decode_in_place, decode_in_place_report, decode_in_place_with_sentinel};
+pub use kind::{FrameKind, frame_kind};
 pub use lent::CobsDecoder;
 pub use owned::CobsDecoderOwned;
 use piece::{decode_ended, leading_zeros, piece_len};
 pub use report::{DecodeError, DecodeReport, DecodingResult, PushError};
 pub use sentinel::decode_with_sentinel;
 pub use state::{DecodeResult, DecoderState};
+pub use vector::{DecodeVecError, decode_vec, decode_vec_with_sentinel};
 
 /// Decodes the first frame of the source into `dest`, and answers how many bytes were consumed and how many the
 /// message has.
@@ -59,3 +64,10 @@ pub fn decode(source: &[u8], dest: &mut [u8]) -> Result<DecodeReport, DecodeErro
     let parsed_size = if end < source.len() { end + 1 } else { end };
     Ok(DecodeReport::new(parsed_size, frame_size))
 }
+
+pub use write_buffer::WriteBuffer;
+
+#[cfg(test)]
+mod decoder_tests;
+#[cfg(test)]
+mod decoding_tests;

@@ -8,6 +8,7 @@ ghost use Rattle.cobs.specs.Buffers.{lent_buffer, lent_phase, lent_slice, LendsS
 use crate::dec::frame_decoder::FrameDecoder;
 use crate::dec::inner::CobsDecoderInner;
 use crate::dec::report::{DecodeError, DecodeReport, PushError};
+use crate::dec::write_buffer::WriteBuffer;
 
 /// Decodes a stream of frames, each ended by a zero, into a slice that is lent to it.
 ///
@@ -46,7 +47,8 @@ impl<'a> CobsDecoder<'a> {
     /// holds its first bytes; that is the answer to each byte from the one that finds no room through the zero.
     /// After every zero the decoder is idle. (What is answered after an overflow is a choice of this library.)
     pub fn feed(&mut self, byte: u8) -> Result<Option<usize>, DecodeError>
-        ensures feeds { Feeds (lent_buffer self.old) (lent_phase self.old) byte result (lent_buffer self.new) (lent_phase self.new) }
+        ensures feeds { Feeds (lent_buffer self.old) (lent_phase self.old) byte result
+            (lent_buffer self.new) (lent_phase self.new) }
         ensures same_slice { lent_slice self.new ≡ lent_slice self.old }
     {
         self.inner.feed(self.dest, byte)
@@ -63,7 +65,8 @@ impl<'a> CobsDecoder<'a> {
     /// Pushing the bytes behind these goes on with the stream: a piece whose zero raised the error is over, and
     /// while a piece is too long for the slice, each push of its bytes takes one, through its zero.
     pub fn push(&mut self, bytes: &[u8]) -> Result<Option<DecodeReport>, PushError>
-        ensures pushes { PushesBytes (lent_buffer self.old) (lent_phase self.old) bytes.now result (lent_buffer self.new) (lent_phase self.new) }
+        ensures pushes { PushesBytes (lent_buffer self.old) (lent_phase self.old) bytes.now result
+            (lent_buffer self.new) (lent_phase self.new) }
         ensures same_slice { lent_slice self.new ≡ lent_slice self.old }
     {
         self.inner.push(self.dest, bytes)
@@ -103,5 +106,17 @@ impl FrameDecoder for CobsDecoder<'_> {
 
     fn buffer(&self) -> &[u8] {
         self.dest()
+    }
+}
+
+impl WriteBuffer for CobsDecoder<'_> {
+    ghost use Rattle.cobs.specs.Buffers.{lent_buffer, with_lent_buffer};
+
+    ghost bytes = { lent_buffer };
+
+    ghost with_bytes = { with_lent_buffer };
+
+    fn dest_mut(&mut self) -> &mut [u8] {
+        self.dest
     }
 }

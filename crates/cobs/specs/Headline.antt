@@ -1,0 +1,27 @@
+-- The words of the headline: a decoder that is given all of a list answers a message.
+use Rattle.std.specs.Prelude.{◌≡◌, ◌≢◌, ℕ, List, [], length, take, Option, Result, IsOkAnd, IsSomeAnd}
+use Rattle.cobs.specs.Grammar.{HasNoZero}
+use Rattle.cobs.specs.Report.{frame_size_of}
+use Rattle.cobs.specs.declared.dec.report.DecodeReport.{DecodeReport}
+use Rattle.cobs.specs.declared.dec.report.DecodeError.{DecodeError}
+use Rattle.cobs.specs.declared.dec.report.PushError.{PushError}
+
+-- a list that may be a frame: it isn't empty, and the sentinel 0 isn't in it
+abbrev pub IsPiece : List ℕ → Type 0
+IsPiece p = (p ≢ []) × HasNoZero p
+
+-- the buffer begins with the message m, which has n bytes
+abbrev pub BeginsWith : List ℕ → ℕ → List ℕ → Type 0
+BeginsWith buffer n m = (n ≡ length m) × (take n buffer ≡ m)
+
+-- the answer is the message's length, and the buffer begins with the message
+abbrev pub AnswersMessage : Result ℕ DecodeError → List ℕ → List ℕ → Type 0
+AnswersMessage result buffer m = IsOkAnd result (λ n. BeginsWith buffer n m)
+
+-- the same of an answer that also says how many bytes were consumed
+abbrev pub ReportsMessage : Result DecodeReport DecodeError → List ℕ → List ℕ → Type 0
+ReportsMessage result buffer m = IsOkAnd result (λ report. BeginsWith buffer (frame_size_of report) m)
+
+-- the same of a push to a streaming decoder
+abbrev pub PushesMessage : Result (Option DecodeReport) PushError → List ℕ → List ℕ → Type 0
+PushesMessage result buffer m = IsOkAnd result (λ found. IsSomeAnd found (λ report. BeginsWith buffer (frame_size_of report) m))
