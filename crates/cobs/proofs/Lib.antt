@@ -39,3 +39,4 @@ pub mod SourceSteps
 pub mod VectorSteps
 pub mod HeadlineLemmas
 pub mod PushHeadline
+pub mod VectorHeadline

@@ -65,11 +65,7 @@ fn decode_blocks(source: &[u8], dest: &mut [u8], sentinel: u8) -> Result<usize, 
 }
 
 /// Decodes what stands before the first sentinel of the source.
-fn decode_source(
-    source: &[u8],
-    dest: &mut [u8],
-    sentinel: u8,
-) -> Result<usize, DecodeError>
+fn decode_source(source: &[u8], dest: &mut [u8], sentinel: u8) -> Result<usize, DecodeError>
     ensures answer { result ≡ source_answer (xor_each sentinel source.now) (length dest.old) }
     ensures buffer { dest.new ≡ overwritten dest.old (kept_output (head (xor_each sentinel source.now))) }
 {
