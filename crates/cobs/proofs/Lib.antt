@@ -38,5 +38,7 @@ pub mod MessagesLemmas
 pub mod SourceSteps
 pub mod VectorSteps
 pub mod HeadlineLemmas
+mod LentSlice
+pub mod FewLemmas
 pub mod PushHeadline
 pub mod VectorHeadline

@@ -16,7 +16,7 @@ use Rattle.cobs.specs.Machine.{left_in, phase_of, phase_of_state, grows, next_ph
 use Rattle.cobs.proofs.PieceLemmas.{output-one, last_part-one, output-push_more, output-push_next, last_part-push_next, lacks-push_more, is_full-push_more}
 use Rattle.cobs.proofs.PieceCuts.{last_part-more, last_part-last}
 use Rattle.cobs.proofs.PushLemmas.{output-longer}
-use Rattle.cobs.proofs.RunLemmas.{over, over-nil}
+use Rattle.cobs.proofs.RunLemmas.{over, over-nil, over-push}
 
 -- the bytes are fed in two parts
 pub FedInTurn-append : (xs ys buffer buffer' buffer'' : List ℕ) (phase phase' phase'' : Phase)
@@ -30,18 +30,6 @@ FedInTurn-append (x ∷ xs) ys buffer buffer' buffer'' phase phase' phase'' f g 
 pub output-grows : (q tail : List ℕ) → length (output q) ≤ length (output (q ++ tail))
 output-grows q [] = omega (arith, ap (λ (x : List ℕ). length (output x)) (append-nil q))
 output-grows q (x ∷ tail) = omega (arith, output-longer q x, output-grows (q ++ x ∷ []) tail, ap (λ (z : List ℕ). length (output z)) (append_assoc q (x ∷ []) tail))
-
--- one more byte behind what was written at a place
-over-push : (base : ℕ) (buffer xs : List ℕ) (x : ℕ) → base + length xs < length buffer → set (over base buffer xs) (base + length xs) x ≡ over base buffer (xs ++ x ∷ [])
-over-push base buffer xs x room =
-    let front : length (take base buffer) ≡ base = length-take-le base buffer (omega arith) in
-    let one : length (xs ++ x ∷ []) ≡ length xs + 1 = length_push xs x in
-    set-append_right (take base buffer) (xs ++ drop (base + length xs) buffer) base (base + length xs) x front (omega arith)
-    ∙ ap (λ (k : ℕ). take base buffer ++ set (xs ++ drop (base + length xs) buffer) k x) (omega arith)
-    ∙ ap (λ (l : List ℕ). take base buffer ++ set (xs ++ l) (length xs) x) (drop_more buffer (base + length xs) 0 room)
-    ∙ ap (λ (l : List ℕ). take base buffer ++ l) (set-append_seam xs _ (drop (base + length xs + 1) buffer) x
-    ∙ sym (append_assoc xs (x ∷ []) (drop (base + length xs + 1) buffer))
-    ∙ ap (λ (k : ℕ). (xs ++ x ∷ []) ++ drop k buffer) (omega arith))
 
 length-over : (base : ℕ) (buffer xs : List ℕ) → base + length xs ≤ length buffer → length (over base buffer xs) ≡ length buffer
 length-over base buffer xs room = omega (arith, length-append (take base buffer) (xs ++ drop (base + length xs) buffer), length-append xs (drop (base + length xs) buffer), length-take-le base buffer (omega arith), length-drop (base + length xs) buffer)

@@ -42,9 +42,13 @@ owned_buffer decoder = decoder.dest.items
 abbrev pub owned_phase : CobsDecoderOwned → Phase
 owned_phase decoder = phase_of decoder.inner
 
+-- the decoder with these bytes in its vector
+abbrev pub with_owned_buffer : CobsDecoderOwned → List ℕ → CobsDecoderOwned
+with_owned_buffer decoder bytes = record decoder { dest = with_items decoder.dest bytes }
+
 -- the decoder ends with what the caller leaves behind the reference, and is otherwise as it was
 abbrev pub LendsOwned : MutBor CobsDecoderOwned → MutBor (List ℕ) → Fml
-LendsOwned decoder bytes = Lends owned_row (Array u8 0) decoder bytes (λ left. record decoder.now { dest = with_items decoder.now.dest left })
+LendsOwned decoder bytes = Lends owned_row (Array u8 0) decoder bytes (with_owned_buffer decoder.now)
 
 module _ {N : ℕ} where
   -- the bytes of the vector of a `CobsDecoderHeapless`
@@ -55,6 +59,14 @@ module _ {N : ℕ} where
   abbrev pub heapless_phase : CobsDecoderHeapless N → Phase
   heapless_phase decoder = phase_of decoder.inner
 
+  -- the decoder with these bytes in its vector
+  abbrev pub with_heapless_buffer : CobsDecoderHeapless N → List ℕ → CobsDecoderHeapless N
+  with_heapless_buffer decoder bytes = record decoder { dest = refilled decoder.dest bytes }
+
 -- the decoder ends with what the caller leaves behind the reference, and is otherwise as it was
 abbrev pub LendsHeapless : (N : RattleType) → MutBor (CobsDecoderHeapless (value_of N)) → MutBor (List ℕ) → Fml
-LendsHeapless N decoder bytes = Lends (heapless_row N) (Array u8 0) decoder bytes (λ left. record decoder.now { dest = refilled decoder.now.dest left })
+LendsHeapless N decoder bytes = Lends (heapless_row N) (Array u8 0) decoder bytes (with_heapless_buffer decoder.now)
+
+-- a value ends with what the caller leaves behind the reference in its buffer, and is otherwise as it was
+abbrev pub LendsBytes : (R : RattleType) → MutBor R.Denot → MutBor (List ℕ) → (R.Denot → List ℕ → R.Denot) → Fml
+LendsBytes R lender bytes with_bytes = Lends R (Array u8 0) lender bytes (with_bytes lender.now)

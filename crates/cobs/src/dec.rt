@@ -11,6 +11,7 @@ mod frame_decoder;
 mod heapless;
 mod in_place;
 mod inner;
+mod kind;
 mod lent;
 mod owned;
 mod piece;
@@ -19,10 +20,12 @@ mod sentinel;
 mod state;
 mod vector;
 mod window;
+mod write_buffer;
 
 pub use frame_decoder::FrameDecoder;
 pub use heapless::CobsDecoderHeapless;
 pub use in_place::{decode_in_place, decode_in_place_report, decode_in_place_with_sentinel};
+pub use kind::{FrameKind, frame_kind};
 pub use lent::CobsDecoder;
 pub use owned::CobsDecoderOwned;
 use piece::{decode_ended, leading_zeros, piece_len};
@@ -74,3 +77,10 @@ pub fn decode(source: &[u8], dest: &mut [u8]) -> Result<DecodeReport, DecodeErro
 {
     decode_first(source, dest)
 }
+
+pub use write_buffer::WriteBuffer;
+
+#[cfg(test)]
+mod decoder_tests;
+#[cfg(test)]
+mod decoding_tests;

@@ -254,3 +254,6 @@ impl<D: FrameDecoder> FrameReader<D> {
         Err(ReadFault::TooManyReads)
     }
 }
+
+#[cfg(test)]
+mod tests;

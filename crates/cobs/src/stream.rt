@@ -144,3 +144,6 @@ fn write_frames(messages: &[Vec<u8>], dest: &mut [u8]) -> usize
     }
     end
 }
+
+#[cfg(test)]
+mod tests;

@@ -2,10 +2,8 @@
 use Rattle.std.proofs.Common.{◌≡◌, ◌+◌, ◌<◌, ◌≤◌, ℕ, Bool, if◌then◌else◌, List, [], ◌∷◌, ◌++◌, length, codes, cond, Result, Ok, Err, is_ok, OnOk, refl, ap, sym, ◌∙◌, arith, append_assoc, append-nil, length-append, subst, take}
 use Rattle.std.proofs.lemmas.Fmt.{decimal_digit}
 use Rattle.std.specs.List.{flat_map}
-use Rattle.cobs.proofs.SoFar.{DecoderAfter-idle}
 use Rattle.cobs.proofs.StreamLemmas.{stream_outcomes-append, unended-append, unended-zero}
-use Rattle.cobs.specs.Decoder.{Phase, Idle, DecoderAfter, phase_after}
-use Rattle.cobs.specs.Reading.{Read, Runs, EndsFirst, ReaderState, ReadsNext, AtPieceEnd, all_given}
+use Rattle.cobs.specs.Reading.{Read, Runs, EndsFirst, ReaderState, IsBehind, ReadsNext, AtPieceEnd, all_given}
 use Rattle.cobs.specs.Stream.{Outcome, Message, Broken, TooLong, is_nonempty, stream_outcomes, unended}
 use Rattle.cobs.specs.declared.framed.Next.TheVariants as nexts
 use Rattle.cobs.specs.declared.framed.ReadFault.{ReadFault}
@@ -70,7 +68,7 @@ left_of reader source = reader.kept ++ bytes_left source
 pub record PieceTold (reader : ReaderState) (source : InMemory) (reader' : ReaderState) (source' : InMemory) (outcome : Outcome) : Type 0 where
   pub told : report (left_of reader source) ≡ outcome_line outcome ++ report (left_of reader' source')
   pub fewer : length reader'.kept + length (bytes_left source') < length reader.kept + length (bytes_left source)
-  pub idle : reader'.phase ≡ Idle
+  pub idle : IsBehind reader' []
 
 -- what was still to be reported, by the bytes that the reads gave
 left_of-given : (reader : ReaderState) (source : InMemory) (reads : List Read) (source' : InMemory) → Runs MemoryStep source reads source'
@@ -92,31 +90,26 @@ PieceTold-from reader source reader' source' reads outcome len runs end =
       idle = end.idle;
     }
 
--- an idle decoder has taken nothing of a piece
-pub idle-IsBehind : (buffer : List ℕ) (phase : Phase) → DecoderAfter buffer phase [] → phase ≡ Idle
-unfolding phase_after
-idle-IsBehind buffer phase after = after.phased.phase_is
-
 -- what each answer of a call tells, where the reader was idle
 
 pub message_told : (reader : ReaderState) (source : InMemory) (reader' : ReaderState) (source' : InMemory) (n : ℕ)
-    → ReadsNext MemoryStep source source' reader (Ok (nexts.Message n)) reader' → reader.phase ≡ Idle → length reader'.buffer ≡ DECODE_BUFFER_LEN
+    → ReadsNext MemoryStep source source' reader (Ok (nexts.Message n)) reader' → IsBehind reader [] → length reader'.buffer ≡ DECODE_BUFFER_LEN
     → PieceTold reader source reader' source' (Message (take n reader'.buffer)) × (n ≤ length reader'.buffer)
 message_told reader source reader' source' n next idle len =
-    let told = next.tells [] (DecoderAfter-idle reader.buffer reader.phase idle) in
+    let told = next.tells [] idle in
     (PieceTold-from reader source reader' source' next.reads _ len next.runs told.0, told.1)
 
 pub broken_told : (reader : ReaderState) (source : InMemory) (reader' : ReaderState) (source' : InMemory) (count : ℕ)
-    → ReadsNext MemoryStep source source' reader (Ok (nexts.Broken count)) reader' → reader.phase ≡ Idle → length reader'.buffer ≡ DECODE_BUFFER_LEN
+    → ReadsNext MemoryStep source source' reader (Ok (nexts.Broken count)) reader' → IsBehind reader [] → length reader'.buffer ≡ DECODE_BUFFER_LEN
     → PieceTold reader source reader' source' (Broken count)
 broken_told reader source reader' source' count next idle len =
-    PieceTold-from reader source reader' source' next.reads _ len next.runs (next.tells [] (DecoderAfter-idle reader.buffer reader.phase idle))
+    PieceTold-from reader source reader' source' next.reads _ len next.runs (next.tells [] idle)
 
 pub too_long_told : (reader : ReaderState) (source : InMemory) (reader' : ReaderState) (source' : InMemory)
-    → ReadsNext MemoryStep source source' reader (Ok nexts.TooLong) reader' → reader.phase ≡ Idle → length reader'.buffer ≡ DECODE_BUFFER_LEN
+    → ReadsNext MemoryStep source source' reader (Ok nexts.TooLong) reader' → IsBehind reader [] → length reader'.buffer ≡ DECODE_BUFFER_LEN
     → PieceTold reader source reader' source' TooLong
 too_long_told reader source reader' source' next idle len =
-    PieceTold-from reader source reader' source' next.reads _ len next.runs (next.tells [] (DecoderAfter-idle reader.buffer reader.phase idle))
+    PieceTold-from reader source reader' source' next.reads _ len next.runs (next.tells [] idle)
 
 -- the last line, or none
 abbrev pub unfinished_text : Bool → List ℕ
@@ -124,11 +117,11 @@ unfinished_text unfinished = if unfinished then codes "unfinished\n" else []
 
 -- nothing is left behind the end
 pub end_told : (reader : ReaderState) (source : InMemory) (reader' : ReaderState) (source' : InMemory) (unfinished : Bool)
-    → ReadsNext MemoryStep source source' reader (Ok (nexts.End unfinished)) reader' → reader.phase ≡ Idle → length reader'.buffer ≡ DECODE_BUFFER_LEN
+    → ReadsNext MemoryStep source source' reader (Ok (nexts.End unfinished)) reader' → IsBehind reader [] → length reader'.buffer ≡ DECODE_BUFFER_LEN
     → report (left_of reader source) ≡ unfinished_text unfinished
 end_told reader source reader' source' unfinished next idle len =
     let t = reader.kept ++ all_given next.reads in
-    let told = next.tells [] (DecoderAfter-idle reader.buffer reader.phase idle) in
+    let told = next.tells [] idle in
     let (earlier, last) = told.1 in
     let none : bytes_left source' ≡ [] = bytes_left-at_end source earlier source' (subst (λ reads. Runs MemoryStep source reads source') last next.runs) in
     ap report (left_of-given reader source next.reads source' next.runs ∙ ap (λ l. t ++ l) none ∙ append-nil t)
@@ -137,12 +130,12 @@ end_told reader source reader' source' unfinished next idle len =
 
 -- a call over 1 MiB or less meets no fault: no read fails, and one in 64 bytes is enough
 pub no_fault : (reader : ReaderState) (source : InMemory) (reader' : ReaderState) (source' : InMemory) (fault : ReadFault)
-    → ReadsNext MemoryStep source source' reader (Err fault) reader' → reader.phase ≡ Idle → length (left_of reader source) ≤ MAX_INPUT → ⊥
+    → ReadsNext MemoryStep source source' reader (Err fault) reader' → IsBehind reader [] → length (left_of reader source) ≤ MAX_INPUT → ⊥
 no_fault reader source reader' source' faults.Io next idle few =
-    let (earlier, last) = (next.tells [] (DecoderAfter-idle reader.buffer reader.phase idle)).1 in
+    let (earlier, last) = (next.tells [] idle).1 in
     never_fails source earlier source' (subst (λ reads. Runs MemoryStep source reads source') last next.runs)
 no_fault reader source reader' source' faults.TooManyReads next idle few =
-    let told = next.tells [] (DecoderAfter-idle reader.buffer reader.phase idle) in
+    let told = next.tells [] idle in
     let enough = few_reads source next.reads source' next.runs told.2 in
     let count = told.1 in
     omega (arith, length-append reader.kept (bytes_left source))

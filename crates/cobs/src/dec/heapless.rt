@@ -12,6 +12,7 @@ ghost use Rattle.cobs.specs.Buffers.{heapless_buffer, heapless_phase, LendsHeapl
 use crate::dec::frame_decoder::FrameDecoder;
 use crate::dec::inner::CobsDecoderInner;
 use crate::dec::report::{DecodeError, DecodeReport, PushError};
+use crate::dec::write_buffer::WriteBuffer;
 use arrayvec::ArrayVec;
 
 /// Decodes a stream of frames, each ended by a zero, into a buffer of `N` bytes that lies in the value itself.
@@ -134,5 +135,17 @@ impl<const N: usize> FrameDecoder for CobsDecoderHeapless<N> {
 
     fn buffer(&self) -> &[u8] {
         self.dest()
+    }
+}
+
+impl<const N: usize> WriteBuffer for CobsDecoderHeapless<N> {
+    ghost use Rattle.cobs.specs.Buffers.{heapless_buffer, with_heapless_buffer};
+
+    ghost bytes = { heapless_buffer };
+
+    ghost with_bytes = { with_heapless_buffer };
+
+    fn dest_mut(&mut self) -> &mut [u8] {
+        self.dest.as_mut_slice()
     }
 }

@@ -11,6 +11,7 @@ ghost use Rattle.cobs.specs.Buffers.{lent_buffer, lent_phase, lent_slice, LendsS
 use crate::dec::frame_decoder::FrameDecoder;
 use crate::dec::inner::CobsDecoderInner;
 use crate::dec::report::{DecodeError, DecodeReport, PushError};
+use crate::dec::write_buffer::WriteBuffer;
 
 /// Decodes a stream of frames, each ended by a zero, into a slice that is lent to it.
 ///
@@ -109,5 +110,17 @@ impl FrameDecoder for CobsDecoder<'_> {
 
     fn buffer(&self) -> &[u8] {
         self.dest()
+    }
+}
+
+impl WriteBuffer for CobsDecoder<'_> {
+    ghost use Rattle.cobs.specs.Buffers.{lent_buffer, with_lent_buffer};
+
+    ghost bytes = { lent_buffer };
+
+    ghost with_bytes = { with_lent_buffer };
+
+    fn dest_mut(&mut self) -> &mut [u8] {
+        self.dest
     }
 }

@@ -11,6 +11,7 @@ ghost use Rattle.cobs.specs.Buffers.{owned_buffer, owned_phase, LendsOwned};
 use crate::dec::frame_decoder::FrameDecoder;
 use crate::dec::inner::CobsDecoderInner;
 use crate::dec::report::{DecodeError, DecodeReport, PushError};
+use crate::dec::write_buffer::WriteBuffer;
 use std::alloc::{AllocError, Global};
 
 /// Decodes a stream of frames, each ended by a zero, into a buffer of its own.
@@ -113,5 +114,17 @@ impl FrameDecoder for CobsDecoderOwned {
 
     fn buffer(&self) -> &[u8] {
         self.dest()
+    }
+}
+
+impl WriteBuffer for CobsDecoderOwned {
+    ghost use Rattle.cobs.specs.Buffers.{owned_buffer, with_owned_buffer};
+
+    ghost bytes = { owned_buffer };
+
+    ghost with_bytes = { with_owned_buffer };
+
+    fn dest_mut(&mut self) -> &mut [u8] {
+        self.dest.as_mut_slice()
     }
 }

@@ -1,6 +1,6 @@
-use Rattle.std.proofs.Common.{◌≡◌, ◌≤◌, ◌+◌, ◌++◌, length, string_bytes}
+use Rattle.std.proofs.Common.{◌≡◌, ◌≤◌, ◌+◌, [], ◌++◌, length, string_bytes}
 use Rattle.cobs.specs.Buffers.{owned_buffer, owned_phase}
-use Rattle.cobs.specs.Decoder.{Idle}
+use Rattle.cobs.specs.Decoder.{DecoderAfter}
 use Rattle.cobs.specs.Reader.{decoder_of, kept_of}
 use Rattle.cobs_tool.specs.Memory.{bytes_left}
 use Rattle.cobs_tool.specs.Report.{report}
@@ -13,7 +13,7 @@ invariant-by_piece l =
     let left = kept_of l.frames ++ bytes_left l.source in record {
       told : string_bytes l.text ++ report left ≡ report l.fn.stream;
       few : length left ≤ MAX_INPUT;
-      idle : owned_phase (decoder_of l.frames) ≡ Idle;
+      idle : DecoderAfter (owned_buffer (decoder_of l.frames)) (owned_phase (decoder_of l.frames)) [];
       buffer : length (owned_buffer (decoder_of l.frames)) ≡ DECODE_BUFFER_LEN;
     }
 

@@ -1,0 +1,54 @@
+//! Whether a list is a frame, and which one of its message.
+ghost use Rattle.std.specs.Prelude.{◌≡◌, ◌↔◌};
+ghost use Rattle.cobs.specs.Grammar.{IsCanonical, IsFrame};
+
+use crate::dec::piece::piece_len;
+
+/// What a list of bytes is to a decoder.
+#[derive(Debug, Drop, PartialEq, Eq)]
+pub enum FrameKind {
+    /// No message: the list is empty, has a zero, or breaks off inside a block.
+    NotAFrame,
+
+    /// The frame that encoders give for its message.
+    Canonical,
+
+    /// The longer frame of its message: the one that encoders give, followed by a block without bytes. Only a message
+    /// whose last run of nonzero bytes fills its blocks has one.
+    Longer,
+}
+
+/// Whether the bytes are a frame, and whether they are the one that encoders give for its message.
+///
+/// The bytes are taken without sentinels around them. A frame is longer than its message's encoded one exactly where its
+/// last two blocks are a full one and the block that has no bytes; decoders read the two alike. No memory is taken.
+///
+/// A frame is defined by its blocks, after Cheshire and Baker; which of two frames is the canonical one is said by
+/// their encoder, which gives the shorter.
+pub fn frame_kind(bytes: &[u8]) -> FrameKind
+    ensures not_a_frame { (result ≡ FrameKind.NotAFrame) ↔ ¬ IsFrame bytes.now }
+    ensures canonical { (result ≡ FrameKind.Canonical) ↔ IsCanonical bytes.now }
+    ensures longer { (result ≡ FrameKind.Longer) ↔ (IsFrame bytes.now × ¬ IsCanonical bytes.now) }
+{
+    if bytes.is_empty() || piece_len(bytes) < bytes.len() {
+        return FrameKind::NotAFrame;
+    }
+    let mut read = 0;
+    let mut behind_full = false;
+    'by_block: loop {
+        let code = bytes[read] as usize;
+        let left = bytes.len() - read;
+        if left < code {
+            return FrameKind::NotAFrame;
+        }
+        if left == code {
+            return if behind_full && code == 1 {
+                FrameKind::Longer
+            } else {
+                FrameKind::Canonical
+            };
+        }
+        behind_full = code == 255;
+        read += code;
+    }
+}
