@@ -1,13 +1,13 @@
 -- What decoders that are given all of a list answer: the message m exactly where the list reads as m.
-use Rattle.std.proofs.Common.{◌≡◌, ◌≢◌, ℕ, ◌+◌, ◌-◌, ◌<◌, ◌≤◌, ◌↔◌, nat_le, Bool, true, false, cond, List, [], ◌∷◌, ◌++◌, length, take, drop, All, IsTrue, Option, Some, None, Result, Ok, Err, refl, sym, ap, ◌∙◌, subst, arith, take_all, take_at, get_or, Fits, w8, ⊎_elim}
-use Rattle.std.proofs.lemmas.Bool.{cases_Bool, cases_lt, true≢false, le-leb}
+use Rattle.std.proofs.Common.{◌≡◌, ◌≢◌, ℕ, ◌<◌, ◌≤◌, ◌↔◌, nat_le, Bool, true, false, cond, List, [], ◌∷◌, ◌++◌, length, take, drop, All, Result, Ok, Err, refl, sym, ap, ◌∙◌, subst, arith, take_all, take_at, get_or, Fits, w8, ⊎_elim}
+use Rattle.std.proofs.lemmas.Bool.{cases_Bool, le-leb}
 use Rattle.std.proofs.lemmas.List.Elements.{All-from_get_or, All-map, All-weaker}
 use Rattle.std.specs.Int.Bits.{bit_xor, xor_lt}
 use Rattle.cobs.specs.Sentinel.{xor_each}
 use Rattle.cobs.specs.Buffer.{overwritten}
-use Rattle.cobs.specs.Grammar.{HasNoZero, Reads}
+use Rattle.cobs.specs.Grammar.{Reads}
 use Rattle.cobs.specs.Piece.{output, kept_output, is_whole, IsWhole}
-use Rattle.cobs.specs.Stream.{Outcome, Message, Broken, TooLong, outcome_of, first_piece, head}
+use Rattle.cobs.specs.Stream.{Message, Broken, TooLong, outcome_of, head}
 use Rattle.cobs.specs.Decoding.{sized, reported, consumed, decode_answer, first_output, head_answer, head_answer_within, in_place, in_place_answer, in_place_report, source_answer, output_of, answer_by_piece}
 use Rattle.cobs.specs.Headline.{IsPiece, BeginsWith, AnswersMessage, ReportsMessage}
 use Rattle.cobs.specs.declared.dec.report.DecodeReport.{DecodeReport}

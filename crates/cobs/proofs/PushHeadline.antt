@@ -1,14 +1,14 @@
 -- What a push of a list and the zero behind it answers: the message m exactly where the list reads as m.
-use Rattle.std.proofs.Common.{◌≡◌, ◌≢◌, ℕ, ◌+◌, ◌<◌, ◌≤◌, ◌↔◌, nat_le, Bool, true, false, cond, List, [], ◌∷◌, ◌++◌, length, take, get_or, All, Option, Some, None, Result, Ok, Err, refl, sym, ap, ◌∙◌, subst, arith, append_assoc, length-append, length-take-le, take-append-drop, take_all, take_at, drop, eqb, ◌-◌, ⊎_elim}
+use Rattle.std.proofs.Common.{◌≡◌, ◌≢◌, ℕ, ◌+◌, ◌<◌, ◌≤◌, ◌↔◌, Bool, true, false, cond, List, [], ◌∷◌, ◌++◌, length, take, get_or, All, Option, Some, None, Result, Ok, Err, refl, sym, ap, ◌∙◌, subst, arith, append_assoc, length-append, length-take-le, take-append-drop, take_all, take_at, drop, eqb, ◌-◌, ⊎_elim}
 use Rattle.std.proofs.lemmas.Bool.{cases_lt, cases_Bool, ne_eqb, le-leb}
 use Rattle.std.proofs.lemmas.List.{append-nil, take-append-le, take_more, get_or_append_left}
 use Rattle.std.proofs.lemmas.List.Elements.{All-take, All-get_or}
-use Rattle.cobs.specs.Grammar.{HasNoZero, Reads}
+use Rattle.cobs.specs.Grammar.{Reads}
 use Rattle.cobs.specs.Piece.{output}
-use Rattle.cobs.specs.Stream.{Outcome, Message, Broken, TooLong, outcome_of, stream_outcomes, unended}
-use Rattle.cobs.specs.Decoder.{Phase, Idle, DecoderAfter, answer_to}
+use Rattle.cobs.specs.Stream.{Outcome, Message, outcome_of, stream_outcomes, unended}
+use Rattle.cobs.specs.Decoder.{Phase, Idle, answer_to}
 use Rattle.cobs.specs.Report.{parsed_size_of, frame_size_of}
-use Rattle.cobs.specs.Push.{answer_at, StopsAfter, Answers, PushesBytes, pushed_outcomes, refused_outcomes, consumed}
+use Rattle.cobs.specs.Push.{answer_at, PushesBytes, pushed_outcomes, refused_outcomes}
 use Rattle.cobs.specs.Headline.{IsPiece, PushesMessage}
 use Rattle.cobs.specs.declared.dec.report.DecodeReport.{DecodeReport}
 use Rattle.cobs.specs.declared.dec.report.PushError.{PushError}
