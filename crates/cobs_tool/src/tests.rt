@@ -235,6 +235,19 @@ fn input_has_a_limit(rt: HostRuntime) -> Result<(), Fail> {
         );
         assert_eq!(rt; output.len(), 0);
     }
+    let mut input = ByteReader {
+        bytes: &zeros,
+        reads: 0,
+        failing: usize::MAX,
+        fault: ErrorKind::Other,
+    };
+    let result = run(alloc, &Mode::Encode, &mut input, &mut Vec::new(alloc));
+    assert_eq!(rt; result, Err(ToolFault::InputTooLong));
+    assert_eq!(rt;
+        input.reads,
+        1_048_577,
+        "nothing is read behind the first byte too many"
+    );
     Ok(())
 }
 

@@ -56,7 +56,8 @@ impl<const N: usize> CobsDecoderHeapless<N> {
     /// front of the buffer. `TargetBufTooSmall`: the piece's output is longer than the buffer; so is each further
     /// byte answered, through the zero.
     pub fn feed(&mut self, byte: u8) -> Result<Option<usize>, DecodeError>
-        ensures feeds { Feeds (heapless_buffer self.old) (heapless_phase self.old) byte result (heapless_buffer self.new) (heapless_phase self.new) }
+        ensures feeds { Feeds (heapless_buffer self.old) (heapless_phase self.old) byte result
+            (heapless_buffer self.new) (heapless_phase self.new) }
     {
         self.inner.feed(self.dest.as_mut_slice(), byte)
     }
@@ -72,7 +73,8 @@ impl<const N: usize> CobsDecoderHeapless<N> {
     /// Pushing the bytes behind these goes on with the stream: a piece whose zero raised the error is over, and
     /// while a piece is too long for the buffer, each push of its bytes takes one, through its zero.
     pub fn push(&mut self, bytes: &[u8]) -> Result<Option<DecodeReport>, PushError>
-        ensures pushes { PushesBytes (heapless_buffer self.old) (heapless_phase self.old) bytes.now result (heapless_buffer self.new) (heapless_phase self.new) }
+        ensures pushes { PushesBytes (heapless_buffer self.old) (heapless_phase self.old) bytes.now result
+            (heapless_buffer self.new) (heapless_phase self.new) }
     {
         self.inner.push(self.dest.as_mut_slice(), bytes)
     }

@@ -7,7 +7,7 @@ ghost use Rattle.cobs.specs.Piece.{kept_output};
 ghost use Rattle.cobs.specs.Sentinel.{xor_each};
 ghost use Rattle.cobs.specs.declared.dec.report.DecodeError.TheVariants.{TargetBufTooSmall};
 
-use crate::dec::piece::piece_len;
+use crate::dec::piece::{FULL_CODE, piece_len};
 use crate::dec::report::{DecodeError, DecodeReport};
 use crate::enc::xor_bytes;
 
@@ -45,7 +45,7 @@ fn decode_blocks(buffer: &mut [u8], end: usize) -> Result<usize, DecodeError>
         move_down(buffer, read + 1, written, code - 1);
         read += code;
         written += code - 1;
-        if code != 255 && read < end {
+        if code != FULL_CODE && read < end {
             buffer[written] = 0;
             written += 1;
         }

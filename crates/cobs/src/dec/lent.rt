@@ -47,7 +47,8 @@ impl<'a> CobsDecoder<'a> {
     /// holds its first bytes; that is the answer to each byte from the one that finds no room through the zero.
     /// After every zero the decoder is idle. (What is answered after an overflow is a choice of this library.)
     pub fn feed(&mut self, byte: u8) -> Result<Option<usize>, DecodeError>
-        ensures feeds { Feeds (lent_buffer self.old) (lent_phase self.old) byte result (lent_buffer self.new) (lent_phase self.new) }
+        ensures feeds { Feeds (lent_buffer self.old) (lent_phase self.old) byte result
+            (lent_buffer self.new) (lent_phase self.new) }
         ensures same_slice { lent_slice self.new ≡ lent_slice self.old }
     {
         self.inner.feed(self.dest, byte)
@@ -64,7 +65,8 @@ impl<'a> CobsDecoder<'a> {
     /// Pushing the bytes behind these goes on with the stream: a piece whose zero raised the error is over, and
     /// while a piece is too long for the slice, each push of its bytes takes one, through its zero.
     pub fn push(&mut self, bytes: &[u8]) -> Result<Option<DecodeReport>, PushError>
-        ensures pushes { PushesBytes (lent_buffer self.old) (lent_phase self.old) bytes.now result (lent_buffer self.new) (lent_phase self.new) }
+        ensures pushes { PushesBytes (lent_buffer self.old) (lent_phase self.old) bytes.now result
+            (lent_buffer self.new) (lent_phase self.new) }
         ensures same_slice { lent_slice self.new ≡ lent_slice self.old }
     {
         self.inner.push(self.dest, bytes)

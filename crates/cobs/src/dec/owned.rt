@@ -45,7 +45,8 @@ impl CobsDecoderOwned {
     /// front of the buffer. `TargetBufTooSmall`: the piece's output is longer than the buffer; so is each further
     /// byte answered, through the zero.
     pub fn feed(&mut self, byte: u8) -> Result<Option<usize>, DecodeError>
-        ensures feeds { Feeds (owned_buffer self.old) (owned_phase self.old) byte result (owned_buffer self.new) (owned_phase self.new) }
+        ensures feeds { Feeds (owned_buffer self.old) (owned_phase self.old) byte result
+            (owned_buffer self.new) (owned_phase self.new) }
     {
         self.inner.feed(&mut self.dest, byte)
     }
@@ -61,7 +62,8 @@ impl CobsDecoderOwned {
     /// Pushing the bytes behind these goes on with the stream: a piece whose zero raised the error is over, and
     /// while a piece is too long for the buffer, each push of its bytes takes one, through its zero.
     pub fn push(&mut self, bytes: &[u8]) -> Result<Option<DecodeReport>, PushError>
-        ensures pushes { PushesBytes (owned_buffer self.old) (owned_phase self.old) bytes.now result (owned_buffer self.new) (owned_phase self.new) }
+        ensures pushes { PushesBytes (owned_buffer self.old) (owned_phase self.old) bytes.now result
+            (owned_buffer self.new) (owned_phase self.new) }
     {
         self.inner.push(&mut self.dest, bytes)
     }

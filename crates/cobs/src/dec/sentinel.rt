@@ -7,6 +7,7 @@ ghost use Rattle.cobs.specs.Piece.{kept_output};
 ghost use Rattle.cobs.specs.Sentinel.{xor_each};
 ghost use Rattle.cobs.specs.Stream.{head};
 
+use crate::dec::piece::FULL_CODE;
 use crate::dec::report::DecodeError;
 use memchr::memchr;
 
@@ -52,7 +53,7 @@ fn decode_blocks(source: &[u8], dest: &mut [u8], sentinel: u8) -> Result<usize, 
         copy_xored(&source[read + 1..read + code], dest, written, sentinel);
         read += code;
         written += code - 1;
-        if code != 255 && read < source.len() {
+        if code != FULL_CODE && read < source.len() {
             if written == dest.len() {
                 return Err(DecodeError::TargetBufTooSmall);
             }

@@ -98,10 +98,10 @@ pub(crate) fn append(source: &[u8], dest: &mut [u8], progress: &mut Progress)
                 index = next + WINDOW - 1;
             } else {
                 'by_zero: while zeros != 0 {
-                    let first = zeros.trailing_zeros();
-                    dest[index] = (next + first as usize - index) as u8;
-                    index = next + first as usize;
-                    zeros -= 1 << first;
+                    let first = zeros.trailing_zeros() as usize;
+                    dest[index] = (next + first - index) as u8;
+                    index = next + first;
+                    zeros &= zeros - 1;
                 }
             }
             read += len;

@@ -3,7 +3,7 @@ use Rattle.std.proofs.lemmas.Bool.{eqb-false}
 use Rattle.std.proofs.lemmas.List.{length-set}
 use Rattle.cobs.specs.Encoder.{CobsEncoderAfter}
 use Rattle.cobs.proofs.ReachLemmas.{Reaches, Reaches-full}
-use Rattle.cobs.proofs.MarkLemmas.{WindowTaken, WindowTaken-at, copied-reaches, filled, marks-start, marks-step, marks-end, ones-room, ones-taken, place-le, place-lt, bit-le}
+use Rattle.cobs.proofs.MarkLemmas.{WindowTaken, WindowTaken-at, copied-reaches, filled, marks-start, marks-step, marks-end, ones-room, ones-taken, place-le, place-lt, fewer}
 use Rattle.cobs.proofs.CoreLemmas.{end_with, core-start, full-after, full-end, full-rest, open-after, open-rest, still-open}
 use Rattle.cobs.proofs.enc.blocks.append.Goals.{then-zeros-eq-ALL_ZEROS, else-zeros-eq-ALL_ZEROS+else-by_zero-test}
 use Rattle.cobs.proofs.enc.blocks.append.Goals as goal
@@ -95,18 +95,18 @@ overflow_sub-dest-in-by_zero c =
     let end : ℕ = end_with c.args.progress.now c.args.source.now in
     place-le H c.args.source.now c.args.dest.now c.by_zero.dest end c.by_window.read c.min-len.result c.by_zero.index c.by_window.next c.by_zero.zeros (c.by_zero.index + 1 - c.by_window.next) c.by_zero.invariant c.by_zero-test.true
 
-pub overflow_cast-dest-in-by_zero-2 : goal.overflow_cast-dest-in-by_zero-2
-overflow_cast-dest-in-by_zero-2 c =
+pub overflow_cast-dest-in-by_zero : goal.overflow_cast-dest-in-by_zero
+overflow_cast-dest-in-by_zero c =
     let H : List ℕ → Type 0 = CobsEncoderAfter c.args.dest.now c.args.progress.now in
     let end : ℕ = end_with c.args.progress.now c.args.source.now in
     let lt = place-lt H c.args.source.now c.args.dest.now c.by_zero.dest end c.by_window.read c.min-len.result c.by_zero.index c.by_window.next c.by_zero.zeros (c.by_zero.index + 1 - c.by_window.next) c.by_zero.invariant c.by_zero-test.true in
     omega arith
 
-pub overflow_sub-zeros : goal.overflow_sub-zeros
-overflow_sub-zeros c =
+pub by_zero-smaller : goal.by_zero-smaller
+by_zero-smaller c =
     let H : List ℕ → Type 0 = CobsEncoderAfter c.args.dest.now c.args.progress.now in
     let end : ℕ = end_with c.args.progress.now c.args.source.now in
-    bit-le H c.args.source.now c.args.dest.now c.by_zero.dest end c.by_window.read c.min-len.result c.by_zero.index c.by_window.next c.by_zero.zeros (c.by_zero.index + 1 - c.by_window.next) c.by_zero.invariant c.by_zero-test.true
+    fewer H c.args.source.now c.args.dest.now c.by_zero.dest end c.by_window.read c.min-len.result c.by_zero.index c.by_window.next c.by_zero.zeros (c.by_zero.index + 1 - c.by_window.next) c.by_zero.invariant c.by_zero-test.true
 
 pub by_zero-preserved : goal.by_zero-preserved
 by_zero-preserved c =
