@@ -79,8 +79,6 @@ pub fn decode(source: &[u8], dest: &mut [u8]) -> Result<DecodeReport, DecodeErro
     decode_first(source, dest)
 }
 
-pub use write_buffer::WriteBuffer;
-
 #[cfg(test)]
 mod decoder_tests;
 #[cfg(test)]
