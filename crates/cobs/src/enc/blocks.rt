@@ -73,6 +73,11 @@ impl Progress {
 }
 
 /// Takes `source` into the frame that `dest` holds as far as `progress` says. The code of the open block isn't written.
+///
+/// Windows of up to 32 bytes are copied to where the next byte goes. Where no zero is near enough to keep the open block
+/// from being full, that block is closed, and what doesn't belong to it is copied anew. Else each zero of the window
+/// gives its place to the code of the block that it begins, and the last block stays open for the next window. Nothing
+/// is written behind what the frame needs at the least, so a slice of exactly the frame's length is enough.
 pub(crate) fn append(source: &[u8], dest: &mut [u8], progress: &mut Progress)
     requires { progress.old.block.index + open_len progress.old.block.code source.now ≤ length dest.old }
     ensures after { (m : List ℕ) → CobsEncoderAfter dest.old progress.old m
