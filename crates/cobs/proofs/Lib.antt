@@ -41,3 +41,4 @@ pub mod HeadlineLemmas
 mod LentSlice
 pub mod FewLemmas
 pub mod PushHeadline
+pub mod VectorHeadline

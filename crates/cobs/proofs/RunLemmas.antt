@@ -1,5 +1,5 @@
 -- So many bytes of a block at once are so many feeds.
-use Rattle.std.proofs.Common.{◌≡◌, ◌≢◌, ℕ, zero, suc, ◌+◌, ◌-◌, ◌<◌, ◌≤◌, Bool, true, false, cond, eqb, List, [], ◌∷◌, ◌++◌, length, take, drop, set, get_or, sym, ap, ◌∙◌, subst, arith, append_assoc, None, Ok, IfOk, IfSome}
+use Rattle.std.proofs.Common.{◌≡◌, ◌≢◌, ℕ, zero, suc, ◌+◌, ◌-◌, ◌<◌, ◌≤◌, Bool, true, false, cond, List, [], ◌∷◌, ◌++◌, length, take, drop, set, get_or, sym, ap, ◌∙◌, subst, arith, append_assoc, None, Ok, IfOk, IfSome}
 use Rattle.std.proofs.lemmas.List.{set-append_right, length_push, drop_more, take_more_set, drop-set-lt, length-set, take-append-drop, length-take-le, get_or-take, get_or-drop, drop-drop}
 use Rattle.std.proofs.Common.{length-drop, length-take, min}
 use Rattle.std.proofs.Math.Seq.{set-append_seam}
@@ -8,11 +8,12 @@ use Rattle.cobs.specs.declared.dec.inner.CobsDecoderInner.{CobsDecoderInner}
 use Rattle.cobs.specs.declared.dec.state.DecoderState.{DecoderState}
 use Rattle.cobs.specs.declared.dec.state.DecoderState.TheVariants as states
 use Rattle.cobs.specs.Machine.{left_in, skipped}
-use Rattle.std.proofs.lemmas.List.Elements.{All-head, All-tail, All-from_get_or}
-use Rattle.std.proofs.lemmas.Bool.{ne_eqb, lt-ltb, eq-eqb}
+use Rattle.std.proofs.lemmas.List.Elements.{All-head, All-tail}
+use Rattle.std.proofs.lemmas.Bool.{ne_eqb, lt-ltb}
 use Rattle.cobs.specs.Grammar.{HasNoZero}
 use Rattle.cobs.specs.Decoder.{Phase, Idle, Within, Over, Feeds}
-use Rattle.cobs.specs.Machine.{phase_of, phase_of_state, grows, next_phase, next_buffer, next_answer, end_answer, if_over, FedInTurn}
+use Rattle.cobs.specs.Buffers.{phase_of, phase_of_state}
+use Rattle.cobs.specs.Machine.{grows, next_phase, next_buffer, next_answer, end_answer, if_over, FedInTurn}
 use Rattle.cobs.proofs.FeedLemmas.{Feeds-step}
 use Rattle.cobs.proofs.PushLemmas.{Pushed, Pushed-more}
 

@@ -1,5 +1,5 @@
 -- What contracts see of the three streaming decoders: their buffers, and where they stand.
-use Rattle.std.specs.Prelude.{ℕ, List, []}
+use Rattle.std.specs.Prelude.{ℕ, List, [], true, false, if◌then◌else◌}
 use Rattle.std.specs.Borrow.{Lends, MutBor, Fml, RattleType, u8, Array}
 use Rattle.std.specs.Vec.{with_items}
 use denote.Param.{value_of}
@@ -11,8 +11,20 @@ use Rattle.cobs.specs.declared.dec.heapless.CobsDecoderHeapless.{CobsDecoderHeap
 use Rattle.cobs.specs.contracts.dec.lent.CobsDecoder.{the_row as lent_row}
 use Rattle.cobs.specs.contracts.dec.owned.CobsDecoderOwned.{the_row as owned_row}
 use Rattle.cobs.specs.contracts.dec.heapless.CobsDecoderHeapless.{the_row as heapless_row}
-use Rattle.cobs.specs.Decoder.{Phase}
-use Rattle.cobs.specs.Machine.{phase_of}
+use Rattle.cobs.specs.Decoder.{Phase, Idle, Within, Over}
+use Rattle.cobs.specs.declared.dec.inner.CobsDecoderInner.{CobsDecoderInner}
+use Rattle.cobs.specs.declared.dec.state.DecoderState.{DecoderState}
+use Rattle.cobs.specs.declared.dec.state.DecoderState.TheVariants as states
+
+-- the phase of a state, with so many bytes written
+abbrev pub phase_of_state : DecoderState → ℕ → Phase
+phase_of_state states.Idle count = Idle
+phase_of_state (states.Grab left) count = Within false left count
+phase_of_state (states.GrabChain left) count = Within true left count
+
+-- where the three decoders stand: over, or in the phase of their state
+abbrev pub phase_of : CobsDecoderInner → Phase
+phase_of inner = if inner.over then Over else phase_of_state inner.state inner.dest_idx
 
 -- the bytes of the slice that was lent to a `CobsDecoder`
 abbrev pub lent_buffer : CobsDecoder → List ℕ

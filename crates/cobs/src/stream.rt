@@ -2,7 +2,8 @@
 //!
 //! A stream is cut at its zeros. What stands between two of them is a piece, and each nonempty piece is judged by
 //! itself: it is a message, or it breaks off inside a block, or it decodes to more than the buffer holds. So what
-//! is damaged in one piece is gone at the next zero.
+//! is damaged in one piece is gone at the next zero. (That a zero ends each frame is Cheshire and Baker's; how broken
+//! and too long pieces are told is a choice of this library.)
 ghost use Rattle.std.specs.Prelude.{◌≡◌, ℕ, ◌<◌, ◌≤◌, ◌^◌, List, [], ◌++◌, All, length, map, take, option_to_list, IfOk, IfSome, IsOk, OnOk, OnErr, Contains};
 ghost use Rattle.cobs.specs.Decoder.{DecoderAfter, PhaseAfter};
 ghost use Rattle.cobs.specs.Stream.{Message, stream_outcomes, unended};

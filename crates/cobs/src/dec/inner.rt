@@ -2,7 +2,8 @@
 ghost use Rattle.std.specs.Prelude.{◌≡◌, ◌<◌, ◌≤◌, ℕ, false, List, [], length, take, IfOk, IfSome};
 ghost use Rattle.cobs.specs.Grammar.{HasNoZero};
 ghost use Rattle.cobs.specs.Decoder.{DecoderAfter, Feeds};
-ghost use Rattle.cobs.specs.Machine.{left_in, phase_of, next_phase, next_buffer, next_answer, FedInTurn};
+ghost use Rattle.cobs.specs.Buffers.{phase_of};
+ghost use Rattle.cobs.specs.Machine.{left_in, next_phase, next_buffer, next_answer, FedInTurn};
 ghost use Rattle.cobs.specs.Push.{PushesBytes};
 
 use crate::dec::fit::fitting_len;

@@ -2,7 +2,7 @@
 ghost use Rattle.std.specs.Prelude.{◌≡◌, ◌↔◌};
 ghost use Rattle.cobs.specs.Grammar.{IsCanonical, IsFrame};
 
-use crate::dec::piece::piece_len;
+use crate::dec::piece::{FULL_CODE, piece_len};
 
 /// What a list of bytes is to a decoder.
 #[derive(Debug, Drop, PartialEq, Eq)]
@@ -48,7 +48,7 @@ pub fn frame_kind(bytes: &[u8]) -> FrameKind
                 FrameKind::Canonical
             };
         }
-        behind_full = code == 255;
+        behind_full = code == FULL_CODE;
         read += code;
     }
 }

@@ -10,12 +10,15 @@ use crate::dec::report::DecodeError;
 use crate::dec::window::{copy_32, is_ones, write_zeros};
 use memchr::memchr;
 
+/// The code of a full block.
+pub(crate) const FULL_CODE: usize = 255;
+
 /// What is to be known of a piece once its output is written.
 #[derive(Clone, Copy)]
 pub(crate) struct PieceEnd {
     /// The length of the output.
     pub(crate) written: usize,
-    /// Whether the code of the last part is 255.
+    /// Whether the last part has the code of a full block.
     pub(crate) full: bool,
     /// How many bytes the last part lacks of those that its code counts.
     pub(crate) left: usize,
@@ -74,7 +77,7 @@ pub(crate) fn output_len(piece: &[u8]) -> usize
         if piece.len() - read <= code {
             return len;
         }
-        if code == 255 {
+        if code == FULL_CODE {
             len -= 1;
         }
         read += code;
@@ -82,6 +85,8 @@ pub(crate) fn output_len(piece: &[u8]) -> usize
 }
 
 /// Decodes the first codes of a piece, those within 33 bytes, and says how many bytes it has read and written.
+///
+/// Codes of one value in a row go by a loop of their own, which needn't wait for each code to know where the next is.
 #[inline(always)]
 fn decode_window(piece: &[u8], dest: &mut [u8]) -> usize
     requires nonzero { HasNoZero piece.now }
@@ -103,8 +108,13 @@ fn decode_window(piece: &[u8], dest: &mut [u8]) -> usize
     copy_32(&piece[1..], dest);
     let mut read = 0;
     'by_code: loop {
-        dest[read + (code - 1)] = 0;
-        read += code;
+        'alike: loop {
+            dest[read + (code - 1)] = 0;
+            read += code;
+            if 33 - read <= code || piece[read] as usize != code {
+                break;
+            }
+        }
         code = piece[read] as usize;
         if 33 - read <= code {
             return read;
@@ -112,7 +122,8 @@ fn decode_window(piece: &[u8], dest: &mut [u8]) -> usize
     }
 }
 
-/// Decodes a piece in which no code stands behind a full part: one copy, and a zero at each code.
+/// Decodes a piece in which no code stands behind a full part: one copy, and a zero at each code. Codes of one value in
+/// a row go by a loop of their own, as in a window.
 fn decode_end(piece: &[u8], dest: &mut [u8]) -> PieceEnd
     requires some { 0 < length piece.now }
     requires nonzero { HasNoZero piece.now }
@@ -128,13 +139,18 @@ fn decode_end(piece: &[u8], dest: &mut [u8]) -> PieceEnd
     let mut read = 0;
     let mut code = piece[0] as usize;
     'by_code: while code < piece.len() - read {
-        dest[read + (code - 1)] = 0;
-        read += code;
+        'alike: loop {
+            dest[read + (code - 1)] = 0;
+            read += code;
+            if piece.len() - read <= code || piece[read] as usize != code {
+                break;
+            }
+        }
         code = piece[read] as usize;
     }
     PieceEnd {
         written: piece.len() - 1,
-        full: code == 255,
+        full: code == FULL_CODE,
         left: code - (piece.len() - read),
     }
 }
@@ -166,7 +182,7 @@ pub(crate) fn decode_piece(piece: &[u8], dest: &mut [u8]) -> PieceEnd
             dest[written..written + (code - 1)].copy_from_slice(&piece[read + 1..read + code]);
             read += code;
             written += code - 1;
-            if code != 255 {
+            if code != FULL_CODE {
                 dest[written] = 0;
                 written += 1;
             }
@@ -195,7 +211,11 @@ fn front_len(piece: &[u8], count: usize) -> usize
         if left < code {
             return read + 1 + left;
         }
-        left -= if code == 255 { 254 } else { code };
+        left -= if code == FULL_CODE {
+            FULL_CODE - 1
+        } else {
+            code
+        };
         read += code;
     }
 }

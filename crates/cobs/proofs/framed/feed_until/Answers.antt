@@ -14,11 +14,16 @@ feeds : (g : _) (c : After-feed_byte-answer g)
     (g.D.FrameDecoder.bytes c.feed_byte-answer.new.self) (g.D.FrameDecoder.phase c.feed_byte-answer.new.self)
 feeds g c = c.feed_byte-answer.ensures.feeds
 
-pub returns-in-Some-clause-told : goal.returns-in-Some-clause-told
-returns-in-Some-clause-told g c = λ p h.
-    let f : _ = feeds g (goal.at.returns-in-Some-clause-told g c).After-feed_byte-answer in
+pub returns-in-Some-clause-first : goal.returns-in-Some-clause-first
+returns-in-Some-clause-first g c = λ p h.
+    let f : _ = feeds g (goal.at.returns-in-Some-clause-first g c).After-feed_byte-answer in
     let o = c.in-Some.ensures (g.D.FrameDecoder.bytes c.feed_byte-answer.new.self) (rw c.feed_byte-answer.ensures.feeds.len c.feed_byte-answer.ensures.feeds.bound) in
-    (o.0, o.2, EndsFirstIn-at_zero _ _ c.by_byte-test.true c.if-byte-eq0.true c.by_byte.invariant.so_far f o.0 o.1 p h)
+    let s = c.by_byte.invariant.so_far in
+    record {
+      outcome = o.0;
+      is = o.2;
+      first = rw (f.len ∙ s.len) (EndsFirstIn-at_zero _ _ c.by_byte-test.true c.if-byte-eq0.true s f o.0 o.1 p h);
+    }
 
 pub by_byte-preserved : goal.by_byte-preserved
 by_byte-preserved g c =

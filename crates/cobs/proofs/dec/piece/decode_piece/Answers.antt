@@ -24,18 +24,18 @@ bounds-dest-written c =
     let p = c.by_window.invariant in
     let code : ℕ = get_or c.args.piece.now c.by_window.read 0 in
     let pos = code-pos c.args.piece.now c.by_window.read c.requires.nonzero p.within in
-    let r = room-zero c.args.piece.now c.args.dest.now c.by_window.dest c.by_window.read c.by_window.written code p refl pos (omega arith) c.if-code-ne255.true in
+    let r = room-zero c.args.piece.now c.args.dest.now c.by_window.dest c.by_window.read c.by_window.written code p refl pos (omega arith) c.if-code-ne-FULL_CODE.true in
     omega arith
 
-pub by_window-preserved-then-code-ne255 : goal.by_window-preserved-then-code-ne255
-by_window-preserved-then-code-ne255 c =
+pub by_window-preserved-then-code-ne-FULL_CODE : goal.by_window-preserved-then-code-ne-FULL_CODE
+by_window-preserved-then-code-ne-FULL_CODE c =
     let p = c.by_window.invariant in
     let read : ℕ = c.by_window.read in
     let code : ℕ = get_or c.args.piece.now read 0 in
     let pos = code-pos c.args.piece.now read c.requires.nonzero p.within in
     let n : read + code - (read + 1) ≡ code - 1 = omega arith in
     let part-is = c.copy_from_slice.ensures.after ∙ ap (λ (m : ℕ). take m (drop (read + 1) c.args.piece.now)) n in
-    long-decoded c.args.piece.now c.args.dest.now c.by_window.dest c.by_window.read c.by_window.written code p refl pos (omega arith) _ _ (omega arith) (omega arith) part-is c.if-code-ne255.true
+    long-decoded c.args.piece.now c.args.dest.now c.by_window.dest c.by_window.read c.by_window.written code p refl pos (omega arith) _ _ (omega arith) (omega arith) part-is c.if-code-ne-FULL_CODE.true
 
 pub by_window-preserved : goal.by_window-preserved
 by_window-preserved c =

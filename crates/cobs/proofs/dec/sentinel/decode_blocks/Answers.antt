@@ -2,7 +2,7 @@ use Rattle.std.proofs.Common.{◌<◌, ◌-◌, ℕ, get_or, bit_xor, refl, arit
 use Rattle.cobs.specs.Sentinel.{xor_each}
 use Rattle.cobs.proofs.SourceSteps.{source-started, all-buffer, all-count, broken-buffer, broken-count, code-some, cut-buffer, cut-count, full-copied, last-copied, block-copied, full-buffer, full-count}
 use Rattle.cobs.proofs.dec.sentinel.decode_blocks.Goals as goal
-use Rattle.cobs.proofs.dec.sentinel.decode_blocks.Goals.{else-code-ne255-via-then-code-ne255+else-read-source, else-code-ne255-via-else-code-ne255}
+use Rattle.cobs.proofs.dec.sentinel.decode_blocks.Goals.{else-code-ne-FULL_CODE-via-then-code-ne-FULL_CODE+else-read-source, else-code-ne-FULL_CODE-via-else-code-ne-FULL_CODE}
 
 pub by_block-init : goal.by_block-init
 by_block-init c = source-started (xor_each c.args.sentinel c.args.source.now) c.args.dest.now
@@ -47,7 +47,7 @@ returns-then-written-dest-clause-answer c =
     let code : ℕ = bit_xor (get_or c.args.source.now c.by_block.read 0) c.args.sentinel in
     let some : 0 < code = code-some c.args.source.now c.args.sentinel _ _ _ _ i _ c.by_block-test.true refl c.requires in
     full-count c.args.source.now c.args.sentinel _ _ _ _ i code c.by_block-test.true refl some c.if-source-read.false (code - 1) _ (omega arith) (omega arith) (omega arith) _
-    c.copy_xored-in-by_block.ensures refl c.if-code-ne255.true c.if-read-source.true c.if-written-dest.true
+    c.copy_xored-in-by_block.ensures refl c.if-code-ne-FULL_CODE.true c.if-read-source.true c.if-written-dest.true
 
 pub returns-then-written-dest-clause-buffer : goal.returns-then-written-dest-clause-buffer
 returns-then-written-dest-clause-buffer c =
@@ -55,7 +55,7 @@ returns-then-written-dest-clause-buffer c =
     let code : ℕ = bit_xor (get_or c.args.source.now c.by_block.read 0) c.args.sentinel in
     let some : 0 < code = code-some c.args.source.now c.args.sentinel _ _ _ _ i _ c.by_block-test.true refl c.requires in
     full-buffer c.args.source.now c.args.sentinel _ _ _ _ i code c.by_block-test.true refl some c.if-source-read.false (code - 1) _ (omega arith) (omega arith) (omega arith) _
-    c.copy_xored-in-by_block.ensures refl c.if-code-ne255.true c.if-read-source.true c.if-written-dest.true
+    c.copy_xored-in-by_block.ensures refl c.if-code-ne-FULL_CODE.true c.if-read-source.true c.if-written-dest.true
 
 pub by_block-smaller-then-read-source : goal.by_block-smaller-then-read-source
 by_block-smaller-then-read-source c =
@@ -68,18 +68,18 @@ by_block-preserved-then-read-source c =
     let code : ℕ = bit_xor (get_or c.args.source.now c.by_block.read 0) c.args.sentinel in
     let some : 0 < code = code-some c.args.source.now c.args.sentinel _ _ _ _ i _ c.by_block-test.true refl c.requires in
     block-copied c.args.source.now c.args.sentinel _ _ _ _ i code c.by_block-test.true refl some c.if-source-read.false (code - 1) _ (omega arith) (omega arith) (omega arith) _
-    c.copy_xored-in-by_block.ensures refl c.if-code-ne255.true c.if-read-source.true (omega arith)
+    c.copy_xored-in-by_block.ensures refl c.if-code-ne-FULL_CODE.true c.if-read-source.true (omega arith)
 
 pub by_block-preserved : goal.by_block-preserved
 by_block-preserved c =
     let i = c.by_block.invariant in
     let code : ℕ = bit_xor (get_or c.args.source.now c.by_block.read 0) c.args.sentinel in
     let some : 0 < code = code-some c.args.source.now c.args.sentinel _ _ _ _ i _ c.by_block-test.true refl c.requires in
-    elim c.else-code-ne255.branch [
-      | else-code-ne255-via-then-code-ne255+else-read-source w ↦ last-copied c.args.source.now c.args.sentinel _ _ _ _ i code c.by_block-test.true refl some c.if-source-read.false
+    elim c.else-code-ne-FULL_CODE.branch [
+      | else-code-ne-FULL_CODE-via-then-code-ne-FULL_CODE+else-read-source w ↦ last-copied c.args.source.now c.args.sentinel _ _ _ _ i code c.by_block-test.true refl some c.if-source-read.false
           (code - 1) _ (omega arith) (omega arith) (omega arith) _ c.copy_xored-in-by_block.ensures refl w.if-read-source.false
-      | else-code-ne255-via-else-code-ne255 w ↦ full-copied c.args.source.now c.args.sentinel _ _ _ _ i code c.by_block-test.true refl some c.if-source-read.false
-          (code - 1) _ (omega arith) (omega arith) (omega arith) _ c.copy_xored-in-by_block.ensures refl w.if-code-ne255.false
+      | else-code-ne-FULL_CODE-via-else-code-ne-FULL_CODE w ↦ full-copied c.args.source.now c.args.sentinel _ _ _ _ i code c.by_block-test.true refl some c.if-source-read.false
+          (code - 1) _ (omega arith) (omega arith) (omega arith) _ c.copy_xored-in-by_block.ensures refl w.if-code-ne-FULL_CODE.false
     ]
 
 pub returns-clause-answer : goal.returns-clause-answer

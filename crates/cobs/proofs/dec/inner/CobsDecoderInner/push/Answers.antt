@@ -1,5 +1,5 @@
-use Rattle.std.proofs.Common.{◌≡◌, ◌+◌, ◌-◌, ◌∙◌, ap, arith, Ok, length, drop, length-drop, length-take}
-use Rattle.cobs.specs.Machine.{phase_of}
+use Rattle.std.proofs.Common.{◌+◌, ◌-◌, ◌∙◌, ap, arith, Ok, length, drop, length-drop, length-take}
+use Rattle.cobs.specs.Buffers.{phase_of}
 use Rattle.cobs.proofs.PushLemmas.{Pushed, Pushed-start, Pushed-more, pushed_none, pushed_some, pushed_error}
 use Rattle.cobs.proofs.RunLemmas.{Pushed-ran}
 use Rattle.cobs.proofs.dec.inner.CobsDecoderInner.push.Goals as goal

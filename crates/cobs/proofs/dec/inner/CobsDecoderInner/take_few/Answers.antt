@@ -1,8 +1,8 @@
-use Rattle.std.proofs.Common.{◌≡◌, ◌<◌, ◌+◌, ◌-◌, ◌∙◌, ◌++◌, ℕ, suc, List, [], ◌∷◌, Bool, cond, length, take, get_or, sym, ap, arith}
+use Rattle.std.proofs.Common.{◌≡◌, ◌+◌, ◌-◌, ◌∙◌, ◌++◌, ℕ, List, [], ◌∷◌, Bool, cond, take, get_or, sym, ap, arith}
 use Rattle.std.proofs.lemmas.List.{take_more}
 use Rattle.cobs.specs.Decoder.{Over}
-use Rattle.cobs.specs.Machine.{phase_of_state}
-use Rattle.cobs.proofs.FewLemmas.{Taken, full_of, left_of, at_of, taken-start, taken-byte, taken-chained, taken-joined}
+use Rattle.cobs.specs.Buffers.{phase_of_state}
+use Rattle.cobs.proofs.FewLemmas.{full_of, left_of, at_of, taken-start, taken-byte, taken-chained, taken-joined}
 use Rattle.cobs.proofs.dec.inner.CobsDecoderInner.take_few.Goals as goal
 use Rattle.cobs.proofs.dec.inner.CobsDecoderInner.take_few.Goals.{in-Idle, in-Grab, in-GrabChain, then-left-ne0+else-dest-at, else-left-ne0, then-not-full+else-dest-at-2, else-not-full}
 

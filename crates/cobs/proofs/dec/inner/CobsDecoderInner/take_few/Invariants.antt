@@ -1,5 +1,5 @@
 use Rattle.std.proofs.Common.{◌≤◌, ◌-◌, length, take}
-use Rattle.cobs.specs.Machine.{phase_of}
+use Rattle.cobs.specs.Buffers.{phase_of}
 use Rattle.cobs.proofs.FewLemmas.{Taken}
 use Rattle.cobs.proofs.dec.inner.CobsDecoderInner.take_few.Given as goal
 
