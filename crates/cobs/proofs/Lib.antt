@@ -38,3 +38,4 @@ pub mod MessagesLemmas
 pub mod SourceSteps
 pub mod VectorSteps
 pub mod HeadlineLemmas
+pub mod WholeLemmas
