@@ -7,9 +7,12 @@ use Rattle.std.proofs.lemmas.List.{length-set, length-take, drop_all, set-set, s
 use Rattle.std.proofs.lemmas.List.Elements.{All-nil}
 use Rattle.cobs.specs.Grammar.{IsBlock, IsEncodedFrame, lone_block}
 use Rattle.cobs.specs.Encoder.{OpenBlock, Reached, CobsEncoderAfter, next_of, end_of, open_len}
+use Rattle.cobs.specs.Length.{encoded_len}
 use Rattle.cobs.proofs.OpenedLemmas.{Opened}
+use Rattle.cobs.proofs.OpenLenLemmas.{Opened-len}
 use Rattle.cobs.proofs.ReachLemmas.{Reaches, Reaches-at, Reaches-start, IsNotFull, taken-full, ends-full, rest-full, taken-open, ends-open}
-use Rattle.cobs.proofs.AfterLemmas.{at, from_after, to_after, end-is, IsEncodedFrame-length}
+use Rattle.cobs.proofs.AfterLemmas.{at, from_after, to_after, end-is, open-same}
+use Rattle.cobs.proofs.UniqueLemmas.{length-encoded}
 use Rattle.cobs.proofs.OpenLemmas.{concat-append}
 use Rattle.cobs.proofs.MarkLemmas.{WindowTaken}
 
@@ -70,7 +73,7 @@ module _ (H : List ℕ → Type 0) (source old slice : List ℕ) (end read len i
 -- the code of the open block completes the frame; a frame that ends in a full block is complete
 module _ (slice m : List ℕ) (r : Reached) (h : CobsEncoderAfter slice r m) where
   length-frame : length h.frame ≡ end_of r
-  length-frame = sym (IsEncodedFrame-length h.frame m h.encoded) ∙ end-is slice m r h
+  length-frame = length-encoded h.frame m h.encoded ∙ end-is slice m r h
 
   pub closed-full : r.full ≡ true → IsEncodedFrame (take r.block.index slice) m
   closed-full full =
@@ -81,8 +84,8 @@ module _ (slice m : List ℕ) (r : Reached) (h : CobsEncoderAfter slice r m) whe
   pub closed-open : r.full ≡ false → 0 < r.block.code → IsEncodedFrame (take (next_of r) (set slice r.block.index r.block.code)) m
   closed-open open' some =
       let long : length h.frame ≡ next_of r = length-frame ∙ ap (λ (b : Bool). if b then r.block.index else next_of r) open' in
-      let o = h.open' in
-      let same : h.longer ≡ h.frame = h.same ∙ ap (λ (b : Bool). h.frame ++ (if b then lone_block else [])) open' ∙ append-nil h.frame in
+      let o = h.follows.1 in
+      let same : h.follows.0 ≡ h.frame = open-same h.frame m h.follows.0 r.block.index r.block.code h.encoded o ∙ ap (λ (b : Bool). h.frame ++ (if b then lone_block else [])) (sym h.noted ∙ open') ∙ append-nil h.frame in
       let whole : h.frame ≡ concat o.front ++ r.block.code ∷ o.bytes =
       sym same ∙ o.frame.whole ∙ concat-append o.front ((r.block.code ∷ o.bytes) ∷ []) ∙ ap (λ (x : List ℕ). concat o.front ++ x) (append-nil (r.block.code ∷ o.bytes)) in
       let own : set h.frame r.block.index r.block.code ≡ h.frame =
@@ -107,3 +110,13 @@ after-nothing slice some = to_after slice [] 0 1 1 false refl (omega arith) (ome
   stands = drop_all 1 (take 1 slice) (let l = length-take 1 slice in omega arith);
   noted = refl;
 })
+
+-- how long the frame is once the encoder has taken some bytes more
+pub after-len : (slice m bytes : List ℕ) (r : Reached) → bytes ≢ [] → CobsEncoderAfter slice r m → encoded_len (m ++ bytes) ≡ r.block.index + open_len r.block.code bytes
+after-len slice m bytes r some h =
+    let code : next_of r - r.block.index ≡ r.block.code = omega arith in
+    Opened-len slice m r.block.index (next_of r) r.full bytes (λ full. some) (from_after slice m r h) ∙ ap (λ (n : ℕ). r.block.index + open_len n bytes) code
+
+-- the frame is within the slice
+pub after-fits : (slice m : List ℕ) (r : Reached) → CobsEncoderAfter slice r m → encoded_len m ≤ length slice
+after-fits slice m r h = let l = length-encoded h.frame m h.encoded in let f = h.fits in omega arith

@@ -1,16 +1,28 @@
 -- What decoders that are given all of a list answer: the message m exactly where the list reads as m.
-use Rattle.std.proofs.Common.{◌≡◌, ◌≢◌, ℕ, ◌+◌, ◌-◌, ◌<◌, ◌≤◌, ◌↔◌, nat_le, Bool, true, false, cond, List, [], ◌∷◌, ◌++◌, length, take, drop, All, IsTrue, Option, Some, None, Result, Ok, Err, refl, sym, ap, ◌∙◌, subst, arith, take_all, take_at, ⊎_elim}
-use Rattle.std.proofs.lemmas.Bool.{cases_Bool, cases_lt, true≢false, le-leb}
+use Rattle.std.proofs.Common.{◌≡◌, ◌≢◌, ℕ, ◌<◌, ◌≤◌, ◌↔◌, nat_le, Bool, true, false, cond, List, [], ◌∷◌, ◌++◌, length, take, drop, All, Result, Ok, Err, refl, sym, ap, ◌∙◌, subst, arith, take_all, take_at, get_or, Fits, w8, ⊎_elim}
+use Rattle.std.proofs.lemmas.Bool.{cases_Bool, le-leb}
+use Rattle.std.proofs.lemmas.List.Elements.{All-from_get_or, All-map, All-weaker}
+use Rattle.std.specs.Int.Bits.{bit_xor, xor_lt}
+use Rattle.cobs.specs.Sentinel.{xor_each}
 use Rattle.cobs.specs.Buffer.{overwritten}
-use Rattle.cobs.specs.Grammar.{HasNoZero, Reads}
+use Rattle.cobs.specs.Grammar.{Reads}
 use Rattle.cobs.specs.Piece.{output, kept_output, is_whole, IsWhole}
-use Rattle.cobs.specs.Stream.{Outcome, Message, Broken, TooLong, outcome_of, first_piece, head}
+use Rattle.cobs.specs.Stream.{Message, Broken, TooLong, outcome_of, head}
 use Rattle.cobs.specs.Decoding.{sized, reported, consumed, decode_answer, first_output, head_answer, head_answer_within, in_place, in_place_answer, in_place_report, source_answer, output_of, answer_by_piece}
 use Rattle.cobs.specs.Headline.{IsPiece, BeginsWith, AnswersMessage, ReportsMessage}
+use Rattle.cobs.specs.declared.dec.report.DecodeReport.{DecodeReport}
 use Rattle.cobs.specs.declared.dec.report.DecodeError.{DecodeError}
 use Rattle.cobs.specs.declared.dec.report.DecodeError.TheVariants.{InvalidFrame, TargetBufTooSmall}
 use Rattle.cobs.proofs.FrameLemmas.{frame_whole, frame_output, reads_output}
 use Rattle.cobs.proofs.OutcomeLemmas.{outcome_of_whole, first_piece_alone, head_alone, output_within}
+
+-- what a slice of bytes holds is below 256
+pub bytes_below : (bytes : List ℕ) → ((i : ℕ) → Fits w8 (get_or bytes i 0)) → All (λ b. b < 256) bytes
+bytes_below bytes fits = All-from_get_or (λ b. b < 256) bytes 0 (λ i within. (fits i).fits)
+
+-- exclusive or leaves bytes below 256
+pub xor_below : (s : ℕ) (bytes : List ℕ) → s < 256 → All (λ b. b < 256) bytes → All (λ b. b < 256) (xor_each s bytes)
+xor_below s bytes small h = All-map (λ b. b < 256) (λ b. bit_xor b s) bytes (All-weaker (λ b. b < 256) (λ b. bit_xor b s < 256) (λ b below. xor_lt 8 b s below small) bytes h)
 
 -- what is written over a buffer stands at its front, where it fits
 front-overwritten : (buffer bytes : List ℕ) → length bytes ≤ length buffer → take (length bytes) (overwritten buffer bytes) ≡ bytes
@@ -54,19 +66,19 @@ decode_answer_alone : (f : List ℕ) (n : ℕ) → IsPiece f → decode_answer f
 decode_answer_alone [] n piece = absurd (piece.0 refl)
 decode_answer_alone (byte ∷ bytes) n piece = ap (λ p. answer_by_piece (byte ∷ bytes) p n) (first_piece_alone (byte ∷ bytes) piece.0 piece.1)
 
-pub decode_reads : (f buffer : List ℕ) → All (λ b. b < 256) f → IsPiece f → length (output f) ≤ length buffer → (m : List ℕ) → ReportsMessage (decode_answer f (length buffer)) (overwritten buffer (first_output f)) m ↔ Reads f m
-decode_reads f buffer below piece fits m =
+pub decode_reads : (f buffer : List ℕ) (result : Result DecodeReport DecodeError) (buffer' : List ℕ) → result ≡ decode_answer f (length buffer) → buffer' ≡ overwritten buffer (first_output f)
+    → All (λ b. b < 256) f → IsPiece f → length (output f) ≤ length buffer → (m : List ℕ) → ReportsMessage result buffer' m ↔ Reads f m
+decode_reads f buffer result buffer' answer after below piece fits m =
     let n = length buffer in
-    let after : List ℕ = overwritten buffer (output f) in
-    let decodes : Decodes f (sized (outcome_of f n)) after = record {
+    let given : result ≡ reported (consumed f f) (sized (outcome_of f n)) = answer ∙ decode_answer_alone f n piece in
+    let written : buffer' ≡ overwritten buffer (output f) = after ∙ ap (λ p. overwritten buffer (output_of p)) (first_piece_alone f piece.0 piece.1) in
+    let decodes : Decodes f (sized (outcome_of f n)) buffer' = record {
       whole = λ whole. ap sized (outcome_of_whole f n fits whole);
-      begins = λ whole. front-overwritten buffer (output f) fits;
+      begins = λ whole. ap (take (length (output f))) written ∙ front-overwritten buffer (output f) fits;
       broken = λ broken. (InvalidFrame (length (output f)), ap sized (outcome_of_broken f n fits broken));
     } in
-    let alone : overwritten buffer (first_output f) ≡ after = ap (λ p. overwritten buffer (output_of p)) (first_piece_alone f piece.0 piece.1) in
-    subst (λ r. ReportsMessage r (overwritten buffer (first_output f)) m ↔ Reads f m) (sym (decode_answer_alone f n piece))
-    (subst (λ b. ReportsMessage (reported (consumed f f) (sized (outcome_of f n))) b m ↔ Reads f m) (sym alone)
-    (reports (consumed f f) (sized (outcome_of f n)) after m (Reads f m) (decodes-reads f m (sized (outcome_of f n)) after piece below decodes)))
+    subst (λ r. ReportsMessage r buffer' m ↔ Reads f m) (sym given)
+    (reports (consumed f f) (sized (outcome_of f n)) buffer' m (Reads f m) (decodes-reads f m (sized (outcome_of f n)) buffer' piece below decodes))
 
 -- DECODING IN PLACE
 
@@ -86,20 +98,27 @@ in_place_answer_alone : (f : List ℕ) → IsPiece f → in_place_answer f ≡ h
 in_place_answer_alone [] piece = absurd (piece.0 refl)
 in_place_answer_alone (byte ∷ bytes) piece = ap head_answer (head_alone (byte ∷ bytes) piece.1)
 
-in_place_decodes : (f : List ℕ) → IsPiece f → Decodes f (in_place_answer f) (in_place f)
-in_place_decodes f piece = record {
-  whole = λ whole. in_place_answer_alone f piece ∙ head_answer_whole f piece.0 whole;
+pub in_place_reads : (f : List ℕ) (result : Result ℕ DecodeError) (buffer' : List ℕ) → result ≡ in_place_answer f → buffer' ≡ in_place f
+    → All (λ b. b < 256) f → IsPiece f → (m : List ℕ) → AnswersMessage result buffer' m ↔ Reads f m
+in_place_reads f result buffer' answer after below piece m = decodes-reads f m result buffer' piece below (record {
+  whole = λ whole. answer ∙ in_place_answer_alone f piece ∙ head_answer_whole f piece.0 whole;
   begins = λ whole.
-      ap (λ (h : List ℕ). take (length (output f)) (overwritten f (kept_output h))) (head_alone f piece.1)
+      ap (take (length (output f))) after ∙ ap (λ (h : List ℕ). take (length (output f)) (overwritten f (kept_output h))) (head_alone f piece.1)
       ∙ ap (λ (l : List ℕ). take (length (output f)) (overwritten f l)) (kept_output_whole f whole) ∙ front-overwritten f (output f) (output_within f);
-  broken = λ broken. (InvalidFrame (length (kept_output f)), in_place_answer_alone f piece ∙ head_answer_broken f piece.0 broken);
-}
+  broken = λ broken. (InvalidFrame (length (kept_output f)), answer ∙ in_place_answer_alone f piece ∙ head_answer_broken f piece.0 broken);
+})
 
-pub in_place_reads : (f : List ℕ) → All (λ b. b < 256) f → IsPiece f → (m : List ℕ) → AnswersMessage (in_place_answer f) (in_place f) m ↔ Reads f m
-in_place_reads f below piece m = decodes-reads f m (in_place_answer f) (in_place f) piece below (in_place_decodes f piece)
+-- the same of a buffer that was changed first
+pub in_place_reads_at : (f changed : List ℕ) (result : Result ℕ DecodeError) (buffer' : List ℕ) → changed ≡ f → result ≡ in_place_answer changed → buffer' ≡ in_place changed
+    → All (λ b. b < 256) changed → IsPiece f → (m : List ℕ) → AnswersMessage result buffer' m ↔ Reads f m
+in_place_reads_at f changed result buffer' same answer after below piece m =
+    in_place_reads f result buffer' (answer ∙ ap in_place_answer same) (after ∙ ap in_place same) (subst (λ (x : List ℕ). All (λ b. b < 256) x) same below) piece m
 
-pub in_place_report_reads : (f : List ℕ) → All (λ b. b < 256) f → IsPiece f → (m : List ℕ) → ReportsMessage (in_place_report f) (in_place f) m ↔ Reads f m
-in_place_report_reads f below piece m = reports (length (head f)) (in_place_answer f) (in_place f) m (Reads f m) (in_place_reads f below piece m)
+pub in_place_report_reads : (f : List ℕ) (result : Result DecodeReport DecodeError) (buffer' : List ℕ) → result ≡ in_place_report f → buffer' ≡ in_place f
+    → All (λ b. b < 256) f → IsPiece f → (m : List ℕ) → ReportsMessage result buffer' m ↔ Reads f m
+in_place_report_reads f result buffer' answer after below piece m =
+    subst (λ r. ReportsMessage r buffer' m ↔ Reads f m) (sym answer)
+    (reports (length (head f)) (in_place_answer f) buffer' m (Reads f m) (in_place_reads f (in_place_answer f) buffer' refl after below piece m))
 
 -- DECODING FROM A SOURCE FOR ANY SENTINEL
 
@@ -113,15 +132,16 @@ head_answer_within-broken f n some broken = ⊎_elim
     (λ (short : nat_le (length (kept_output f)) n ≡ false). (TargetBufTooSmall, ap (λ (t : Bool). cond t (head_answer f) (Err TargetBufTooSmall)) short))
     (cases_Bool (nat_le (length (kept_output f)) n))
 
-pub source_reads : (f buffer : List ℕ) → All (λ b. b < 256) f → IsPiece f → length (output f) ≤ length buffer → (m : List ℕ) → AnswersMessage (source_answer f (length buffer)) (overwritten buffer (kept_output (head f))) m ↔ Reads f m
-source_reads f buffer below piece fits m =
+pub source_reads : (f buffer : List ℕ) (result : Result ℕ DecodeError) (buffer' : List ℕ) → result ≡ source_answer f (length buffer) → buffer' ≡ overwritten buffer (kept_output (head f))
+    → All (λ b. b < 256) f → IsPiece f → length (output f) ≤ length buffer → (m : List ℕ) → AnswersMessage result buffer' m ↔ Reads f m
+source_reads f buffer result buffer' answer after below piece fits m =
     let n = length buffer in
-    decodes-reads f m (source_answer f n) (overwritten buffer (kept_output (head f))) piece below (record {
+    decodes-reads f m result buffer' piece below (record {
       whole = λ whole.
           let kept = ap length (kept_output_whole f whole) in
-          source_answer_alone f n piece ∙ ap (λ (t : Bool). cond t (head_answer f) (Err TargetBufTooSmall)) (le-leb (length (kept_output f)) n (omega (arith, kept))) ∙ head_answer_whole f piece.0 whole;
+          answer ∙ source_answer_alone f n piece ∙ ap (λ (t : Bool). cond t (head_answer f) (Err TargetBufTooSmall)) (le-leb (length (kept_output f)) n (omega (arith, kept))) ∙ head_answer_whole f piece.0 whole;
       begins = λ whole.
-          ap (λ (h : List ℕ). take (length (output f)) (overwritten buffer (kept_output h))) (head_alone f piece.1)
+          ap (take (length (output f))) after ∙ ap (λ (h : List ℕ). take (length (output f)) (overwritten buffer (kept_output h))) (head_alone f piece.1)
           ∙ ap (λ (l : List ℕ). take (length (output f)) (overwritten buffer l)) (kept_output_whole f whole) ∙ front-overwritten buffer (output f) fits;
-      broken = λ broken. let w = head_answer_within-broken f n piece.0 broken in (w.0, source_answer_alone f n piece ∙ w.1);
+      broken = λ broken. let w = head_answer_within-broken f n piece.0 broken in (w.0, answer ∙ source_answer_alone f n piece ∙ w.1);
     })

@@ -39,3 +39,7 @@ pub mod SourceSteps
 pub mod VectorSteps
 pub mod HeadlineLemmas
 pub mod WholeLemmas
+mod LentSlice
+pub mod FewLemmas
+pub mod PushHeadline
+pub mod VectorHeadline

@@ -5,11 +5,12 @@ use Rattle.std.proofs.Math.Seq.{take-append-add}
 use Rattle.std.proofs.Math.Nat.{pow-le-pow_right}
 use Rattle.std.proofs.lemmas.List.{drop-drop, drop-take, take-take, get_or-take, get_or-drop, drop-set-lt, take-set, length-set}
 use lib.Count.{count_trailing_zeros}
+use Rattle.std.specs.Int.Bits.{bit_and}
 use Rattle.std.specs.Int.Count.{trailing_of_zero}
 use Rattle.cobs.specs.Grammar.{HasNoZero}
 use Rattle.cobs.specs.Encoder.{open_len}
 use Rattle.cobs.specs.Mask.{zero_mask}
-use Rattle.cobs.proofs.MaskLemmas.{mask_behind, mask_behind-none, mask_behind-less, some_left, lowest_left, nonzero_len, nonzero_len-lt, nonzero_len-before, nonzero_len-at, clear_front, window_all}
+use Rattle.cobs.proofs.MaskLemmas.{mask_behind, mask_behind-none, mask_behind-less, mask_behind-and, some_left, lowest_left, nonzero_len, nonzero_len-lt, nonzero_len-before, nonzero_len-at, clear_front, window_all}
 use Rattle.cobs.proofs.ReachLemmas.{Reaches, Reaches-at, Reaches-same, Reaches-join, Reaches-zero, Reaches-zeros, IsNotFull, least}
 
 -- what stands in a list that was made of three parts
@@ -142,19 +143,13 @@ module _ (H : List ℕ → Type 0) (source old slice : List ℕ) (end read len i
   less : zeros ≡ 2 ^ (d + nonzero_len left) + mask_behind (d + nonzero_len left + 1) (drop (nonzero_len left + 1) left)
   less = s.bits ∙ mask_behind-less d left small some_bits
 
-  -- the bit that is taken from the mask
-  pub bit-is : 1 * 2 ^ count_trailing_zeros 64 zeros % 18446744073709551616 ≡ 2 ^ (d + nonzero_len left)
-  bit-is =
-      let lt = first-lt in let f = s.few in
-      let most : 2 ^ (d + nonzero_len left) ≤ 2 ^ 63 = pow-le-pow_right {n = 2} (omega arith) {i = d + nonzero_len left} {j = 63} (omega arith) in
-      let e : 1 * 2 ^ (d + nonzero_len left) % 18446744073709551616 ≡ 2 ^ (d + nonzero_len left) = omega arith in
-      ap (λ (k : ℕ). 1 * 2 ^ k % 18446744073709551616) first-is ∙ e
-
-  pub bit-le : 1 * 2 ^ count_trailing_zeros 64 zeros % 18446744073709551616 ≤ zeros
-  bit-le = let e = bit-is in let l = less in omega arith
-
-  pub bit-some : 0 < 1 * 2 ^ count_trailing_zeros 64 zeros % 18446744073709551616
-  bit-some = let e = bit-is in let p : 2 ^ 0 ≤ 2 ^ (d + nonzero_len left) = pow-le-pow_right {n = 2} (omega arith) {i = 0} {j = d + nonzero_len left} (omega arith) in omega arith
+  -- the mask without its lowest bit
+  pub fewer : bit_and zeros (zeros - 1) < zeros
+  fewer =
+      let l = less in
+      let e : bit_and zeros (zeros - 1) ≡ mask_behind (d + nonzero_len left + 1) (drop (nonzero_len left + 1) left) = ap (λ (n : ℕ). bit_and n (n - 1)) s.bits ∙ mask_behind-and d left small some_bits in
+      let p : 2 ^ 0 ≤ 2 ^ (d + nonzero_len left) = pow-le-pow_right {n = 2} (omega arith) {i = 0} {j = d + nonzero_len left} (omega arith) in
+      omega arith
 
   -- where the code of the next block belongs
   pub place-le : index ≤ next + count_trailing_zeros 64 zeros
@@ -163,7 +158,7 @@ module _ (H : List ℕ → Type 0) (source old slice : List ℕ) (end read len i
   pub place-lt : next + count_trailing_zeros 64 zeros < index + 255
   place-lt = let e = first-is in let lt = first-lt in let h = s.short in omega arith
 
-  pub marks-step : end ≤ length slice → Marks H source old (set slice index (next + count_trailing_zeros 64 zeros - index)) end read len (next + count_trailing_zeros 64 zeros) next (zeros - 1 * 2 ^ count_trailing_zeros 64 zeros % 18446744073709551616)
+  pub marks-step : end ≤ length slice → Marks H source old (set slice index (next + count_trailing_zeros 64 zeros - index)) end read len (next + count_trailing_zeros 64 zeros) next (bit_and zeros (zeros - 1))
   marks-step fits =
       let k : ℕ = count_trailing_zeros 64 zeros in
       let j : ℕ = nonzero_len left in
@@ -189,16 +184,14 @@ module _ (H : List ℕ → Type 0) (source old slice : List ℕ) (end read len i
       let after : List ℕ = set slice index (next + k - index) in
       let code : next + d + j - index ≡ next + k - index = omega arith in
       let seen' : k + 1 ≡ next + k + 1 - next = omega arith in
-      subst (MarksAt H source old after end read len (next + k) next (zeros - 1 * 2 ^ k % 18446744073709551616)) seen' (record {
+      subst (MarksAt H source old after end read len (next + k) next (bit_and zeros (zeros - 1))) seen' (record {
         seen = omega arith;
         some = s.some;
         few = s.few;
         inside = s.inside;
         here = ap (take (len - (k + 1))) (drop-set-lt (next + (k + 1)) slice index (next + k - index) (omega arith)) ∙ sym (cut slice next) ∙ ap (drop (j + 1)) s.here ∙ cut source read;
         bits =
-            let l = less in
-            let b = bit-is in
-            let rest : zeros - 1 * 2 ^ k % 18446744073709551616 ≡ mask_behind (d + j + 1) (drop (j + 1) left) = omega arith in
+            let rest : bit_and zeros (zeros - 1) ≡ mask_behind (d + j + 1) (drop (j + 1) left) = ap (λ (n : ℕ). bit_and n (n - 1)) s.bits ∙ mask_behind-and d left small some_bits in
             let at : d + j + 1 ≡ k + 1 = omega arith in
             rest ∙ ap (λ (m : ℕ). mask_behind m (drop (j + 1) left)) at ∙ ap (mask_behind (k + 1)) (cut source read);
         short = omega arith;

@@ -1,17 +1,20 @@
 -- Lemmas on the mask of the zeros among bytes.
-use Rattle.std.proofs.Common.{◌≡◌, ◌≢◌, ℕ, ◌+◌, ◌-◌, ◌*◌, ◌/◌, ◌%◌, ◌^◌, ◌<◌, ◌≤◌, cond, eqb, not, Bool, true, false, List, [], ◌∷◌, ◌++◌, length, map, drop, take, get_or, replicate, All, if◌then◌else◌, ◌==◌, suc, zero, refl, sym, ap, ◌∙◌, subst, inl, inr, arith, length-take-le, length-append, length-drop, append_assoc, w8}
+use Rattle.std.proofs.Common.{min, ◌≡◌, ◌≢◌, ℕ, ◌+◌, ◌-◌, ◌*◌, ◌/◌, ◌%◌, ◌^◌, ◌<◌, ◌≤◌, cond, eqb, not, Bool, true, false, List, [], ◌∷◌, ◌++◌, length, map, drop, take, get_or, replicate, All, if◌then◌else◌, ◌==◌, suc, zero, refl, sym, ap, ◌∙◌, subst, inl, inr, arith, length-take-le, length-append, length-drop, append_assoc, w8}
 use Rattle.std.proofs.Math.ListN.{set}
 use mir.Val.{bool_byte}
-use Rattle.std.proofs.Math.Nat.{pow-suc, pow-zero, div-div-eq-div-mul, mul_comm, mul_assoc, mul-one, div-one, zero-div, pow-le-pow_right}
+use Rattle.std.proofs.Math.Nat.{pow-suc, pow-zero, div-div-eq-div-mul, mul_comm, mul_assoc, mul-one, one-mul, div-one, zero-div, pow-le-pow_right}
 use Rattle.std.proofs.lemmas.Bool.{ne_eqb, eq-eqb, eqb-true, not-true, not-false, true≢false, cases_eq, cases_lt}
-use Rattle.std.proofs.lemmas.List.{drop-take, get_or-take, drop-drop, length-map, length-replicate, take-take, take_more, get_or-drop, drop_more, set_at}
-use Rattle.std.proofs.Math.Seq.{drop-append-add}
+use Rattle.std.proofs.lemmas.List.{drop-take, get_or-take, drop-drop, length-map, length-replicate, take-take, take_more, get_or-drop, drop_more, set_at, take-append-le, take-append-drop}
+use Rattle.std.proofs.Math.Seq.{drop-append-add, take-append-add}
 use Rattle.std.proofs.lemmas.List.Elements.{All-nil, All-cons, All-take, All-from_get_or}
 use Rattle.std.proofs.lemmas.List.Sums.{prefix_len_passes, prefix_len_stops}
 use Rattle.std.proofs.lemmas.Simd.{bitmask_splat, mask_l-lt, trailing_mask_l, put_chunk_is, length-chunk}
 use Rattle.std.specs.List.{prefix_len}
 use lib.Lanes.{mask_l, put_chunk, zip2, top}
 use lib.Count.{count_trailing_zeros}
+use Rattle.std.specs.Int.Bits.{bit_and, and_self}
+use Rattle.std.specs.Int.{bit_at}
+use Rattle.std.proofs.lemmas.Nat.Bits.{same_from_bits, bit_at_lowest, bit_at-suc, bit_at_and}
 use Rattle.cobs.specs.Grammar.{HasNoZero}
 use Rattle.cobs.specs.Mask.{zero_mask}
 
@@ -25,11 +28,11 @@ put_is dest bytes at n l room =
     put_chunk_is at dest bytes (omega arith) ∙ ap (λ (x : List ℕ). take at dest ++ (bytes ++ x)) (ap (λ (k : ℕ). drop k (drop at dest)) l ∙ drop-drop n at dest)
 
 -- the bits that a comparison with 0 gives
-pub zeros_by_lanes : (source : List ℕ) (at : ℕ) → at + 32 ≤ length source
-    → mask_l (map (top 7) (zip2 (λ a b. cond (eqb a b) (2 ^ 8 - 1) 0) (take 32 (drop at source)) (replicate 32 0))) % 2 ^ 64 ≡ zero_mask (take 32 (drop at source))
-zeros_by_lanes source at room =
-    bitmask_splat w8 eqb (take 32 (drop at source)) 32 0 (length-chunk at 32 source room) (omega arith)
-    ∙ zero_mask-lanes (take 32 (drop at source))
+pub zeros_by_lanes : (source : List ℕ) (at n : ℕ) → at + n ≤ length source → n ≤ 64
+    → mask_l (map (top 7) (zip2 (λ a b. cond (eqb a b) (2 ^ 8 - 1) 0) (take n (drop at source)) (replicate n 0))) % 2 ^ 64 ≡ zero_mask (take n (drop at source))
+zeros_by_lanes source at n room few =
+    bitmask_splat w8 eqb (take n (drop at source)) n 0 (length-chunk at n source room) few
+    ∙ zero_mask-lanes (take n (drop at source))
 
 -- a zero's bit, and another byte's
 set_if : (b : ℕ) → b ≡ 0 → ◌≡◌ {A = ℕ} (if b == 0 then 1 else 0) 1
@@ -136,6 +139,55 @@ mask-less (b ∷ bytes) some =
           sym sum ∙ ap (λ i. 2 ^ i + mask_behind (suc (k + 1)) (drop (suc (k + 1)) (b ∷ bytes))) n ∙ ap (λ i. 2 ^ nonzero_len (b ∷ bytes) + mask_behind i (drop i (b ∷ bytes))) n')
     ]
 
+-- the lowest bits, and the others
+and-step : (a b x y : ℕ) → a ≤ 1 → b ≤ 1 → bit_and (a + 2 * x) (b + 2 * y) ≡ min a b + 2 * bit_and x y
+and-step a b x y la lb = same_from_bits (bit_and (a + 2 * x) (b + 2 * y)) (min a b + 2 * bit_and x y) by_place
+  where
+    by_place : (i : ℕ) → bit_at (bit_and (a + 2 * x) (b + 2 * y)) i ≡ bit_at (min a b + 2 * bit_and x y) i
+    by_place zero =
+        let l = bit_at_lowest (a + 2 * x) in let r = bit_at_lowest (b + 2 * y) in
+        let n = bit_at_and (a + 2 * x) (b + 2 * y) 0 in
+        let s = bit_at_lowest (min a b + 2 * bit_and x y) in
+        let la' : (a + 2 * x) % 2 ≡ a = omega arith in
+        let lb' : (b + 2 * y) % 2 ≡ b = omega arith in
+        let ls : (min a b + 2 * bit_and x y) % 2 ≡ min a b = omega arith in
+        n ∙ ap (λ k. min k (bit_at (b + 2 * y) 0)) (l ∙ la') ∙ ap (min a) (r ∙ lb') ∙ sym (s ∙ ls)
+    by_place (suc i) =
+        let ha : (a + 2 * x) / 2 ≡ x = omega arith in
+        let hb : (b + 2 * y) / 2 ≡ y = omega arith in
+        let hs : (min a b + 2 * bit_and x y) / 2 ≡ bit_and x y = omega arith in
+        bit_at_and (a + 2 * x) (b + 2 * y) (suc i)
+        ∙ ap (λ k. min k (bit_at (b + 2 * y) (suc i))) (bit_at-suc (a + 2 * x) i ∙ ap (λ n. bit_at n i) ha)
+        ∙ ap (min (bit_at x i)) (bit_at-suc (b + 2 * y) i ∙ ap (λ n. bit_at n i) hb)
+        ∙ sym (bit_at_and x y i) ∙ ap (λ n. bit_at n i) (sym hs) ∙ sym (bit_at-suc (min a b + 2 * bit_and x y) i)
+
+-- a mask and one less: the first zero is taken from it
+mask-and : (bytes : List ℕ) → zero_mask bytes ≢ 0 → bit_and (zero_mask bytes) (zero_mask bytes - 1) ≡ mask_behind (nonzero_len bytes + 1) (drop (nonzero_len bytes + 1) bytes)
+mask-and [] some = absurd (some refl)
+mask-and (b ∷ bytes) some =
+    elim (cases_eq b 0) [
+      | inl is ↦ (let c : nonzero_len (b ∷ bytes) ≡ 0 = ap (λ t. cond (not t) (1 + nonzero_len bytes) 0) (eq-eqb b 0 is) in
+          let m : zero_mask (b ∷ bytes) ≡ 1 + 2 * zero_mask bytes = ap (λ t. (if t then 1 else 0) + 2 * zero_mask bytes) (eq-eqb b 0 is) in
+          let less : zero_mask (b ∷ bytes) - 1 ≡ 0 + 2 * zero_mask bytes = omega arith in
+          let s = and-step 1 0 (zero_mask bytes) (zero_mask bytes) (omega arith) (omega arith) in
+          let own = and_self (zero_mask bytes) in
+          let one : mask_behind (0 + 1) (drop (0 + 1) (b ∷ bytes)) ≡ 0 + 2 * zero_mask bytes = refl in
+          ap (λ k. bit_and k (zero_mask (b ∷ bytes) - 1)) m ∙ ap (bit_and (1 + 2 * zero_mask bytes)) less ∙ s ∙ (let e : min 1 0 + 2 * bit_and (zero_mask bytes) (zero_mask bytes) ≡ 0 + 2 * zero_mask bytes = omega arith in e)
+          ∙ sym one ∙ ap (λ k. mask_behind (k + 1) (drop (k + 1) (b ∷ bytes))) (sym c))
+      | inr other ↦ (let c : nonzero_len (b ∷ bytes) ≡ 1 + nonzero_len bytes = ap (λ t. cond (not t) (1 + nonzero_len bytes) 0) (ne_eqb b 0 other) in
+          let m : zero_mask (b ∷ bytes) ≡ 0 + 2 * zero_mask bytes = ap (λ t. (if t then 1 else 0) + 2 * zero_mask bytes) (ne_eqb b 0 other) in
+          let k : ℕ = nonzero_len bytes in
+          let some' : zero_mask bytes ≢ 0 = λ e. some (omega arith) in
+          let less : zero_mask (b ∷ bytes) - 1 ≡ 1 + 2 * (zero_mask bytes - 1) = omega arith in
+          let s = and-step 0 1 (zero_mask bytes) (zero_mask bytes - 1) (omega arith) (omega arith) in
+          let ih = mask-and bytes some' in
+          let more = mask_behind-more (k + 1) (drop (k + 1) bytes) in
+          let n : suc (k + 1) ≡ nonzero_len (b ∷ bytes) + 1 = omega arith in
+          ap (λ i. bit_and i (zero_mask (b ∷ bytes) - 1)) m ∙ ap (bit_and (0 + 2 * zero_mask bytes)) less ∙ s
+          ∙ (let e : min 0 1 + 2 * bit_and (zero_mask bytes) (zero_mask bytes - 1) ≡ mask_behind (suc (k + 1)) (drop (k + 1) bytes) = omega arith in e)
+          ∙ ap (λ i. mask_behind i (drop i (b ∷ bytes))) n)
+    ]
+
 length-ones : (n : ℕ) → length {A = ℕ} (replicate n 1) ≡ n
 length-ones n = length-replicate n 1
 
@@ -159,6 +211,15 @@ module _ (d : ℕ) (bytes : List ℕ) (few : d + length bytes ≤ 64) (some : ma
       ap (λ n. drop n (replicate d 1 ++ bytes)) (let s : d + k + 1 ≡ length {A = ℕ} (replicate d 1) + (k + 1) = omega arith in s) ∙ drop-append-add (replicate d 1) bytes (k + 1) in
       mask-less (replicate d 1 ++ bytes) some ∙ ap (λ n. 2 ^ n + mask_behind (n + 1) (drop (n + 1) (replicate d 1 ++ bytes))) e
       ∙ ap (λ (x : List ℕ). 2 ^ (d + k) + mask_behind (d + k + 1) x) left
+
+  pub mask_behind-and : bit_and (mask_behind d bytes) (mask_behind d bytes - 1) ≡ mask_behind (d + nonzero_len bytes + 1) (drop (nonzero_len bytes + 1) bytes)
+  mask_behind-and =
+      let k : ℕ = nonzero_len bytes in
+      let e = nonzero_len-behind d bytes in
+      let l = length-ones d in
+      let left : drop (d + k + 1) (replicate d 1 ++ bytes) ≡ drop (k + 1) bytes =
+      ap (λ n. drop n (replicate d 1 ++ bytes)) (let s : d + k + 1 ≡ length {A = ℕ} (replicate d 1) + (k + 1) = omega arith in s) ∙ drop-append-add (replicate d 1) bytes (k + 1) in
+      mask-and (replicate d 1 ++ bytes) some ∙ ap (λ n. mask_behind (n + 1) (drop (n + 1) (replicate d 1 ++ bytes))) e ∙ ap (mask_behind (d + k + 1)) left
 
 -- where the lowest bit stands no lower than k, the first k bytes aren't zeros
 pub clear_front : (bytes : List ℕ) (k : ℕ) → length bytes ≤ 64 → k ≤ count_trailing_zeros 64 (zero_mask bytes) → HasNoZero (take k bytes)
@@ -192,15 +253,81 @@ window_all bytes few e =
     ] in
     (long, zero_mask-all bytes (omega (arith, ap (λ k. 2 ^ k) long)) ∙ ap (λ k. replicate k 0) long)
 
--- the end of a message, by a shift of the mask of the 32 bytes before its end
-pub zero_mask-end : (source : List ℕ) (read len : ℕ) → 32 ≤ read + len → len ≤ 32 → zero_mask (take 32 (drop (read + len - 32) source)) / 2 ^ (32 - len) ≡ zero_mask (take len (drop read source))
-zero_mask-end source read len long few =
-    let k : ℕ = 32 - len in
-    let at : ℕ = read + len - 32 in
-    let left : drop k (take 32 (drop at source)) ≡ take len (drop read source) =
-    ap (λ n. drop k (take n (drop at source))) (let e : 32 ≡ k + len = omega arith in e) ∙ drop-take k len (drop at source)
-    ∙ ap (take len) (drop-drop k at source ∙ ap (λ i. drop i source) (omega arith)) in
-    zero_mask-drop k (take 32 (drop at source)) ∙ ap zero_mask left
+pub zero_mask-append : (a b : List ℕ) → zero_mask (a ++ b) ≡ zero_mask a + 2 ^ length a * zero_mask b
+zero_mask-append [] b = let z : 2 ^ 0 ≡ 1 = refl in let m = one-mul (zero_mask b) in omega arith
+zero_mask-append (x ∷ a) b =
+    let ih = zero_mask-append a b in
+    let p = pow-suc 2 (length a) in
+    let m : 2 ^ suc (length a) * zero_mask b ≡ 2 * (2 ^ length a * zero_mask b) = ap (λ k. k * zero_mask b) (p ∙ mul_comm (2 ^ length a) 2) ∙ mul_assoc 2 (2 ^ length a) (zero_mask b) in
+    omega arith
+
+-- a window that is copied as two parts of n bytes, which may overlap
+module _ (source dest first after : List ℕ) (read at len n front back : ℕ) (inside : read + len ≤ length source) (room : at + len ≤ length dest) (some : n ≤ len) (few : len ≤ n + n) (small : n ≤ 16)
+    (is : first ≡ take at dest ++ (take n (drop read source) ++ drop (at + n) dest))
+    (is' : after ≡ take (at + len - n) first ++ (take n (drop (read + len - n) source) ++ drop (at + len - n + n) first))
+    (bits : front ≡ zero_mask (take n (drop read source))) (bits' : back ≡ zero_mask (take n (drop (read + len - n) source))) where
+  abbrev w : List ℕ
+  w = take len (drop read source)
+
+  length-w : length w ≡ len
+  length-w = length-take-le len (drop read source) (let d = length-drop read source in omega arith)
+
+  front-is : take n (drop read source) ≡ take n w
+  front-is = sym (take-take n len (drop read source) some)
+
+  back-is : take n (drop (read + len - n) source) ≡ drop (len - n) w
+  back-is =
+      let sum : len ≡ len - n + n = omega arith in
+      sym (ap (λ (k : ℕ). drop (len - n) (take k (drop read source))) sum ∙ drop-take (len - n) n (drop read source)
+      ∙ ap (take n) (drop-drop (len - n) read source ∙ ap (λ (k : ℕ). drop k source) (omega arith)))
+
+  pub parts-copied : after ≡ take at dest ++ (w ++ drop (at + len) dest)
+  parts-copied =
+      let l = length-w in
+      let a : length (take at dest) ≡ at = length-take-le at dest (omega arith) in
+      let b : length (take n w) ≡ n = length-take-le n w (omega arith) in
+      let first-is : first ≡ (take at dest ++ take n w) ++ drop (at + n) dest = is ∙ ap (λ (x : List ℕ). take at dest ++ (x ++ drop (at + n) dest)) front-is ∙ sym (append_assoc (take at dest) (take n w) (drop (at + n) dest)) in
+      let c : length (take at dest ++ take n w) ≡ at + n = length-append (take at dest) (take n w) ∙ omega arith in
+      let sum : at + len - n ≡ length (take at dest) + (len - n) = omega arith in
+      let low : take (at + len - n) first ≡ take at dest ++ take (len - n) w =
+      ap (take (at + len - n)) (is ∙ ap (λ (x : List ℕ). take at dest ++ (x ++ drop (at + n) dest)) front-is)
+      ∙ ap (λ (k : ℕ). take k (take at dest ++ (take n w ++ drop (at + n) dest))) sum ∙ take-append-add (take at dest) (take n w ++ drop (at + n) dest) (len - n)
+      ∙ ap (λ (x : List ℕ). take at dest ++ x) (take-append-le (len - n) (take n w) (drop (at + n) dest) (omega arith) ∙ take-take (len - n) n w (omega arith)) in
+      let sum' : at + len - n + n ≡ length (take at dest ++ take n w) + (len - n) = omega arith in
+      let high : drop (at + len - n + n) first ≡ drop (at + len) dest =
+      ap (drop (at + len - n + n)) first-is ∙ ap (λ (k : ℕ). drop k ((take at dest ++ take n w) ++ drop (at + n) dest)) sum'
+      ∙ drop-append-add (take at dest ++ take n w) (drop (at + n) dest) (len - n) ∙ drop-drop (len - n) (at + n) dest ∙ ap (λ (k : ℕ). drop k dest) (omega arith) in
+      is' ∙ ap (λ (x : List ℕ). x ++ (take n (drop (read + len - n) source) ++ drop (at + len - n + n) first)) low
+      ∙ ap (λ (x : List ℕ). (take at dest ++ take (len - n) w) ++ (x ++ drop (at + len - n + n) first)) back-is
+      ∙ ap (λ (x : List ℕ). (take at dest ++ take (len - n) w) ++ (drop (len - n) w ++ x)) high
+      ∙ append_assoc (take at dest) (take (len - n) w) (drop (len - n) w ++ drop (at + len) dest)
+      ∙ ap (λ (x : List ℕ). take at dest ++ x) (sym (append_assoc (take (len - n) w) (drop (len - n) w) (drop (at + len) dest)) ∙ ap (λ (x : List ℕ). x ++ drop (at + len) dest) (take-append-drop (len - n) w))
+
+  -- the mask of the second part, without what the first part has
+  shifted : back / 2 ^ (n + n - len) ≡ zero_mask (drop n w)
+  shifted =
+      ap (λ (k : ℕ). k / 2 ^ (n + n - len)) (bits' ∙ ap zero_mask back-is) ∙ zero_mask-drop (n + n - len) (drop (len - n) w)
+      ∙ ap zero_mask (drop-drop (n + n - len) (len - n) w ∙ ap (λ (k : ℕ). drop k w) (omega arith))
+
+  pub parts-mask : front + 2 ^ n * (back / 2 ^ (n + n - len)) ≡ zero_mask w
+  parts-mask =
+      let l = length-w in
+      let b : length (take n w) ≡ n = length-take-le n w (omega arith) in
+      ap (λ (k : ℕ). k + 2 ^ n * (back / 2 ^ (n + n - len))) (bits ∙ ap zero_mask front-is) ∙ ap (λ (k : ℕ). zero_mask (take n w) + 2 ^ n * k) shifted
+      ∙ ap (λ (k : ℕ). zero_mask (take n w) + 2 ^ k * zero_mask (drop n w)) (sym b) ∙ sym (zero_mask-append (take n w) (drop n w)) ∙ ap zero_mask (take-append-drop n w)
+
+  -- no bit of it is lost
+  pub parts-small : (front < 65536) × (back / 2 ^ (n + n - len) < 65536)
+  parts-small =
+      let l = length-w in
+      let most : 2 ^ n ≤ 2 ^ 16 = pow-le-pow_right {n = 2} (omega arith) {i = n} {j = 16} (omega arith) in
+      let a : length (take n w) ≡ n = length-take-le n w (omega arith) in
+      let f : front < 2 ^ length (take n w) = subst (λ (k : ℕ). k < 2 ^ length (take n w)) (sym (bits ∙ ap zero_mask front-is)) (zero_mask-lt (take n w)) in
+      let fa : 2 ^ length (take n w) ≡ 2 ^ n = ap (λ (k : ℕ). 2 ^ k) a in
+      let d = length-drop n w in
+      let g : back / 2 ^ (n + n - len) < 2 ^ length (drop n w) = subst (λ (k : ℕ). k < 2 ^ length (drop n w)) (sym shifted) (zero_mask-lt (drop n w)) in
+      let most' : 2 ^ length (drop n w) ≤ 2 ^ 16 = pow-le-pow_right {n = 2} (omega arith) {i = length (drop n w)} {j = 16} (omega arith) in
+      (omega arith, omega arith)
 
 -- one byte more
 pub zero_mask-push : (bytes : List ℕ) (b : ℕ) → zero_mask (bytes ++ b ∷ []) ≡ zero_mask bytes + (if b == 0 then 1 else 0) * 2 ^ length bytes

@@ -11,7 +11,7 @@ use Rattle.cobs.specs.Piece.{output, lacks, last_part}
 use Rattle.cobs.specs.Stream.{Outcome, stream_outcomes, unended, is_nonempty}
 use Rattle.cobs.specs.Decoder.{Phase, Idle, Within, Over, DecoderAfter, Feeds, phase_after}
 use Rattle.cobs.specs.Streaming.{outcome_told}
-use Rattle.cobs.specs.Reading.{Read, bytes_given, GaveBytes, all_given, EndsIn, Runs, CallsForMore, EachCalledFor, EndsFirst, EndsFirstIn, ReaderState, IsBehind, AtStreamEnd, Tells, ReadsNext, HasTaken, IsOutcome}
+use Rattle.cobs.specs.Reading.{Read, bytes_given, GaveBytes, all_given, EndsIn, Runs, CallsForMore, EachCalledFor, EndsFirst, EndsFirstIn, ReaderState, IsBehind, AtStreamEnd, Tells, ReadsNext, HasTaken, IsOutcome, TellsFirst}
 use Rattle.cobs.specs.declared.framed.Next.{Next}
 use Rattle.cobs.specs.declared.framed.Next.TheVariants as nexts
 use Rattle.cobs.specs.declared.framed.ReadFault.TheVariants as faults
@@ -117,29 +117,28 @@ EachCalledFor-nil front n = λ earlier later read e. absurd (omega (arith, ap le
 
 -- A CALL THAT GOES ON
 
--- reads that all gave bytes and ended no piece: where the source and the reader are behind them
+-- reads that all gave bytes and ended no piece: where the source and the reader are behind them, and the reader's note
+-- of a begun piece
 pub record Going {S : Type 0} (step : S → Read → S → Type 0) (from to : S) (reader₀ reader : ReaderState) (unfinished : Bool) (count : ℕ) : Type 0 where
   pub reads : List Read
   pub runs : Runs step from reads to
   pub count_is : length reads ≡ count
   pub gave : All GaveBytes reads
-  pub none_ended : (p : List ℕ) → IsBehind reader₀ p → stream_outcomes (p ++ reader₀.kept ++ all_given reads) (length reader₀.buffer) ≡ []
-  pub taken : (p : List ℕ) → IsBehind reader₀ p → HasTaken reader.buffer reader.phase unfinished (unended (p ++ reader₀.kept ++ all_given reads))
-  pub nothing_kept : (p : List ℕ) → IsBehind reader₀ p → reader.kept ≡ []
+  pub at_end : (p : List ℕ) → IsBehind reader₀ p → AtStreamEnd (p ++ reader₀.kept ++ all_given reads) reader
+  pub flag : (p : List ℕ) → IsBehind reader₀ p → unfinished ≡ is_nonempty (unended (p ++ reader₀.kept ++ all_given reads))
   pub len : length reader.buffer ≡ length reader₀.buffer
 
 -- before any read
 pub Going-start : {S : Type 0} (step : S → Read → S → Type 0) (source : S) (reader₀ reader : ReaderState) (unfinished : Bool)
-    → ((p : List ℕ) → IsBehind reader₀ p → (stream_outcomes (p ++ reader₀.kept) (length reader₀.buffer) ≡ []) × HasTaken reader.buffer reader.phase unfinished (unended (p ++ reader₀.kept)) × (reader.kept ≡ []))
+    → ((p : List ℕ) → IsBehind reader₀ p → AtStreamEnd (p ++ reader₀.kept) reader × (unfinished ≡ is_nonempty (unended (p ++ reader₀.kept))))
     → length reader.buffer ≡ length reader₀.buffer → Going step source source reader₀ reader unfinished 0
 Going-start step source reader₀ reader unfinished h len = record {
   reads = [];
   runs = refl;
   count_is = refl;
   gave = All-nil GaveBytes;
-  none_ended = λ p b. ap (λ (x : List ℕ). stream_outcomes x (length reader₀.buffer)) (append-nil (p ++ reader₀.kept)) ∙ (h p b).0;
-  taken = λ p b. rw (append-nil (p ++ reader₀.kept)) (h p b).1;
-  nothing_kept = λ p b. (h p b).2;
+  at_end = λ p b. rw (append-nil (p ++ reader₀.kept)) (h p b).0;
+  flag = λ p b. rw (append-nil (p ++ reader₀.kept)) (h p b).1;
   len = len;
 }
 
@@ -148,15 +147,15 @@ some_is_none bytes e = cc
 
 module _ {S : Type 0} {step : S → Read → S → Type 0} {from to : S} {reader₀ reader : ReaderState} {unfinished : Bool} {count : ℕ} where
   more_called_for : count < 65536 → (g : Going step from to reader₀ reader unfinished count) → (p : List ℕ) → IsBehind reader₀ p → CallsForMore (p ++ reader₀.kept) (length reader₀.buffer) g.reads
-  more_called_for few g p b = record { few = omega (arith, g.count_is); gave = g.gave; none_ended = g.none_ended p b }
+  more_called_for few g p b = record { few = omega (arith, g.count_is); gave = g.gave; none_ended = ap (stream_outcomes (p ++ reader₀.kept ++ all_given g.reads)) (sym g.len) ∙ (g.at_end p b).none_ended }
 
   -- a read that gave nothing leaves the stream as it is
   nothing_more : (g : Going step from to reader₀ reader unfinished count) (read : Read) → bytes_given read ≡ [] → (p : List ℕ) → p ++ reader₀.kept ++ all_given (g.reads ++ read ∷ []) ≡ p ++ reader₀.kept ++ all_given g.reads
   nothing_more g read none p = given-push (p ++ reader₀.kept) g.reads read ∙ ap (λ (x : List ℕ). p ++ reader₀.kept ++ all_given g.reads ++ x) none ∙ append-nil _
 
-  -- the stream has come to its end
-  at_end : (kept : List ℕ) → kept ≡ [] → (g : Going step from to reader₀ reader unfinished count) → (p : List ℕ) → IsBehind reader₀ p → AtStreamEnd (p ++ reader₀.kept ++ all_given g.reads) (record reader { kept = kept })
-  at_end kept e g p b = record { none_ended = ap (stream_outcomes (p ++ reader₀.kept ++ all_given g.reads)) g.len ∙ g.none_ended p b; behind = (g.taken p b).after; nothing_kept = e }
+  -- the stream has come to its end, and the chunk is empty
+  emptied : (kept : List ℕ) → kept ≡ [] → (g : Going step from to reader₀ reader unfinished count) → (p : List ℕ) → IsBehind reader₀ p → AtStreamEnd (p ++ reader₀.kept ++ all_given g.reads) (record reader { kept = kept })
+  emptied kept e g p b = let end = g.at_end p b in record { none_ended = end.none_ended; behind = end.behind; nothing_kept = e }
 
   -- WHERE THE SOURCE GIVES NO MORE
 
@@ -168,7 +167,7 @@ module _ {S : Type 0} {step : S → Read → S → Type 0} {from to : S} {reader
     runs = Runs-push step from g.reads to to' None g.runs s;
     failed = (λ _. (g.reads, refl), λ _. refl);
     called_for = λ p b. EachCalledFor-push _ _ g.reads None (more_called_for few g p b);
-    tells = λ p b. rw (nothing_more g None refl p) (at_end kept e g p b, (g.reads, refl));
+    tells = λ p b. rw (nothing_more g None refl p) (emptied kept e g p b, (g.reads, refl));
   }
 
   -- a read gave no bytes
@@ -179,79 +178,85 @@ module _ {S : Type 0} {step : S → Read → S → Type 0} {from to : S} {reader
     runs = Runs-push step from g.reads to to' (Some []) g.runs s;
     failed = (λ f. absurd cc, λ l. absurd (some_is_none [] (last_read g.reads (Some []) None l)));
     called_for = λ p b. EachCalledFor-push _ _ g.reads (Some []) (more_called_for few g p b);
-    tells = λ p b. rw (nothing_more g (Some []) refl p) (at_end kept e g p b, (g.reads, refl), (g.taken p b).flag);
+    tells = λ p b. rw (nothing_more g (Some []) refl p) (emptied kept e g p b, (g.reads, refl), g.flag p b);
   }
 
--- THE SAME, BEHIND A PIECE'S END
+-- WHERE A PIECE ENDS
 
 -- an outcome is told
-Tells-piece : (next : Next) (reads : List Read) (t : List ℕ) (reader : ReaderState) (outcome : Outcome)
-    → IsOutcome next reader.buffer outcome → EndsFirst t (length reader.buffer) outcome reader.kept → reader.phase ≡ Idle → Tells (Ok next) reads t reader
-Tells-piece (nexts.Message n) reads t reader outcome i w b = (record { first = subst (λ o. EndsFirst t (length reader.buffer) o reader.kept) i.0 w; idle = b }, i.1)
-Tells-piece (nexts.Broken n) reads t reader outcome i w b = record { first = subst (λ o. EndsFirst t (length reader.buffer) o reader.kept) i w; idle = b }
-Tells-piece nexts.TooLong reads t reader outcome i w b = record { first = subst (λ o. EndsFirst t (length reader.buffer) o reader.kept) i w; idle = b }
-Tells-piece (nexts.End unfinished) reads t reader outcome i w b = absurd i
+Tells-outcome : (next : Next) (reads : List Read) (t : List ℕ) (reader : ReaderState) (outcome : Outcome)
+    → IsOutcome next reader.buffer outcome → EndsFirst t (length reader.buffer) outcome reader.kept → IsBehind reader [] → Tells (Ok next) reads t reader
+Tells-outcome (nexts.Message n) reads t reader outcome i w b = (record { first = subst (λ o. EndsFirst t (length reader.buffer) o reader.kept) i.0 w; idle = b }, i.1)
+Tells-outcome (nexts.Broken n) reads t reader outcome i w b = record { first = subst (λ o. EndsFirst t (length reader.buffer) o reader.kept) i w; idle = b }
+Tells-outcome nexts.TooLong reads t reader outcome i w b = record { first = subst (λ o. EndsFirst t (length reader.buffer) o reader.kept) i w; idle = b }
+Tells-outcome (nexts.End unfinished) reads t reader outcome i w b = absurd i
+
+-- the first piece that ends in some bytes is told, behind a stream in which none has ended
+Tells-first : (next : Next) (reads : List Read) (t bytes : List ℕ) (reader : ReaderState) → stream_outcomes t (length reader.buffer) ≡ []
+    → TellsFirst next (unended t) bytes reader.buffer reader.kept → IsBehind reader [] → Tells (Ok next) reads (t ++ bytes) reader
+Tells-first next reads t bytes reader none w b = Tells-outcome next reads (t ++ bytes) reader w.outcome w.is (EndsFirst-behind t none w.first) b
 
 -- the kept bytes end a piece: nothing is read
-pub ReadsNext-kept : {S : Type 0} (step : S → Read → S → Type 0) (source : S) (reader reader' : ReaderState) (next : Next) → length reader'.buffer ≡ length reader.buffer
-    → ((p : List ℕ) → IsBehind reader p → (outcome : Outcome) × IsOutcome next reader'.buffer outcome × EndsFirstIn p reader.kept (length reader.buffer) outcome reader'.kept × (reader'.phase ≡ Idle))
+pub ReadsNext-kept : {S : Type 0} (step : S → Read → S → Type 0) (source : S) (reader reader' : ReaderState) (next : Next)
+    → ((p : List ℕ) → IsBehind reader p → TellsFirst next p reader.kept reader'.buffer reader'.kept) → IsBehind reader' []
     → ReadsNext step source source reader (Ok next) reader'
-ReadsNext-kept step source reader reader' next len h = record {
+ReadsNext-kept step source reader reader' next h idle = record {
   reads = [];
   runs = refl;
   failed = (λ f. absurd cc, λ l. absurd (omega (arith, ap length l.1, length_push l.0 None)));
   called_for = λ p b. EachCalledFor-nil _ _;
   tells = λ p b.
-      let o = h p b in
-      let none : stream_outcomes p (length reader.buffer) ≡ [] = stream_outcomes-no_zero p _ b.phased.piece in
-      let w : EndsFirst (p ++ reader.kept) (length reader.buffer) o.0 reader'.kept
-      = EndsFirst-behind p none (rw (unended-no_zero p b.phased.piece) o.2) in
-      Tells-piece next [] _ reader' o.0 o.1 (rw (append-nil (p ++ reader.kept), len) w) o.3;
+      let w : TellsFirst next (unended p) reader.kept reader'.buffer reader'.kept = rw (unended-no_zero p b.phased.piece) (h p b) in
+      rw (append-nil (p ++ reader.kept)) (Tells-first next [] p reader.kept reader' (stream_outcomes-no_zero p _ b.phased.piece) w idle);
 }
 
 All-last : {X : Type 0} (P : X → Type 0) (xs : List X) (x : X) → All P (xs ++ x ∷ []) → P x
 All-last P [] x h = All-head P x [] h
 All-last P (y ∷ xs) x h = All-last P xs x (All-tail P y (xs ++ x ∷ []) h)
 
+-- more bytes in which no piece ends
+AtStreamEnd-more : (t bytes : List ℕ) (reader reader' : ReaderState) → length reader'.buffer ≡ length reader.buffer → AtStreamEnd t reader → AtStreamEnd (unended t ++ bytes) reader' → AtStreamEnd (t ++ bytes) reader'
+AtStreamEnd-more t bytes reader reader' len before more = record {
+  none_ended = stream_outcomes-append t bytes (length reader'.buffer)
+      ∙ ap (λ (x : List Outcome). x ++ stream_outcomes (unended t ++ bytes) (length reader'.buffer)) (ap (stream_outcomes t) len ∙ before.none_ended) ∙ more.none_ended;
+  behind = rw (unended-append t bytes) more.behind;
+  nothing_kept = more.nothing_kept;
+}
+
 module _ {S : Type 0} {step : S → Read → S → Type 0} {from to to' : S} {reader₀ reader reader' : ReaderState} {unfinished : Bool} {count : ℕ} where
   -- the bytes that were read end a piece
   pub ReadsNext-piece : (bytes kept : List ℕ) (next : Next) → kept ≡ bytes → count < 65536 → Going step from to reader₀ reader unfinished count → step to (Some bytes) to' → length reader'.buffer ≡ length reader.buffer
-      → ((q : List ℕ) → HasTaken reader.buffer reader.phase unfinished q → (outcome : Outcome) × IsOutcome next reader'.buffer outcome × EndsFirstIn q kept (length reader.buffer) outcome reader'.kept × (reader'.phase ≡ Idle))
+      → ((q : List ℕ) → IsBehind reader q → TellsFirst next q kept reader'.buffer reader'.kept) → IsBehind reader' []
       → ReadsNext step from to' reader₀ (Ok next) reader'
-  ReadsNext-piece bytes kept next same few g s len h = record {
+  ReadsNext-piece bytes kept next same few g s len h idle = record {
     reads = g.reads ++ Some bytes ∷ [];
     runs = Runs-push step from g.reads to to' (Some bytes) g.runs s;
     failed = (λ f. absurd cc, λ l. absurd (some_is_none bytes (last_read g.reads (Some bytes) None l)));
     called_for = λ p b. EachCalledFor-push _ _ g.reads (Some bytes) (more_called_for few g p b);
     tells = λ p b.
         let t = p ++ reader₀.kept ++ all_given g.reads in
-        let o = h _ (g.taken p b) in
-        let none : stream_outcomes t (length reader.buffer) ≡ [] = ap (stream_outcomes t) g.len ∙ g.none_ended p b in
-        let w : EndsFirst (t ++ bytes) (length reader.buffer) o.0 reader'.kept
-        = EndsFirst-behind t none (subst (λ (x : List ℕ). EndsFirstIn (unended t) x (length reader.buffer) o.0 reader'.kept) same o.2) in
-        Tells-piece next _ _ reader' o.0 o.1 (rw (given-push (p ++ reader₀.kept) g.reads (Some bytes), len) w) o.3;
+        let end = g.at_end p b in
+        let w = subst (λ (x : List ℕ). TellsFirst next (unended t) x reader'.buffer reader'.kept) same (h _ end.behind) in
+        rw (given-push (p ++ reader₀.kept) g.reads (Some bytes)) (Tells-first next _ t bytes reader' (ap (stream_outcomes t) len ∙ end.none_ended) w idle);
   }
 
   -- they end none, and the call goes on
   pub Going-push : (bytes kept : List ℕ) (unfinished' : Bool) → kept ≡ bytes → bytes ≢ [] → Going step from to reader₀ reader unfinished count → step to (Some bytes) to' → length reader'.buffer ≡ length reader.buffer
-      → ((q : List ℕ) → HasTaken reader.buffer reader.phase unfinished q → (stream_outcomes (q ++ kept) (length reader.buffer) ≡ []) × HasTaken reader'.buffer reader'.phase unfinished' (unended (q ++ kept)) × (reader'.kept ≡ []))
+      → ((q : List ℕ) → IsBehind reader q → AtStreamEnd (q ++ kept) reader' × (unfinished' ≡ is_nonempty (unended (q ++ kept))))
       → Going step from to' reader₀ reader' unfinished' (count + 1)
   Going-push bytes kept unfinished' same some g s len h = record {
     reads = g.reads ++ Some bytes ∷ [];
     runs = Runs-push step from g.reads to to' (Some bytes) g.runs s;
     count_is = length_push g.reads (Some bytes) ∙ ap (λ (k : ℕ). k + 1) g.count_is;
     gave = All-push GaveBytes g.reads (Some bytes) g.gave some;
-    none_ended = λ p b.
+    at_end = λ p b.
         let t = p ++ reader₀.kept ++ all_given g.reads in
-        ap (λ (x : List ℕ). stream_outcomes x (length reader₀.buffer)) (given-push (p ++ reader₀.kept) g.reads (Some bytes))
-        ∙ stream_outcomes-append t bytes (length reader₀.buffer)
-        ∙ ap (λ (x : List Outcome). x ++ stream_outcomes (unended t ++ bytes) (length reader₀.buffer)) (g.none_ended p b)
-        ∙ ap (λ (x : List ℕ). stream_outcomes (unended t ++ x) (length reader₀.buffer)) (sym same)
-        ∙ ap (stream_outcomes (unended t ++ kept)) (sym g.len) ∙ (h _ (g.taken p b)).0;
-    taken = λ p b.
+        let end = g.at_end p b in
+        rw (given-push (p ++ reader₀.kept) g.reads (Some bytes))
+        (AtStreamEnd-more t bytes reader reader' len end (subst (λ (x : List ℕ). AtStreamEnd (unended t ++ x) reader') same (h _ end.behind).0));
+    flag = λ p b.
         let t = p ++ reader₀.kept ++ all_given g.reads in
-        rw (given-push (p ++ reader₀.kept) g.reads (Some bytes), unended-append t bytes, ← same) (h _ (g.taken p b)).1;
-    nothing_kept = λ p b. (h _ (g.taken p b)).2;
+        rw (given-push (p ++ reader₀.kept) g.reads (Some bytes), unended-append t bytes, ← same) (h _ (g.at_end p b).behind).1;
     len = len ∙ g.len;
   }
 
@@ -262,8 +267,8 @@ ReadsNext-too_many {reader₀} {reader} all g = record {
   reads = g.reads;
   runs = g.runs;
   failed = (λ f. absurd cc, λ l. absurd (All-last GaveBytes l.0 None (subst (λ (x : List Read). All GaveBytes x) l.1 g.gave) refl));
-  called_for = λ p b. EachCalledFor-all _ _ g.reads (omega (arith, g.count_is)) g.gave (g.none_ended p b);
-  tells = λ p b. (at_end reader.kept (g.nothing_kept p b) g p b, g.count_is ∙ all, g.gave);
+  called_for = λ p b. EachCalledFor-all _ _ g.reads (omega (arith, g.count_is)) g.gave (ap (stream_outcomes (p ++ reader₀.kept ++ all_given g.reads)) (sym g.len) ∙ (g.at_end p b).none_ended);
+  tells = λ p b. (g.at_end p b, g.count_is ∙ all, g.gave);
 }
 
 -- THE FRONT OF A CHUNK

@@ -9,7 +9,7 @@ use lib.Count.{count_trailing_zeros}
 use Rattle.std.specs.Int.Count.{count_leading_zeros, leading_unique}
 use Rattle.cobs.specs.Grammar.{HasNoZero}
 use Rattle.cobs.specs.Stream.{stretches}
-use Rattle.cobs.specs.Length.{runs, full_blocks}
+use Rattle.cobs.specs.Length.{runs, full_blocks, encoded_len}
 use Rattle.cobs.specs.Mask.{zero_mask}
 use Rattle.cobs.proofs.LengthLemmas.{no_zero, some_stretch, stretches-append, encoded_len-le}
 use Rattle.cobs.proofs.OpenLenLemmas.{same_lengths, ones, length-ones}
@@ -213,3 +213,30 @@ module _ (source : List ℕ) (read run : ℕ) (more : read < length source) wher
   byte-other other =
       ap (λ (x : List ℕ). blocks_in (behind run x)) (drop_more source read 0 more)
       ∙ blocks-more run (get_or source read 0 ∷ []) (drop (read + 1) source) (All-cons (λ byte. byte ≢ 0) (get_or source read 0) [] other (All-nil (λ byte. byte ≢ 0)))
+
+-- a longer message has no fewer of them
+blocks-least : (run : ℕ) (t : List ℕ) → (run - 1) / 254 ≤ blocks_in (behind run t)
+blocks-least run [] = let e = blocks-end run in omega arith
+blocks-least run (b ∷ t) =
+    elim (cases_eq b 0) [
+      | inl is ↦ (let z = ap (λ (k : ℕ). blocks_in (behind run (k ∷ t))) is ∙ blocks-zero run t in omega arith)
+      | inr other ↦ (let m = blocks-more run (b ∷ []) t (All-cons (λ byte. byte ≢ 0) b [] other (All-nil (λ byte. byte ≢ 0))) in
+          let ih = blocks-least (run + 1) t in omega arith)
+    ]
+
+blocks-longer : (run : ℕ) (m d : List ℕ) → blocks_in (behind run m) ≤ blocks_in (behind run (m ++ d))
+blocks-longer run [] d = let e = blocks-end run in let l = blocks-least run d in omega arith
+blocks-longer run (b ∷ m) d =
+    elim (cases_eq b 0) [
+      | inl is ↦ (let z = ap (λ (k : ℕ). blocks_in (behind run (k ∷ m))) is ∙ blocks-zero run m in
+          let z' = ap (λ (k : ℕ). blocks_in (behind run (k ∷ (m ++ d)))) is ∙ blocks-zero run (m ++ d) in
+          let ih : blocks_in m ≤ blocks_in (m ++ d) = blocks-longer 0 m d in omega arith)
+      | inr other ↦ (let nonzero = All-cons (λ byte. byte ≢ 0) b [] other (All-nil (λ byte. byte ≢ 0)) in
+          let e = blocks-more run (b ∷ []) m nonzero in
+          let e' = blocks-more run (b ∷ []) (m ++ d) nonzero in
+          let ih = blocks-longer (run + 1) m d in omega arith)
+    ]
+
+-- nor a shorter frame
+pub encoded_len-longer : (m d : List ℕ) → encoded_len m ≤ encoded_len (m ++ d)
+encoded_len-longer m d = let b : blocks_in m ≤ blocks_in (m ++ d) = blocks-longer 0 m d in let l = length-append m d in omega arith

@@ -1,17 +1,19 @@
 -- So many bytes of a block at once are so many feeds.
-use Rattle.std.proofs.Common.{◌≡◌, ◌≢◌, ℕ, zero, suc, ◌+◌, ◌-◌, ◌<◌, ◌≤◌, Bool, true, false, cond, eqb, List, [], ◌∷◌, ◌++◌, length, take, drop, set, get_or, sym, ap, ◌∙◌, subst, arith, append_assoc, None, Ok, IfOk, IfSome}
-use Rattle.std.proofs.lemmas.List.{take_more_set, drop-set-lt, length-set, take-append-drop, length-take-le, get_or-take, get_or-drop, drop-drop}
+use Rattle.std.proofs.Common.{◌≡◌, ◌≢◌, ℕ, zero, suc, ◌+◌, ◌-◌, ◌<◌, ◌≤◌, Bool, true, false, cond, List, [], ◌∷◌, ◌++◌, length, take, drop, set, get_or, sym, ap, ◌∙◌, subst, arith, append_assoc, None, Ok, IfOk, IfSome}
+use Rattle.std.proofs.lemmas.List.{set-append_right, length_push, drop_more, take_more_set, drop-set-lt, length-set, take-append-drop, length-take-le, get_or-take, get_or-drop, drop-drop}
 use Rattle.std.proofs.Common.{length-drop, length-take, min}
+use Rattle.std.proofs.Math.Seq.{set-append_seam}
 use borrow.Rule.Slice.PartMut.{put_mid}
 use Rattle.cobs.specs.declared.dec.inner.CobsDecoderInner.{CobsDecoderInner}
 use Rattle.cobs.specs.declared.dec.state.DecoderState.{DecoderState}
 use Rattle.cobs.specs.declared.dec.state.DecoderState.TheVariants as states
 use Rattle.cobs.specs.Machine.{left_in, skipped}
-use Rattle.std.proofs.lemmas.List.Elements.{All-head, All-tail, All-from_get_or}
-use Rattle.std.proofs.lemmas.Bool.{ne_eqb, lt-ltb, eq-eqb}
+use Rattle.std.proofs.lemmas.List.Elements.{All-head, All-tail}
+use Rattle.std.proofs.lemmas.Bool.{ne_eqb, lt-ltb}
 use Rattle.cobs.specs.Grammar.{HasNoZero}
 use Rattle.cobs.specs.Decoder.{Phase, Idle, Within, Over, Feeds}
-use Rattle.cobs.specs.Machine.{phase_of, phase_of_state, grows, next_phase, next_buffer, next_answer, end_answer, if_over, FedInTurn}
+use Rattle.cobs.specs.Buffers.{phase_of, phase_of_state}
+use Rattle.cobs.specs.Machine.{grows, next_phase, next_buffer, next_answer, end_answer, if_over, FedInTurn}
 use Rattle.cobs.proofs.FeedLemmas.{Feeds-step}
 use Rattle.cobs.proofs.PushLemmas.{Pushed, Pushed-more}
 
@@ -28,6 +30,18 @@ over-cons count x xs buffer room =
     ∙ append_assoc (take count buffer) (x ∷ []) (xs ++ drop (count + 1 + length xs) (set buffer count x))
     ∙ ap (λ (l : List ℕ). take count buffer ++ (x ∷ (xs ++ l)))
     (drop-set-lt (count + 1 + length xs) buffer count x (omega arith) ∙ ap (λ (k : ℕ). drop k buffer) (omega arith))
+
+-- one more byte behind what was written at a place
+pub over-push : (base : ℕ) (buffer xs : List ℕ) (x : ℕ) → base + length xs < length buffer → set (over base buffer xs) (base + length xs) x ≡ over base buffer (xs ++ x ∷ [])
+over-push base buffer xs x room =
+    let front : length (take base buffer) ≡ base = length-take-le base buffer (omega arith) in
+    let one : length (xs ++ x ∷ []) ≡ length xs + 1 = length_push xs x in
+    set-append_right (take base buffer) (xs ++ drop (base + length xs) buffer) base (base + length xs) x front (omega arith)
+    ∙ ap (λ (k : ℕ). take base buffer ++ set (xs ++ drop (base + length xs) buffer) k x) (omega arith)
+    ∙ ap (λ (l : List ℕ). take base buffer ++ set (xs ++ l) (length xs) x) (drop_more buffer (base + length xs) 0 room)
+    ∙ ap (λ (l : List ℕ). take base buffer ++ l) (set-append_seam xs _ (drop (base + length xs + 1) buffer) x
+    ∙ sym (append_assoc xs (x ∷ []) (drop (base + length xs + 1) buffer))
+    ∙ ap (λ (k : ℕ). (xs ++ x ∷ []) ++ drop k buffer) (omega arith))
 
 module _ (n : ℕ) (full : Bool) (left count x : ℕ) (nz : 0 < x) (room : count < n) where
   phase_is : next_phase n (Within full (suc left) count) x ≡ Within full left (count + 1)
@@ -100,27 +114,27 @@ state_fed states.Idle buffer xs count h some l r = absurd (omega arith)
 state_fed (states.Grab left) buffer xs count h some l r = FedInTurn-within xs buffer false left count h l r
 state_fed (states.GrabChain left) buffer xs count h some l r = FedInTurn-within xs buffer true left count h l r
 
+-- bytes of the open block that fit, written behind what was written
+pub run_written : (inner : CobsDecoderInner) (next : DecoderState) (dest bytes : List ℕ) (run : ℕ) → inner.over ≡ false → next ≡ skipped inner.state run
+    → 0 < run → run ≤ left_in inner.state → inner.dest_idx + run ≤ length dest → run ≤ length bytes → HasNoZero (take run bytes)
+    → FedInTurn dest (phase_of inner) (take run bytes) (over inner.dest_idx dest (take run bytes)) (phase_of (record { dest_idx = inner.dest_idx + run; state = next; over = inner.over }))
+run_written inner next dest bytes run plain skips some left room within nz =
+    let long : length (take run bytes) ≡ run = length-take-le run bytes within in
+    let fed : FedInTurn dest (phase_of_state inner.state inner.dest_idx) (take run bytes) (over inner.dest_idx dest (take run bytes)) (phase_of_state (skipped inner.state (length (take run bytes))) (inner.dest_idx + length (take run bytes)))
+    = state_fed inner.state dest (take run bytes) inner.dest_idx nz (omega arith) (omega arith) (omega arith) in
+    subst (λ (v : Bool). FedInTurn dest (cond v Over (phase_of_state inner.state inner.dest_idx)) (take run bytes) (over inner.dest_idx dest (take run bytes)) (cond v Over (phase_of_state next (inner.dest_idx + run)))) (sym plain)
+    (subst (λ (s : DecoderState). FedInTurn dest (phase_of_state inner.state inner.dest_idx) (take run bytes) (over inner.dest_idx dest (take run bytes)) (phase_of_state s (inner.dest_idx + run))) (sym skips)
+    (subst (λ (k : ℕ). FedInTurn dest (phase_of_state inner.state inner.dest_idx) (take run bytes) (over inner.dest_idx dest (take run bytes)) (phase_of_state (skipped inner.state k) (inner.dest_idx + k))) long fed))
+
 over-put : (count run : ℕ) (buffer xs : List ℕ) → length xs ≡ run → over count buffer xs ≡ put_mid count (count + run - count) buffer xs
 over-put count run buffer xs e = ap (λ (l : List ℕ). take count buffer ++ (xs ++ l)) (ap (λ (k : ℕ). drop k buffer) (omega arith) ∙ sym (drop-drop (count + run - count) count buffer))
 
+-- the same by one copy
 pub run_fed : (inner : CobsDecoderInner) (next : DecoderState) (dest bytes ys : List ℕ) (run : ℕ) → inner.over ≡ false → next ≡ skipped inner.state run
     → 0 < run → run ≤ left_in inner.state → inner.dest_idx + run ≤ length dest → run ≤ length bytes → HasNoZero (take run bytes) → ys ≡ take run bytes
     → FedInTurn dest (phase_of inner) (take run bytes) (put_mid inner.dest_idx (inner.dest_idx + run - inner.dest_idx) dest ys)
     (phase_of (record { dest_idx = inner.dest_idx + run; state = next; over = inner.over }))
 run_fed inner next dest bytes ys run plain skips some left room within nz same =
-    let long : length (take run bytes) ≡ run = length-take-le run bytes within in
-    let fed : FedInTurn dest (phase_of_state inner.state inner.dest_idx) (take run bytes) (over inner.dest_idx dest (take run bytes)) (phase_of_state (skipped inner.state (length (take run bytes))) (inner.dest_idx + length (take run bytes)))
-    = state_fed inner.state dest (take run bytes) inner.dest_idx nz (omega arith) (omega arith) (omega arith) in
-    subst (λ (v : Bool). FedInTurn dest (cond v Over (phase_of_state inner.state inner.dest_idx)) (take run bytes) (put_mid inner.dest_idx (inner.dest_idx + run - inner.dest_idx) dest ys) (cond v Over (phase_of_state next (inner.dest_idx + run)))) (sym plain)
-    (subst (λ (s : DecoderState). FedInTurn dest (phase_of_state inner.state inner.dest_idx) (take run bytes) (put_mid inner.dest_idx (inner.dest_idx + run - inner.dest_idx) dest ys) (phase_of_state s (inner.dest_idx + run))) (sym skips)
-    (subst (λ (l : List ℕ). FedInTurn dest (phase_of_state inner.state inner.dest_idx) (take run bytes) l (phase_of_state (skipped inner.state run) (inner.dest_idx + run)))
-    (over-put inner.dest_idx run dest (take run bytes) long ∙ ap (put_mid inner.dest_idx (inner.dest_idx + run - inner.dest_idx) dest) (sym same))
-    (subst (λ (k : ℕ). FedInTurn dest (phase_of_state inner.state inner.dest_idx) (take run bytes) (over inner.dest_idx dest (take run bytes)) (phase_of_state (skipped inner.state k) (inner.dest_idx + k))) long fed)))
-
--- no zero stands where none was found
-pub no_zero : (most run : ℕ) (bytes : List ℕ) → run ≤ most → run ≤ length bytes → ((k : ℕ) → 0 ≤ k → k < run → ¬ (eqb (get_or (take most bytes) k 0) 0 ≡ true)) → HasNoZero (take run bytes)
-no_zero most run bytes low within none = All-from_get_or (λ b. b ≢ 0) (take run bytes) 0 (λ i below.
-    let long : length (take run bytes) ≡ run = length-take-le run bytes within in
-    let same : get_or (take run bytes) i 0 ≡ get_or (take most bytes) i 0 = get_or-take run bytes i 0 (omega arith) ∙ sym (get_or-take most bytes i 0 (omega arith)) in
-    let other : get_or (take most bytes) i 0 ≡ 0 → ⊥ = λ e. none i (omega arith) (omega arith) (eq-eqb _ _ e) in
-    omega (arith, same, other))
+    subst (λ (l : List ℕ). FedInTurn dest (phase_of inner) (take run bytes) l (phase_of (record { dest_idx = inner.dest_idx + run; state = next; over = inner.over })))
+    (over-put inner.dest_idx run dest (take run bytes) (length-take-le run bytes within) ∙ ap (put_mid inner.dest_idx (inner.dest_idx + run - inner.dest_idx) dest) (sym same))
+    (run_written inner next dest bytes run plain skips some left room within nz)

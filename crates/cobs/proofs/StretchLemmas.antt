@@ -1,22 +1,22 @@
 -- A stretch without zeros behind a block boundary, fed as a whole: its output is written, and the phase is that of its last part.
 use Rattle.std.proofs.Common.{◌≡◌, ◌≢◌, ℕ, zero, suc, ◌+◌, ◌-◌, ◌<◌, ◌≤◌, Bool, true, false, cond, eqb, List, [], ◌∷◌, ◌++◌, length, take, drop, set, refl, sym, ap, ◌∙◌, subst, arith, append_assoc, inl, inr, length-append, length-drop, None, Ok}
-use Rattle.std.proofs.lemmas.List.{append-nil, set-append_right, length-set, length_push, length-take-le, take-append-drop, drop_more, drop_all, drop-drop, take_rest}
+use Rattle.std.proofs.lemmas.List.{append-nil, length-set, length_push, length-take-le, take-append-drop, drop_all, drop-drop, take_rest}
 use Rattle.std.proofs.lemmas.List.Elements.{All-head, All-tail, All-drop}
 use Rattle.std.proofs.lemmas.Bool.{ne_eqb, lt-ltb, cases_lt}
 use Rattle.std.specs.List.{All}
 use borrow.Rule.Slice.PartMut.{put_mid}
-use Rattle.std.proofs.Math.Seq.{set-append_seam}
 use Rattle.cobs.specs.Grammar.{HasNoZero, is_full}
 use Rattle.cobs.specs.Piece.{output, last_part, lacks, parts, parts_behind}
 use Rattle.cobs.specs.Decoder.{Phase, Idle, Within, Over}
 use Rattle.cobs.specs.declared.dec.state.DecoderState.{DecoderState}
 use Rattle.cobs.specs.declared.dec.state.DecoderState.TheVariants as states
 use Rattle.cobs.specs.declared.dec.inner.CobsDecoderInner.{CobsDecoderInner}
-use Rattle.cobs.specs.Machine.{left_in, phase_of, phase_of_state, grows, next_phase, next_buffer, next_answer, end_answer, if_over, FedInTurn}
+use Rattle.cobs.specs.Buffers.{phase_of, phase_of_state}
+use Rattle.cobs.specs.Machine.{left_in, grows, next_phase, next_buffer, next_answer, end_answer, if_over, FedInTurn}
 use Rattle.cobs.proofs.PieceLemmas.{output-one, last_part-one, output-push_more, output-push_next, last_part-push_next, lacks-push_more, is_full-push_more}
 use Rattle.cobs.proofs.PieceCuts.{last_part-more, last_part-last}
 use Rattle.cobs.proofs.PushLemmas.{output-longer}
-use Rattle.cobs.proofs.RunLemmas.{over, over-nil}
+use Rattle.cobs.proofs.RunLemmas.{over, over-nil, over-push}
 
 -- the bytes are fed in two parts
 pub FedInTurn-append : (xs ys buffer buffer' buffer'' : List ℕ) (phase phase' phase'' : Phase)
@@ -30,18 +30,6 @@ FedInTurn-append (x ∷ xs) ys buffer buffer' buffer'' phase phase' phase'' f g 
 pub output-grows : (q tail : List ℕ) → length (output q) ≤ length (output (q ++ tail))
 output-grows q [] = omega (arith, ap (λ (x : List ℕ). length (output x)) (append-nil q))
 output-grows q (x ∷ tail) = omega (arith, output-longer q x, output-grows (q ++ x ∷ []) tail, ap (λ (z : List ℕ). length (output z)) (append_assoc q (x ∷ []) tail))
-
--- one more byte behind what was written at a place
-over-push : (base : ℕ) (buffer xs : List ℕ) (x : ℕ) → base + length xs < length buffer → set (over base buffer xs) (base + length xs) x ≡ over base buffer (xs ++ x ∷ [])
-over-push base buffer xs x room =
-    let front : length (take base buffer) ≡ base = length-take-le base buffer (omega arith) in
-    let one : length (xs ++ x ∷ []) ≡ length xs + 1 = length_push xs x in
-    set-append_right (take base buffer) (xs ++ drop (base + length xs) buffer) base (base + length xs) x front (omega arith)
-    ∙ ap (λ (k : ℕ). take base buffer ++ set (xs ++ drop (base + length xs) buffer) k x) (omega arith)
-    ∙ ap (λ (l : List ℕ). take base buffer ++ set (xs ++ l) (length xs) x) (drop_more buffer (base + length xs) 0 room)
-    ∙ ap (λ (l : List ℕ). take base buffer ++ l) (set-append_seam xs _ (drop (base + length xs + 1) buffer) x
-    ∙ sym (append_assoc xs (x ∷ []) (drop (base + length xs + 1) buffer))
-    ∙ ap (λ (k : ℕ). (xs ++ x ∷ []) ++ drop k buffer) (omega arith))
 
 length-over : (base : ℕ) (buffer xs : List ℕ) → base + length xs ≤ length buffer → length (over base buffer xs) ≡ length buffer
 length-over base buffer xs room = omega (arith, length-append (take base buffer) (xs ++ drop (base + length xs) buffer), length-append xs (drop (base + length xs) buffer), length-take-le base buffer (omega arith), length-drop (base + length xs) buffer)

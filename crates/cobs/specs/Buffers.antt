@@ -1,5 +1,5 @@
 -- What contracts see of the three streaming decoders: their buffers, and where they stand.
-use Rattle.std.specs.Prelude.{ℕ, List, []}
+use Rattle.std.specs.Prelude.{ℕ, List, [], true, false, if◌then◌else◌}
 use Rattle.std.specs.Borrow.{Lends, MutBor, Fml, RattleType, u8, Array}
 use Rattle.std.specs.Vec.{with_items}
 use denote.Param.{value_of}
@@ -11,8 +11,20 @@ use Rattle.cobs.specs.declared.dec.heapless.CobsDecoderHeapless.{CobsDecoderHeap
 use Rattle.cobs.specs.contracts.dec.lent.CobsDecoder.{the_row as lent_row}
 use Rattle.cobs.specs.contracts.dec.owned.CobsDecoderOwned.{the_row as owned_row}
 use Rattle.cobs.specs.contracts.dec.heapless.CobsDecoderHeapless.{the_row as heapless_row}
-use Rattle.cobs.specs.Decoder.{Phase}
-use Rattle.cobs.specs.Machine.{phase_of}
+use Rattle.cobs.specs.Decoder.{Phase, Idle, Within, Over}
+use Rattle.cobs.specs.declared.dec.inner.CobsDecoderInner.{CobsDecoderInner}
+use Rattle.cobs.specs.declared.dec.state.DecoderState.{DecoderState}
+use Rattle.cobs.specs.declared.dec.state.DecoderState.TheVariants as states
+
+-- the phase of a state, with so many bytes written
+abbrev pub phase_of_state : DecoderState → ℕ → Phase
+phase_of_state states.Idle count = Idle
+phase_of_state (states.Grab left) count = Within false left count
+phase_of_state (states.GrabChain left) count = Within true left count
+
+-- where the three decoders stand: over, or in the phase of their state
+abbrev pub phase_of : CobsDecoderInner → Phase
+phase_of inner = if inner.over then Over else phase_of_state inner.state inner.dest_idx
 
 -- the bytes of the slice that was lent to a `CobsDecoder`
 abbrev pub lent_buffer : CobsDecoder → List ℕ
@@ -42,9 +54,13 @@ owned_buffer decoder = decoder.dest.items
 abbrev pub owned_phase : CobsDecoderOwned → Phase
 owned_phase decoder = phase_of decoder.inner
 
+-- the decoder with these bytes in its vector
+abbrev pub with_owned_buffer : CobsDecoderOwned → List ℕ → CobsDecoderOwned
+with_owned_buffer decoder bytes = record decoder { dest = with_items decoder.dest bytes }
+
 -- the decoder ends with what the caller leaves behind the reference, and is otherwise as it was
 abbrev pub LendsOwned : MutBor CobsDecoderOwned → MutBor (List ℕ) → Fml
-LendsOwned decoder bytes = Lends owned_row (Array u8 0) decoder bytes (λ left. record decoder.now { dest = with_items decoder.now.dest left })
+LendsOwned decoder bytes = Lends owned_row (Array u8 0) decoder bytes (with_owned_buffer decoder.now)
 
 module _ {N : ℕ} where
   -- the bytes of the vector of a `CobsDecoderHeapless`
@@ -55,6 +71,14 @@ module _ {N : ℕ} where
   abbrev pub heapless_phase : CobsDecoderHeapless N → Phase
   heapless_phase decoder = phase_of decoder.inner
 
+  -- the decoder with these bytes in its vector
+  abbrev pub with_heapless_buffer : CobsDecoderHeapless N → List ℕ → CobsDecoderHeapless N
+  with_heapless_buffer decoder bytes = record decoder { dest = refilled decoder.dest bytes }
+
 -- the decoder ends with what the caller leaves behind the reference, and is otherwise as it was
 abbrev pub LendsHeapless : (N : RattleType) → MutBor (CobsDecoderHeapless (value_of N)) → MutBor (List ℕ) → Fml
-LendsHeapless N decoder bytes = Lends (heapless_row N) (Array u8 0) decoder bytes (λ left. record decoder.now { dest = refilled decoder.now.dest left })
+LendsHeapless N decoder bytes = Lends (heapless_row N) (Array u8 0) decoder bytes (with_heapless_buffer decoder.now)
+
+-- a value ends with what the caller leaves behind the reference in its buffer, and is otherwise as it was
+abbrev pub LendsBytes : (R : RattleType) → MutBor R.Denot → MutBor (List ℕ) → (R.Denot → List ℕ → R.Denot) → Fml
+LendsBytes R lender bytes with_bytes = Lends R (Array u8 0) lender bytes (with_bytes lender.now)

@@ -2,7 +2,7 @@
 use Rattle.std.specs.Prelude.{◌≡◌, ℕ, ◌+◌, ◌-◌, ◌≤◌, ◌==◌, Bool, List, [], ◌∷◌, ◌++◌, length, take, replicate, slice_set, if◌then◌else◌}
 use Rattle.cobs.specs.declared.enc.state.PushResult.{PushResult}
 use Rattle.cobs.specs.declared.enc.state.PushResult.TheVariants.{AddSingle, ModifyFromStartAndSkip, ModifyFromStartAndPushAndSkip}
-use Rattle.cobs.specs.Grammar.{IsEncodedFrame, IsOpenFrame, is_full, last_of, lone_block}
+use Rattle.cobs.specs.Grammar.{IsEncodedFrame, IsOpenFrame, is_full, last_of}
 use Rattle.cobs.specs.Length.{encoded_len}
 
 -- where the open block of a frame begins, and its code so far
@@ -61,13 +61,11 @@ abbrev pub end_of : Reached → ℕ
 end_of reached = if reached.full then reached.block.index else next_of reached
 
 -- A `CobsEncoder` over this slice, which has come so far, has taken m: the slice begins with the encoded frame of m, but
--- for the byte at the open block's index. The open frame of m is that frame, with the lone block behind a last full one.
+-- for the byte at the open block's index, and it is noted whether that frame's last block is full.
 pub record CobsEncoderAfter (slice : List ℕ) (reached : Reached) (m : List ℕ) : Type 0 where
   pub frame : List ℕ
   pub encoded : IsEncodedFrame frame m
-  pub noted : reached.full ≡ is_full (last_of encoded.reads.blocks)
-  pub longer : List ℕ
-  pub open' : IsOpenFrame longer m reached.block.index reached.block.code
-  pub same : longer ≡ frame ++ (if reached.full then lone_block else [])
+  pub follows : EncoderAfter reached.block m
   pub fits : length frame ≤ length slice
   pub begins : AgreeOutside reached.block.index frame (take (length frame) slice)
+  pub noted : reached.full ≡ is_full (last_of encoded.reads.blocks)

@@ -6,6 +6,7 @@ pub mod Stream
 pub mod Buffer
 pub mod Encoder
 pub mod Mask
+pub mod CobsEncoder
 pub mod Table
 pub mod Decoder
 pub mod Report

@@ -1,20 +1,11 @@
--- One byte in any phase: what the decoders' common part does.
+-- One byte in any phase, as the private machine under the three streaming decoders takes it. The contracts of private
+-- functions alone speak of it: the public ones say what is answered behind the front of a piece.
 use Rattle.std.specs.Prelude.{◌≡◌, ℕ, zero, suc, ◌+◌, ◌-◌, ◌==◌, nat_lt, nat_le, Bool, true, false, List, [], ◌∷◌, length, slice_set, Option, Some, None, Result, Ok, Err, if◌then◌else◌}
 use Rattle.cobs.specs.Decoder.{Phase, Idle, Within, Over}
-use Rattle.cobs.specs.declared.dec.inner.CobsDecoderInner.{CobsDecoderInner}
 use Rattle.cobs.specs.declared.dec.state.DecoderState.{DecoderState}
 use Rattle.cobs.specs.declared.dec.state.DecoderState.TheVariants as states
 use Rattle.cobs.specs.declared.dec.report.DecodeError.{DecodeError}
 use Rattle.cobs.specs.declared.dec.report.DecodeError.TheVariants.{InvalidFrame, TargetBufTooSmall}
-
--- the phase of a state, with so many bytes written
-abbrev pub phase_of_state : DecoderState → ℕ → Phase
-phase_of_state states.Idle count = Idle
-phase_of_state (states.Grab left) count = Within false left count
-phase_of_state (states.GrabChain left) count = Within true left count
-
-abbrev pub phase_of : CobsDecoderInner → Phase
-phase_of inner = if inner.over then Over else phase_of_state inner.state inner.dest_idx
 
 -- one more byte in the buffer, where it has room
 abbrev pub grows : ℕ → Bool → ℕ → ℕ → Phase
@@ -36,6 +27,7 @@ next_buffer buffer (Within full (suc left) count) byte = if byte == 0 then buffe
 next_buffer buffer (Within true zero count) byte = buffer
 next_buffer buffer (Within false zero count) byte = if byte == 0 then buffer else slice_set buffer count 0
 
+-- the answer to a byte that is no zero, by the phase behind it
 abbrev pub if_over : Phase → Result (Option ℕ) DecodeError
 if_over Idle = Ok None
 if_over (Within full left count) = Ok None
@@ -52,13 +44,7 @@ end_answer n (Within full zero count) = if nat_le count n then Ok (Some count) e
 abbrev pub next_answer : ℕ → Phase → ℕ → Result (Option ℕ) DecodeError
 next_answer n phase byte = if byte == 0 then end_answer n phase else if_over (next_phase n phase byte)
 
--- how many bytes are written in a phase
-abbrev pub count_of : Phase → ℕ
-count_of Idle = 0
-count_of (Within full left count) = count
-count_of Over = 0
-
--- the bytes are fed one after another, and each is answered by `Ok(None)`
+-- the bytes are fed one after another, each is answered by `Ok(None)`, and that is what they lead to
 abbrev pub FedInTurn : List ℕ → Phase → List ℕ → List ℕ → Phase → Type 0
 FedInTurn buffer phase [] buffer' phase' = (buffer' ≡ buffer) × (phase' ≡ phase)
 FedInTurn buffer phase (byte ∷ bytes) buffer' phase' =

@@ -63,17 +63,21 @@ pushed_outcomes bytes (Err refusal) buffer =
     if slice_index bytes (refusal.parsed_size - 1) == 0 then refused_outcomes refusal.error else []
 
 -- a push of the bytes takes a decoder from the one buffer and phase to the other, and this is its answer
-pub record PushesBytes (buffer : List ℕ) (phase : Phase) (bytes : List ℕ) (result : Result (Option DecodeReport) PushError) (buffer' : List ℕ) (phase' : Phase) : Type 0 where
+pub record PushesBytes (buffer : List ℕ) (phase : Phase) (bytes : List ℕ)
+    (result : Result (Option DecodeReport) PushError) (buffer' : List ℕ) (phase' : Phase) : Type 0 where
   pub answer : (p : List ℕ) → PhaseAfter (length buffer) phase p → Answers p bytes (length buffer) result
   -- it has taken the bytes that were consumed
-  pub phased : (p : List ℕ) → PhaseAfter (length buffer) phase p → PhaseAfter (length buffer) phase' (unended (p ++ consumed bytes result))
+  pub phased : (p : List ℕ) → PhaseAfter (length buffer) phase p
+      → PhaseAfter (length buffer) phase' (unended (p ++ consumed bytes result))
   pub after : (p : List ℕ) → DecoderAfter buffer phase p → DecoderAfter buffer' phase' (unended (p ++ consumed bytes result))
   -- its buffer begins with the output of the piece that was read last, as far as it fits
-  pub holds : (p : List ℕ) → DecoderAfter buffer phase p → buffer' ≡ overwritten buffer (output (last_piece (p ++ consumed bytes result)))
+  pub holds : (p : List ℕ) → DecoderAfter buffer phase p
+      → buffer' ≡ overwritten buffer (output (last_piece (p ++ consumed bytes result)))
   pub untouched : (p : List ℕ) → PhaseAfter (length buffer) phase p
       → let written = length (output (last_piece (p ++ consumed bytes result))) in drop written buffer' ≡ drop written buffer
   -- it tells of each piece that ended in these bytes
-  pub outcomes : (p : List ℕ) → DecoderAfter buffer phase p → stream_outcomes (p ++ consumed bytes result) (length buffer) ≡ pushed_outcomes bytes result buffer'
+  pub outcomes : (p : List ℕ) → DecoderAfter buffer phase p
+      → stream_outcomes (p ++ consumed bytes result) (length buffer) ≡ pushed_outcomes bytes result buffer'
   -- in every phase
   pub within : consumed_size bytes result ≤ length bytes
   pub bound : IfOk result (λ found. IfSome found (λ report. frame_size_of report ≤ length buffer))

@@ -16,7 +16,8 @@ module _ {D : Type 0} {g : _} where
 
   -- the whole of it, by the buffer and the phase that contracts see of its decoder
   abbrev pub reader_state : (D → List ℕ) → (D → Phase) → FrameReader D g → ReaderState
-  reader_state bytes phase reader = record { buffer = bytes reader.decoder; phase = phase reader.decoder; kept = kept_of reader }
+  reader_state bytes phase reader =
+      record { buffer = bytes reader.decoder; phase = phase reader.decoder; kept = kept_of reader }
 
 -- its reader
 abbrev pub reader_of : {R : Type 0} → Recorded R → R

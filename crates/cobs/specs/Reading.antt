@@ -3,7 +3,7 @@ use Rattle.std.specs.Prelude.{ℕ, ◌≡◌, ◌≢◌, ◌<◌, ◌≤◌, ◌
 use Rattle.std.specs.List.{flat_map}
 use Rattle.std.specs.Io.KnownBytes.{Consumes}
 use Rattle.cobs.specs.Stream.{Outcome, Message, Broken, TooLong, stream_outcomes, unended, is_nonempty}
-use Rattle.cobs.specs.Decoder.{Phase, Idle, DecoderAfter}
+use Rattle.cobs.specs.Decoder.{Phase, DecoderAfter}
 use Rattle.cobs.specs.declared.framed.Next.{Next}
 use Rattle.cobs.specs.declared.framed.Next.TheVariants as nexts
 use Rattle.cobs.specs.declared.framed.ReadFault.{ReadFault}
@@ -53,19 +53,20 @@ pub record CallsForMore (front : List ℕ) (n : ℕ) (reads : List Read) : Type 
 
 -- each of the reads was called for by those in front of it
 abbrev pub EachCalledFor : List ℕ → ℕ → List Read → Type 0
-EachCalledFor front n reads = (earlier later : List Read) (read : Read) → reads ≡ earlier ++ read ∷ later → CallsForMore front n earlier
+EachCalledFor front n reads =
+    (earlier later : List Read) (read : Read) → reads ≡ earlier ++ read ∷ later → CallsForMore front n earlier
 
 -- WHAT AN ANSWER TELLS
 
--- the first piece that ends in the stream t comes to this outcome, in a buffer of n bytes, and these bytes stand behind
--- the zero that ends it
+-- the first piece that ends in the stream t comes to this outcome, in a buffer of n bytes, and these bytes stand
+-- behind the zero that ends it
 pub record EndsFirst (t : List ℕ) (n : ℕ) (outcome : Outcome) (behind : List ℕ) : Type 0 where
   pub front : List ℕ
   pub cut : t ≡ front ++ 0 ∷ behind
   pub none_before : stream_outcomes front n ≡ []
   pub outcomes : stream_outcomes t n ≡ outcome ∷ stream_outcomes behind n
 
--- what contracts see of a `FrameReader`: its decoder's buffer and phase, and the bytes that it has read and not yet fed
+-- what contracts see of a `FrameReader`: its decoder's buffer and phase, and the bytes that it has read but not fed
 pub record ReaderState : Type 0 where
   pub buffer : List ℕ
   pub phase : Phase
@@ -75,12 +76,13 @@ pub record ReaderState : Type 0 where
 abbrev pub IsBehind : ReaderState → List ℕ → Type 0
 IsBehind reader p = DecoderAfter reader.buffer reader.phase p
 
--- a piece has ended in the stream t, and the reader has come to its end: the decoder is idle, and what stands behind is kept
+-- a piece has ended in the stream t, and the reader stands at its end: the decoder is idle, and what follows is kept
 pub record AtPieceEnd (t : List ℕ) (outcome : Outcome) (reader : ReaderState) : Type 0 where
   pub first : EndsFirst t (length reader.buffer) outcome reader.kept
-  pub idle : reader.phase ≡ Idle
+  pub idle : IsBehind reader []
 
--- no piece has ended in the stream t, and the reader has come to the end of t: the decoder has taken it, and nothing is kept
+-- no piece has ended in the stream t, and the reader stands at the end of t: the decoder has taken it, and nothing is
+-- kept
 pub record AtStreamEnd (t : List ℕ) (reader : ReaderState) : Type 0 where
   pub none_ended : stream_outcomes t (length reader.buffer) ≡ []
   pub behind : IsBehind reader (unended t)
@@ -88,20 +90,25 @@ pub record AtStreamEnd (t : List ℕ) (reader : ReaderState) : Type 0 where
 
 -- what an answer tells of the reads and of the stream t that they brought, and how it leaves the reader
 abbrev pub Tells : Result Next ReadFault → List Read → List ℕ → ReaderState → Type 0
-Tells (Ok (nexts.Message n)) reads t reader = AtPieceEnd t (Message (take n reader.buffer)) reader × (n ≤ length reader.buffer)
+Tells (Ok (nexts.Message n)) reads t reader =
+    AtPieceEnd t (Message (take n reader.buffer)) reader × (n ≤ length reader.buffer)
 Tells (Ok (nexts.Broken count)) reads t reader = AtPieceEnd t (Broken count) reader
 Tells (Ok nexts.TooLong) reads t reader = AtPieceEnd t TooLong reader
-Tells (Ok (nexts.End unfinished)) reads t reader = AtStreamEnd t reader × EndsIn reads (Some []) × (unfinished ≡ is_nonempty (unended t))
+Tells (Ok (nexts.End unfinished)) reads t reader =
+    AtStreamEnd t reader × EndsIn reads (Some []) × (unfinished ≡ is_nonempty (unended t))
 Tells (Err faults.Io) reads t reader = AtStreamEnd t reader × EndsIn reads None
-Tells (Err faults.TooManyReads) reads t reader = AtStreamEnd t reader × (length reads ≡ 65536) × All GaveBytes reads
+Tells (Err faults.TooManyReads) reads t reader =
+    AtStreamEnd t reader × (length reads ≡ 65536) × All GaveBytes reads
 
 -- a call that takes the source and the reader from the one state to the other, with this answer
-pub record ReadsNext {S : Type 0} (step : S → Read → S → Type 0) (source source' : S) (reader : ReaderState) (result : Result Next ReadFault) (reader' : ReaderState) : Type 0 where
+pub record ReadsNext {S : Type 0} (step : S → Read → S → Type 0) (source source' : S)
+    (reader : ReaderState) (result : Result Next ReadFault) (reader' : ReaderState) : Type 0 where
   -- the reads of this call
   pub reads : List Read
   pub runs : Runs step source reads source'
   pub failed : (result ≡ Err faults.Io) ↔ EndsIn reads None
-  -- the stream: what the decoder has taken, what was kept, and what the reads gave
+  -- behind each front p of a piece, the stream is p, what was kept, and what the reads gave; so nothing is read where
+  -- p and the kept bytes end a piece
   pub called_for : (p : List ℕ) → IsBehind reader p → EachCalledFor (p ++ reader.kept) (length reader.buffer) reads
   pub tells : (p : List ℕ) → IsBehind reader p → Tells result reads (p ++ reader.kept ++ all_given reads) reader'
 
@@ -119,9 +126,15 @@ IsOutcome (nexts.Broken count) buffer outcome = outcome ≡ Broken count
 IsOutcome nexts.TooLong buffer outcome = outcome ≡ TooLong
 IsOutcome (nexts.End unfinished) buffer outcome = ⊥
 
--- in these bytes behind p a piece ends for the first time; it comes to this outcome, and these bytes stand behind its zero
+-- the first piece that ends in these bytes behind p comes to this outcome, and what is behind follows its zero
 pub record EndsFirstIn (p bytes : List ℕ) (n : ℕ) (outcome : Outcome) (behind : List ℕ) : Type 0 where
   pub front : List ℕ
   pub cut : bytes ≡ front ++ 0 ∷ behind
   pub none_before : stream_outcomes (p ++ front) n ≡ []
   pub here : stream_outcomes (p ++ (front ++ 0 ∷ [])) n ≡ outcome ∷ []
+
+-- the answer tells of that piece, over the buffer
+pub record TellsFirst (next : Next) (p bytes buffer behind : List ℕ) : Type 0 where
+  pub outcome : Outcome
+  pub is : IsOutcome next buffer outcome
+  pub first : EndsFirstIn p bytes (length buffer) outcome behind

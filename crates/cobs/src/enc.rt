@@ -4,6 +4,7 @@ ghost use Rattle.cobs.specs.Grammar.{IsEncodedFrame};
 ghost use Rattle.cobs.specs.Length.{encoded_len};
 
 mod blocks;
+mod encoder;
 mod error;
 mod room;
 mod sentinel;
@@ -12,6 +13,7 @@ mod vector;
 mod window;
 
 use blocks::{Progress, append, close};
+pub use encoder::CobsEncoder;
 pub use error::DestBufTooSmallError;
 use room::fits;
 pub(crate) use sentinel::xor_bytes;
@@ -36,7 +38,8 @@ pub fn encode(source: &[u8], dest: &mut [u8]) -> usize
     ensures len { result ≡ encoded_len source.now }
     ensures rest { drop result dest.new ≡ drop result dest.old }
 {
-    let progress = append(source, dest, Progress::new());
+    let mut progress = Progress::new();
+    append(source, dest, &mut progress);
     close(dest, progress)
 }
 

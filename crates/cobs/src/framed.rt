@@ -2,13 +2,14 @@
 //!
 //! `FrameReader` reads chunks of 64 bytes from a file, a socket, a serial port or anything else that is a
 //! `FrameSource`, and answers one outcome a call. It reads only where the bytes that it has kept end no piece, and
-//! no byte is lost: what it has read and not used yet is used first by the next call, after a fault too.
-ghost use Rattle.std.specs.Prelude.{◌≡◌, ℕ, ◌≤◌, List, [], ◌∷◌, ◌++◌, length, take, drop, Option, option_map, IfOk, IfSome, OnSome, MatchOption};
+//! no byte is lost: what it has read and not used yet is used first by the next call, after a fault too. No call
+//! here takes memory. (That a zero ends each piece is Cheshire and Baker's; the rest of this module is our own.)
+ghost use Rattle.std.specs.Prelude.{◌≡◌, ℕ, ◌≤◌, List, [], ◌∷◌, ◌++◌, length, take, drop, Option, option_map, IfOk, IfNone, IfSome, OnSome, MatchOption};
 ghost use Rattle.cobs.specs.Grammar.{HasNoZero};
 ghost use Rattle.cobs.specs.Stream.{Outcome, stream_outcomes, unended, is_nonempty};
-ghost use Rattle.cobs.specs.Decoder.{Idle as IdlePhase, DecoderAfter};
+ghost use Rattle.cobs.specs.Decoder.{DecoderAfter};
 ghost use Rattle.cobs.specs.Streaming.{outcome_told};
-ghost use Rattle.cobs.specs.Reading.{HasTaken, IsOutcome, EndsFirstIn};
+ghost use Rattle.cobs.specs.Reading.{HasTaken, IsOutcome, TellsFirst};
 
 use crate::dec::{DecodeError, FrameDecoder};
 use std::io::Read;
@@ -103,8 +104,8 @@ impl<R: Read> FrameSource for Recorded<R> {
 /// What the answer to a zero tells: nothing where no piece has ended.
 fn next_of(answer: Result<Option<usize>, DecodeError>) -> Option<Next>
     ensures { (buffer : List ℕ) → IfOk answer (λ found. IfSome found (λ n. n ≤ length buffer)) →
-        MatchOption result (outcome_told answer buffer ≡ [])
-        (λ next. (outcome : Outcome) × (outcome_told answer buffer ≡ outcome ∷ []) × IsOutcome next buffer outcome) }
+        MatchOption result (outcome_told answer buffer ≡ []) (λ next. (outcome : Outcome)
+        × (outcome_told answer buffer ≡ outcome ∷ []) × IsOutcome next buffer outcome) }
 {
     match answer {
         Ok(None) | Err(DecodeError::EmptyFrame) => None,
@@ -117,10 +118,13 @@ fn next_of(answer: Result<Option<usize>, DecodeError>) -> Option<Next>
 /// Feeds bytes until a piece ends: what it came to, and how many bytes were fed.
 fn feed_until<D: FrameDecoder>(decoder: &mut D, bytes: &[u8]) -> Option<(Next, usize)>
     ensures within { IfSome result (λ found. found.1 ≤ length bytes.now) }
-    ensures told { (p : List ℕ) → DecoderAfter (D.bytes decoder.old) (D.phase decoder.old) p → MatchOption result
-        ((stream_outcomes (p ++ bytes.now) (length (D.bytes decoder.old)) ≡ []) × DecoderAfter (D.bytes decoder.new) (D.phase decoder.new) (unended (p ++ bytes.now)))
-        (λ found. (outcome : Outcome) × IsOutcome found.0 (D.bytes decoder.new) outcome × EndsFirstIn p bytes.now (length (D.bytes decoder.old)) outcome (drop found.1 bytes.now)) }
-    ensures idle { OnSome result (D.phase decoder.new ≡ IdlePhase) }
+    ensures none_ended { IfNone result ((p : List ℕ) → DecoderAfter (D.bytes decoder.old) (D.phase decoder.old) p →
+        stream_outcomes (p ++ bytes.now) (length (D.bytes decoder.new)) ≡ []) }
+    ensures after { IfNone result ((p : List ℕ) → DecoderAfter (D.bytes decoder.old) (D.phase decoder.old) p →
+        DecoderAfter (D.bytes decoder.new) (D.phase decoder.new) (unended (p ++ bytes.now))) }
+    ensures first { IfSome result (λ found. (p : List ℕ) → DecoderAfter (D.bytes decoder.old) (D.phase decoder.old) p →
+        TellsFirst found.0 p bytes.now (D.bytes decoder.new) (drop found.1 bytes.now)) }
+    ensures idle { OnSome result (DecoderAfter (D.bytes decoder.new) (D.phase decoder.new) []) }
     ensures len { length (D.bytes decoder.new) ≡ length (D.bytes decoder.old) }
     ensures same_loan { D.loan decoder.new ≡ D.loan decoder.old }
 {
@@ -137,7 +141,8 @@ fn feed_until<D: FrameDecoder>(decoder: &mut D, bytes: &[u8]) -> Option<(Next, u
 
 /// Whether a piece is unfinished behind these bytes, given whether one was before them.
 fn is_unfinished(before: bool, bytes: &[u8]) -> bool
-    ensures { (p : List ℕ) → before ≡ is_nonempty p → HasNoZero p → result ≡ is_nonempty (unended (p ++ bytes.now)) }
+    ensures { (p : List ℕ) → before ≡ is_nonempty p → HasNoZero p →
+        result ≡ is_nonempty (unended (p ++ bytes.now)) }
 {
     match bytes {
         [] => before,
@@ -149,6 +154,9 @@ fn is_unfinished(before: bool, bytes: &[u8]) -> bool
 const MOST_READS: usize = 65536;
 
 /// Reads the frames of a stream, one a call, with a decoder of its own.
+///
+/// The source isn't part of it but given to each call, so a stream may go on in another source. Contracts see it as
+/// its decoder and the bytes that it has read and not yet fed to the decoder.
 #[derive(Drop)]
 pub struct FrameReader<D: FrameDecoder> {
     decoder: D,
@@ -162,15 +170,16 @@ pub struct FrameReader<D: FrameDecoder> {
 }
 
 impl<D: FrameDecoder> FrameReader<D> {
-    ghost use Rattle.std.specs.Prelude.{◌≡◌, ℕ, ◌+◌, List, [], ◌++◌, length, MatchOption};
-    ghost use Rattle.cobs.specs.Stream.{Outcome, stream_outcomes, unended};
-    ghost use Rattle.cobs.specs.Decoder.{Idle as IdlePhase};
-    ghost use Rattle.cobs.specs.Reading.{HasTaken, IsOutcome, EndsFirstIn, ReadsNext};
+    ghost use Rattle.std.specs.Prelude.{◌≡◌, ℕ, ◌+◌, List, [], ◌++◌, length, IfNone, IfSome, OnSome};
+    ghost use Rattle.cobs.specs.Stream.{is_nonempty, unended};
+    ghost use Rattle.cobs.specs.Decoder.{DecoderAfter};
+    ghost use Rattle.cobs.specs.Reading.{AtStreamEnd, IsBehind, ReadsNext, TellsFirst};
     ghost use Rattle.cobs.specs.Reader.{decoder_of, kept_of, reader_state};
 
-    /// A reader with this decoder. The caller owes an idle one.
+    /// A reader with this decoder, which has read nothing yet. The caller owes an idle decoder: one that is new, reset,
+    /// or behind a zero.
     pub fn new(decoder: D) -> Self
-        requires { D.phase decoder ≡ IdlePhase }
+        requires { DecoderAfter (D.bytes decoder) (D.phase decoder) [] }
         ensures decoder { decoder_of result ≡ decoder }
         ensures kept { kept_of result ≡ [] }
     {
@@ -192,11 +201,12 @@ impl<D: FrameDecoder> FrameReader<D> {
 
     /// Feeds the kept bytes until a piece ends.
     fn next_kept(&mut self) -> Option<Next>
-        ensures told { (p : List ℕ) → HasTaken (D.bytes (decoder_of self.old)) (D.phase (decoder_of self.old)) self.old.unfinished p → MatchOption result
-            ((stream_outcomes (p ++ kept_of self.old) (length (D.bytes (decoder_of self.old))) ≡ [])
-            × HasTaken (D.bytes (decoder_of self.new)) (D.phase (decoder_of self.new)) self.new.unfinished (unended (p ++ kept_of self.old)) × (kept_of self.new ≡ []))
-            (λ next. (outcome : Outcome) × IsOutcome next (D.bytes (decoder_of self.new)) outcome
-            × EndsFirstIn p (kept_of self.old) (length (D.bytes (decoder_of self.old))) outcome (kept_of self.new) × (D.phase (decoder_of self.new) ≡ IdlePhase)) }
+        ensures none { IfNone result ((p : List ℕ) → IsBehind (reader_state D.bytes D.phase self.old) p →
+            AtStreamEnd (p ++ kept_of self.old) (reader_state D.bytes D.phase self.new)
+            × (self.new.unfinished ≡ is_nonempty (unended (p ++ kept_of self.old)))) }
+        ensures first { IfSome result (λ next. (p : List ℕ) → IsBehind (reader_state D.bytes D.phase self.old) p →
+            TellsFirst next p (kept_of self.old) (D.bytes (decoder_of self.new)) (kept_of self.new)) }
+        ensures idle { OnSome result (IsBehind (reader_state D.bytes D.phase self.new) []) }
         ensures len { length (D.bytes (decoder_of self.new)) ≡ length (D.bytes (decoder_of self.old)) }
         ensures same_loan { D.loan (decoder_of self.new) ≡ D.loan (decoder_of self.old) }
         ensures count { length (kept_of self.old) + self.old.start ≡ self.old.end }
@@ -217,11 +227,16 @@ impl<D: FrameDecoder> FrameReader<D> {
         }
     }
 
-    /// The next frame of the source.
+    /// What the next piece of the stream comes to, once a zero has ended it, or that the source gives no more.
     ///
-    /// The bytes that are kept from earlier calls are used first, and what stands behind the sentinel of the piece
-    /// that ends is kept for the next call. While no piece ends, the source is read, at most 65,536 times; nothing
-    /// is read behind a piece's end, behind a read that failed, or behind one that gave no bytes.
+    /// The bytes that are kept from earlier calls are used first, and what stands behind the zero of the piece that
+    /// ends is kept for the next call. While no piece ends, the source is read, at most 65,536 times; nothing is read
+    /// behind a piece's end, behind a read that failed, or behind one that gave no bytes. Behind `Next::End` the
+    /// stream may go on, in this source or in another one.
+    ///
+    /// # Errors
+    /// `Io`: the last read of this call failed. `TooManyReads`: this call made 65,536 reads that all gave bytes. In
+    /// both no piece ended, the decoder has taken all bytes that were read, and the next call goes on behind them.
     pub fn next_frame<S: FrameSource>(&mut self, source: &mut S) -> Result<Next, ReadFault>
         ensures next { ReadsNext S.step source.old source.new
             (reader_state D.bytes D.phase self.old) result (reader_state D.bytes D.phase self.new) }
@@ -252,3 +267,6 @@ impl<D: FrameDecoder> FrameReader<D> {
         Err(ReadFault::TooManyReads)
     }
 }
+
+#[cfg(test)]
+mod tests;

@@ -12,14 +12,14 @@ mod stream;
 
 pub use dec::{
     CobsDecoder, CobsDecoderHeapless, CobsDecoderOwned, DecodeError, DecodeReport, DecodeResult,
-    DecodeVecError, DecoderState, DecodingResult, FrameDecoder, FrameKind, PushError, decode,
-    decode_in_place, decode_in_place_report, decode_in_place_with_sentinel, decode_vec,
+    DecodeVecError, DecoderState, DecodingResult, FrameDecoder, FrameKind, PushError, WriteBuffer,
+    decode, decode_in_place, decode_in_place_report, decode_in_place_with_sentinel, decode_vec,
     decode_vec_with_sentinel, decode_with_sentinel, frame_kind,
 };
 pub use enc::{
-    DestBufTooSmallError, EncoderState, PushResult, encode, encode_including_sentinels, encode_vec,
-    encode_vec_including_sentinels, encode_vec_with_sentinel, encode_with_sentinel, try_encode,
-    try_encode_including_sentinels,
+    CobsEncoder, DestBufTooSmallError, EncoderState, PushResult, encode,
+    encode_including_sentinels, encode_vec, encode_vec_including_sentinels,
+    encode_vec_with_sentinel, encode_with_sentinel, try_encode, try_encode_including_sentinels,
 };
 pub use framed::{FrameReader, FrameSource, Next, ReadFault, Recorded};
 pub use stream::{FrameOutcome, decode_stream, encode_frames};

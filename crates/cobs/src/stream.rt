@@ -2,9 +2,10 @@
 //!
 //! A stream is cut at its zeros. What stands between two of them is a piece, and each nonempty piece is judged by
 //! itself: it is a message, or it breaks off inside a block, or it decodes to more than the buffer holds. So what
-//! is damaged in one piece is gone at the next zero.
+//! is damaged in one piece is gone at the next zero. (That a zero ends each frame is Cheshire and Baker's; how broken
+//! and too long pieces are told is a choice of this library.)
 ghost use Rattle.std.specs.Prelude.{◌≡◌, ℕ, ◌<◌, ◌≤◌, ◌^◌, List, [], ◌++◌, All, length, map, take, option_to_list, IfOk, IfSome, IsOk, OnOk, OnErr, Contains};
-ghost use Rattle.cobs.specs.Decoder.{Idle as IdlePhase, DecoderAfter, PhaseAfter};
+ghost use Rattle.cobs.specs.Decoder.{DecoderAfter, PhaseAfter};
 ghost use Rattle.cobs.specs.Stream.{Message, stream_outcomes, unended};
 ghost use Rattle.cobs.specs.Streaming.{outcome_told, outcomes_in, AreAlikeAtFirst, AreFrames, messages_in, room_for_frames};
 
@@ -83,7 +84,7 @@ pub fn decode_stream<D: FrameDecoder>(
         OnOk result (DecoderAfter (D.bytes decoder.new) (D.phase decoder.new) (unended (p ++ bytes.now))) }
 
     // In every phase.
-    ensures out_of_memory { OnErr result (D.phase decoder.new ≡ IdlePhase) }
+    ensures out_of_memory { OnErr result (DecoderAfter (D.bytes decoder.new) (D.phase decoder.new) []) }
     ensures len { length (D.bytes decoder.new) ≡ length (D.bytes decoder.old) }
     ensures same_loan { D.loan decoder.new ≡ D.loan decoder.old }
 {
@@ -144,3 +145,6 @@ fn write_frames(messages: &[Vec<u8>], dest: &mut [u8]) -> usize
     }
     end
 }
+
+#[cfg(test)]
+mod tests;

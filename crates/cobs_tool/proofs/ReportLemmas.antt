@@ -2,20 +2,17 @@
 use Rattle.std.proofs.Common.{◌≡◌, ◌+◌, ◌<◌, ◌≤◌, ℕ, Bool, if◌then◌else◌, List, [], ◌∷◌, ◌++◌, length, codes, cond, Result, Ok, Err, is_ok, OnOk, refl, ap, sym, ◌∙◌, arith, append_assoc, append-nil, length-append, subst, take}
 use Rattle.std.proofs.lemmas.Fmt.{decimal_digit}
 use Rattle.std.specs.List.{flat_map}
-use Rattle.cobs.proofs.SoFar.{DecoderAfter-idle}
 use Rattle.cobs.proofs.StreamLemmas.{stream_outcomes-append, unended-append, unended-zero}
-use Rattle.cobs.specs.Decoder.{Phase, Idle, DecoderAfter, phase_after}
-use Rattle.cobs.specs.Reading.{Read, Runs, EndsFirst, ReaderState, ReadsNext, AtPieceEnd, all_given}
+use Rattle.cobs.specs.Reading.{Read, Runs, EndsFirst, ReaderState, IsBehind, ReadsNext, AtPieceEnd, all_given}
 use Rattle.cobs.specs.Stream.{Outcome, Message, Broken, TooLong, is_nonempty, stream_outcomes, unended}
 use Rattle.cobs.specs.declared.framed.Next.TheVariants as nexts
 use Rattle.cobs.specs.declared.framed.ReadFault.{ReadFault}
 use Rattle.cobs.specs.declared.framed.ReadFault.TheVariants as faults
 use Rattle.cobs_tool.proofs.MemoryLemmas.{MemoryStep, bytes_left-Runs, never_fails, bytes_left-at_end, few_reads}
 use Rattle.cobs_tool.specs.Memory.{bytes_left}
-use Rattle.cobs_tool.specs.Report.{outcome_line, report, unfinished_line}
-use Rattle.cobs_tool.specs.declared.input.TheConstants.{MAX_INPUT}
+use Rattle.cobs_tool.specs.Report.{longest_message, outcome_line, report, unfinished_line}
+use Rattle.cobs_tool.specs.Input.{max_input}
 use Rattle.cobs_tool.specs.declared.memory.InMemory.{InMemory}
-use Rattle.cobs_tool.specs.declared.report.TheConstants.{DECODE_BUFFER_LEN}
 
 -- the line of the empty message
 pub outcome_line-empty : (message : List ℕ) → length message ≡ 0 → codes "message 0\n" ≡ outcome_line (Message message)
@@ -31,7 +28,7 @@ pushed_line (Err v) old new line line' e pushed = tt
 -- PIECE BY PIECE
 
 -- the report is said line by line
-report_is : (stream : List ℕ) (n : ℕ) → n ≡ DECODE_BUFFER_LEN → report stream ≡ flat_map outcome_line (stream_outcomes stream n) ++ unfinished_line stream
+report_is : (stream : List ℕ) (n : ℕ) → n ≡ longest_message → report stream ≡ flat_map outcome_line (stream_outcomes stream n) ++ unfinished_line stream
 report_is stream n e = ap (λ k. flat_map outcome_line (stream_outcomes stream k) ++ unfinished_line stream) (sym e)
 
 -- what no zero has ended in a stream is that of what follows a zero
@@ -40,7 +37,7 @@ unended-behind front behind =
     ap unended (sym (append_assoc front (0 ∷ []) behind)) ∙ unended-append (front ++ 0 ∷ []) behind ∙ ap (λ l. unended (l ++ behind)) (unended-zero front)
 
 -- what stands behind the first piece that ends in the stream t, and then more, decides the rest of the report
-report-first : (t behind more : List ℕ) (n : ℕ) (outcome : Outcome) → n ≡ DECODE_BUFFER_LEN → EndsFirst t n outcome behind
+report-first : (t behind more : List ℕ) (n : ℕ) (outcome : Outcome) → n ≡ longest_message → EndsFirst t n outcome behind
     → report (t ++ more) ≡ outcome_line outcome ++ report (behind ++ more)
 report-first t behind more n outcome e first =
     let same : unended t ≡ unended behind = ap unended first.cut ∙ unended-behind first.front behind in
@@ -57,7 +54,7 @@ report-first t behind more n outcome e first =
     ∙ ap (λ l. outcome_line outcome ++ l) (sym (report_is (behind ++ more) n e))
 
 -- the report of a stream in which no piece ends
-report-none : (t : List ℕ) (n : ℕ) → n ≡ DECODE_BUFFER_LEN → stream_outcomes t n ≡ [] → report t ≡ unfinished_line t
+report-none : (t : List ℕ) (n : ℕ) → n ≡ longest_message → stream_outcomes t n ≡ [] → report t ≡ unfinished_line t
 report-none t n e none = report_is t n e ∙ ap (λ l. flat_map outcome_line l ++ unfinished_line t) none
 
 -- AFTER A CALL OF `next_frame`
@@ -70,7 +67,7 @@ left_of reader source = reader.kept ++ bytes_left source
 pub record PieceTold (reader : ReaderState) (source : InMemory) (reader' : ReaderState) (source' : InMemory) (outcome : Outcome) : Type 0 where
   pub told : report (left_of reader source) ≡ outcome_line outcome ++ report (left_of reader' source')
   pub fewer : length reader'.kept + length (bytes_left source') < length reader.kept + length (bytes_left source)
-  pub idle : reader'.phase ≡ Idle
+  pub idle : IsBehind reader' []
 
 -- what was still to be reported, by the bytes that the reads gave
 left_of-given : (reader : ReaderState) (source : InMemory) (reads : List Read) (source' : InMemory) → Runs MemoryStep source reads source'
@@ -79,7 +76,7 @@ left_of-given reader source reads source' runs =
     ap (λ l. reader.kept ++ l) (bytes_left-Runs source reads source' runs) ∙ sym (append_assoc reader.kept (all_given reads) (bytes_left source'))
 
 pub PieceTold-from : (reader : ReaderState) (source : InMemory) (reader' : ReaderState) (source' : InMemory) (reads : List Read) (outcome : Outcome)
-    → length reader'.buffer ≡ DECODE_BUFFER_LEN → Runs MemoryStep source reads source' → AtPieceEnd (reader.kept ++ all_given reads) outcome reader'
+    → length reader'.buffer ≡ longest_message → Runs MemoryStep source reads source' → AtPieceEnd (reader.kept ++ all_given reads) outcome reader'
     → PieceTold reader source reader' source' outcome
 PieceTold-from reader source reader' source' reads outcome len runs end =
     let more = bytes_left source' in
@@ -92,31 +89,26 @@ PieceTold-from reader source reader' source' reads outcome len runs end =
       idle = end.idle;
     }
 
--- an idle decoder has taken nothing of a piece
-pub idle-IsBehind : (buffer : List ℕ) (phase : Phase) → DecoderAfter buffer phase [] → phase ≡ Idle
-unfolding phase_after
-idle-IsBehind buffer phase after = after.phased.phase_is
-
 -- what each answer of a call tells, where the reader was idle
 
 pub message_told : (reader : ReaderState) (source : InMemory) (reader' : ReaderState) (source' : InMemory) (n : ℕ)
-    → ReadsNext MemoryStep source source' reader (Ok (nexts.Message n)) reader' → reader.phase ≡ Idle → length reader'.buffer ≡ DECODE_BUFFER_LEN
+    → ReadsNext MemoryStep source source' reader (Ok (nexts.Message n)) reader' → IsBehind reader [] → length reader'.buffer ≡ longest_message
     → PieceTold reader source reader' source' (Message (take n reader'.buffer)) × (n ≤ length reader'.buffer)
 message_told reader source reader' source' n next idle len =
-    let told = next.tells [] (DecoderAfter-idle reader.buffer reader.phase idle) in
+    let told = next.tells [] idle in
     (PieceTold-from reader source reader' source' next.reads _ len next.runs told.0, told.1)
 
 pub broken_told : (reader : ReaderState) (source : InMemory) (reader' : ReaderState) (source' : InMemory) (count : ℕ)
-    → ReadsNext MemoryStep source source' reader (Ok (nexts.Broken count)) reader' → reader.phase ≡ Idle → length reader'.buffer ≡ DECODE_BUFFER_LEN
+    → ReadsNext MemoryStep source source' reader (Ok (nexts.Broken count)) reader' → IsBehind reader [] → length reader'.buffer ≡ longest_message
     → PieceTold reader source reader' source' (Broken count)
 broken_told reader source reader' source' count next idle len =
-    PieceTold-from reader source reader' source' next.reads _ len next.runs (next.tells [] (DecoderAfter-idle reader.buffer reader.phase idle))
+    PieceTold-from reader source reader' source' next.reads _ len next.runs (next.tells [] idle)
 
 pub too_long_told : (reader : ReaderState) (source : InMemory) (reader' : ReaderState) (source' : InMemory)
-    → ReadsNext MemoryStep source source' reader (Ok nexts.TooLong) reader' → reader.phase ≡ Idle → length reader'.buffer ≡ DECODE_BUFFER_LEN
+    → ReadsNext MemoryStep source source' reader (Ok nexts.TooLong) reader' → IsBehind reader [] → length reader'.buffer ≡ longest_message
     → PieceTold reader source reader' source' TooLong
 too_long_told reader source reader' source' next idle len =
-    PieceTold-from reader source reader' source' next.reads _ len next.runs (next.tells [] (DecoderAfter-idle reader.buffer reader.phase idle))
+    PieceTold-from reader source reader' source' next.reads _ len next.runs (next.tells [] idle)
 
 -- the last line, or none
 abbrev pub unfinished_text : Bool → List ℕ
@@ -124,11 +116,11 @@ unfinished_text unfinished = if unfinished then codes "unfinished\n" else []
 
 -- nothing is left behind the end
 pub end_told : (reader : ReaderState) (source : InMemory) (reader' : ReaderState) (source' : InMemory) (unfinished : Bool)
-    → ReadsNext MemoryStep source source' reader (Ok (nexts.End unfinished)) reader' → reader.phase ≡ Idle → length reader'.buffer ≡ DECODE_BUFFER_LEN
+    → ReadsNext MemoryStep source source' reader (Ok (nexts.End unfinished)) reader' → IsBehind reader [] → length reader'.buffer ≡ longest_message
     → report (left_of reader source) ≡ unfinished_text unfinished
 end_told reader source reader' source' unfinished next idle len =
     let t = reader.kept ++ all_given next.reads in
-    let told = next.tells [] (DecoderAfter-idle reader.buffer reader.phase idle) in
+    let told = next.tells [] idle in
     let (earlier, last) = told.1 in
     let none : bytes_left source' ≡ [] = bytes_left-at_end source earlier source' (subst (λ reads. Runs MemoryStep source reads source') last next.runs) in
     ap report (left_of-given reader source next.reads source' next.runs ∙ ap (λ l. t ++ l) none ∙ append-nil t)
@@ -137,12 +129,12 @@ end_told reader source reader' source' unfinished next idle len =
 
 -- a call over 1 MiB or less meets no fault: no read fails, and one in 64 bytes is enough
 pub no_fault : (reader : ReaderState) (source : InMemory) (reader' : ReaderState) (source' : InMemory) (fault : ReadFault)
-    → ReadsNext MemoryStep source source' reader (Err fault) reader' → reader.phase ≡ Idle → length (left_of reader source) ≤ MAX_INPUT → ⊥
+    → ReadsNext MemoryStep source source' reader (Err fault) reader' → IsBehind reader [] → length (left_of reader source) ≤ max_input → ⊥
 no_fault reader source reader' source' faults.Io next idle few =
-    let (earlier, last) = (next.tells [] (DecoderAfter-idle reader.buffer reader.phase idle)).1 in
+    let (earlier, last) = (next.tells [] idle).1 in
     never_fails source earlier source' (subst (λ reads. Runs MemoryStep source reads source') last next.runs)
 no_fault reader source reader' source' faults.TooManyReads next idle few =
-    let told = next.tells [] (DecoderAfter-idle reader.buffer reader.phase idle) in
+    let told = next.tells [] idle in
     let enough = few_reads source next.reads source' next.runs told.2 in
     let count = told.1 in
     omega (arith, length-append reader.kept (bytes_left source))

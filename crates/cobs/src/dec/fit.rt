@@ -5,7 +5,7 @@ ghost use Rattle.cobs.specs.Piece.{output};
 
 /// How many of the first bytes of a piece have an output of at most `room` bytes.
 ///
-/// It takes one step for each code, and none where the whole piece is no longer than the room.
+/// It takes one step for each code, and none where the room is enough for any piece of this length.
 pub(crate) fn fitting_len(piece: &[u8], room: usize) -> usize
     requires some { 0 < length piece.now }
     requires nonzero { HasNoZero piece.now }
@@ -13,7 +13,7 @@ pub(crate) fn fitting_len(piece: &[u8], room: usize) -> usize
     ensures within { result ≤ length piece.now }
     ensures fits { length (output (take result piece.now)) ≤ room }
 {
-    if piece.len() <= room {
+    if piece.len() - 1 <= room {
         return piece.len();
     }
     // Each byte behind the first gives one byte of the output, but for a code behind a full part.

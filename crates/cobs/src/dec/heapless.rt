@@ -1,14 +1,18 @@
 //! The streaming decoder over a buffer that lies in the value itself.
-ghost use Rattle.std.specs.Prelude.{◌≡◌, ◌-◌, ◌++◌, [], replicate};
+ghost use Rattle.std.specs.Prelude.{◌≡◌, ◌-◌, ◌++◌, [], replicate, ◌↔◌, ◌≤◌, ◌∷◌, List, length, ℕ};
 ghost use Rattle.std.specs.Borrow.{sem};
 ghost use Rattle.arrayvec.specs.ArrayVec.{array_vec_len};
-ghost use Rattle.cobs.specs.Decoder.{DecoderAfter, Feeds};
+ghost use Rattle.cobs.specs.Decoder.{DecoderAfter, Feeds, Idle};
+ghost use Rattle.cobs.specs.Grammar.{Reads};
+ghost use Rattle.cobs.specs.Headline.{IsPiece, PushesMessage};
+ghost use Rattle.cobs.specs.Piece.{output};
 ghost use Rattle.cobs.specs.Push.{PushesBytes};
 ghost use Rattle.cobs.specs.Buffers.{heapless_buffer, heapless_phase, LendsHeapless};
 
 use crate::dec::frame_decoder::FrameDecoder;
 use crate::dec::inner::CobsDecoderInner;
 use crate::dec::report::{DecodeError, DecodeReport, PushError};
+use crate::dec::write_buffer::WriteBuffer;
 use arrayvec::ArrayVec;
 
 /// Decodes a stream of frames, each ended by a zero, into a buffer of `N` bytes that lies in the value itself.
@@ -55,7 +59,8 @@ impl<const N: usize> CobsDecoderHeapless<N> {
     /// front of the buffer. `TargetBufTooSmall`: the piece's output is longer than the buffer; so is each further
     /// byte answered, through the zero.
     pub fn feed(&mut self, byte: u8) -> Result<Option<usize>, DecodeError>
-        ensures feeds { Feeds (heapless_buffer self.old) (heapless_phase self.old) byte result (heapless_buffer self.new) (heapless_phase self.new) }
+        ensures feeds { Feeds (heapless_buffer self.old) (heapless_phase self.old) byte result
+            (heapless_buffer self.new) (heapless_phase self.new) }
     {
         self.inner.feed(self.dest.as_mut_slice(), byte)
     }
@@ -71,7 +76,11 @@ impl<const N: usize> CobsDecoderHeapless<N> {
     /// Pushing the bytes behind these goes on with the stream: a piece whose zero raised the error is over, and
     /// while a piece is too long for the buffer, each push of its bytes takes one, through its zero.
     pub fn push(&mut self, bytes: &[u8]) -> Result<Option<DecodeReport>, PushError>
-        ensures pushes { PushesBytes (heapless_buffer self.old) (heapless_phase self.old) bytes.now result (heapless_buffer self.new) (heapless_phase self.new) }
+        ensures pushes { PushesBytes (heapless_buffer self.old) (heapless_phase self.old) bytes.now result
+            (heapless_buffer self.new) (heapless_phase self.new) }
+        ensures reads { (f m : List ℕ) → heapless_phase self.old ≡ Idle → bytes.now ≡ f ++ 0 ∷ [] → IsPiece f
+            → length (output f) ≤ length (heapless_buffer self.old)
+            → (PushesMessage result (heapless_buffer self.new) m ↔ Reads f m) }
     {
         self.inner.push(self.dest.as_mut_slice(), bytes)
     }
@@ -128,5 +137,17 @@ impl<const N: usize> FrameDecoder for CobsDecoderHeapless<N> {
 
     fn buffer(&self) -> &[u8] {
         self.dest()
+    }
+}
+
+impl<const N: usize> WriteBuffer for CobsDecoderHeapless<N> {
+    ghost use Rattle.cobs.specs.Buffers.{heapless_buffer, with_heapless_buffer};
+
+    ghost bytes = { heapless_buffer };
+
+    ghost with_bytes = { with_heapless_buffer };
+
+    fn dest_mut(&mut self) -> &mut [u8] {
+        CobsDecoderHeapless::dest_mut(self)
     }
 }

@@ -1,8 +1,9 @@
 //! Decoding a frame in the buffer in which it stands.
-ghost use Rattle.std.specs.Prelude.{◌≡◌, ◌≢◌, ◌<◌, ◌≤◌, length, take, slice_index, IfErr};
+ghost use Rattle.std.specs.Prelude.{◌≡◌, ◌≢◌, ◌↔◌, ◌<◌, ◌≤◌, ℕ, List, All, length, take, slice_index, IfErr};
 ghost use Rattle.cobs.specs.Buffer.{overwritten};
 ghost use Rattle.cobs.specs.Decoding.{head_answer, in_place, in_place_answer, in_place_report};
-ghost use Rattle.cobs.specs.Grammar.{HasNoZero};
+ghost use Rattle.cobs.specs.Grammar.{HasNoZero, Reads};
+ghost use Rattle.cobs.specs.Headline.{AnswersMessage, IsPiece, ReportsMessage};
 ghost use Rattle.cobs.specs.Piece.{kept_output, lacks, last_part};
 ghost use Rattle.cobs.specs.Sentinel.{xor_each};
 ghost use Rattle.cobs.specs.declared.dec.report.DecodeError.TheVariants.{TargetBufTooSmall};
@@ -64,6 +65,34 @@ fn decode_blocks(buffer: &mut [u8], end: usize) -> Result<usize, DecodeError>
     Ok(written)
 }
 
+/// Does nothing: what a slice holds are bytes.
+fn bytes_known(bytes: &[u8])
+    ensures { All (λ byte. byte < 256) bytes.now }
+{}
+
+/// Decodes what stands before the first zero, and answers how many bytes it and the message have.
+fn decode_head(buf: &mut [u8]) -> Result<DecodeReport, DecodeError>
+    ensures answer { result ≡ in_place_report buf.old }
+    ensures buffer { buf.new ≡ in_place buf.old }
+    ensures room { IfErr result (λ error. error ≢ TargetBufTooSmall) }
+{
+    if buf.is_empty() {
+        return Err(DecodeError::EmptyFrame);
+    }
+    let end = piece_len(buf);
+    let frame_size = decode_blocks(buf, end)?;
+    Ok(DecodeReport::new(end, frame_size))
+}
+
+/// Decodes what stands before the first zero, and answers how many bytes the message has.
+fn decode_head_size(buf: &mut [u8]) -> Result<usize, DecodeError>
+    ensures answer { result ≡ in_place_answer buf.old }
+    ensures buffer { buf.new ≡ in_place buf.old }
+    ensures room { IfErr result (λ error. error ≢ TargetBufTooSmall) }
+{
+    Ok(decode_head(buf)?.frame_size())
+}
+
 /// Decodes the frame at the front of the buffer in its own place, up to the first zero or the buffer's end, and answers
 /// how many bytes the frame and the message have.
 ///
@@ -82,14 +111,11 @@ fn decode_blocks(buffer: &mut [u8], end: usize) -> Result<usize, DecodeError>
 pub fn decode_in_place_report(buf: &mut [u8]) -> Result<DecodeReport, DecodeError>
     ensures answer { result ≡ in_place_report buf.old }
     ensures buffer { buf.new ≡ in_place buf.old }
+    ensures reads { IsPiece buf.old → (m : List ℕ) → (ReportsMessage result buf.new m ↔ Reads buf.old m) }
     ensures room { IfErr result (λ error. error ≢ TargetBufTooSmall) }
 {
-    if buf.is_empty() {
-        return Err(DecodeError::EmptyFrame);
-    }
-    let end = piece_len(buf);
-    let frame_size = decode_blocks(buf, end)?;
-    Ok(DecodeReport::new(end, frame_size))
+    bytes_known(buf);
+    decode_head(buf)
 }
 
 /// Decodes the frame at the front of the buffer in its own place, up to the first zero or the buffer's end, and answers
@@ -100,9 +126,11 @@ pub fn decode_in_place_report(buf: &mut [u8]) -> Result<DecodeReport, DecodeErro
 pub fn decode_in_place(buff: &mut [u8]) -> Result<usize, DecodeError>
     ensures answer { result ≡ in_place_answer buff.old }
     ensures buffer { buff.new ≡ in_place buff.old }
+    ensures reads { IsPiece buff.old → (m : List ℕ) → (AnswersMessage result buff.new m ↔ Reads buff.old m) }
     ensures room { IfErr result (λ error. error ≢ TargetBufTooSmall) }
 {
-    Ok(decode_in_place_report(buff)?.frame_size())
+    bytes_known(buff);
+    decode_head_size(buff)
 }
 
 /// Decodes the frame at the front of the buffer in its own place, where the sentinel is another byte than 0.
@@ -113,8 +141,11 @@ pub fn decode_in_place(buff: &mut [u8]) -> Result<usize, DecodeError>
 pub fn decode_in_place_with_sentinel(buff: &mut [u8], sentinel: u8) -> Result<usize, DecodeError>
     ensures answer { result ≡ in_place_answer (xor_each sentinel buff.old) }
     ensures buffer { buff.new ≡ in_place (xor_each sentinel buff.old) }
+    ensures reads { let f = xor_each sentinel buff.old in
+        IsPiece f → (m : List ℕ) → (AnswersMessage result buff.new m ↔ Reads f m) }
     ensures room { IfErr result (λ error. error ≢ TargetBufTooSmall) }
 {
     xor_bytes(buff, sentinel);
-    decode_in_place(buff)
+    bytes_known(buff);
+    decode_head_size(buff)
 }

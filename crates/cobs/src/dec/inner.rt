@@ -2,14 +2,16 @@
 ghost use Rattle.std.specs.Prelude.{◌≡◌, ◌<◌, ◌≤◌, ℕ, false, List, [], length, take, IfOk, IfSome};
 ghost use Rattle.cobs.specs.Grammar.{HasNoZero};
 ghost use Rattle.cobs.specs.Decoder.{DecoderAfter, Feeds};
-ghost use Rattle.cobs.specs.Machine.{left_in, phase_of, next_phase, next_buffer, next_answer, FedInTurn};
+ghost use Rattle.cobs.specs.Buffers.{phase_of};
+ghost use Rattle.cobs.specs.Machine.{left_in, next_phase, next_buffer, next_answer, FedInTurn};
 ghost use Rattle.cobs.specs.Push.{PushesBytes};
 
 use crate::dec::fit::fitting_len;
-use crate::dec::piece::decode_piece;
+use crate::dec::piece::{decode_piece, piece_len};
 use crate::dec::report::{DecodeError, DecodeReport, PushError};
 use crate::dec::state::{DecodeResult, DecoderState};
-use memchr::memchr;
+/// So many bytes are worth a search for a zero and a copy.
+const FEW: usize = 16;
 
 /// Where a streaming decoder stands: in which state, with how many bytes written, and whether the output of this
 /// piece was too long for the buffer.
@@ -154,6 +156,67 @@ impl CobsDecoderInner {
         run + self.take_blocks(dest, &stretch[run..])
     }
 
+    /// Takes the first bytes up to a zero, as far as their output fits the buffer, one by one, and answers how many:
+    /// for bytes so few that a search and copies cost more.
+    fn take_few(&mut self, dest: &mut [u8], bytes: &[u8]) -> usize
+        ensures within { result ≤ length bytes.now }
+        ensures fed { FedInTurn dest.old (phase_of self.old) (take result bytes.now) dest.new (phase_of self.new) }
+    {
+        if self.over {
+            return 0;
+        }
+        // A decoder that is idle takes a code as one behind a full block does: no zero joins it to anything.
+        let (mut full, mut left, mut at) = match &self.state {
+            DecoderState::Idle => (true, 0, 0),
+            DecoderState::Grab(left) => (false, *left, self.dest_idx),
+            DecoderState::GrabChain(left) => (true, *left, self.dest_idx),
+        };
+        let mut run = 0;
+        'by_byte: while run < bytes.len() && bytes[run] != 0 {
+            let byte = bytes[run];
+            if left != 0 {
+                if dest.len() <= at {
+                    break;
+                }
+                dest[at] = byte;
+                at += 1;
+                left -= 1;
+            } else {
+                if !full {
+                    if dest.len() <= at {
+                        break;
+                    }
+                    dest[at] = 0;
+                    at += 1;
+                }
+                full = byte == 255;
+                left = byte - 1;
+            }
+            run += 1;
+        }
+        if run != 0 {
+            self.dest_idx = at;
+            self.state = if full {
+                DecoderState::GrabChain(left)
+            } else {
+                DecoderState::Grab(left)
+            };
+        }
+        run
+    }
+
+    /// Takes first bytes that are each answered by `Ok(None)`, as many as can be taken at once, and answers how many.
+    fn take_run(&mut self, dest: &mut [u8], bytes: &[u8]) -> usize
+        ensures within { result ≤ length bytes.now }
+        ensures fed { FedInTurn dest.old (phase_of self.old) (take result bytes.now) dest.new (phase_of self.new) }
+    {
+        if bytes.len() < FEW {
+            return self.take_few(dest, bytes);
+        }
+        let end = piece_len(bytes);
+        self.take_stretch(dest, &bytes[..end])
+    }
+
     /// Takes bytes of the stream up to the first answer that isn't `Ok(None)`.
     pub(crate) fn push(
         &mut self,
@@ -163,12 +226,8 @@ impl CobsDecoderInner {
         ensures { PushesBytes dest.old (phase_of self.old) bytes.now result dest.new (phase_of self.new) }
     {
         let mut at = 0;
-        'by_stretch: while at < bytes.len() {
-            let end = match memchr(0, &bytes[at..]) {
-                Some(zero) => at + zero,
-                None => bytes.len(),
-            };
-            at += self.take_stretch(dest, &bytes[at..end]);
+        'by_run: while at < bytes.len() {
+            at += self.take_run(dest, &bytes[at..]);
             if at < bytes.len() {
                 match self.feed(dest, bytes[at]) {
                     Ok(None) => at += 1,

@@ -1,13 +1,17 @@
 //! The streaming decoder over a slice that is lent to it.
-ghost use Rattle.std.specs.Prelude.{◌≡◌, []};
+ghost use Rattle.std.specs.Prelude.{◌≡◌, [], ◌↔◌, ◌≤◌, ◌∷◌, ◌++◌, List, length, ℕ};
 ghost use Rattle.std.specs.Borrow.{sem};
-ghost use Rattle.cobs.specs.Decoder.{DecoderAfter, Feeds};
+ghost use Rattle.cobs.specs.Decoder.{DecoderAfter, Feeds, Idle};
+ghost use Rattle.cobs.specs.Grammar.{Reads};
+ghost use Rattle.cobs.specs.Headline.{IsPiece, PushesMessage};
+ghost use Rattle.cobs.specs.Piece.{output};
 ghost use Rattle.cobs.specs.Push.{PushesBytes};
 ghost use Rattle.cobs.specs.Buffers.{lent_buffer, lent_phase, lent_slice, LendsSlice};
 
 use crate::dec::frame_decoder::FrameDecoder;
 use crate::dec::inner::CobsDecoderInner;
 use crate::dec::report::{DecodeError, DecodeReport, PushError};
+use crate::dec::write_buffer::WriteBuffer;
 
 /// Decodes a stream of frames, each ended by a zero, into a slice that is lent to it.
 ///
@@ -46,7 +50,8 @@ impl<'a> CobsDecoder<'a> {
     /// holds its first bytes; that is the answer to each byte from the one that finds no room through the zero.
     /// After every zero the decoder is idle. (What is answered after an overflow is a choice of this library.)
     pub fn feed(&mut self, byte: u8) -> Result<Option<usize>, DecodeError>
-        ensures feeds { Feeds (lent_buffer self.old) (lent_phase self.old) byte result (lent_buffer self.new) (lent_phase self.new) }
+        ensures feeds { Feeds (lent_buffer self.old) (lent_phase self.old) byte result
+            (lent_buffer self.new) (lent_phase self.new) }
         ensures same_slice { lent_slice self.new ≡ lent_slice self.old }
     {
         self.inner.feed(self.dest, byte)
@@ -63,7 +68,11 @@ impl<'a> CobsDecoder<'a> {
     /// Pushing the bytes behind these goes on with the stream: a piece whose zero raised the error is over, and
     /// while a piece is too long for the slice, each push of its bytes takes one, through its zero.
     pub fn push(&mut self, bytes: &[u8]) -> Result<Option<DecodeReport>, PushError>
-        ensures pushes { PushesBytes (lent_buffer self.old) (lent_phase self.old) bytes.now result (lent_buffer self.new) (lent_phase self.new) }
+        ensures pushes { PushesBytes (lent_buffer self.old) (lent_phase self.old) bytes.now result
+            (lent_buffer self.new) (lent_phase self.new) }
+        ensures reads { (f m : List ℕ) → lent_phase self.old ≡ Idle → bytes.now ≡ f ++ 0 ∷ [] → IsPiece f
+            → length (output f) ≤ length (lent_buffer self.old)
+            → (PushesMessage result (lent_buffer self.new) m ↔ Reads f m) }
         ensures same_slice { lent_slice self.new ≡ lent_slice self.old }
     {
         self.inner.push(self.dest, bytes)
@@ -103,5 +112,17 @@ impl FrameDecoder for CobsDecoder<'_> {
 
     fn buffer(&self) -> &[u8] {
         self.dest()
+    }
+}
+
+impl WriteBuffer for CobsDecoder<'_> {
+    ghost use Rattle.cobs.specs.Buffers.{lent_buffer, with_lent_buffer};
+
+    ghost bytes = { lent_buffer };
+
+    ghost with_bytes = { with_lent_buffer };
+
+    fn dest_mut(&mut self) -> &mut [u8] {
+        self.dest
     }
 }

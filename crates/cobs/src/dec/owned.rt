@@ -1,13 +1,17 @@
 //! The streaming decoder over a buffer of its own, in memory that it takes once.
-ghost use Rattle.std.specs.Prelude.{◌≡◌, [], replicate, IfOk};
+ghost use Rattle.std.specs.Prelude.{◌≡◌, [], replicate, IfOk, ◌↔◌, ◌≤◌, ◌∷◌, ◌++◌, List, length, ℕ};
 ghost use Rattle.std.specs.Borrow.{sem};
-ghost use Rattle.cobs.specs.Decoder.{DecoderAfter, Feeds};
+ghost use Rattle.cobs.specs.Decoder.{DecoderAfter, Feeds, Idle};
+ghost use Rattle.cobs.specs.Grammar.{Reads};
+ghost use Rattle.cobs.specs.Headline.{IsPiece, PushesMessage};
+ghost use Rattle.cobs.specs.Piece.{output};
 ghost use Rattle.cobs.specs.Push.{PushesBytes};
 ghost use Rattle.cobs.specs.Buffers.{owned_buffer, owned_phase, LendsOwned};
 
 use crate::dec::frame_decoder::FrameDecoder;
 use crate::dec::inner::CobsDecoderInner;
 use crate::dec::report::{DecodeError, DecodeReport, PushError};
+use crate::dec::write_buffer::WriteBuffer;
 use std::alloc::{AllocError, Global};
 
 /// Decodes a stream of frames, each ended by a zero, into a buffer of its own.
@@ -44,7 +48,8 @@ impl CobsDecoderOwned {
     /// front of the buffer. `TargetBufTooSmall`: the piece's output is longer than the buffer; so is each further
     /// byte answered, through the zero.
     pub fn feed(&mut self, byte: u8) -> Result<Option<usize>, DecodeError>
-        ensures feeds { Feeds (owned_buffer self.old) (owned_phase self.old) byte result (owned_buffer self.new) (owned_phase self.new) }
+        ensures feeds { Feeds (owned_buffer self.old) (owned_phase self.old) byte result
+            (owned_buffer self.new) (owned_phase self.new) }
     {
         self.inner.feed(&mut self.dest, byte)
     }
@@ -60,7 +65,11 @@ impl CobsDecoderOwned {
     /// Pushing the bytes behind these goes on with the stream: a piece whose zero raised the error is over, and
     /// while a piece is too long for the buffer, each push of its bytes takes one, through its zero.
     pub fn push(&mut self, bytes: &[u8]) -> Result<Option<DecodeReport>, PushError>
-        ensures pushes { PushesBytes (owned_buffer self.old) (owned_phase self.old) bytes.now result (owned_buffer self.new) (owned_phase self.new) }
+        ensures pushes { PushesBytes (owned_buffer self.old) (owned_phase self.old) bytes.now result
+            (owned_buffer self.new) (owned_phase self.new) }
+        ensures reads { (f m : List ℕ) → owned_phase self.old ≡ Idle → bytes.now ≡ f ++ 0 ∷ [] → IsPiece f
+            → length (output f) ≤ length (owned_buffer self.old)
+            → (PushesMessage result (owned_buffer self.new) m ↔ Reads f m) }
     {
         self.inner.push(&mut self.dest, bytes)
     }
@@ -107,5 +116,17 @@ impl FrameDecoder for CobsDecoderOwned {
 
     fn buffer(&self) -> &[u8] {
         self.dest()
+    }
+}
+
+impl WriteBuffer for CobsDecoderOwned {
+    ghost use Rattle.cobs.specs.Buffers.{owned_buffer, with_owned_buffer};
+
+    ghost bytes = { owned_buffer };
+
+    ghost with_bytes = { with_owned_buffer };
+
+    fn dest_mut(&mut self) -> &mut [u8] {
+        CobsDecoderOwned::dest_mut(self)
     }
 }

@@ -85,6 +85,8 @@ pub(crate) fn output_len(piece: &[u8]) -> usize
 }
 
 /// Decodes the first codes of a piece, those within 33 bytes, and says how many bytes it has read and written.
+///
+/// Codes of one value in a row go by a loop of their own, which needn't wait for each code to know where the next is.
 #[inline(always)]
 fn decode_window(piece: &[u8], dest: &mut [u8]) -> usize
     requires nonzero { HasNoZero piece.now }
@@ -106,8 +108,13 @@ fn decode_window(piece: &[u8], dest: &mut [u8]) -> usize
     copy_32(&piece[1..], dest);
     let mut read = 0;
     'by_code: loop {
-        dest[read + (code - 1)] = 0;
-        read += code;
+        'alike: loop {
+            dest[read + (code - 1)] = 0;
+            read += code;
+            if 33 - read <= code || piece[read] as usize != code {
+                break;
+            }
+        }
         code = piece[read] as usize;
         if 33 - read <= code {
             return read;
@@ -115,7 +122,8 @@ fn decode_window(piece: &[u8], dest: &mut [u8]) -> usize
     }
 }
 
-/// Decodes a piece in which no code stands behind a full part: one copy, and a zero at each code.
+/// Decodes a piece in which no code stands behind a full part: one copy, and a zero at each code. Codes of one value in
+/// a row go by a loop of their own, as in a window.
 fn decode_end(piece: &[u8], dest: &mut [u8]) -> PieceEnd
     requires some { 0 < length piece.now }
     requires nonzero { HasNoZero piece.now }
@@ -131,8 +139,13 @@ fn decode_end(piece: &[u8], dest: &mut [u8]) -> PieceEnd
     let mut read = 0;
     let mut code = piece[0] as usize;
     'by_code: while code < piece.len() - read {
-        dest[read + (code - 1)] = 0;
-        read += code;
+        'alike: loop {
+            dest[read + (code - 1)] = 0;
+            read += code;
+            if piece.len() - read <= code || piece[read] as usize != code {
+                break;
+            }
+        }
         code = piece[read] as usize;
     }
     PieceEnd {

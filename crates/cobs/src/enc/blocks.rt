@@ -43,17 +43,33 @@ impl Progress {
             full: false,
         }
     }
+
+    /// Where the code of the open block belongs.
+    pub(crate) fn index(&self) -> usize
+        ensures { result ≡ self.now.block.index }
+    {
+        self.index
+    }
+
+    /// The code that the open block has so far.
+    pub(crate) fn code(&self) -> usize
+        ensures code { result ≡ self.now.block.code }
+        ensures some { 0 < result }
+        ensures open_block { result < 255 }
+    {
+        self.next - self.index
+    }
 }
 
 /// Takes `source` into the frame that `dest` holds as far as `progress` says. The code of the open block isn't written.
-pub(crate) fn append(source: &[u8], dest: &mut [u8], progress: Progress) -> Progress
-    requires { progress.block.index + open_len progress.block.code source.now ≤ length dest.old }
-    ensures after { (m : List ℕ) → CobsEncoderAfter dest.old progress m → CobsEncoderAfter dest.new result (m ++ source.now) }
-    ensures fits { end_of result ≤ length dest.new }
-    ensures rest { drop (end_of result) dest.new ≡ drop (end_of result) dest.old }
+pub(crate) fn append(source: &[u8], dest: &mut [u8], progress: &mut Progress)
+    requires { progress.old.block.index + open_len progress.old.block.code source.now ≤ length dest.old }
+    ensures after { (m : List ℕ) → CobsEncoderAfter dest.old progress.old m → CobsEncoderAfter dest.new progress.new (m ++ source.now) }
+    ensures fits { end_of progress.new ≤ length dest.new }
+    ensures rest { drop (end_of progress.new) dest.new ≡ drop (end_of progress.new) dest.old }
 {
     if source.is_empty() {
-        return progress;
+        return;
     }
     let mut index = progress.index;
     let mut next = progress.next;
@@ -68,11 +84,12 @@ pub(crate) fn append(source: &[u8], dest: &mut [u8], progress: Progress) -> Prog
             index += FULL_CODE;
             next = index + 1;
             if read == source.len() {
-                return Progress {
+                *progress = Progress {
                     index,
                     next,
                     full: true,
                 };
+                return;
             }
         } else {
             if zeros == ALL_ZEROS {
@@ -81,20 +98,21 @@ pub(crate) fn append(source: &[u8], dest: &mut [u8], progress: Progress) -> Prog
                 index = next + WINDOW - 1;
             } else {
                 'by_zero: while zeros != 0 {
-                    let first = zeros.trailing_zeros();
-                    dest[index] = (next + first as usize - index) as u8;
-                    index = next + first as usize;
-                    zeros -= 1 << first;
+                    let first = zeros.trailing_zeros() as usize;
+                    dest[index] = (next + first - index) as u8;
+                    index = next + first;
+                    zeros &= zeros - 1;
                 }
             }
             read += len;
             next += len;
             if read == source.len() {
-                return Progress {
+                *progress = Progress {
                     index,
                     next,
                     full: false,
                 };
+                return;
             }
         }
     }

@@ -25,6 +25,9 @@ pub(crate) fn fits(code: usize, source: &[u8], room: usize) -> bool
         return false;
     }
     let taken = code - 1;
+    if taken + source.len() <= FULL_BLOCK_BYTES {
+        return true;
+    }
     if taken + max_encoding_overhead(taken + source.len()) <= spare {
         return true;
     }

@@ -20,7 +20,7 @@ pub(crate) fn zeros_at(source: &[u8], at: usize) -> u64
 
 /// Copies the 32 bytes from `read` on, and answers which of them are zeros.
 #[inline(always)]
-fn copy_whole(source: &[u8], read: usize, dest: &mut [u8], at: usize) -> u64
+fn copy_32(source: &[u8], read: usize, dest: &mut [u8], at: usize) -> u64
     requires source { read + 32 ≤ length source.now }
     requires room { at + 32 ≤ length dest.old }
     ensures copied { dest.new ≡ take at dest.old ++ (take 32 (drop read source.now) ++ drop (at + 32) dest.old) }
@@ -31,7 +31,33 @@ fn copy_whole(source: &[u8], read: usize, dest: &mut [u8], at: usize) -> u64
     bytes.simd_eq(u8x32::splat(0)).to_bitmask()
 }
 
-/// Copies the first `len` bytes of a message that is shorter than a window, one at a time but with no branch on a byte.
+/// Copies the 16 bytes from `read` on, and answers which of them are zeros.
+#[inline(always)]
+fn copy_16(source: &[u8], read: usize, dest: &mut [u8], at: usize) -> u64
+    requires source { read + 16 ≤ length source.now }
+    requires room { at + 16 ≤ length dest.old }
+    ensures copied { dest.new ≡ take at dest.old ++ (take 16 (drop read source.now) ++ drop (at + 16) dest.old) }
+    ensures zeros { result ≡ zero_mask (take 16 (drop read source.now)) }
+{
+    let bytes = u8x16::from_slice(&source[read..]);
+    bytes.copy_to_slice(&mut dest[at..]);
+    bytes.simd_eq(u8x16::splat(0)).to_bitmask()
+}
+
+/// Copies the 8 bytes from `read` on, and answers which of them are zeros.
+#[inline(always)]
+fn copy_8(source: &[u8], read: usize, dest: &mut [u8], at: usize) -> u64
+    requires source { read + 8 ≤ length source.now }
+    requires room { at + 8 ≤ length dest.old }
+    ensures copied { dest.new ≡ take at dest.old ++ (take 8 (drop read source.now) ++ drop (at + 8) dest.old) }
+    ensures zeros { result ≡ zero_mask (take 8 (drop read source.now)) }
+{
+    let bytes = u8x8::from_slice(&source[read..]);
+    bytes.copy_to_slice(&mut dest[at..]);
+    bytes.simd_eq(u8x8::splat(0)).to_bitmask()
+}
+
+/// Copies `len` bytes one at a time, but with no branch on a byte.
 fn copy_few(source: &[u8], read: usize, len: usize, dest: &mut [u8], at: usize) -> u64
     requires source { read + len ≤ length source.now }
     requires few { len ≤ 32 }
@@ -49,7 +75,7 @@ fn copy_few(source: &[u8], read: usize, len: usize, dest: &mut [u8], at: usize) 
 }
 
 /// Copies the `len` bytes from `read` on to `dest`, from `at` on, and answers which of them are zeros: bit `i` is set
-/// where byte `i` of them is one.
+/// where byte `i` of them is one. A window that isn't whole is copied as two parts that may overlap.
 #[inline(always)]
 pub(crate) fn copy_window(source: &[u8], read: usize, len: usize, dest: &mut [u8], at: usize) -> u64
     requires source { read + len ≤ length source.now }
@@ -59,14 +85,18 @@ pub(crate) fn copy_window(source: &[u8], read: usize, len: usize, dest: &mut [u8
     ensures zeros { result ≡ zero_mask (take len (drop read source.now)) }
 {
     if len == WINDOW {
-        return copy_whole(source, read, dest, at);
+        copy_32(source, read, dest, at)
+    } else if len >= 16 {
+        let front = copy_16(source, read, dest, at);
+        let back = copy_16(source, read + len - 16, dest, at + len - 16);
+        front + ((back >> (32 - len)) << 16)
+    } else if len >= 8 {
+        let front = copy_8(source, read, dest, at);
+        let back = copy_8(source, read + len - 8, dest, at + len - 8);
+        front + ((back >> (16 - len)) << 8)
+    } else {
+        copy_few(source, read, len, dest, at)
     }
-    let end = read + len;
-    if end < WINDOW {
-        return copy_few(source, read, len, dest, at);
-    }
-    dest[at..at + len].copy_from_slice(&source[read..end]);
-    zeros_at(source, end - WINDOW) >> (WINDOW - len)
 }
 
 /// Writes 32 blocks with no bytes.

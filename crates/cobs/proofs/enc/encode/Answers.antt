@@ -6,10 +6,10 @@ use Rattle.cobs.proofs.enc.encode.Goals as goal
 
 pub returns-clause-frame : goal.returns-clause-frame
 returns-clause-frame c =
-    let start = subst (λ (r : Reached). CobsEncoderAfter c.args.dest.now r []) (sym c.new.ensures) (after-nothing c.args.dest.now (omega arith)) in
-    c.close.ensures.frame c.args.source.now (c.append-progress.ensures.after [] start)
+    let start = subst (λ (r : Reached). CobsEncoderAfter c.args.dest.now r []) (sym c.new-progress.ensures) (after-nothing c.args.dest.now (omega arith)) in
+    c.close.ensures.frame c.args.source.now (c.append.ensures.after [] start)
 
 pub returns-clause-len : goal.returns-clause-len
 returns-clause-len c =
-    let start = subst (λ (r : Reached). CobsEncoderAfter c.args.dest.now r []) (sym c.new.ensures) (after-nothing c.args.dest.now (omega arith)) in
-    c.close.ensures.end ∙ sym (end-is c.append-progress.new.dest c.args.source.now c.append-progress.result (c.append-progress.ensures.after [] start))
+    let start = subst (λ (r : Reached). CobsEncoderAfter c.args.dest.now r []) (sym c.new-progress.ensures) (after-nothing c.args.dest.now (omega arith)) in
+    c.close.ensures.end ∙ sym (end-is c.append.new.dest c.args.source.now c.append.new.progress (c.append.ensures.after [] start))

@@ -1,6 +1,6 @@
 use Rattle.std.proofs.Common.{◌∙◌, refl, get_or}
 use Rattle.cobs.specs.Decoder.{Feeds}
-use Rattle.cobs.proofs.SoFar.{SoFar-start, step_none, step_nonzero}
+use Rattle.cobs.proofs.SoFar.{DecoderAfter-idle, SoFar-start, step_none, step_nonzero}
 use Rattle.cobs.proofs.ReadingLemmas.{EndsFirstIn-at_zero}
 use Rattle.cobs.proofs.framed.feed_until.Goals as goal
 use Rattle.cobs.proofs.framed.feed_until.Goals.{then-byte-eq0+in_default, else-byte-eq0, After-feed_byte-answer}
@@ -14,11 +14,16 @@ feeds : (g : _) (c : After-feed_byte-answer g)
     (g.D.FrameDecoder.bytes c.feed_byte-answer.new.self) (g.D.FrameDecoder.phase c.feed_byte-answer.new.self)
 feeds g c = c.feed_byte-answer.ensures.feeds
 
-pub returns-in-Some-clause-told : goal.returns-in-Some-clause-told
-returns-in-Some-clause-told g c = λ p h.
-    let f : _ = feeds g (goal.at.returns-in-Some-clause-told g c).After-feed_byte-answer in
+pub returns-in-Some-clause-first : goal.returns-in-Some-clause-first
+returns-in-Some-clause-first g c = λ p h.
+    let f : _ = feeds g (goal.at.returns-in-Some-clause-first g c).After-feed_byte-answer in
     let o = c.in-Some.ensures (g.D.FrameDecoder.bytes c.feed_byte-answer.new.self) (rw c.feed_byte-answer.ensures.feeds.len c.feed_byte-answer.ensures.feeds.bound) in
-    (o.0, o.2, EndsFirstIn-at_zero _ _ c.by_byte-test.true c.if-byte-eq0.true c.by_byte.invariant.so_far f o.0 o.1 p h)
+    let s = c.by_byte.invariant.so_far in
+    record {
+      outcome = o.0;
+      is = o.2;
+      first = rw (f.len ∙ s.len) (EndsFirstIn-at_zero _ _ c.by_byte-test.true c.if-byte-eq0.true s f o.0 o.1 p h);
+    }
 
 pub by_byte-preserved : goal.by_byte-preserved
 by_byte-preserved g c =
@@ -33,3 +38,6 @@ by_byte-preserved g c =
       }
       | else-byte-eq0 w ↦ record { so_far = step_nonzero _ _ c.by_byte-test.true w.if-byte-eq0.false s f; same_loan = same_loan }
     ]
+
+pub returns-in-Some-clause-idle : goal.returns-in-Some-clause-idle
+returns-in-Some-clause-idle g c = DecoderAfter-idle _ _ (c.feed_byte-answer.ensures.feeds.zero_idle c.if-byte-eq0.true)

@@ -1,11 +1,11 @@
-use Rattle.std.proofs.Common.{◌≡◌, List, [], ◌∷◌, get_or, refl, sym, ap, ◌∙◌, option_to_list, Option, Some, None}
+use Rattle.std.proofs.Common.{rules, ◌≡◌, List, [], ◌∷◌, get_or, refl, sym, ap, ◌∙◌, option_to_list, Option, Some, None}
 use Rattle.std.proofs.lemmas.List.{map_push}
 use Rattle.std.proofs.lemmas.Bool.{false≢true}
 use Rattle.cobs.specs.Streaming.{outcome_in, outcomes_in, outcome_told}
 use Rattle.cobs.specs.Stream.{Outcome}
 use Rattle.cobs.specs.declared.stream.FrameOutcome.{FrameOutcome}
 use Rattle.cobs.specs.Decoder.{Feeds}
-use Rattle.cobs.proofs.SoFar.{SoFar-start, step_zero, step_nonzero, step_none, told_nothing}
+use Rattle.cobs.proofs.SoFar.{DecoderAfter-idle, SoFar-start, step_zero, step_nonzero, step_none, told_nothing}
 use Rattle.cobs.proofs.stream.decode_stream.Goals as goal
 use Rattle.cobs.proofs.stream.decode_stream.Goals.{then-byte-eq0+in_ok-outcome+in-Some+in_ok-push, then-byte-eq0+in_ok-outcome+in_default, else-byte-eq0, After-feed_byte-answer}
 
@@ -23,6 +23,16 @@ returns-in_err-outcome-clause-succeeds g c = λ p h none.
     absurd (false≢true (c.in_err-outcome.ensures.succeeds
     (rw c.buffer.ensures (told_nothing _ _ c.by_byte-test.true c.if-byte-eq0.true c.by_byte.invariant.so_far
     (feeds g (goal.at.returns-in_err-outcome-clause-succeeds g c).After-feed_byte-answer) p h none))))
+
+pub returns-in_err-outcome-clause-out_of_memory : goal.returns-in_err-outcome-clause-out_of_memory
+returns-in_err-outcome-clause-out_of_memory g c =
+    let idle = DecoderAfter-idle (g.D.FrameDecoder.bytes c.feed_byte-answer.new.self) _ (c.feed_byte-answer.ensures.feeds.zero_idle c.if-byte-eq0.true) in
+    search rules
+
+pub returns-in_err-push-clause-out_of_memory : goal.returns-in_err-push-clause-out_of_memory
+returns-in_err-push-clause-out_of_memory g c =
+    let idle = DecoderAfter-idle (g.D.FrameDecoder.bytes c.feed_byte-answer.new.self) _ (c.feed_byte-answer.ensures.feeds.zero_idle c.if-byte-eq0.true) in
+    search rules
 
 -- a frame that is some is told
 some_told : {told : List Outcome} (o : Option FrameOutcome) (x : FrameOutcome) → o ≡ Some x → outcomes_in (option_to_list o) ≡ told → told ≡ [] → ⊥

@@ -1,14 +1,11 @@
 use Rattle.std.proofs.Common.{ℕ, ◌++◌, length, string_bytes, take, ap, sym, ◌∙◌, arith, append-nil, length-take-le}
 use Rattle.std.proofs.lemmas.List.{length-replicate}
-use Rattle.cobs.specs.Buffers.{owned_buffer, owned_phase}
+use Rattle.cobs.specs.Buffers.{owned_buffer}
 use Rattle.cobs.specs.Stream.{Message}
 use Rattle.cobs_tool.specs.Report.{outcome_line}
-use Rattle.cobs_tool.proofs.ReportLemmas.{idle-IsBehind, report-start, few_at_start, still_few, told_all, unfinished_text, message_told, broken_told, too_long_told, end_told, no_fault, told_more}
+use Rattle.cobs_tool.proofs.ReportLemmas.{report-start, few_at_start, still_few, told_all, unfinished_text, message_told, broken_told, too_long_told, end_told, no_fault, told_more}
 use Rattle.cobs_tool.proofs.report.report_of.Goals.{then-unfinished+in_ok-push_str-in-Ok-End, else-unfinished}
 use Rattle.cobs_tool.proofs.report.report_of.Goals as goal
-
-pub new-frames-requires : goal.new-frames-requires
-new-frames-requires c = idle-IsBehind _ _ c.in_ok-decoder.ensures.idle
 
 pub by_piece-init : goal.by_piece-init
 by_piece-init c =
@@ -16,7 +13,7 @@ by_piece-init c =
     record {
       told = report-start _ _ _ _ c.new-text.ensures.bytes c.new-frames.ensures.kept c.new-source.ensures;
       few = few_at_start _ _ _ _ c.new-frames.ensures.kept c.new-source.ensures c.requires;
-      idle = ap owned_phase c.new-frames.ensures.decoder ∙ idle-IsBehind _ _ made.idle;
+      idle = rw c.new-frames.ensures.decoder made.idle;
       buffer = ap (λ d. length (owned_buffer d)) c.new-frames.ensures.decoder ∙ ap length made.buffer ∙ length-replicate {A = ℕ} 65536 0;
     }
 

@@ -1,7 +1,7 @@
 use Rattle.std.proofs.Common.{◌<◌, ◌++◌, ◌∙◌, ℕ, List, take, drop, ap, refl, sym, subst, arith}
 use Rattle.std.proofs.lemmas.List.{take_rest}
 use Rattle.cobs.proofs.PieceCuts.{output-long}
-use Rattle.cobs.proofs.WindowSteps.{code-pos, window-decoded, window-copied, ones-decoded, code-decoded, code-copied}
+use Rattle.cobs.proofs.WindowSteps.{code-pos, window-decoded, window-copied, ones-decoded, code-decoded, code-copied, code-room}
 use Rattle.cobs.proofs.dec.piece.decode_window.Goals as goal
 
 pub write_zeros-requires : goal.write_zeros-requires
@@ -40,42 +40,70 @@ by_code-init c =
       inside = omega arith;
     }
 
-pub returns-then-read-code-clause-count : goal.returns-then-read-code-clause-count
-returns-then-read-code-clause-count c =
-    let i = c.by_code.invariant in
+pub returns-then-read-code-2-clause-count : goal.returns-then-read-code-2-clause-count
+returns-then-read-code-2-clause-count c =
+    let i = c.alike.invariant in
     let w = i.copied.within in
-    let pos : 0 < c.by_code.code = subst (λ (n : ℕ). 0 < n) (sym i.code) (code-pos c.args.piece.now c.by_code.read c.requires.nonzero i.decoded.within) in
-    (code-decoded c.args.piece.now c.args.dest.now c.by_code.dest c.by_code.read c.by_code.read c.by_code.code i.decoded i.code pos (omega arith) 33 i.copied i.inside (omega arith) (omega arith)).left
+    let pos : 0 < c.by_code.code = subst (λ (n : ℕ). 0 < n) (sym i.code) (code-pos c.args.piece.now c.alike.read c.requires.nonzero i.decoded.within) in
+    (code-decoded c.args.piece.now c.args.dest.now c.alike.dest c.alike.read c.alike.read c.by_code.code i.decoded i.code pos (omega arith) 33 i.copied i.inside (omega arith) (omega arith)).left
 
-pub returns-then-read-code-clause-begins : goal.returns-then-read-code-clause-begins
-returns-then-read-code-clause-begins c =
-    let i = c.by_code.invariant in
+pub returns-then-read-code-2-clause-begins : goal.returns-then-read-code-2-clause-begins
+returns-then-read-code-2-clause-begins c =
+    let i = c.alike.invariant in
     let w = i.copied.within in
-    let pos : 0 < c.by_code.code = subst (λ (n : ℕ). 0 < n) (sym i.code) (code-pos c.args.piece.now c.by_code.read c.requires.nonzero i.decoded.within) in
-    (code-decoded c.args.piece.now c.args.dest.now c.by_code.dest c.by_code.read c.by_code.read c.by_code.code i.decoded i.code pos (omega arith) 33 i.copied i.inside (omega arith) (omega arith)).front
+    let pos : 0 < c.by_code.code = subst (λ (n : ℕ). 0 < n) (sym i.code) (code-pos c.args.piece.now c.alike.read c.requires.nonzero i.decoded.within) in
+    (code-decoded c.args.piece.now c.args.dest.now c.alike.dest c.alike.read c.alike.read c.by_code.code i.decoded i.code pos (omega arith) 33 i.copied i.inside (omega arith) (omega arith)).front
 
-pub returns-then-read-code-clause-last : goal.returns-then-read-code-clause-last
-returns-then-read-code-clause-last c =
-    let i = c.by_code.invariant in
+pub returns-then-read-code-2-clause-last : goal.returns-then-read-code-2-clause-last
+returns-then-read-code-2-clause-last c =
+    let i = c.alike.invariant in
     let w = i.copied.within in
-    let pos : 0 < c.by_code.code = subst (λ (n : ℕ). 0 < n) (sym i.code) (code-pos c.args.piece.now c.by_code.read c.requires.nonzero i.decoded.within) in
-    (code-decoded c.args.piece.now c.args.dest.now c.by_code.dest c.by_code.read c.by_code.read c.by_code.code i.decoded i.code pos (omega arith) 33 i.copied i.inside (omega arith) (omega arith)).last
+    let pos : 0 < c.by_code.code = subst (λ (n : ℕ). 0 < n) (sym i.code) (code-pos c.args.piece.now c.alike.read c.requires.nonzero i.decoded.within) in
+    (code-decoded c.args.piece.now c.args.dest.now c.alike.dest c.alike.read c.alike.read c.by_code.code i.decoded i.code pos (omega arith) 33 i.copied i.inside (omega arith) (omega arith)).last
 
-pub returns-then-read-code-clause-rest : goal.returns-then-read-code-clause-rest
-returns-then-read-code-clause-rest c =
-    let i = c.by_code.invariant in
+pub returns-then-read-code-2-clause-rest : goal.returns-then-read-code-2-clause-rest
+returns-then-read-code-2-clause-rest c =
+    let i = c.alike.invariant in
     let w = i.copied.within in
-    let pos : 0 < c.by_code.code = subst (λ (n : ℕ). 0 < n) (sym i.code) (code-pos c.args.piece.now c.by_code.read c.requires.nonzero i.decoded.within) in
-    (code-decoded c.args.piece.now c.args.dest.now c.by_code.dest c.by_code.read c.by_code.read c.by_code.code i.decoded i.code pos (omega arith) 33 i.copied i.inside (omega arith) (omega arith)).rest
+    let pos : 0 < c.by_code.code = subst (λ (n : ℕ). 0 < n) (sym i.code) (code-pos c.args.piece.now c.alike.read c.requires.nonzero i.decoded.within) in
+    (code-decoded c.args.piece.now c.args.dest.now c.alike.dest c.alike.read c.alike.read c.by_code.code i.decoded i.code pos (omega arith) 33 i.copied i.inside (omega arith) (omega arith)).rest
+
+pub bounds-dest-read : goal.bounds-dest-read
+bounds-dest-read c =
+    let i = c.alike.invariant in
+    let w = i.copied.within in
+    let pos : 0 < c.by_code.code = subst (λ (n : ℕ). 0 < n) (sym i.code) (code-pos c.args.piece.now c.alike.read c.requires.nonzero i.decoded.within) in
+    let room = code-room c.args.piece.now c.args.dest.now c.alike.dest c.alike.read c.alike.read c.by_code.code i.decoded i.code pos (omega arith) 33 i.copied i.inside (omega arith) in
+    omega arith
+
+pub alike-preserved : goal.alike-preserved
+alike-preserved c =
+    let i = c.alike.invariant in
+    let w = i.copied.within in
+    let pos : 0 < c.by_code.code = subst (λ (n : ℕ). 0 < n) (sym i.code) (code-pos c.args.piece.now c.alike.read c.requires.nonzero i.decoded.within) in
+    record {
+      decoded = code-decoded c.args.piece.now c.args.dest.now c.alike.dest c.alike.read c.alike.read c.by_code.code i.decoded i.code pos (omega arith) 33 i.copied i.inside (omega arith) (omega arith);
+      copied = code-copied c.args.piece.now c.args.dest.now c.alike.dest c.alike.read c.alike.read c.by_code.code i.decoded i.code pos (omega arith) 33 i.copied i.inside (omega arith);
+      code = sym c.if-piece-read.false;
+      inside = omega arith;
+      onward = omega arith;
+    }
+
+pub by_code-smaller : goal.by_code-smaller
+by_code-smaller c =
+    let i = c.alike.invariant in
+    let w = i.copied.within in
+    let pos : 0 < c.by_code.code = subst (λ (n : ℕ). 0 < n) (sym i.code) (code-pos c.args.piece.now c.alike.read c.requires.nonzero i.decoded.within) in
+    omega arith
 
 pub by_code-preserved : goal.by_code-preserved
 by_code-preserved c =
-    let i = c.by_code.invariant in
+    let i = c.alike.invariant in
     let w = i.copied.within in
-    let pos : 0 < c.by_code.code = subst (λ (n : ℕ). 0 < n) (sym i.code) (code-pos c.args.piece.now c.by_code.read c.requires.nonzero i.decoded.within) in
+    let pos : 0 < c.by_code.code = subst (λ (n : ℕ). 0 < n) (sym i.code) (code-pos c.args.piece.now c.alike.read c.requires.nonzero i.decoded.within) in
     record {
-      decoded = code-decoded c.args.piece.now c.args.dest.now c.by_code.dest c.by_code.read c.by_code.read c.by_code.code i.decoded i.code pos (omega arith) 33 i.copied i.inside (omega arith) (omega arith);
-      copied = code-copied c.args.piece.now c.args.dest.now c.by_code.dest c.by_code.read c.by_code.read c.by_code.code i.decoded i.code pos (omega arith) 33 i.copied i.inside (omega arith);
+      decoded = code-decoded c.args.piece.now c.args.dest.now c.alike.dest c.alike.read c.alike.read c.by_code.code i.decoded i.code pos (omega arith) 33 i.copied i.inside (omega arith) (omega arith);
+      copied = code-copied c.args.piece.now c.args.dest.now c.alike.dest c.alike.read c.alike.read c.by_code.code i.decoded i.code pos (omega arith) 33 i.copied i.inside (omega arith);
       code = refl;
       inside = omega arith;
     }

@@ -1,4 +1,4 @@
-use Rattle.std.proofs.Common.{◌≡◌, ◌<◌, ◌+◌, ◌-◌, length, get_or}
+use Rattle.std.proofs.Common.{◌≡◌, ◌<◌, ◌+◌, ◌-◌, ◌≤◌, length, get_or}
 use Rattle.cobs.proofs.WindowSteps.{Decoded, CopiedTo}
 use Rattle.cobs.proofs.dec.piece.decode_window.Given as goal
 
@@ -12,3 +12,15 @@ invariant-by_code l = record {
 
 abbrev pub decreases-by_code : goal.decreases-by_code
 decreases-by_code l = length l.piece - l.read
+
+abbrev pub invariant-alike : goal.invariant-alike
+invariant-alike l = record {
+  decoded : Decoded l.piece l.fn.dest l.dest l.read l.read;
+  copied : CopiedTo l.piece l.dest l.read 33 l.read;
+  code : l.code ≡ get_or l.piece l.read 0;
+  inside : l.read + l.code < 33;
+  onward : l.initial.read ≤ l.read;
+}
+
+abbrev pub decreases-alike : goal.decreases-alike
+decreases-alike l = length l.piece - l.read

@@ -3,7 +3,7 @@ use Rattle.std.proofs.lemmas.Bool.{eqb-false}
 use Rattle.std.proofs.lemmas.List.{length-set}
 use Rattle.cobs.specs.Encoder.{CobsEncoderAfter}
 use Rattle.cobs.proofs.ReachLemmas.{Reaches, Reaches-full}
-use Rattle.cobs.proofs.MarkLemmas.{WindowTaken, WindowTaken-at, copied-reaches, filled, marks-start, marks-step, marks-end, ones-room, ones-taken, place-le, place-lt, bit-le}
+use Rattle.cobs.proofs.MarkLemmas.{WindowTaken, WindowTaken-at, copied-reaches, filled, marks-start, marks-step, marks-end, ones-room, ones-taken, place-le, place-lt, fewer}
 use Rattle.cobs.proofs.CoreLemmas.{end_with, core-start, full-after, full-end, full-rest, open-after, open-rest, still-open}
 use Rattle.cobs.proofs.enc.blocks.append.Goals.{then-zeros-eq-ALL_ZEROS, else-zeros-eq-ALL_ZEROS+else-by_zero-test}
 use Rattle.cobs.proofs.enc.blocks.append.Goals as goal
@@ -15,13 +15,13 @@ by_window-init c =
     record {
       more = (let n = eqb-false (length c.args.source.now) 0 (sym c.is_empty.ensures ∙ c.if-is_empty.false) in omega arith);
       open' = bounds.1;
-      reaches = core-start c.args.source.now c.args.dest.now c.args.progress p.index p.next p.full c.progress.view_is bounds.0 bounds.1;
+      reaches = core-start c.args.source.now c.args.dest.now c.args.progress.now p.index p.next p.full c.progress.view_is bounds.0 bounds.1;
     }
 
 pub returns-then-read-source-clause-after : goal.returns-then-read-source-clause-after
 returns-then-read-source-clause-after c =
-    let H : List ℕ → Type 0 = CobsEncoderAfter c.args.dest.now c.args.progress in
-    let end : ℕ = end_with c.args.progress c.args.source.now in
+    let H : List ℕ → Type 0 = CobsEncoderAfter c.args.dest.now c.args.progress.now in
+    let end : ℕ = end_with c.args.progress.now c.args.source.now in
     let fits : end ≤ length c.by_window.dest = omega arith in
     let inside : c.by_window.read + c.min-len.result ≤ length c.args.source.now = omega arith in
     let few : c.min-len.result ≤ 32 = omega arith in
@@ -35,8 +35,8 @@ returns-then-read-source-clause-after c =
 
 pub returns-then-read-source-clause-rest : goal.returns-then-read-source-clause-rest
 returns-then-read-source-clause-rest c =
-    let H : List ℕ → Type 0 = CobsEncoderAfter c.args.dest.now c.args.progress in
-    let end : ℕ = end_with c.args.progress c.args.source.now in
+    let H : List ℕ → Type 0 = CobsEncoderAfter c.args.dest.now c.args.progress.now in
+    let end : ℕ = end_with c.args.progress.now c.args.source.now in
     let fits : end ≤ length c.by_window.dest = omega arith in
     let inside : c.by_window.read + c.min-len.result ≤ length c.args.source.now = omega arith in
     let few : c.min-len.result ≤ 32 = omega arith in
@@ -50,8 +50,8 @@ returns-then-read-source-clause-rest c =
 
 pub by_window-preserved-else-read-source : goal.by_window-preserved-else-read-source
 by_window-preserved-else-read-source c =
-    let H : List ℕ → Type 0 = CobsEncoderAfter c.args.dest.now c.args.progress in
-    let end : ℕ = end_with c.args.progress c.args.source.now in
+    let H : List ℕ → Type 0 = CobsEncoderAfter c.args.dest.now c.args.progress.now in
+    let end : ℕ = end_with c.args.progress.now c.args.source.now in
     let fits : end ≤ length c.by_window.dest = omega arith in
     let inside : c.by_window.read + c.min-len.result ≤ length c.args.source.now = omega arith in
     let few : c.min-len.result ≤ 32 = omega arith in
@@ -69,8 +69,8 @@ by_window-preserved-else-read-source c =
 
 pub write_ones-requires : goal.write_ones-requires
 write_ones-requires c =
-    let H : List ℕ → Type 0 = CobsEncoderAfter c.args.dest.now c.args.progress in
-    let end : ℕ = end_with c.args.progress c.args.source.now in
+    let H : List ℕ → Type 0 = CobsEncoderAfter c.args.dest.now c.args.progress.now in
+    let end : ℕ = end_with c.args.progress.now c.args.source.now in
     let fits : end ≤ length c.by_window.dest = omega arith in
     let inside : c.by_window.read + c.min-len.result ≤ length c.args.source.now = omega arith in
     let few : c.min-len.result ≤ 32 = omega arith in
@@ -82,8 +82,8 @@ write_ones-requires c =
 
 pub by_zero-init : goal.by_zero-init
 by_zero-init c =
-    let H : List ℕ → Type 0 = CobsEncoderAfter c.args.dest.now c.args.progress in
-    let end : ℕ = end_with c.args.progress c.args.source.now in
+    let H : List ℕ → Type 0 = CobsEncoderAfter c.args.dest.now c.args.progress.now in
+    let end : ℕ = end_with c.args.progress.now c.args.source.now in
     let fits : end ≤ length c.by_window.dest = omega arith in
     let inside : c.by_window.read + c.min-len.result ≤ length c.args.source.now = omega arith in
     let few : c.min-len.result ≤ 32 = omega arith in
@@ -91,33 +91,33 @@ by_zero-init c =
 
 pub overflow_sub-dest-in-by_zero : goal.overflow_sub-dest-in-by_zero
 overflow_sub-dest-in-by_zero c =
-    let H : List ℕ → Type 0 = CobsEncoderAfter c.args.dest.now c.args.progress in
-    let end : ℕ = end_with c.args.progress c.args.source.now in
+    let H : List ℕ → Type 0 = CobsEncoderAfter c.args.dest.now c.args.progress.now in
+    let end : ℕ = end_with c.args.progress.now c.args.source.now in
     place-le H c.args.source.now c.args.dest.now c.by_zero.dest end c.by_window.read c.min-len.result c.by_zero.index c.by_window.next c.by_zero.zeros (c.by_zero.index + 1 - c.by_window.next) c.by_zero.invariant c.by_zero-test.true
 
-pub overflow_cast-dest-in-by_zero-2 : goal.overflow_cast-dest-in-by_zero-2
-overflow_cast-dest-in-by_zero-2 c =
-    let H : List ℕ → Type 0 = CobsEncoderAfter c.args.dest.now c.args.progress in
-    let end : ℕ = end_with c.args.progress c.args.source.now in
+pub overflow_cast-dest-in-by_zero : goal.overflow_cast-dest-in-by_zero
+overflow_cast-dest-in-by_zero c =
+    let H : List ℕ → Type 0 = CobsEncoderAfter c.args.dest.now c.args.progress.now in
+    let end : ℕ = end_with c.args.progress.now c.args.source.now in
     let lt = place-lt H c.args.source.now c.args.dest.now c.by_zero.dest end c.by_window.read c.min-len.result c.by_zero.index c.by_window.next c.by_zero.zeros (c.by_zero.index + 1 - c.by_window.next) c.by_zero.invariant c.by_zero-test.true in
     omega arith
 
-pub overflow_sub-zeros : goal.overflow_sub-zeros
-overflow_sub-zeros c =
-    let H : List ℕ → Type 0 = CobsEncoderAfter c.args.dest.now c.args.progress in
-    let end : ℕ = end_with c.args.progress c.args.source.now in
-    bit-le H c.args.source.now c.args.dest.now c.by_zero.dest end c.by_window.read c.min-len.result c.by_zero.index c.by_window.next c.by_zero.zeros (c.by_zero.index + 1 - c.by_window.next) c.by_zero.invariant c.by_zero-test.true
+pub by_zero-smaller : goal.by_zero-smaller
+by_zero-smaller c =
+    let H : List ℕ → Type 0 = CobsEncoderAfter c.args.dest.now c.args.progress.now in
+    let end : ℕ = end_with c.args.progress.now c.args.source.now in
+    fewer H c.args.source.now c.args.dest.now c.by_zero.dest end c.by_window.read c.min-len.result c.by_zero.index c.by_window.next c.by_zero.zeros (c.by_zero.index + 1 - c.by_window.next) c.by_zero.invariant c.by_zero-test.true
 
 pub by_zero-preserved : goal.by_zero-preserved
 by_zero-preserved c =
-    let H : List ℕ → Type 0 = CobsEncoderAfter c.args.dest.now c.args.progress in
-    let end : ℕ = end_with c.args.progress c.args.source.now in
+    let H : List ℕ → Type 0 = CobsEncoderAfter c.args.dest.now c.args.progress.now in
+    let end : ℕ = end_with c.args.progress.now c.args.source.now in
     marks-step H c.args.source.now c.args.dest.now c.by_zero.dest end c.by_window.read c.min-len.result c.by_zero.index c.by_window.next c.by_zero.zeros (c.by_zero.index + 1 - c.by_window.next) c.by_zero.invariant c.by_zero-test.true (omega arith)
 
-pub invariant_of-result-then-read-source-2 : goal.invariant_of-result-then-read-source-2
-invariant_of-result-then-read-source-2 c =
-    let H : List ℕ → Type 0 = CobsEncoderAfter c.args.dest.now c.args.progress in
-    let end : ℕ = end_with c.args.progress c.args.source.now in
+pub invariant_of-progress-then-read-source-2 : goal.invariant_of-progress-then-read-source-2
+invariant_of-progress-then-read-source-2 c =
+    let H : List ℕ → Type 0 = CobsEncoderAfter c.args.dest.now c.args.progress.now in
+    let end : ℕ = end_with c.args.progress.now c.args.source.now in
     let fits : end ≤ length c.by_window.dest = omega arith in
     let inside : c.by_window.read + c.min-len.result ≤ length c.args.source.now = omega arith in
     let few : c.min-len.result ≤ 32 = omega arith in
@@ -133,8 +133,8 @@ invariant_of-result-then-read-source-2 c =
 
 pub returns-then-read-source-2-clause-after : goal.returns-then-read-source-2-clause-after
 returns-then-read-source-2-clause-after c =
-    let H : List ℕ → Type 0 = CobsEncoderAfter c.args.dest.now c.args.progress in
-    let end : ℕ = end_with c.args.progress c.args.source.now in
+    let H : List ℕ → Type 0 = CobsEncoderAfter c.args.dest.now c.args.progress.now in
+    let end : ℕ = end_with c.args.progress.now c.args.source.now in
     let fits : end ≤ length c.by_window.dest = omega arith in
     let inside : c.by_window.read + c.min-len.result ≤ length c.args.source.now = omega arith in
     let few : c.min-len.result ≤ 32 = omega arith in
@@ -150,8 +150,8 @@ returns-then-read-source-2-clause-after c =
 
 pub returns-then-read-source-2-clause-rest : goal.returns-then-read-source-2-clause-rest
 returns-then-read-source-2-clause-rest c =
-    let H : List ℕ → Type 0 = CobsEncoderAfter c.args.dest.now c.args.progress in
-    let end : ℕ = end_with c.args.progress c.args.source.now in
+    let H : List ℕ → Type 0 = CobsEncoderAfter c.args.dest.now c.args.progress.now in
+    let end : ℕ = end_with c.args.progress.now c.args.source.now in
     let fits : end ≤ length c.by_window.dest = omega arith in
     let inside : c.by_window.read + c.min-len.result ≤ length c.args.source.now = omega arith in
     let few : c.min-len.result ≤ 32 = omega arith in
@@ -167,8 +167,8 @@ returns-then-read-source-2-clause-rest c =
 
 pub by_window-preserved : goal.by_window-preserved
 by_window-preserved c =
-    let H : List ℕ → Type 0 = CobsEncoderAfter c.args.dest.now c.args.progress in
-    let end : ℕ = end_with c.args.progress c.args.source.now in
+    let H : List ℕ → Type 0 = CobsEncoderAfter c.args.dest.now c.args.progress.now in
+    let end : ℕ = end_with c.args.progress.now c.args.source.now in
     let fits : end ≤ length c.by_window.dest = omega arith in
     let inside : c.by_window.read + c.min-len.result ≤ length c.args.source.now = omega arith in
     let few : c.min-len.result ≤ 32 = omega arith in

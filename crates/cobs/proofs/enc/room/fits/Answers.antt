@@ -15,3 +15,8 @@ overflow_add-result c =
     let le = blocks-le (c.args.code - 1) c.args.source.now in
     let n = c.count_full_blocks.ensures in
     omega arith
+
+pub returns-then-taken-source-le-FULL_BLOCK_BYTES : goal.returns-then-taken-source-le-FULL_BLOCK_BYTES
+returns-then-taken-source-le-FULL_BLOCK_BYTES c =
+    let most = open_len-most c.args.code c.args.source.now c.requires.some in
+    (λ t. omega arith, λ le. refl)

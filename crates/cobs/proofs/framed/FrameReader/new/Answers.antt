@@ -1,6 +1,5 @@
 use Rattle.std.proofs.Common.{refl, []}
-use Rattle.cobs.proofs.SoFar.{DecoderAfter-idle}
 use Rattle.cobs.proofs.framed.FrameReader.new.Goals as goal
 
 pub invariant_of-result-clause-has_taken : goal.invariant_of-result-clause-has_taken
-invariant_of-result-clause-has_taken g c = ∣ ([], record { after = DecoderAfter-idle _ _ c.requires; flag = refl }) ∣₁
+invariant_of-result-clause-has_taken g c = ∣ ([], record { after = c.requires; flag = refl }) ∣₁

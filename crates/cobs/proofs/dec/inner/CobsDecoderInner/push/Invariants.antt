@@ -1,14 +1,14 @@
 use Rattle.std.proofs.Common.{length, ◌-◌, ◌≤◌}
-use Rattle.cobs.specs.Machine.{phase_of}
+use Rattle.cobs.specs.Buffers.{phase_of}
 use Rattle.cobs.proofs.PushLemmas.{Pushed}
 use Rattle.cobs.proofs.dec.inner.CobsDecoderInner.push.Given as goal
 
 -- the bytes before `at` are taken, and each was answered by `Ok(None)`
-abbrev pub invariant-by_stretch : goal.invariant-by_stretch
-invariant-by_stretch l = record {
+abbrev pub invariant-by_run : goal.invariant-by_run
+invariant-by_run l = record {
   within : l.at ≤ length l.bytes;
   pushed : Pushed l.fn.dest (phase_of l.fn.self) l.dest (phase_of l.self) l.bytes l.at;
 }
 
-abbrev pub decreases-by_stretch : goal.decreases-by_stretch
-decreases-by_stretch l = length l.bytes - l.at
+abbrev pub decreases-by_run : goal.decreases-by_run
+decreases-by_run l = length l.bytes - l.at

@@ -1,7 +1,7 @@
 use Rattle.std.proofs.Common.{◌≡◌, ◌≢◌, ◌<◌, ◌+◌, ◌∙◌, take, sym, ap, arith, length-take-le}
 use Rattle.std.specs.List.{All}
 use Rattle.std.proofs.lemmas.List.Elements.{All-take, All-from_get_or}
-use Rattle.cobs.specs.Machine.{phase_of_state}
+use Rattle.cobs.specs.Buffers.{phase_of_state}
 use Rattle.cobs.proofs.StretchLemmas.{base_of, joined, phase_at, within_same, blocks_fed, lacks_small}
 use Rattle.cobs.proofs.dec.inner.CobsDecoderInner.take_blocks.Goals as goal
 use Rattle.cobs.proofs.dec.inner.CobsDecoderInner.take_blocks.Goals.{in-Idle, in-Grab+else-dest-self, in-GrabChain, then-end, else-end}

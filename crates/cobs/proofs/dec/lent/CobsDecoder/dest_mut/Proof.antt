@@ -7,7 +7,6 @@ use base.Fraction.{full_share}
 use base.Fml.{Lft, GName, fat, ftrue, flft, fobs, fbor}
 use mir.Syntax.{named, erased, mut, w8, Ty, ty_int, ty_ref}
 use mir.Val.{Val}
-use types.Logic.{Logic}
 use types.Kit.{‵, ◌⊛◌, some, later, ◌$◌, ◌∵◌, !, qed, done, move, keep, drop, use1, use2, use3, split, split3, join, fsplit3, fjoin, fjoin3, feq_l, feq_i, flt_l, flt_i, pick, await, rewrite, suffices, frame}
 use types.SemTy.{Body}
 use types.Mut.{open_ref, close_ref}
@@ -20,41 +19,23 @@ use denote.Exit.{no}
 use denote.Follow.{follows, follows_then}
 use denote.Memory.{mem, part_at}
 use denote.RattleType.{RattleType}
-use denote.Ref.{NamedLft, MutRef, mut_vals, mut_Tells, at_last}
+use denote.Ref.{MutRef, mut_vals, mut_Tells, at_last}
 use denote.Signature.{plain, named_lft}
 use denote.Slice.{MutSlice, slice_ty, slice_val, mut_slice_vals}
 use denote.Steps.{nothing, only}
-use denote.Struct.At.{get_at}
 use denote.Through.{renamed, lends_inner_slice}
 use denote.Triple.Walked.{says, Stays, stay_dropped, walk_of, ends_at, Goes-spent_ref}
-use borrow.Follows.Field.{HandsTo, hands_on}
-use borrow.Struct.Lend.{put_record, kept_record, record_fill, record_apart}
 use borrow.Table.OneValue.{part_out_at, part_in_at}
 use Rattle.std.proofs.raw_atomic.Walks.{proved}
 use Rattle.cobs.specs.declared.dec.lent.CobsDecoder.{CobsDecoder}
 use Rattle.cobs.specs.contracts.dec.lent.CobsDecoder as S
 use Rattle.cobs.specs.contracts.dec.lent.CobsDecoder.dest_mut as f
-use Rattle.cobs.proofs.dec.lent.CobsDecoder.TheLaws.{the_loose}
+use Rattle.cobs.proofs.LentSlice.{at, hands}
 use Rattle.cobs.proofs.dec.lent.CobsDecoder.dest_mut.Statement.{statement}
 use Rattle.cobs.proofs.dec.lent.CobsDecoder.dest_mut.Code as code
-use seplogic.Ra.Ura.{Ura}
-
-abbrev at : Lft → NamedLft
-at κ = record { mir = named 1; lft = κ }
 
 abbrev stayed : Stays f.ended.signature.params f.ended.kept
 stayed = (stay_dropped (RefMutOf (0 ∷ []) tt (plain (λ κs. S.the_row (named_lft 2 1 tt κs))) (λ _. tt)) no, tt)
-
--- the field is handed on, and the whole is what the field ends as
-module _ {M : Type 1} {𝓤 : Ura M} (𝓛 : Logic 𝓤) (κ' : Lft) where
-  hands : (x : CobsDecoder) → HandsTo 𝓛 (S.the_row (at κ')) (MutSlice (named 1) κ' u8) (λ o. o + 0) x x.dest (λ w. record x { dest = w })
-  hands x = hands_on 𝓛 (S.the_row (at κ')) (MutSlice (named 1) κ' u8) 0
-      (λ x. get_at (S.the_type (at [])).parts 0 ((S.struct (at [])).as_values x))
-      (put_record (S.the_type (at κ')) (the_loose (at κ')) 0 0 (S.struct (at [])).as_values (S.struct (at [])).Ghost (S.struct (at [])).make (λ v. tt) (λ x. refl) (λ v g. refl) (λ x. x))
-      (kept_record (S.the_type (at κ')) (the_loose (at κ')) 0 0 (S.struct (at [])).as_values (S.struct (at [])).Ghost (S.struct (at [])).make (λ v. tt) (λ x. refl) (λ v g. refl) (λ x. x))
-      (record_fill (S.the_type (at κ')) (the_loose (at κ')) 0 0 (S.struct (at [])).as_values (S.struct (at [])).Ghost (S.struct (at [])).make (λ v. tt) (λ x. refl) (λ v g. refl) (λ x. x) refl (λ f. refl))
-      (record_apart (S.the_type (at κ')) (the_loose (at κ')) 0 0 (S.struct (at [])).as_values (S.struct (at [])).Ghost (S.struct (at [])).make (λ v. tt) (λ x. refl) (λ v g. refl) (λ x. x) 𝓛 refl refl)
-      x
 
 pub dest_mut_spec : {M : Type 1} → statement M
 dest_mut_spec 𝓤 𝓛 𝓜 𝓡 wired =

@@ -1,7 +1,7 @@
-use Rattle.std.proofs.Common.{List, ℕ, take, drop}
+use Rattle.std.proofs.Common.{List, ℕ, take, drop, arith}
 use Rattle.std.proofs.lemmas.Simd.{length-chunk}
 use Rattle.cobs.proofs.MaskLemmas.{put_is, zeros_by_lanes}
-use Rattle.cobs.proofs.enc.window.copy_whole.Goals as goal
+use Rattle.cobs.proofs.enc.window.copy_32.Goals as goal
 
 pub returns-clause-copied : goal.returns-clause-copied
 returns-clause-copied c =
@@ -9,4 +9,4 @@ returns-clause-copied c =
     put_is c.args.dest.now (take 32 (drop c.args.read source)) c.args.at 32 (length-chunk c.args.read 32 source c.requires.source) c.requires.room
 
 pub returns-clause-zeros : goal.returns-clause-zeros
-returns-clause-zeros c = zeros_by_lanes c.args.source.now c.args.read c.requires.source
+returns-clause-zeros c = zeros_by_lanes c.args.source.now c.args.read 32 c.requires.source (omega arith)

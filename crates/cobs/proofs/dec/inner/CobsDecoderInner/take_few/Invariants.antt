@@ -1,0 +1,14 @@
+use Rattle.std.proofs.Common.{◌≤◌, ◌-◌, length, take}
+use Rattle.cobs.specs.Buffers.{phase_of}
+use Rattle.cobs.proofs.FewLemmas.{Taken}
+use Rattle.cobs.proofs.dec.inner.CobsDecoderInner.take_few.Given as goal
+
+-- the run so far is taken
+abbrev pub invariant-by_byte : goal.invariant-by_byte
+invariant-by_byte l = record {
+  within : l.run ≤ length l.bytes;
+  taken : Taken l.fn.dest (phase_of l.fn.self) (take l.run l.bytes) l.dest l.full l.left l.at;
+}
+
+abbrev pub decreases-by_byte : goal.decreases-by_byte
+decreases-by_byte l = length l.bytes - l.run

@@ -1,0 +1,37 @@
+use Rattle.std.proofs.Common.{List, take, ◌≤◌, ◌≡◌, ℕ, [], ◌++◌, length, refl, ap, arith, sym, subst}
+use Rattle.std.proofs.lemmas.Result.{err_from_is_err_and}
+use Rattle.cobs.specs.Grammar.{IsEncodedFrame}
+use Rattle.cobs.specs.Length.{encoded_len}
+use Rattle.cobs.proofs.RoomLemmas.{encoded_len-longer}
+use Rattle.cobs.proofs.enc.encoder.tests.encode_both.Goals as goal
+
+pub returns-in_err-push-clause-fits : goal.returns-in_err-push-clause-fits
+returns-in_err-push-clause-fits c =
+    let p = err_from_is_err_and c.from_residual.result c.from_residual.ensures.1 in
+    rw p.1 (
+      λ e. cc,
+      λ le.
+          let more = encoded_len-longer c.args.first.now c.args.second.now in
+          let unchanged = c.new-encoder.ensures.unchanged in
+          (c.in_err-push.ensures.fits [] c.new-encoder.ensures.taken).1 (subst (λ l. encoded_len c.args.first.now ≤ length l) (sym unchanged) (omega arith)),
+    )
+
+pub returns-clause-fits : goal.returns-clause-fits
+returns-clause-fits c = (
+  λ e.
+      let taken = c.in_ok-push.ensures.taken [] c.new-encoder.ensures.taken in
+      let le = (c.in_ok-push-2.ensures.fits c.args.first.now taken).0 refl in
+      let l = c.in_ok-push.ensures.len in
+      let unchanged : length c.new-encoder.result.dest.now ≡ length c.args.dest.now = ap length c.new-encoder.ensures.unchanged in
+      omega arith,
+  λ e. refl,
+)
+
+pub returns-clause-frame : goal.returns-clause-frame
+returns-clause-frame c =
+    let taken = c.in_ok-push.ensures.taken [] c.new-encoder.ensures.taken in
+    let done = c.finalize.ensures.frame (c.args.first.now ++ c.args.second.now) (c.in_ok-push-2.ensures.taken c.args.first.now taken) in
+    let made = c.new-encoder.ensures.same_slice in
+    let first = c.in_ok-push.ensures.same_slice in
+    let second = c.in_ok-push-2.ensures.same_slice in
+    subst (λ (l : List ℕ). IsEncodedFrame (take c.finalize.result l) (c.args.first.now ++ c.args.second.now)) (grind arith) done

@@ -1,0 +1,83 @@
+//! An encoder into a slice, of a message that comes in pieces.
+ghost use Rattle.std.specs.Prelude.{◌≤◌, length};
+ghost use Rattle.cobs.specs.Encoder.{end_of};
+
+use crate::enc::DestBufTooSmallError;
+use crate::enc::blocks::{Progress, append, close};
+use crate::enc::room::fits;
+
+/// Encodes a message that comes in pieces, straight into a slice of the caller's.
+///
+/// However the message is cut into pieces, the frame is the one that [`encode`](crate::encode) writes. While bytes are
+/// taken, the slice begins with that frame of what was taken so far, but for the code of the block that is still open;
+/// [`finalize`](CobsEncoder::finalize) writes this last code. The encoder needs no room beyond the frame's.
+#[derive(Debug, Drop)]
+pub struct CobsEncoder<'a> {
+    dest: &'a mut [u8],
+    progress: Progress,
+    ghost room: { end_of progress ≤ length dest.now },
+}
+
+impl<'a> CobsEncoder<'a> {
+    ghost use Rattle.std.specs.Prelude.{◌≡◌, ◌<◌, ◌≤◌, ◌++◌, ◌↔◌, [], ℕ, List, length, take, drop, IsOk, OnOk, OnErr};
+    ghost use Rattle.cobs.specs.Grammar.{IsEncodedFrame};
+    ghost use Rattle.cobs.specs.Length.{encoded_len};
+    ghost use Rattle.cobs.specs.CobsEncoder.{slice_of, HasTaken, WritesTo, IsOverSameSlice, IsUnchanged};
+
+    /// An encoder that has taken nothing yet, and writes to the front of `out_buf`. No byte of it is changed by this.
+    ///
+    /// The caller owes a slice of one byte at least, since the frame of the empty message has one.
+    pub fn new(out_buf: &'a mut [u8]) -> CobsEncoder<'a>
+        requires { 0 < length out_buf.old }
+        ensures same_slice { WritesTo result out_buf.entry }
+        ensures unchanged { slice_of result ≡ out_buf.old }
+        ensures taken { HasTaken result [] }
+    {
+        CobsEncoder {
+            dest: out_buf,
+            progress: Progress::new(),
+        }
+    }
+
+    /// Takes the next bytes of the message.
+    ///
+    /// They are refused exactly where the encoded frame of all the bytes that were taken so far, followed by these, is
+    /// longer than the slice. Then neither the encoder nor the slice has changed, so the caller may end the frame, or
+    /// push fewer bytes. An empty push is never refused, and changes nothing. The bytes of the slice behind the frame
+    /// are never written.
+    pub fn push(&mut self, bytes: &[u8]) -> Result<(), DestBufTooSmallError>
+        ensures same_slice { IsOverSameSlice self.old self.new }
+        ensures len { length (slice_of self.new) ≡ length (slice_of self.old) }
+        ensures fits { (m : List ℕ) → HasTaken self.old m
+            → (IsOk result ↔ (encoded_len (m ++ bytes.now) ≤ length (slice_of self.old))) }
+        ensures taken { OnOk result ((m : List ℕ) → HasTaken self.old m → HasTaken self.new (m ++ bytes.now)) }
+        ensures rest { OnOk result ((m : List ℕ) → HasTaken self.old m
+            → drop (encoded_len (m ++ bytes.now)) (slice_of self.new) ≡ drop (encoded_len (m ++ bytes.now)) (slice_of self.old)) }
+        ensures refused { OnErr result (IsUnchanged self.old self.new) }
+        ensures empty { bytes.now ≡ [] → IsOk result × IsUnchanged self.old self.new }
+    {
+        if bytes.is_empty() {
+            return Ok(());
+        }
+        let room = self.dest.len() - self.progress.index();
+        if !fits(self.progress.code(), bytes, room) {
+            return Err(DestBufTooSmallError);
+        }
+        append(bytes, self.dest, &mut self.progress);
+        Ok(())
+    }
+
+    /// Ends the message, and answers the length of its encoded frame in bytes. The slice begins with that frame, and
+    /// every byte behind it is as it was before [`new`](CobsEncoder::new).
+    pub fn finalize(self) -> usize
+        ensures len { (m : List ℕ) → HasTaken self.entry m → result ≡ encoded_len m }
+        ensures frame { (m : List ℕ) → HasTaken self.entry m → IsEncodedFrame (take result self.exit.0.now) m }
+        ensures rest { drop result self.exit.0.now ≡ drop result (slice_of self.entry) }
+    {
+        let CobsEncoder { dest, progress } = self;
+        close(dest, progress)
+    }
+}
+
+#[cfg(test)]
+mod tests;
