@@ -62,6 +62,11 @@ fn the_state_closes_a_block_with_its_254th_byte(rt: HostRuntime) -> Result<(), F
 }
 
 #[test]
+fn a_new_state_stands_at_the_placeholder(rt: HostRuntime) {
+    assert_eq!(rt; EncoderState::default().finalize(), (0, 1));
+}
+
+#[test]
 fn a_caller_of_the_state_gets_the_frame_that_ends_in_no_full_block(
     rt: HostRuntime,
 ) -> Result<(), Fail> {

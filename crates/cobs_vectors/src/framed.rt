@@ -1,7 +1,7 @@
 //! Frames from a reader.
 use cobs::{
-    CobsDecoder, CobsDecoderHeapless, CobsDecoderOwned, FrameDecoder, FrameReader, Next, ReadFault,
-    Recorded,
+    CobsDecoder, CobsDecoderHeapless, CobsDecoderOwned, FrameDecoder, FrameReader, FrameSource,
+    Next, ReadFault, Recorded,
 };
 use std::alloc::{AllocError, Global};
 use std::io;
@@ -15,6 +15,7 @@ struct Pieces<'a> {
     bytes: &'a [u8],
     at_a_time: usize,
     failing_read: Option<usize>,
+    is_interrupted: bool,
     reads: usize,
 }
 
@@ -24,6 +25,7 @@ impl<'a> Pieces<'a> {
             bytes,
             at_a_time,
             failing_read: None,
+            is_interrupted: false,
             reads: 0,
         }
     }
@@ -33,7 +35,12 @@ impl Read for Pieces<'_> {
     fn read(&mut self, buf: &mut [u8]) -> io::Result<usize> {
         self.reads = self.reads.saturating_add(1);
         if self.failing_read == Some(self.reads) {
-            return Err(io::Error::from(io::ErrorKind::TimedOut));
+            let kind = if self.is_interrupted {
+                io::ErrorKind::Interrupted
+            } else {
+                io::ErrorKind::TimedOut
+            };
+            return Err(io::Error::from(kind));
         }
         let count = self.at_a_time.min(buf.len()).min(self.bytes.len());
         let (given, rest) = self.bytes.split_at(count);
@@ -192,17 +199,35 @@ fn a_damaged_stream_in_reads_of_any_size(rt: HostRuntime) -> Result<(), Fail> {
     Ok(())
 }
 
-/// A read that fails inside a frame loses nothing.
+#[test]
+fn a_source_reads_once_a_call_and_fails_only_with_its_reader(rt: HostRuntime) {
+    let mut reader = Pieces::new(&[2, 5, 0, 3], 3);
+    reader.failing_read = Some(2);
+    let mut source = Recorded::new(reader);
+    let mut chunk = [9u8; 64];
+    assert_eq!(rt; source.read_some(&mut chunk), Some(3));
+    assert!(rt; chunk.as_slice().starts_with(&[2, 5, 0, 9]));
+    assert_eq!(rt; source.read_some(&mut chunk), None);
+    assert_eq!(rt; source.read_some(&mut chunk), Some(1));
+    assert!(rt; chunk.as_slice().starts_with(&[3]));
+    assert_eq!(rt; source.read_some(&mut chunk), Some(0));
+    assert_eq!(rt; source.into_inner().reads, 4);
+}
+
+/// A read that fails inside a frame, interrupted or not, loses nothing.
 fn goes_on_behind_a_failed_read<D: FrameDecoder + Drop>(
     rt: &impl Abort,
     mut frames: FrameReader<D>,
 ) {
-    let mut reader = Pieces::new(&[2, 5, 0], 1);
-    reader.failing_read = Some(2);
-    let mut source = Recorded::new(reader);
-    assert_eq!(rt; frames.next_frame(&mut source), Err(ReadFault::Io));
-    reads_message(rt, &mut frames, &mut source, &[5]);
-    let _ = source.into_inner();
+    for is_interrupted in [false, true] {
+        let mut reader = Pieces::new(&[2, 5, 0], 1);
+        reader.failing_read = Some(2);
+        reader.is_interrupted = is_interrupted;
+        let mut source = Recorded::new(reader);
+        assert_eq!(rt; frames.next_frame(&mut source), Err(ReadFault::Io));
+        reads_message(rt, &mut frames, &mut source, &[5]);
+        let _ = source.into_inner();
+    }
 }
 
 #[test]

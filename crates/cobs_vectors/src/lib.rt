@@ -11,6 +11,8 @@ mod decoding;
 #[cfg(test)]
 mod encoders;
 #[cfg(test)]
+mod enumerated;
+#[cfg(test)]
 mod examples;
 #[cfg(test)]
 mod feeding;
@@ -26,6 +28,8 @@ mod kinds;
 mod lengths;
 #[cfg(test)]
 mod memory;
+#[cfg(test)]
+mod reference;
 #[cfg(test)]
 mod roundtrip;
 #[cfg(test)]

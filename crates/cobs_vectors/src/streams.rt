@@ -17,16 +17,23 @@ enum Wanted {
     TooLong,
 }
 
-/// Over two bytes: a piece that is too long, a message, a broken piece, and the empty message.
-const SHORT: [u8; 14] = [4, 7, 8, 9, 0, 2, 5, 0, 3, 1, 0, 0, 1, 0];
+/// A stream, and what comes of it over a buffer of a certain length.
+#[derive(Clone, Copy)]
+struct Case<'a> {
+    stream: &'a [u8],
+    wanted: &'a [Wanted],
+}
 
-/// What comes of it.
-const SHORT_OUTCOMES: [Wanted; 4] = [
-    Wanted::TooLong,
-    Wanted::Message(&[5]),
-    Wanted::Broken(1),
-    Wanted::Message(&[]),
-];
+/// Over two bytes: a piece that is too long, a message, a broken piece, and the empty message.
+const SHORT: Case<'static> = Case {
+    stream: &[4, 7, 8, 9, 0, 2, 5, 0, 3, 1, 0, 0, 1, 0],
+    wanted: &[
+        Wanted::TooLong,
+        Wanted::Message(&[5]),
+        Wanted::Broken(1),
+        Wanted::Message(&[]),
+    ],
+};
 
 /// Over four bytes: a message, a broken piece, a piece that is too long, and a message.
 const DAMAGED: [u8; 18] = [0, 3, 7, 8, 0, 5, 1, 0, 6, 1, 2, 3, 4, 5, 0, 2, 9, 0];
@@ -107,27 +114,15 @@ fn push_all<D: StreamingDecoder>(
     panic!(rt; "a push consumed nothing");
 }
 
-/// The stream in two calls, cut behind that many bytes.
-fn check_cut<D: FrameDecoder + Drop>(
-    rt: &impl Abort,
-    alloc: Global,
-    mut decoder: D,
-    stream: &[u8],
-    cut: usize,
-    wanted: &[Wanted],
-) -> Result<(), Fail> {
-    check_cuts(rt, alloc, &mut decoder, stream, (cut, stream.len()), wanted)
-}
-
-/// The stream in three calls, cut behind so many bytes.
+/// The stream in three calls, cut behind so many bytes. It ends with a zero, so the decoder is idle again.
 fn check_cuts<D: FrameDecoder>(
     rt: &impl Abort,
     alloc: Global,
     decoder: &mut D,
-    stream: &[u8],
+    case: &Case<'_>,
     (first, second): (usize, usize),
-    wanted: &[Wanted],
 ) -> Result<(), Fail> {
+    let Case { stream, wanted } = case;
     assert!(rt; first <= second && second <= stream.len());
     let mut outcomes = decode_stream(alloc, decoder, &stream[..first])?;
     for outcome in decode_stream(alloc, decoder, &stream[first..second])? {
@@ -143,153 +138,81 @@ fn check_cuts<D: FrameDecoder>(
     Ok(())
 }
 
-/// The stream in two parts, each pushed until it is consumed.
-fn check_pushed<D: StreamingDecoder + Drop>(
+/// The stream in one, two and three calls, cut at every place and pair of places.
+fn check_every_cut<D: FrameDecoder + Drop>(
     rt: &impl Abort,
     alloc: Global,
     mut decoder: D,
-    stream: &[u8],
-    cut: usize,
-    wanted: &[Wanted],
+    case: &Case<'_>,
 ) -> Result<(), Fail> {
-    assert!(rt; cut <= stream.len());
-    let mut outcomes = Vec::new(alloc);
-    push_all(rt, alloc, &mut decoder, &stream[..cut], &mut outcomes)?;
-    push_all(rt, alloc, &mut decoder, &stream[cut..], &mut outcomes)?;
+    for second in 0..=case.stream.len() {
+        for first in 0..=second {
+            check_cuts(rt, alloc, &mut decoder, case, (first, second))?;
+        }
+    }
+    Ok(())
+}
+
+/// The stream pushed in two parts, each until it is consumed, cut at every place.
+fn check_every_push<D: StreamingDecoder + Drop>(
+    rt: &impl Abort,
+    alloc: Global,
+    mut decoder: D,
+    case: &Case<'_>,
+) -> Result<(), Fail> {
+    let Case { stream, wanted } = case;
+    for cut in 0..=stream.len() {
+        let mut outcomes = Vec::new(alloc);
+        push_all(rt, alloc, &mut decoder, &stream[..cut], &mut outcomes)?;
+        push_all(rt, alloc, &mut decoder, &stream[cut..], &mut outcomes)?;
+        assert!(rt;
+            are(&outcomes, wanted),
+            "pushed, cut at {cut}: {outcomes:?}"
+        );
+    }
+    Ok(())
+}
+
+#[test]
+fn a_stream_gives_the_same_outcomes_however_it_is_cut(rt: HostRuntime) -> Result<(), Fail> {
+    let alloc = rt.alloc();
+    check_every_cut(&rt, alloc, CobsDecoder::new(&mut [0; 2]), &SHORT)?;
+    check_every_cut(&rt, alloc, CobsDecoderHeapless::<2>::new(), &SHORT)?;
+    check_every_cut(&rt, alloc, CobsDecoderOwned::new(alloc, 2)?, &SHORT)?;
+    check_every_push(&rt, alloc, CobsDecoder::new(&mut [0; 2]), &SHORT)?;
+    check_every_push(&rt, alloc, CobsDecoderHeapless::<2>::new(), &SHORT)?;
+    check_every_push(&rt, alloc, CobsDecoderOwned::new(alloc, 2)?, &SHORT)
+}
+
+#[test]
+fn a_damaged_stream_gives_the_same_outcomes_however_it_is_cut(rt: HostRuntime) -> Result<(), Fail> {
+    let alloc = rt.alloc();
+    let case = Case {
+        stream: &DAMAGED,
+        wanted: &DAMAGED_OUTCOMES,
+    };
+    check_every_cut(&rt, alloc, CobsDecoder::new(&mut [0; 4]), &case)?;
+    check_every_cut(&rt, alloc, CobsDecoderHeapless::<4>::new(), &case)?;
+    check_every_cut(&rt, alloc, CobsDecoderOwned::new(alloc, 4)?, &case)?;
+    check_every_push(&rt, alloc, CobsDecoder::new(&mut [0; 4]), &case)?;
+    check_every_push(&rt, alloc, CobsDecoderHeapless::<4>::new(), &case)?;
+    check_every_push(&rt, alloc, CobsDecoderOwned::new(alloc, 4)?, &case)
+}
+
+/// The outcomes of a front of the damaged stream.
+fn check_front<D: FrameDecoder + Drop>(
+    rt: &impl Abort,
+    alloc: Global,
+    mut decoder: D,
+    count: usize,
+    ended: usize,
+) -> Result<(), Fail> {
+    assert!(rt; count <= DAMAGED.len() && ended <= DAMAGED_OUTCOMES.len());
+    let outcomes = decode_stream(alloc, &mut decoder, &DAMAGED[..count])?;
     assert!(rt;
-        are(&outcomes, wanted),
-        "pushed, cut at {cut}: {outcomes:?}"
+        are(&outcomes, &DAMAGED_OUTCOMES[..ended]),
+        "front of {count}: {outcomes:?}"
     );
-    Ok(())
-}
-
-#[test]
-fn a_stream_cut_in_two_gives_the_same_outcomes(rt: HostRuntime) -> Result<(), Fail> {
-    let alloc = rt.alloc();
-    let wanted = &SHORT_OUTCOMES;
-    for cut in 0..=SHORT.len() {
-        check_cut(
-            &rt,
-            alloc,
-            CobsDecoder::new(&mut [0; 2]),
-            &SHORT,
-            cut,
-            wanted,
-        )?;
-        check_cut(
-            &rt,
-            alloc,
-            CobsDecoderHeapless::<2>::new(),
-            &SHORT,
-            cut,
-            wanted,
-        )?;
-        check_cut(
-            &rt,
-            alloc,
-            CobsDecoderOwned::new(alloc, 2)?,
-            &SHORT,
-            cut,
-            wanted,
-        )?;
-        check_pushed(
-            &rt,
-            alloc,
-            CobsDecoder::new(&mut [0; 2]),
-            &SHORT,
-            cut,
-            wanted,
-        )?;
-        check_pushed(
-            &rt,
-            alloc,
-            CobsDecoderHeapless::<2>::new(),
-            &SHORT,
-            cut,
-            wanted,
-        )?;
-        check_pushed(
-            &rt,
-            alloc,
-            CobsDecoderOwned::new(alloc, 2)?,
-            &SHORT,
-            cut,
-            wanted,
-        )?;
-    }
-    Ok(())
-}
-
-#[test]
-fn a_damaged_stream_cut_in_two_and_pushed_gives_the_same_outcomes(
-    rt: HostRuntime,
-) -> Result<(), Fail> {
-    let alloc = rt.alloc();
-    let wanted = &DAMAGED_OUTCOMES;
-    for cut in 0..=DAMAGED.len() {
-        check_pushed(
-            &rt,
-            alloc,
-            CobsDecoder::new(&mut [0; 4]),
-            &DAMAGED,
-            cut,
-            wanted,
-        )?;
-        check_pushed(
-            &rt,
-            alloc,
-            CobsDecoderHeapless::<4>::new(),
-            &DAMAGED,
-            cut,
-            wanted,
-        )?;
-        check_pushed(
-            &rt,
-            alloc,
-            CobsDecoderOwned::new(alloc, 4)?,
-            &DAMAGED,
-            cut,
-            wanted,
-        )?;
-    }
-    Ok(())
-}
-
-#[test]
-fn a_stream_cut_in_three_gives_the_same_outcomes(rt: HostRuntime) -> Result<(), Fail> {
-    let alloc = rt.alloc();
-    let wanted = &SHORT_OUTCOMES;
-    for second in 0..=SHORT.len() {
-        for first in 0..=second {
-            let cuts = (first, second);
-            let mut decoder = CobsDecoderHeapless::<2>::new();
-            check_cuts(&rt, alloc, &mut decoder, &SHORT, cuts, wanted)?;
-            let mut decoder = CobsDecoderOwned::new(alloc, 2)?;
-            check_cuts(&rt, alloc, &mut decoder, &SHORT, cuts, wanted)?;
-            let mut buffer = [0u8; 2];
-            let mut decoder = CobsDecoder::new(&mut buffer);
-            check_cuts(&rt, alloc, &mut decoder, &SHORT, cuts, wanted)?;
-        }
-    }
-    Ok(())
-}
-
-#[test]
-fn a_damaged_stream_cut_in_three_gives_the_same_outcomes(rt: HostRuntime) -> Result<(), Fail> {
-    let alloc = rt.alloc();
-    let wanted = &DAMAGED_OUTCOMES;
-    for second in 0..=DAMAGED.len() {
-        for first in 0..=second {
-            let cuts = (first, second);
-            let mut decoder = CobsDecoderHeapless::<4>::new();
-            check_cuts(&rt, alloc, &mut decoder, &DAMAGED, cuts, wanted)?;
-            let mut decoder = CobsDecoderOwned::new(alloc, 4)?;
-            check_cuts(&rt, alloc, &mut decoder, &DAMAGED, cuts, wanted)?;
-            let mut buffer = [0u8; 4];
-            let mut decoder = CobsDecoder::new(&mut buffer);
-            check_cuts(&rt, alloc, &mut decoder, &DAMAGED, cuts, wanted)?;
-        }
-    }
     Ok(())
 }
 
@@ -297,7 +220,6 @@ fn a_damaged_stream_cut_in_three_gives_the_same_outcomes(rt: HostRuntime) -> Res
 fn a_front_gives_the_outcomes_of_the_pieces_that_end_in_it(rt: HostRuntime) -> Result<(), Fail> {
     let alloc = rt.alloc();
     for count in 0..=DAMAGED.len() {
-        let front = &DAMAGED[..count];
         // The four pieces end with the fifth, the eighth, the fifteenth and the last byte.
         let ended = match count {
             0..5 => 0,
@@ -306,23 +228,9 @@ fn a_front_gives_the_outcomes_of_the_pieces_that_end_in_it(rt: HostRuntime) -> R
             15..18 => 3,
             _ => 4,
         };
-        let wanted = &DAMAGED_OUTCOMES[..ended];
-        let mut decoder = CobsDecoderHeapless::<4>::new();
-        assert!(rt;
-            are(&decode_stream(alloc, &mut decoder, front)?, wanted),
-            "front of {count}"
-        );
-        let mut decoder = CobsDecoderOwned::new(alloc, 4)?;
-        assert!(rt;
-            are(&decode_stream(alloc, &mut decoder, front)?, wanted),
-            "front of {count}"
-        );
-        let mut buffer = [0u8; 4];
-        let mut decoder = CobsDecoder::new(&mut buffer);
-        assert!(rt;
-            are(&decode_stream(alloc, &mut decoder, front)?, wanted),
-            "front of {count}"
-        );
+        check_front(&rt, alloc, CobsDecoder::new(&mut [0; 4]), count, ended)?;
+        check_front(&rt, alloc, CobsDecoderHeapless::<4>::new(), count, ended)?;
+        check_front(&rt, alloc, CobsDecoderOwned::new(alloc, 4)?, count, ended)?;
     }
     Ok(())
 }
@@ -474,62 +382,22 @@ fn frames_of_several_messages(rt: HostRuntime) -> Result<(), Fail> {
 }
 
 #[test]
-fn several_messages_come_out_of_their_stream(rt: HostRuntime) -> Result<(), Fail> {
+fn several_messages_come_out_of_their_stream_however_it_is_cut(
+    rt: HostRuntime,
+) -> Result<(), Fail> {
     let alloc = rt.alloc();
     let messages = three_messages(alloc)?;
     let stream = encode_few(&rt, alloc, &messages)?;
-    let wanted = &THREE_OUTCOMES;
-    for cut in 0..=stream.len() {
-        check_cut(
-            &rt,
-            alloc,
-            CobsDecoder::new(&mut [0; 2]),
-            &stream,
-            cut,
-            wanted,
-        )?;
-        check_cut(
-            &rt,
-            alloc,
-            CobsDecoderHeapless::<2>::new(),
-            &stream,
-            cut,
-            wanted,
-        )?;
-        check_cut(
-            &rt,
-            alloc,
-            CobsDecoderOwned::new(alloc, 2)?,
-            &stream,
-            cut,
-            wanted,
-        )?;
-        check_pushed(
-            &rt,
-            alloc,
-            CobsDecoder::new(&mut [0; 2]),
-            &stream,
-            cut,
-            wanted,
-        )?;
-        check_pushed(
-            &rt,
-            alloc,
-            CobsDecoderHeapless::<2>::new(),
-            &stream,
-            cut,
-            wanted,
-        )?;
-        check_pushed(
-            &rt,
-            alloc,
-            CobsDecoderOwned::new(alloc, 2)?,
-            &stream,
-            cut,
-            wanted,
-        )?;
-    }
-    Ok(())
+    let case = Case {
+        stream: &stream,
+        wanted: &THREE_OUTCOMES,
+    };
+    check_every_cut(&rt, alloc, CobsDecoder::new(&mut [0; 2]), &case)?;
+    check_every_cut(&rt, alloc, CobsDecoderHeapless::<2>::new(), &case)?;
+    check_every_cut(&rt, alloc, CobsDecoderOwned::new(alloc, 2)?, &case)?;
+    check_every_push(&rt, alloc, CobsDecoder::new(&mut [0; 2]), &case)?;
+    check_every_push(&rt, alloc, CobsDecoderHeapless::<2>::new(), &case)?;
+    check_every_push(&rt, alloc, CobsDecoderOwned::new(alloc, 2)?, &case)
 }
 
 #[test]
