@@ -38,6 +38,7 @@ pub mod MessagesLemmas
 pub mod SourceSteps
 pub mod VectorSteps
 pub mod HeadlineLemmas
+pub mod WholeLemmas
 mod LentSlice
 pub mod FewLemmas
 pub mod PushHeadline
