@@ -1,13 +1,13 @@
 -- What a `CobsEncoder` says of its slice, and what the core of the encoder knows of it, are the same.
-use Rattle.std.proofs.Common.{◌≡◌, ◌≢◌, ℕ, ◌+◌, ◌-◌, ◌<◌, ◌≤◌, ◌==◌, Bool, true, false, if◌then◌else◌, List, [], ◌∷◌, ◌++◌, length, drop, take, get_or, suc, All, IsTrue, refl, sym, ap, ◌∙◌, subst, arith, inl, inr, ◌⊎◌, append-nil, append_assoc, take_at, drop_at, length-append, length-take-le, length-take}
+use Rattle.std.proofs.Common.{◌≡◌, ◌≢◌, ℕ, ◌+◌, ◌<◌, ◌≤◌, Bool, true, false, if◌then◌else◌, List, [], ◌∷◌, ◌++◌, length, drop, take, get_or, All, refl, sym, ap, ◌∙◌, subst, arith, inl, inr, ◌⊎◌, append-nil, append_assoc, take_at, drop_at, length-append, length-take-le, length-take}
 use Rattle.std.specs.List.{concat}
 use Rattle.std.proofs.Math.ListN.{set}
 use Rattle.std.proofs.lemmas.Bool.{cases_Bool, true≢false, ne_eqb}
 use Rattle.std.proofs.lemmas.List.{take-take, take-append-drop, drop_more, drop_all, set_at, set_past, same_from_push}
 use Rattle.std.proofs.lemmas.List.Elements.{All-cons, All-nil, All-push}
-use Rattle.cobs.specs.Grammar.{HasNoZero, IsBlock, IsFull, is_full, joint, lone_block, last_of, message_of, IsFrameOf, IsEncodedFrame, IsOpenFrame}
+use Rattle.cobs.specs.Grammar.{IsBlock, IsFull, is_full, joint, lone_block, last_of, message_of, IsFrameOf, IsEncodedFrame, IsOpenFrame}
 use Rattle.cobs.specs.Length.{encoded_len}
-use Rattle.cobs.specs.Encoder.{OpenBlock, Reached, end_of, next_of, AgreeOutside, CobsEncoderAfter}
+use Rattle.cobs.specs.Encoder.{Reached, end_of, next_of, CobsEncoderAfter}
 use Rattle.cobs.proofs.GrammarLemmas.{lone_block-is_block, one_frame}
 use Rattle.cobs.proofs.UniqueLemmas.{one_encoded, length-encoded}
 use Rattle.cobs.proofs.OpenLemmas.{All-front, concat-append, message_of-append, frame_of, append-some}

@@ -1,11 +1,13 @@
 -- What decoders that are given all of a list answer: the message m exactly where the list reads as m.
-use Rattle.std.proofs.Common.{◌≡◌, ◌≢◌, ℕ, ◌+◌, ◌-◌, ◌<◌, ◌≤◌, ◌↔◌, nat_le, Bool, true, false, cond, List, [], ◌∷◌, ◌++◌, length, take, drop, All, IsTrue, Option, Some, None, Result, Ok, Err, refl, sym, ap, ◌∙◌, subst, arith, take_all, take_at, get_or, Fits, w8, ⊎_elim}
-use Rattle.std.proofs.lemmas.Bool.{cases_Bool, cases_lt, true≢false, le-leb}
-use Rattle.std.proofs.lemmas.List.Elements.{All-from_get_or}
+use Rattle.std.proofs.Common.{◌≡◌, ◌≢◌, ℕ, ◌<◌, ◌≤◌, ◌↔◌, nat_le, Bool, true, false, cond, List, [], ◌∷◌, ◌++◌, length, take, drop, All, Result, Ok, Err, refl, sym, ap, ◌∙◌, subst, arith, take_all, take_at, get_or, Fits, w8, ⊎_elim}
+use Rattle.std.proofs.lemmas.Bool.{cases_Bool, le-leb}
+use Rattle.std.proofs.lemmas.List.Elements.{All-from_get_or, All-map, All-weaker}
+use Rattle.std.specs.Int.Bits.{bit_xor, xor_lt}
+use Rattle.cobs.specs.Sentinel.{xor_each}
 use Rattle.cobs.specs.Buffer.{overwritten}
-use Rattle.cobs.specs.Grammar.{HasNoZero, Reads}
+use Rattle.cobs.specs.Grammar.{Reads}
 use Rattle.cobs.specs.Piece.{output, kept_output, is_whole, IsWhole}
-use Rattle.cobs.specs.Stream.{Outcome, Message, Broken, TooLong, outcome_of, first_piece, head}
+use Rattle.cobs.specs.Stream.{Message, Broken, TooLong, outcome_of, head}
 use Rattle.cobs.specs.Decoding.{sized, reported, consumed, decode_answer, first_output, head_answer, head_answer_within, in_place, in_place_answer, in_place_report, source_answer, output_of, answer_by_piece}
 use Rattle.cobs.specs.Headline.{IsPiece, BeginsWith, AnswersMessage, ReportsMessage}
 use Rattle.cobs.specs.declared.dec.report.DecodeReport.{DecodeReport}
@@ -17,6 +19,10 @@ use Rattle.cobs.proofs.OutcomeLemmas.{outcome_of_whole, first_piece_alone, head_
 -- what a slice of bytes holds is below 256
 pub bytes_below : (bytes : List ℕ) → ((i : ℕ) → Fits w8 (get_or bytes i 0)) → All (λ b. b < 256) bytes
 bytes_below bytes fits = All-from_get_or (λ b. b < 256) bytes 0 (λ i within. (fits i).fits)
+
+-- exclusive or leaves bytes below 256
+pub xor_below : (s : ℕ) (bytes : List ℕ) → s < 256 → All (λ b. b < 256) bytes → All (λ b. b < 256) (xor_each s bytes)
+xor_below s bytes small h = All-map (λ b. b < 256) (λ b. bit_xor b s) bytes (All-weaker (λ b. b < 256) (λ b. bit_xor b s < 256) (λ b below. xor_lt 8 b s below small) bytes h)
 
 -- what is written over a buffer stands at its front, where it fits
 front-overwritten : (buffer bytes : List ℕ) → length bytes ≤ length buffer → take (length bytes) (overwritten buffer bytes) ≡ bytes
@@ -101,6 +107,12 @@ in_place_reads f result buffer' answer after below piece m = decodes-reads f m r
       ∙ ap (λ (l : List ℕ). take (length (output f)) (overwritten f l)) (kept_output_whole f whole) ∙ front-overwritten f (output f) (output_within f);
   broken = λ broken. (InvalidFrame (length (kept_output f)), answer ∙ in_place_answer_alone f piece ∙ head_answer_broken f piece.0 broken);
 })
+
+-- the same of a buffer that was changed first
+pub in_place_reads_at : (f changed : List ℕ) (result : Result ℕ DecodeError) (buffer' : List ℕ) → changed ≡ f → result ≡ in_place_answer changed → buffer' ≡ in_place changed
+    → All (λ b. b < 256) changed → IsPiece f → (m : List ℕ) → AnswersMessage result buffer' m ↔ Reads f m
+in_place_reads_at f changed result buffer' same answer after below piece m =
+    in_place_reads f result buffer' (answer ∙ ap in_place_answer same) (after ∙ ap in_place same) (subst (λ (x : List ℕ). All (λ b. b < 256) x) same below) piece m
 
 pub in_place_report_reads : (f : List ℕ) (result : Result DecodeReport DecodeError) (buffer' : List ℕ) → result ≡ in_place_report f → buffer' ≡ in_place f
     → All (λ b. b < 256) f → IsPiece f → (m : List ℕ) → ReportsMessage result buffer' m ↔ Reads f m

@@ -1,13 +1,18 @@
 -- A buffer that is decoded in its own place, so far.
-use Rattle.std.proofs.Common.{◌≡◌, ◌≢◌, ℕ, ◌+◌, ◌-◌, ◌<◌, ◌≤◌, List, [], ◌∷◌, ◌++◌, length, take, drop, get_or, set, Err, Ok, refl, sym, ap, ◌∙◌, arith, length-append, length-drop, length-take-le, take_at, drop_at}
-use Rattle.std.proofs.lemmas.List.{take-take, drop-drop, drop-take, get_or-take, get_or-drop, length-set, take_more_set, drop-set-lt}
-use Rattle.std.proofs.lemmas.List.Elements.{All-get_or}
+use Rattle.std.proofs.Common.{◌≡◌, ◌≢◌, ℕ, ◌+◌, ◌-◌, ◌<◌, ◌≤◌, ◌==◌, ◌⊎◌, Bool, true, false, cond, List, [], ◌∷◌, ◌++◌, length, take, drop, get_or, set, Err, Ok, refl, sym, ap, ◌∙◌, subst, arith, inl, inr, append_assoc, append-nil, length-append, length-drop, length-take-le, take-append-drop}
+use Rattle.std.proofs.lemmas.List.{drop-drop, drop-take, drop_all, get_or-take, get_or-drop, length-set, take_more_set, drop-set-lt}
+use Rattle.std.proofs.lemmas.List.Elements.{All-take, All-drop}
+use borrow.Rule.Slice.PartMut.{put_mid}
 use Rattle.cobs.specs.Buffer.{overwritten}
-use Rattle.cobs.specs.Grammar.{HasNoZero}
-use Rattle.cobs.specs.Piece.{kept_output}
+use Rattle.cobs.specs.Grammar.{HasNoZero, code_of, is_full}
+use Rattle.cobs.specs.Piece.{output, last_part, lacks, kept_output}
 use Rattle.cobs.specs.Decoding.{head_answer}
 use Rattle.cobs.specs.declared.dec.report.DecodeError.TheVariants.{InvalidFrame}
-use Rattle.cobs.proofs.BlockSteps.{BlocksRead, blocks-started, all-kept, all-answer, broken-kept, broken-answer, full-read, last-read, block-read, overwritten-front}
+use Rattle.cobs.proofs.PieceCuts.{output-le}
+use Rattle.cobs.proofs.KeptLemmas.{joins, whole_left}
+use Rattle.cobs.proofs.WholeLemmas.{in_front}
+use Rattle.cobs.proofs.WindowSteps.{take-past, drop-past}
+use Rattle.cobs.proofs.BlockSteps.{BlocksRead, blocks-started, all-kept, all-answer, broken-kept, broken-answer, overwritten-front}
 
 -- the blocks in the first `read` of `end` bytes are decoded to the front of the buffer, and behind what they gave it is
 -- as it was
@@ -27,6 +32,15 @@ pub drop-later : (n m : ℕ) (xs ys : List ℕ) → n ≤ m → drop n xs ≡ dr
 drop-later n m xs ys h e =
     let k : n + (m - n) ≡ m = omega arith in
     sym (ap (λ (j : ℕ). drop j xs) k) ∙ sym (drop-drop (m - n) n xs) ∙ ap (drop (m - n)) e ∙ drop-drop (m - n) n ys ∙ ap (λ (j : ℕ). drop j ys) k
+
+-- what joins a full part, and another one, to what follows
+joins-full : (code : ℕ) (q : List ℕ) → code == 255 ≡ true → [] ≡ joins code q
+joins-full code [] full = refl
+joins-full code (x ∷ q) full = sym (ap (λ (v : Bool). cond v [] (0 ∷ [])) full)
+
+joins-zero-due : (code : ℕ) (q : List ℕ) → code == 255 ≡ false → 0 < length q → 0 ∷ [] ≡ joins code q
+joins-zero-due code [] other some = absurd (omega arith)
+joins-zero-due code (x ∷ q) other some = sym (ap (λ (v : Bool). cond v [] (0 ∷ [])) other)
 
 module _ (before : List ℕ) (end : ℕ) (buffer : List ℕ) (read written : ℕ) (s : DecodedInPlace before end buffer read written) where
   long : length (take end before) ≡ end
@@ -57,9 +71,6 @@ module _ (before : List ℕ) (end : ℕ) (buffer : List ℕ) (read written : ℕ
         is ∙ sym (get_or-drop written buffer (read - written) 0 ∙ ap (λ (m : ℕ). get_or buffer m 0) k) ∙ ap (λ (xs : List ℕ). get_or xs (read - written) 0) s.rest
         ∙ get_or-drop written before (read - written) 0 ∙ ap (λ (m : ℕ). get_or before m 0) k ∙ sym (get_or-take end before read 0 here)
 
-    pub code-some : HasNoZero (take end before) → 0 < code
-    code-some none = let other = All-get_or (λ byte. byte ≢ 0) (take end before) read 0 more none in let e = code-is in omega arith
-
     -- where a block is broken
     module _ (broken : end - read < code) where
       broken-long : length (take end before) - read < code
@@ -71,77 +82,127 @@ module _ (before : List ℕ) (end : ℕ) (buffer : List ℕ) (read written : ℕ
       pub broken-count : Err (InvalidFrame written) ≡ head_answer (take end before)
       broken-count = ap (λ (n : ℕ). Err (InvalidFrame n)) (sym done-long) ∙ broken-answer _ _ _ s.blocks code more code-is broken-long
 
-    -- the bytes of a whole block, moved
-    module _ (some : 0 < code) (whole : code ≤ end - read) (moved : List ℕ)
-        (moved-is : moved ≡ take written buffer ++ take (code - 1) (drop (read + 1) buffer) ++ drop (written + (code - 1)) buffer) where
-      abbrev bytes : List ℕ
-      bytes = take (code - 1) (drop (read + 1) (take end before))
+  -- what is left of the frame is as it was
+  pub left-is : take (end - read) (drop read buffer) ≡ drop read (take end before)
+  left-is =
+      let w = s.within in
+      let sum : end ≡ read + (end - read) = omega arith in
+      ap (take (end - read)) (drop-later written read buffer before s.order s.rest)
+      ∙ sym (ap (λ (k : ℕ). drop read (take k before)) sum ∙ drop-take read (end - read) before)
 
-      whole-long : code ≤ length (take end before) - read
-      whole-long = let l = long in omega arith
+  pub left-nonzero : HasNoZero (take end before) → HasNoZero (take (end - read) (drop read buffer))
+  left-nonzero none = subst HasNoZero (sym left-is) (All-drop (λ byte. byte ≢ 0) read (take end before) none)
 
-      same-bytes : take (code - 1) (drop (read + 1) buffer) ≡ bytes
-      same-bytes =
-          let o = s.order in
-          let sum : end ≡ read + 1 + (end - (read + 1)) = omega arith in
-          ap (take (code - 1)) (drop-later written (read + 1) buffer before (omega arith) s.rest)
-          ∙ sym (ap (λ (k : ℕ). take (code - 1) (drop (read + 1) (take k before))) sum ∙ ap (take (code - 1)) (drop-take (read + 1) (end - (read + 1)) before)
-          ∙ take-take (code - 1) (end - (read + 1)) (drop (read + 1) before) (omega arith))
+  -- where no block is whole
+  pub left-broken : read < end → length (take (end - read) (drop read buffer)) < get_or (take (end - read) (drop read buffer)) 0 0 → end - read < get_or buffer read 0
+  left-broken here broken =
+      let w = s.within in
+      let f = s.fits in
+      let l = s.len in
+      let d = length-drop read buffer in
+      let n = length-take-le (end - read) (drop read buffer) (omega arith) in
+      let k : read + 0 ≡ read = omega arith in
+      let code : get_or (take (end - read) (drop read buffer)) 0 0 ≡ get_or buffer read 0 =
+      get_or-take (end - read) (drop read buffer) 0 0 (omega arith) ∙ get_or-drop read buffer 0 0 ∙ ap (λ (j : ℕ). get_or buffer j 0) k in
+      omega arith
 
-      bytes-long : length (take (code - 1) (drop (read + 1) buffer)) ≡ code - 1
-      bytes-long = length-take-le (code - 1) (drop (read + 1) buffer) (let d = length-drop (read + 1) buffer in let l = s.len in let f = s.fits in omega arith)
+  -- a stretch of whole blocks
+  module _ (none : HasNoZero (take end before)) (len : ℕ) (p : List ℕ) (some : 0 < len) (fits : len ≤ length (take (end - read) (drop read buffer))) (p-is : p ≡ take len (take (end - read) (drop read buffer)))
+      (whole : lacks (last_part p) ≡ 0) where
+    abbrev q : List ℕ
+    q = drop (read + len) (take end before)
 
-      front-long : length (take written buffer ++ take (code - 1) (drop (read + 1) buffer)) ≡ written + (code - 1)
-      front-long = length-append (take written buffer) (take (code - 1) (drop (read + 1) buffer)) ∙ (let a = done-long in let b = bytes-long in omega arith)
+    p-long : length p ≡ len
+    p-long = ap length p-is ∙ length-take-le len (take (end - read) (drop read buffer)) fits
 
-      moved-front : take (written + (code - 1)) moved ≡ take written buffer ++ bytes
-      moved-front =
-          ap (take (written + (code - 1))) moved-is
-          ∙ take_at (take written buffer ++ take (code - 1) (drop (read + 1) buffer)) (drop (written + (code - 1)) buffer) (written + (code - 1)) front-long
-          ∙ ap (λ (x : List ℕ). take written buffer ++ x) same-bytes
+    left-long : length (take (end - read) (drop read buffer)) ≡ end - read
+    left-long = ap length left-is ∙ length-drop read (take end before) ∙ (let l = long in omega arith)
 
-      moved-rest : drop (written + (code - 1)) moved ≡ drop (written + (code - 1)) before
-      moved-rest =
-          ap (drop (written + (code - 1))) moved-is
-          ∙ drop_at (take written buffer ++ take (code - 1) (drop (read + 1) buffer)) (drop (written + (code - 1)) buffer) (written + (code - 1)) front-long
-          ∙ drop-later written (written + (code - 1)) buffer before (omega arith) s.rest
+    pub stretch-nonzero : HasNoZero p
+    stretch-nonzero = subst HasNoZero (sym p-is) (All-take (λ byte. byte ≢ 0) len (take (end - read) (drop read buffer)) (left-nonzero none))
 
-      moved-len : length moved ≡ length before
-      moved-len =
-          let a = front-long in
-          let d = length-drop (written + (code - 1)) buffer in
-          let o = s.order in
+    split : drop read (take end before) ≡ p ++ q
+    split =
+        sym (take-append-drop len (drop read (take end before))) ∙ ap (λ (x : List ℕ). x ++ drop len (drop read (take end before))) (sym (p-is ∙ ap (take len) left-is))
+        ∙ ap (λ (x : List ℕ). p ++ x) (drop-drop len read (take end before))
+
+    pub stretch-shorter : length (output p) + 1 ≤ len
+    stretch-shorter = let l = p-long in let o = output-le p (omega arith) in omega arith
+
+    pub stretch-room : length (output p) ≤ length buffer - written
+    stretch-room = let o = stretch-shorter in let l = left-long in let r = s.order in let w = s.within in let f = s.fits in let n = s.len in omega arith
+
+    -- decoded to the front
+    module _ (new : List ℕ) (w k : ℕ) (k-is : k ≡ length buffer - written) (same : length new ≡ length buffer - written) (count : w ≡ length (output p)) (begins : take w new ≡ output p)
+        (rest-is : drop w new ≡ drop w (drop written buffer)) where
+      after-is : put_mid written k buffer new ≡ take written buffer ++ new
+      after-is =
+          let n : drop k (drop written buffer) ≡ [] = drop-drop k written buffer ∙ drop_all (written + k) buffer (omega arith) in
+          ap (λ (x : List ℕ). take written buffer ++ (new ++ x)) n ∙ ap (λ (x : List ℕ). take written buffer ++ x) (append-nil new)
+
+      after-front : take (written + w) (put_mid written k buffer new) ≡ take written buffer ++ output p
+      after-front = ap (take (written + w)) after-is ∙ take-past (take written buffer) new written w (written + w) done-long refl ∙ ap (λ (x : List ℕ). take written buffer ++ x) begins
+
+      after-rest : drop (written + w) (put_mid written k buffer new) ≡ drop (written + w) before
+      after-rest =
+          ap (drop (written + w)) after-is ∙ drop-past (take written buffer) new written w (written + w) done-long refl ∙ rest-is
+          ∙ drop-drop w written buffer ∙ drop-later written (written + w) buffer before (omega arith) s.rest
+
+      pub after-len : length (put_mid written k buffer new) ≡ length before
+      after-len =
+          let d = done-long in
           let l = s.len in
+          let o = s.order in
+          let i = s.within in
           let f = s.fits in
-          ap length moved-is ∙ length-append (take written buffer ++ take (code - 1) (drop (read + 1) buffer)) (drop (written + (code - 1)) buffer) ∙ omega arith
+          ap length after-is ∙ length-append (take written buffer) new ∙ omega arith
 
-      pub full-moved : code ≡ 255 → DecodedInPlace before end moved (read + code) (written + (code - 1))
-      full-moved full = record {
-        order = (let o = s.order in omega arith);
-        within = omega arith;
-        fits = s.fits;
-        len = moved-len;
-        rest = moved-rest;
-        blocks = full-read _ _ _ s.blocks code more code-is some whole-long _ moved-front full;
-      }
+      blocks-after : (done joint : List ℕ) → joint ≡ joins (code_of (last_part p)) q → done ≡ (take written buffer ++ output p) ++ joint → BlocksRead (take end before) done (read + len)
+      blocks-after done joint joint-is done-is =
+          let f = in_front p q (let l = p-long in omega arith) stretch-nonzero whole in
+          let along : (xs : List ℕ) → take written buffer ++ (output p ++ (joins (code_of (last_part p)) q ++ xs)) ≡ done ++ xs =
+          λ xs. (sym (append_assoc (take written buffer) (output p) (joins (code_of (last_part p)) q ++ xs))
+          ∙ ap (λ (x : List ℕ). (take written buffer ++ output p) ++ (x ++ xs)) (sym joint-is)
+          ∙ sym (append_assoc (take written buffer ++ output p) joint xs) ∙ ap (λ (x : List ℕ). x ++ xs) (sym done-is)) in
+          record {
+            within = (let l = long in let m = left-long in let i = s.within in omega arith);
+            outs = s.blocks.outs ∙ ap (λ (x : List ℕ). take written buffer ++ x) (ap output split ∙ f.outs) ∙ along (output q);
+            kepts = s.blocks.kepts ∙ ap (λ (x : List ℕ). take written buffer ++ x) (ap kept_output split ∙ f.kepts) ∙ along (kept_output q);
+            whole = s.blocks.whole ∙ ap whole_left split ∙ f.whole;
+          }
 
-      pub last-moved : end ≤ read + code → DecodedInPlace before end moved (read + code) (written + (code - 1))
-      last-moved last = record {
-        order = (let o = s.order in omega arith);
-        within = omega arith;
-        fits = s.fits;
-        len = moved-len;
-        rest = moved-rest;
-        blocks = last-read _ _ _ s.blocks code more code-is some whole-long _ moved-front (let l = long in omega arith);
-      }
+      -- no zero is due
+      pub stretch-last : (end ≤ read + len) ⊎ (is_full (last_part p) ≡ true) → DecodedInPlace before end (put_mid written k buffer new) (read + len) (written + w)
+      stretch-last none-due =
+          let due : [] ≡ joins (code_of (last_part p)) q = elim none-due [
+            | inl last ↦ sym (ap (joins (code_of (last_part p))) (drop_all (read + len) (take end before) (let l = long in omega arith)))
+            | inr full ↦ joins-full (code_of (last_part p)) q full
+          ] in
+          record {
+            order = (let o = stretch-shorter in let r = s.order in omega arith);
+            within = (let m = left-long in let i = s.within in omega arith);
+            fits = s.fits;
+            len = after-len;
+            rest = after-rest;
+            blocks = blocks-after _ [] due (after-front ∙ sym (append-nil (take written buffer ++ output p)));
+          }
 
-      pub block-moved : code ≢ 255 → read + code < end → DecodedInPlace before end (set moved (written + (code - 1)) 0) (read + code) (written + (code - 1) + 1)
-      block-moved other before-end = record {
-        order = (let o = s.order in omega arith);
-        within = omega arith;
-        fits = s.fits;
-        len = length-set moved (written + (code - 1)) 0 ∙ moved-len;
-        rest = drop-set-lt (written + (code - 1) + 1) moved (written + (code - 1)) 0 (omega arith) ∙ drop-later (written + (code - 1)) (written + (code - 1) + 1) moved before (omega arith) moved-rest;
-        blocks = block-read _ _ _ s.blocks code more code-is some whole-long _
-            (take_more_set moved (written + (code - 1)) 0 (let o = s.order in let l = moved-len in let f = s.fits in omega arith) ∙ ap (λ (x : List ℕ). x ++ 0 ∷ []) moved-front) other (let l = long in omega arith);
-      }
+      -- a zero is due
+      pub stretch-zero : read + len < end → is_full (last_part p) ≡ false → DecodedInPlace before end (set (put_mid written k buffer new) (written + w) 0) (read + len) (written + w + 1)
+      stretch-zero before-end other =
+          let r = stretch-shorter in
+          let o = s.order in
+          let m = left-long in
+          let i = s.within in
+          let l = after-len in
+          let f = s.fits in
+          record {
+            order = omega arith;
+            within = omega arith;
+            fits = s.fits;
+            len = length-set (put_mid written k buffer new) (written + w) 0 ∙ after-len;
+            rest = drop-set-lt (written + w + 1) (put_mid written k buffer new) (written + w) 0 (omega arith)
+                ∙ drop-later (written + w) (written + w + 1) (put_mid written k buffer new) before (omega arith) after-rest;
+            blocks = blocks-after _ (0 ∷ []) (joins-zero-due (code_of (last_part p)) q other (let d = length-drop (read + len) (take end before) in let n = long in omega arith))
+                (take_more_set (put_mid written k buffer new) (written + w) 0 (omega arith) ∙ ap (λ (x : List ℕ). x ++ 0 ∷ []) after-front);
+          }

@@ -38,7 +38,9 @@ pub mod MessagesLemmas
 pub mod SourceSteps
 pub mod VectorSteps
 pub mod HeadlineLemmas
+pub mod WholeLemmas
 mod LentSlice
 pub mod FewLemmas
 pub mod PushHeadline
 pub mod FlatLemmas
+pub mod VectorHeadline

@@ -1,10 +1,10 @@
 -- How long the encoded frame gets, counted from its open block.
-use Rattle.std.proofs.Common.{◌≡◌, ◌≢◌, ℕ, ◌+◌, ◌-◌, ◌<◌, ◌≤◌, ◌==◌, Bool, true, false, if◌then◌else◌, List, [], ◌∷◌, ◌++◌, length, map, replicate, All, refl, sym, ap, ◌∙◌, subst, arith, append-nil, append_assoc, length-append, inl, inr, ⊎_elim}
+use Rattle.std.proofs.Common.{◌≡◌, ◌≢◌, ℕ, ◌+◌, ◌-◌, ◌<◌, ◌≤◌, Bool, true, false, if◌then◌else◌, List, [], ◌∷◌, ◌++◌, length, map, replicate, All, refl, sym, ap, ◌∙◌, subst, arith, append-nil, append_assoc, length-append, ⊎_elim}
 use Rattle.std.specs.List.{concat}
 use Rattle.std.proofs.lemmas.Bool.{cases_Bool, eqb-true, eqb-false}
 use Rattle.std.proofs.lemmas.List.{length-replicate}
-use Rattle.std.proofs.lemmas.List.Elements.{All-append, All-replicate, All-head, All-tail, All-nil}
-use Rattle.cobs.specs.Grammar.{HasNoZero, IsBlock, is_full, bytes_of, code_of, joint, last_of, message_of}
+use Rattle.std.proofs.lemmas.List.Elements.{All-append, All-replicate, All-head, All-tail}
+use Rattle.cobs.specs.Grammar.{HasNoZero, IsBlock, is_full, bytes_of, joint, last_of, message_of}
 use Rattle.cobs.specs.Stream.{stretches}
 use Rattle.cobs.specs.Length.{runs, full_blocks, encoded_len, max_encoded_len}
 use Rattle.cobs.specs.Encoder.{open_len}

@@ -1,14 +1,14 @@
 -- What a push of a list and the zero behind it answers: the message m exactly where the list reads as m.
-use Rattle.std.proofs.Common.{◌≡◌, ◌≢◌, ℕ, ◌+◌, ◌<◌, ◌≤◌, ◌↔◌, nat_le, Bool, true, false, cond, List, [], ◌∷◌, ◌++◌, length, take, get_or, All, Option, Some, None, Result, Ok, Err, refl, sym, ap, ◌∙◌, subst, arith, append_assoc, length-append, length-take-le, take-append-drop, take_all, drop, eqb, ◌-◌, ⊎_elim}
+use Rattle.std.proofs.Common.{◌≡◌, ◌≢◌, ℕ, ◌+◌, ◌<◌, ◌≤◌, ◌↔◌, Bool, true, false, cond, List, [], ◌∷◌, ◌++◌, length, take, get_or, All, Option, Some, None, Result, Ok, Err, refl, sym, ap, ◌∙◌, subst, arith, append_assoc, length-append, length-take-le, take-append-drop, take_all, take_at, drop, eqb, ◌-◌, ⊎_elim}
 use Rattle.std.proofs.lemmas.Bool.{cases_lt, cases_Bool, ne_eqb, le-leb}
 use Rattle.std.proofs.lemmas.List.{append-nil, take-append-le, take_more, get_or_append_left}
 use Rattle.std.proofs.lemmas.List.Elements.{All-take, All-get_or}
-use Rattle.cobs.specs.Grammar.{HasNoZero, Reads}
+use Rattle.cobs.specs.Grammar.{Reads}
 use Rattle.cobs.specs.Piece.{output}
-use Rattle.cobs.specs.Stream.{Outcome, Message, Broken, TooLong, outcome_of, stream_outcomes, unended}
-use Rattle.cobs.specs.Decoder.{Phase, Idle, DecoderAfter, answer_to}
+use Rattle.cobs.specs.Stream.{Outcome, Message, outcome_of, stream_outcomes, unended}
+use Rattle.cobs.specs.Decoder.{Phase, Idle, answer_to}
 use Rattle.cobs.specs.Report.{parsed_size_of, frame_size_of}
-use Rattle.cobs.specs.Push.{answer_at, StopsAfter, Answers, PushesBytes, pushed_outcomes, refused_outcomes, consumed}
+use Rattle.cobs.specs.Push.{answer_at, PushesBytes, pushed_outcomes, refused_outcomes}
 use Rattle.cobs.specs.Headline.{IsPiece, PushesMessage}
 use Rattle.cobs.specs.declared.dec.report.DecodeReport.{DecodeReport}
 use Rattle.cobs.specs.declared.dec.report.PushError.{PushError}
@@ -117,9 +117,14 @@ module _ (buffer bytes buffer' f : List ℕ) (phase phase' : Phase) (idle : phas
       absurd (let e = sym quiet ∙ answered in cc))
       (cases_lt (length f) k)
 
-pub push_reads : (buffer bytes buffer' f : List ℕ) (phase phase' : Phase) (result : Result (Option DecodeReport) PushError) → PushesBytes buffer phase bytes result buffer' phase'
-    → phase ≡ Idle → bytes ≡ f ++ 0 ∷ [] → All (λ b. b < 256) f → IsPiece f → length (output f) ≤ length buffer → (m : List ℕ) → PushesMessage result buffer' m ↔ Reads f m
-push_reads buffer bytes buffer' f phase phase' result w idle is below piece fits m = (
-  pushes_from buffer bytes buffer' f phase phase' idle is below piece fits m result w,
-  pushes_to buffer bytes buffer' f phase phase' idle is below piece fits m result w,
-)
+-- the bytes of a front are bytes
+All-front : (f : List ℕ) (bytes : List ℕ) → bytes ≡ f ++ 0 ∷ [] → All (λ b. b < 256) bytes → All (λ b. b < 256) f
+All-front f bytes is h = subst (λ (x : List ℕ). All (λ b. b < 256) x) (ap (take (length f)) is ∙ take_at f (0 ∷ []) (length f) refl) (All-take (λ b. b < 256) (length f) bytes h)
+
+pub push_reads : {buffer bytes buffer' : List ℕ} {phase phase' : Phase} {result : Result (Option DecodeReport) PushError} → PushesBytes buffer phase bytes result buffer' phase' → All (λ b. b < 256) bytes
+    → (f m : List ℕ) → phase ≡ Idle → bytes ≡ f ++ 0 ∷ [] → IsPiece f → length (output f) ≤ length buffer → PushesMessage result buffer' m ↔ Reads f m
+push_reads {buffer} {bytes} {buffer'} {phase} {phase'} {result} w below f m idle is piece fits =
+    let front = All-front f bytes is below in (
+      pushes_from buffer bytes buffer' f phase phase' idle is front piece fits m result w,
+      pushes_to buffer bytes buffer' f phase phase' idle is front piece fits m result w,
+    )

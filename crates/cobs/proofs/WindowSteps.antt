@@ -28,7 +28,7 @@ pub record CopiedTo (piece dest : List ℕ) (read end written : ℕ) : Type 0 wh
 later : (xs : List ℕ) (l r : ℕ) → l ≤ r → drop (r - l) (drop l xs) ≡ drop r xs
 later xs l r le = drop-drop (r - l) l xs ∙ ap (λ (k : ℕ). drop k xs) (omega arith)
 
-take_parts : (xs : List ℕ) (a b : ℕ) → a + b ≤ length xs → take (a + b) xs ≡ take a xs ++ take b (drop a xs)
+pub take_parts : (xs : List ℕ) (a b : ℕ) → a + b ≤ length xs → take (a + b) xs ≡ take a xs ++ take b (drop a xs)
 take_parts xs a b le =
     let l : length (take a xs) ≡ a = length-take-le a xs (omega arith) in
     let d = length-drop a xs in

@@ -45,6 +45,7 @@ abbrev pub output_of : Option (List ℕ) → List ℕ
 output_of None = []
 output_of (Some p) = output p
 
+-- what `decode` writes of a source, as far as it fits
 abbrev pub first_output : List ℕ → List ℕ
 first_output source = output_of (first_piece source)
 

@@ -1,10 +1,12 @@
 -- The words of the headline: a decoder that is given all of a list answers a message.
-use Rattle.std.specs.Prelude.{◌≡◌, ◌≢◌, ℕ, List, [], length, take, Option, Result, IsOkAnd, IsSomeAnd}
+use Rattle.std.specs.Prelude.{◌≡◌, ◌≢◌, ℕ, List, [], length, take, Option, Result, IsOkAnd, IsSomeAnd, IfErr, ⊤}
 use Rattle.cobs.specs.Grammar.{HasNoZero}
 use Rattle.cobs.specs.Report.{frame_size_of}
 use Rattle.cobs.specs.declared.dec.report.DecodeReport.{DecodeReport}
 use Rattle.cobs.specs.declared.dec.report.DecodeError.{DecodeError}
 use Rattle.cobs.specs.declared.dec.report.PushError.{PushError}
+use Rattle.cobs.specs.declared.dec.vector.DecodeVecError.{DecodeVecError}
+use Rattle.cobs.specs.declared.dec.vector.DecodeVecError.TheVariants.{Decode, Memory}
 
 -- a list that may be a frame: it isn't empty, and the sentinel 0 isn't in it
 abbrev pub IsPiece : List ℕ → Type 0
@@ -25,3 +27,11 @@ ReportsMessage result buffer m = IsOkAnd result (λ report. BeginsWith buffer (f
 -- the same of a push to a streaming decoder
 abbrev pub PushesMessage : Result (Option DecodeReport) PushError → List ℕ → List ℕ → Type 0
 PushesMessage result buffer m = IsOkAnd result (λ found. IsSomeAnd found (λ report. BeginsWith buffer (frame_size_of report) m))
+
+-- a vector form that gave no vector was refused no memory
+abbrev pub IsNoWant : DecodeVecError → Type 0
+IsNoWant (Decode error) = ⊤
+IsNoWant (Memory error) = ⊥
+
+abbrev pub FoundMemory : {V : Type 0} → Result V DecodeVecError → Type 0
+FoundMemory result = IfErr result IsNoWant

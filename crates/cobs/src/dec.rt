@@ -1,7 +1,10 @@
 //! Decoding: from frames to messages.
-ghost use Rattle.std.specs.Prelude.{◌≡◌, length};
+ghost use Rattle.std.specs.Prelude.{◌≡◌, ◌↔◌, ◌≤◌, List, length, ℕ};
 ghost use Rattle.cobs.specs.Buffer.{overwritten};
 ghost use Rattle.cobs.specs.Decoding.{decode_answer, first_output};
+ghost use Rattle.cobs.specs.Grammar.{Reads};
+ghost use Rattle.cobs.specs.Headline.{IsPiece, ReportsMessage};
+ghost use Rattle.cobs.specs.Piece.{output};
 
 mod fit;
 mod frame_decoder;
@@ -32,6 +35,26 @@ pub use state::{DecodeResult, DecoderState};
 pub use vector::{DecodeVecError, decode_vec, decode_vec_with_sentinel};
 pub use write_buffer::WriteBuffer;
 
+/// Decodes the first piece of the source.
+fn decode_first(source: &[u8], dest: &mut [u8]) -> Result<DecodeReport, DecodeError>
+    ensures answer { result ≡ decode_answer source.now (length dest.old) }
+    ensures buffer { dest.new ≡ overwritten dest.old (first_output source.now) }
+{
+    if source.is_empty() {
+        return Err(DecodeError::EmptyFrame);
+    }
+    let start = leading_zeros(source);
+    let rest = &source[start..];
+    let len = piece_len(rest);
+    if len == 0 {
+        return Err(DecodeError::InvalidFrame { decoded_bytes: 0 });
+    }
+    let frame_size = decode_ended(&rest[..len], dest)?;
+    let end = start + len;
+    let parsed_size = if end < source.len() { end + 1 } else { end };
+    Ok(DecodeReport::new(parsed_size, frame_size))
+}
+
 /// Decodes the first frame of the source into `dest`, and answers how many bytes were consumed and how many the
 /// message has.
 ///
@@ -50,20 +73,10 @@ pub use write_buffer::WriteBuffer;
 pub fn decode(source: &[u8], dest: &mut [u8]) -> Result<DecodeReport, DecodeError>
     ensures answer { result ≡ decode_answer source.now (length dest.old) }
     ensures buffer { dest.new ≡ overwritten dest.old (first_output source.now) }
+    ensures reads { IsPiece source.now → length (output source.now) ≤ length dest.old
+        → (m : List ℕ) → (ReportsMessage result dest.new m ↔ Reads source.now m) }
 {
-    if source.is_empty() {
-        return Err(DecodeError::EmptyFrame);
-    }
-    let start = leading_zeros(source);
-    let rest = &source[start..];
-    let len = piece_len(rest);
-    if len == 0 {
-        return Err(DecodeError::InvalidFrame { decoded_bytes: 0 });
-    }
-    let frame_size = decode_ended(&rest[..len], dest)?;
-    let end = start + len;
-    let parsed_size = if end < source.len() { end + 1 } else { end };
-    Ok(DecodeReport::new(parsed_size, frame_size))
+    decode_first(source, dest)
 }
 
 #[cfg(test)]

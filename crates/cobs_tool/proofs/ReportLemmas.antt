@@ -10,10 +10,9 @@ use Rattle.cobs.specs.declared.framed.ReadFault.{ReadFault}
 use Rattle.cobs.specs.declared.framed.ReadFault.TheVariants as faults
 use Rattle.cobs_tool.proofs.MemoryLemmas.{MemoryStep, bytes_left-Runs, never_fails, bytes_left-at_end, few_reads}
 use Rattle.cobs_tool.specs.Memory.{bytes_left}
-use Rattle.cobs_tool.specs.Report.{outcome_line, report, unfinished_line}
-use Rattle.cobs_tool.specs.declared.input.TheConstants.{MAX_INPUT}
+use Rattle.cobs_tool.specs.Report.{longest_message, outcome_line, report, unfinished_line}
+use Rattle.cobs_tool.specs.Input.{max_input}
 use Rattle.cobs_tool.specs.declared.memory.InMemory.{InMemory}
-use Rattle.cobs_tool.specs.declared.report.TheConstants.{DECODE_BUFFER_LEN}
 
 -- the line of the empty message
 pub outcome_line-empty : (message : List ℕ) → length message ≡ 0 → codes "message 0\n" ≡ outcome_line (Message message)
@@ -29,7 +28,7 @@ pushed_line (Err v) old new line line' e pushed = tt
 -- PIECE BY PIECE
 
 -- the report is said line by line
-report_is : (stream : List ℕ) (n : ℕ) → n ≡ DECODE_BUFFER_LEN → report stream ≡ flat_map outcome_line (stream_outcomes stream n) ++ unfinished_line stream
+report_is : (stream : List ℕ) (n : ℕ) → n ≡ longest_message → report stream ≡ flat_map outcome_line (stream_outcomes stream n) ++ unfinished_line stream
 report_is stream n e = ap (λ k. flat_map outcome_line (stream_outcomes stream k) ++ unfinished_line stream) (sym e)
 
 -- what no zero has ended in a stream is that of what follows a zero
@@ -38,7 +37,7 @@ unended-behind front behind =
     ap unended (sym (append_assoc front (0 ∷ []) behind)) ∙ unended-append (front ++ 0 ∷ []) behind ∙ ap (λ l. unended (l ++ behind)) (unended-zero front)
 
 -- what stands behind the first piece that ends in the stream t, and then more, decides the rest of the report
-report-first : (t behind more : List ℕ) (n : ℕ) (outcome : Outcome) → n ≡ DECODE_BUFFER_LEN → EndsFirst t n outcome behind
+report-first : (t behind more : List ℕ) (n : ℕ) (outcome : Outcome) → n ≡ longest_message → EndsFirst t n outcome behind
     → report (t ++ more) ≡ outcome_line outcome ++ report (behind ++ more)
 report-first t behind more n outcome e first =
     let same : unended t ≡ unended behind = ap unended first.cut ∙ unended-behind first.front behind in
@@ -55,7 +54,7 @@ report-first t behind more n outcome e first =
     ∙ ap (λ l. outcome_line outcome ++ l) (sym (report_is (behind ++ more) n e))
 
 -- the report of a stream in which no piece ends
-report-none : (t : List ℕ) (n : ℕ) → n ≡ DECODE_BUFFER_LEN → stream_outcomes t n ≡ [] → report t ≡ unfinished_line t
+report-none : (t : List ℕ) (n : ℕ) → n ≡ longest_message → stream_outcomes t n ≡ [] → report t ≡ unfinished_line t
 report-none t n e none = report_is t n e ∙ ap (λ l. flat_map outcome_line l ++ unfinished_line t) none
 
 -- AFTER A CALL OF `next_frame`
@@ -77,7 +76,7 @@ left_of-given reader source reads source' runs =
     ap (λ l. reader.kept ++ l) (bytes_left-Runs source reads source' runs) ∙ sym (append_assoc reader.kept (all_given reads) (bytes_left source'))
 
 pub PieceTold-from : (reader : ReaderState) (source : InMemory) (reader' : ReaderState) (source' : InMemory) (reads : List Read) (outcome : Outcome)
-    → length reader'.buffer ≡ DECODE_BUFFER_LEN → Runs MemoryStep source reads source' → AtPieceEnd (reader.kept ++ all_given reads) outcome reader'
+    → length reader'.buffer ≡ longest_message → Runs MemoryStep source reads source' → AtPieceEnd (reader.kept ++ all_given reads) outcome reader'
     → PieceTold reader source reader' source' outcome
 PieceTold-from reader source reader' source' reads outcome len runs end =
     let more = bytes_left source' in
@@ -93,20 +92,20 @@ PieceTold-from reader source reader' source' reads outcome len runs end =
 -- what each answer of a call tells, where the reader was idle
 
 pub message_told : (reader : ReaderState) (source : InMemory) (reader' : ReaderState) (source' : InMemory) (n : ℕ)
-    → ReadsNext MemoryStep source source' reader (Ok (nexts.Message n)) reader' → IsBehind reader [] → length reader'.buffer ≡ DECODE_BUFFER_LEN
+    → ReadsNext MemoryStep source source' reader (Ok (nexts.Message n)) reader' → IsBehind reader [] → length reader'.buffer ≡ longest_message
     → PieceTold reader source reader' source' (Message (take n reader'.buffer)) × (n ≤ length reader'.buffer)
 message_told reader source reader' source' n next idle len =
     let told = next.tells [] idle in
     (PieceTold-from reader source reader' source' next.reads _ len next.runs told.0, told.1)
 
 pub broken_told : (reader : ReaderState) (source : InMemory) (reader' : ReaderState) (source' : InMemory) (count : ℕ)
-    → ReadsNext MemoryStep source source' reader (Ok (nexts.Broken count)) reader' → IsBehind reader [] → length reader'.buffer ≡ DECODE_BUFFER_LEN
+    → ReadsNext MemoryStep source source' reader (Ok (nexts.Broken count)) reader' → IsBehind reader [] → length reader'.buffer ≡ longest_message
     → PieceTold reader source reader' source' (Broken count)
 broken_told reader source reader' source' count next idle len =
     PieceTold-from reader source reader' source' next.reads _ len next.runs (next.tells [] idle)
 
 pub too_long_told : (reader : ReaderState) (source : InMemory) (reader' : ReaderState) (source' : InMemory)
-    → ReadsNext MemoryStep source source' reader (Ok nexts.TooLong) reader' → IsBehind reader [] → length reader'.buffer ≡ DECODE_BUFFER_LEN
+    → ReadsNext MemoryStep source source' reader (Ok nexts.TooLong) reader' → IsBehind reader [] → length reader'.buffer ≡ longest_message
     → PieceTold reader source reader' source' TooLong
 too_long_told reader source reader' source' next idle len =
     PieceTold-from reader source reader' source' next.reads _ len next.runs (next.tells [] idle)
@@ -117,7 +116,7 @@ unfinished_text unfinished = if unfinished then codes "unfinished\n" else []
 
 -- nothing is left behind the end
 pub end_told : (reader : ReaderState) (source : InMemory) (reader' : ReaderState) (source' : InMemory) (unfinished : Bool)
-    → ReadsNext MemoryStep source source' reader (Ok (nexts.End unfinished)) reader' → IsBehind reader [] → length reader'.buffer ≡ DECODE_BUFFER_LEN
+    → ReadsNext MemoryStep source source' reader (Ok (nexts.End unfinished)) reader' → IsBehind reader [] → length reader'.buffer ≡ longest_message
     → report (left_of reader source) ≡ unfinished_text unfinished
 end_told reader source reader' source' unfinished next idle len =
     let t = reader.kept ++ all_given next.reads in
@@ -130,7 +129,7 @@ end_told reader source reader' source' unfinished next idle len =
 
 -- a call over 1 MiB or less meets no fault: no read fails, and one in 64 bytes is enough
 pub no_fault : (reader : ReaderState) (source : InMemory) (reader' : ReaderState) (source' : InMemory) (fault : ReadFault)
-    → ReadsNext MemoryStep source source' reader (Err fault) reader' → IsBehind reader [] → length (left_of reader source) ≤ MAX_INPUT → ⊥
+    → ReadsNext MemoryStep source source' reader (Err fault) reader' → IsBehind reader [] → length (left_of reader source) ≤ max_input → ⊥
 no_fault reader source reader' source' faults.Io next idle few =
     let (earlier, last) = (next.tells [] idle).1 in
     never_fails source earlier source' (subst (λ reads. Runs MemoryStep source reads source') last next.runs)

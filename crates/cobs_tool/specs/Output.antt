@@ -2,7 +2,10 @@
 use Rattle.std.specs.Prelude.{ℕ, ◌≡◌, List, [], ◌∷◌, ◌++◌, Option}
 use Rattle.std.specs.Io.KnownBytes.{Appends}
 use Rattle.cobs.specs.Grammar.{IsEncodedFrame}
+use Rattle.cobs_tool.specs.Report.{report}
 use Rattle.cobs_tool.specs.Text.{hex_line}
+use Rattle.cobs_tool.specs.declared.mode.Mode.{Mode}
+use Rattle.cobs_tool.specs.declared.mode.Mode.TheVariants.{Show, Encode, Decode}
 
 -- a writer that tells its bytes has got some more, of which P holds
 abbrev pub WritesSome : (List ℕ → Type 0) → Option (List ℕ) → Option (List ℕ) → Type 0
@@ -19,3 +22,9 @@ pub record IsShown (line message : List ℕ) : Type 0 where
   pub bytes : List ℕ
   pub frame : IsTerminatedFrame bytes message
   pub digits : line ≡ hex_line bytes
+
+-- what a mode writes of an input
+abbrev pub IsOutputOf : Mode → List ℕ → List ℕ → Type 0
+IsOutputOf Show message line = IsShown line message
+IsOutputOf Encode message bytes = IsTerminatedFrame bytes message
+IsOutputOf Decode stream text = text ≡ report stream

@@ -4,7 +4,10 @@ use Rattle.std.specs.Fmt.{decimal}
 use Rattle.std.specs.List.{flat_map}
 use Rattle.hex.specs.Hex.{encode_lower}
 use Rattle.cobs.specs.Stream.{Outcome, Message, Broken, TooLong, is_nonempty, stream_outcomes, unended}
-use Rattle.cobs_tool.specs.declared.report.TheConstants.{DECODE_BUFFER_LEN}
+
+-- the length of the longest message that is decoded
+abbrev pub longest_message : ℕ
+longest_message = 65536
 
 -- a message's digits and a space in front of them; nothing for the empty message
 abbrev pub spaced_digits : List ℕ → List ℕ
@@ -23,4 +26,4 @@ unfinished_line stream = if is_nonempty (unended stream) then codes "unfinished\
 
 -- a line for each piece that has ended in the stream, in order, and that last one
 abbrev pub report : List ℕ → List ℕ
-report stream = flat_map outcome_line (stream_outcomes stream DECODE_BUFFER_LEN) ++ unfinished_line stream
+report stream = flat_map outcome_line (stream_outcomes stream longest_message) ++ unfinished_line stream

@@ -9,8 +9,8 @@ use std::io::Read;
 /// The most bytes of input that the program takes, 1 MiB.
 pub const MAX_INPUT: usize = 1_048_576;
 
-/// How many bytes a read asks for.
-const CHUNK_LEN: usize = 8_192;
+/// The most bytes that one read asks for, 8 KiB, and so the most that are read past [`MAX_INPUT`].
+pub const READ_LEN: usize = 8_192;
 
 /// Reads to the end of the input, that is, to the first read that gives 0 bytes.
 ///
@@ -26,7 +26,7 @@ pub fn read_input<R: Read>(alloc: Global, input: &mut R) -> Result<Vec<u8>, Tool
     ensures no_write { IfErr result (λ fault. fault ≢ ToolFault.WriteFailed) }
 {
     let mut bytes = Vec::new(alloc);
-    let mut chunk = [0u8; CHUNK_LEN];
+    let mut chunk = [0u8; READ_LEN];
     'by_read: loop {
         let Ok(count) = input.read(&mut chunk) else {
             return Err(ToolFault::ReadFailed);

@@ -24,12 +24,9 @@ mod report;
 mod tests;
 mod text;
 
-use fault::ToolFault;
 use mode::{Mode, mode_of};
-use modes::{run_decode, run_encode, run_show};
-use std::alloc::Global;
+use modes::run_mode;
 use std::env;
-use std::io::{Read, Write};
 use std::process::ExitCode;
 use text::fault_line;
 
@@ -40,7 +37,7 @@ fn main(rt: HostRuntime) -> ExitCode {
         let _ = eprintln!(rt; "{USAGE}");
         return ExitCode::from(2);
     };
-    match run(rt.alloc(), &mode, &mut rt.stdin(), &mut rt.stdout()) {
+    match run_mode(rt.alloc(), &mode, &mut rt.stdin(), &mut rt.stdout()) {
         Ok(()) => ExitCode::SUCCESS,
         Err(fault) => {
             let line = fault_line(&fault);
@@ -54,18 +51,4 @@ fn main(rt: HostRuntime) -> ExitCode {
 fn mode_of_arguments(rt: &HostRuntime) -> Option<Mode> {
     let words: Vec<String> = env::args(rt).ok()?.skip(1).collect(rt.alloc()).ok()?;
     mode_of(&words)
-}
-
-/// Runs the mode from the input to the output.
-fn run<R: Read, W: Write>(
-    alloc: Global,
-    mode: &Mode,
-    input: &mut R,
-    output: &mut W,
-) -> Result<(), ToolFault> {
-    match mode {
-        Mode::Show => run_show(alloc, input, output),
-        Mode::Encode => run_encode(alloc, input, output),
-        Mode::Decode => run_decode(alloc, input, output),
-    }
 }

@@ -3,15 +3,36 @@ ghost use Rattle.std.specs.Prelude.{◌≡◌, ◌≢◌, ◌≤◌, length, IfE
 ghost use Rattle.std.specs.Io.KnownBytes.{Appends, Keeps};
 ghost use Rattle.cobs_tool.specs.Report.{report};
 ghost use Rattle.cobs_tool.specs.Input.{HasRead};
-ghost use Rattle.cobs_tool.specs.Output.{IsShown, IsTerminatedFrame, WritesSome};
+ghost use Rattle.cobs_tool.specs.Output.{IsOutputOf, IsShown, IsTerminatedFrame, WritesSome};
 
 use crate::fault::ToolFault;
 use crate::input::{MAX_INPUT, read_input};
+use crate::mode::Mode;
 use crate::output::write_output;
 use crate::report::report_of;
 use crate::text::hex_line;
 use std::alloc::{AllocError, Global};
 use std::io::{Read, Write};
+
+/// Runs a mode from the input to the output: [`run_show`], [`run_encode`] or [`run_decode`].
+pub fn run_mode<R: Read, W: Write>(
+    alloc: Global,
+    mode: &Mode,
+    input: &mut R,
+    output: &mut W,
+) -> Result<(), ToolFault>
+    ensures read { HasRead (R.remaining input.old) (R.remaining input.new) result }
+    ensures written { OnOk result (IfSome (R.remaining input.old) (λ bytes.
+        WritesSome (IsOutputOf mode.now bytes) (W.contents output.old) (W.contents output.new))) }
+    ensures unwritten { IfErr result (λ fault. fault ≢ ToolFault.WriteFailed
+        → Keeps (W.contents output.old) (W.contents output.new)) }
+{
+    match mode {
+        Mode::Show => run_show(alloc, input, output),
+        Mode::Encode => run_encode(alloc, input, output),
+        Mode::Decode => run_decode(alloc, input, output),
+    }
+}
 
 /// Prints the encoded frame of the input and the zero behind it, as two hexadecimal digits a byte.
 ///
@@ -30,7 +51,8 @@ pub fn run_show<R: Read, W: Write>(
 ) -> Result<(), ToolFault>
     ensures read { HasRead (R.remaining input.old) (R.remaining input.new) result }
     ensures shown { OnOk result (IfSome (R.remaining input.old) (λ message.
-        WritesSome (λ line. IsShown line message) (W.contents output.old) (W.contents output.new))) }
+        WritesSome (λ line. IsShown line message)
+        (W.contents output.old) (W.contents output.new))) }
     ensures unwritten { IfErr result (λ fault. fault ≢ ToolFault.WriteFailed
         → Keeps (W.contents output.old) (W.contents output.new)) }
 {
@@ -50,7 +72,8 @@ pub fn run_encode<R: Read, W: Write>(
 ) -> Result<(), ToolFault>
     ensures read { HasRead (R.remaining input.old) (R.remaining input.new) result }
     ensures encoded { OnOk result (IfSome (R.remaining input.old) (λ message.
-        WritesSome (λ bytes. IsTerminatedFrame bytes message) (W.contents output.old) (W.contents output.new))) }
+        WritesSome (λ bytes. IsTerminatedFrame bytes message)
+        (W.contents output.old) (W.contents output.new))) }
     ensures unwritten { IfErr result (λ fault. fault ≢ ToolFault.WriteFailed
         → Keeps (W.contents output.old) (W.contents output.new)) }
 {

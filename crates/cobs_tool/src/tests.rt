@@ -3,7 +3,7 @@
 
 use crate::fault::ToolFault;
 use crate::mode::{Mode, mode_of};
-use crate::run;
+use crate::modes::run_mode;
 use crate::text::fault_line;
 use std::alloc::{AllocError, Global};
 use std::io::{self, ErrorKind, Read, Write};
@@ -133,7 +133,10 @@ fn faults_have_lines(rt: HostRuntime) {
 fn rows_are_written(rt: HostRuntime) -> Result<(), Fail> {
     for (mode, mut input, written) in ROWS {
         let mut output = Vec::new(rt.alloc());
-        assert_eq!(rt; run(rt.alloc(), &mode, &mut input, &mut output), Ok(()));
+        assert_eq!(rt;
+            run_mode(rt.alloc(), &mode, &mut input, &mut output),
+            Ok(())
+        );
         assert_eq!(rt; output.as_slice(), written);
     }
     Ok(())
@@ -152,7 +155,7 @@ fn each_read_may_fail(rt: HostRuntime) -> Result<(), Fail> {
                     fault,
                 };
                 let mut output = Vec::new(rt.alloc());
-                let result = run(rt.alloc(), &mode, &mut input, &mut output);
+                let result = run_mode(rt.alloc(), &mode, &mut input, &mut output);
                 if failing <= bytes.len() {
                     assert_eq!(rt; result, Err(ToolFault::ReadFailed));
                     assert_eq!(rt; output.len(), 0);
@@ -179,7 +182,7 @@ fn each_write_may_fail(rt: HostRuntime) -> Result<(), Fail> {
                 failing,
                 fails_to_flush: false,
             };
-            let result = run(rt.alloc(), &mode, &mut input, &mut output);
+            let result = run_mode(rt.alloc(), &mode, &mut input, &mut output);
             if failing < written.len() {
                 assert_eq!(rt; result, Err(ToolFault::WriteFailed));
             } else {
@@ -200,7 +203,7 @@ fn a_flush_may_fail(rt: HostRuntime) {
             failing: usize::MAX,
             fails_to_flush: true,
         };
-        let result = run(rt.alloc(), &mode, &mut input, &mut output);
+        let result = run_mode(rt.alloc(), &mode, &mut input, &mut output);
         assert_eq!(rt; result, Err(ToolFault::WriteFailed));
     }
 }
@@ -217,7 +220,7 @@ fn input_has_a_limit(rt: HostRuntime) -> Result<(), Fail> {
     for (mode, count) in rows {
         let mut output = Vec::new(alloc);
         assert_eq!(rt;
-            run(alloc, &mode, &mut zeros.as_slice(), &mut output),
+            run_mode(alloc, &mode, &mut zeros.as_slice(), &mut output),
             Ok(())
         );
         assert_eq!(rt; output.len(), count);
@@ -225,9 +228,9 @@ fn input_has_a_limit(rt: HostRuntime) -> Result<(), Fail> {
     zeros.push(0)?;
     for mode in [Mode::Show, Mode::Encode, Mode::Decode] {
         let mut output = Vec::new(alloc);
-        let result = run(alloc, &mode, &mut zeros.as_slice(), &mut output);
+        let result = run_mode(alloc, &mode, &mut zeros.as_slice(), &mut output);
         assert_eq!(rt; result, Err(ToolFault::InputTooLong));
-        let result = run(alloc, &mode, &mut io::repeat(1), &mut output);
+        let result = run_mode(alloc, &mode, &mut io::repeat(1), &mut output);
         assert_eq!(rt;
             result,
             Err(ToolFault::InputTooLong),
@@ -241,7 +244,7 @@ fn input_has_a_limit(rt: HostRuntime) -> Result<(), Fail> {
         failing: usize::MAX,
         fault: ErrorKind::Other,
     };
-    let result = run(alloc, &Mode::Encode, &mut input, &mut Vec::new(alloc));
+    let result = run_mode(alloc, &Mode::Encode, &mut input, &mut Vec::new(alloc));
     assert_eq!(rt; result, Err(ToolFault::InputTooLong));
     assert_eq!(rt;
         input.reads,
@@ -272,8 +275,8 @@ fn messages_have_a_limit(rt: HostRuntime) -> Result<(), Fail> {
 /// What `decode` prints of what `encode` writes.
 fn there_and_back(alloc: Global, mut message: &[u8]) -> Result<Vec<u8>, ToolFault> {
     let mut frame = Vec::new(alloc);
-    run(alloc, &Mode::Encode, &mut message, &mut frame)?;
+    run_mode(alloc, &Mode::Encode, &mut message, &mut frame)?;
     let mut report = Vec::new(alloc);
-    run(alloc, &Mode::Decode, &mut frame.as_slice(), &mut report)?;
+    run_mode(alloc, &Mode::Decode, &mut frame.as_slice(), &mut report)?;
     Ok(report)
 }

@@ -1,51 +1,63 @@
 //! Decoding a frame in the buffer in which it stands.
-ghost use Rattle.std.specs.Prelude.{◌≡◌, ◌≢◌, ◌+◌, ◌-◌, ◌++◌, ◌≤◌, length, take, drop, IfErr, IsTrue};
+ghost use Rattle.std.specs.Prelude.{◌≡◌, ◌≢◌, ◌↔◌, ◌-◌, ◌<◌, ◌≤◌, ℕ, List, All, length, take, drop, slice_index, IfErr, IsTrue};
 ghost use Rattle.cobs.specs.Buffer.{overwritten};
 ghost use Rattle.cobs.specs.Decoding.{head_answer, in_place, in_place_answer, in_place_report};
-ghost use Rattle.cobs.specs.Grammar.{HasNoZero};
-ghost use Rattle.cobs.specs.Piece.{kept_output, output, IsFlat};
+ghost use Rattle.cobs.specs.Grammar.{HasNoZero, Reads};
+ghost use Rattle.cobs.specs.Headline.{AnswersMessage, IsPiece, ReportsMessage};
+ghost use Rattle.cobs.specs.Piece.{kept_output, lacks, last_part, output, IsFlat};
 ghost use Rattle.cobs.specs.Sentinel.{xor_each};
 ghost use Rattle.cobs.specs.declared.dec.report.DecodeError.TheVariants.{TargetBufTooSmall};
 
-use crate::dec::piece::{FULL_CODE, piece_len};
+use crate::dec::piece::{FULL_CODE, decode_piece, piece_len};
 use crate::dec::report::{DecodeError, DecodeReport};
 use crate::enc::xor_bytes;
 
-/// Moves `len` bytes that stand at `from` to the front, to where `to` says.
-fn move_down(buffer: &mut [u8], from: usize, to: usize, len: usize)
-    requires order { to ≤ from }
-    requires within { from + len ≤ length buffer.old }
-    ensures { buffer.new ≡ take to buffer.old ++ take len (drop from buffer.old) ++ drop (to + len) buffer.old }
+/// How many bytes of a frame are decoded at a time, at most: room for each block.
+const STRETCH: usize = 256;
+
+/// How many bytes the whole blocks at the front of a frame have, as far as they fit a stretch.
+fn whole_blocks_len(bytes: &[u8]) -> usize
+    requires { HasNoZero bytes.now }
+    ensures within { result ≤ length bytes.now }
+    ensures few { result ≤ 256 }
+    ensures whole { 0 < result → lacks (last_part (take result bytes.now)) ≡ 0 }
+    ensures broken { result ≡ 0 → 0 < length bytes.now → length bytes.now < slice_index bytes.now 0 }
 {
-    if len < 16 {
-        'by_byte: for i in 0..len {
-            buffer[to + i] = buffer[from + i];
+    let mut len = 0;
+    'by_block: while len < bytes.len() {
+        let code = bytes[len] as usize;
+        if bytes.len() - len < code || STRETCH - len < code {
+            return len;
         }
-    } else {
-        buffer.copy_within(from..from + len, to);
+        len += code;
     }
+    len
 }
 
 /// Decodes the blocks in the first `end` bytes of the buffer, and answers how many bytes they give.
+///
+/// Each stretch of whole blocks is copied out and decoded to the front, so no byte of a broken block is moved.
 fn decode_blocks(buffer: &mut [u8], end: usize) -> Result<usize, DecodeError>
     requires within { end ≤ length buffer.old }
     requires nonzero { HasNoZero (take end buffer.old) }
     ensures answer { result ≡ head_answer (take end buffer.old) }
     ensures buffer { buffer.new ≡ overwritten buffer.old (kept_output (take end buffer.old)) }
 {
+    let mut stretch = [0; STRETCH];
     let mut read = 0;
     let mut written = 0;
-    'by_block: while read < end {
-        let code = buffer[read] as usize;
-        if end - read < code {
+    'by_stretch: while read < end {
+        let len = whole_blocks_len(&buffer[read..end]);
+        if len == 0 {
             return Err(DecodeError::InvalidFrame {
                 decoded_bytes: written,
             });
         }
-        move_down(buffer, read + 1, written, code - 1);
-        read += code;
-        written += code - 1;
-        if code != FULL_CODE && read < end {
+        stretch[..len].copy_from_slice(&buffer[read..read + len]);
+        let last = decode_piece(&stretch[..len], &mut buffer[written..]);
+        read += len;
+        written += last.written;
+        if !last.full && read < end {
             buffer[written] = 0;
             written += 1;
         }
@@ -119,6 +131,34 @@ fn decode_front(buffer: &mut [u8], end: usize) -> Result<usize, DecodeError>
     decode_blocks(buffer, end)
 }
 
+/// Does nothing: what a slice holds are bytes.
+fn bytes_known(bytes: &[u8])
+    ensures { All (λ byte. byte < 256) bytes.now }
+{}
+
+/// Decodes what stands before the first zero, and answers how many bytes it and the message have.
+fn decode_head(buf: &mut [u8]) -> Result<DecodeReport, DecodeError>
+    ensures answer { result ≡ in_place_report buf.old }
+    ensures buffer { buf.new ≡ in_place buf.old }
+    ensures room { IfErr result (λ error. error ≢ TargetBufTooSmall) }
+{
+    if buf.is_empty() {
+        return Err(DecodeError::EmptyFrame);
+    }
+    let end = piece_len(buf);
+    let frame_size = decode_front(buf, end)?;
+    Ok(DecodeReport::new(end, frame_size))
+}
+
+/// Decodes what stands before the first zero, and answers how many bytes the message has.
+fn decode_head_size(buf: &mut [u8]) -> Result<usize, DecodeError>
+    ensures answer { result ≡ in_place_answer buf.old }
+    ensures buffer { buf.new ≡ in_place buf.old }
+    ensures room { IfErr result (λ error. error ≢ TargetBufTooSmall) }
+{
+    Ok(decode_head(buf)?.frame_size())
+}
+
 /// Decodes the frame at the front of the buffer in its own place, up to the first zero or the buffer's end, and answers
 /// how many bytes the frame and the message have.
 ///
@@ -137,14 +177,11 @@ fn decode_front(buffer: &mut [u8], end: usize) -> Result<usize, DecodeError>
 pub fn decode_in_place_report(buf: &mut [u8]) -> Result<DecodeReport, DecodeError>
     ensures answer { result ≡ in_place_report buf.old }
     ensures buffer { buf.new ≡ in_place buf.old }
+    ensures reads { IsPiece buf.old → (m : List ℕ) → (ReportsMessage result buf.new m ↔ Reads buf.old m) }
     ensures room { IfErr result (λ error. error ≢ TargetBufTooSmall) }
 {
-    if buf.is_empty() {
-        return Err(DecodeError::EmptyFrame);
-    }
-    let end = piece_len(buf);
-    let frame_size = decode_front(buf, end)?;
-    Ok(DecodeReport::new(end, frame_size))
+    bytes_known(buf);
+    decode_head(buf)
 }
 
 /// Decodes the frame at the front of the buffer in its own place, up to the first zero or the buffer's end, and answers
@@ -155,9 +192,11 @@ pub fn decode_in_place_report(buf: &mut [u8]) -> Result<DecodeReport, DecodeErro
 pub fn decode_in_place(buff: &mut [u8]) -> Result<usize, DecodeError>
     ensures answer { result ≡ in_place_answer buff.old }
     ensures buffer { buff.new ≡ in_place buff.old }
+    ensures reads { IsPiece buff.old → (m : List ℕ) → (AnswersMessage result buff.new m ↔ Reads buff.old m) }
     ensures room { IfErr result (λ error. error ≢ TargetBufTooSmall) }
 {
-    Ok(decode_in_place_report(buff)?.frame_size())
+    bytes_known(buff);
+    decode_head_size(buff)
 }
 
 /// Decodes the frame at the front of the buffer in its own place, where the sentinel is another byte than 0.
@@ -168,8 +207,11 @@ pub fn decode_in_place(buff: &mut [u8]) -> Result<usize, DecodeError>
 pub fn decode_in_place_with_sentinel(buff: &mut [u8], sentinel: u8) -> Result<usize, DecodeError>
     ensures answer { result ≡ in_place_answer (xor_each sentinel buff.old) }
     ensures buffer { buff.new ≡ in_place (xor_each sentinel buff.old) }
+    ensures reads { let f = xor_each sentinel buff.old in
+        IsPiece f → (m : List ℕ) → (AnswersMessage result buff.new m ↔ Reads f m) }
     ensures room { IfErr result (λ error. error ≢ TargetBufTooSmall) }
 {
     xor_bytes(buff, sentinel);
-    decode_in_place(buff)
+    bytes_known(buff);
+    decode_head_size(buff)
 }

@@ -158,6 +158,7 @@ impl CobsDecoderInner {
 
     /// Takes the first bytes up to a zero, as far as their output fits the buffer, one by one, and answers how many:
     /// for bytes so few that a search and copies cost more.
+    #[inline(always)]
     fn take_few(&mut self, dest: &mut [u8], bytes: &[u8]) -> usize
         ensures within { result ≤ length bytes.now }
         ensures fed { FedInTurn dest.old (phase_of self.old) (take result bytes.now) dest.new (phase_of self.new) }
@@ -206,6 +207,7 @@ impl CobsDecoderInner {
     }
 
     /// Takes first bytes that are each answered by `Ok(None)`, as many as can be taken at once, and answers how many.
+    #[inline(always)]
     fn take_run(&mut self, dest: &mut [u8], bytes: &[u8]) -> usize
         ensures within { result ≤ length bytes.now }
         ensures fed { FedInTurn dest.old (phase_of self.old) (take result bytes.now) dest.new (phase_of self.new) }

@@ -1,7 +1,10 @@
 //! The streaming decoder over a slice that is lent to it.
-ghost use Rattle.std.specs.Prelude.{◌≡◌, []};
+ghost use Rattle.std.specs.Prelude.{◌≡◌, [], ◌↔◌, ◌≤◌, ◌∷◌, ◌++◌, List, length, ℕ};
 ghost use Rattle.std.specs.Borrow.{sem};
-ghost use Rattle.cobs.specs.Decoder.{DecoderAfter, Feeds};
+ghost use Rattle.cobs.specs.Decoder.{DecoderAfter, Feeds, Idle};
+ghost use Rattle.cobs.specs.Grammar.{Reads};
+ghost use Rattle.cobs.specs.Headline.{IsPiece, PushesMessage};
+ghost use Rattle.cobs.specs.Piece.{output};
 ghost use Rattle.cobs.specs.Push.{PushesBytes};
 ghost use Rattle.cobs.specs.Buffers.{lent_buffer, lent_phase, lent_slice, LendsSlice};
 
@@ -67,6 +70,9 @@ impl<'a> CobsDecoder<'a> {
     pub fn push(&mut self, bytes: &[u8]) -> Result<Option<DecodeReport>, PushError>
         ensures pushes { PushesBytes (lent_buffer self.old) (lent_phase self.old) bytes.now result
             (lent_buffer self.new) (lent_phase self.new) }
+        ensures reads { (f m : List ℕ) → lent_phase self.old ≡ Idle → bytes.now ≡ f ++ 0 ∷ [] → IsPiece f
+            → length (output f) ≤ length (lent_buffer self.old)
+            → (PushesMessage result (lent_buffer self.new) m ↔ Reads f m) }
         ensures same_slice { lent_slice self.new ≡ lent_slice self.old }
     {
         self.inner.push(self.dest, bytes)

@@ -1,7 +1,10 @@
 //! The streaming decoder over a buffer of its own, in memory that it takes once.
-ghost use Rattle.std.specs.Prelude.{◌≡◌, [], replicate, IfOk};
+ghost use Rattle.std.specs.Prelude.{◌≡◌, [], replicate, IfOk, ◌↔◌, ◌≤◌, ◌∷◌, ◌++◌, List, length, ℕ};
 ghost use Rattle.std.specs.Borrow.{sem};
-ghost use Rattle.cobs.specs.Decoder.{DecoderAfter, Feeds};
+ghost use Rattle.cobs.specs.Decoder.{DecoderAfter, Feeds, Idle};
+ghost use Rattle.cobs.specs.Grammar.{Reads};
+ghost use Rattle.cobs.specs.Headline.{IsPiece, PushesMessage};
+ghost use Rattle.cobs.specs.Piece.{output};
 ghost use Rattle.cobs.specs.Push.{PushesBytes};
 ghost use Rattle.cobs.specs.Buffers.{owned_buffer, owned_phase, LendsOwned};
 
@@ -64,6 +67,9 @@ impl CobsDecoderOwned {
     pub fn push(&mut self, bytes: &[u8]) -> Result<Option<DecodeReport>, PushError>
         ensures pushes { PushesBytes (owned_buffer self.old) (owned_phase self.old) bytes.now result
             (owned_buffer self.new) (owned_phase self.new) }
+        ensures reads { (f m : List ℕ) → owned_phase self.old ≡ Idle → bytes.now ≡ f ++ 0 ∷ [] → IsPiece f
+            → length (output f) ≤ length (owned_buffer self.old)
+            → (PushesMessage result (owned_buffer self.new) m ↔ Reads f m) }
     {
         self.inner.push(&mut self.dest, bytes)
     }

@@ -1,9 +1,10 @@
 //! Decoding a frame for any sentinel, from a source that stays as it is.
-ghost use Rattle.std.specs.Prelude.{◌≡◌, ◌≢◌, ◌+◌, ◌++◌, ◌<◌, ◌≤◌, All, length, take, drop, slice_index};
+ghost use Rattle.std.specs.Prelude.{◌≡◌, ◌≢◌, ◌+◌, ◌++◌, ◌<◌, ◌≤◌, All, length, take, drop, slice_index, ◌↔◌, List, ℕ};
 ghost use Rattle.cobs.specs.Buffer.{overwritten};
 ghost use Rattle.cobs.specs.Decoding.{head_answer_within, source_answer};
-ghost use Rattle.cobs.specs.Grammar.{HasNoZero};
-ghost use Rattle.cobs.specs.Piece.{kept_output};
+ghost use Rattle.cobs.specs.Grammar.{HasNoZero, Reads};
+ghost use Rattle.cobs.specs.Headline.{AnswersMessage, IsPiece};
+ghost use Rattle.cobs.specs.Piece.{kept_output, output};
 ghost use Rattle.cobs.specs.Sentinel.{xor_each};
 ghost use Rattle.cobs.specs.Stream.{head};
 
@@ -64,6 +65,18 @@ fn decode_blocks(source: &[u8], dest: &mut [u8], sentinel: u8) -> Result<usize, 
     Ok(written)
 }
 
+/// Decodes what stands before the first sentinel of the source.
+fn decode_source(source: &[u8], dest: &mut [u8], sentinel: u8) -> Result<usize, DecodeError>
+    ensures answer { result ≡ source_answer (xor_each sentinel source.now) (length dest.old) }
+    ensures buffer { dest.new ≡ overwritten dest.old (kept_output (head (xor_each sentinel source.now))) }
+{
+    if source.is_empty() {
+        return Err(DecodeError::EmptyFrame);
+    }
+    let end = first_sentinel(source, sentinel);
+    decode_blocks(&source[..end], dest, sentinel)
+}
+
 /// Decodes the frame at the front of the source, where the sentinel may be any byte, and answers the message's length.
 ///
 /// The source alone is read, up to its first sentinel or its end; each byte is taken by exclusive or with the sentinel.
@@ -86,10 +99,8 @@ pub fn decode_with_sentinel(
 ) -> Result<usize, DecodeError>
     ensures answer { result ≡ source_answer (xor_each sentinel source.now) (length dest.old) }
     ensures buffer { dest.new ≡ overwritten dest.old (kept_output (head (xor_each sentinel source.now))) }
+    ensures reads { let f = xor_each sentinel source.now in IsPiece f → length (output f) ≤ length dest.old
+        → (m : List ℕ) → (AnswersMessage result dest.new m ↔ Reads f m) }
 {
-    if source.is_empty() {
-        return Err(DecodeError::EmptyFrame);
-    }
-    let end = first_sentinel(source, sentinel);
-    decode_blocks(&source[..end], dest, sentinel)
+    decode_source(source, dest, sentinel)
 }

@@ -1,6 +1,8 @@
 //! Messages in vectors of their own.
-ghost use Rattle.std.specs.Prelude.{◌≡◌, ◌≢◌, [], IfOk, IfErr};
+ghost use Rattle.std.specs.Prelude.{◌≡◌, ◌≢◌, [], IfOk, IfErr, ◌↔◌, IsOkAnd, List, ℕ};
 ghost use Rattle.cobs.specs.Decoding.{decoded, decoded_head, IsRefusal};
+ghost use Rattle.cobs.specs.Grammar.{Reads};
+ghost use Rattle.cobs.specs.Headline.{FoundMemory, IsPiece};
 ghost use Rattle.cobs.specs.Sentinel.{xor_each};
 ghost use Rattle.cobs.specs.declared.dec.report.DecodeError.TheVariants.{EmptyFrame, TargetBufTooSmall};
 
@@ -22,6 +24,26 @@ pub enum DecodeVecError {
     Memory(AllocError),
 }
 
+/// The message of the first piece of the source.
+fn message_of_source(alloc: Global, source: &[u8]) -> Result<Vec<u8>, DecodeVecError>
+    ensures message { IfOk result (λ message. decoded source.now ≡ Ok message.items) }
+    ensures refused { IfErr result (λ error. IsRefusal (decoded source.now) error) }
+    ensures empty { source.now ≡ [] → result ≡ Err (DecodeVecError.Decode EmptyFrame) }
+    ensures room { IfErr result (λ error. error ≢ DecodeVecError.Decode TargetBufTooSmall) }
+{
+    if source.is_empty() {
+        return Err(DecodeVecError::Decode(DecodeError::EmptyFrame));
+    }
+    let mut message = vec![in alloc; 0; source.len()].map_err(DecodeVecError::Memory)?;
+    match decode(source, &mut message) {
+        Ok(report) => {
+            message.truncate(report.frame_size());
+            Ok(message)
+        }
+        Err(error) => Err(DecodeVecError::Decode(error)),
+    }
+}
+
 /// The message of the first frame of the source, in a vector of exactly its bytes.
 ///
 /// The frame is found and read as by [`decode`]. Memory is asked for once, for as many bytes as the source has, so a
@@ -36,14 +58,26 @@ pub fn decode_vec(alloc: Global, source: &[u8]) -> Result<Vec<u8>, DecodeVecErro
     ensures refused { IfErr result (λ error. IsRefusal (decoded source.now) error) }
     ensures empty { source.now ≡ [] → result ≡ Err (DecodeVecError.Decode EmptyFrame) }
     ensures room { IfErr result (λ error. error ≢ DecodeVecError.Decode TargetBufTooSmall) }
+    ensures reads { IsPiece source.now → FoundMemory result → (m : List ℕ)
+        → (IsOkAnd result (λ message. message.items ≡ m) ↔ Reads source.now m) }
+{
+    message_of_source(alloc, source)
+}
+
+/// The message of what stands before the first sentinel of the source.
+fn message_of_front(alloc: Global, source: &[u8], sentinel: u8) -> Result<Vec<u8>, DecodeVecError>
+    ensures message { IfOk result (λ message. decoded_head (xor_each sentinel source.now) ≡ Ok message.items) }
+    ensures refused { IfErr result (λ error. IsRefusal (decoded_head (xor_each sentinel source.now)) error) }
+    ensures empty { source.now ≡ [] → result ≡ Err (DecodeVecError.Decode EmptyFrame) }
+    ensures room { IfErr result (λ error. error ≢ DecodeVecError.Decode TargetBufTooSmall) }
 {
     if source.is_empty() {
         return Err(DecodeVecError::Decode(DecodeError::EmptyFrame));
     }
     let mut message = vec![in alloc; 0; source.len()].map_err(DecodeVecError::Memory)?;
-    match decode(source, &mut message) {
-        Ok(report) => {
-            message.truncate(report.frame_size());
+    match decode_with_sentinel(source, &mut message, sentinel) {
+        Ok(len) => {
+            message.truncate(len);
             Ok(message)
         }
         Err(error) => Err(DecodeVecError::Decode(error)),
@@ -70,16 +104,8 @@ pub fn decode_vec_with_sentinel(
     ensures refused { IfErr result (λ error. IsRefusal (decoded_head (xor_each sentinel source.now)) error) }
     ensures empty { source.now ≡ [] → result ≡ Err (DecodeVecError.Decode EmptyFrame) }
     ensures room { IfErr result (λ error. error ≢ DecodeVecError.Decode TargetBufTooSmall) }
+    ensures reads { let f = xor_each sentinel source.now in IsPiece f → FoundMemory result → (m : List ℕ)
+        → (IsOkAnd result (λ message. message.items ≡ m) ↔ Reads f m) }
 {
-    if source.is_empty() {
-        return Err(DecodeVecError::Decode(DecodeError::EmptyFrame));
-    }
-    let mut message = vec![in alloc; 0; source.len()].map_err(DecodeVecError::Memory)?;
-    match decode_with_sentinel(source, &mut message, sentinel) {
-        Ok(len) => {
-            message.truncate(len);
-            Ok(message)
-        }
-        Err(error) => Err(DecodeVecError::Decode(error)),
-    }
+    message_of_front(alloc, source, sentinel)
 }

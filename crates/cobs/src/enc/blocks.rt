@@ -1,5 +1,5 @@
 //! How a message is cut into blocks: the core that every encoder into a slice stands on.
-ghost use Rattle.std.specs.Prelude.{◌≡◌, ◌<◌, ◌≤◌, ◌+◌, ◌++◌, [], ℕ, List, false, length, take, drop};
+ghost use Rattle.std.specs.Prelude.{◌≡◌, ◌<◌, ◌≤◌, ◌+◌, ◌-◌, ◌++◌, [], ℕ, List, false, length, take, drop};
 ghost use Rattle.cobs.specs.Grammar.{IsEncodedFrame};
 ghost use Rattle.cobs.specs.Encoder.{CobsEncoderAfter, end_of, open_len};
 
@@ -44,6 +44,17 @@ impl Progress {
         }
     }
 
+    /// Takes these places, and whether the frame's last block is full.
+    fn set(&mut self, index: usize, next: usize, full: bool)
+        requires ordered { index < next }
+        requires open_block { next < index + 255 }
+        ensures { self.new ≡ record { block = record { index = index; code = next - index }; full = full } }
+    {
+        self.index = index;
+        self.next = next;
+        self.full = full;
+    }
+
     /// Where the code of the open block belongs.
     pub(crate) fn index(&self) -> usize
         ensures { result ≡ self.now.block.index }
@@ -62,9 +73,15 @@ impl Progress {
 }
 
 /// Takes `source` into the frame that `dest` holds as far as `progress` says. The code of the open block isn't written.
+///
+/// Windows of up to 32 bytes are copied to where the next byte goes. Where no zero is near enough to keep the open block
+/// from being full, that block is closed, and what doesn't belong to it is copied anew. Else each zero of the window
+/// gives its place to the code of the block that it begins, and the last block stays open for the next window. Nothing
+/// is written behind what the frame needs at the least, so a slice of exactly the frame's length is enough.
 pub(crate) fn append(source: &[u8], dest: &mut [u8], progress: &mut Progress)
     requires { progress.old.block.index + open_len progress.old.block.code source.now ≤ length dest.old }
-    ensures after { (m : List ℕ) → CobsEncoderAfter dest.old progress.old m → CobsEncoderAfter dest.new progress.new (m ++ source.now) }
+    ensures after { (m : List ℕ) → CobsEncoderAfter dest.old progress.old m
+        → CobsEncoderAfter dest.new progress.new (m ++ source.now) }
     ensures fits { end_of progress.new ≤ length dest.new }
     ensures rest { drop (end_of progress.new) dest.new ≡ drop (end_of progress.new) dest.old }
 {
@@ -84,11 +101,7 @@ pub(crate) fn append(source: &[u8], dest: &mut [u8], progress: &mut Progress)
             index += FULL_CODE;
             next = index + 1;
             if read == source.len() {
-                *progress = Progress {
-                    index,
-                    next,
-                    full: true,
-                };
+                progress.set(index, next, true);
                 return;
             }
         } else {
@@ -107,11 +120,7 @@ pub(crate) fn append(source: &[u8], dest: &mut [u8], progress: &mut Progress)
             read += len;
             next += len;
             if read == source.len() {
-                *progress = Progress {
-                    index,
-                    next,
-                    full: false,
-                };
+                progress.set(index, next, false);
                 return;
             }
         }

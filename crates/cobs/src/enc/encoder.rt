@@ -52,7 +52,7 @@ impl<'a> CobsEncoder<'a> {
             → (IsOk result ↔ (encoded_len (m ++ bytes.now) ≤ length (slice_of self.old))) }
         ensures taken { OnOk result ((m : List ℕ) → HasTaken self.old m → HasTaken self.new (m ++ bytes.now)) }
         ensures rest { OnOk result ((m : List ℕ) → HasTaken self.old m
-            → drop (encoded_len (m ++ bytes.now)) (slice_of self.new) ≡ drop (encoded_len (m ++ bytes.now)) (slice_of self.old)) }
+            → (let end = encoded_len (m ++ bytes.now) in drop end (slice_of self.new) ≡ drop end (slice_of self.old))) }
         ensures refused { OnErr result (IsUnchanged self.old self.new) }
         ensures empty { bytes.now ≡ [] → IsOk result × IsUnchanged self.old self.new }
     {

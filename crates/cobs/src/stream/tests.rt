@@ -1,6 +1,9 @@
 //! Worked examples of whole streams.
 
-ghost use Rattle.std.specs.Prelude.{◌<◌};
+ghost use Rattle.std.specs.Prelude.{◌≡◌, ◌<◌, ◌≤◌, ◌^◌, [], All, IfOk, length, map};
+ghost use Rattle.cobs.specs.Decoder.{DecoderAfter};
+ghost use Rattle.cobs.specs.Stream.{Message};
+ghost use Rattle.cobs.specs.Streaming.{messages_in, outcomes_in, room_for_frames};
 
 use super::*;
 use crate::dec::{CobsDecoder, CobsDecoderHeapless, CobsDecoderOwned};
@@ -45,6 +48,21 @@ fn stream_cut_anywhere(rt: HostRuntime) -> Result<(), Fail> {
     Ok(())
 }
 
+/// What is sent as frames comes out as the messages, over any idle decoder whose buffer holds each.
+fn send_and_receive<D: FrameDecoder>(
+    alloc: Global,
+    decoder: &mut D,
+    messages: &[Vec<u8>],
+) -> Result<Vec<FrameOutcome>, AllocError>
+    requires room { room_for_frames (messages_in messages.now) < 2 ^ 64 }
+    requires idle { DecoderAfter (D.bytes decoder.old) (D.phase decoder.old) [] }
+    requires held { All (λ message. length message ≤ length (D.bytes decoder.old)) (messages_in messages.now) }
+    ensures { IfOk result (λ found. outcomes_in found.items ≡ map Message (messages_in messages.now)) }
+{
+    let bytes = encode_frames(alloc, messages)?;
+    decode_stream(alloc, decoder, &bytes)
+}
+
 #[test]
 fn frames_of_messages(rt: HostRuntime) -> Result<(), Fail> {
     let alloc = rt.alloc();
@@ -57,5 +75,9 @@ fn frames_of_messages(rt: HostRuntime) -> Result<(), Fail> {
     ];
     let frames = encode_frames(alloc, &messages)?;
     assert_eq!(rt; frames.as_slice(), [1, 0, 1, 1, 0, 3, 1, 2, 0].as_slice());
+    let mut buffer = [0u8; 2];
+    let found = send_and_receive(alloc, &mut CobsDecoder::new(&mut buffer), &messages)?;
+    assert_eq!(rt; found.len(), 3);
+    assert_eq!(rt; found[2], FrameOutcome::Message([1u8, 2].to_vec(alloc)?));
     Ok(())
 }

@@ -1,6 +1,6 @@
-use Rattle.std.proofs.Common.{◌≡◌, ℕ, List, [], sym, ap, ◌∙◌, subst, arith}
+use Rattle.std.proofs.Common.{[], sym, ◌∙◌, subst, arith}
 use Rattle.cobs.specs.Encoder.{CobsEncoderAfter, Reached}
-use Rattle.cobs.proofs.AfterLemmas.{at, end-is}
+use Rattle.cobs.proofs.AfterLemmas.{end-is}
 use Rattle.cobs.proofs.CoreLemmas.{after-nothing}
 use Rattle.cobs.proofs.enc.encode.Goals as goal
 

@@ -8,6 +8,7 @@ returns-then-count-len-clause-read g c =
     let more = take c.in-Ok.count c.read.new.buf in
     HasRead-too_long _ _ (before ++ more) (Consumes-append _ _ _ _ _ c.by_read.invariant.read_so_far c.in-Ok.ensures.bytes.0)
     (omega (arith, length-append before more, c.in-Ok.ensures.bound, c.by_read.bytes.ok.0))
+    (omega (arith, length-append before more, c.in-Ok.ensures.bound, c.by_read.bytes.ok.0, c.read.auto.buf))
 
 pub returns-in_err-extend_from_slice-clause-read :
     goal.returns-in_err-extend_from_slice-clause-read

@@ -3,18 +3,17 @@ use Rattle.cobs.specs.Buffers.{owned_buffer, owned_phase}
 use Rattle.cobs.specs.Decoder.{DecoderAfter}
 use Rattle.cobs.specs.Reader.{decoder_of, kept_of}
 use Rattle.cobs_tool.specs.Memory.{bytes_left}
-use Rattle.cobs_tool.specs.Report.{report}
-use Rattle.cobs_tool.specs.declared.input.TheConstants.{MAX_INPUT}
-use Rattle.cobs_tool.specs.declared.report.TheConstants.{DECODE_BUFFER_LEN}
+use Rattle.cobs_tool.specs.Report.{longest_message, report}
+use Rattle.cobs_tool.specs.Input.{max_input}
 use Rattle.cobs_tool.proofs.report.report_of.Given as goal
 
 abbrev pub invariant-by_piece : goal.invariant-by_piece
 invariant-by_piece l =
     let left = kept_of l.frames ++ bytes_left l.source in record {
       told : string_bytes l.text ++ report left ≡ report l.fn.stream;
-      few : length left ≤ MAX_INPUT;
+      few : length left ≤ max_input;
       idle : DecoderAfter (owned_buffer (decoder_of l.frames)) (owned_phase (decoder_of l.frames)) [];
-      buffer : length (owned_buffer (decoder_of l.frames)) ≡ DECODE_BUFFER_LEN;
+      buffer : length (owned_buffer (decoder_of l.frames)) ≡ longest_message;
     }
 
 abbrev pub decreases-by_piece : goal.decreases-by_piece

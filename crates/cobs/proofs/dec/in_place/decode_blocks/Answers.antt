@@ -1,40 +1,136 @@
-use Rattle.std.proofs.Common.{◌<◌, get_or, refl, arith}
-use Rattle.cobs.proofs.InPlaceSteps.{all-buffer, all-count, broken-buffer, broken-count, code-some, full-moved, last-moved, block-moved}
+use Rattle.std.proofs.Common.{◌≡◌, ◌<◌, ◌≤◌, ◌+◌, ◌-◌, ◌++◌, ℕ, Bool, true, false, not, List, length, take, drop, refl, sym, ap, ◌∙◌, arith, inl, inr, take_at, length-drop, length-take, length-take-le}
+use Rattle.std.proofs.lemmas.List.{take_rest, take-take}
+use Rattle.cobs.specs.Piece.{last_part, lacks}
+use Rattle.cobs.proofs.InPlaceSteps.{all-buffer, all-count, broken-buffer, broken-count, left-nonzero, left-broken, stretch-nonzero, stretch-room, stretch-last, stretch-zero, stretch-shorter, after-len}
 use Rattle.cobs.proofs.dec.in_place.decode_blocks.Goals as goal
-use Rattle.cobs.proofs.dec.in_place.decode_blocks.Goals.{else-code-ne-FULL_CODE-via-then-code-ne-FULL_CODE+else-read-end, else-code-ne-FULL_CODE-via-else-code-ne-FULL_CODE}
+use Rattle.cobs.proofs.dec.in_place.decode_blocks.Goals.{else-not-last-via-then-not-last+else-read-end, else-not-last-via-else-not-last}
 
-pub returns-then-end-read-clause-answer : goal.returns-then-end-read-clause-answer
-returns-then-end-read-clause-answer c = broken-count _ _ _ _ _ c.by_block.invariant _ c.by_block-test.true refl c.if-end-read.true
+-- the front of the array, once a part of the buffer is copied there
+copied : (self old bytes : List ℕ) (read len m : ℕ) → self ≡ take (read + len - read) (drop read bytes) → len ≤ length (take m (drop read bytes)) → take len (self ++ drop len old) ≡ take len (take m (drop read bytes))
+copied self old bytes read len m is fits =
+    let n : read + len - read ≡ len = omega arith in
+    let t = length-take m (drop read bytes) in
+    let same : self ≡ take len (drop read bytes) = is ∙ ap (λ (k : ℕ). take k (drop read bytes)) n in
+    let long : length self ≡ len = ap length same ∙ length-take-le len (drop read bytes) (omega arith) in
+    take_at self (drop len old) len long ∙ same ∙ sym (take-take len m (drop read bytes) (omega arith))
 
-pub returns-then-end-read-clause-buffer : goal.returns-then-end-read-clause-buffer
-returns-then-end-read-clause-buffer c = broken-buffer _ _ _ _ _ c.by_block.invariant _ c.by_block-test.true refl c.if-end-read.true
+-- and it is whole, as that part is
+same_whole : (p bytes : List ℕ) (len : ℕ) → p ≡ take len bytes → 0 < len → (0 < len → lacks (last_part (take len bytes)) ≡ 0) → lacks (last_part p) ≡ 0
+same_whole p bytes len is some whole = ap (λ (x : List ℕ). lacks (last_part x)) is ∙ whole some
 
-pub overflow_sub-code : goal.overflow_sub-code
-overflow_sub-code c = code-some _ _ _ _ _ c.by_block.invariant _ c.by_block-test.true refl c.requires.nonzero
+not_false : (b : Bool) → not b ≡ true → b ≡ false
+not_false true e = sym e
+not_false false e = refl
 
-pub overflow_sub-written : goal.overflow_sub-written
-overflow_sub-written c = code-some _ _ _ _ _ c.by_block.invariant _ c.by_block-test.true refl c.requires.nonzero
+not_true : (b : Bool) → not b ≡ false → b ≡ true
+not_true true e = refl
+not_true false e = sym e
 
-pub by_block-smaller-then-read-end : goal.by_block-smaller-then-read-end
-by_block-smaller-then-read-end c =
-    let some : 0 < get_or c.by_block.buffer c.by_block.read 0 = code-some _ _ _ _ _ c.by_block.invariant _ c.by_block-test.true refl c.requires.nonzero in
+pub whole_blocks_len-len-requires : goal.whole_blocks_len-len-requires
+whole_blocks_len-len-requires c = left-nonzero _ _ _ _ _ c.by_stretch.invariant c.requires.nonzero
+
+pub returns-then-len-eq0-clause-answer : goal.returns-then-len-eq0-clause-answer
+returns-then-len-eq0-clause-answer c =
+    let i = c.by_stretch.invariant in
+    let d = length-drop c.by_stretch.read c.by_stretch.buffer in
+    let n = length-take-le (c.args.end - c.by_stretch.read) (drop c.by_stretch.read c.by_stretch.buffer) (omega arith) in
+    let broken = left-broken _ _ _ _ _ i c.by_stretch-test.true (c.whole_blocks_len-len.ensures.broken c.if-len-eq0.true (omega arith)) in
+    broken-count _ _ _ _ _ i _ c.by_stretch-test.true refl broken
+
+pub returns-then-len-eq0-clause-buffer : goal.returns-then-len-eq0-clause-buffer
+returns-then-len-eq0-clause-buffer c =
+    let i = c.by_stretch.invariant in
+    let d = length-drop c.by_stretch.read c.by_stretch.buffer in
+    let n = length-take-le (c.args.end - c.by_stretch.read) (drop c.by_stretch.read c.by_stretch.buffer) (omega arith) in
+    let broken = left-broken _ _ _ _ _ i c.by_stretch-test.true (c.whole_blocks_len-len.ensures.broken c.if-len-eq0.true (omega arith)) in
+    broken-buffer _ _ _ _ _ i _ c.by_stretch-test.true refl broken
+
+pub decode_piece-last-requires-clause-nonzero : goal.decode_piece-last-requires-clause-nonzero
+decode_piece-last-requires-clause-nonzero c =
+    let i = c.by_stretch.invariant in
+    let e = c.whole_blocks_len-len.ensures in
+    let other = c.if-len-eq0.false in
+    let len : ℕ = c.whole_blocks_len-len.result in
+    let part : List ℕ = take (c.args.end - c.by_stretch.read) (drop c.by_stretch.read c.by_stretch.buffer) in
+    let p : List ℕ = take len (c.copy_from_slice.new.self ++ drop len c.by_stretch.stretch) in
+    let p-is : p ≡ take len part = copied c.copy_from_slice.new.self c.by_stretch.stretch c.by_stretch.buffer c.by_stretch.read len (c.args.end - c.by_stretch.read) c.copy_from_slice.ensures.after e.within in
+    let whole : lacks (last_part p) ≡ 0 = same_whole p part len p-is (omega arith) e.whole in
+    stretch-nonzero c.args.buffer.now c.args.end c.by_stretch.buffer c.by_stretch.read c.by_stretch.written i c.requires.nonzero len p (omega arith) e.within p-is whole
+
+pub decode_piece-last-requires-clause-room : goal.decode_piece-last-requires-clause-room
+decode_piece-last-requires-clause-room c =
+    let i = c.by_stretch.invariant in
+    let e = c.whole_blocks_len-len.ensures in
+    let other = c.if-len-eq0.false in
+    let len : ℕ = c.whole_blocks_len-len.result in
+    let part : List ℕ = take (c.args.end - c.by_stretch.read) (drop c.by_stretch.read c.by_stretch.buffer) in
+    let p : List ℕ = take len (c.copy_from_slice.new.self ++ drop len c.by_stretch.stretch) in
+    let p-is : p ≡ take len part = copied c.copy_from_slice.new.self c.by_stretch.stretch c.by_stretch.buffer c.by_stretch.read len (c.args.end - c.by_stretch.read) c.copy_from_slice.ensures.after e.within in
+    let whole : lacks (last_part p) ≡ 0 = same_whole p part len p-is (omega arith) e.whole in
+    let room = stretch-room c.args.buffer.now c.args.end c.by_stretch.buffer c.by_stretch.read c.by_stretch.written i c.requires.nonzero len p (omega arith) e.within p-is whole in
+    let back = ap length (take_rest c.by_stretch.buffer c.by_stretch.written) ∙ length-drop c.by_stretch.written c.by_stretch.buffer in
     omega arith
 
-pub by_block-preserved-then-read-end : goal.by_block-preserved-then-read-end
-by_block-preserved-then-read-end c =
-    let some : 0 < get_or c.by_block.buffer c.by_block.read 0 = code-some _ _ _ _ _ c.by_block.invariant _ c.by_block-test.true refl c.requires.nonzero in
-    block-moved _ _ _ _ _ c.by_block.invariant _ c.by_block-test.true refl some c.if-end-read.false _ c.move_down.ensures c.if-code-ne-FULL_CODE.true c.if-read-end.true
+pub bounds-buffer-written : goal.bounds-buffer-written
+bounds-buffer-written c =
+    let i = c.by_stretch.invariant in
+    let e = c.whole_blocks_len-len.ensures in
+    let other = c.if-len-eq0.false in
+    let len : ℕ = c.whole_blocks_len-len.result in
+    let part : List ℕ = take (c.args.end - c.by_stretch.read) (drop c.by_stretch.read c.by_stretch.buffer) in
+    let p : List ℕ = take len (c.copy_from_slice.new.self ++ drop len c.by_stretch.stretch) in
+    let p-is : p ≡ take len part = copied c.copy_from_slice.new.self c.by_stretch.stretch c.by_stretch.buffer c.by_stretch.read len (c.args.end - c.by_stretch.read) c.copy_from_slice.ensures.after e.within in
+    let whole : lacks (last_part p) ≡ 0 = same_whole p part len p-is (omega arith) e.whole in
+    let back = take_rest c.by_stretch.buffer c.by_stretch.written in
+    let room = stretch-room c.args.buffer.now c.args.end c.by_stretch.buffer c.by_stretch.read c.by_stretch.written i c.requires.nonzero len p (omega arith) e.within p-is whole in
+    let same : length c.decode_piece-last.new.dest ≡ length c.by_stretch.buffer - c.by_stretch.written = c.decode_piece-last.auto.dest ∙ ap length back ∙ length-drop c.by_stretch.written c.by_stretch.buffer in
+    let rest = c.decode_piece-last.ensures.rest ∙ ap (drop c.decode_piece-last.result.written) back in
+    let l = after-len c.args.buffer.now c.args.end c.by_stretch.buffer c.by_stretch.read c.by_stretch.written i c.requires.nonzero len p (omega arith) e.within p-is whole c.decode_piece-last.new.dest c.decode_piece-last.result.written _ refl same c.decode_piece-last.ensures.written c.decode_piece-last.ensures.begins rest in
+    let s = stretch-shorter c.args.buffer.now c.args.end c.by_stretch.buffer c.by_stretch.read c.by_stretch.written i c.requires.nonzero len p (omega arith) e.within p-is whole in
+    let t = c.if-read-end.true in
+    let w = c.decode_piece-last.ensures.written in
+    omega arith
 
-pub by_block-preserved : goal.by_block-preserved
-by_block-preserved c =
-    let some : 0 < get_or c.by_block.buffer c.by_block.read 0 = code-some _ _ _ _ _ c.by_block.invariant _ c.by_block-test.true refl c.requires.nonzero in
-    elim c.else-code-ne-FULL_CODE.branch [
-      | else-code-ne-FULL_CODE-via-then-code-ne-FULL_CODE+else-read-end w ↦ last-moved _ _ _ _ _ c.by_block.invariant _ c.by_block-test.true refl some c.if-end-read.false _ c.move_down.ensures w.if-read-end.false
-      | else-code-ne-FULL_CODE-via-else-code-ne-FULL_CODE w ↦ full-moved _ _ _ _ _ c.by_block.invariant _ c.by_block-test.true refl some c.if-end-read.false _ c.move_down.ensures w.if-code-ne-FULL_CODE.false
+pub by_stretch-preserved-then-read-end : goal.by_stretch-preserved-then-read-end
+by_stretch-preserved-then-read-end c =
+    let i = c.by_stretch.invariant in
+    let e = c.whole_blocks_len-len.ensures in
+    let other = c.if-len-eq0.false in
+    let len : ℕ = c.whole_blocks_len-len.result in
+    let part : List ℕ = take (c.args.end - c.by_stretch.read) (drop c.by_stretch.read c.by_stretch.buffer) in
+    let p : List ℕ = take len (c.copy_from_slice.new.self ++ drop len c.by_stretch.stretch) in
+    let p-is : p ≡ take len part = copied c.copy_from_slice.new.self c.by_stretch.stretch c.by_stretch.buffer c.by_stretch.read len (c.args.end - c.by_stretch.read) c.copy_from_slice.ensures.after e.within in
+    let whole : lacks (last_part p) ≡ 0 = same_whole p part len p-is (omega arith) e.whole in
+    let back = take_rest c.by_stretch.buffer c.by_stretch.written in
+    let room = stretch-room c.args.buffer.now c.args.end c.by_stretch.buffer c.by_stretch.read c.by_stretch.written i c.requires.nonzero len p (omega arith) e.within p-is whole in
+    let same : length c.decode_piece-last.new.dest ≡ length c.by_stretch.buffer - c.by_stretch.written = c.decode_piece-last.auto.dest ∙ ap length back ∙ length-drop c.by_stretch.written c.by_stretch.buffer in
+    let rest = c.decode_piece-last.ensures.rest ∙ ap (drop c.decode_piece-last.result.written) back in
+    stretch-zero c.args.buffer.now c.args.end c.by_stretch.buffer c.by_stretch.read c.by_stretch.written i c.requires.nonzero len p (omega arith) e.within p-is whole
+    c.decode_piece-last.new.dest c.decode_piece-last.result.written _ refl same c.decode_piece-last.ensures.written c.decode_piece-last.ensures.begins rest c.if-read-end.true (sym c.decode_piece-last.ensures.full ∙ not_false _ c.if-not-last.true)
+
+pub by_stretch-preserved : goal.by_stretch-preserved
+by_stretch-preserved c =
+    let i = c.by_stretch.invariant in
+    let e = c.whole_blocks_len-len.ensures in
+    let other = c.if-len-eq0.false in
+    let len : ℕ = c.whole_blocks_len-len.result in
+    let part : List ℕ = take (c.args.end - c.by_stretch.read) (drop c.by_stretch.read c.by_stretch.buffer) in
+    let p : List ℕ = take len (c.copy_from_slice.new.self ++ drop len c.by_stretch.stretch) in
+    let p-is : p ≡ take len part = copied c.copy_from_slice.new.self c.by_stretch.stretch c.by_stretch.buffer c.by_stretch.read len (c.args.end - c.by_stretch.read) c.copy_from_slice.ensures.after e.within in
+    let whole : lacks (last_part p) ≡ 0 = same_whole p part len p-is (omega arith) e.whole in
+    let back = take_rest c.by_stretch.buffer c.by_stretch.written in
+    let room = stretch-room c.args.buffer.now c.args.end c.by_stretch.buffer c.by_stretch.read c.by_stretch.written i c.requires.nonzero len p (omega arith) e.within p-is whole in
+    let same : length c.decode_piece-last.new.dest ≡ length c.by_stretch.buffer - c.by_stretch.written = c.decode_piece-last.auto.dest ∙ ap length back ∙ length-drop c.by_stretch.written c.by_stretch.buffer in
+    let rest = c.decode_piece-last.ensures.rest ∙ ap (drop c.decode_piece-last.result.written) back in
+    elim c.else-not-last.branch [
+      | else-not-last-via-then-not-last+else-read-end w ↦ stretch-last c.args.buffer.now c.args.end c.by_stretch.buffer c.by_stretch.read c.by_stretch.written i c.requires.nonzero len p (omega arith) e.within p-is whole
+          c.decode_piece-last.new.dest c.decode_piece-last.result.written _ refl same c.decode_piece-last.ensures.written c.decode_piece-last.ensures.begins rest (inl w.if-read-end.false)
+      | else-not-last-via-else-not-last w ↦ stretch-last c.args.buffer.now c.args.end c.by_stretch.buffer c.by_stretch.read c.by_stretch.written i c.requires.nonzero len p (omega arith) e.within p-is whole
+          c.decode_piece-last.new.dest c.decode_piece-last.result.written _ refl same c.decode_piece-last.ensures.written c.decode_piece-last.ensures.begins rest (inr (sym c.decode_piece-last.ensures.full ∙ not_true _ w.if-not-last.false))
     ]
 
 pub returns-clause-answer : goal.returns-clause-answer
-returns-clause-answer c = all-count _ _ _ _ _ c.by_block.invariant c.by_block-test.false
+returns-clause-answer c = all-count _ _ _ _ _ c.by_stretch.invariant c.by_stretch-test.false
 
 pub returns-clause-buffer : goal.returns-clause-buffer
-returns-clause-buffer c = all-buffer _ _ _ _ _ c.by_block.invariant c.by_block-test.false
+returns-clause-buffer c = all-buffer _ _ _ _ _ c.by_stretch.invariant c.by_stretch-test.false

@@ -1,10 +1,11 @@
-use Rattle.std.proofs.Common.{◌≡◌, ◌<◌, ◌≤◌, ◌+◌, ◌-◌, ◌++◌, ℕ, List, true, false, length, take, drop, refl, sym, ◌∙◌, subst, arith}
+use Rattle.std.proofs.Common.{◌≡◌, ◌≤◌, ◌+◌, ◌-◌, ◌++◌, ℕ, List, length, drop, refl, sym, ◌∙◌, subst, arith}
 use Rattle.std.proofs.lemmas.Bool.{eqb-false}
 use Rattle.std.proofs.lemmas.List.{length-set}
-use Rattle.cobs.specs.Encoder.{CobsEncoderAfter}
+use Rattle.std.proofs.Math.ListN.{set}
+use Rattle.cobs.specs.Encoder.{CobsEncoderAfter, Reached, end_of}
 use Rattle.cobs.proofs.ReachLemmas.{Reaches, Reaches-full}
 use Rattle.cobs.proofs.MarkLemmas.{WindowTaken, WindowTaken-at, copied-reaches, filled, marks-start, marks-step, marks-end, ones-room, ones-taken, place-le, place-lt, fewer}
-use Rattle.cobs.proofs.CoreLemmas.{end_with, core-start, full-after, full-end, full-rest, open-after, open-rest, still-open}
+use Rattle.cobs.proofs.CoreLemmas.{end_with, core-start, full-after, full-rest, open-after, open-rest, still-open}
 use Rattle.cobs.proofs.enc.blocks.append.Goals.{then-zeros-eq-ALL_ZEROS, else-zeros-eq-ALL_ZEROS+else-by_zero-test}
 use Rattle.cobs.proofs.enc.blocks.append.Goals as goal
 
@@ -31,7 +32,7 @@ returns-then-read-source-clause-after c =
     let joined = filled H c.args.source.now c.args.dest.now c.by_window.dest c.copy_window-zeros.new.dest end c.by_window.read c.min-len.result c.by_window.index c.by_window.next c.copy_window-zeros.result c.by_window.invariant.reaches fits inside few c.copy_window-zeros.ensures.copied c.copy_window-zeros.ensures.zeros lacking refl (omega arith) in
     let r = subst (λ (n : ℕ). Reaches H c.args.source.now c.args.dest.now c.copy_window-zeros.new.dest end (c.by_window.read + lacking) c.by_window.index n (λ _. Unit {0})) sum joined in
     let room : end ≤ length c.copy_window-zeros.new.dest = omega arith in
-    full-after H c.args.source.now c.args.dest.now c.copy_window-zeros.new.dest end (c.by_window.read + lacking) c.by_window.index r room (omega arith)
+    λ m h. subst (λ (r : Reached). CobsEncoderAfter (set c.copy_window-zeros.new.dest c.by_window.index 255) r (m ++ c.args.source.now)) (sym c.set.ensures) (full-after H c.args.source.now c.args.dest.now c.copy_window-zeros.new.dest end (c.by_window.read + lacking) c.by_window.index r room (omega arith) m h)
 
 pub returns-then-read-source-clause-rest : goal.returns-then-read-source-clause-rest
 returns-then-read-source-clause-rest c =
@@ -46,7 +47,7 @@ returns-then-read-source-clause-rest c =
     let joined = filled H c.args.source.now c.args.dest.now c.by_window.dest c.copy_window-zeros.new.dest end c.by_window.read c.min-len.result c.by_window.index c.by_window.next c.copy_window-zeros.result c.by_window.invariant.reaches fits inside few c.copy_window-zeros.ensures.copied c.copy_window-zeros.ensures.zeros lacking refl (omega arith) in
     let r = subst (λ (n : ℕ). Reaches H c.args.source.now c.args.dest.now c.copy_window-zeros.new.dest end (c.by_window.read + lacking) c.by_window.index n (λ _. Unit {0})) sum joined in
     let room : end ≤ length c.copy_window-zeros.new.dest = omega arith in
-    full-rest H c.args.source.now c.args.dest.now c.copy_window-zeros.new.dest end (c.by_window.read + lacking) c.by_window.index r room (omega arith)
+    subst (λ (r : Reached). drop (end_of r) (set c.copy_window-zeros.new.dest c.by_window.index 255) ≡ drop (end_of r) c.args.dest.now) (sym c.set.ensures) (full-rest H c.args.source.now c.args.dest.now c.copy_window-zeros.new.dest end (c.by_window.read + lacking) c.by_window.index r room (omega arith))
 
 pub by_window-preserved-else-read-source : goal.by_window-preserved-else-read-source
 by_window-preserved-else-read-source c =
@@ -114,8 +115,8 @@ by_zero-preserved c =
     let end : ℕ = end_with c.args.progress.now c.args.source.now in
     marks-step H c.args.source.now c.args.dest.now c.by_zero.dest end c.by_window.read c.min-len.result c.by_zero.index c.by_window.next c.by_zero.zeros (c.by_zero.index + 1 - c.by_window.next) c.by_zero.invariant c.by_zero-test.true (omega arith)
 
-pub invariant_of-progress-then-read-source-2 : goal.invariant_of-progress-then-read-source-2
-invariant_of-progress-then-read-source-2 c =
+pub set-requires-then-read-source-2 : goal.set-requires-then-read-source-2
+set-requires-then-read-source-2 c =
     let H : List ℕ → Type 0 = CobsEncoderAfter c.args.dest.now c.args.progress.now in
     let end : ℕ = end_with c.args.progress.now c.args.source.now in
     let fits : end ≤ length c.by_window.dest = omega arith in
@@ -129,7 +130,7 @@ invariant_of-progress-then-read-source-2 c =
       | else-zeros-eq-ALL_ZEROS+else-by_zero-test w ↦ WindowTaken-at _ _ _ _ _ _ _ _ _ _ _ (sym w.dest-is) (sym w.index-is)
           (marks-end _ _ _ _ _ _ _ _ _ _ _ w.by_zero.invariant w.by_zero-test.false (omega arith))
     ] in
-    (taken.ordered, taken.open')
+    record { ordered = taken.ordered; open_block = taken.open' }
 
 pub returns-then-read-source-2-clause-after : goal.returns-then-read-source-2-clause-after
 returns-then-read-source-2-clause-after c =
@@ -146,7 +147,7 @@ returns-then-read-source-2-clause-after c =
       | else-zeros-eq-ALL_ZEROS+else-by_zero-test w ↦ WindowTaken-at _ _ _ _ _ _ _ _ _ _ _ (sym w.dest-is) (sym w.index-is)
           (marks-end _ _ _ _ _ _ _ _ _ _ _ w.by_zero.invariant w.by_zero-test.false (omega arith))
     ] in
-    open-after H c.args.source.now c.args.dest.now c.if-zeros-eq-ALL_ZEROS.dest end c.by_window.read c.min-len.result c.if-zeros-eq-ALL_ZEROS.index c.by_window.next taken (omega arith) (omega arith)
+    λ m h. subst (λ (r : Reached). CobsEncoderAfter c.if-zeros-eq-ALL_ZEROS.dest r (m ++ c.args.source.now)) (sym c.set-then-read-source-2.ensures) (open-after H c.args.source.now c.args.dest.now c.if-zeros-eq-ALL_ZEROS.dest end c.by_window.read c.min-len.result c.if-zeros-eq-ALL_ZEROS.index c.by_window.next taken (omega arith) (omega arith) m h)
 
 pub returns-then-read-source-2-clause-rest : goal.returns-then-read-source-2-clause-rest
 returns-then-read-source-2-clause-rest c =
@@ -163,7 +164,7 @@ returns-then-read-source-2-clause-rest c =
       | else-zeros-eq-ALL_ZEROS+else-by_zero-test w ↦ WindowTaken-at _ _ _ _ _ _ _ _ _ _ _ (sym w.dest-is) (sym w.index-is)
           (marks-end _ _ _ _ _ _ _ _ _ _ _ w.by_zero.invariant w.by_zero-test.false (omega arith))
     ] in
-    open-rest H c.args.source.now c.args.dest.now c.if-zeros-eq-ALL_ZEROS.dest end c.by_window.read c.min-len.result c.if-zeros-eq-ALL_ZEROS.index c.by_window.next taken (omega arith) (omega arith)
+    subst (λ (r : Reached). drop (end_of r) c.if-zeros-eq-ALL_ZEROS.dest ≡ drop (end_of r) c.args.dest.now) (sym c.set-then-read-source-2.ensures) (open-rest H c.args.source.now c.args.dest.now c.if-zeros-eq-ALL_ZEROS.dest end c.by_window.read c.min-len.result c.if-zeros-eq-ALL_ZEROS.index c.by_window.next taken (omega arith) (omega arith))
 
 pub by_window-preserved : goal.by_window-preserved
 by_window-preserved c =

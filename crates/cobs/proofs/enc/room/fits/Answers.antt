@@ -1,6 +1,5 @@
-use Rattle.std.proofs.Common.{◌≡◌, ℕ, List, length, replicate, ◌++◌, ◌-◌, refl, arith}
-use Rattle.cobs.specs.Encoder.{open_len}
-use Rattle.cobs.proofs.OpenLenLemmas.{open_len-most, length-ones}
+use Rattle.std.proofs.Common.{◌-◌, refl, arith}
+use Rattle.cobs.proofs.OpenLenLemmas.{open_len-most}
 use Rattle.cobs.proofs.RoomLemmas.{blocks-le}
 use Rattle.cobs.proofs.enc.room.fits.Goals as goal
 

@@ -1,4 +1,4 @@
-use Rattle.std.proofs.Common.{ℕ, List, ◌+◌, arith}
+use Rattle.std.proofs.Common.{arith}
 use Rattle.cobs.proofs.MaskLemmas.{mask-grown, mask-grown-lt, copied-more}
 use Rattle.cobs.proofs.enc.window.copy_few.Goals as goal
 

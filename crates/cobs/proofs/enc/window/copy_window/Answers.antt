@@ -1,5 +1,4 @@
-use Rattle.std.proofs.Common.{◌≡◌, ◌^◌, ◌*◌, ◌/◌, ◌+◌, ◌-◌, ◌%◌, ℕ, List, take, drop, ◌∙◌, sym, ap, arith}
-use Rattle.cobs.specs.Mask.{zero_mask}
+use Rattle.std.proofs.Common.{arith}
 use Rattle.cobs.proofs.MaskLemmas.{parts-copied, parts-mask, parts-small}
 use Rattle.cobs.proofs.enc.window.copy_window.Goals as goal
 

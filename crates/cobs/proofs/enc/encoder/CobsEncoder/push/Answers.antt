@@ -1,7 +1,7 @@
-use Rattle.std.proofs.Common.{◌≡◌, ◌≢◌, ◌≤◌, ◌+◌, ◌-◌, ◌++◌, ℕ, List, [], ◌∷◌, length, drop, refl, sym, ap, ◌∙◌, subst, arith, append-nil}
+use Rattle.std.proofs.Common.{◌≡◌, ◌≢◌, ◌++◌, ℕ, List, [], ◌∷◌, length, drop, refl, sym, ap, ◌∙◌, subst, arith, append-nil}
 use Rattle.std.proofs.lemmas.Bool.{eqb-false, eqb-true}
 use Rattle.cobs.specs.Length.{encoded_len}
-use Rattle.cobs.specs.Encoder.{CobsEncoderAfter, open_len}
+use Rattle.cobs.specs.Encoder.{open_len}
 use Rattle.cobs.proofs.OpenLenLemmas.{open_len-least}
 use Rattle.cobs.proofs.AfterLemmas.{end-is}
 use Rattle.cobs.proofs.CoreLemmas.{after-len, after-fits}

@@ -1,0 +1,11 @@
+use Rattle.std.proofs.Common.{arith}
+use Rattle.std.proofs.lemmas.Grind.{common_steps}
+use Rattle.cobs.proofs.HeadlineLemmas.{bytes_below}
+use Rattle.cobs.proofs.PushHeadline.{push_reads}
+use Rattle.cobs.proofs.dec.heapless.CobsDecoderHeapless.push.Goals as goal
+
+pub returns-clause-pushes : goal.returns-clause-pushes
+returns-clause-pushes g c = grind (arith, common_steps)
+
+pub returns-clause-reads : goal.returns-clause-reads
+returns-clause-reads g c = push_reads (returns-clause-pushes g c) (bytes_below c.args.bytes.now c.type_inv.bytes)

@@ -1,0 +1,94 @@
+//! The format once more, written for plainness and not for speed, to compare the library with.
+use std::alloc::{AllocError, Global};
+
+/// The encoded frame of a message: each run of nonzero bytes in blocks of up to 254 bytes, where the first block that
+/// is shorter carries the zero behind the run. The last run carries none, and needs no such block behind a full one.
+pub fn frame_of(alloc: Global, message: &[u8]) -> Result<Vec<u8>, AllocError> {
+    let mut frame = Vec::new(alloc);
+    let mut block = Vec::new(alloc);
+    let mut closed_full = false;
+    for byte in message {
+        closed_full = false;
+        if *byte != 0 {
+            block.push(*byte)?;
+        }
+        if *byte == 0 || block.len() == 254 {
+            closed_full = *byte != 0;
+            append_block(&mut frame, &block)?;
+            block.clear();
+        }
+    }
+    if !closed_full {
+        append_block(&mut frame, &block)?;
+    }
+    Ok(frame)
+}
+
+/// Appends the code, which counts itself and the bytes, and the bytes.
+fn append_block(frame: &mut Vec<u8>, block: &[u8]) -> Result<(), AllocError> {
+    frame.push(1)?;
+    for byte in block {
+        frame.push(*byte)?;
+    }
+    let at = frame.len().saturating_sub(block.len()).saturating_sub(1);
+    if let Some(code) = frame.get_mut(at) {
+        *code = u8::try_from(block.len()).unwrap_or(0).saturating_add(1);
+    }
+    Ok(())
+}
+
+/// What a list of nonzero bytes decodes to.
+#[derive(Drop)]
+pub struct Reading {
+    /// The bytes of its blocks, with the zeros that join them.
+    pub output: Vec<u8>,
+
+    /// How many of them stand before the bytes of its last block, where that one breaks off.
+    pub kept: usize,
+
+    /// Whether its last block has as many bytes as its code says.
+    pub is_whole: bool,
+}
+
+/// Reads the blocks of the list one after another.
+pub fn reading_of(alloc: Global, piece: &[u8]) -> Result<Reading, AllocError> {
+    let mut output = Vec::new(alloc);
+    let mut kept = 0;
+    let mut is_whole = false;
+    let mut joint = false;
+    let mut rest = piece;
+    for _ in piece {
+        let Some((code, behind)) = rest.split_first() else {
+            break;
+        };
+        if joint {
+            output.push(0)?;
+        }
+        kept = output.len();
+        let wanted = usize::from(*code).saturating_sub(1);
+        let (bytes, next) = behind.split_at(wanted.min(behind.len()));
+        output.extend_from_slice(bytes)?;
+        is_whole = bytes.len() == wanted;
+        joint = *code != 255;
+        rest = next;
+    }
+    if is_whole {
+        kept = output.len();
+    }
+    Ok(Reading {
+        output,
+        kept,
+        is_whole,
+    })
+}
+
+/// What stands before the first zero, and what stands behind it where there is one.
+pub fn split_at_zero(bytes: &[u8]) -> (&[u8], Option<&[u8]>) {
+    for (at, byte) in bytes.iter().enumerate() {
+        if *byte == 0 {
+            let (head, tail) = bytes.split_at(at);
+            return (head, tail.get(1..));
+        }
+    }
+    (bytes, None)
+}

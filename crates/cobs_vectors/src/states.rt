@@ -1,0 +1,142 @@
+//! The state machine of a decoder: every state that a caller can build, with every byte.
+use cobs::{DecodeError, DecodeResult, DecoderState};
+use std::process::Abort;
+use std::test::Fail;
+
+/// The 513 states: idle, and in a block of either kind with 0 to 255 bytes left.
+#[derive(Clone, Copy, Debug, PartialEq, Eq)]
+enum State {
+    Idle,
+    InBlock { full: bool, left: u8 },
+}
+
+/// What a byte brings.
+#[derive(Clone, Copy, Debug, PartialEq, Eq)]
+enum Answer {
+    NoData,
+    Start,
+    Complete,
+    Byte(u8),
+    Refused,
+}
+
+/// The decoder's state for one of this table.
+fn built(state: State) -> DecoderState {
+    match state {
+        State::Idle => DecoderState::Idle,
+        State::InBlock { full: false, left } => DecoderState::Grab(left),
+        State::InBlock { full: true, left } => DecoderState::GrabChain(left),
+    }
+}
+
+/// The same, backwards.
+fn seen(state: &DecoderState) -> State {
+    match state {
+        DecoderState::Idle => State::Idle,
+        DecoderState::Grab(left) => State::InBlock {
+            full: false,
+            left: *left,
+        },
+        DecoderState::GrabChain(left) => State::InBlock {
+            full: true,
+            left: *left,
+        },
+    }
+}
+
+/// What the decoder answered, in words of this table.
+fn told(answer: &Result<DecodeResult, DecodeError>) -> Option<Answer> {
+    match answer {
+        Ok(DecodeResult::NoData) => Some(Answer::NoData),
+        Ok(DecodeResult::DataStart) => Some(Answer::Start),
+        Ok(DecodeResult::DataComplete) => Some(Answer::Complete),
+        Ok(DecodeResult::DataContinue(byte)) => Some(Answer::Byte(*byte)),
+        Err(DecodeError::InvalidFrame { decoded_bytes: 0 }) => Some(Answer::Refused),
+        Err(_) => None,
+    }
+}
+
+/// The answer that is wanted.
+fn wanted_answer(state: State, byte: u8) -> Answer {
+    match (state, byte) {
+        (State::Idle, 0) => Answer::NoData,
+        (State::Idle, _) => Answer::Start,
+        (State::InBlock { left: 0, .. }, 0) => Answer::Complete,
+        (
+            State::InBlock {
+                left: 0,
+                full: true,
+            },
+            _,
+        ) => Answer::NoData,
+        (
+            State::InBlock {
+                left: 0,
+                full: false,
+            },
+            _,
+        ) => Answer::Byte(0),
+        (State::InBlock { .. }, 0) => Answer::Refused,
+        (State::InBlock { .. }, data) => Answer::Byte(data),
+    }
+}
+
+/// The state that is wanted afterwards.
+fn wanted_state(state: State, byte: u8) -> State {
+    match state {
+        _ if byte == 0 => State::Idle,
+        State::InBlock { full, left } if left > 0 => State::InBlock {
+            full,
+            left: left - 1,
+        },
+        _ => State::InBlock {
+            full: byte == 255,
+            left: byte - 1,
+        },
+    }
+}
+
+/// Feeds each byte to the state.
+fn check_each_byte(rt: &impl Abort, state: State) {
+    for byte in 0..=255u8 {
+        let mut decoder = built(state);
+        let answer = decoder.feed(byte);
+        assert_eq!(rt;
+            told(&answer),
+            Some(wanted_answer(state, byte)),
+            "{state:?} and {byte}"
+        );
+        assert_eq!(rt;
+            seen(&decoder),
+            wanted_state(state, byte),
+            "{state:?} and {byte}"
+        );
+    }
+}
+
+#[test]
+fn every_state_with_every_byte(rt: HostRuntime) {
+    check_each_byte(&rt, State::Idle);
+    for left in 0..=255u8 {
+        check_each_byte(&rt, State::InBlock { full: false, left });
+        check_each_byte(&rt, State::InBlock { full: true, left });
+    }
+}
+
+#[test]
+fn states_that_no_frame_leads_to(rt: HostRuntime) {
+    let mut state = DecoderState::Grab(255);
+    let answer = state.feed(7);
+    assert!(rt; matches!(answer, Ok(DecodeResult::DataContinue(7))));
+    assert!(rt; matches!(state, DecoderState::Grab(254)));
+
+    let mut state = DecoderState::GrabChain(0);
+    let answer = state.feed(255);
+    assert!(rt; matches!(answer, Ok(DecodeResult::NoData)));
+    assert!(rt; matches!(state, DecoderState::GrabChain(254)));
+}
+
+#[test]
+fn a_decoder_begins_idle(rt: HostRuntime) {
+    assert!(rt; matches!(DecoderState::default(), DecoderState::Idle));
+}
