@@ -1,18 +1,25 @@
 #!/bin/sh
-# Builds the library and the driver, and measures. `bench/run.sh` writes under bench/out, and the tables and the chart of
-# docs/PERFORMANCE.md from there with `bench/run.sh --docs`. A run takes about ten minutes.
+# Builds the library for C and the driver, compares every answer with the state machine's, and measures.
+#
+#     bench/run.sh           prints the tables
+#     bench/run.sh check     compares, and measures nothing
+#     bench/run.sh --docs    writes the tables and the chart into docs/PERFORMANCE.md and docs/performance.svg too
+#
+# It needs `rt` (in the PATH or in /opt/rattle/bin), rustc and cc; where valgrind is there, it counts instructions too.
+# A first run proves the library, which takes some minutes; measuring takes two.
 set -eu
 here=$(cd "$(dirname "$0")" && pwd)
 top=$(dirname "$here")
 out=$here/out
+PATH=$PATH:/opt/rattle/bin
 mkdir -p "$out"
-(cd "$top" && /opt/rattle/bin/rt all check >"$out/check.log" 2>&1) || { tail -20 "$out/check.log"; exit 1; }
-(cd "$top/crates/cobs_c" && /opt/rattle/bin/rt lib >"$out/lib.log" 2>&1) || { tail -20 "$out/lib.log"; exit 1; }
-lib=$top/crates/cobs_c/out
+for step in check lib; do
+    (cd "$top/crates/cobs_c" && rt $step >"$out/$step.log" 2>&1) || { tail -20 "$out/$step.log"; exit 1; }
+done
 build() { # NAME FLAG..
     name=$1
     shift
-    rustc --edition 2024 -O "$@" -L "native=$lib" -l static=cobs_c -o "$out/driver-$name" "$here/src/main.rs"
+    rustc --edition 2024 -O "$@" -L "native=$top/crates/cobs_c/out" -l static=cobs_c -o "$out/driver-$name" "$here/src/main.rs"
 }
 build default
 build one-unit -C codegen-units=1
@@ -23,10 +30,17 @@ done
 for name in default one-unit; do
     "$out/driver-$name" run >"$out/$name.csv"
 done
+: >"$out/instructions.md"
 if command -v valgrind >/dev/null; then
     "$here/instructions.sh" >"$out/instructions.md"
 fi
 "$out/driver-default" report "$out/default.csv" "$out/one-unit.csv" >"$out/tables.md"
 "$out/driver-default" report --svg "$out/default.csv" >"$out/performance.svg"
-[ "${1:-}" = --docs ] && cp "$out/performance.svg" "$top/docs/performance.svg"
-cat "$out/tables.md"
+cat "$out/tables.md" "$out/instructions.md"
+if [ "${1:-}" = --docs ]; then
+    cp "$out/performance.svg" "$top/docs/performance.svg"
+    { date -u '+Measured on %Y-%m-%d. ' && lscpu | sed -n 's/^Model name: */Processor: /p; s/^CPU(s): */Processors: /p'; } >"$out/machine.md"
+    for part in machine tables instructions; do
+        sed -i -e "/<!-- $part -->/,/<!-- end of $part -->/{//!d;}" -e "/<!-- $part -->/r $out/$part.md" "$top/docs/PERFORMANCE.md"
+    done
+fi

@@ -302,7 +302,9 @@ fn main() {
         ["one", call, who, workload, size, times] => {
             let mut work = work(workload, size.parse().unwrap());
             for _ in 0..times.parse::<usize>().unwrap() {
-                work.copies.clone_from(&work.frames);
+                if *call == "in place" {
+                    work.copies.clone_from(&work.frames);
+                }
                 black_box(once(call, who, &mut work));
             }
             println!("{}", work.bytes);

@@ -33,6 +33,11 @@ fn shown(value: Option<f64>, places: usize) -> String {
     value.map_or("-".into(), |v| format!("{v:.places$}"))
 }
 
+/// A ratio, with more places where it is near 1.
+fn shown_ratio(value: Option<f64>) -> String {
+    shown(value, if value.is_some_and(|v| v < 2.0) { 2 } else { 1 })
+}
+
 fn size_name(size: usize) -> String {
     if size < 1048576 { format!("{} KiB", size / 1024) } else { format!("{} MiB", size / 1048576) }
 }
@@ -42,7 +47,7 @@ fn ratios(figures: &Figures, size: usize) {
     println!("| {} | {} |", size_name(size), CALLS.join(" | "));
     println!("|---|{}", "--:|".repeat(CALLS.len()));
     for workload in WORKLOADS {
-        let cells: Vec<String> = CALLS.iter().map(|call| shown(ratio(figures, call, workload, size, "ours"), 1)).collect();
+        let cells: Vec<String> = CALLS.iter().map(|call| shown_ratio(ratio(figures, call, workload, size, "ours"))).collect();
         println!("| {workload} | {} |", cells.join(" | "));
     }
     println!();
@@ -69,9 +74,12 @@ fn least(figures: &Figures) {
         .filter_map(|key| Some((ratio(figures, &key.0, &key.1, key.2, "ours")?, key)))
         .collect();
     found.sort_by(|a, b| a.0.total_cmp(&b.0));
-    println!("The five least ratios:\n");
-    for (value, (call, workload, size)) in found.iter().take(5) {
-        println!("- {value:.2}: {call}, {workload}, {}", size_name(*size));
+    let below = found.iter().filter(|row| row.0 < 1.0).count();
+    println!("Of {} rows {below} have a ratio below 1.00. The least of each call:\n", found.len());
+    for call in CALLS {
+        if let Some((value, (_, workload, size))) = found.iter().find(|row| row.1.0 == call) {
+            println!("- {call}: {value:.2} ({workload}, {})", size_name(*size));
+        }
     }
     println!();
 }
@@ -83,10 +91,11 @@ pub fn print(files: &[&str]) {
     for file in files {
         let figures = read(file);
         let name = file.rsplit('/').next().unwrap_or(file).trim_end_matches(".csv");
-        println!("### {name}: times as fast as the state machine\n");
+        let built = if name == "default" { "built by default" } else { "built as one code generation unit" };
+        println!("### Times as fast as the state machine, driver {built}\n");
         SIZES.iter().for_each(|size| ratios(&figures, *size));
         least(&figures);
-        println!("### {name}: megabytes a second\n");
+        println!("### Megabytes a second, driver {built}\n");
         rates(&figures, 65536);
     }
 }
