@@ -109,7 +109,7 @@ fn decode_flat(buffer: &mut [u8], end: usize)
             let next = buffer[at] as usize;
             buffer[at] = 0;
             read += code;
-            if end - read <= code || next != code {
+            if next != code || end - read <= code {
                 code = next;
                 break;
             }

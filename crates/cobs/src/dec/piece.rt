@@ -111,7 +111,7 @@ fn decode_window(piece: &[u8], dest: &mut [u8]) -> usize
         'alike: loop {
             dest[read + (code - 1)] = 0;
             read += code;
-            if 33 - read <= code || piece[read] as usize != code {
+            if piece[read] as usize != code || 33 - read <= code {
                 break;
             }
         }
@@ -142,7 +142,7 @@ fn decode_end(piece: &[u8], dest: &mut [u8]) -> PieceEnd
         'alike: loop {
             dest[read + (code - 1)] = 0;
             read += code;
-            if piece.len() - read <= code || piece[read] as usize != code {
+            if piece[read] as usize != code || piece.len() - read <= code {
                 break;
             }
         }

@@ -18,7 +18,7 @@ alike-preserved c =
     record {
       decoded = code-decoded c.args.piece.now c.args.dest.now c.alike.dest c.alike.read c.alike.read c.by_code.code i.decoded i.code pos i.more (length c.args.piece.now) i.copied i.more short (omega arith);
       copied = code-copied c.args.piece.now c.args.dest.now c.alike.dest c.alike.read c.alike.read c.by_code.code i.decoded i.code pos i.more (length c.args.piece.now) i.copied i.more short;
-      code = sym c.if-piece-read-2.false;
+      code = sym c.if-piece-read.false;
       more = omega arith;
       onward = omega arith;
     }
