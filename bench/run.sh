@@ -39,7 +39,12 @@ fi
 cat "$out/tables.md" "$out/instructions.md"
 if [ "${1:-}" = --docs ]; then
     cp "$out/performance.svg" "$top/docs/performance.svg"
-    { date -u '+Measured on %Y-%m-%d. ' && lscpu | sed -n 's/^Model name: */Processor: /p; s/^CPU(s): */Processors: /p'; } >"$out/machine.md"
+    {
+        date -u '+- Date: %Y-%m-%d'
+        lscpu | sed -n 's/^Model name: */- Processor: /p; s/^CPU(s): */- Processors: /p; s/^CPU family: */- Family: /p; s/^Model: */- Model: /p'
+        rustc --version | sed 's/^/- Driver: /'
+        sed 's/^\([0-9.]*\).*/- Load of the machine by all that ran on it, as the run ended: \1/' /proc/loadavg
+    } >"$out/machine.md"
     for part in machine tables instructions; do
         sed -i -e "/<!-- $part -->/,/<!-- end of $part -->/{//!d;}" -e "/<!-- $part -->/r $out/$part.md" "$top/docs/PERFORMANCE.md"
     done
