@@ -19,6 +19,8 @@ mod memory;
 mod mode;
 mod modes;
 mod output;
+#[cfg(test)]
+mod refused_memory;
 mod report;
 #[cfg(test)]
 mod tests;
