@@ -197,7 +197,7 @@ fn run() {
                 let mut work = work(workload, size);
                 let times = (262144 / size).max(1);
                 let mut least = [f64::INFINITY; WHO.len()];
-                for _ in 0..if size > 100_000 { 15 } else { 25 } {
+                for _ in 0..if size > 100_000 { 50 } else { 80 } {
                     for (i, who) in WHO.iter().enumerate() {
                         if let Some(time) = seconds(call, who, &mut work, times) {
                             least[i] = least[i].min(time);
