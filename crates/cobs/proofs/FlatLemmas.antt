@@ -1,8 +1,7 @@
 -- Frames in which no block but the last is full, decoded in their own place.
-use Rattle.std.proofs.Common.{◌≡◌, ◌≢◌, ℕ, ◌+◌, ◌-◌, ◌<◌, ◌≤◌, true, false, cond, List, [], ◌∷◌, ◌++◌, length, take, drop, get_or, Ok, refl, sym, ap, ◌∙◌, arith, length-drop, length-take-le, inl, inr}
+use Rattle.std.proofs.Common.{◌≡◌, ◌≢◌, ℕ, ◌+◌, ◌-◌, ◌<◌, true, List, [], ◌∷◌, length, take, drop, get_or, Ok, refl, sym, ap, ◌∙◌, arith, length-drop, inl, inr}
 use Rattle.std.proofs.lemmas.Bool.{eq-eqb}
 use Rattle.std.proofs.lemmas.List.{drop-drop, drop_more, drop-take, get_or-take, get_or-drop}
-use Rattle.cobs.specs.Buffer.{overwritten}
 use Rattle.cobs.specs.Piece.{output, kept_output, last_part, lacks, is_whole, IsFlat}
 use Rattle.cobs.specs.Decoding.{head_answer}
 use Rattle.cobs.proofs.PieceCuts.{last_part-more, last_part-last, is_whole-of, length-output-last, length-output-more, joint_of, joint-length}

@@ -1,4 +1,4 @@
-use Rattle.std.proofs.Common.{◌≡◌, ◌<◌, ◌≤◌, ◌+◌, ◌-◌, ◌∙◌, ℕ, List, length, take, get_or, length-take-le, ap, refl, sym, subst, arith}
+use Rattle.std.proofs.Common.{◌≡◌, ◌<◌, ◌≤◌, ◌+◌, ◌-◌, ◌∙◌, ℕ, List, length, take, length-take-le, ap, sym, subst, arith}
 use Rattle.cobs.proofs.WindowSteps.{code-pos, code-decoded, code-copied, flat-short, end-begins}
 use Rattle.cobs.proofs.FlatLemmas.{next-code}
 use Rattle.cobs.proofs.dec.in_place.decode_flat.Goals as goal

@@ -1,4 +1,4 @@
-use Rattle.std.proofs.Common.{◌≡◌, ◌∙◌, ◌+◌, ◌-◌, ℕ, List, length, take, length-take-le, ap, sym, arith}
+use Rattle.std.proofs.Common.{◌∙◌, ◌-◌, take, length-take-le, sym, arith}
 use Rattle.cobs.proofs.FlatLemmas.{flat-kept, flat-answer}
 use Rattle.cobs.proofs.BlockSteps.{overwritten-front}
 use Rattle.cobs.proofs.dec.in_place.decode_front.Goals as goal

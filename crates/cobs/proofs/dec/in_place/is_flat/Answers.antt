@@ -1,4 +1,4 @@
-use Rattle.std.proofs.Common.{◌≡◌, ◌<◌, ◌-◌, ℕ, length, get_or, arith, refl, sym, subst}
+use Rattle.std.proofs.Common.{◌<◌, ℕ, get_or, arith, sym, subst}
 use Rattle.std.proofs.lemmas.Bool.{eqb-true}
 use Rattle.cobs.proofs.WindowSteps.{code-pos}
 use Rattle.cobs.proofs.FlatLemmas.{flat-more, flat-whole}
