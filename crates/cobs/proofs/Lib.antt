@@ -7,10 +7,13 @@ pub mod OpenLemmas
 pub mod OpenedLemmas
 pub mod OpenLenLemmas
 pub mod MaskLemmas
+pub mod ShortLemmas
+pub mod PartMasks
 pub mod ReachLemmas
 pub mod MarkLemmas
 pub mod AfterLemmas
 pub mod CoreLemmas
+pub mod ShortSteps
 pub mod RoomLemmas
 pub mod Examples
 pub mod PieceLemmas
@@ -40,7 +43,7 @@ pub mod VectorSteps
 pub mod HeadlineLemmas
 pub mod WholeLemmas
 mod LentSlice
-pub mod FewLemmas
+pub mod StepLemmas
 pub mod PushHeadline
 pub mod FlatLemmas
 pub mod VectorHeadline

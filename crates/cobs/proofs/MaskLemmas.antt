@@ -235,7 +235,7 @@ pub zero_mask-lt : (bytes : List ℕ) → zero_mask bytes < 2 ^ length bytes
 zero_mask-lt bytes = rw (← zero_mask-lanes bytes) (subst (λ (n : ℕ). mask_l (map (λ b. eqb b 0) bytes) < 2 ^ n) (length-map bytes (λ b. eqb b 0)) (mask_l-lt (map (λ b. eqb b 0) bytes)))
 
 -- where every bit is set, each byte is 0
-zero_mask-all : (bytes : List ℕ) → zero_mask bytes + 1 ≡ 2 ^ length bytes → bytes ≡ replicate (length bytes) 0
+pub zero_mask-all : (bytes : List ℕ) → zero_mask bytes + 1 ≡ 2 ^ length bytes → bytes ≡ replicate (length bytes) 0
 zero_mask-all [] e = refl
 zero_mask-all (b ∷ bytes) e =
     let p = pow-suc 2 (length bytes) in
@@ -269,7 +269,7 @@ module _ (source dest first after : List ℕ) (read at len n front back : ℕ) (
   abbrev w : List ℕ
   w = take len (drop read source)
 
-  length-w : length w ≡ len
+  pub length-w : length w ≡ len
   length-w = length-take-le len (drop read source) (let d = length-drop read source in omega arith)
 
   front-is : take n (drop read source) ≡ take n w
@@ -303,31 +303,12 @@ module _ (source dest first after : List ℕ) (read at len n front back : ℕ) (
       ∙ append_assoc (take at dest) (take (len - n) w) (drop (len - n) w ++ drop (at + len) dest)
       ∙ ap (λ (x : List ℕ). take at dest ++ x) (sym (append_assoc (take (len - n) w) (drop (len - n) w) (drop (at + len) dest)) ∙ ap (λ (x : List ℕ). x ++ drop (at + len) dest) (take-append-drop (len - n) w))
 
-  -- the mask of the second part, without what the first part has
-  shifted : back / 2 ^ (n + n - len) ≡ zero_mask (drop n w)
-  shifted =
-      ap (λ (k : ℕ). k / 2 ^ (n + n - len)) (bits' ∙ ap zero_mask back-is) ∙ zero_mask-drop (n + n - len) (drop (len - n) w)
-      ∙ ap zero_mask (drop-drop (n + n - len) (len - n) w ∙ ap (λ (k : ℕ). drop k w) (omega arith))
+  -- the masks of the two parts
+  pub front-mask : front ≡ zero_mask (take n w)
+  front-mask = bits ∙ ap zero_mask front-is
 
-  pub parts-mask : front + 2 ^ n * (back / 2 ^ (n + n - len)) ≡ zero_mask w
-  parts-mask =
-      let l = length-w in
-      let b : length (take n w) ≡ n = length-take-le n w (omega arith) in
-      ap (λ (k : ℕ). k + 2 ^ n * (back / 2 ^ (n + n - len))) (bits ∙ ap zero_mask front-is) ∙ ap (λ (k : ℕ). zero_mask (take n w) + 2 ^ n * k) shifted
-      ∙ ap (λ (k : ℕ). zero_mask (take n w) + 2 ^ k * zero_mask (drop n w)) (sym b) ∙ sym (zero_mask-append (take n w) (drop n w)) ∙ ap zero_mask (take-append-drop n w)
-
-  -- no bit of it is lost
-  pub parts-small : (front < 65536) × (back / 2 ^ (n + n - len) < 65536)
-  parts-small =
-      let l = length-w in
-      let most : 2 ^ n ≤ 2 ^ 16 = pow-le-pow_right {n = 2} (omega arith) {i = n} {j = 16} (omega arith) in
-      let a : length (take n w) ≡ n = length-take-le n w (omega arith) in
-      let f : front < 2 ^ length (take n w) = subst (λ (k : ℕ). k < 2 ^ length (take n w)) (sym (bits ∙ ap zero_mask front-is)) (zero_mask-lt (take n w)) in
-      let fa : 2 ^ length (take n w) ≡ 2 ^ n = ap (λ (k : ℕ). 2 ^ k) a in
-      let d = length-drop n w in
-      let g : back / 2 ^ (n + n - len) < 2 ^ length (drop n w) = subst (λ (k : ℕ). k < 2 ^ length (drop n w)) (sym shifted) (zero_mask-lt (drop n w)) in
-      let most' : 2 ^ length (drop n w) ≤ 2 ^ 16 = pow-le-pow_right {n = 2} (omega arith) {i = length (drop n w)} {j = 16} (omega arith) in
-      (omega arith, omega arith)
+  pub back-mask : back ≡ zero_mask (drop (len - n) w)
+  back-mask = bits' ∙ ap zero_mask back-is
 
 -- one byte more
 pub zero_mask-push : (bytes : List ℕ) (b : ℕ) → zero_mask (bytes ++ b ∷ []) ≡ zero_mask bytes + (if b == 0 then 1 else 0) * 2 ^ length bytes

@@ -1,18 +1,15 @@
 -- So many bytes of a block at once are so many feeds.
-use Rattle.std.proofs.Common.{◌≡◌, ◌≢◌, ℕ, zero, suc, ◌+◌, ◌-◌, ◌<◌, ◌≤◌, Bool, true, false, cond, List, [], ◌∷◌, ◌++◌, length, take, drop, set, get_or, sym, ap, ◌∙◌, subst, arith, append_assoc, None, Ok, IfOk, IfSome}
+use Rattle.std.proofs.Common.{◌≡◌, ◌≢◌, ℕ, zero, suc, ◌+◌, ◌-◌, ◌<◌, ◌≤◌, Bool, true, false, cond, eqb, List, [], ◌∷◌, ◌++◌, length, take, drop, set, get_or, refl, sym, ap, ◌∙◌, subst, arith, append_assoc, None, Ok, IfOk, IfSome}
 use Rattle.std.proofs.lemmas.List.{set-append_right, length_push, drop_more, take_more_set, drop-set-lt, length-set, take-append-drop, length-take-le, get_or-take, get_or-drop, drop-drop}
 use Rattle.std.proofs.Common.{length-drop, length-take, min}
 use Rattle.std.proofs.Math.Seq.{set-append_seam}
 use borrow.Rule.Slice.PartMut.{put_mid}
 use Rattle.cobs.specs.declared.dec.inner.CobsDecoderInner.{CobsDecoderInner}
-use Rattle.cobs.specs.declared.dec.state.DecoderState.{DecoderState}
-use Rattle.cobs.specs.declared.dec.state.DecoderState.TheVariants as states
-use Rattle.cobs.specs.Machine.{left_in, skipped}
 use Rattle.std.proofs.lemmas.List.Elements.{All-head, All-tail}
 use Rattle.std.proofs.lemmas.Bool.{ne_eqb, lt-ltb}
 use Rattle.cobs.specs.Grammar.{HasNoZero}
 use Rattle.cobs.specs.Decoder.{Phase, Idle, Within, Over, Feeds}
-use Rattle.cobs.specs.Buffers.{phase_of, phase_of_state}
+use Rattle.cobs.specs.Buffers.{phase_of, phase_with}
 use Rattle.cobs.specs.Machine.{grows, next_phase, next_buffer, next_answer, end_answer, if_over, FedInTurn}
 use Rattle.cobs.proofs.FeedLemmas.{Feeds-step}
 use Rattle.cobs.proofs.PushLemmas.{Pushed, Pushed-more}
@@ -108,33 +105,35 @@ Pushed-ran {buffer₀} {buffer'} {phase₀} {phase'} bytes buffer phase i m r he
 
 -- THE RUN OF A DECODER
 
-state_fed : (state : DecoderState) (buffer xs : List ℕ) (count : ℕ) → HasNoZero xs → 0 < length xs → length xs ≤ left_in state → count + length xs ≤ length buffer
-    → FedInTurn buffer (phase_of_state state count) xs (over count buffer xs) (phase_of_state (skipped state (length xs)) (count + length xs))
-state_fed states.Idle buffer xs count h some l r = absurd (omega arith)
-state_fed (states.Grab left) buffer xs count h some l r = FedInTurn-within xs buffer false left count h l r
-state_fed (states.GrabChain left) buffer xs count h some l r = FedInTurn-within xs buffer true left count h l r
+-- a block that lacks bytes, or has written some, is one of a piece
+pub begun : (full : Bool) (left count : ℕ) → 0 < left + count → phase_with full left count ≡ Within full left count
+begun false left count some = refl
+begun true (suc left) count some = refl
+begun true zero (suc count) some = refl
+begun true zero zero some = absurd (omega arith)
 
 -- bytes of the open block that fit, written behind what was written
-pub run_written : (inner : CobsDecoderInner) (next : DecoderState) (dest bytes : List ℕ) (run : ℕ) → inner.over ≡ false → next ≡ skipped inner.state run
-    → 0 < run → run ≤ left_in inner.state → inner.dest_idx + run ≤ length dest → run ≤ length bytes → HasNoZero (take run bytes)
-    → FedInTurn dest (phase_of inner) (take run bytes) (over inner.dest_idx dest (take run bytes)) (phase_of (record { dest_idx = inner.dest_idx + run; state = next; over = inner.over }))
-run_written inner next dest bytes run plain skips some left room within nz =
+run_written : (full : Bool) (left count run : ℕ) (dest bytes : List ℕ) → 0 < run → run ≤ left → count + run ≤ length dest → run ≤ length bytes → HasNoZero (take run bytes)
+    → FedInTurn dest (phase_with full left count) (take run bytes) (over count dest (take run bytes)) (phase_with full (left - run) (count + run))
+run_written full left count run dest bytes some most room within nz =
     let long : length (take run bytes) ≡ run = length-take-le run bytes within in
-    let fed : FedInTurn dest (phase_of_state inner.state inner.dest_idx) (take run bytes) (over inner.dest_idx dest (take run bytes)) (phase_of_state (skipped inner.state (length (take run bytes))) (inner.dest_idx + length (take run bytes)))
-    = state_fed inner.state dest (take run bytes) inner.dest_idx nz (omega arith) (omega arith) (omega arith) in
-    subst (λ (v : Bool). FedInTurn dest (cond v Over (phase_of_state inner.state inner.dest_idx)) (take run bytes) (over inner.dest_idx dest (take run bytes)) (cond v Over (phase_of_state next (inner.dest_idx + run)))) (sym plain)
-    (subst (λ (s : DecoderState). FedInTurn dest (phase_of_state inner.state inner.dest_idx) (take run bytes) (over inner.dest_idx dest (take run bytes)) (phase_of_state s (inner.dest_idx + run))) (sym skips)
-    (subst (λ (k : ℕ). FedInTurn dest (phase_of_state inner.state inner.dest_idx) (take run bytes) (over inner.dest_idx dest (take run bytes)) (phase_of_state (skipped inner.state k) (inner.dest_idx + k))) long fed))
+    let fed : FedInTurn dest (Within full left count) (take run bytes) (over count dest (take run bytes)) (Within full (left - length (take run bytes)) (count + length (take run bytes)))
+    = FedInTurn-within (take run bytes) dest full left count nz (omega arith) (omega arith) in
+    rw (begun full left count (omega arith), begun full (left - run) (count + run) (omega arith))
+    (subst (λ (k : ℕ). FedInTurn dest (Within full left count) (take run bytes) (over count dest (take run bytes)) (Within full (left - k) (count + k))) long fed)
 
 over-put : (count run : ℕ) (buffer xs : List ℕ) → length xs ≡ run → over count buffer xs ≡ put_mid count (count + run - count) buffer xs
 over-put count run buffer xs e = ap (λ (l : List ℕ). take count buffer ++ (xs ++ l)) (ap (λ (k : ℕ). drop k buffer) (omega arith) ∙ sym (drop-drop (count + run - count) count buffer))
 
 -- the same by one copy
-pub run_fed : (inner : CobsDecoderInner) (next : DecoderState) (dest bytes ys : List ℕ) (run : ℕ) → inner.over ≡ false → next ≡ skipped inner.state run
-    → 0 < run → run ≤ left_in inner.state → inner.dest_idx + run ≤ length dest → run ≤ length bytes → HasNoZero (take run bytes) → ys ≡ take run bytes
+pub run_fed : (inner : CobsDecoderInner) (dest bytes ys : List ℕ) (run : ℕ) → inner.over ≡ false
+    → 0 < run → run ≤ inner.left → inner.dest_idx + run ≤ length dest → run ≤ length bytes → HasNoZero (take run bytes) → ys ≡ take run bytes
     → FedInTurn dest (phase_of inner) (take run bytes) (put_mid inner.dest_idx (inner.dest_idx + run - inner.dest_idx) dest ys)
-    (phase_of (record { dest_idx = inner.dest_idx + run; state = next; over = inner.over }))
-run_fed inner next dest bytes ys run plain skips some left room within nz same =
-    subst (λ (l : List ℕ). FedInTurn dest (phase_of inner) (take run bytes) l (phase_of (record { dest_idx = inner.dest_idx + run; state = next; over = inner.over })))
-    (over-put inner.dest_idx run dest (take run bytes) (length-take-le run bytes within) ∙ ap (put_mid inner.dest_idx (inner.dest_idx + run - inner.dest_idx) dest) (sym same))
-    (run_written inner next dest bytes run plain skips some left room within nz)
+    (phase_of (record { dest_idx = inner.dest_idx + run; left = inner.left - run; code = inner.code; over = inner.over }))
+run_fed inner dest bytes ys run plain some most room within nz same =
+    let put : over inner.dest_idx dest (take run bytes) ≡ put_mid inner.dest_idx (inner.dest_idx + run - inner.dest_idx) dest ys
+    = over-put inner.dest_idx run dest (take run bytes) (length-take-le run bytes within) ∙ ap (put_mid inner.dest_idx (inner.dest_idx + run - inner.dest_idx) dest) (sym same) in
+    subst (λ (v : Bool). FedInTurn dest (cond v Over (phase_with (eqb inner.code 255) inner.left inner.dest_idx)) (take run bytes) (put_mid inner.dest_idx (inner.dest_idx + run - inner.dest_idx) dest ys)
+    (cond v Over (phase_with (eqb inner.code 255) (inner.left - run) (inner.dest_idx + run)))) (sym plain)
+    (subst (λ (l : List ℕ). FedInTurn dest (phase_with (eqb inner.code 255) inner.left inner.dest_idx) (take run bytes) l (phase_with (eqb inner.code 255) (inner.left - run) (inner.dest_idx + run))) put
+    (run_written (eqb inner.code 255) inner.left inner.dest_idx run dest bytes some most room within nz))

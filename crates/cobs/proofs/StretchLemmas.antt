@@ -2,21 +2,19 @@
 use Rattle.std.proofs.Common.{◌≡◌, ◌≢◌, ℕ, zero, suc, ◌+◌, ◌-◌, ◌<◌, ◌≤◌, Bool, true, false, cond, eqb, List, [], ◌∷◌, ◌++◌, length, take, drop, set, refl, sym, ap, ◌∙◌, subst, arith, append_assoc, inl, inr, length-append, length-drop, None, Ok}
 use Rattle.std.proofs.lemmas.List.{append-nil, length-set, length_push, length-take-le, take-append-drop, drop_all, drop-drop, take_rest}
 use Rattle.std.proofs.lemmas.List.Elements.{All-head, All-tail, All-drop}
-use Rattle.std.proofs.lemmas.Bool.{ne_eqb, lt-ltb, cases_lt}
+use Rattle.std.proofs.lemmas.Bool.{ne_eqb, eqb-true, lt-ltb, cases_lt}
 use Rattle.std.specs.List.{All}
 use borrow.Rule.Slice.PartMut.{put_mid}
-use Rattle.cobs.specs.Grammar.{HasNoZero, is_full}
+use Rattle.cobs.specs.Grammar.{HasNoZero, code_of, is_full}
 use Rattle.cobs.specs.Piece.{output, last_part, lacks, parts, parts_behind}
 use Rattle.cobs.specs.Decoder.{Phase, Idle, Within, Over}
-use Rattle.cobs.specs.declared.dec.state.DecoderState.{DecoderState}
-use Rattle.cobs.specs.declared.dec.state.DecoderState.TheVariants as states
 use Rattle.cobs.specs.declared.dec.inner.CobsDecoderInner.{CobsDecoderInner}
-use Rattle.cobs.specs.Buffers.{phase_of, phase_of_state}
-use Rattle.cobs.specs.Machine.{left_in, grows, next_phase, next_buffer, next_answer, end_answer, if_over, FedInTurn}
+use Rattle.cobs.specs.Buffers.{phase_of, phase_with}
+use Rattle.cobs.specs.Machine.{grows, next_phase, next_buffer, next_answer, end_answer, if_over, FedInTurn}
 use Rattle.cobs.proofs.PieceLemmas.{output-one, last_part-one, output-push_more, output-push_next, last_part-push_next, lacks-push_more, is_full-push_more}
-use Rattle.cobs.proofs.PieceCuts.{last_part-more, last_part-last}
+use Rattle.cobs.proofs.PieceCuts.{last_part-more, last_part-last, output-last, output-more, joint_of}
 use Rattle.cobs.proofs.PushLemmas.{output-longer}
-use Rattle.cobs.proofs.RunLemmas.{over, over-nil, over-push}
+use Rattle.cobs.proofs.RunLemmas.{over, over-nil, over-push, begun}
 
 -- the bytes are fed in two parts
 pub FedInTurn-append : (xs ys buffer buffer' buffer'' : List ℕ) (phase phase' phase'' : Phase)
@@ -116,16 +114,14 @@ FedInTurn-on base buffer c q (x ∷ tail) h room =
     )
 
 -- where the output of a stretch begins that stands behind a block boundary
-abbrev pub base_of : DecoderState → ℕ → ℕ
-base_of states.Idle count = 0
-base_of (states.Grab left) count = count + 1
-base_of (states.GrabChain left) count = count
+abbrev pub base_of : Bool → ℕ → ℕ
+base_of true count = count
+base_of false count = count + 1
 
 -- the buffer with the zero that joins the stretch to the block before it
-abbrev pub joined : DecoderState → ℕ → List ℕ → List ℕ
-joined states.Idle count buffer = buffer
-joined (states.Grab left) count buffer = set buffer count 0
-joined (states.GrabChain left) count buffer = buffer
+abbrev pub joined : Bool → ℕ → List ℕ → List ℕ
+joined true count buffer = buffer
+joined false count buffer = set buffer count 0
 
 over-start : (base c : ℕ) (buffer : List ℕ) → over base buffer (output (c ∷ [])) ≡ buffer
 over-start base c buffer = ap (over base buffer) (output-one c) ∙ over-nil base buffer
@@ -146,20 +142,39 @@ first_fed base buffer buffer₁ phase c q h same room phase_is buffer_is =
     )
 
 -- THE BULK LEMMA: a stretch behind a block boundary is fed by writing its output
-pub FedInTurn-blocks : (state : DecoderState) (count : ℕ) (buffer : List ℕ) (c : ℕ) (q : List ℕ) → left_in state ≡ 0 → HasNoZero (c ∷ q)
-    → base_of state count + length (output (c ∷ q)) ≤ length buffer
-    → FedInTurn buffer (phase_of_state state count) (c ∷ q) (over (base_of state count) (joined state count buffer) (output (c ∷ q))) (phase_at (base_of state count) (c ∷ q))
-FedInTurn-blocks states.Idle count buffer c q l h room =
+pub FedInTurn-blocks : (full : Bool) (count : ℕ) (buffer : List ℕ) (c : ℕ) (q : List ℕ) → HasNoZero (c ∷ q) → base_of full count + length (output (c ∷ q)) ≤ length buffer
+    → FedInTurn buffer (phase_with full 0 count) (c ∷ q) (over (base_of full count) (joined full count buffer) (output (c ∷ q))) (phase_at (base_of full count) (c ∷ q))
+FedInTurn-blocks true zero buffer c q h room =
     first_fed 0 buffer buffer Idle c q h refl room (ap (λ (v : Bool). cond v Idle (Within (eqb c 255) (c - 1) 0)) (nonzero c (All-head (λ b. b ≢ 0) c q h))) refl
-FedInTurn-blocks (states.Grab zero) count buffer c q l h room =
+FedInTurn-blocks true (suc count) buffer c q h room =
+    first_fed (suc count) buffer buffer (Within true 0 (suc count)) c q h refl room (ap (λ (v : Bool). cond v Idle (Within (eqb c 255) (c - 1) (suc count))) (nonzero c (All-head (λ b. b ≢ 0) c q h))) refl
+FedInTurn-blocks false count buffer c q h room =
     let nz : eqb c 0 ≡ false = nonzero c (All-head (λ b. b ≢ 0) c q h) in
     first_fed (count + 1) buffer (set buffer count 0) (Within false 0 count) c q h (length-set buffer count 0) room
     (ap (λ (v : Bool). cond v Idle (grows (length buffer) (eqb c 255) (c - 1) count)) nz ∙ grown_phase (length buffer) (eqb c 255) (c - 1) count (omega arith))
     (ap (λ (v : Bool). cond v buffer (set buffer count 0)) nz)
-FedInTurn-blocks (states.Grab (suc left)) count buffer c q l h room = absurd (omega arith)
-FedInTurn-blocks (states.GrabChain zero) count buffer c q l h room =
-    first_fed count buffer buffer (Within true 0 count) c q h refl room (ap (λ (v : Bool). cond v Idle (Within (eqb c 255) (c - 1) count)) (nonzero c (All-head (λ b. b ≢ 0) c q h))) refl
-FedInTurn-blocks (states.GrabChain (suc left)) count buffer c q l h room = absurd (omega arith)
+
+-- a full part that lacks nothing has written bytes
+written_by : (n : ℕ) (p : List ℕ) → length p ≤ n → 0 < length p → is_full (last_part p) ≡ true → lacks (last_part p) ≡ 0 → 0 < length (output p)
+written_by n [] h some f l = absurd (omega arith)
+written_by zero (code ∷ bytes) h some f l = absurd (omega arith)
+written_by (suc n) (code ∷ bytes) h some f l = elim (cases_lt (code - 1) (length bytes)) [
+  | inl more ↦
+      let again : 0 < length (output (drop (code - 1) bytes)) =
+      written_by n (drop (code - 1) bytes) (omega (arith, length-drop (code - 1) bytes)) (omega (arith, length-drop (code - 1) bytes))
+      (ap is_full (sym (last_part-more code bytes more)) ∙ f) (ap lacks (sym (last_part-more code bytes more)) ∙ l) in
+      omega (arith, ap length (output-more code bytes more), length-append (take (code - 1) bytes ++ joint_of code) (output (drop (code - 1) bytes)))
+  | inr short ↦
+      let all : 255 ≡ code = sym (eqb-true code 255 (ap is_full (sym (last_part-last code bytes short)) ∙ f)) in
+      omega (arith, ap length (output-last code bytes short), ap lacks (last_part-last code bytes short))
+]
+
+-- the phase behind a stretch, by the fields of a decoder
+phase_with-at : (base : ℕ) (p : List ℕ) (full : Bool) (left : ℕ) → 0 < length p → is_full (last_part p) ≡ full → lacks (last_part p) ≡ left
+    → phase_with full left (base + length (output p)) ≡ Within full left (base + length (output p))
+phase_with-at base p false left some f l = refl
+phase_with-at base p true (suc left) some f l = refl
+phase_with-at base p true zero some f l = begun true 0 (base + length (output p)) (omega (arith, written_by (length p) p (omega arith) some f l))
 
 -- THE RUN OF A DECODER
 
@@ -172,37 +187,40 @@ put_over at written dest ys out room long front rest =
     ∙ ap (λ (l : List ℕ). out ++ l) (rest ∙ ap (drop written) (take_rest dest at) ∙ drop-drop written at dest ∙ ap (λ (k : ℕ). drop k dest) (omega arith)) in
     ap (λ (l : List ℕ). take at dest ++ (ys ++ l)) end ∙ ap (λ (l : List ℕ). take at dest ++ l) (append-nil ys ∙ whole)
 
-some_fed : (state : DecoderState) (count : ℕ) (buffer piece : List ℕ) → left_in state ≡ 0 → HasNoZero piece → 0 < length piece
-    → base_of state count + length (output piece) ≤ length buffer
-    → FedInTurn buffer (phase_of_state state count) piece (over (base_of state count) (joined state count buffer) (output piece)) (phase_at (base_of state count) piece)
-some_fed state count buffer [] l h some room = absurd (omega arith)
-some_fed state count buffer (c ∷ q) l h some room = FedInTurn-blocks state count buffer c q l h room
+some_fed : (full : Bool) (count : ℕ) (buffer piece : List ℕ) → HasNoZero piece → 0 < length piece → base_of full count + length (output piece) ≤ length buffer
+    → FedInTurn buffer (phase_with full 0 count) piece (over (base_of full count) (joined full count buffer) (output piece)) (phase_at (base_of full count) piece)
+some_fed full count buffer [] h some room = absurd (omega arith)
+some_fed full count buffer (c ∷ q) h some room = FedInTurn-blocks full count buffer c q h room
 
-pub blocks_fed : (inner : CobsDecoderInner) (next : DecoderState) (dest dest₁ piece ys : List ℕ) (at written : ℕ) → inner.over ≡ false → left_in inner.state ≡ 0
-    → HasNoZero piece → 0 < length piece → at ≡ base_of inner.state inner.dest_idx → dest₁ ≡ joined inner.state inner.dest_idx dest → length dest₁ ≡ length dest → at + length (output piece) ≤ length dest
+pub blocks_fed : (inner : CobsDecoderInner) (code left : ℕ) (dest dest₁ piece ys : List ℕ) (at written : ℕ) → inner.over ≡ false → inner.left ≡ 0
+    → HasNoZero piece → 0 < length piece → at ≡ base_of (eqb inner.code 255) inner.dest_idx → dest₁ ≡ joined (eqb inner.code 255) inner.dest_idx dest → length dest₁ ≡ length dest → at + length (output piece) ≤ length dest
     → written ≡ length (output piece) → take written ys ≡ output piece → drop written ys ≡ drop written (take (length dest₁ - at) (drop at dest₁))
-    → phase_of_state next (at + written) ≡ phase_at at piece
-    → FedInTurn dest (phase_of inner) piece (put_mid at (length dest₁ - at) dest₁ ys) (phase_of (record { dest_idx = at + written; state = next; over = inner.over }))
-blocks_fed inner next dest dest₁ piece ys at written going boundary nz some at-is dest-is same room long front rest next-is =
-    let fed : FedInTurn dest (phase_of_state inner.state inner.dest_idx) piece (over (base_of inner.state inner.dest_idx) (joined inner.state inner.dest_idx dest) (output piece)) (phase_at (base_of inner.state inner.dest_idx) piece)
-    = some_fed inner.state inner.dest_idx dest piece boundary nz some (omega arith) in
-    let buffer_is : over (base_of inner.state inner.dest_idx) (joined inner.state inner.dest_idx dest) (output piece) ≡ put_mid at (length dest₁ - at) dest₁ ys
-    = ap (λ (k : ℕ). over k (joined inner.state inner.dest_idx dest) (output piece)) (sym at-is) ∙ ap (λ (l : List ℕ). over at l (output piece)) (sym dest-is)
+    → code ≡ code_of (last_part piece) → left ≡ lacks (last_part piece)
+    → FedInTurn dest (phase_of inner) piece (put_mid at (length dest₁ - at) dest₁ ys) (phase_of (record { dest_idx = at + written; left = left; code = code; over = inner.over }))
+blocks_fed inner code left dest dest₁ piece ys at written going boundary nz some at-is dest-is same room long front rest code-is left-is =
+    let fed : FedInTurn dest (phase_with (eqb inner.code 255) 0 inner.dest_idx) piece (over (base_of (eqb inner.code 255) inner.dest_idx) (joined (eqb inner.code 255) inner.dest_idx dest) (output piece)) (phase_at (base_of (eqb inner.code 255) inner.dest_idx) piece)
+    = some_fed (eqb inner.code 255) inner.dest_idx dest piece nz some (omega arith) in
+    let buffer_is : over (base_of (eqb inner.code 255) inner.dest_idx) (joined (eqb inner.code 255) inner.dest_idx dest) (output piece) ≡ put_mid at (length dest₁ - at) dest₁ ys
+    = ap (λ (k : ℕ). over k (joined (eqb inner.code 255) inner.dest_idx dest) (output piece)) (sym at-is) ∙ ap (λ (l : List ℕ). over at l (output piece)) (sym dest-is)
     ∙ sym (put_over at written dest₁ ys (output piece) (omega arith) long front rest) in
-    let phase_is : phase_at (base_of inner.state inner.dest_idx) piece ≡ phase_of_state next (at + written) = ap (λ (k : ℕ). phase_at k piece) (sym at-is) ∙ sym next-is in
-    subst (λ (v : Bool). FedInTurn dest (cond v Over (phase_of_state inner.state inner.dest_idx)) piece (put_mid at (length dest₁ - at) dest₁ ys) (cond v Over (phase_of_state next (at + written)))) (sym going)
-    (subst (λ (z : Phase). FedInTurn dest (phase_of_state inner.state inner.dest_idx) piece (put_mid at (length dest₁ - at) dest₁ ys) z) phase_is
-    (subst (λ (z : List ℕ). FedInTurn dest (phase_of_state inner.state inner.dest_idx) piece z (phase_at (base_of inner.state inner.dest_idx) piece)) buffer_is fed))
+    let phase_is : phase_at (base_of (eqb inner.code 255) inner.dest_idx) piece ≡ phase_with (eqb code 255) left (at + written) =
+    ap (λ (k : ℕ). phase_at k piece) (sym at-is) ∙ sym (phase_with-at at piece (is_full (last_part piece)) (lacks (last_part piece)) some refl refl)
+    ∙ ap (λ (v : Bool). phase_with v (lacks (last_part piece)) (at + length (output piece))) (sym (ap (λ (k : ℕ). eqb k 255) code-is))
+    ∙ ap (λ (k : ℕ). phase_with (eqb code 255) k (at + length (output piece))) (sym left-is) ∙ ap (λ (k : ℕ). phase_with (eqb code 255) left (at + k)) (sym long) in
+    subst (λ (v : Bool). FedInTurn dest (cond v Over (phase_with (eqb inner.code 255) inner.left inner.dest_idx)) piece (put_mid at (length dest₁ - at) dest₁ ys) (cond v Over (phase_with (eqb code 255) left (at + written)))) (sym going)
+    (subst (λ (k : ℕ). FedInTurn dest (phase_with (eqb inner.code 255) k inner.dest_idx) piece (put_mid at (length dest₁ - at) dest₁ ys) (phase_with (eqb code 255) left (at + written))) (sym boundary)
+    (subst (λ (z : Phase). FedInTurn dest (phase_with (eqb inner.code 255) 0 inner.dest_idx) piece (put_mid at (length dest₁ - at) dest₁ ys) z) phase_is
+    (subst (λ (z : List ℕ). FedInTurn dest (phase_with (eqb inner.code 255) 0 inner.dest_idx) piece z (phase_at (base_of (eqb inner.code 255) inner.dest_idx) piece)) buffer_is fed)))
 
--- a part of a piece of bytes lacks less than 256 bytes
-lacks_by : (n : ℕ) (p : List ℕ) → length p ≤ n → All (λ b. b < 256) p → lacks (last_part p) < 256
+-- the last part of a piece of bytes has a code below 256, and lacks less
+last_by : (n : ℕ) (p : List ℕ) → length p ≤ n → All (λ b. b < 256) p → code_of (last_part p) < 256
 unfolding last_part parts parts_behind
-lacks_by n [] h small = omega arith
-lacks_by zero (code ∷ bytes) h small = absurd (omega arith)
-lacks_by (suc n) (code ∷ bytes) h small = elim (cases_lt (code - 1) (length bytes)) [
-  | inl more ↦ rw (last_part-more code bytes more) (lacks_by n (drop (code - 1) bytes) (omega (arith, length-drop (code - 1) bytes)) (All-drop (λ b. b < 256) (code - 1) bytes (All-tail (λ b. b < 256) code bytes small)))
-  | inr short ↦ rw (last_part-last code bytes short) (omega (arith, All-head (λ b. b < 256) code bytes small))
+last_by n [] h small = omega arith
+last_by zero (code ∷ bytes) h small = absurd (omega arith)
+last_by (suc n) (code ∷ bytes) h small = elim (cases_lt (code - 1) (length bytes)) [
+  | inl more ↦ rw (last_part-more code bytes more) (last_by n (drop (code - 1) bytes) (omega (arith, length-drop (code - 1) bytes)) (All-drop (λ b. b < 256) (code - 1) bytes (All-tail (λ b. b < 256) code bytes small)))
+  | inr short ↦ rw (last_part-last code bytes short) (All-head (λ b. b < 256) code bytes small)
 ]
 
-pub lacks_small : (p : List ℕ) → All (λ b. b < 256) p → lacks (last_part p) < 256
-lacks_small p small = lacks_by (length p) p (omega arith) small
+pub code_small : (p : List ℕ) → All (λ b. b < 256) p → code_of (last_part p) < 256
+code_small p small = last_by (length p) p (omega arith) small

@@ -1,5 +1,5 @@
 -- The steps of a decoder that copies the bytes of a piece and then writes zeros into the copy.
-use Rattle.std.proofs.Common.{◌≡◌, ◌≢◌, ℕ, ◌+◌, ◌-◌, ◌<◌, ◌≤◌, List, [], ◌∷◌, ◌++◌, length, drop, take, get_or, replicate, eqb, suc, refl, sym, ap, ◌∙◌, subst, inl, inr, arith, append-nil, append_assoc, take_at, drop_at, length-append, length-take-le, length-drop, take-append-drop, take_all}
+use Rattle.std.proofs.Common.{◌≡◌, ◌≢◌, ℕ, ◌+◌, ◌-◌, ◌<◌, ◌≤◌, List, [], ◌∷◌, ◌++◌, length, drop, take, get_or, replicate, suc, refl, sym, ap, ◌∙◌, subst, inl, inr, arith, append-nil, append_assoc, take_at, drop_at, length-append, length-take-le, length-drop, take-append-drop, take_all}
 use Rattle.std.proofs.lemmas.List.{drop-drop, drop_all, drop-take, drop_more, take-take, set_split, drop-set-lt}
 use Rattle.std.proofs.lemmas.List.Elements.{All-get_or}
 use Rattle.std.proofs.lemmas.Bool.{ne_eqb, eq-eqb}
@@ -7,7 +7,7 @@ use Rattle.std.proofs.lemmas.Slice.{take-put_mid, drop-put_mid, drop-append-drop
 use Rattle.std.proofs.Math.ListN.{set}
 use Rattle.std.specs.Prelude.{if◌then◌else◌}
 use borrow.Rule.Slice.PartMut.{put_mid, same_len_mid}
-use Rattle.cobs.specs.Grammar.{HasNoZero, is_full}
+use Rattle.cobs.specs.Grammar.{HasNoZero, code_of}
 use Rattle.cobs.specs.Piece.{output, last_part, lacks}
 use Rattle.cobs.proofs.PieceCuts.{last_part-more, last_part-last, last_part-ones, output-last, output-more, output-long, output-le, output-short, output-ones, length-output-last, joint_of, joint-length}
 
@@ -170,8 +170,8 @@ module _ (piece old dest : List ℕ) (read written code : ℕ) (p : Decoded piec
     last-is : last_part piece ≡ code ∷ drop (read + 1) piece
     last-is = let l = length-drop (read + 1) piece in sym p.last ∙ ap last_part cons ∙ last_part-last code (drop (read + 1) piece) (omega arith)
 
-    pub last-full : eqb code 255 ≡ is_full (last_part piece)
-    last-full = sym (ap is_full last-is)
+    pub last-code : code ≡ code_of (last_part piece)
+    last-code = sym (ap code_of last-is)
 
     pub last-lacks : code - (length piece - read) ≡ lacks (last_part piece)
     last-lacks =

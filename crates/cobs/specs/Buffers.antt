@@ -1,5 +1,5 @@
 -- What contracts see of the three streaming decoders: their buffers, and where they stand.
-use Rattle.std.specs.Prelude.{ℕ, List, [], true, false, if◌then◌else◌}
+use Rattle.std.specs.Prelude.{ℕ, zero, suc, ◌==◌, Bool, true, false, List, [], if◌then◌else◌}
 use Rattle.std.specs.Borrow.{Lends, MutBor, Fml, RattleType, u8, Array}
 use Rattle.std.specs.Vec.{with_items}
 use denote.Param.{value_of}
@@ -13,18 +13,18 @@ use Rattle.cobs.specs.contracts.dec.owned.CobsDecoderOwned.{the_row as owned_row
 use Rattle.cobs.specs.contracts.dec.heapless.CobsDecoderHeapless.{the_row as heapless_row}
 use Rattle.cobs.specs.Decoder.{Phase, Idle, Within, Over}
 use Rattle.cobs.specs.declared.dec.inner.CobsDecoderInner.{CobsDecoderInner}
-use Rattle.cobs.specs.declared.dec.state.DecoderState.{DecoderState}
-use Rattle.cobs.specs.declared.dec.state.DecoderState.TheVariants as states
 
--- the phase of a state, with so many bytes written
-abbrev pub phase_of_state : DecoderState → ℕ → Phase
-phase_of_state states.Idle count = Idle
-phase_of_state (states.Grab left) count = Within false left count
-phase_of_state (states.GrabChain left) count = Within true left count
+-- the phase by the block, full or not, that lacks so many bytes, with so many bytes written: before a piece begins, it
+-- is as behind a full block, with nothing written
+abbrev pub phase_with : Bool → ℕ → ℕ → Phase
+phase_with false left count = Within false left count
+phase_with true (suc left) count = Within true (suc left) count
+phase_with true zero (suc count) = Within true zero (suc count)
+phase_with true zero zero = Idle
 
--- where the three decoders stand: over, or in the phase of their state
+-- where the three decoders stand
 abbrev pub phase_of : CobsDecoderInner → Phase
-phase_of inner = if inner.over then Over else phase_of_state inner.state inner.dest_idx
+phase_of inner = if inner.over then Over else phase_with (inner.code == 255) inner.left inner.dest_idx
 
 -- the bytes of the slice that was lent to a `CobsDecoder`
 abbrev pub lent_buffer : CobsDecoder → List ℕ

@@ -2,8 +2,6 @@
 -- functions alone speak of it: the public ones say what is answered behind the front of a piece.
 use Rattle.std.specs.Prelude.{◌≡◌, ℕ, zero, suc, ◌+◌, ◌-◌, ◌==◌, nat_lt, nat_le, Bool, true, false, List, [], ◌∷◌, length, slice_set, Option, Some, None, Result, Ok, Err, if◌then◌else◌}
 use Rattle.cobs.specs.Decoder.{Phase, Idle, Within, Over}
-use Rattle.cobs.specs.declared.dec.state.DecoderState.{DecoderState}
-use Rattle.cobs.specs.declared.dec.state.DecoderState.TheVariants as states
 use Rattle.cobs.specs.declared.dec.report.DecodeError.{DecodeError}
 use Rattle.cobs.specs.declared.dec.report.DecodeError.TheVariants.{InvalidFrame, TargetBufTooSmall}
 
@@ -49,15 +47,3 @@ abbrev pub FedInTurn : List ℕ → Phase → List ℕ → List ℕ → Phase �
 FedInTurn buffer phase [] buffer' phase' = (buffer' ≡ buffer) × (phase' ≡ phase)
 FedInTurn buffer phase (byte ∷ bytes) buffer' phase' =
     (next_answer (length buffer) phase byte ≡ Ok None) × FedInTurn (next_buffer buffer phase byte) (next_phase (length buffer) phase byte) bytes buffer' phase'
-
--- how many bytes the block of a state lacks
-abbrev pub left_in : DecoderState → ℕ
-left_in states.Idle = 0
-left_in (states.Grab left) = left
-left_in (states.GrabChain left) = left
-
--- the state behind so many bytes of the block
-abbrev pub skipped : DecoderState → ℕ → DecoderState
-skipped states.Idle run = states.Idle
-skipped (states.Grab left) run = states.Grab (left - run)
-skipped (states.GrabChain left) run = states.GrabChain (left - run)

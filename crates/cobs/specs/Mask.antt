@@ -1,7 +1,16 @@
 -- Which bytes are zeros, one bit for each.
-use Rattle.std.specs.Prelude.{ℕ, ◌+◌, ◌*◌, ◌==◌, if◌then◌else◌, List, [], ◌∷◌}
+use Rattle.std.specs.Prelude.{ℕ, ◌+◌, ◌-◌, ◌*◌, ◌==◌, if◌then◌else◌, List, [], ◌∷◌, bit_and}
+use Rattle.std.specs.Int.Count.{count_trailing_zeros}
 
 -- bit k is set where byte k is 0
 abbrev pub zero_mask : List ℕ → ℕ
 zero_mask [] = 0
 zero_mask (byte ∷ bytes) = (if byte == 0 then 1 else 0) + 2 * zero_mask bytes
+
+-- where the first zero of a mask stands, or 64 where it has none
+abbrev pub lowest : ℕ → ℕ
+lowest mask = count_trailing_zeros 64 mask
+
+-- the mask without its first zero
+abbrev pub without_lowest : ℕ → ℕ
+without_lowest mask = bit_and mask (mask - 1)

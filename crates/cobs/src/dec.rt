@@ -21,6 +21,7 @@ mod state;
 mod vector;
 mod window;
 mod write_buffer;
+mod zeros;
 
 pub use frame_decoder::FrameDecoder;
 pub use heapless::CobsDecoderHeapless;

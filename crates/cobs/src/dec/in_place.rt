@@ -57,7 +57,7 @@ fn decode_blocks(buffer: &mut [u8], end: usize) -> Result<usize, DecodeError>
         let last = decode_piece(&stretch[..len], &mut buffer[written..]);
         read += len;
         written += last.written;
-        if !last.full && read < end {
+        if last.code != FULL_CODE && read < end {
             buffer[written] = 0;
             written += 1;
         }

@@ -1,81 +1,124 @@
 //! What the three streaming decoders share: the machine, over a buffer that is passed to each call.
-ghost use Rattle.std.specs.Prelude.{◌≡◌, ◌<◌, ◌≤◌, ℕ, false, List, [], length, take, IfOk, IfSome};
+ghost use Rattle.std.specs.Prelude.{◌≡◌, ◌<◌, ◌≤◌, ℕ, false, List, [], length, take, Err, IfOk, IfSome};
 ghost use Rattle.cobs.specs.Grammar.{HasNoZero};
-ghost use Rattle.cobs.specs.Decoder.{DecoderAfter, Feeds};
+ghost use Rattle.cobs.specs.Decoder.{DecoderAfter, Feeds, Idle, Over};
+ghost use Rattle.cobs.specs.declared.dec.report.DecodeError.TheVariants.{TargetBufTooSmall};
 ghost use Rattle.cobs.specs.Buffers.{phase_of};
-ghost use Rattle.cobs.specs.Machine.{left_in, next_phase, next_buffer, next_answer, FedInTurn};
+ghost use Rattle.cobs.specs.Machine.{next_phase, next_buffer, next_answer, end_answer, FedInTurn};
 ghost use Rattle.cobs.specs.Push.{PushesBytes};
 
 use crate::dec::fit::fitting_len;
-use crate::dec::piece::{decode_piece, piece_len};
+use crate::dec::piece::{FULL_CODE, decode_piece, piece_len};
 use crate::dec::report::{DecodeError, DecodeReport, PushError};
-use crate::dec::state::{DecodeResult, DecoderState};
+use std::mem;
+
 /// So many bytes are worth a search for a zero and a copy.
 const FEW: usize = 16;
 
-/// Where a streaming decoder stands: in which state, with how many bytes written, and whether the output of this
-/// piece was too long for the buffer.
+/// The code of a full block, as a byte.
+const FULL: u8 = FULL_CODE as u8;
+
+/// Where a streaming decoder stands.
+///
+/// No field says whether a piece has begun: a code at its front is taken as one behind a full block is, which no zero
+/// joins to anything. So a byte that is no zero asks what its block lacks and, where it is a code, whether the block
+/// before it was full, and nothing else.
 #[derive(Debug, Drop)]
 pub(crate) struct CobsDecoderInner {
+    /// How many bytes of this piece's output are written.
     dest_idx: usize,
-    state: DecoderState,
+    /// How many bytes the block lacks.
+    left: u8,
+    /// The code of the block; before a piece begins, that of a full one.
+    code: u8,
+    /// Whether the output of this piece was too long for the buffer.
     over: bool,
 }
 
 impl CobsDecoderInner {
     /// An idle machine.
     pub(crate) fn new() -> Self
-        ensures { (buffer : List ℕ) → DecoderAfter buffer (phase_of result) [] }
+        ensures idle { phase_of result ≡ Idle }
+        ensures after { (buffer : List ℕ) → DecoderAfter buffer (phase_of result) [] }
     {
         CobsDecoderInner {
             dest_idx: 0,
-            state: DecoderState::Idle,
+            left: 0,
+            code: FULL,
             over: false,
         }
     }
 
+    /// The zero that ends a piece, or stands where none has begun, over a buffer of this length.
+    #[inline(always)]
+    fn end(&mut self, len: usize) -> Result<Option<usize>, DecodeError>
+        ensures answer { result ≡ end_answer len (phase_of self.old) }
+        ensures idle { phase_of self.new ≡ Idle }
+        ensures bound { IfOk result (λ found. IfSome found (λ n. n ≤ len)) }
+    {
+        let ended = mem::replace(self, CobsDecoderInner::new());
+        if ended.over {
+            return Err(DecodeError::TargetBufTooSmall);
+        }
+        if ended.left != 0 {
+            return Err(DecodeError::InvalidFrame {
+                decoded_bytes: ended.dest_idx,
+            });
+        }
+        // Never so, since no more is counted than was written.
+        if len < ended.dest_idx {
+            return Err(DecodeError::TargetBufTooSmall);
+        }
+        if ended.dest_idx == 0 && ended.code == FULL {
+            Ok(None)
+        } else {
+            Ok(Some(ended.dest_idx))
+        }
+    }
+
+    /// Where a byte of the output finds no room.
+    #[inline(always)]
+    fn overflow(&mut self) -> Result<Option<usize>, DecodeError>
+        ensures answer { result ≡ Err TargetBufTooSmall }
+        ensures phase { phase_of self.new ≡ Over }
+    {
+        self.over = true;
+        Err(DecodeError::TargetBufTooSmall)
+    }
+
     /// One step of the machine, in any phase.
+    #[inline(always)]
     fn step(&mut self, dest: &mut [u8], byte: u8) -> Result<Option<usize>, DecodeError>
         ensures answer { result ≡ next_answer (length dest.old) (phase_of self.old) byte }
         ensures phase { phase_of self.new ≡ next_phase (length dest.old) (phase_of self.old) byte }
         ensures buffer { dest.new ≡ next_buffer dest.old (phase_of self.old) byte }
         ensures bound { IfOk result (λ found. IfSome found (λ n. n ≤ length dest.old)) }
     {
+        if byte == 0 {
+            return self.end(dest.len());
+        }
         if self.over {
-            if byte == 0 {
-                self.over = false;
-                self.state = DecoderState::Idle;
-            }
             return Err(DecodeError::TargetBufTooSmall);
         }
-        match self.state.feed(byte) {
-            Err(_) => Err(DecodeError::InvalidFrame {
-                decoded_bytes: self.dest_idx,
-            }),
-            Ok(DecodeResult::NoData) => Ok(None),
-            Ok(DecodeResult::DataStart) => {
-                self.dest_idx = 0;
-                Ok(None)
+        if self.left != 0 {
+            if dest.len() <= self.dest_idx {
+                return self.overflow();
             }
-            Ok(DecodeResult::DataContinue(data)) => {
-                if self.dest_idx < dest.len() {
-                    dest[self.dest_idx] = data;
-                    self.dest_idx += 1;
-                    Ok(None)
-                } else {
-                    self.over = true;
-                    Err(DecodeError::TargetBufTooSmall)
-                }
-            }
-            Ok(DecodeResult::DataComplete) => {
-                // Always so, since no more is counted than was written.
-                if self.dest_idx <= dest.len() {
-                    Ok(Some(self.dest_idx))
-                } else {
-                    Err(DecodeError::TargetBufTooSmall)
-                }
-            }
+            dest[self.dest_idx] = byte;
+            self.dest_idx += 1;
+            self.left -= 1;
+            return Ok(None);
         }
+        if self.code != FULL {
+            if dest.len() <= self.dest_idx {
+                return self.overflow();
+            }
+            dest[self.dest_idx] = 0;
+            self.dest_idx += 1;
+        }
+        self.code = byte;
+        self.left = byte - 1;
+        Ok(None)
     }
 
     /// Takes the next byte of the stream.
@@ -97,13 +140,13 @@ impl CobsDecoderInner {
         }
         let at = self.dest_idx;
         let room = dest.len().saturating_sub(at);
-        let run = stretch.len().min(room).min(self.state.left() as usize);
+        let run = stretch.len().min(room).min(self.left as usize);
         if run == 0 {
             return 0;
         }
         dest[at..at + run].copy_from_slice(&stretch[..run]);
         self.dest_idx = at + run;
-        self.state.skip(run as u8);
+        self.left -= run as u8;
         run
     }
 
@@ -112,21 +155,19 @@ impl CobsDecoderInner {
     fn take_blocks(&mut self, dest: &mut [u8], stretch: &[u8]) -> usize
         requires some { 0 < length stretch.now }
         requires nonzero { HasNoZero stretch.now }
-        requires boundary { left_in self.old.state ≡ 0 }
+        requires boundary { self.old.left ≡ 0 }
         requires going { self.old.over ≡ false }
         ensures within { result ≤ length stretch.now }
         ensures fed { FedInTurn dest.old (phase_of self.old) (take result stretch.now) dest.new (phase_of self.new) }
     {
-        let at = match &self.state {
-            DecoderState::Idle => 0,
-            DecoderState::Grab(_) => {
-                if dest.len() <= self.dest_idx {
-                    return 0;
-                }
-                dest[self.dest_idx] = 0;
-                self.dest_idx + 1
+        let at = if self.code == FULL {
+            self.dest_idx
+        } else {
+            if dest.len() <= self.dest_idx {
+                return 0;
             }
-            DecoderState::GrabChain(_) => self.dest_idx,
+            dest[self.dest_idx] = 0;
+            self.dest_idx + 1
         };
         if dest.len() < at {
             return 0;
@@ -134,11 +175,8 @@ impl CobsDecoderInner {
         let fit = fitting_len(stretch, dest.len() - at);
         let end = decode_piece(&stretch[..fit], &mut dest[at..]);
         self.dest_idx = at + end.written;
-        self.state = if end.full {
-            DecoderState::GrabChain(end.left as u8)
-        } else {
-            DecoderState::Grab(end.left as u8)
-        };
+        self.code = end.code as u8;
+        self.left = end.left as u8;
         fit
     }
 
@@ -150,7 +188,7 @@ impl CobsDecoderInner {
         ensures fed { FedInTurn dest.old (phase_of self.old) (take result stretch.now) dest.new (phase_of self.new) }
     {
         let run = self.take_open_block(dest, stretch);
-        if self.over || run == stretch.len() || self.state.left() != 0 {
+        if self.over || run == stretch.len() || self.left != 0 {
             return run;
         }
         run + self.take_blocks(dest, &stretch[run..])
@@ -166,12 +204,9 @@ impl CobsDecoderInner {
         if self.over {
             return 0;
         }
-        // A decoder that is idle takes a code as one behind a full block does: no zero joins it to anything.
-        let (mut full, mut left, mut at) = match &self.state {
-            DecoderState::Idle => (true, 0, 0),
-            DecoderState::Grab(left) => (false, *left, self.dest_idx),
-            DecoderState::GrabChain(left) => (true, *left, self.dest_idx),
-        };
+        let mut code = self.code;
+        let mut left = self.left;
+        let mut at = self.dest_idx;
         let mut run = 0;
         'by_byte: while run < bytes.len() && bytes[run] != 0 {
             let byte = bytes[run];
@@ -183,26 +218,21 @@ impl CobsDecoderInner {
                 at += 1;
                 left -= 1;
             } else {
-                if !full {
+                if code != FULL {
                     if dest.len() <= at {
                         break;
                     }
                     dest[at] = 0;
                     at += 1;
                 }
-                full = byte == 255;
+                code = byte;
                 left = byte - 1;
             }
             run += 1;
         }
-        if run != 0 {
-            self.dest_idx = at;
-            self.state = if full {
-                DecoderState::GrabChain(left)
-            } else {
-                DecoderState::Grab(left)
-            };
-        }
+        self.code = code;
+        self.left = left;
+        self.dest_idx = at;
         run
     }
 

@@ -1,6 +1,6 @@
 //! Pieces that are at hand as a whole: where they end, how long their outputs are, and the outputs.
-ghost use Rattle.std.specs.Prelude.{◌≡◌, ◌+◌, ◌++◌, ◌<◌, ◌≤◌, length, take, drop, slice_index};
-ghost use Rattle.cobs.specs.Grammar.{HasNoZero, is_full};
+ghost use Rattle.std.specs.Prelude.{◌≡◌, ◌+◌, ◌-◌, ◌++◌, ◌<◌, ◌≤◌, length, take, drop, slice_index};
+ghost use Rattle.cobs.specs.Grammar.{HasNoZero, code_of};
 ghost use Rattle.cobs.specs.Buffer.{overwritten};
 ghost use Rattle.cobs.specs.Decoding.{leading_zeros, sized};
 ghost use Rattle.cobs.specs.Piece.{output, last_part, lacks};
@@ -8,6 +8,8 @@ ghost use Rattle.cobs.specs.Stream.{outcome_of};
 
 use crate::dec::report::DecodeError;
 use crate::dec::window::{copy_32, is_ones, write_zeros};
+use crate::dec::zeros::{MASKED, first_zero_of_few};
+use crate::enc::{WINDOW, copy_window};
 use memchr::memchr;
 
 /// The code of a full block.
@@ -18,8 +20,8 @@ pub(crate) const FULL_CODE: usize = 255;
 pub(crate) struct PieceEnd {
     /// The length of the output.
     pub(crate) written: usize,
-    /// Whether the last part has the code of a full block.
-    pub(crate) full: bool,
+    /// The code of the last part.
+    pub(crate) code: usize,
     /// How many bytes the last part lacks of those that its code counts.
     pub(crate) left: usize,
 }
@@ -39,15 +41,13 @@ pub(crate) fn piece_len(source: &[u8]) -> usize
     ensures nonzero { HasNoZero (take result source.now) }
     ensures stop { result < length source.now → slice_index source.now result ≡ 0 }
 {
-    if source.len() < 24 {
-        'by_byte: for i in 0..source.len() {
-            if source[i] == 0 {
-                return i;
-            }
-        }
-        return source.len();
+    if source.len() > MASKED {
+        return first_zero(source);
     }
-    first_zero(source)
+    if source.is_empty() {
+        return 0;
+    }
+    first_zero_of_few(source)
 }
 
 /// How many zeros the source begins with.
@@ -122,6 +122,21 @@ fn decode_window(piece: &[u8], dest: &mut [u8]) -> usize
     }
 }
 
+/// Copies what stands behind the first code of a piece.
+#[inline(always)]
+fn copy_behind_code(piece: &[u8], dest: &mut [u8])
+    requires some { 0 < length piece.now }
+    requires room { length piece.now ≤ length dest.old + 1 }
+    ensures { dest.new ≡ drop 1 piece.now ++ drop (length piece.now - 1) dest.old }
+{
+    let len = piece.len() - 1;
+    if len > WINDOW {
+        dest[..len].copy_from_slice(&piece[1..]);
+    } else if len > 0 {
+        copy_window(piece, 1, len, dest, 0);
+    }
+}
+
 /// Decodes a piece in which no code stands behind a full part: one copy, and a zero at each code. Codes of one value in
 /// a row go by a loop of their own, as in a window.
 fn decode_end(piece: &[u8], dest: &mut [u8]) -> PieceEnd
@@ -132,10 +147,10 @@ fn decode_end(piece: &[u8], dest: &mut [u8]) -> PieceEnd
     ensures written { result.written ≡ length (output piece.now) }
     ensures begins { take result.written dest.new ≡ output piece.now }
     ensures rest { drop result.written dest.new ≡ drop result.written dest.old }
-    ensures full { result.full ≡ is_full (last_part piece.now) }
+    ensures code { result.code ≡ code_of (last_part piece.now) }
     ensures left { result.left ≡ lacks (last_part piece.now) }
 {
-    dest[..piece.len() - 1].copy_from_slice(&piece[1..]);
+    copy_behind_code(piece, dest);
     let mut read = 0;
     let mut code = piece[0] as usize;
     'by_code: while code < piece.len() - read {
@@ -150,7 +165,7 @@ fn decode_end(piece: &[u8], dest: &mut [u8]) -> PieceEnd
     }
     PieceEnd {
         written: piece.len() - 1,
-        full: code == FULL_CODE,
+        code,
         left: code - (piece.len() - read),
     }
 }
@@ -165,7 +180,7 @@ pub(crate) fn decode_piece(piece: &[u8], dest: &mut [u8]) -> PieceEnd
     ensures written { result.written ≡ length (output piece.now) }
     ensures begins { take result.written dest.new ≡ output piece.now }
     ensures rest { drop result.written dest.new ≡ drop result.written dest.old }
-    ensures full { result.full ≡ is_full (last_part piece.now) }
+    ensures code { result.code ≡ code_of (last_part piece.now) }
     ensures left { result.left ≡ lacks (last_part piece.now) }
 {
     let mut read = 0;
@@ -191,7 +206,7 @@ pub(crate) fn decode_piece(piece: &[u8], dest: &mut [u8]) -> PieceEnd
     let end = decode_end(&piece[read..], &mut dest[written..]);
     PieceEnd {
         written: written + end.written,
-        full: end.full,
+        code: end.code,
         left: end.left,
     }
 }

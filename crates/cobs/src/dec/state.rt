@@ -1,6 +1,5 @@
 //! The state machine of a decoder, without a buffer.
-ghost use Rattle.std.specs.Prelude.{◌≡◌, ◌≢◌, ◌≤◌};
-ghost use Rattle.cobs.specs.Machine.{left_in, skipped};
+ghost use Rattle.std.specs.Prelude.{◌≡◌, ◌≢◌};
 ghost use Rattle.cobs.specs.Table.{opened_by, table_answer, table_state};
 
 use crate::dec::report::DecodeError;
@@ -48,29 +47,6 @@ impl DecoderState {
         } else {
             DecoderState::Grab(code - 1)
         }
-    }
-
-    /// How many bytes the open block lacks.
-    pub(crate) fn left(&self) -> u8
-        ensures { result ≡ left_in self.now }
-    {
-        match self {
-            DecoderState::Idle => 0,
-            DecoderState::Grab(left) | DecoderState::GrabChain(left) => *left,
-        }
-    }
-
-    /// Goes on behind so many bytes of the open block.
-    pub(crate) fn skip(&mut self, run: u8)
-        requires { run ≤ left_in self.old }
-        ensures { self.new ≡ skipped self.old run }
-    {
-        let next = match &*self {
-            DecoderState::Idle => DecoderState::Idle,
-            DecoderState::Grab(left) => DecoderState::Grab(*left - run),
-            DecoderState::GrabChain(left) => DecoderState::GrabChain(*left - run),
-        };
-        *self = next;
     }
 
     /// Takes the next byte of a frame, and answers what it brought.

@@ -1,13 +1,14 @@
 //! How a message is cut into blocks: the core that every encoder into a slice stands on.
-ghost use Rattle.std.specs.Prelude.{◌≡◌, ◌<◌, ◌≤◌, ◌+◌, ◌-◌, ◌++◌, [], ℕ, List, false, length, take, drop};
+ghost use Rattle.std.specs.Prelude.{◌≡◌, ◌≢◌, ◌<◌, ◌≤◌, ◌+◌, ◌-◌, ◌%◌, ◌++◌, [], ℕ, List, false, length, take, drop, slice_set};
 ghost use Rattle.cobs.specs.Grammar.{IsEncodedFrame};
 ghost use Rattle.cobs.specs.Encoder.{CobsEncoderAfter, end_of, open_len};
+ghost use Rattle.cobs.specs.Mask.{lowest, without_lowest};
 
-use crate::enc::window::{WINDOW, copy_window, write_ones};
+use crate::enc::window::{WINDOW, copy_window, is_all_zeros, write_ones, write_some_ones};
 use std::marker::Model;
 
 /// The code of a full block, which is how many bytes the block has with its code.
-const FULL_CODE: usize = 255;
+pub(crate) const FULL_CODE: usize = 255;
 
 /// The mask of a window that has no byte but zeros.
 const ALL_ZEROS: u64 = 0xffff_ffff;
@@ -72,13 +73,61 @@ impl Progress {
     }
 }
 
-/// Takes `source` into the frame that `dest` holds as far as `progress` says. The code of the open block isn't written.
+/// Writes the code of the open block, which the mask's first zero closes, and answers where the next code belongs, and
+/// the mask without that zero. No branch asks whether there is a zero: with none the block stays open, and what stands in
+/// the place of its code then is of no matter.
+#[inline(always)]
+fn mark_first(dest: &mut [u8], index: usize, next: usize, zeros: u64) -> (usize, u64)
+    requires inside { index < length dest.old }
+    requires next { next ≤ length dest.old }
+    requires ordered { index ≤ next + lowest zeros }
+    ensures code { dest.new ≡ slice_set dest.old index ((next + lowest zeros - index) % 256) }
+    ensures none { zeros ≡ 0 → result ≡ (index, 0) }
+    ensures some { zeros ≢ 0 → result ≡ (next + lowest zeros, without_lowest zeros) }
+{
+    let place = next + zeros.trailing_zeros() as usize;
+    dest[index] = ((place - index) % 256) as u8;
+    let index = if zeros == 0 { index } else { place };
+    (index, zeros & zeros.wrapping_sub(1))
+}
+
+/// Takes a `source` of fewer than 32 bytes that can't fill the open block, by few branches that could be guessed wrong:
+/// two zeros are marked before the first question is how many there are.
+#[inline(always)]
+fn append_short(source: &[u8], dest: &mut [u8], progress: &mut Progress)
+    requires some { 0 < length source.now }
+    requires few { length source.now < 32 }
+    requires open_block { progress.old.block.code + length source.now < 255 }
+    requires fits { progress.old.block.index + open_len progress.old.block.code source.now ≤ length dest.old }
+    ensures after { (m : List ℕ) → CobsEncoderAfter dest.old progress.old m
+        → CobsEncoderAfter dest.new progress.new (m ++ source.now) }
+    ensures fits { end_of progress.new ≤ length dest.new }
+    ensures rest { drop (end_of progress.new) dest.new ≡ drop (end_of progress.new) dest.old }
+{
+    let len = source.len();
+    let next = progress.next;
+    let mask = copy_window(source, 0, len, dest, next);
+    let (first, left) = mark_first(dest, progress.index, next, mask);
+    let (mut index, mut zeros) = mark_first(dest, first, next, left);
+    if zeros != 0 && is_all_zeros(mask, len) {
+        write_some_ones(dest, next, len);
+        index = next + len - 1;
+    } else {
+        'by_zero: while zeros != 0 {
+            (index, zeros) = mark_first(dest, index, next, zeros);
+        }
+    }
+    progress.set(index, next + len, false);
+}
+
+/// Takes a `source` of any length.
 ///
 /// Windows of up to 32 bytes are copied to where the next byte goes. Where no zero is near enough to keep the open block
 /// from being full, that block is closed, and what doesn't belong to it is copied anew. Else each zero of the window
 /// gives its place to the code of the block that it begins, and the last block stays open for the next window. Nothing
 /// is written behind what the frame needs at the least, so a slice of exactly the frame's length is enough.
-pub(crate) fn append(source: &[u8], dest: &mut [u8], progress: &mut Progress)
+#[inline(always)]
+fn append_windows(source: &[u8], dest: &mut [u8], progress: &mut Progress)
     requires { progress.old.block.index + open_len progress.old.block.code source.now ≤ length dest.old }
     ensures after { (m : List ℕ) → CobsEncoderAfter dest.old progress.old m
         → CobsEncoderAfter dest.new progress.new (m ++ source.now) }
@@ -111,10 +160,10 @@ pub(crate) fn append(source: &[u8], dest: &mut [u8], progress: &mut Progress)
                 index = next + WINDOW - 1;
             } else {
                 'by_zero: while zeros != 0 {
-                    let first = zeros.trailing_zeros() as usize;
-                    dest[index] = (next + first - index) as u8;
-                    index = next + first;
-                    zeros &= zeros - 1;
+                    (index, zeros) = mark_first(dest, index, next, zeros);
+                    if zeros != 0 {
+                        (index, zeros) = mark_first(dest, index, next, zeros);
+                    }
                 }
             }
             read += len;
@@ -124,6 +173,24 @@ pub(crate) fn append(source: &[u8], dest: &mut [u8], progress: &mut Progress)
                 return;
             }
         }
+    }
+}
+
+/// Takes `source` into the frame that `dest` holds as far as `progress` says. The code of the open block is written by
+/// [`close`] alone: what stands in its place before that is of no matter.
+#[inline(always)]
+pub(crate) fn append(source: &[u8], dest: &mut [u8], progress: &mut Progress)
+    requires { progress.old.block.index + open_len progress.old.block.code source.now ≤ length dest.old }
+    ensures after { (m : List ℕ) → CobsEncoderAfter dest.old progress.old m
+        → CobsEncoderAfter dest.new progress.new (m ++ source.now) }
+    ensures fits { end_of progress.new ≤ length dest.new }
+    ensures rest { drop (end_of progress.new) dest.new ≡ drop (end_of progress.new) dest.old }
+{
+    let len = source.len();
+    if len > 0 && len < WINDOW && progress.code() + len < FULL_CODE {
+        append_short(source, dest, progress);
+    } else {
+        append_windows(source, dest, progress);
     }
 }
 

@@ -3,6 +3,7 @@ ghost use Rattle.std.specs.Prelude.{◌≡◌, ◌<◌, ◌≤◌, ◌+◌, ◌-
 ghost use Rattle.cobs.specs.Encoder.{open_len};
 ghost use Rattle.cobs.specs.Length.{full_blocks, runs};
 
+use crate::enc::blocks::FULL_CODE;
 use crate::enc::window::{WINDOW, zeros_at};
 use crate::max_encoding_overhead;
 
@@ -10,9 +11,24 @@ use crate::max_encoding_overhead;
 const FULL_BLOCK_BYTES: usize = 254;
 
 /// Whether `room` bytes, counted from the index of an open block with this code, are enough for the frame once the
-/// block has taken `source`. Most questions are answered by the lengths alone: the frame is longest where no byte is a
-/// zero, and shortest where no block becomes full.
+/// block has taken `source`. Where the source is too short for a full block with bytes behind it, its length alone
+/// answers that.
+#[inline(always)]
 pub(crate) fn fits(code: usize, source: &[u8], room: usize) -> bool
+    requires some { 0 < code }
+    requires open_block { code < 255 }
+    ensures { IsTrue result ↔ (open_len code source.now ≤ room) }
+{
+    if code + source.len() <= room.min(FULL_CODE) {
+        return true;
+    }
+    fits_any(code, source, room)
+}
+
+/// The same question, of a source of any length. Most of the time the lengths alone answer it: the frame is longest where
+/// no byte is a zero, and shortest where no block becomes full.
+#[inline(never)]
+fn fits_any(code: usize, source: &[u8], room: usize) -> bool
     requires some { 0 < code }
     requires open_block { code < 255 }
     ensures { IsTrue result ↔ (open_len code source.now ≤ room) }
@@ -25,9 +41,6 @@ pub(crate) fn fits(code: usize, source: &[u8], room: usize) -> bool
         return false;
     }
     let taken = code - 1;
-    if taken + source.len() <= FULL_BLOCK_BYTES {
-        return true;
-    }
     if taken + max_encoding_overhead(taken + source.len()) <= spare {
         return true;
     }

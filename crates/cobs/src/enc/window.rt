@@ -1,5 +1,5 @@
 //! Windows of up to 32 bytes of a message: copied, with a mask of their zeros.
-ghost use Rattle.std.specs.Prelude.{◌≡◌, ◌<◌, ◌≤◌, ◌+◌, ◌++◌, length, take, drop, replicate};
+ghost use Rattle.std.specs.Prelude.{◌≡◌, ◌<◌, ◌≤◌, ◌+◌, ◌^◌, ◌++◌, ◌↔◌, IsTrue, length, take, drop, replicate};
 ghost use Rattle.cobs.specs.Mask.{zero_mask};
 
 use std::simd::prelude::*;
@@ -57,21 +57,39 @@ fn copy_8(source: &[u8], read: usize, dest: &mut [u8], at: usize) -> u64
     bytes.simd_eq(u8x8::splat(0)).to_bitmask()
 }
 
-/// Copies `len` bytes one at a time, but with no branch on a byte.
+/// Copies the 4 bytes from `read` on, and answers which of them are zeros.
+#[inline(always)]
+fn copy_4(source: &[u8], read: usize, dest: &mut [u8], at: usize) -> u64
+    requires source { read + 4 ≤ length source.now }
+    requires room { at + 4 ≤ length dest.old }
+    ensures copied { dest.new ≡ take at dest.old ++ (take 4 (drop read source.now) ++ drop (at + 4) dest.old) }
+    ensures zeros { result ≡ zero_mask (take 4 (drop read source.now)) }
+{
+    let bytes = u8x4::from_slice(&source[read..]);
+    bytes.copy_to_slice(&mut dest[at..]);
+    bytes.simd_eq(u8x4::splat(0)).to_bitmask()
+}
+
+/// Copies one, two or three bytes with no branch: the first one, the one in the middle and the last one, some of which
+/// may be the same.
+#[inline(always)]
 fn copy_few(source: &[u8], read: usize, len: usize, dest: &mut [u8], at: usize) -> u64
     requires source { read + len ≤ length source.now }
-    requires few { len ≤ 32 }
+    requires some { 0 < len }
+    requires few { len ≤ 3 }
     requires room { at + len ≤ length dest.old }
     ensures copied { dest.new ≡ take at dest.old ++ (take len (drop read source.now) ++ drop (at + len) dest.old) }
     ensures zeros { result ≡ zero_mask (take len (drop read source.now)) }
 {
-    let mut zeros = 0;
-    for i in 0..len {
-        let byte = source[read + i];
-        dest[at + i] = byte;
-        zeros += ((byte == 0) as u64) << i;
-    }
-    zeros
+    let half = len / 2;
+    let last = len - 1;
+    let front = source[read];
+    let middle = source[read + half];
+    let back = source[read + last];
+    dest[at] = front;
+    dest[at + half] = middle;
+    dest[at + last] = back;
+    (front == 0) as u64 | (((middle == 0) as u64) << half) | (((back == 0) as u64) << last)
 }
 
 /// Copies the `len` bytes from `read` on to `dest`, from `at` on, and answers which of them are zeros: bit `i` is set
@@ -79,6 +97,7 @@ fn copy_few(source: &[u8], read: usize, len: usize, dest: &mut [u8], at: usize) 
 #[inline(always)]
 pub(crate) fn copy_window(source: &[u8], read: usize, len: usize, dest: &mut [u8], at: usize) -> u64
     requires source { read + len ≤ length source.now }
+    requires some { 0 < len }
     requires few { len ≤ 32 }
     requires room { at + len ≤ length dest.old }
     ensures copied { dest.new ≡ take at dest.old ++ (take len (drop read source.now) ++ drop (at + len) dest.old) }
@@ -89,11 +108,15 @@ pub(crate) fn copy_window(source: &[u8], read: usize, len: usize, dest: &mut [u8
     } else if len >= 16 {
         let front = copy_16(source, read, dest, at);
         let back = copy_16(source, read + len - 16, dest, at + len - 16);
-        front + ((back >> (32 - len)) << 16)
+        front | (back << (len - 16))
     } else if len >= 8 {
         let front = copy_8(source, read, dest, at);
         let back = copy_8(source, read + len - 8, dest, at + len - 8);
-        front + ((back >> (16 - len)) << 8)
+        front | (back << (len - 8))
+    } else if len >= 4 {
+        let front = copy_4(source, read, dest, at);
+        let back = copy_4(source, read + len - 4, dest, at + len - 4);
+        front | (back << (len - 4))
     } else {
         copy_few(source, read, len, dest, at)
     }
@@ -106,4 +129,48 @@ pub(crate) fn write_ones(dest: &mut [u8], at: usize)
     ensures { dest.new ≡ take at dest.old ++ (replicate 32 1 ++ drop (at + 32) dest.old) }
 {
     u8x32::splat(1).copy_to_slice(&mut dest[at..]);
+}
+
+/// Writes 16 blocks with no bytes.
+#[inline(always)]
+fn write_16_ones(dest: &mut [u8], at: usize)
+    requires { at + 16 ≤ length dest.old }
+    ensures { dest.new ≡ take at dest.old ++ (replicate 16 1 ++ drop (at + 16) dest.old) }
+{
+    u8x16::splat(1).copy_to_slice(&mut dest[at..]);
+}
+
+/// Writes 8 blocks with no bytes.
+#[inline(always)]
+fn write_8_ones(dest: &mut [u8], at: usize)
+    requires { at + 8 ≤ length dest.old }
+    ensures { dest.new ≡ take at dest.old ++ (replicate 8 1 ++ drop (at + 8) dest.old) }
+{
+    u8x8::splat(1).copy_to_slice(&mut dest[at..]);
+}
+
+/// Writes 8 to 32 blocks with no bytes, as two parts that may overlap.
+#[inline(always)]
+pub(crate) fn write_some_ones(dest: &mut [u8], at: usize, len: usize)
+    requires some { 8 ≤ len }
+    requires few { len ≤ 32 }
+    requires room { at + len ≤ length dest.old }
+    ensures { dest.new ≡ take at dest.old ++ (replicate len 1 ++ drop (at + len) dest.old) }
+{
+    if len >= 16 {
+        write_16_ones(dest, at);
+        write_16_ones(dest, at + len - 16);
+    } else {
+        write_8_ones(dest, at);
+        write_8_ones(dest, at + len - 8);
+    }
+}
+
+/// Whether this is the mask of a window of `len` bytes, at least 8, that has no byte but zeros.
+#[inline(always)]
+pub(crate) fn is_all_zeros(mask: u64, len: usize) -> bool
+    requires few { len ≤ 32 }
+    ensures { IsTrue result ↔ ((8 ≤ len) × (mask + 1 ≡ 2 ^ len)) }
+{
+    len >= 8 && mask == (1 << len) - 1
 }

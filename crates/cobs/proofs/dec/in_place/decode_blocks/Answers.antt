@@ -1,9 +1,10 @@
-use Rattle.std.proofs.Common.{◌≡◌, ◌<◌, ◌≤◌, ◌+◌, ◌-◌, ◌++◌, ℕ, Bool, true, false, not, List, length, take, drop, refl, sym, ap, ◌∙◌, arith, inl, inr, take_at, length-drop, length-take, length-take-le}
+use Rattle.std.proofs.Common.{eqb, ◌≡◌, ◌<◌, ◌≤◌, ◌+◌, ◌-◌, ◌++◌, ℕ, Bool, true, false, not, List, length, take, drop, refl, sym, ap, ◌∙◌, arith, inl, inr, take_at, length-drop, length-take, length-take-le}
 use Rattle.std.proofs.lemmas.List.{take_rest, take-take}
+use Rattle.std.proofs.lemmas.Bool.{ne_eqb, eq-eqb}
 use Rattle.cobs.specs.Piece.{last_part, lacks}
 use Rattle.cobs.proofs.InPlaceSteps.{all-buffer, all-count, broken-buffer, broken-count, left-nonzero, left-broken, stretch-nonzero, stretch-room, stretch-last, stretch-zero, stretch-shorter, after-len}
 use Rattle.cobs.proofs.dec.in_place.decode_blocks.Goals as goal
-use Rattle.cobs.proofs.dec.in_place.decode_blocks.Goals.{else-not-last-via-then-not-last+else-read-end, else-not-last-via-else-not-last}
+use Rattle.cobs.proofs.dec.in_place.decode_blocks.Goals.{else-last-ne-FULL_CODE-via-then-last-ne-FULL_CODE+else-read-end, else-last-ne-FULL_CODE-via-else-last-ne-FULL_CODE}
 
 -- the front of the array, once a part of the buffer is copied there
 copied : (self old bytes : List ℕ) (read len m : ℕ) → self ≡ take (read + len - read) (drop read bytes) → len ≤ length (take m (drop read bytes)) → take len (self ++ drop len old) ≡ take len (take m (drop read bytes))
@@ -106,7 +107,7 @@ by_stretch-preserved-then-read-end c =
     let same : length c.decode_piece-last.new.dest ≡ length c.by_stretch.buffer - c.by_stretch.written = c.decode_piece-last.auto.dest ∙ ap length back ∙ length-drop c.by_stretch.written c.by_stretch.buffer in
     let rest = c.decode_piece-last.ensures.rest ∙ ap (drop c.decode_piece-last.result.written) back in
     stretch-zero c.args.buffer.now c.args.end c.by_stretch.buffer c.by_stretch.read c.by_stretch.written i c.requires.nonzero len p (omega arith) e.within p-is whole
-    c.decode_piece-last.new.dest c.decode_piece-last.result.written _ refl same c.decode_piece-last.ensures.written c.decode_piece-last.ensures.begins rest c.if-read-end.true (sym c.decode_piece-last.ensures.full ∙ not_false _ c.if-not-last.true)
+    c.decode_piece-last.new.dest c.decode_piece-last.result.written _ refl same c.decode_piece-last.ensures.written c.decode_piece-last.ensures.begins rest c.if-read-end.true (ap (λ (k : ℕ). eqb k 255) (sym c.decode_piece-last.ensures.code) ∙ ne_eqb _ 255 c.if-last-ne-FULL_CODE.true)
 
 pub by_stretch-preserved : goal.by_stretch-preserved
 by_stretch-preserved c =
@@ -122,11 +123,11 @@ by_stretch-preserved c =
     let room = stretch-room c.args.buffer.now c.args.end c.by_stretch.buffer c.by_stretch.read c.by_stretch.written i c.requires.nonzero len p (omega arith) e.within p-is whole in
     let same : length c.decode_piece-last.new.dest ≡ length c.by_stretch.buffer - c.by_stretch.written = c.decode_piece-last.auto.dest ∙ ap length back ∙ length-drop c.by_stretch.written c.by_stretch.buffer in
     let rest = c.decode_piece-last.ensures.rest ∙ ap (drop c.decode_piece-last.result.written) back in
-    elim c.else-not-last.branch [
-      | else-not-last-via-then-not-last+else-read-end w ↦ stretch-last c.args.buffer.now c.args.end c.by_stretch.buffer c.by_stretch.read c.by_stretch.written i c.requires.nonzero len p (omega arith) e.within p-is whole
+    elim c.else-last-ne-FULL_CODE.branch [
+      | else-last-ne-FULL_CODE-via-then-last-ne-FULL_CODE+else-read-end w ↦ stretch-last c.args.buffer.now c.args.end c.by_stretch.buffer c.by_stretch.read c.by_stretch.written i c.requires.nonzero len p (omega arith) e.within p-is whole
           c.decode_piece-last.new.dest c.decode_piece-last.result.written _ refl same c.decode_piece-last.ensures.written c.decode_piece-last.ensures.begins rest (inl w.if-read-end.false)
-      | else-not-last-via-else-not-last w ↦ stretch-last c.args.buffer.now c.args.end c.by_stretch.buffer c.by_stretch.read c.by_stretch.written i c.requires.nonzero len p (omega arith) e.within p-is whole
-          c.decode_piece-last.new.dest c.decode_piece-last.result.written _ refl same c.decode_piece-last.ensures.written c.decode_piece-last.ensures.begins rest (inr (sym c.decode_piece-last.ensures.full ∙ not_true _ w.if-not-last.false))
+      | else-last-ne-FULL_CODE-via-else-last-ne-FULL_CODE w ↦ stretch-last c.args.buffer.now c.args.end c.by_stretch.buffer c.by_stretch.read c.by_stretch.written i c.requires.nonzero len p (omega arith) e.within p-is whole
+          c.decode_piece-last.new.dest c.decode_piece-last.result.written _ refl same c.decode_piece-last.ensures.written c.decode_piece-last.ensures.begins rest (inr (ap (λ (k : ℕ). eqb k 255) (sym c.decode_piece-last.ensures.code) ∙ eq-eqb _ 255 w.if-last-ne-FULL_CODE.false))
     ]
 
 pub returns-clause-answer : goal.returns-clause-answer

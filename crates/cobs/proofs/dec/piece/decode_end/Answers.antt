@@ -1,5 +1,5 @@
 use Rattle.std.proofs.Common.{◌≡◌, ◌<◌, ◌+◌, ◌-◌, ◌∙◌, ℕ, length, take, ap, refl, sym, subst, arith}
-use Rattle.cobs.proofs.WindowSteps.{code-pos, code-decoded, code-copied, code-room, flat-short, end-begins, last-full, last-lacks}
+use Rattle.cobs.proofs.WindowSteps.{code-pos, code-decoded, code-copied, code-room, flat-short, end-begins, last-code, last-lacks}
 use Rattle.cobs.proofs.dec.piece.decode_end.Goals as goal
 
 pub bounds-dest-read : goal.bounds-dest-read
@@ -49,11 +49,11 @@ returns-clause-begins c =
     ap (λ (n : ℕ). take n c.by_code.dest) all
     ∙ end-begins c.args.piece.now c.args.dest.now c.by_code.dest c.by_code.read c.by_code.read c.by_code.code i.decoded i.code pos (omega arith) i.copied (omega arith)
 
-pub returns-clause-full : goal.returns-clause-full
-returns-clause-full c =
+pub returns-clause-code : goal.returns-clause-code
+returns-clause-code c =
     let i = c.by_code.invariant in
     let pos : 0 < c.by_code.code = subst (λ (n : ℕ). 0 < n) (sym i.code) (code-pos c.args.piece.now c.by_code.read c.requires.nonzero i.decoded.within) in
-    last-full c.args.piece.now c.args.dest.now c.by_code.dest c.by_code.read c.by_code.read c.by_code.code i.decoded i.code pos (omega arith)
+    last-code c.args.piece.now c.args.dest.now c.by_code.dest c.by_code.read c.by_code.read c.by_code.code i.decoded i.code pos (omega arith)
 
 pub returns-clause-left : goal.returns-clause-left
 returns-clause-left c =

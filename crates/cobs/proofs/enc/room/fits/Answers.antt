@@ -1,21 +1,8 @@
-use Rattle.std.proofs.Common.{◌-◌, refl, arith}
+use Rattle.std.proofs.Common.{refl, arith}
 use Rattle.cobs.proofs.OpenLenLemmas.{open_len-most}
-use Rattle.cobs.proofs.RoomLemmas.{blocks-le}
 use Rattle.cobs.proofs.enc.room.fits.Goals as goal
 
-pub returns-then-taken-max_encoding_overhead : goal.returns-then-taken-max_encoding_overhead
-returns-then-taken-max_encoding_overhead c =
-    let most = open_len-most c.args.code c.args.source.now c.requires.some in
-    let over = c.max_encoding_overhead.ensures in
-    (λ t. omega arith, λ le. refl)
-
-pub overflow_add-result : goal.overflow_add-result
-overflow_add-result c =
-    let le = blocks-le (c.args.code - 1) c.args.source.now in
-    let n = c.count_full_blocks.ensures in
-    omega arith
-
-pub returns-then-taken-source-le-FULL_BLOCK_BYTES : goal.returns-then-taken-source-le-FULL_BLOCK_BYTES
-returns-then-taken-source-le-FULL_BLOCK_BYTES c =
+pub returns-then-code-source : goal.returns-then-code-source
+returns-then-code-source c =
     let most = open_len-most c.args.code c.args.source.now c.requires.some in
     (λ t. omega arith, λ le. refl)

@@ -2,5 +2,5 @@ use Rattle.std.proofs.Common.{refl}
 use Rattle.cobs.proofs.FeedLemmas.{DecoderAfter-start}
 use Rattle.cobs.proofs.dec.inner.CobsDecoderInner.new.Goals as goal
 
-pub returns : goal.returns
-returns c = λ buffer. DecoderAfter-start buffer _ refl
+pub returns-clause-after : goal.returns-clause-after
+returns-clause-after c = λ buffer. DecoderAfter-start buffer _ refl

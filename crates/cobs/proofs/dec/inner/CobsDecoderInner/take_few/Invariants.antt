@@ -1,13 +1,13 @@
-use Rattle.std.proofs.Common.{◌≤◌, ◌-◌, length, take}
-use Rattle.cobs.specs.Buffers.{phase_of}
-use Rattle.cobs.proofs.FewLemmas.{Taken}
+use Rattle.std.proofs.Common.{eqb, ◌≤◌, ◌-◌, length, take}
+use Rattle.cobs.specs.Buffers.{phase_of, phase_with}
+use Rattle.cobs.specs.Machine.{FedInTurn}
 use Rattle.cobs.proofs.dec.inner.CobsDecoderInner.take_few.Given as goal
 
 -- the run so far is taken
 abbrev pub invariant-by_byte : goal.invariant-by_byte
 invariant-by_byte l = record {
   within : l.run ≤ length l.bytes;
-  taken : Taken l.fn.dest (phase_of l.fn.self) (take l.run l.bytes) l.dest l.full l.left l.at;
+  taken : FedInTurn l.fn.dest (phase_of l.fn.self) (take l.run l.bytes) l.dest (phase_with (eqb l.code 255) l.left l.at);
 }
 
 abbrev pub decreases-by_byte : goal.decreases-by_byte

@@ -5,5 +5,5 @@ use Rattle.cobs.proofs.dec.inner.CobsDecoderInner.take_open_block.Goals as goal
 
 pub returns-clause-fed : goal.returns-clause-fed
 returns-clause-fed c =
-    run_fed c.args.self.now _ c.args.dest.now c.args.stretch.now _ c.min-run.result c.if-self.false c.skip.ensures (omega arith) (omega arith) (omega arith) (omega arith)
+    run_fed c.args.self.now c.args.dest.now c.args.stretch.now _ c.min-run.result c.if-self.false (omega arith) (omega arith) (omega arith) (omega arith)
     (All-take (λ byte. byte ≢ 0) c.min-run.result c.args.stretch.now c.requires) c.copy_from_slice.ensures.after

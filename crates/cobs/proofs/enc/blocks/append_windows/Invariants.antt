@@ -2,7 +2,7 @@ use Rattle.std.proofs.Common.{◌<◌, ◌-◌, ◌+◌, length}
 use Rattle.cobs.specs.Encoder.{CobsEncoderAfter, open_len}
 use Rattle.cobs.proofs.ReachLemmas.{Reaches}
 use Rattle.cobs.proofs.MarkLemmas.{Marks}
-use Rattle.cobs.proofs.enc.blocks.append.Given as goal
+use Rattle.cobs.proofs.enc.blocks.append_windows.Given as goal
 
 abbrev pub invariant-by_window : goal.invariant-by_window
 invariant-by_window l = record {

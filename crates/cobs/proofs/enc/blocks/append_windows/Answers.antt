@@ -1,13 +1,15 @@
-use Rattle.std.proofs.Common.{◌≡◌, ◌≤◌, ◌+◌, ◌-◌, ◌++◌, ℕ, List, length, drop, refl, sym, ◌∙◌, subst, arith}
+use Rattle.std.proofs.Common.{◌≡◌, ◌≤◌, ◌+◌, ◌-◌, ◌%◌, ap, ◌++◌, ℕ, List, length, drop, refl, sym, ◌∙◌, subst, arith}
 use Rattle.std.proofs.lemmas.Bool.{eqb-false}
 use Rattle.std.proofs.lemmas.List.{length-set}
 use Rattle.std.proofs.Math.ListN.{set}
 use Rattle.cobs.specs.Encoder.{CobsEncoderAfter, Reached, end_of}
 use Rattle.cobs.proofs.ReachLemmas.{Reaches, Reaches-full}
-use Rattle.cobs.proofs.MarkLemmas.{WindowTaken, WindowTaken-at, copied-reaches, filled, marks-start, marks-step, marks-end, ones-room, ones-taken, place-le, place-lt, fewer}
+use Rattle.cobs.proofs.MarkLemmas.{WindowTaken, WindowTaken-at, copied-reaches, filled, marks-start, marks-end, ones-room, ones-taken}
+use Rattle.cobs.specs.Mask.{lowest}
+use Rattle.cobs.proofs.ShortSteps.{code-inside, code-ordered, first-marked}
 use Rattle.cobs.proofs.CoreLemmas.{end_with, core-start, full-after, full-rest, open-after, open-rest, still-open}
-use Rattle.cobs.proofs.enc.blocks.append.Goals.{then-zeros-eq-ALL_ZEROS, else-zeros-eq-ALL_ZEROS+else-by_zero-test}
-use Rattle.cobs.proofs.enc.blocks.append.Goals as goal
+use Rattle.cobs.proofs.enc.blocks.append_windows.Goals.{then-zeros-eq-ALL_ZEROS, else-zeros-eq-ALL_ZEROS+else-by_zero-test}
+use Rattle.cobs.proofs.enc.blocks.append_windows.Goals as goal
 
 pub by_window-init : goal.by_window-init
 by_window-init c =
@@ -90,31 +92,6 @@ by_zero-init c =
     let few : c.min-len.result ≤ 32 = omega arith in
     marks-start H c.args.source.now c.args.dest.now c.by_window.dest c.copy_window-zeros.new.dest end c.by_window.read c.min-len.result c.by_window.index c.by_window.next c.copy_window-zeros.result c.by_window.invariant.reaches fits inside few c.copy_window-zeros.ensures.copied c.copy_window-zeros.ensures.zeros (omega arith) (omega arith)
 
-pub overflow_sub-dest-in-by_zero : goal.overflow_sub-dest-in-by_zero
-overflow_sub-dest-in-by_zero c =
-    let H : List ℕ → Type 0 = CobsEncoderAfter c.args.dest.now c.args.progress.now in
-    let end : ℕ = end_with c.args.progress.now c.args.source.now in
-    place-le H c.args.source.now c.args.dest.now c.by_zero.dest end c.by_window.read c.min-len.result c.by_zero.index c.by_window.next c.by_zero.zeros (c.by_zero.index + 1 - c.by_window.next) c.by_zero.invariant c.by_zero-test.true
-
-pub overflow_cast-dest-in-by_zero : goal.overflow_cast-dest-in-by_zero
-overflow_cast-dest-in-by_zero c =
-    let H : List ℕ → Type 0 = CobsEncoderAfter c.args.dest.now c.args.progress.now in
-    let end : ℕ = end_with c.args.progress.now c.args.source.now in
-    let lt = place-lt H c.args.source.now c.args.dest.now c.by_zero.dest end c.by_window.read c.min-len.result c.by_zero.index c.by_window.next c.by_zero.zeros (c.by_zero.index + 1 - c.by_window.next) c.by_zero.invariant c.by_zero-test.true in
-    omega arith
-
-pub by_zero-smaller : goal.by_zero-smaller
-by_zero-smaller c =
-    let H : List ℕ → Type 0 = CobsEncoderAfter c.args.dest.now c.args.progress.now in
-    let end : ℕ = end_with c.args.progress.now c.args.source.now in
-    fewer H c.args.source.now c.args.dest.now c.by_zero.dest end c.by_window.read c.min-len.result c.by_zero.index c.by_window.next c.by_zero.zeros (c.by_zero.index + 1 - c.by_window.next) c.by_zero.invariant c.by_zero-test.true
-
-pub by_zero-preserved : goal.by_zero-preserved
-by_zero-preserved c =
-    let H : List ℕ → Type 0 = CobsEncoderAfter c.args.dest.now c.args.progress.now in
-    let end : ℕ = end_with c.args.progress.now c.args.source.now in
-    marks-step H c.args.source.now c.args.dest.now c.by_zero.dest end c.by_window.read c.min-len.result c.by_zero.index c.by_window.next c.by_zero.zeros (c.by_zero.index + 1 - c.by_window.next) c.by_zero.invariant c.by_zero-test.true (omega arith)
-
 pub set-requires-then-read-source-2 : goal.set-requires-then-read-source-2
 set-requires-then-read-source-2 c =
     let H : List ℕ → Type 0 = CobsEncoderAfter c.args.dest.now c.args.progress.now in
@@ -186,3 +163,45 @@ by_window-preserved c =
       open' = taken.open';
       reaches = still-open H c.args.source.now c.args.dest.now c.if-zeros-eq-ALL_ZEROS.dest end c.by_window.read c.min-len.result c.if-zeros-eq-ALL_ZEROS.index c.by_window.next taken (omega arith);
     }
+
+pub mark_first-requires-clause-ordered : goal.mark_first-requires-clause-ordered
+mark_first-requires-clause-ordered c =
+    let H : List ℕ → Type 0 = CobsEncoderAfter c.args.dest.now c.args.progress.now in
+    let end : ℕ = end_with c.args.progress.now c.args.source.now in
+    code-ordered H c.args.source.now c.args.dest.now c.by_zero.dest end c.by_window.read c.min-len.result c.by_zero.index c.by_window.next c.by_zero.zeros c.by_zero.invariant
+
+pub mark_first-requires-then-zeros-ne0-clause-inside : goal.mark_first-requires-then-zeros-ne0-clause-inside
+mark_first-requires-then-zeros-ne0-clause-inside c =
+    let H : List ℕ → Type 0 = CobsEncoderAfter c.args.dest.now c.args.progress.now in
+    let end : ℕ = end_with c.args.progress.now c.args.source.now in
+    let fits : end ≤ length c.by_zero.dest = omega arith in
+    let one = first-marked H c.args.source.now c.args.dest.now c.by_zero.dest end c.by_window.read c.min-len.result c.by_zero.index c.by_window.next c.by_zero.zeros c.by_zero.invariant c.mark_first.new.dest c.mark_first.result fits c.mark_first.ensures.code c.mark_first.ensures.none c.mark_first.ensures.some in
+    let l = length-set c.by_zero.dest c.by_zero.index ((c.by_window.next + lowest c.by_zero.zeros - c.by_zero.index) % 256) in
+    let fits' : end ≤ length c.mark_first.new.dest = omega (arith, ap length c.mark_first.ensures.code) in
+    code-inside H c.args.source.now c.args.dest.now c.mark_first.new.dest end c.by_window.read c.min-len.result c.mark_first.result.0 c.by_window.next c.mark_first.result.1 one fits'
+
+pub mark_first-requires-then-zeros-ne0-clause-ordered : goal.mark_first-requires-then-zeros-ne0-clause-ordered
+mark_first-requires-then-zeros-ne0-clause-ordered c =
+    let H : List ℕ → Type 0 = CobsEncoderAfter c.args.dest.now c.args.progress.now in
+    let end : ℕ = end_with c.args.progress.now c.args.source.now in
+    let fits : end ≤ length c.by_zero.dest = omega arith in
+    let one = first-marked H c.args.source.now c.args.dest.now c.by_zero.dest end c.by_window.read c.min-len.result c.by_zero.index c.by_window.next c.by_zero.zeros c.by_zero.invariant c.mark_first.new.dest c.mark_first.result fits c.mark_first.ensures.code c.mark_first.ensures.none c.mark_first.ensures.some in
+    code-ordered H c.args.source.now c.args.dest.now c.mark_first.new.dest end c.by_window.read c.min-len.result c.mark_first.result.0 c.by_window.next c.mark_first.result.1 one
+
+pub by_zero-preserved-then-zeros-ne0 : goal.by_zero-preserved-then-zeros-ne0
+by_zero-preserved-then-zeros-ne0 c =
+    let H : List ℕ → Type 0 = CobsEncoderAfter c.args.dest.now c.args.progress.now in
+    let end : ℕ = end_with c.args.progress.now c.args.source.now in
+    let fits : end ≤ length c.by_zero.dest = omega arith in
+    let one = first-marked H c.args.source.now c.args.dest.now c.by_zero.dest end c.by_window.read c.min-len.result c.by_zero.index c.by_window.next c.by_zero.zeros c.by_zero.invariant c.mark_first.new.dest c.mark_first.result fits c.mark_first.ensures.code c.mark_first.ensures.none c.mark_first.ensures.some in
+    let l = length-set c.by_zero.dest c.by_zero.index ((c.by_window.next + lowest c.by_zero.zeros - c.by_zero.index) % 256) in
+    let fits' : end ≤ length c.mark_first.new.dest = omega (arith, ap length c.mark_first.ensures.code) in
+    first-marked H c.args.source.now c.args.dest.now c.mark_first.new.dest end c.by_window.read c.min-len.result c.mark_first.result.0 c.by_window.next c.mark_first.result.1 one c.mark_first-then-zeros-ne0.new.dest c.mark_first-then-zeros-ne0.result fits' c.mark_first-then-zeros-ne0.ensures.code c.mark_first-then-zeros-ne0.ensures.none c.mark_first-then-zeros-ne0.ensures.some
+
+pub by_zero-preserved : goal.by_zero-preserved
+by_zero-preserved c =
+    let H : List ℕ → Type 0 = CobsEncoderAfter c.args.dest.now c.args.progress.now in
+    let end : ℕ = end_with c.args.progress.now c.args.source.now in
+    let fits : end ≤ length c.by_zero.dest = omega arith in
+    let one = first-marked H c.args.source.now c.args.dest.now c.by_zero.dest end c.by_window.read c.min-len.result c.by_zero.index c.by_window.next c.by_zero.zeros c.by_zero.invariant c.mark_first.new.dest c.mark_first.result fits c.mark_first.ensures.code c.mark_first.ensures.none c.mark_first.ensures.some in
+    one

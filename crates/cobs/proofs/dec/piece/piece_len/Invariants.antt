@@ -1,6 +1,0 @@
-use Rattle.std.proofs.Common.{take}
-use Rattle.cobs.specs.Grammar.{HasNoZero}
-use Rattle.cobs.proofs.dec.piece.piece_len.Given as goal
-
-abbrev pub invariant-by_byte : goal.invariant-by_byte
-invariant-by_byte l = HasNoZero (take l.i l.source)
