@@ -7,7 +7,7 @@ out=$(cd "$(dirname "$0")" && pwd)/out
 size=65536
 workloads="zeros,none,every 16,random,telemetry,alternating,every 33,below 20"
 count() { # CALL WHO WORKLOAD TIMES: the instructions of that run, its start and its messages included
-    valgrind --tool=callgrind --callgrind-out-file=/dev/null "$out/driver-default" one "$1" "$2" "$3" $size "$4" 2>&1 >/dev/null |
+    valgrind --tool=callgrind --callgrind-out-file=/dev/null "$out/driver-default-0" one "$1" "$2" "$3" $size "$4" 2>&1 >/dev/null |
         sed -n 's/.*Collected : \([0-9]*\).*/\1/p'
 }
 row() { # CALL WHO
@@ -16,7 +16,7 @@ row() { # CALL WHO
     IFS=,
     for workload in $workloads; do
         IFS=$old
-        bytes=$("$out/driver-default" one "$1" "$2" "$workload" $size 0)
+        bytes=$("$out/driver-default-0" one "$1" "$2" "$workload" $size 0)
         all=$(count "$1" "$2" "$workload" 11)
         none=$(count "$1" nobody "$workload" 11)
         awk "BEGIN { printf \" %.2f |\", ($all - $none) / 11 / $bytes }"

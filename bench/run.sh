@@ -6,7 +6,11 @@
 #     bench/run.sh --docs    writes the tables and the chart into docs/PERFORMANCE.md and docs/performance.svg too
 #
 # It needs `rt` (in the PATH or in /opt/rattle/bin), rustc and cc; where valgrind is there, it counts instructions too.
-# A first run proves the library, which takes some minutes; measuring takes two.
+# A first run proves the library, which takes some minutes; measuring takes five.
+#
+# The driver is built in two ways, and each way at four places in memory: on some processors a loop is half as fast where
+# one of its jumps crosses a multiple of 32 bytes. The best place counts, for each implementation, in three rounds, since
+# other work on the same hardware slows down some minutes.
 set -eu
 here=$(cd "$(dirname "$0")" && pwd)
 top=$(dirname "$here")
@@ -16,26 +20,38 @@ mkdir -p "$out"
 for step in check lib; do
     (cd "$top/crates/cobs_c" && rt $step >"$out/$step.log" 2>&1) || { tail -20 "$out/$step.log"; exit 1; }
 done
-build() { # NAME FLAG..
-    name=$1
-    shift
+build() { # NAME PLACE FLAG..
+    name=$1-$2
+    export PLACE=$2
+    shift 2
     rustc --edition 2024 -O "$@" -L "native=$top/crates/cobs_c/out" -l static=cobs_c -o "$out/driver-$name" "$here/src/main.rs"
 }
-build default
-build one-unit -C codegen-units=1
+places="0 16 32 48"
+for place in $places; do
+    build default "$place"
+    build one-unit "$place" -C codegen-units=1
+done
 for name in default one-unit; do
-    "$out/driver-$name" check
+    "$out/driver-$name-0" check
 done
 [ "${1:-}" = check ] && exit 0
+rm -f "$out"/*.csv
+for round in 1 2 3; do
+    for name in default one-unit; do
+        for place in $places; do
+            "$out/driver-$name-$place" run >"$out/$name-$place-$round.csv"
+        done
+    done
+done
 for name in default one-unit; do
-    "$out/driver-$name" run >"$out/$name.csv"
+    "$out/driver-default-0" best "$out/$name"-*.csv >"$out/$name.csv"
 done
 : >"$out/instructions.md"
 if command -v valgrind >/dev/null; then
     "$here/instructions.sh" >"$out/instructions.md"
 fi
-"$out/driver-default" report "$out/default.csv" "$out/one-unit.csv" >"$out/tables.md"
-"$out/driver-default" report --svg "$out/default.csv" >"$out/performance.svg"
+"$out/driver-default-0" report "$out/default.csv" "$out/one-unit.csv" >"$out/tables.md"
+"$out/driver-default-0" report --svg "$out/default.csv" >"$out/performance.svg"
 cat "$out/tables.md" "$out/instructions.md"
 if [ "${1:-}" = --docs ]; then
     cp "$out/performance.svg" "$top/docs/performance.svg"

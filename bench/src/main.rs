@@ -3,7 +3,8 @@
 //!     driver check            compares every answer on thousands of messages
 //!     driver run              prints a line of figures for each call, workload and size
 //!     driver one CALL WHO WORKLOAD SIZE TIMES      one thing alone, for counting its instructions
-//!     driver report FILE..    the tables and the chart of files that `run` wrote
+//!     driver best FILE..      the best figure of each row of files that `run` wrote
+//!     driver report FILE..    the tables and the chart of such files
 
 mod machine;
 mod plain;
@@ -11,8 +12,12 @@ mod report;
 mod sse2;
 
 use machine::{Answer, EMPTY, OK, TOO_SMALL, answer};
+use std::arch::global_asm;
 use std::hint::black_box;
 use std::time::Instant;
+
+// All code behind this lies so many bytes further on in memory.
+global_asm!(".pushsection .text.place, \"axR\"", concat!(".skip ", env!("PLACE")), ".popsection");
 
 unsafe extern "C" {
     fn cobs_encode(source: *const u8, source_len: usize, dest: *mut u8, dest_len: usize) -> usize;
@@ -197,7 +202,7 @@ fn run() {
                 let mut work = work(workload, size);
                 let times = (262144 / size).max(1);
                 let mut least = [f64::INFINITY; WHO.len()];
-                for _ in 0..if size > 100_000 { 50 } else { 80 } {
+                for _ in 0..if size > 100_000 { 15 } else { 25 } {
                     for (i, who) in WHO.iter().enumerate() {
                         if let Some(time) = seconds(call, who, &mut work, times) {
                             least[i] = least[i].min(time);
@@ -309,9 +314,10 @@ fn main() {
             }
             println!("{}", work.bytes);
         }
+        ["best", files @ ..] => report::best(files),
         ["report", files @ ..] => report::print(files),
         _ => {
-            eprintln!("usage: driver check | run | one CALL WHO WORKLOAD SIZE TIMES | report FILE..");
+            eprintln!("usage: driver check | run | one CALL WHO WORKLOAD SIZE TIMES | best FILE.. | report FILE..");
             std::process::exit(2);
         }
     }

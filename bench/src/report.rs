@@ -84,6 +84,21 @@ fn least(figures: &Figures) {
     println!();
 }
 
+/// The rows of the files, with the greatest figure that any of them has for each implementation.
+pub fn best(files: &[&str]) {
+    let all: Vec<Figures> = files.iter().map(|file| read(file)).collect();
+    for key in all[0].keys() {
+        let cells: Vec<String> = WHO
+            .iter()
+            .map(|who| {
+                let found = all.iter().filter_map(|figures| rate(figures, &key.0, &key.1, key.2, who));
+                shown(found.max_by(f64::total_cmp), 0)
+            })
+            .collect();
+        println!("{},{},{},{}", key.0, key.1, key.2, cells.join(","));
+    }
+}
+
 pub fn print(files: &[&str]) {
     if let ["--svg", file] = files {
         return chart(&read(file));
