@@ -12,6 +12,7 @@ mod state;
 mod vector;
 mod window;
 
+pub(crate) use blocks::FULL_CODE;
 use blocks::{Progress, append, close};
 pub use encoder::CobsEncoder;
 pub use error::DestBufTooSmallError;

@@ -8,9 +8,9 @@ ghost use Rattle.cobs.specs.Piece.{kept_output, lacks, last_part, output, IsFlat
 ghost use Rattle.cobs.specs.Sentinel.{xor_each};
 ghost use Rattle.cobs.specs.declared.dec.report.DecodeError.TheVariants.{TargetBufTooSmall};
 
-use crate::dec::piece::{FULL_CODE, decode_piece, piece_len};
+use crate::dec::piece::{decode_piece, piece_len};
 use crate::dec::report::{DecodeError, DecodeReport};
-use crate::enc::xor_bytes;
+use crate::enc::{FULL_CODE, xor_bytes};
 
 /// How many bytes of a frame are decoded at a time, at most: room for each block.
 const STRETCH: usize = 256;

@@ -8,8 +8,9 @@ ghost use Rattle.cobs.specs.Machine.{next_phase, next_buffer, next_answer, end_a
 ghost use Rattle.cobs.specs.Push.{PushesBytes};
 
 use crate::dec::fit::fitting_len;
-use crate::dec::piece::{FULL_CODE, decode_piece, piece_len};
+use crate::dec::piece::{decode_piece, piece_len};
 use crate::dec::report::{DecodeError, DecodeReport, PushError};
+use crate::enc::FULL_CODE;
 use std::mem;
 
 /// So many bytes are worth a search for a zero and a copy.

@@ -2,7 +2,8 @@
 ghost use Rattle.std.specs.Prelude.{◌≡◌, ◌↔◌};
 ghost use Rattle.cobs.specs.Grammar.{IsCanonical, IsFrame};
 
-use crate::dec::piece::{FULL_CODE, piece_len};
+use crate::dec::piece::piece_len;
+use crate::enc::FULL_CODE;
 
 /// What a list of bytes is to a decoder.
 #[derive(Debug, Drop, PartialEq, Eq)]

@@ -9,11 +9,8 @@ ghost use Rattle.cobs.specs.Stream.{outcome_of};
 use crate::dec::report::DecodeError;
 use crate::dec::window::{copy_32, is_ones, write_zeros};
 use crate::dec::zeros::{MASKED, first_zero_of_few};
-use crate::enc::{WINDOW, copy_window};
+use crate::enc::{FULL_CODE, WINDOW, copy_window};
 use memchr::memchr;
-
-/// The code of a full block.
-pub(crate) const FULL_CODE: usize = 255;
 
 /// What is to be known of a piece once its output is written.
 #[derive(Clone, Copy)]

@@ -8,8 +8,8 @@ ghost use Rattle.cobs.specs.Piece.{kept_output, output};
 ghost use Rattle.cobs.specs.Sentinel.{xor_each};
 ghost use Rattle.cobs.specs.Stream.{head};
 
-use crate::dec::piece::FULL_CODE;
 use crate::dec::report::DecodeError;
+use crate::enc::FULL_CODE;
 use memchr::memchr;
 
 /// Where the first sentinel of the source stands, or the source's length where it has none.
