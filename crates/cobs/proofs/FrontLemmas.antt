@@ -1,9 +1,9 @@
 -- The output of a front of a piece is a front of its output.
-use Rattle.std.proofs.Common.{◌≡◌, ℕ, ◌+◌, ◌-◌, ◌<◌, ◌≤◌, List, ◌∷◌, ◌++◌, length, take, drop, get_or, suc, sym, ap, ◌∙◌, subst, arith, length-take-le, length-drop, length-append, append_assoc, inl, inr}
+use Rattle.std.proofs.Common.{◌≡◌, ℕ, ◌+◌, ◌-◌, ◌<◌, ◌≤◌, List, ◌∷◌, ◌++◌, length, take, drop, get_or, suc, refl, sym, ap, ◌∙◌, arith, length-take-le, length-drop, length-append, append_assoc, inl, inr}
 use Rattle.std.proofs.lemmas.Bool.{cases_lt}
-use Rattle.std.proofs.lemmas.List.{drop-drop, drop-take, drop_more, take-take, take-append-le}
+use Rattle.std.proofs.lemmas.List.{drop-drop, drop-take, drop_more, take-take, take-append-le, take_all}
 use Rattle.cobs.specs.Piece.{output}
-use Rattle.cobs.proofs.PieceCuts.{output-last, output-more, output-le, length-output-last, joint_of}
+use Rattle.cobs.proofs.PieceCuts.{output-last, output-more, joint_of}
 use Rattle.cobs.proofs.WindowSteps.{take-past}
 
 -- a front that ends behind the first part
@@ -28,17 +28,19 @@ front-inside code bytes left few within =
     ] in
     output-last code (take left bytes) (omega arith) ∙ sym whole
 
--- what the loop over the codes of a piece keeps, which looks for its front with n bytes of output: behind the codes that
--- it has read it looks for the front of what is left with the bytes that are left
+-- what the loop over the codes of a piece keeps, which looks for its front with the first n bytes of its output: behind
+-- the codes that it has read it looks for the front of what is left with the bytes that are left
 pub record FrontSought (piece : List ℕ) (n read left : ℕ) : Type 0 where
   pub within : read < length piece
-  pub enough : left < length (output (drop read piece))
+  pub few : left ≤ n
+  pub counted : left + length (output piece) ≡ n + length (output (drop read piece))
   pub suffices : (k : ℕ) → 0 < k → read + k ≤ length piece → output (take k (drop read piece)) ≡ take left (output (drop read piece)) → output (take (read + k) piece) ≡ take n (output piece)
 
-pub front-started : (piece : List ℕ) (n : ℕ) → n < length (output piece) → 0 < length piece → FrontSought piece n 0 n
-front-started piece n fewer some = record {
+pub front-started : (piece : List ℕ) (n : ℕ) → 0 < length piece → FrontSought piece n 0 n
+front-started piece n some = record {
   within = some;
-  enough = fewer;
+  few = omega arith;
+  counted = refl;
   suffices = λ k pos within is. (let z : 0 + k ≡ k = omega arith in ap (λ (j : ℕ). output (take j piece)) z ∙ is);
 }
 
@@ -47,40 +49,59 @@ module _ (piece : List ℕ) (n read left code : ℕ) (s : FrontSought piece n re
   cons = drop_more piece read 0 s.within ∙ ap (λ (k : ℕ). k ∷ drop (read + 1) piece) (sym is)
 
   -- the front ends inside this part
-  pub front-ends : left < code → (read + 1 + left ≤ length piece) × (output (take (read + 1 + left) piece) ≡ take n (output piece))
-  front-ends few =
-      let w = s.within in
-      let e = s.enough in
-      let o = ap length (ap output cons) in
+  pub front-ends : left < code → read + 1 + left ≤ length piece → output (take (read + 1 + left) piece) ≡ take n (output piece)
+  front-ends few within =
       let d = length-drop (read + 1) piece in
-      let within : left ≤ length (drop (read + 1) piece) = (let le = output-le (drop read piece) (let r = length-drop read piece in omega arith) in let r = length-drop read piece in omega arith) in
       let sum : read + 1 + left ≡ read + suc left = omega arith in
-      (omega arith, ap (λ (k : ℕ). output (take k piece)) sum ∙ s.suffices (suc left) (omega arith) (omega arith) (ap (λ (xs : List ℕ). output (take (suc left) xs)) cons ∙ front-inside code (drop (read + 1) piece) left few within ∙ ap (λ (xs : List ℕ). take left (output xs)) (sym cons)))
+      ap (λ (k : ℕ). output (take k piece)) sum ∙ s.suffices (suc left) (omega arith) (omega arith) (ap (λ (xs : List ℕ). output (take (suc left) xs)) cons ∙ front-inside code (drop (read + 1) piece) left few (omega (arith, s.within)) ∙ ap (λ (xs : List ℕ). take left (output xs)) (sym cons))
+
+  -- what is left fits as a whole
+  pub front-whole : length (output (drop read piece)) ≤ left → output (take (length piece) piece) ≡ take n (output piece)
+  front-whole fits =
+      let d = length-drop read piece in
+      let w = s.within in
+      let rest : ℕ = length piece - read in
+      let sum : length piece ≡ read + rest = omega arith in
+      ap (λ (k : ℕ). output (take k piece)) sum
+      ∙ s.suffices rest (omega arith) (omega arith) (ap output (take_all rest (drop read piece) (omega arith)) ∙ sym (take_all left (output (drop read piece)) fits))
 
   -- or another part follows
-  module _ (pos : 0 < code) (far : code ≤ left) where
-    pub front-follows : code < length piece - read
-    front-follows = elim (cases_lt code (length piece - read)) [
-      | inl more ↦ more
-      | inr last ↦ absurd (let o = length-output-last piece read s.within (subst (λ (c : ℕ). length piece - read ≤ c) is last) in let e = s.enough in omega arith)
-    ]
+  module _ (pos : 0 < code) (more : code < length piece - read) where
+    abbrev part : List ℕ
+    part = take (code - 1) (drop (read + 1) piece) ++ joint_of code
+
+    next : drop (code - 1) (drop (read + 1) piece) ≡ drop (read + code) piece
+    next = drop-drop (code - 1) (read + 1) piece ∙ ap (λ (k : ℕ). drop k piece) (omega arith)
+
+    long : length part ≡ code - 1 + length (joint_of code)
+    long =
+        let d = length-drop (read + 1) piece in
+        length-append (take (code - 1) (drop (read + 1) piece)) (joint_of code) ∙ ap (λ (k : ℕ). k + length (joint_of code)) (length-take-le (code - 1) (drop (read + 1) piece) (omega (arith, s.within, more)))
+
+    whole : output (drop read piece) ≡ part ++ output (drop (read + code) piece)
+    whole =
+        let d = length-drop (read + 1) piece in
+        ap output cons ∙ output-more code (drop (read + 1) piece) (omega (arith, s.within, more, pos)) ∙ ap (λ (x : List ℕ). part ++ output x) next
+
+    -- where the part alone is too long
+    pub front-too_long : left < code - 1 + length (joint_of code) → n < length (output piece)
+    front-too_long few =
+        let o = ap length whole ∙ length-append part (output (drop (read + code) piece)) in
+        omega (arith, long, s.counted)
 
     pub front-more-left : (left' : ℕ) → left' + (code - 1 + length (joint_of code)) ≡ left → FrontSought piece n (read + code) left'
     front-more-left left' sum =
-        let follows = front-follows in
         let w = s.within in
-        let e = s.enough in
+        let e = s.counted in
+        let l = long in
+        let m = more in
         let bytes : List ℕ = drop (read + 1) piece in
-        let next : drop (code - 1) bytes ≡ drop (read + code) piece = drop-drop (code - 1) (read + 1) piece ∙ ap (λ (k : ℕ). drop k piece) (omega arith) in
         let d = length-drop (read + 1) piece in
-        let part : List ℕ = take (code - 1) bytes ++ joint_of code in
-        let long : length part ≡ code - 1 + length (joint_of code) = length-append (take (code - 1) bytes) (joint_of code) ∙ ap (λ (k : ℕ). k + length (joint_of code)) (length-take-le (code - 1) bytes (omega arith)) in
-        let whole : output (drop read piece) ≡ part ++ output (drop (read + code) piece) =
-        ap output cons ∙ output-more code bytes (omega arith) ∙ ap (λ (x : List ℕ). part ++ output x) next in
         let o = ap length whole ∙ length-append part (output (drop (read + code) piece)) in
         record {
           within = omega arith;
-          enough = omega arith;
+          few = omega (arith, s.few);
+          counted = omega arith;
           suffices = λ k some within is'. (
               let dn = length-drop (read + code) piece in
               let dl = ap length next in

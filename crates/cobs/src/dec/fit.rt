@@ -1,9 +1,12 @@
 //! How much of a piece fits a buffer.
-ghost use Rattle.std.specs.Prelude.{◌<◌, ◌≤◌, length, take};
+ghost use Rattle.std.specs.Prelude.{◌≡◌, ◌<◌, ◌≤◌, ◌↔◌, length, take};
 ghost use Rattle.cobs.specs.Grammar.{HasNoZero};
 ghost use Rattle.cobs.specs.Piece.{output};
 
-/// How many of the first bytes of a piece have an output of at most `room` bytes.
+use crate::enc::FULL_CODE;
+
+/// How many of the first bytes of a piece have an output that fits `room` bytes: all of them exactly where the whole
+/// output does, and else so many that the output fills the room.
 ///
 /// It takes one step for each code, and none where the room is enough for any piece of this length.
 pub(crate) fn fitting_len(piece: &[u8], room: usize) -> usize
@@ -11,22 +14,23 @@ pub(crate) fn fitting_len(piece: &[u8], room: usize) -> usize
     requires nonzero { HasNoZero piece.now }
     ensures some { 0 < result }
     ensures within { result ≤ length piece.now }
-    ensures fits { length (output (take result piece.now)) ≤ room }
+    ensures front { output (take result piece.now) ≡ take room (output piece.now) }
+    ensures too_long { (result < length piece.now) ↔ (room < length (output piece.now)) }
 {
+    // An output is shorter than its piece.
     if piece.len() - 1 <= room {
         return piece.len();
     }
-    // Each byte behind the first gives one byte of the output, but for a code behind a full part.
-    let mut fit = room + 1;
+    let mut left = room;
     let mut read = 0;
     'by_code: loop {
         let code = piece[read] as usize;
-        if piece.len() - read <= code || fit - read <= code {
-            return fit.min(piece.len());
+        // What a block adds where another one follows it: its bytes and a zero, or a full block's bytes alone.
+        let adds = code.min(FULL_CODE - 1);
+        if piece.len() - read <= code || left < adds {
+            return (read + 1 + left).min(piece.len());
         }
-        if code == 255 {
-            fit += 1;
-        }
+        left -= adds;
         read += code;
     }
 }

@@ -6,6 +6,7 @@ ghost use Rattle.cobs.specs.Decoding.{leading_zeros, sized};
 ghost use Rattle.cobs.specs.Piece.{output, last_part, lacks};
 ghost use Rattle.cobs.specs.Stream.{outcome_of};
 
+use crate::dec::fit::fitting_len;
 use crate::dec::report::DecodeError;
 use crate::dec::window::{copy_32, is_ones, write_zeros};
 use crate::dec::zeros::{MASKED, first_zero_of_few};
@@ -58,27 +59,6 @@ pub(crate) fn leading_zeros(source: &[u8]) -> usize
         }
     }
     source.len()
-}
-
-/// The length of a piece's output, by one step for each code.
-pub(crate) fn output_len(piece: &[u8]) -> usize
-    requires some { 0 < length piece.now }
-    requires nonzero { HasNoZero piece.now }
-    ensures { result ≡ length (output piece.now) }
-{
-    // Each byte behind the first gives one byte of the output, but for a code behind a full part.
-    let mut len = piece.len() - 1;
-    let mut read = 0;
-    'by_code: loop {
-        let code = piece[read] as usize;
-        if piece.len() - read <= code {
-            return len;
-        }
-        if code == FULL_CODE {
-            len -= 1;
-        }
-        read += code;
-    }
 }
 
 /// Decodes the first codes of a piece, those within 33 bytes, and says how many bytes it has read and written.
@@ -208,30 +188,6 @@ pub(crate) fn decode_piece(piece: &[u8], dest: &mut [u8]) -> PieceEnd
     }
 }
 
-/// The length of the shortest front of a piece whose output has this many bytes, fewer than the piece's own.
-fn front_len(piece: &[u8], count: usize) -> usize
-    requires nonzero { HasNoZero piece.now }
-    requires fewer { count < length (output piece.now) }
-    ensures some { 0 < result }
-    ensures within { result ≤ length piece.now }
-    ensures front { output (take result piece.now) ≡ take count (output piece.now) }
-{
-    let mut left = count;
-    let mut read = 0;
-    'by_code: loop {
-        let code = piece[read] as usize;
-        if left < code {
-            return read + 1 + left;
-        }
-        left -= if code == FULL_CODE {
-            FULL_CODE - 1
-        } else {
-            code
-        };
-        read += code;
-    }
-}
-
 /// Decodes a piece that has ended, and answers its message's length.
 ///
 /// Where the output is longer than `dest`, its first bytes fill `dest`; else it stands at the front of `dest`, whole
@@ -242,13 +198,11 @@ pub(crate) fn decode_ended(piece: &[u8], dest: &mut [u8]) -> Result<usize, Decod
     ensures answer { result ≡ sized (outcome_of piece.now (length dest.old)) }
     ensures buffer { dest.new ≡ overwritten dest.old (output piece.now) }
 {
-    // An output is shorter than its piece, so it is counted only where it may be too long.
-    if dest.len() < piece.len() - 1 && dest.len() < output_len(piece) {
-        let front = front_len(piece, dest.len());
-        decode_piece(&piece[..front], dest);
+    let fit = fitting_len(piece, dest.len());
+    let end = decode_piece(&piece[..fit], dest);
+    if fit < piece.len() {
         return Err(DecodeError::TargetBufTooSmall);
     }
-    let end = decode_piece(piece, dest);
     if end.left == 0 {
         Ok(end.written)
     } else {

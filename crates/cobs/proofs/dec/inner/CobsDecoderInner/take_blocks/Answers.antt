@@ -1,7 +1,9 @@
-use Rattle.std.proofs.Common.{◌≡◌, ◌≢◌, ◌<◌, ◌∙◌, Bool, eqb, take, sym, ap, arith, length-take-le}
+use Rattle.std.proofs.Common.{◌≡◌, ◌≢◌, ◌<◌, ◌∙◌, ◌-◌, Bool, eqb, length, take, sym, ap, arith, length-take-le}
 use Rattle.std.specs.List.{All}
 use Rattle.std.proofs.lemmas.Bool.{ne_eqb, eq-eqb}
+use Rattle.std.proofs.lemmas.List.{length-take}
 use Rattle.std.proofs.lemmas.List.Elements.{All-take, All-from_get_or}
+use Rattle.cobs.specs.Piece.{output}
 use Rattle.cobs.proofs.StretchLemmas.{base_of, joined, blocks_fed, code_small}
 use Rattle.cobs.proofs.dec.inner.CobsDecoderInner.take_blocks.Goals as goal
 use Rattle.cobs.proofs.dec.inner.CobsDecoderInner.take_blocks.Goals.{then-self, else-self+else-dest-self}
@@ -29,5 +31,5 @@ returns-clause-fed c =
     blocks_fed c.args.self.now c.decode_piece-end.result.code c.decode_piece-end.result.left c.args.dest.now c.if-self.dest (take c.fitting_len-fit.result c.args.stretch.now) _ c.if-self.at _
     c.requires.going c.requires.boundary (All-take (λ byte. byte ≢ 0) c.fitting_len-fit.result c.args.stretch.now c.requires.nonzero)
     (omega (arith, length-take-le c.fitting_len-fit.result c.args.stretch.now c.fitting_len-fit.ensures.within))
-    at-is dest-is c.if-self.auto.dest (omega (arith, c.fitting_len-fit.ensures.fits))
+    at-is dest-is c.if-self.auto.dest (omega (arith, ap length c.fitting_len-fit.ensures.front, length-take (length c.if-self.dest - c.if-self.at) (output c.args.stretch.now)))
     c.decode_piece-end.ensures.written c.decode_piece-end.ensures.begins c.decode_piece-end.ensures.rest c.decode_piece-end.ensures.code c.decode_piece-end.ensures.left
