@@ -1,6 +1,6 @@
 -- What decoders that are given all of a list answer: the message m exactly where the list reads as m.
 use Rattle.std.proofs.Common.{◌≡◌, ◌≢◌, ℕ, ◌<◌, ◌≤◌, ◌↔◌, nat_le, Bool, true, false, cond, List, [], ◌∷◌, ◌++◌, length, take, drop, All, Result, Ok, Err, refl, sym, ap, ◌∙◌, subst, arith, take_all, take_at, get_or, Fits, w8, ⊎_elim}
-use Rattle.std.proofs.lemmas.Bool.{cases_Bool, le-leb}
+use Rattle.std.proofs.lemmas.Bool.{cases_Bool, cases_lt, le-leb, lt-leb}
 use Rattle.std.proofs.lemmas.List.Elements.{All-from_get_or, All-map, All-weaker}
 use Rattle.std.specs.Int.Bits.{bit_xor, xor_lt}
 use Rattle.cobs.specs.Sentinel.{xor_each}
@@ -50,6 +50,16 @@ decodes-reads f m result buffer piece below d = (
       subst (λ r. AnswersMessage r buffer m) (sym (d.whole whole)) (sym (ap length is), d.begins whole ∙ sym is),
 )
 
+-- the message m is answered exactly where the list reads as m and m fits n bytes
+pub reads_where_fits : (f m : List ℕ) (n : ℕ) (P : Type 0) → (length (output f) ≤ n → P ↔ Reads f m) → (n < length (output f) → P → ⊥) → P ↔ (Reads f m × (length m ≤ n))
+reads_where_fits f m n P fits long = (
+  λ p. ⊎_elim
+      (λ (more : n < length (output f)). absurd (long more p))
+      (λ (within : length (output f) ≤ n). let r = (fits within).0 p in (r, (let is = ap length (frame_output f m r) in omega arith)))
+      (cases_lt n (length (output f))),
+  λ (r, small). (fits (let is = ap length (frame_output f m r) in omega arith)).1 r,
+)
+
 reports : (parsed : ℕ) (result : Result ℕ DecodeError) (buffer m : List ℕ) (P : Type 0) → AnswersMessage result buffer m ↔ P → ReportsMessage (reported parsed result) buffer m ↔ P
 reports parsed (Ok n) buffer m P h = h
 reports parsed (Err error) buffer m P h = h
@@ -62,13 +72,18 @@ outcome_of_broken p n fits broken =
     ap (λ (t : Bool). cond t (cond (is_whole p) (Message (output p)) (Broken (length (output p)))) TooLong) (le-leb (length (output p)) n fits)
     ∙ ap (λ (t : Bool). cond t (Message (output p)) (Broken (length (output p)))) broken
 
+pub outcome_of_long : (p : List ℕ) (n : ℕ) → n < length (output p) → outcome_of p n ≡ TooLong
+unfolding outcome_of
+outcome_of_long p n more =
+    ap (λ (t : Bool). cond t (cond (is_whole p) (Message (output p)) (Broken (length (output p)))) TooLong) (lt-leb (length (output p)) n more)
+
 decode_answer_alone : (f : List ℕ) (n : ℕ) → IsPiece f → decode_answer f n ≡ reported (consumed f f) (sized (outcome_of f n))
 decode_answer_alone [] n piece = absurd (piece.0 refl)
 decode_answer_alone (byte ∷ bytes) n piece = ap (λ p. answer_by_piece (byte ∷ bytes) p n) (first_piece_alone (byte ∷ bytes) piece.0 piece.1)
 
-pub decode_reads : (f buffer : List ℕ) (result : Result DecodeReport DecodeError) (buffer' : List ℕ) → result ≡ decode_answer f (length buffer) → buffer' ≡ overwritten buffer (first_output f)
+decode_reads-fits : (f buffer : List ℕ) (result : Result DecodeReport DecodeError) (buffer' : List ℕ) → result ≡ decode_answer f (length buffer) → buffer' ≡ overwritten buffer (first_output f)
     → All (λ b. b < 256) f → IsPiece f → length (output f) ≤ length buffer → (m : List ℕ) → ReportsMessage result buffer' m ↔ Reads f m
-decode_reads f buffer result buffer' answer after below piece fits m =
+decode_reads-fits f buffer result buffer' answer after below piece fits m =
     let n = length buffer in
     let given : result ≡ reported (consumed f f) (sized (outcome_of f n)) = answer ∙ decode_answer_alone f n piece in
     let written : buffer' ≡ overwritten buffer (output f) = after ∙ ap (λ p. overwritten buffer (output_of p)) (first_piece_alone f piece.0 piece.1) in
@@ -79,6 +94,14 @@ decode_reads f buffer result buffer' answer after below piece fits m =
     } in
     subst (λ r. ReportsMessage r buffer' m ↔ Reads f m) (sym given)
     (reports (consumed f f) (sized (outcome_of f n)) buffer' m (Reads f m) (decodes-reads f m (sized (outcome_of f n)) buffer' piece below decodes))
+
+pub decode_reads : (f buffer : List ℕ) (result : Result DecodeReport DecodeError) (buffer' : List ℕ) → result ≡ decode_answer f (length buffer) → buffer' ≡ overwritten buffer (first_output f)
+    → All (λ b. b < 256) f → IsPiece f → (m : List ℕ) → ReportsMessage result buffer' m ↔ (Reads f m × (length m ≤ length buffer))
+decode_reads f buffer result buffer' answer after below piece m =
+    let n = length buffer in
+    reads_where_fits f m n (ReportsMessage result buffer' m) (λ fits. decode_reads-fits f buffer result buffer' answer after below piece fits m)
+    (λ more told. absurd (subst (λ r. ReportsMessage r buffer' m)
+    (answer ∙ decode_answer_alone f n piece ∙ ap (λ o. reported (consumed f f) (sized o)) (outcome_of_long f n more)) told))
 
 -- DECODING IN PLACE
 
@@ -132,9 +155,17 @@ head_answer_within-broken f n some broken = ⊎_elim
     (λ (short : nat_le (length (kept_output f)) n ≡ false). (TargetBufTooSmall, ap (λ (t : Bool). cond t (head_answer f) (Err TargetBufTooSmall)) short))
     (cases_Bool (nat_le (length (kept_output f)) n))
 
-pub source_reads : (f buffer : List ℕ) (result : Result ℕ DecodeError) (buffer' : List ℕ) → result ≡ source_answer f (length buffer) → buffer' ≡ overwritten buffer (kept_output (head f))
+head_answer_within-long : (f : List ℕ) (n : ℕ) → f ≢ [] → n < length (output f) → (error : DecodeError) × (head_answer_within f n ≡ Err error)
+head_answer_within-long f n some more = ⊎_elim
+    (λ (whole : is_whole f ≡ true).
+    let kept = ap length (kept_output_whole f whole) in
+    (TargetBufTooSmall, ap (λ (t : Bool). cond t (head_answer f) (Err TargetBufTooSmall)) (lt-leb (length (kept_output f)) n (omega (arith, kept)))))
+    (λ (broken : is_whole f ≡ false). head_answer_within-broken f n some broken)
+    (cases_Bool (is_whole f))
+
+source_reads-fits : (f buffer : List ℕ) (result : Result ℕ DecodeError) (buffer' : List ℕ) → result ≡ source_answer f (length buffer) → buffer' ≡ overwritten buffer (kept_output (head f))
     → All (λ b. b < 256) f → IsPiece f → length (output f) ≤ length buffer → (m : List ℕ) → AnswersMessage result buffer' m ↔ Reads f m
-source_reads f buffer result buffer' answer after below piece fits m =
+source_reads-fits f buffer result buffer' answer after below piece fits m =
     let n = length buffer in
     decodes-reads f m result buffer' piece below (record {
       whole = λ whole.
@@ -145,3 +176,10 @@ source_reads f buffer result buffer' answer after below piece fits m =
           ∙ ap (λ (l : List ℕ). take (length (output f)) (overwritten buffer l)) (kept_output_whole f whole) ∙ front-overwritten buffer (output f) fits;
       broken = λ broken. let w = head_answer_within-broken f n piece.0 broken in (w.0, answer ∙ source_answer_alone f n piece ∙ w.1);
     })
+
+pub source_reads : (f buffer : List ℕ) (result : Result ℕ DecodeError) (buffer' : List ℕ) → result ≡ source_answer f (length buffer) → buffer' ≡ overwritten buffer (kept_output (head f))
+    → All (λ b. b < 256) f → IsPiece f → (m : List ℕ) → AnswersMessage result buffer' m ↔ (Reads f m × (length m ≤ length buffer))
+source_reads f buffer result buffer' answer after below piece m =
+    let n = length buffer in
+    reads_where_fits f m n (AnswersMessage result buffer' m) (λ fits. source_reads-fits f buffer result buffer' answer after below piece fits m)
+    (λ more told. let w = head_answer_within-long f n piece.0 more in absurd (subst (λ r. AnswersMessage r buffer' m) (answer ∙ source_answer_alone f n piece ∙ w.1) told))

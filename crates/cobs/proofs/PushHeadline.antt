@@ -18,6 +18,7 @@ use Rattle.cobs.proofs.FeedLemmas.{DecoderAfter-start}
 use Rattle.cobs.proofs.PushLemmas.{output-longer}
 use Rattle.cobs.proofs.StreamLemmas.{stream_outcomes-no_zero, stream_outcomes-one, unended-no_zero}
 use Rattle.cobs.proofs.OutcomeLemmas.{outcome_reads}
+use Rattle.cobs.proofs.HeadlineLemmas.{reads_where_fits, outcome_of_long}
 
 -- a front's output is no longer
 output-front : (p q : List ℕ) → length (output p) ≤ length (output (p ++ q))
@@ -36,10 +37,10 @@ answer_to-quiet : (q : List ℕ) (b n : ℕ) → b ≢ 0 → length (output (q +
 unfolding answer_to
 answer_to-quiet q b n some fits = cc (ne_eqb b 0 some, le-leb (length (output (q ++ b ∷ []))) n fits)
 
-module _ (f : List ℕ) (n : ℕ) (piece : IsPiece f) (fits : length (output f) ≤ n) where
-  -- the bytes in front of the zero are quiet
-  quiet_inside : (place : ℕ) → place < length f → answer_at [] (f ++ 0 ∷ []) n place ≡ Ok None
-  quiet_inside place within =
+module _ (f : List ℕ) (n : ℕ) (piece : IsPiece f) where
+  -- the bytes in front of the zero are quiet, where the output fits
+  quiet_inside : length (output f) ≤ n → (place : ℕ) → place < length f → answer_at [] (f ++ 0 ∷ []) n place ≡ Ok None
+  quiet_inside fits place within =
       let front : take place (f ++ 0 ∷ []) ≡ take place f = take-append-le place f (0 ∷ []) (omega arith) in
       let same : unended (take place (f ++ 0 ∷ [])) ≡ take place f = ap unended front ∙ unended-no_zero (take place f) (All-take (λ b. b ≢ 0) place f piece.1) in
       let byte : get_or (f ++ 0 ∷ []) place 0 ≡ get_or f place 0 = get_or_append_left f (0 ∷ []) 0 place within in
@@ -70,7 +71,7 @@ pushed-no_message bytes refusal buffer m e =
     (λ (other : last ≡ false). let e' = e ∙ ap (λ (t : Bool). cond t (refused_outcomes refusal.error) []) other in cc)
     (cases_Bool last)
 
-module _ (buffer bytes buffer' f : List ℕ) (phase phase' : Phase) (idle : phase ≡ Idle) (is : bytes ≡ f ++ 0 ∷ []) (below : All (λ b. b < 256) f) (piece : IsPiece f) (fits : length (output f) ≤ length buffer) (m : List ℕ) where
+module _ (buffer bytes buffer' f : List ℕ) (phase phase' : Phase) (idle : phase ≡ Idle) (is : bytes ≡ f ++ 0 ∷ []) (below : All (λ b. b < 256) f) (piece : IsPiece f) (m : List ℕ) where
   -- an answer tells of a message only behind the zero
   told : (report : DecodeReport) → PushesBytes buffer phase bytes (Ok (Some report)) buffer' phase' → Message (take (frame_size_of report) buffer') ≡ outcome_of f (length buffer)
   told report w =
@@ -78,29 +79,35 @@ module _ (buffer bytes buffer' f : List ℕ) (phase phase' : Phase) (idle : phas
       let n = length buffer in
       let o : stream_outcomes (take k (f ++ 0 ∷ [])) n ≡ Message (take (frame_size_of report) buffer') ∷ [] = ap (λ (x : List ℕ). stream_outcomes (take k x) n) (sym is) ∙ w.outcomes [] (DecoderAfter-start buffer phase idle) in
       ⊎_elim
-      (λ (all : length f < k). let one = one_outcome f n piece fits k all in cc)
-      (λ (short : k ≤ length f). absurd (let none = no_outcome f n piece fits k short in cc))
+      (λ (all : length f < k). let one = one_outcome f n piece k all in cc)
+      (λ (short : k ≤ length f). absurd (let none = no_outcome f n piece k short in cc))
       (cases_lt (length f) k)
 
-  pushes_from : (result : Result (Option DecodeReport) PushError) → PushesBytes buffer phase bytes result buffer' phase' → PushesMessage result buffer' m → Reads f m
-  pushes_from (Ok None) w h = absurd h
-  pushes_from (Err refusal) w h = absurd h
-  pushes_from (Ok (Some report)) w h = (outcome_reads f m (length buffer) piece.0 piece.1 below fits).0 (sym (told report w) ∙ ap Message h.1)
+  pushes_from : length (output f) ≤ length buffer → (result : Result (Option DecodeReport) PushError) → PushesBytes buffer phase bytes result buffer' phase' → PushesMessage result buffer' m → Reads f m
+  pushes_from fits (Ok None) w h = absurd h
+  pushes_from fits (Err refusal) w h = absurd h
+  pushes_from fits (Ok (Some report)) w h = (outcome_reads f m (length buffer) piece.0 piece.1 below fits).0 (sym (told report w) ∙ ap Message h.1)
 
-  pushes_to : (result : Result (Option DecodeReport) PushError) → PushesBytes buffer phase bytes result buffer' phase' → Reads f m → PushesMessage result buffer' m
-  pushes_to (Ok None) w r =
+  -- where the output doesn't fit, no message is answered
+  pushes_long : length buffer < length (output f) → (result : Result (Option DecodeReport) PushError) → PushesBytes buffer phase bytes result buffer' phase' → PushesMessage result buffer' m → ⊥
+  pushes_long more (Ok None) w h = absurd h
+  pushes_long more (Err refusal) w h = absurd h
+  pushes_long more (Ok (Some report)) w h = let e = told report w ∙ outcome_of_long f (length buffer) more in cc
+
+  pushes_to : length (output f) ≤ length buffer → (result : Result (Option DecodeReport) PushError) → PushesBytes buffer phase bytes result buffer' phase' → Reads f m → PushesMessage result buffer' m
+  pushes_to fits (Ok None) w r =
       let n = length buffer in
       let l = ap length is ∙ length-append f (0 ∷ []) in
       let o : stream_outcomes (take (length bytes) (f ++ 0 ∷ [])) n ≡ [] = ap (λ (x : List ℕ). stream_outcomes (take (length bytes) x) n) (sym is) ∙ w.outcomes [] (DecoderAfter-start buffer phase idle) in
-      let one = one_outcome f n piece fits (length bytes) (omega arith) in
+      let one = one_outcome f n piece (length bytes) (omega arith) in
       absurd (cc)
-  pushes_to (Ok (Some report)) w r =
+  pushes_to fits (Ok (Some report)) w r =
       let message : outcome_of f (length buffer) ≡ Message m = (outcome_reads f m (length buffer) piece.0 piece.1 below fits).1 r in
       let same : take (frame_size_of report) buffer' ≡ m = (let t = told report w in cc) in
       let bound = w.bound in
       let len = w.len in
       (sym (sym (ap length same) ∙ length-take-le (frame_size_of report) buffer' (omega arith)), same)
-  pushes_to (Err refusal) w r =
+  pushes_to fits (Err refusal) w r =
       let n = length buffer in
       let k = refusal.parsed_size in
       let message : outcome_of f n ≡ Message m = (outcome_reads f m n piece.0 piece.1 below fits).1 r in
@@ -108,7 +115,7 @@ module _ (buffer bytes buffer' f : List ℕ) (phase phase' : Phase) (idle : phas
       ⊎_elim
       (λ (all : length f < k).
       let o : stream_outcomes (take k (f ++ 0 ∷ [])) n ≡ pushed_outcomes bytes (Err refusal) buffer' = ap (λ (x : List ℕ). stream_outcomes (take k x) n) (sym is) ∙ w.outcomes [] after in
-      absurd (pushed-no_message bytes refusal buffer' m (ap (λ (x : Outcome). x ∷ []) (sym message) ∙ sym (one_outcome f n piece fits k all) ∙ o)))
+      absurd (pushed-no_message bytes refusal buffer' m (ap (λ (x : Outcome). x ∷ []) (sym message) ∙ sym (one_outcome f n piece k all) ∙ o)))
       (λ (short : k ≤ length f).
       let stop = w.answer [] after.phased in
       let last = stop.last in
@@ -122,9 +129,12 @@ All-front : (f : List ℕ) (bytes : List ℕ) → bytes ≡ f ++ 0 ∷ [] → Al
 All-front f bytes is h = subst (λ (x : List ℕ). All (λ b. b < 256) x) (ap (take (length f)) is ∙ take_at f (0 ∷ []) (length f) refl) (All-take (λ b. b < 256) (length f) bytes h)
 
 pub push_reads : {buffer bytes buffer' : List ℕ} {phase phase' : Phase} {result : Result (Option DecodeReport) PushError} → PushesBytes buffer phase bytes result buffer' phase' → All (λ b. b < 256) bytes
-    → (f m : List ℕ) → phase ≡ Idle → bytes ≡ f ++ 0 ∷ [] → IsPiece f → length (output f) ≤ length buffer → PushesMessage result buffer' m ↔ Reads f m
-push_reads {buffer} {bytes} {buffer'} {phase} {phase'} {result} w below f m idle is piece fits =
-    let front = All-front f bytes is below in (
-      pushes_from buffer bytes buffer' f phase phase' idle is front piece fits m result w,
-      pushes_to buffer bytes buffer' f phase phase' idle is front piece fits m result w,
-    )
+    → (f m : List ℕ) → phase ≡ Idle → bytes ≡ f ++ 0 ∷ [] → IsPiece f → PushesMessage result buffer' m ↔ (Reads f m × (length m ≤ length buffer))
+push_reads {buffer} {bytes} {buffer'} {phase} {phase'} {result} w below f m idle is piece =
+    let front = All-front f bytes is below in
+    reads_where_fits f m (length buffer) (PushesMessage result buffer' m)
+    (λ fits. (
+      pushes_from buffer bytes buffer' f phase phase' idle is front piece m fits result w,
+      pushes_to buffer bytes buffer' f phase phase' idle is front piece m fits result w,
+    ))
+    (λ more. pushes_long buffer bytes buffer' f phase phase' idle is front piece m more result w)

@@ -41,6 +41,10 @@ sized-fits p n fits =
 
 -- THE FIRST PIECE
 
+-- a length that is some other one, which isn't 0
+pub above_zero : {k n : ℕ} → k ≡ n → n ≢ 0 → 0 < k
+above_zero is some = omega (arith, is, some)
+
 module _ (source : List ℕ) (n : ℕ) (room : n ≡ length source) where
   abbrev Refused : Result (List ℕ) DecodeError → DecodeError → Type 0
   Refused answer error = (answer ≡ Err error) × (error ≢ TargetBufTooSmall)

@@ -4,7 +4,6 @@ ghost use Rattle.cobs.specs.Buffer.{overwritten};
 ghost use Rattle.cobs.specs.Decoding.{decode_answer, first_output};
 ghost use Rattle.cobs.specs.Grammar.{Reads};
 ghost use Rattle.cobs.specs.Headline.{IsPiece, ReportsMessage};
-ghost use Rattle.cobs.specs.Piece.{output};
 
 mod fit;
 mod frame_decoder;
@@ -74,8 +73,8 @@ fn decode_first(source: &[u8], dest: &mut [u8]) -> Result<DecodeReport, DecodeEr
 pub fn decode(source: &[u8], dest: &mut [u8]) -> Result<DecodeReport, DecodeError>
     ensures answer { result ≡ decode_answer source.now (length dest.old) }
     ensures buffer { dest.new ≡ overwritten dest.old (first_output source.now) }
-    ensures reads { IsPiece source.now → length (output source.now) ≤ length dest.old
-        → (m : List ℕ) → (ReportsMessage result dest.new m ↔ Reads source.now m) }
+    ensures reads { IsPiece source.now → (m : List ℕ)
+        → (ReportsMessage result dest.new m ↔ (Reads source.now m × (length m ≤ length dest.old))) }
 {
     decode_first(source, dest)
 }

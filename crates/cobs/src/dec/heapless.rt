@@ -5,7 +5,6 @@ ghost use Rattle.arrayvec.specs.ArrayVec.{array_vec_len};
 ghost use Rattle.cobs.specs.Decoder.{DecoderAfter, Feeds, Idle};
 ghost use Rattle.cobs.specs.Grammar.{Reads};
 ghost use Rattle.cobs.specs.Headline.{IsPiece, PushesMessage};
-ghost use Rattle.cobs.specs.Piece.{output};
 ghost use Rattle.cobs.specs.Push.{PushesBytes};
 ghost use Rattle.cobs.specs.Buffers.{heapless_buffer, heapless_phase, LendsHeapless};
 
@@ -79,8 +78,8 @@ impl<const N: usize> CobsDecoderHeapless<N> {
         ensures pushes { PushesBytes (heapless_buffer self.old) (heapless_phase self.old) bytes.now result
             (heapless_buffer self.new) (heapless_phase self.new) }
         ensures reads { (f m : List ℕ) → heapless_phase self.old ≡ Idle → bytes.now ≡ f ++ 0 ∷ [] → IsPiece f
-            → length (output f) ≤ length (heapless_buffer self.old)
-            → (PushesMessage result (heapless_buffer self.new) m ↔ Reads f m) }
+            → (PushesMessage result (heapless_buffer self.new) m
+            ↔ (Reads f m × (length m ≤ length (heapless_buffer self.old)))) }
     {
         self.inner.push(self.dest.as_mut_slice(), bytes)
     }

@@ -4,7 +4,6 @@ ghost use Rattle.std.specs.Borrow.{sem};
 ghost use Rattle.cobs.specs.Decoder.{DecoderAfter, Feeds, Idle};
 ghost use Rattle.cobs.specs.Grammar.{Reads};
 ghost use Rattle.cobs.specs.Headline.{IsPiece, PushesMessage};
-ghost use Rattle.cobs.specs.Piece.{output};
 ghost use Rattle.cobs.specs.Push.{PushesBytes};
 ghost use Rattle.cobs.specs.Buffers.{lent_buffer, lent_phase, lent_slice, LendsSlice};
 
@@ -71,8 +70,8 @@ impl<'a> CobsDecoder<'a> {
         ensures pushes { PushesBytes (lent_buffer self.old) (lent_phase self.old) bytes.now result
             (lent_buffer self.new) (lent_phase self.new) }
         ensures reads { (f m : List ℕ) → lent_phase self.old ≡ Idle → bytes.now ≡ f ++ 0 ∷ [] → IsPiece f
-            → length (output f) ≤ length (lent_buffer self.old)
-            → (PushesMessage result (lent_buffer self.new) m ↔ Reads f m) }
+            → (PushesMessage result (lent_buffer self.new) m
+            ↔ (Reads f m × (length m ≤ length (lent_buffer self.old)))) }
         ensures same_slice { lent_slice self.new ≡ lent_slice self.old }
     {
         self.inner.push(self.dest, bytes)

@@ -4,7 +4,6 @@ ghost use Rattle.std.specs.Borrow.{sem};
 ghost use Rattle.cobs.specs.Decoder.{DecoderAfter, Feeds, Idle};
 ghost use Rattle.cobs.specs.Grammar.{Reads};
 ghost use Rattle.cobs.specs.Headline.{IsPiece, PushesMessage};
-ghost use Rattle.cobs.specs.Piece.{output};
 ghost use Rattle.cobs.specs.Push.{PushesBytes};
 ghost use Rattle.cobs.specs.Buffers.{owned_buffer, owned_phase, LendsOwned};
 
@@ -68,8 +67,8 @@ impl CobsDecoderOwned {
         ensures pushes { PushesBytes (owned_buffer self.old) (owned_phase self.old) bytes.now result
             (owned_buffer self.new) (owned_phase self.new) }
         ensures reads { (f m : List ℕ) → owned_phase self.old ≡ Idle → bytes.now ≡ f ++ 0 ∷ [] → IsPiece f
-            → length (output f) ≤ length (owned_buffer self.old)
-            → (PushesMessage result (owned_buffer self.new) m ↔ Reads f m) }
+            → (PushesMessage result (owned_buffer self.new) m
+            ↔ (Reads f m × (length m ≤ length (owned_buffer self.old)))) }
     {
         self.inner.push(&mut self.dest, bytes)
     }

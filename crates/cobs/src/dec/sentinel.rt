@@ -4,7 +4,7 @@ ghost use Rattle.cobs.specs.Buffer.{overwritten};
 ghost use Rattle.cobs.specs.Decoding.{head_answer_within, source_answer};
 ghost use Rattle.cobs.specs.Grammar.{HasNoZero, Reads};
 ghost use Rattle.cobs.specs.Headline.{AnswersMessage, IsPiece};
-ghost use Rattle.cobs.specs.Piece.{kept_output, output};
+ghost use Rattle.cobs.specs.Piece.{kept_output};
 ghost use Rattle.cobs.specs.Sentinel.{xor_each};
 ghost use Rattle.cobs.specs.Stream.{head};
 
@@ -99,8 +99,8 @@ pub fn decode_with_sentinel(
 ) -> Result<usize, DecodeError>
     ensures answer { result ≡ source_answer (xor_each sentinel source.now) (length dest.old) }
     ensures buffer { dest.new ≡ overwritten dest.old (kept_output (head (xor_each sentinel source.now))) }
-    ensures reads { let f = xor_each sentinel source.now in IsPiece f → length (output f) ≤ length dest.old
-        → (m : List ℕ) → (AnswersMessage result dest.new m ↔ Reads f m) }
+    ensures reads { let f = xor_each sentinel source.now in IsPiece f → (m : List ℕ)
+        → (AnswersMessage result dest.new m ↔ (Reads f m × (length m ≤ length dest.old))) }
 {
     decode_source(source, dest, sentinel)
 }

@@ -1,8 +1,8 @@
-use Rattle.std.proofs.Common.{◌≡◌, ◌≢◌, ℕ, length, take, drop, refl, sym, ap, ◌∙◌, arith, take_at, bit_xor, Ok, rules}
+use Rattle.std.proofs.Common.{◌≡◌, ◌≢◌, ℕ, length, take, drop, refl, sym, ap, ◌∙◌, take_at, bit_xor, Ok, rules}
 use Rattle.std.proofs.lemmas.List.{length-map}
 use Rattle.std.proofs.lemmas.Bool.{eqb-false}
 use Rattle.cobs.specs.Sentinel.{xor_each}
-use Rattle.cobs.proofs.VectorSteps.{decoded_head-refused, decoded_head-message}
+use Rattle.cobs.proofs.VectorSteps.{above_zero, decoded_head-refused, decoded_head-message}
 use Rattle.cobs.proofs.dec.vector.message_of_front.Goals as goal
 
 pub returns-in-Ok-clause-message : goal.returns-in-Ok-clause-message
@@ -12,7 +12,7 @@ returns-in-Ok-clause-message c =
     let changed = length-map c.args.source.now (λ (b : ℕ). bit_xor b c.args.sentinel) in
     let same : length c.deref_mut.result.now ≡ length (xor_each c.args.sentinel c.args.source.now) = long ∙ sym changed in
     let new : length c.decode_with_sentinel.new.dest ≡ length c.deref_mut.result.now = c.decode_with_sentinel.auto.dest in
-    decoded_head-message (xor_each c.args.sentinel c.args.source.now) _ same c.in-Ok.len c.deref_mut.result.now c.decode_with_sentinel.new.dest (omega arith) refl (sym c.in-Ok.is ∙ c.decode_with_sentinel.ensures.answer) c.decode_with_sentinel.ensures.buffer
+    decoded_head-message (xor_each c.args.sentinel c.args.source.now) _ same c.in-Ok.len c.deref_mut.result.now c.decode_with_sentinel.new.dest (above_zero changed some) refl (sym c.in-Ok.is ∙ c.decode_with_sentinel.ensures.answer) c.decode_with_sentinel.ensures.buffer
     ∙ sym (ap Ok (c.truncate.ensures.items
     ∙ ap (take c.in-Ok.len) (take_at c.decode_with_sentinel.new.dest (drop (length c.decode_with_sentinel.new.dest) c.in_ok-message.message.items) c.in_ok-message.message.len (new ∙ c.deref_mut.ensures.len))))
 
@@ -22,7 +22,7 @@ returns-in-Err-clause-refused c =
     let long : length c.deref_mut.result.now ≡ length c.args.source.now = search rules in
     let changed = length-map c.args.source.now (λ (b : ℕ). bit_xor b c.args.sentinel) in
     let same : length c.deref_mut.result.now ≡ length (xor_each c.args.sentinel c.args.source.now) = long ∙ sym changed in
-    (decoded_head-refused (xor_each c.args.sentinel c.args.source.now) _ same c.in-Err.error (omega arith) (sym c.in-Err.is ∙ c.decode_with_sentinel.ensures.answer)).0
+    (decoded_head-refused (xor_each c.args.sentinel c.args.source.now) _ same c.in-Err.error (above_zero changed some) (sym c.in-Err.is ∙ c.decode_with_sentinel.ensures.answer)).0
 
 pub returns-in-Err-clause-room : goal.returns-in-Err-clause-room
 returns-in-Err-clause-room c =
@@ -30,5 +30,5 @@ returns-in-Err-clause-room c =
     let long : length c.deref_mut.result.now ≡ length c.args.source.now = search rules in
     let changed = length-map c.args.source.now (λ (b : ℕ). bit_xor b c.args.sentinel) in
     let same : length c.deref_mut.result.now ≡ length (xor_each c.args.sentinel c.args.source.now) = long ∙ sym changed in
-    let other = (decoded_head-refused (xor_each c.args.sentinel c.args.source.now) _ same c.in-Err.error (omega arith) (sym c.in-Err.is ∙ c.decode_with_sentinel.ensures.answer)).1 in
+    let other = (decoded_head-refused (xor_each c.args.sentinel c.args.source.now) _ same c.in-Err.error (above_zero changed some) (sym c.in-Err.is ∙ c.decode_with_sentinel.ensures.answer)).1 in
     λ e. other (cc)
