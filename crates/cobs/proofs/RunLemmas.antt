@@ -4,7 +4,7 @@ use Rattle.std.proofs.lemmas.List.{set-append_right, length_push, drop_more, tak
 use Rattle.std.proofs.Common.{length-drop, length-take, min}
 use Rattle.std.proofs.Math.Seq.{set-append_seam}
 use borrow.Rule.Slice.PartMut.{put_mid}
-use Rattle.cobs.specs.declared.dec.inner.CobsDecoderInner.{CobsDecoderInner}
+use Rattle.cobs.specs.declared.dec.unbuffered.UnbufferedDecoder.{UnbufferedDecoder}
 use Rattle.std.proofs.lemmas.List.Elements.{All-head, All-tail}
 use Rattle.std.proofs.lemmas.Bool.{ne_eqb, lt-ltb}
 use Rattle.cobs.specs.Grammar.{HasNoZero}
@@ -126,7 +126,7 @@ over-put : (count run : ℕ) (buffer xs : List ℕ) → length xs ≡ run → ov
 over-put count run buffer xs e = ap (λ (l : List ℕ). take count buffer ++ (xs ++ l)) (ap (λ (k : ℕ). drop k buffer) (omega arith) ∙ sym (drop-drop (count + run - count) count buffer))
 
 -- the same by one copy
-pub run_fed : (inner : CobsDecoderInner) (dest bytes ys : List ℕ) (run : ℕ) → inner.over ≡ false
+pub run_fed : (inner : UnbufferedDecoder) (dest bytes ys : List ℕ) (run : ℕ) → inner.over ≡ false
     → 0 < run → run ≤ inner.left → inner.dest_idx + run ≤ length dest → run ≤ length bytes → HasNoZero (take run bytes) → ys ≡ take run bytes
     → FedInTurn dest (phase_of inner) (take run bytes) (put_mid inner.dest_idx (inner.dest_idx + run - inner.dest_idx) dest ys)
     (phase_of (record { dest_idx = inner.dest_idx + run; left = inner.left - run; code = inner.code; over = inner.over }))

@@ -8,7 +8,7 @@ use borrow.Rule.Slice.PartMut.{put_mid}
 use Rattle.cobs.specs.Grammar.{HasNoZero, code_of, is_full}
 use Rattle.cobs.specs.Piece.{output, last_part, lacks, parts, parts_behind}
 use Rattle.cobs.specs.Decoder.{Phase, Idle, Within, Over}
-use Rattle.cobs.specs.declared.dec.inner.CobsDecoderInner.{CobsDecoderInner}
+use Rattle.cobs.specs.declared.dec.unbuffered.UnbufferedDecoder.{UnbufferedDecoder}
 use Rattle.cobs.specs.Buffers.{phase_of, phase_with}
 use Rattle.cobs.specs.Machine.{grows, next_phase, next_buffer, next_answer, end_answer, if_over, FedInTurn}
 use Rattle.cobs.proofs.PieceLemmas.{output-one, last_part-one, output-push_more, output-push_next, last_part-push_next, lacks-push_more, is_full-push_more}
@@ -192,7 +192,7 @@ some_fed : (full : Bool) (count : ℕ) (buffer piece : List ℕ) → HasNoZero p
 some_fed full count buffer [] h some room = absurd (omega arith)
 some_fed full count buffer (c ∷ q) h some room = FedInTurn-blocks full count buffer c q h room
 
-pub blocks_fed : (inner : CobsDecoderInner) (code left : ℕ) (dest dest₁ piece ys : List ℕ) (at written : ℕ) → inner.over ≡ false → inner.left ≡ 0
+pub blocks_fed : (inner : UnbufferedDecoder) (code left : ℕ) (dest dest₁ piece ys : List ℕ) (at written : ℕ) → inner.over ≡ false → inner.left ≡ 0
     → HasNoZero piece → 0 < length piece → at ≡ base_of (eqb inner.code 255) inner.dest_idx → dest₁ ≡ joined (eqb inner.code 255) inner.dest_idx dest → length dest₁ ≡ length dest → at + length (output piece) ≤ length dest
     → written ≡ length (output piece) → take written ys ≡ output piece → drop written ys ≡ drop written (take (length dest₁ - at) (drop at dest₁))
     → code ≡ code_of (last_part piece) → left ≡ lacks (last_part piece)

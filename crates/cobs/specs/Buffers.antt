@@ -1,4 +1,4 @@
--- What contracts see of the three streaming decoders: their buffers, and where they stand.
+-- What contracts see of the streaming decoders: their buffers, and where they stand.
 use Rattle.std.specs.Prelude.{ℕ, zero, suc, ◌==◌, Bool, true, false, List, [], if◌then◌else◌}
 use Rattle.std.specs.Borrow.{Lends, MutBor, Fml, RattleType, u8, Array}
 use Rattle.std.specs.Vec.{with_items}
@@ -12,7 +12,7 @@ use Rattle.cobs.specs.contracts.dec.lent.CobsDecoder.{the_row as lent_row}
 use Rattle.cobs.specs.contracts.dec.owned.CobsDecoderOwned.{the_row as owned_row}
 use Rattle.cobs.specs.contracts.dec.heapless.CobsDecoderHeapless.{the_row as heapless_row}
 use Rattle.cobs.specs.Decoder.{Phase, Idle, Within, Over}
-use Rattle.cobs.specs.declared.dec.inner.CobsDecoderInner.{CobsDecoderInner}
+use Rattle.cobs.specs.declared.dec.unbuffered.UnbufferedDecoder.{UnbufferedDecoder}
 
 -- the phase by the block, full or not, that lacks so many bytes, with so many bytes written: before a piece begins, it
 -- is as behind a full block, with nothing written
@@ -22,8 +22,8 @@ phase_with true (suc left) count = Within true (suc left) count
 phase_with true zero (suc count) = Within true zero (suc count)
 phase_with true zero zero = Idle
 
--- where the three decoders stand
-abbrev pub phase_of : CobsDecoderInner → Phase
+-- where a decoder stands whose buffer is passed to each call, as the three others do by the one in them
+abbrev pub phase_of : UnbufferedDecoder → Phase
 phase_of inner = if inner.over then Over else phase_with (inner.code == 255) inner.left inner.dest_idx
 
 -- the bytes of the slice that was lent to a `CobsDecoder`

@@ -1,5 +1,5 @@
--- One byte in any phase, as the private machine under the three streaming decoders takes it. The contracts of private
--- functions alone speak of it: the public ones say what is answered behind the front of a piece.
+-- One byte in any phase, as the decoder under the streaming ones takes it. The contracts of private functions alone
+-- speak of it: the public ones say what is answered behind the front of a piece.
 use Rattle.std.specs.Prelude.{◌≡◌, ℕ, zero, suc, ◌+◌, ◌-◌, ◌==◌, nat_lt, nat_le, Bool, true, false, List, [], ◌∷◌, length, slice_set, Option, Some, None, Result, Ok, Err, if◌then◌else◌}
 use Rattle.cobs.specs.Decoder.{Phase, Idle, Within, Over}
 use Rattle.cobs.specs.declared.dec.report.DecodeError.{DecodeError}

@@ -12,9 +12,10 @@ mod stream;
 
 pub use dec::{
     CobsDecoder, CobsDecoderHeapless, CobsDecoderOwned, DecodeError, DecodeReport, DecodeResult,
-    DecodeVecError, DecoderState, DecodingResult, FrameDecoder, FrameKind, PushError, WriteBuffer,
-    decode, decode_in_place, decode_in_place_report, decode_in_place_with_sentinel, decode_vec,
-    decode_vec_with_sentinel, decode_with_sentinel, frame_kind,
+    DecodeVecError, DecoderState, DecodingResult, FrameDecoder, FrameKind, PushError,
+    UnbufferedDecoder, WriteBuffer, decode, decode_in_place, decode_in_place_report,
+    decode_in_place_with_sentinel, decode_vec, decode_vec_with_sentinel, decode_with_sentinel,
+    frame_kind,
 };
 pub use enc::{
     CobsEncoder, DestBufTooSmallError, EncoderState, PushResult, encode,

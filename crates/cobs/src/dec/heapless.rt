@@ -9,8 +9,8 @@ ghost use Rattle.cobs.specs.Push.{PushesBytes};
 ghost use Rattle.cobs.specs.Buffers.{heapless_buffer, heapless_phase, LendsHeapless};
 
 use crate::dec::frame_decoder::FrameDecoder;
-use crate::dec::inner::CobsDecoderInner;
 use crate::dec::report::{DecodeError, DecodeReport, PushError};
+use crate::dec::unbuffered::UnbufferedDecoder;
 use crate::dec::write_buffer::WriteBuffer;
 use arrayvec::ArrayVec;
 
@@ -20,7 +20,7 @@ use arrayvec::ArrayVec;
 #[derive(Debug, Drop)]
 pub struct CobsDecoderHeapless<const N: usize> {
     dest: ArrayVec<u8, N>,
-    inner: CobsDecoderInner,
+    inner: UnbufferedDecoder,
 }
 
 impl<const N: usize> CobsDecoderHeapless<N> {
@@ -44,7 +44,7 @@ impl<const N: usize> CobsDecoderHeapless<N> {
         }
         CobsDecoderHeapless {
             dest,
-            inner: CobsDecoderInner::new(),
+            inner: UnbufferedDecoder::new(),
         }
     }
 
@@ -89,7 +89,7 @@ impl<const N: usize> CobsDecoderHeapless<N> {
         ensures buffer { heapless_buffer self.new ≡ heapless_buffer self.old }
         ensures idle { DecoderAfter (heapless_buffer self.new) (heapless_phase self.new) [] }
     {
-        self.inner = CobsDecoderInner::new();
+        self.inner = UnbufferedDecoder::new();
     }
 
     /// The whole buffer, `N` bytes.

@@ -8,8 +8,8 @@ ghost use Rattle.cobs.specs.Push.{PushesBytes};
 ghost use Rattle.cobs.specs.Buffers.{lent_buffer, lent_phase, lent_slice, LendsSlice};
 
 use crate::dec::frame_decoder::FrameDecoder;
-use crate::dec::inner::CobsDecoderInner;
 use crate::dec::report::{DecodeError, DecodeReport, PushError};
+use crate::dec::unbuffered::UnbufferedDecoder;
 use crate::dec::write_buffer::WriteBuffer;
 
 /// Decodes a stream of frames, each ended by a zero, into a slice that is lent to it.
@@ -21,7 +21,7 @@ use crate::dec::write_buffer::WriteBuffer;
 #[derive(Debug, Drop)]
 pub struct CobsDecoder<'a> {
     dest: &'a mut [u8],
-    inner: CobsDecoderInner,
+    inner: UnbufferedDecoder,
 }
 
 impl<'a> CobsDecoder<'a> {
@@ -33,7 +33,7 @@ impl<'a> CobsDecoder<'a> {
     {
         CobsDecoder {
             dest,
-            inner: CobsDecoderInner::new(),
+            inner: UnbufferedDecoder::new(),
         }
     }
 

@@ -8,8 +8,8 @@ ghost use Rattle.cobs.specs.Push.{PushesBytes};
 ghost use Rattle.cobs.specs.Buffers.{owned_buffer, owned_phase, LendsOwned};
 
 use crate::dec::frame_decoder::FrameDecoder;
-use crate::dec::inner::CobsDecoderInner;
 use crate::dec::report::{DecodeError, DecodeReport, PushError};
+use crate::dec::unbuffered::UnbufferedDecoder;
 use crate::dec::write_buffer::WriteBuffer;
 use std::alloc::{AllocError, Global};
 
@@ -19,7 +19,7 @@ use std::alloc::{AllocError, Global};
 #[derive(Debug, Drop)]
 pub struct CobsDecoderOwned {
     dest: Vec<u8>,
-    inner: CobsDecoderInner,
+    inner: UnbufferedDecoder,
 }
 
 impl CobsDecoderOwned {
@@ -33,7 +33,7 @@ impl CobsDecoderOwned {
     {
         Ok(CobsDecoderOwned {
             dest: vec![in alloc; 0; dest_buf_size]?,
-            inner: CobsDecoderInner::new(),
+            inner: UnbufferedDecoder::new(),
         })
     }
 
@@ -78,7 +78,7 @@ impl CobsDecoderOwned {
         ensures buffer { owned_buffer self.new ≡ owned_buffer self.old }
         ensures idle { DecoderAfter (owned_buffer self.new) (owned_phase self.new) [] }
     {
-        self.inner = CobsDecoderInner::new();
+        self.inner = UnbufferedDecoder::new();
     }
 
     /// The whole buffer.

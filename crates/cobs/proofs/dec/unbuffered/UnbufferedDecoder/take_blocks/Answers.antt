@@ -5,8 +5,8 @@ use Rattle.std.proofs.lemmas.List.{length-take}
 use Rattle.std.proofs.lemmas.List.Elements.{All-take, All-from_get_or}
 use Rattle.cobs.specs.Piece.{output}
 use Rattle.cobs.proofs.StretchLemmas.{base_of, joined, blocks_fed, code_small}
-use Rattle.cobs.proofs.dec.inner.CobsDecoderInner.take_blocks.Goals as goal
-use Rattle.cobs.proofs.dec.inner.CobsDecoderInner.take_blocks.Goals.{then-self, else-self+else-dest-self}
+use Rattle.cobs.proofs.dec.unbuffered.UnbufferedDecoder.take_blocks.Goals as goal
+use Rattle.cobs.proofs.dec.unbuffered.UnbufferedDecoder.take_blocks.Goals.{then-self, else-self+else-dest-self}
 
 pub overflow_cast-self : goal.overflow_cast-self
 overflow_cast-self c =

@@ -4,7 +4,7 @@ use Rattle.std.proofs.Math.Seq.{take-add}
 use Rattle.cobs.specs.Buffers.{phase_of}
 use Rattle.cobs.specs.Machine.{FedInTurn}
 use Rattle.cobs.proofs.StretchLemmas.{FedInTurn-append}
-use Rattle.cobs.proofs.dec.inner.CobsDecoderInner.take_stretch.Goals as goal
+use Rattle.cobs.proofs.dec.unbuffered.UnbufferedDecoder.take_stretch.Goals as goal
 
 pub returns-clause-fed : goal.returns-clause-fed
 returns-clause-fed c =

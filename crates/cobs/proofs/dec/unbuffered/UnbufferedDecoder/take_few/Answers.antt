@@ -2,8 +2,8 @@ use Rattle.std.proofs.Common.{◌≡◌, ◌+◌, ◌++◌, ℕ, List, [], ◌�
 use Rattle.std.proofs.lemmas.List.{take_more}
 use Rattle.std.proofs.lemmas.Bool.{ne_eqb, eq-eqb}
 use Rattle.cobs.proofs.StepLemmas.{fed-more, leads-byte, leads-chained, leads-joined}
-use Rattle.cobs.proofs.dec.inner.CobsDecoderInner.take_few.Goals as goal
-use Rattle.cobs.proofs.dec.inner.CobsDecoderInner.take_few.Goals.{then-left-ne0+else-dest-at, else-left-ne0, then-code+else-dest-at-2, else-code}
+use Rattle.cobs.proofs.dec.unbuffered.UnbufferedDecoder.take_few.Goals as goal
+use Rattle.cobs.proofs.dec.unbuffered.UnbufferedDecoder.take_few.Goals.{then-left-ne0+else-dest-at, else-left-ne0, then-code+else-dest-at-2, else-code}
 
 pub by_byte-preserved : goal.by_byte-preserved
 by_byte-preserved c =

@@ -1,4 +1,4 @@
-//! What the three streaming decoders share: the machine, over a buffer that is passed to each call.
+//! The streaming decoder whose buffer is passed to each call. The three others stand on it.
 ghost use Rattle.std.specs.Prelude.{◌≡◌, ◌<◌, ◌≤◌, ℕ, false, List, [], length, take, Err, IfOk, IfSome};
 ghost use Rattle.cobs.specs.Grammar.{HasNoZero};
 ghost use Rattle.cobs.specs.Decoder.{DecoderAfter, Feeds, Idle, Over};
@@ -19,13 +19,27 @@ const FEW: usize = 16;
 /// The code of a full block, as a byte.
 const FULL: u8 = FULL_CODE as u8;
 
-/// Where a streaming decoder stands.
+/// Decodes a stream of frames, each ended by a zero, into a buffer that the caller passes to each call.
 ///
-/// No field says whether a piece has begun: a code at its front is taken as one behind a full block is, which no zero
-/// joins to anything. So a byte that is no zero asks what its block lacks and, where it is a code, whether the block
-/// before it was full, and nothing else.
+/// It answers as [`CobsDecoder`](crate::CobsDecoder) does, and has no buffer of its own: a few words say where it stands.
+/// So one buffer can serve what else a program does between two calls, and a decoder can lie in a struct beside its
+/// buffer, or cross to another language.
+///
+/// As long as a piece is open, that is from its first byte to the zero that ends it, the caller passes one buffer, as the
+/// call before left it. Any other buffer is safe too, of whatever length: no call panics, or answers a message that is
+/// longer than the buffer. But what the piece is answered then, and which bytes the buffer holds, isn't said.
+///
+/// ```
+/// let mut decoder = UnbufferedDecoder::new();
+/// let mut buffer = [0; 64];
+/// let report = decoder.push(&mut buffer, b"\x06hello\0")?.unwrap();
+/// assert_eq!(rt; &buffer[..report.frame_size()], b"hello");
+/// ```
+// No field says whether a piece has begun: a code at its front is taken as one behind a full block is, which no zero
+// joins to anything. So a byte that is no zero asks what its block lacks and, where it is a code, whether the block
+// before it was full, and nothing else.
 #[derive(Debug, Drop)]
-pub(crate) struct CobsDecoderInner {
+pub struct UnbufferedDecoder {
     /// How many bytes of this piece's output are written.
     dest_idx: usize,
     /// How many bytes the block lacks.
@@ -36,13 +50,13 @@ pub(crate) struct CobsDecoderInner {
     over: bool,
 }
 
-impl CobsDecoderInner {
-    /// An idle machine.
-    pub(crate) fn new() -> Self
+impl UnbufferedDecoder {
+    /// An idle decoder, for a buffer of any length, also an empty one.
+    pub fn new() -> Self
         ensures idle { phase_of result ≡ Idle }
         ensures after { (buffer : List ℕ) → DecoderAfter buffer (phase_of result) [] }
     {
-        CobsDecoderInner {
+        UnbufferedDecoder {
             dest_idx: 0,
             left: 0,
             code: FULL,
@@ -57,7 +71,7 @@ impl CobsDecoderInner {
         ensures idle { phase_of self.new ≡ Idle }
         ensures bound { IfOk result (λ found. IfSome found (λ n. n ≤ len)) }
     {
-        let ended = mem::replace(self, CobsDecoderInner::new());
+        let ended = mem::replace(self, UnbufferedDecoder::new());
         if ended.over {
             return Err(DecodeError::TargetBufTooSmall);
         }
@@ -122,8 +136,26 @@ impl CobsDecoderInner {
         Ok(None)
     }
 
-    /// Takes the next byte of the stream.
-    pub(crate) fn feed(&mut self, dest: &mut [u8], byte: u8) -> Result<Option<usize>, DecodeError>
+    /// Makes the decoder idle, so that the next byte begins a new piece.
+    pub fn reset(&mut self)
+        ensures idle { phase_of self.new ≡ Idle }
+        ensures after { (buffer : List ℕ) → DecoderAfter buffer (phase_of self.new) [] }
+    {
+        *self = UnbufferedDecoder::new();
+    }
+
+    /// Takes the next byte of the stream, over this buffer.
+    ///
+    /// `Ok(None)`: no piece has ended, and the output of this piece so far fits the buffer, which begins with it.
+    /// `Ok(Some(n))`: the byte was the zero behind a whole frame, and the message is the buffer's first `n` bytes. All
+    /// other bytes of the buffer are as they were.
+    ///
+    /// # Errors
+    /// `InvalidFrame`: the byte was a zero inside a block; `decoded_bytes` counts the piece's output, which stands at
+    /// the front of the buffer. `TargetBufTooSmall`: the output of the piece is longer than the buffer, which holds its
+    /// first bytes; that is the answer to each byte from the one that finds no room through the zero. After every zero
+    /// the decoder is idle. (What is answered after an overflow is a choice of this library.)
+    pub fn feed(&mut self, dest: &mut [u8], byte: u8) -> Result<Option<usize>, DecodeError>
         ensures { Feeds dest.old (phase_of self.old) byte result dest.new (phase_of self.new) }
     {
         self.step(dest, byte)
@@ -250,12 +282,17 @@ impl CobsDecoderInner {
         self.take_stretch(dest, &bytes[..end])
     }
 
-    /// Takes bytes of the stream up to the first answer that isn't `Ok(None)`.
-    pub(crate) fn push(
-        &mut self,
-        dest: &mut [u8],
-        bytes: &[u8],
-    ) -> Result<Option<DecodeReport>, PushError>
+    /// Takes bytes of the stream, over this buffer, up to the first one whose answer by `feed` isn't `Ok(None)`.
+    ///
+    /// `Ok(None)`: all bytes were taken, and no piece has ended in them. `Ok(Some(report))`: a whole frame has ended;
+    /// `frame_size` is the length of its message, which stands at the front of the buffer, and `parsed_size` counts
+    /// the bytes that were taken, the zero behind the frame included. The others are not looked at: push them next.
+    ///
+    /// # Errors
+    /// A `PushError` has the error of `feed` and how many bytes were taken, the one that raised it included.
+    /// Pushing the bytes behind these goes on with the stream: a piece whose zero raised the error is over, and
+    /// while a piece is too long for the buffer, each push of its bytes takes one, through its zero.
+    pub fn push(&mut self, dest: &mut [u8], bytes: &[u8]) -> Result<Option<DecodeReport>, PushError>
         ensures { PushesBytes dest.old (phase_of self.old) bytes.now result dest.new (phase_of self.new) }
     {
         let mut at = 0;

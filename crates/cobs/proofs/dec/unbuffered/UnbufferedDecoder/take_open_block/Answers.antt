@@ -1,7 +1,7 @@
 use Rattle.std.proofs.Common.{◌≢◌, arith}
 use Rattle.std.proofs.lemmas.List.Elements.{All-take}
 use Rattle.cobs.proofs.RunLemmas.{run_fed}
-use Rattle.cobs.proofs.dec.inner.CobsDecoderInner.take_open_block.Goals as goal
+use Rattle.cobs.proofs.dec.unbuffered.UnbufferedDecoder.take_open_block.Goals as goal
 
 pub returns-clause-fed : goal.returns-clause-fed
 returns-clause-fed c =

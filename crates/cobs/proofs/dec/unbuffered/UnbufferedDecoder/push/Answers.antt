@@ -2,8 +2,8 @@ use Rattle.std.proofs.Common.{◌+◌, ◌-◌, ◌∙◌, ap, arith, Ok, length
 use Rattle.cobs.specs.Buffers.{phase_of}
 use Rattle.cobs.proofs.PushLemmas.{Pushed, Pushed-start, Pushed-more, pushed_none, pushed_some, pushed_error}
 use Rattle.cobs.proofs.RunLemmas.{Pushed-ran}
-use Rattle.cobs.proofs.dec.inner.CobsDecoderInner.push.Goals as goal
-use Rattle.cobs.proofs.dec.inner.CobsDecoderInner.push.Goals.{After-take_run-at}
+use Rattle.cobs.proofs.dec.unbuffered.UnbufferedDecoder.push.Goals as goal
+use Rattle.cobs.proofs.dec.unbuffered.UnbufferedDecoder.push.Goals.{After-take_run-at}
 
 pub by_run-init : goal.by_run-init
 by_run-init c = record { within = omega arith; pushed = Pushed-start _ _ _ }

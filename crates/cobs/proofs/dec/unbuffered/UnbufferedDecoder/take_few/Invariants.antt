@@ -1,7 +1,7 @@
 use Rattle.std.proofs.Common.{eqb, ◌≤◌, ◌-◌, length, take}
 use Rattle.cobs.specs.Buffers.{phase_of, phase_with}
 use Rattle.cobs.specs.Machine.{FedInTurn}
-use Rattle.cobs.proofs.dec.inner.CobsDecoderInner.take_few.Given as goal
+use Rattle.cobs.proofs.dec.unbuffered.UnbufferedDecoder.take_few.Given as goal
 
 -- the run so far is taken
 abbrev pub invariant-by_byte : goal.invariant-by_byte
