@@ -1,10 +1,12 @@
 -- Lemmas on frames for another sentinel, and on frames between sentinels.
-use Rattle.std.proofs.Common.{◌≡◌, ℕ, suc, ◌+◌, ◌<◌, ◌≤◌, List, [], ◌∷◌, ◌++◌, length, drop, take, set, refl, sym, ap, ◌∙◌, subst, arith, take_at, length-take-le, take-append-drop}
+use Rattle.std.proofs.Common.{◌≡◌, ◌≢◌, ℕ, ◌-◌, length-append, suc, ◌+◌, ◌<◌, ◌≤◌, List, [], ◌∷◌, ◌++◌, length, drop, take, set, refl, sym, ap, ◌∙◌, subst, arith, take_at, length-take-le, take-append-drop}
 use borrow.Rule.Slice.PartMut.{put_mid}
 use Rattle.std.specs.Int.Bits.{bit_xor, xor_assoc, xor_self, xor_zero_r}
 use Rattle.std.proofs.lemmas.List.{length-map, drop-append-le, drop-drop, drop-set-lt}
-use Rattle.cobs.specs.Grammar.{IsEncodedFrame}
-use Rattle.cobs.specs.Sentinel.{xor_each}
+use Rattle.std.proofs.lemmas.List.Elements.{All-map, All-weaker}
+use Rattle.cobs.specs.Grammar.{HasNoZero, IsEncodedFrame}
+use Rattle.cobs.specs.Sentinel.{xor_each, IsEncodedFrameFor, IsDelimitedFrame, IsFreeOf, between_ends}
+use Rattle.cobs.proofs.FrameLemmas.{frame_nonzero}
 
 -- exclusive or with the same byte twice changes nothing
 pub xor_twice : (b s : ℕ) → bit_xor (bit_xor b s) s ≡ b
@@ -35,3 +37,19 @@ behind_sentinels (x ∷ xs) part k n short len within behind =
     ∙ sym (drop-append-le n (take k xs) (drop k xs) (omega arith)) ∙ ap (drop n) (take-append-drop k xs) in
     drop-set-lt (n + 2) (0 ∷ after) (n + 1) 0 (omega arith) ∙ ap (λ (i : ℕ). drop i (0 ∷ after)) two
     ∙ sym (drop-drop 1 n after) ∙ ap (drop 1) same ∙ drop-drop 1 n xs ∙ ap (λ (i : ℕ). drop i (x ∷ xs)) (sym two)
+
+-- FREE OF THE SENTINEL
+
+pub encoded_nonzero : {f m : List ℕ} → IsEncodedFrame f m → HasNoZero f
+encoded_nonzero {f} {m} e = frame_nonzero f m e.reads
+
+-- a frame for the sentinel s
+pub encoded_free : (s : ℕ) (f : List ℕ) {m : List ℕ} → IsEncodedFrameFor s f m → IsFreeOf s f
+encoded_free s f {m} e = subst (IsFreeOf s) (xor_each-twice s f) (All-map (λ b. b ≢ s) (λ b. bit_xor b s) (xor_each s f)
+    (All-weaker (λ x. x ≢ 0) (λ x. bit_xor x s ≢ s) (λ x some is. some (sym (xor_twice x s) ∙ ap (λ (y : ℕ). bit_xor y s) is ∙ xor_self s)) (xor_each s f) (encoded_nonzero e)))
+
+-- a frame between two sentinels
+pub delimited_nonzero : {bytes m : List ℕ} → IsDelimitedFrame bytes m → HasNoZero (between_ends bytes)
+delimited_nonzero {bytes} {m} (f, e, is) =
+    let len : length bytes - 1 - 1 ≡ length f = (let l = ap length is in let k = length-append f (0 ∷ []) in omega arith) in
+    subst HasNoZero (sym (ap (λ (x : List ℕ). take (length bytes - 1 - 1) (drop 1 x)) is ∙ ap (λ (n : ℕ). take n (f ++ 0 ∷ [])) len ∙ take_at f (0 ∷ []) (length f) refl)) (encoded_nonzero e)

@@ -1,10 +1,15 @@
 -- Frames for another sentinel than 0, and frames between sentinels.
-use Rattle.std.specs.Prelude.{◌≡◌, ℕ, List, [], ◌∷◌, ◌++◌, map, bit_xor}
+use Rattle.std.specs.Prelude.{◌≡◌, ◌≢◌, ◌-◌, ℕ, List, [], ◌∷◌, ◌++◌, length, map, bit_xor, All}
+use Rattle.std.specs.List.{slice_range}
 use Rattle.cobs.specs.Grammar.{IsEncodedFrame}
 
 -- each byte changed by exclusive or with s; a frame for the sentinel s is a frame for 0 so changed, and the other way round
 abbrev pub xor_each : ℕ → List ℕ → List ℕ
 xor_each s bytes = map (λ byte. bit_xor byte s) bytes
+
+-- no byte of the list is the sentinel s
+abbrev pub IsFreeOf : ℕ → List ℕ → Type 0
+IsFreeOf s bytes = All (λ byte. byte ≢ s) bytes
 
 -- f is the frame that encoders give for m and the sentinel s
 abbrev pub IsEncodedFrameFor : ℕ → List ℕ → List ℕ → Type 0
@@ -13,3 +18,7 @@ IsEncodedFrameFor s f m = IsEncodedFrame (xor_each s f) m
 -- the bytes are the frame that encoders give for m, between two sentinels
 abbrev pub IsDelimitedFrame : List ℕ → List ℕ → Type 0
 IsDelimitedFrame bytes m = (f : List ℕ) × IsEncodedFrame f m × (bytes ≡ 0 ∷ f ++ 0 ∷ [])
+
+-- what stands between the first byte of a list and its last
+abbrev pub between_ends : List ℕ → List ℕ
+between_ends bytes = slice_range bytes 1 (length bytes - 1)

@@ -1,6 +1,6 @@
 //! Encoding: from messages to frames.
 ghost use Rattle.std.specs.Prelude.{◌≡◌, ◌≤◌, ◌↔◌, length, take, drop, IsOk, IfOk, OnErr};
-ghost use Rattle.cobs.specs.Grammar.{IsEncodedFrame};
+ghost use Rattle.cobs.specs.Grammar.{HasNoZero, IsEncodedFrame};
 ghost use Rattle.cobs.specs.Length.{encoded_len};
 
 mod blocks;
@@ -37,6 +37,7 @@ pub(crate) use window::{WINDOW, copy_window};
 pub fn encode(source: &[u8], dest: &mut [u8]) -> usize
     requires { encoded_len source.now ≤ length dest.old }
     ensures frame { IsEncodedFrame (take result dest.new) source.now }
+    ensures no_sentinel { HasNoZero (take result dest.new) }
     ensures len { result ≡ encoded_len source.now }
     ensures rest { drop result dest.new ≡ drop result dest.old }
 {
@@ -51,6 +52,7 @@ pub fn encode(source: &[u8], dest: &mut [u8]) -> usize
 pub fn try_encode(source: &[u8], dest: &mut [u8]) -> Result<usize, DestBufTooSmallError>
     ensures fits { IsOk result ↔ (encoded_len source.now ≤ length dest.old) }
     ensures frame { IfOk result (λ n. IsEncodedFrame (take n dest.new) source.now) }
+    ensures no_sentinel { IfOk result (λ n. HasNoZero (take n dest.new)) }
     ensures len { IfOk result (λ n. n ≡ encoded_len source.now) }
     ensures rest { IfOk result (λ n. drop n dest.new ≡ drop n dest.old) }
     ensures refused { OnErr result (dest.new ≡ dest.old) }

@@ -20,7 +20,7 @@ pub struct CobsEncoder<'a> {
 
 impl<'a> CobsEncoder<'a> {
     ghost use Rattle.std.specs.Prelude.{◌≡◌, ◌<◌, ◌≤◌, ◌++◌, ◌↔◌, [], ℕ, List, length, take, drop, IsOk, OnOk, OnErr};
-    ghost use Rattle.cobs.specs.Grammar.{IsEncodedFrame};
+    ghost use Rattle.cobs.specs.Grammar.{HasNoZero, IsEncodedFrame};
     ghost use Rattle.cobs.specs.Length.{encoded_len};
     ghost use Rattle.cobs.specs.CobsEncoder.{slice_of, HasTaken, WritesTo, IsOverSameSlice, IsUnchanged};
 
@@ -72,6 +72,7 @@ impl<'a> CobsEncoder<'a> {
     pub fn finalize(self) -> usize
         ensures len { (m : List ℕ) → HasTaken self.entry m → result ≡ encoded_len m }
         ensures frame { (m : List ℕ) → HasTaken self.entry m → IsEncodedFrame (take result self.exit.0.now) m }
+        ensures no_sentinel { (m : List ℕ) → HasTaken self.entry m → HasNoZero (take result self.exit.0.now) }
         ensures rest { drop result self.exit.0.now ≡ drop result (slice_of self.entry) }
     {
         let CobsEncoder { dest, progress } = self;

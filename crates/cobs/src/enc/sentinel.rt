@@ -1,7 +1,8 @@
 //! Frames for another sentinel than 0, and frames between sentinels.
 ghost use Rattle.std.specs.Prelude.{◌≡◌, ◌≤◌, ◌+◌, ◌↔◌, length, take, drop, IsOk, IfOk, OnErr};
 ghost use Rattle.cobs.specs.Length.{encoded_len};
-ghost use Rattle.cobs.specs.Sentinel.{xor_each, IsEncodedFrameFor, IsDelimitedFrame};
+ghost use Rattle.cobs.specs.Grammar.{HasNoZero};
+ghost use Rattle.cobs.specs.Sentinel.{xor_each, IsEncodedFrameFor, IsDelimitedFrame, IsFreeOf, between_ends};
 
 use crate::enc::error::DestBufTooSmallError;
 use crate::enc::{encode, try_encode};
@@ -16,6 +17,7 @@ use crate::enc::{encode, try_encode};
 pub fn encode_with_sentinel(source: &[u8], dest: &mut [u8], sentinel: u8) -> usize
     requires { encoded_len source.now ≤ length dest.old }
     ensures frame { IsEncodedFrameFor sentinel (take result dest.new) source.now }
+    ensures no_sentinel { IsFreeOf sentinel (take result dest.new) }
     ensures len { result ≡ encoded_len source.now }
     ensures rest { drop result dest.new ≡ drop result dest.old }
 {
@@ -41,6 +43,7 @@ pub(crate) fn xor_bytes(bytes: &mut [u8], sentinel: u8)
 pub fn encode_including_sentinels(source: &[u8], dest: &mut [u8]) -> usize
     requires { encoded_len source.now + 2 ≤ length dest.old }
     ensures frame { IsDelimitedFrame (take result dest.new) source.now }
+    ensures no_sentinel { HasNoZero (between_ends (take result dest.new)) }
     ensures len { result ≡ encoded_len source.now + 2 }
     ensures rest { drop result dest.new ≡ drop result dest.old }
 {
@@ -60,6 +63,7 @@ pub fn try_encode_including_sentinels(
 ) -> Result<usize, DestBufTooSmallError>
     ensures fits { IsOk result ↔ (encoded_len source.now + 2 ≤ length dest.old) }
     ensures frame { IfOk result (λ n. IsDelimitedFrame (take n dest.new) source.now) }
+    ensures no_sentinel { IfOk result (λ n. HasNoZero (between_ends (take n dest.new))) }
     ensures len { IfOk result (λ n. n ≡ encoded_len source.now + 2) }
     ensures rest { IfOk result (λ n. drop n dest.new ≡ drop n dest.old) }
     ensures refused { OnErr result (dest.new ≡ dest.old) }

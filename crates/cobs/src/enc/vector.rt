@@ -1,8 +1,8 @@
 //! Frames in vectors of their own.
 ghost use Rattle.std.specs.Prelude.{◌<◌, ◌+◌, ◌^◌, length, IfOk};
-ghost use Rattle.cobs.specs.Grammar.{IsEncodedFrame};
+ghost use Rattle.cobs.specs.Grammar.{HasNoZero, IsEncodedFrame};
 ghost use Rattle.cobs.specs.Length.{max_encoded_len};
-ghost use Rattle.cobs.specs.Sentinel.{IsEncodedFrameFor, IsDelimitedFrame};
+ghost use Rattle.cobs.specs.Sentinel.{IsEncodedFrameFor, IsDelimitedFrame, IsFreeOf, between_ends};
 
 use crate::enc::encode;
 use crate::enc::sentinel::{encode_including_sentinels, encode_with_sentinel};
@@ -16,7 +16,8 @@ use std::alloc::{AllocError, Global};
 #[tactic(auto, using(crate::proofs::LengthLemmas::bounds))]
 pub fn encode_vec(alloc: Global, source: &[u8]) -> Result<Vec<u8>, AllocError>
     requires { max_encoded_len (length source.now) < 2 ^ 64 }
-    ensures { IfOk result (λ bytes. IsEncodedFrame bytes.items source.now) }
+    ensures frame { IfOk result (λ bytes. IsEncodedFrame bytes.items source.now) }
+    ensures no_sentinel { IfOk result (λ bytes. HasNoZero bytes.items) }
 {
     let mut frame = vec![in alloc; 0; max_encoding_length(source.len())]?;
     let len = encode(source, &mut frame);
@@ -31,7 +32,8 @@ pub fn encode_vec(alloc: Global, source: &[u8]) -> Result<Vec<u8>, AllocError>
 #[tactic(auto, using(crate::proofs::LengthLemmas::bounds))]
 pub fn encode_vec_including_sentinels(alloc: Global, source: &[u8]) -> Result<Vec<u8>, AllocError>
     requires { max_encoded_len (length source.now) + 2 < 2 ^ 64 }
-    ensures { IfOk result (λ bytes. IsDelimitedFrame bytes.items source.now) }
+    ensures frame { IfOk result (λ bytes. IsDelimitedFrame bytes.items source.now) }
+    ensures no_sentinel { IfOk result (λ bytes. HasNoZero (between_ends bytes.items)) }
 {
     let mut delimited = vec![in alloc; 0; max_encoding_length(source.len()) + 2]?;
     let len = encode_including_sentinels(source, &mut delimited);
@@ -51,7 +53,8 @@ pub fn encode_vec_with_sentinel(
     sentinel: u8,
 ) -> Result<Vec<u8>, AllocError>
     requires { max_encoded_len (length source.now) < 2 ^ 64 }
-    ensures { IfOk result (λ bytes. IsEncodedFrameFor sentinel bytes.items source.now) }
+    ensures frame { IfOk result (λ bytes. IsEncodedFrameFor sentinel bytes.items source.now) }
+    ensures no_sentinel { IfOk result (λ bytes. IsFreeOf sentinel bytes.items) }
 {
     let mut changed = vec![in alloc; 0; max_encoding_length(source.len())]?;
     let len = encode_with_sentinel(source, &mut changed, sentinel);

@@ -2,6 +2,7 @@ use Rattle.std.proofs.Common.{[], sym, ◌∙◌, subst, arith}
 use Rattle.cobs.specs.Encoder.{CobsEncoderAfter, Reached}
 use Rattle.cobs.proofs.AfterLemmas.{end-is}
 use Rattle.cobs.proofs.CoreLemmas.{after-nothing}
+use Rattle.cobs.proofs.SentinelLemmas.{encoded_nonzero}
 use Rattle.cobs.proofs.enc.encode.Goals as goal
 
 pub returns-clause-frame : goal.returns-clause-frame
@@ -13,3 +14,6 @@ pub returns-clause-len : goal.returns-clause-len
 returns-clause-len c =
     let start = subst (λ (r : Reached). CobsEncoderAfter c.args.dest.now r []) (sym c.new-progress.ensures) (after-nothing c.args.dest.now (omega arith)) in
     c.close.ensures.end ∙ sym (end-is c.append.new.dest c.args.source.now c.append.new.progress (c.append.ensures.after [] start))
+
+pub returns-clause-no_sentinel : goal.returns-clause-no_sentinel
+returns-clause-no_sentinel c = encoded_nonzero (returns-clause-frame c)

@@ -1,0 +1,10 @@
+use Rattle.std.proofs.Common.{arith}
+use Rattle.std.proofs.lemmas.Grind.{common_steps}
+use Rattle.cobs.proofs.SentinelLemmas.{delimited_nonzero}
+use Rattle.cobs.proofs.enc.sentinel.encode_including_sentinels.Goals as goal
+
+pub returns-clause-frame : goal.returns-clause-frame
+returns-clause-frame c = grind (arith, common_steps)
+
+pub returns-clause-no_sentinel : goal.returns-clause-no_sentinel
+returns-clause-no_sentinel c = delimited_nonzero (returns-clause-frame c)
