@@ -1,5 +1,5 @@
 #!/bin/sh
-# Builds the library for C and the driver, compares every answer with the state machine's, and measures.
+# Builds the measured library, `cobs_bench`, and the driver, compares every answer with the state machine's, and measures.
 #
 #     bench/run.sh           prints the tables
 #     bench/run.sh check     compares, and measures nothing
@@ -18,13 +18,13 @@ out=$here/out
 PATH=$PATH:/opt/rattle/bin
 mkdir -p "$out"
 for step in check lib; do
-    (cd "$top/crates/cobs_c" && rt $step >"$out/$step.log" 2>&1) || { tail -20 "$out/$step.log"; exit 1; }
+    (cd "$top/crates/cobs_bench" && rt $step >"$out/$step.log" 2>&1) || { tail -20 "$out/$step.log"; exit 1; }
 done
 build() { # NAME PLACE FLAG..
     name=$1-$2
     export PLACE=$2
     shift 2
-    rustc --edition 2024 -O "$@" -L "native=$top/crates/cobs_c/out" -l static=cobs_c -o "$out/driver-$name" "$here/src/main.rs"
+    rustc --edition 2024 -O "$@" -L "native=$top/crates/cobs_bench/out" -l static=cobs_bench -o "$out/driver-$name" "$here/src/main.rs"
 }
 places="0 16 32 48"
 for place in $places; do

@@ -2,7 +2,7 @@
 ghost use Rattle.std.specs.Prelude.{◌≡◌, ◌≤◌, ◌<◌, ◌+◌, length, take, drop};
 ghost use Rattle.cobs.specs.Grammar.{IsEncodedFrame};
 ghost use Rattle.cobs.specs.Length.{encoded_len};
-ghost use Rattle.cobs_c.specs.Tally.{chunk_len, outcomes_to_end, tallied};
+ghost use Rattle.cobs_bench.specs.Tally.{chunk_len, outcomes_to_end, tallied};
 
 use crate::answer::{Answer, OK, TOO_SMALL, status_of};
 use cobs::{CobsDecoder, CobsEncoder};

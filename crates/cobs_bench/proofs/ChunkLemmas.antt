@@ -3,7 +3,7 @@ use Rattle.std.proofs.Common.{◌≡◌, ℕ, zero, suc, ◌+◌, ◌-◌, ◌�
 use Rattle.std.proofs.lemmas.Bool.{ne_eqb}
 use Rattle.std.proofs.lemmas.List.{take-take}
 use Rattle.cobs.specs.Length.{encoded_len}
-use Rattle.cobs_c.specs.Tally.{chunk_len}
+use Rattle.cobs_bench.specs.Tally.{chunk_len}
 use Rattle.cobs.proofs.RoomLemmas.{encoded_len-longer}
 
 take-nil : (n : ℕ) → take {A = ℕ} n [] ≡ []

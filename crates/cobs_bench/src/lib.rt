@@ -1,6 +1,6 @@
-//! The library for C: one function for each call, over slices and a plain struct.
+//! What `bench/` measures: one function for each call, over slices and a plain struct, as a static library.
 //!
-//! `include/cobs.h` declares them and says what a C caller owes. Nothing checks that he keeps to it.
+//! The driver of `bench/` is no Rattle, and nothing checks that it keeps to what a function requires.
 #![tactic(auto)]
 
 ghost use Rattle.std.specs.Prelude.{◌≡◌, ◌≤◌, ◌<◌, ◌^◌, length, take, drop};
@@ -8,7 +8,7 @@ ghost use Rattle.cobs.specs.Grammar.{IsEncodedFrame};
 ghost use Rattle.cobs.specs.Length.{encoded_len, max_encoded_len};
 ghost use Rattle.cobs.specs.Buffer.{overwritten};
 ghost use Rattle.cobs.specs.Decoding.{decode_answer, first_output, in_place, in_place_report};
-ghost use Rattle.cobs_c.specs.Answer.{answer_of};
+ghost use Rattle.cobs_bench.specs.Answer.{answer_of};
 
 mod answer;
 mod streams;

@@ -17,10 +17,10 @@ use Rattle.cobs.proofs.StreamLemmas.{stream_outcomes-append, unended-append, une
 use Rattle.cobs.proofs.PieceCuts.{output-empty}
 use Rattle.cobs.proofs.OutcomeLemmas.{output_within}
 use Rattle.cobs.proofs.PushLemmas.{output-longer}
-use Rattle.cobs_c.specs.Answer.{refusal_of}
-use Rattle.cobs_c.specs.Tally.{tallied, outcomes_to_end}
-use Rattle.cobs_c.specs.declared.answer.Answer.{Answer}
-use Rattle.cobs_c.specs.declared.answer.TheConstants.{OK, TOO_SMALL}
+use Rattle.cobs_bench.specs.Answer.{refusal_of}
+use Rattle.cobs_bench.specs.Tally.{tallied, outcomes_to_end}
+use Rattle.cobs_bench.specs.declared.answer.Answer.{Answer}
+use Rattle.cobs_bench.specs.declared.answer.TheConstants.{OK, TOO_SMALL}
 
 not-leb : (m n : ℕ) → n < m → leb m n ≡ false
 not-leb m n lt = at_test (leb m n) refl

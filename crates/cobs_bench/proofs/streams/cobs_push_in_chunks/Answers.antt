@@ -1,11 +1,11 @@
 use Rattle.std.proofs.Common.{◌<◌, ◌≤◌, ◌+◌, ◌-◌, ◌++◌, [], ◌∙◌, ℕ, List, length, take, drop, Ok, ap, subst, arith, length-take-le, length-drop}
 use Rattle.cobs.specs.Buffers.{lent_buffer, lent_phase}
 use Rattle.cobs.specs.Report.{parsed_size_of, frame_size_of}
-use Rattle.cobs_c.specs.Tally.{tallied, outcomes_to_end}
-use Rattle.cobs_c.proofs.ChunkLemmas.{take-to, take-within, take-rest}
-use Rattle.cobs_c.proofs.TallyLemmas.{TalliedTo, tally-start, tally-bound, pushed-none, pushed-some, pushed-size, pushed-refused}
-use Rattle.cobs_c.proofs.streams.cobs_push_in_chunks.Goals as goal
-use Rattle.cobs_c.proofs.streams.cobs_push_in_chunks.Goals.{then-at-end, else-at-end}
+use Rattle.cobs_bench.specs.Tally.{tallied, outcomes_to_end}
+use Rattle.cobs_bench.proofs.ChunkLemmas.{take-to, take-within, take-rest}
+use Rattle.cobs_bench.proofs.TallyLemmas.{TalliedTo, tally-start, tally-bound, pushed-none, pushed-some, pushed-size, pushed-refused}
+use Rattle.cobs_bench.proofs.streams.cobs_push_in_chunks.Goals as goal
+use Rattle.cobs_bench.proofs.streams.cobs_push_in_chunks.Goals.{then-at-end, else-at-end}
 
 pub by_push-init : goal.by_push-init
 by_push-init c =

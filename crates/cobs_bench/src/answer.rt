@@ -35,7 +35,7 @@ pub(crate) fn status_of(error: &DecodeError) -> u32
     }
 }
 
-ghost use Rattle.cobs_c.specs.Answer.{answer_of, refusal_of};
+ghost use Rattle.cobs_bench.specs.Answer.{answer_of, refusal_of};
 
 /// The answer for what a decoding call answers.
 pub(crate) fn answer_of(decoded: Result<DecodeReport, DecodeError>) -> Answer

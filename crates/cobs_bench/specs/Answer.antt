@@ -4,8 +4,8 @@ use Rattle.cobs.specs.Report.{parsed_size_of, frame_size_of}
 use Rattle.cobs.specs.declared.dec.report.DecodeReport.{DecodeReport}
 use Rattle.cobs.specs.declared.dec.report.DecodeError.{DecodeError}
 use Rattle.cobs.specs.declared.dec.report.DecodeError.TheVariants.{EmptyFrame, InvalidFrame, TargetBufTooSmall}
-use Rattle.cobs_c.specs.declared.answer.Answer.{Answer}
-use Rattle.cobs_c.specs.declared.answer.TheConstants.{OK, TOO_SMALL, BROKEN, EMPTY}
+use Rattle.cobs_bench.specs.declared.answer.Answer.{Answer}
+use Rattle.cobs_bench.specs.declared.answer.TheConstants.{OK, TOO_SMALL, BROKEN, EMPTY}
 
 -- the answer for a refusal, behind so many bytes that were consumed for good and so many that they gave
 abbrev pub refusal_of : DecodeError → Answer

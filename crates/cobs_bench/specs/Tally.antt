@@ -2,8 +2,8 @@
 use Rattle.std.specs.Prelude.{ℕ, ◌+◌, ◌==◌, nat_le, List, [], ◌∷◌, ◌++◌, length, if◌then◌else◌}
 use Rattle.cobs.specs.Piece.{output}
 use Rattle.cobs.specs.Stream.{Outcome, Message, Broken, TooLong, stream_outcomes, unended}
-use Rattle.cobs_c.specs.declared.answer.Answer.{Answer}
-use Rattle.cobs_c.specs.declared.answer.TheConstants.{OK, TOO_SMALL, BROKEN}
+use Rattle.cobs_bench.specs.declared.answer.Answer.{Answer}
+use Rattle.cobs_bench.specs.declared.answer.TheConstants.{OK, TOO_SMALL, BROKEN}
 
 -- how many bytes a chunk has: so many, or all the bytes where that is 0
 abbrev pub chunk_len : ℕ → List ℕ → ℕ
