@@ -1,0 +1,246 @@
+"""What each call answers, by the definition of blocks and pieces, and what is in the buffer after it.
+
+A function here takes the words of a line before '->' as values, and gives those behind it. Where COBS itself leaves
+an answer open, docs/PROMISES.md says what this library answers; the lines for such answers are marked `choice`.
+"""
+
+from definition import encoded_frame, is_longer, is_whole, kept_output, masked, output
+
+NONE = "-"
+
+
+def max_encoding_overhead(length):
+    return [max(1, -(-length // 254))]
+
+
+def max_encoding_length(length):
+    return [length + max_encoding_overhead(length)[0]]
+
+
+def laid_over(before, given):
+    """The buffer after `given` is written at its front."""
+    return given + before[len(given) :]
+
+
+# Encoding
+
+
+def try_write(written, before):
+    if len(written) > len(before):
+        return ["too_small", NONE, before]
+    return ["ok", len(written), laid_over(before, written)]
+
+
+def encode_vec(message):
+    return [encoded_frame(message)]
+
+
+def encode_vec_including_sentinels(message):
+    return [b"\0" + encoded_frame(message) + b"\0"]
+
+
+def encode_vec_with_sentinel(sentinel, message):
+    return [masked(encoded_frame(message), sentinel[0])]
+
+
+def try_encode(message, before):
+    return try_write(encoded_frame(message), before)
+
+
+def try_encode_including_sentinels(message, before):
+    return try_write(b"\0" + encoded_frame(message) + b"\0", before)
+
+
+def encode(message, before):
+    return try_encode(message, before)[1:]
+
+
+def encode_including_sentinels(message, before):
+    return try_encode_including_sentinels(message, before)[1:]
+
+
+def encode_with_sentinel(sentinel, message, before):
+    return try_write(encode_vec_with_sentinel(sentinel, message)[0], before)[1:]
+
+
+def encoder(before, *pieces):
+    """A streaming encoder: a piece is refused where the frame of all bytes so far and its own doesn't fit."""
+    taken, answers = b"", []
+    for piece in pieces:
+        fits = len(encoded_frame(taken + piece)) <= len(before)
+        answers.append("ok" if fits else "too_small")
+        taken += piece if fits else b""
+    return [len(encoded_frame(taken)), laid_over(before, encoded_frame(taken)), *answers]
+
+
+def encode_frames(*messages):
+    return [b"".join(encoded_frame(message) + b"\0" for message in messages)]
+
+
+# Decoding
+
+
+def outcome(piece, room):
+    """What a nonempty piece comes to in a buffer of `room` bytes."""
+    if len(output(piece)) > room:
+        return "too_long", NONE
+    return ("message", output(piece)) if is_whole(piece) else ("broken", len(output(piece)))
+
+
+def front(given):
+    return given.split(b"\0")[0]
+
+
+def decode(source, before):
+    if not source:
+        return ["empty", NONE, NONE, before]
+    piece = front(source.lstrip(b"\0"))
+    if not piece:
+        return ["invalid", NONE, 0, before]
+    consumed = len(source) - len(source.lstrip(b"\0")) + len(piece)
+    kind, value = outcome(piece, len(before))
+    if kind == "too_long":
+        return ["too_small", NONE, NONE, output(piece)[: len(before)]]
+    if kind == "broken":
+        return ["invalid", NONE, value, laid_over(before, output(piece))]
+    return ["ok", consumed + (consumed < len(source)), len(value), laid_over(before, value)]
+
+
+def decode_vec(source):
+    status, _, length, after = decode(source, bytes(len(source)))
+    return [status, length, after[:length] if status == "ok" else b""]
+
+
+def decode_in_place_report(before):
+    if not before:
+        return ["empty", NONE, NONE, before]
+    piece = front(before)
+    after = laid_over(before, kept_output(piece)) if piece else before
+    if piece and not is_whole(piece):
+        return ["invalid", NONE, len(kept_output(piece)), after]
+    return ["ok", len(piece), len(kept_output(piece)) if piece else 0, after]
+
+
+def decode_in_place(before):
+    status, _, length, after = decode_in_place_report(before)
+    return [status, length, after]
+
+
+def decode_in_place_with_sentinel(sentinel, before):
+    return decode_in_place(masked(before, sentinel[0]))
+
+
+def decode_with_sentinel(sentinel, source, before):
+    source = masked(source, sentinel[0])
+    if not source:
+        return ["empty", NONE, before]
+    piece = front(source)
+    kept = kept_output(piece) if piece else b""
+    if len(kept) > len(before):
+        return ["too_small", NONE, kept[: len(before)]]
+    return ["ok" if not piece or is_whole(piece) else "invalid", len(kept), laid_over(before, kept)]
+
+
+def decode_vec_with_sentinel(sentinel, source):
+    status, length, after = decode_with_sentinel(sentinel, source, bytes(len(source)))
+    return [status, length, after[:length] if status == "ok" else b""]
+
+
+def frame_kind(given):
+    if not is_whole(given):
+        return ["not_a_frame"]
+    return ["longer" if is_longer(given) else "canonical"]
+
+
+# Streams
+
+
+def decoder(before, *pieces):
+    """A streaming decoder, byte by byte: every answer but 'nothing yet', as the bytes taken, a kind and the buffer's front."""
+    room, buffer, piece, taken, events = len(before), before, b"", 0, []
+    for given in pieces:
+        if given == "reset":
+            piece = b""
+            continue
+        for byte in given:
+            taken += 1
+            if byte == 0:
+                if piece and outcome(piece, room)[0] == "too_long":
+                    events += [taken, "too_small", buffer]
+                elif piece:
+                    events += [taken, outcome(piece, room)[0], output(piece)]
+                piece = b""
+                continue
+            piece += bytes([byte])
+            buffer = laid_over(buffer, output(piece)[:room])
+            if len(output(piece)) > room:
+                events += [taken, "too_small", buffer]
+    return [buffer, *events]
+
+
+def decode_stream(room, *pieces):
+    """The outcome of each piece that a zero ends, for one decoder that is given the bytes in several calls."""
+    ended = b"".join(pieces).split(b"\0")[:-1]
+    return [word for piece in ended if piece for word in outcome(piece, room)]
+
+
+def next_frame(room, *reads):
+    """A reader of frames over a source that gives these reads, and 0 bytes from then on: the answer of each call,
+    until one says that the source has ended after all reads were made."""
+    left, bytes_left, answers = list(reads), b"", []
+    while True:
+        made = 0
+        while b"\0" not in bytes_left.lstrip(b"\0"):
+            made += 1
+            read = left.pop(0) if left else b""
+            if read == "fail" or not read:
+                break
+            bytes_left += read
+        piece, ended, behind = bytes_left.lstrip(b"\0").partition(b"\0")
+        if ended:
+            answers += [made, *outcome(piece, room)]
+            bytes_left = behind
+        elif read == "fail":
+            answers += [made, "failed", NONE]
+        else:
+            answers += [made, "unfinished" if piece else "end", NONE]
+            if not left:
+                return answers
+
+
+# State machines
+
+
+def encoder_state(message, byte):
+    """The state machine after the bytes of `message`: its answer to one more byte, where it then stands, and the frame
+    that its caller has, who inserts each placeholder. That frame's last block is never full."""
+
+    def opened(given):
+        frame = encoded_frame(given)
+        last = len(encoded_frame(given[: given.rfind(b"\0") + 1])) - 1
+        full = (len(frame) - last) // 255
+        if last + 255 * full == len(frame):
+            frame += b"\1"
+        return last + 255 * full, frame[last + 255 * full], frame
+
+    index, code, _ = opened(message)
+    after_index, after_code, frame = opened(message + byte)
+    if byte == b"\0":
+        answer = ["modify_and_skip", index, code, NONE]
+    elif code < 254:
+        answer = ["add_single", NONE, NONE, byte]
+    else:
+        answer = ["modify_push_and_skip", index, 255, byte]
+    return [*answer, after_index, after_code, frame]
+
+
+def decoder_state(state, left, byte):
+    """The decoding state machine, by its table: the answer to a byte in a state, and the state that follows."""
+    byte = byte[0]
+    begun = ("grab_chain", 254) if byte == 255 else ("grab", byte - 1)
+    if state != "idle" and left > 0:
+        return ["invalid", NONE, "idle", NONE] if byte == 0 else ["data_continue", byte, state, left - 1]
+    if byte == 0:
+        return ["no_data" if state == "idle" else "data_complete", NONE, "idle", NONE]
+    answer = {"idle": ["data_start", NONE], "grab": ["data_continue", 0], "grab_chain": ["no_data", NONE]}[state]
+    return [*answer, *begun]
