@@ -18,9 +18,7 @@ mod sentinel;
 mod state;
 mod unbuffered;
 mod vector;
-mod window;
 mod write_buffer;
-mod zeros;
 
 pub use frame_decoder::FrameDecoder;
 pub use heapless::CobsDecoderHeapless;

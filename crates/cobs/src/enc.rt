@@ -10,7 +10,6 @@ mod room;
 mod sentinel;
 mod state;
 mod vector;
-mod window;
 
 pub(crate) use blocks::FULL_CODE;
 use blocks::{Progress, append, close};
@@ -23,7 +22,6 @@ pub use sentinel::{
 };
 pub use state::{EncoderState, PushResult};
 pub use vector::{encode_vec, encode_vec_including_sentinels, encode_vec_with_sentinel};
-pub(crate) use window::{WINDOW, copy_window};
 
 /// Writes the encoded frame of `source` to the front of `dest`, and answers its length in bytes.
 ///

@@ -9,6 +9,7 @@ mod enc;
 mod framed;
 pub mod laws;
 mod stream;
+mod window;
 
 pub use dec::{
     CobsDecoder, CobsDecoderHeapless, CobsDecoderOwned, DecodeError, DecodeReport, DecodeResult,

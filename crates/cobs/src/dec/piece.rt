@@ -8,9 +8,8 @@ ghost use Rattle.cobs.specs.Stream.{outcome_of};
 
 use crate::dec::fit::fitting_len;
 use crate::dec::report::DecodeError;
-use crate::dec::window::{copy_32, is_ones, write_zeros};
-use crate::dec::zeros::{MASKED, first_zero_of_few};
-use crate::enc::{FULL_CODE, WINDOW, copy_window};
+use crate::enc::FULL_CODE;
+use crate::window::{WINDOW, copy_32, copy_window, first_zero_of_few, is_ones, write_zeros};
 use memchr::memchr;
 
 /// What is to be known of a piece once its output is written.
@@ -39,7 +38,7 @@ pub(crate) fn piece_len(source: &[u8]) -> usize
     ensures nonzero { HasNoZero (take result source.now) }
     ensures stop { result < length source.now → slice_index source.now result ≡ 0 }
 {
-    if source.len() > MASKED {
+    if source.len() > WINDOW {
         return first_zero(source);
     }
     if source.is_empty() {
@@ -82,7 +81,7 @@ fn decode_window(piece: &[u8], dest: &mut [u8]) -> usize
         write_zeros(dest);
         return 32;
     }
-    copy_32(&piece[1..], dest);
+    copy_32(piece, 1, dest, 0);
     let mut read = 0;
     'by_code: loop {
         'alike: loop {

@@ -4,7 +4,7 @@ ghost use Rattle.cobs.specs.Grammar.{IsEncodedFrame};
 ghost use Rattle.cobs.specs.Encoder.{CobsEncoderAfter, end_of, open_len};
 ghost use Rattle.cobs.specs.Mask.{lowest, without_lowest};
 
-use crate::enc::window::{WINDOW, copy_window, is_all_zeros, write_ones, write_some_ones};
+use crate::window::{WINDOW, copy_window, is_all_zeros, write_ones, write_some_ones};
 use std::marker::Model;
 
 /// The code of a full block, which is how many bytes the block has with its code.

@@ -1,5 +1,4 @@
-use Rattle.std.proofs.Common.{◌<◌, ◌++◌, ◌∙◌, ℕ, List, take, drop, ap, refl, sym, subst, arith}
-use Rattle.std.proofs.lemmas.List.{take_rest}
+use Rattle.std.proofs.Common.{◌<◌, ℕ, refl, sym, subst, arith}
 use Rattle.cobs.proofs.PieceCuts.{output-long}
 use Rattle.cobs.proofs.WindowSteps.{code-pos, window-decoded, window-copied, ones-decoded, code-decoded, code-copied, code-room}
 use Rattle.cobs.proofs.dec.piece.decode_window.Goals as goal
@@ -32,7 +31,7 @@ copy_32-requires-clause-room c = let long = output-long c.args.piece.now c.requi
 
 pub by_code-init : goal.by_code-init
 by_code-init c =
-    let is = c.copy_32.ensures ∙ ap (λ (xs : List ℕ). take 32 xs ++ drop 32 c.args.dest.now) (take_rest c.args.piece.now 1) in
+    let is = c.copy_32.ensures.copied in
     record {
       decoded = window-decoded c.args.piece.now c.args.dest.now c.copy_32.new.dest c.requires.long c.requires.room is;
       copied = window-copied c.args.piece.now c.args.dest.now c.copy_32.new.dest c.requires.long c.requires.room is;

@@ -1,6 +1,0 @@
-use Rattle.std.proofs.Common.{replicate, refl}
-use Rattle.cobs.proofs.MaskLemmas.{put_is}
-use Rattle.cobs.proofs.enc.window.write_ones.Goals as goal
-
-pub returns : goal.returns
-returns c = put_is c.args.dest.now (replicate 32 1) c.args.at 32 refl c.requires

@@ -1,0 +1,278 @@
+//! Windows of up to 32 bytes, in vectors: where their zeros are, copied, and written.
+ghost use Rattle.std.specs.Prelude.{◌≡◌, ◌<◌, ◌≤◌, ◌+◌, ◌^◌, ◌++◌, ◌↔◌, IsTrue, length, take, drop, replicate, slice_index};
+ghost use Rattle.cobs.specs.Grammar.{HasNoZero};
+ghost use Rattle.cobs.specs.Mask.{zero_mask};
+
+use std::simd::prelude::*;
+
+/// How many bytes a whole window has.
+pub(crate) const WINDOW: usize = 32;
+
+/// Which of the 32 bytes from `at` on are zeros.
+#[inline(always)]
+pub(crate) fn zeros_32(source: &[u8], at: usize) -> u64
+    requires { at + 32 ≤ length source.now }
+    ensures { result ≡ zero_mask (take 32 (drop at source.now)) }
+{
+    u8x32::from_slice(&source[at..])
+        .simd_eq(u8x32::splat(0))
+        .to_bitmask()
+}
+
+/// Which of the 16 bytes from `at` on are zeros.
+#[inline(always)]
+fn zeros_16(bytes: &[u8], at: usize) -> u64
+    requires { at + 16 ≤ length bytes.now }
+    ensures { result ≡ zero_mask (take 16 (drop at bytes.now)) }
+{
+    u8x16::from_slice(&bytes[at..])
+        .simd_eq(u8x16::splat(0))
+        .to_bitmask()
+}
+
+/// Which of the 8 bytes from `at` on are zeros.
+#[inline(always)]
+fn zeros_8(bytes: &[u8], at: usize) -> u64
+    requires { at + 8 ≤ length bytes.now }
+    ensures { result ≡ zero_mask (take 8 (drop at bytes.now)) }
+{
+    u8x8::from_slice(&bytes[at..])
+        .simd_eq(u8x8::splat(0))
+        .to_bitmask()
+}
+
+/// Which of the 4 bytes from `at` on are zeros.
+#[inline(always)]
+fn zeros_4(bytes: &[u8], at: usize) -> u64
+    requires { at + 4 ≤ length bytes.now }
+    ensures { result ≡ zero_mask (take 4 (drop at bytes.now)) }
+{
+    u8x4::from_slice(&bytes[at..])
+        .simd_eq(u8x4::splat(0))
+        .to_bitmask()
+}
+
+/// Which of one, two or three bytes are zeros: the first one, the one in the middle and the last one, some of which may
+/// be the same.
+#[inline(always)]
+fn zeros_few(bytes: &[u8]) -> u64
+    requires some { 0 < length bytes.now }
+    requires few { length bytes.now ≤ 3 }
+    ensures { result ≡ zero_mask bytes.now }
+{
+    let half = bytes.len() / 2;
+    let last = bytes.len() - 1;
+    (bytes[0] == 0) as u64
+        | (((bytes[half] == 0) as u64) << half)
+        | (((bytes[last] == 0) as u64) << last)
+}
+
+/// Which of up to 32 bytes are zeros: bit `i` is set where byte `i` is one. They are looked at as two parts that may
+/// overlap.
+#[inline(always)]
+fn zeros_of(bytes: &[u8]) -> u64
+    requires some { 0 < length bytes.now }
+    requires few { length bytes.now ≤ 32 }
+    ensures { result ≡ zero_mask bytes.now }
+{
+    let len = bytes.len();
+    if len >= 16 {
+        zeros_16(bytes, 0) | (zeros_16(bytes, len - 16) << (len - 16))
+    } else if len >= 8 {
+        zeros_8(bytes, 0) | (zeros_8(bytes, len - 8) << (len - 8))
+    } else if len >= 4 {
+        zeros_4(bytes, 0) | (zeros_4(bytes, len - 4) << (len - 4))
+    } else {
+        zeros_few(bytes)
+    }
+}
+
+/// Where the first zero of up to 32 bytes stands, or their number where none is a zero.
+#[inline(always)]
+pub(crate) fn first_zero_of_few(bytes: &[u8]) -> usize
+    requires some { 0 < length bytes.now }
+    requires few { length bytes.now ≤ 32 }
+    ensures within { result ≤ length bytes.now }
+    ensures nonzero { HasNoZero (take result bytes.now) }
+    ensures stop { result < length bytes.now → slice_index bytes.now result ≡ 0 }
+{
+    (zeros_of(bytes).trailing_zeros() as usize).min(bytes.len())
+}
+
+/// Copies the 32 bytes from `read` on, and answers which of them are zeros.
+#[inline(always)]
+pub(crate) fn copy_32(source: &[u8], read: usize, dest: &mut [u8], at: usize) -> u64
+    requires source { read + 32 ≤ length source.now }
+    requires room { at + 32 ≤ length dest.old }
+    ensures copied { dest.new ≡ take at dest.old ++ (take 32 (drop read source.now) ++ drop (at + 32) dest.old) }
+    ensures zeros { result ≡ zero_mask (take 32 (drop read source.now)) }
+{
+    let bytes = u8x32::from_slice(&source[read..]);
+    bytes.copy_to_slice(&mut dest[at..]);
+    bytes.simd_eq(u8x32::splat(0)).to_bitmask()
+}
+
+/// Copies the 16 bytes from `read` on, and answers which of them are zeros.
+#[inline(always)]
+fn copy_16(source: &[u8], read: usize, dest: &mut [u8], at: usize) -> u64
+    requires source { read + 16 ≤ length source.now }
+    requires room { at + 16 ≤ length dest.old }
+    ensures copied { dest.new ≡ take at dest.old ++ (take 16 (drop read source.now) ++ drop (at + 16) dest.old) }
+    ensures zeros { result ≡ zero_mask (take 16 (drop read source.now)) }
+{
+    let bytes = u8x16::from_slice(&source[read..]);
+    bytes.copy_to_slice(&mut dest[at..]);
+    bytes.simd_eq(u8x16::splat(0)).to_bitmask()
+}
+
+/// Copies the 8 bytes from `read` on, and answers which of them are zeros.
+#[inline(always)]
+fn copy_8(source: &[u8], read: usize, dest: &mut [u8], at: usize) -> u64
+    requires source { read + 8 ≤ length source.now }
+    requires room { at + 8 ≤ length dest.old }
+    ensures copied { dest.new ≡ take at dest.old ++ (take 8 (drop read source.now) ++ drop (at + 8) dest.old) }
+    ensures zeros { result ≡ zero_mask (take 8 (drop read source.now)) }
+{
+    let bytes = u8x8::from_slice(&source[read..]);
+    bytes.copy_to_slice(&mut dest[at..]);
+    bytes.simd_eq(u8x8::splat(0)).to_bitmask()
+}
+
+/// Copies the 4 bytes from `read` on, and answers which of them are zeros.
+#[inline(always)]
+fn copy_4(source: &[u8], read: usize, dest: &mut [u8], at: usize) -> u64
+    requires source { read + 4 ≤ length source.now }
+    requires room { at + 4 ≤ length dest.old }
+    ensures copied { dest.new ≡ take at dest.old ++ (take 4 (drop read source.now) ++ drop (at + 4) dest.old) }
+    ensures zeros { result ≡ zero_mask (take 4 (drop read source.now)) }
+{
+    let bytes = u8x4::from_slice(&source[read..]);
+    bytes.copy_to_slice(&mut dest[at..]);
+    bytes.simd_eq(u8x4::splat(0)).to_bitmask()
+}
+
+/// Copies one, two or three bytes with no branch: the first one, the one in the middle and the last one, some of which
+/// may be the same.
+#[inline(always)]
+fn copy_few(source: &[u8], read: usize, len: usize, dest: &mut [u8], at: usize) -> u64
+    requires source { read + len ≤ length source.now }
+    requires some { 0 < len }
+    requires few { len ≤ 3 }
+    requires room { at + len ≤ length dest.old }
+    ensures copied { dest.new ≡ take at dest.old ++ (take len (drop read source.now) ++ drop (at + len) dest.old) }
+    ensures zeros { result ≡ zero_mask (take len (drop read source.now)) }
+{
+    let half = len / 2;
+    let last = len - 1;
+    let front = source[read];
+    let middle = source[read + half];
+    let back = source[read + last];
+    dest[at] = front;
+    dest[at + half] = middle;
+    dest[at + last] = back;
+    (front == 0) as u64 | (((middle == 0) as u64) << half) | (((back == 0) as u64) << last)
+}
+
+/// Copies the `len` bytes from `read` on to `dest`, from `at` on, and answers which of them are zeros: bit `i` is set
+/// where byte `i` of them is one. A window that isn't whole is copied as two parts that may overlap.
+#[inline(always)]
+pub(crate) fn copy_window(source: &[u8], read: usize, len: usize, dest: &mut [u8], at: usize) -> u64
+    requires source { read + len ≤ length source.now }
+    requires some { 0 < len }
+    requires few { len ≤ 32 }
+    requires room { at + len ≤ length dest.old }
+    ensures copied { dest.new ≡ take at dest.old ++ (take len (drop read source.now) ++ drop (at + len) dest.old) }
+    ensures zeros { result ≡ zero_mask (take len (drop read source.now)) }
+{
+    if len == WINDOW {
+        copy_32(source, read, dest, at)
+    } else if len >= 16 {
+        let front = copy_16(source, read, dest, at);
+        let back = copy_16(source, read + len - 16, dest, at + len - 16);
+        front | (back << (len - 16))
+    } else if len >= 8 {
+        let front = copy_8(source, read, dest, at);
+        let back = copy_8(source, read + len - 8, dest, at + len - 8);
+        front | (back << (len - 8))
+    } else if len >= 4 {
+        let front = copy_4(source, read, dest, at);
+        let back = copy_4(source, read + len - 4, dest, at + len - 4);
+        front | (back << (len - 4))
+    } else {
+        copy_few(source, read, len, dest, at)
+    }
+}
+
+/// Whether the first 32 bytes are all 1.
+#[inline(always)]
+pub(crate) fn is_ones(bytes: &[u8]) -> bool
+    requires { 32 ≤ length bytes.now }
+    ensures { IsTrue result → take 32 bytes.now ≡ replicate 32 1 }
+{
+    u8x32::from_slice(bytes)
+        .simd_ne(u8x32::splat(1))
+        .to_bitmask()
+        == 0
+}
+
+/// Writes 32 zeros.
+#[inline(always)]
+pub(crate) fn write_zeros(dest: &mut [u8])
+    requires { 32 ≤ length dest.old }
+    ensures { dest.new ≡ replicate 32 0 ++ drop 32 dest.old }
+{
+    u8x32::splat(0).copy_to_slice(dest);
+}
+
+/// Writes 32 blocks with no bytes.
+#[inline(always)]
+pub(crate) fn write_ones(dest: &mut [u8], at: usize)
+    requires { at + 32 ≤ length dest.old }
+    ensures { dest.new ≡ take at dest.old ++ (replicate 32 1 ++ drop (at + 32) dest.old) }
+{
+    u8x32::splat(1).copy_to_slice(&mut dest[at..]);
+}
+
+/// Writes 16 blocks with no bytes.
+#[inline(always)]
+fn write_16_ones(dest: &mut [u8], at: usize)
+    requires { at + 16 ≤ length dest.old }
+    ensures { dest.new ≡ take at dest.old ++ (replicate 16 1 ++ drop (at + 16) dest.old) }
+{
+    u8x16::splat(1).copy_to_slice(&mut dest[at..]);
+}
+
+/// Writes 8 blocks with no bytes.
+#[inline(always)]
+fn write_8_ones(dest: &mut [u8], at: usize)
+    requires { at + 8 ≤ length dest.old }
+    ensures { dest.new ≡ take at dest.old ++ (replicate 8 1 ++ drop (at + 8) dest.old) }
+{
+    u8x8::splat(1).copy_to_slice(&mut dest[at..]);
+}
+
+/// Writes 8 to 32 blocks with no bytes, as two parts that may overlap.
+#[inline(always)]
+pub(crate) fn write_some_ones(dest: &mut [u8], at: usize, len: usize)
+    requires some { 8 ≤ len }
+    requires few { len ≤ 32 }
+    requires room { at + len ≤ length dest.old }
+    ensures { dest.new ≡ take at dest.old ++ (replicate len 1 ++ drop (at + len) dest.old) }
+{
+    if len >= 16 {
+        write_16_ones(dest, at);
+        write_16_ones(dest, at + len - 16);
+    } else {
+        write_8_ones(dest, at);
+        write_8_ones(dest, at + len - 8);
+    }
+}
+
+/// Whether this is the mask of a window of `len` bytes, at least 8, that has no byte but zeros.
+#[inline(always)]
+pub(crate) fn is_all_zeros(mask: u64, len: usize) -> bool
+    requires few { len ≤ 32 }
+    ensures { IsTrue result ↔ ((8 ≤ len) × (mask + 1 ≡ 2 ^ len)) }
+{
+    len >= 8 && mask == (1 << len) - 1
+}
