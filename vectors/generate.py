@@ -294,7 +294,7 @@ def encoder():
     for cut in [0, 1, 127, 253, 254, 255, 256, 507, 508, 509]:
         given = more + b"\0"
         group.choice("two-full", "encoder", filled(513), given[:cut], b"", given[cut:], b"")
-    for size in [1, 7, 253, 254, 255]:
+    for size in [7, 253, 254, 255]:
         given = filled(300, 2) + b"\0" + filled(20, 3)
         cut = [given[at : at + size] for at in range(0, len(given), size)]
         group.choice("pieces", "encoder", filled(len(encoded_frame(given)) + 1), *cut)
