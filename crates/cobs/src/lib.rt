@@ -24,7 +24,7 @@ pub use enc::{
     encode_vec_with_sentinel, encode_with_sentinel, try_encode, try_encode_including_sentinels,
 };
 pub use framed::{FrameReader, FrameSource, Next, ReadFault, Recorded};
-pub use stream::{FrameOutcome, decode_stream, encode_frames};
+pub use stream::{FrameOutcome, decode_stream, encode_frames, encode_frames_room};
 
 /// How many bytes longer than its message an encoded frame is at most, for a message of `source_len` bytes.
 ///

@@ -4,15 +4,17 @@
 //! itself: it is a message, or it breaks off inside a block, or it decodes to more than the buffer holds. So what
 //! is damaged in one piece is gone at the next zero. (That a zero ends each frame is Cheshire and Baker's; how broken
 //! and too long pieces are told is a choice of this library.)
-ghost use Rattle.std.specs.Prelude.{◌≡◌, ℕ, ◌<◌, ◌≤◌, ◌^◌, List, [], ◌++◌, All, length, map, take, option_to_list, IfOk, IfSome, IsOk, OnOk, OnErr, Contains};
+ghost use Rattle.std.specs.Prelude.{◌≡◌, ℕ, ◌+◌, ◌<◌, ◌≤◌, ◌^◌, List, [], ◌++◌, All, length, map, take, option_to_list, IfOk, IfSome, IsOk, IsSome, ◌↔◌, OnOk, OnErr, Contains};
+ghost use Rattle.std.specs.Option.{SomeIff};
 ghost use Rattle.cobs.specs.Decoder.{DecoderAfter, PhaseAfter};
+ghost use Rattle.cobs.specs.Length.{max_encoded_len};
 ghost use Rattle.cobs.specs.Stream.{Message, stream_outcomes, unended};
 ghost use Rattle.cobs.specs.Streaming.{outcome_told, outcomes_in, AreAlikeAtFirst, AreFrames, messages_in, room_for_frames};
 
 use crate::dec::DecodeError;
 pub use crate::dec::FrameDecoder;
 use crate::enc::encode;
-use crate::max_encoding_length;
+use crate::{max_encoding_length, max_encoding_overhead};
 use std::alloc::{AllocError, Global};
 
 /// What became of a piece of a stream: a nonempty stretch of bytes that a zero ended.
@@ -106,7 +108,7 @@ pub fn decode_stream<D: FrameDecoder>(
 /// no messages the stream is empty.
 ///
 /// The caller owes that the sum of [`max_encoding_length`](crate::max_encoding_length) plus 1 over the messages fits
-/// a `usize`. Memory is asked for once, for that many bytes, and `AllocError` says that it was refused.
+/// a `usize`, as [`encode_frames_room`] tells. Memory is asked for once, for that many bytes, and `AllocError` says that it was refused.
 pub fn encode_frames(alloc: Global, messages: &[Vec<u8>]) -> Result<Vec<u8>, AllocError>
     requires { room_for_frames (messages_in messages.now) < 2 ^ 64 }
     ensures frames { IfOk result (λ bytes. AreFrames (messages_in messages.now) bytes.items) }
@@ -117,6 +119,31 @@ pub fn encode_frames(alloc: Global, messages: &[Vec<u8>]) -> Result<Vec<u8>, All
     let len = write_frames(messages, &mut frames);
     frames.truncate(len);
     Ok(frames)
+}
+
+/// How many bytes have room for the frames of the messages and a zero behind each: the sum of
+/// [`max_encoding_length`](crate::max_encoding_length) plus 1 over the messages. `None` where that is no `usize`.
+///
+/// This is the test for what [`encode_frames`] asks of its caller, and how many bytes that call then asks memory for.
+/// No memory is taken here.
+pub fn encode_frames_room(messages: &[Vec<u8>]) -> Option<usize>
+    ensures fits { IsSome result ↔ (room_for_frames (messages_in messages.now) < 2 ^ 64) }
+    ensures room { IfSome result (λ room. room ≡ room_for_frames (messages_in messages.now)) }
+{
+    let mut room = 0usize;
+    'by_message: for message in messages {
+        room = room_with(room, message.len())?;
+    }
+    Some(room)
+}
+
+/// This room and that for the frame of a message of `len` bytes and a zero.
+fn room_with(room: usize, len: usize) -> Option<usize>
+    ensures { let sum = room + (max_encoded_len len + 1) in SomeIff result (sum < 2 ^ 64) sum }
+{
+    room.checked_add(len)?
+        .checked_add(max_encoding_overhead(len))?
+        .checked_add(1)
 }
 
 /// How many bytes have room for the frames of the messages and their zeros.

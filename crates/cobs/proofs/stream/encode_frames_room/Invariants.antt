@@ -1,0 +1,10 @@
+use Rattle.std.proofs.Common.{◌≡◌, ◌<◌, ◌^◌, take}
+use Rattle.cobs.specs.Streaming.{messages_in, room_for_frames}
+use Rattle.cobs.proofs.stream.encode_frames_room.Given as goal
+
+abbrev pub invariant-by_message : goal.invariant-by_message
+invariant-by_message l =
+    record {
+      room_is : l.room ≡ room_for_frames (messages_in (take l.message-index l.messages));
+      fits : l.room < 2 ^ 64;
+    }
