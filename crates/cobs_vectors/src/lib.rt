@@ -6,6 +6,7 @@
 //! printed and written as JSON.
 #![tactic(auto)]
 
+pub mod callers;
 #[cfg(test)]
 mod decoding;
 #[cfg(test)]
