@@ -5,9 +5,9 @@
 set -eu
 out=$(cd "$(dirname "$0")" && pwd)/out
 size=65536
-workloads="zeros,none,every 16,random,telemetry,alternating,every 33,below 20"
+workloads="zeros,none,every 16,every 33,random,telemetry,alternating,below 20"
 count() { # CALL WHO WORKLOAD TIMES: the instructions of that run, its start and its messages included
-    valgrind --tool=callgrind --callgrind-out-file=/dev/null "$out/driver-default-0" one "$1" "$2" "$3" $size "$4" 2>&1 >/dev/null |
+    valgrind --tool=callgrind --callgrind-out-file=/dev/null "$out/driver-0" one "$1" "$2" "$3" $size "$4" 2>&1 >/dev/null |
         sed -n 's/.*Collected : \([0-9]*\).*/\1/p'
 }
 row() { # CALL WHO
@@ -16,7 +16,7 @@ row() { # CALL WHO
     IFS=,
     for workload in $workloads; do
         IFS=$old
-        bytes=$("$out/driver-default-0" one "$1" "$2" "$workload" $size 0)
+        bytes=$("$out/driver-0" one "$1" "$2" "$workload" $size 0)
         all=$(count "$1" "$2" "$workload" 11)
         none=$(count "$1" nobody "$workload" 11)
         awk "BEGIN { printf \" %.2f |\", ($all - $none) / 11 / $bytes }"
@@ -26,9 +26,9 @@ row() { # CALL WHO
 }
 printf '| 64 KiB | %s |\n' "$(echo "$workloads" | sed 's/,/ | /g')"
 echo "$workloads," | sed 's/[^,]*,/--:|/g; s/^/|---|/'
-for call in encode try_encode decode "in place" "push 64" feed "encoder 17"; do
+for call in encode try_encode decode "decode exact" "in place" "push 64" decode_stream FrameReader feed "encoder 17"; do
     row "$call" ours
-    row "$call" machine
 done
-row encode sse2
-row decode sse2
+for call in encode decode "in place" "push 64"; do
+    row "$call" simd
+done

@@ -307,3 +307,24 @@ pub fn feed_each(stream: &[u8], dest: &mut [u8]) -> Answer {
     }
     answer(OK, messages, sum)
 }
+
+/// How many pieces of a stream end with a zero, refused ones too.
+pub fn count_outcomes(stream: &[u8], dest: &mut [u8]) -> usize {
+    let mut decoder = Decoder::new(dest);
+    let mut found = 0;
+    for &byte in stream {
+        let status = decoder.feed(byte).status;
+        if byte == 0 && status != MORE {
+            found += 1;
+        }
+    }
+    found
+}
+
+/// The frame of a message.
+pub fn frame_of(message: &[u8]) -> Vec<u8> {
+    let mut frame = vec![0; message.len() + message.len() / 254 + 2];
+    let len = encode(message, &mut frame).unwrap();
+    frame.truncate(len);
+    frame
+}

@@ -1,32 +1,69 @@
 //! The tables and the chart of measured figures.
 
-use crate::{CALLS, SIZES, WHO, WORKLOADS};
+use crate::calls::{CALLS, WHO};
+use crate::workload::{SIZES, WORKLOADS};
 use std::collections::BTreeMap;
 
-/// Megabytes a second, by call, workload, size and implementation.
-type Figures = BTreeMap<(String, String, usize), Vec<Option<f64>>>;
+/// The size that is reported row by row, beside each other implementation.
+const MAIN_SIZE: usize = SIZES[1];
 
-fn read(file: &str) -> Figures {
-    let text = std::fs::read_to_string(file).unwrap_or_else(|e| panic!("{file}: {e}"));
-    let mut figures = Figures::new();
-    for line in text.lines() {
-        let parts: Vec<&str> = line.split(',').collect();
-        if let [call, workload, size, rates @ ..] = parts.as_slice() {
-            let key = (call.to_string(), workload.to_string(), size.parse().unwrap());
-            figures.insert(key, rates.iter().map(|r| r.parse().ok()).collect());
+/// The workloads of short messages, which are reported at the least size too.
+const SHORT: [&str; 2] = ["telemetry", "below 20"];
+
+/// What is measured once: a call on a workload of a size.
+type Row = (String, String, usize);
+
+/// Megabytes a second of each implementation, at each of the places in memory: the best of the rounds.
+struct Figures {
+    places: BTreeMap<String, BTreeMap<Row, Vec<Option<f64>>>>,
+}
+
+impl Figures {
+    /// Reads files named PLACE-ROUND.csv.
+    fn read(files: &[&str]) -> Self {
+        let mut places: BTreeMap<String, BTreeMap<Row, Vec<Option<f64>>>> = BTreeMap::new();
+        for file in files {
+            let text = std::fs::read_to_string(file).unwrap_or_else(|e| panic!("{file}: {e}"));
+            let name = file.rsplit('/').next().unwrap_or(file);
+            let place = name.rsplit_once('-').map_or(name, |(place, _)| place);
+            let rows = places.entry(place.into()).or_default();
+            for line in text.lines() {
+                let parts: Vec<&str> = line.split(';').collect();
+                let [call, workload, size, rates @ ..] = parts.as_slice() else { panic!("{file}: {line}") };
+                let row = (call.to_string(), workload.to_string(), size.parse().unwrap());
+                let best = rows.entry(row).or_insert_with(|| vec![None; WHO.len()]);
+                for (best, rate) in best.iter_mut().zip(rates) {
+                    let rate: Option<f64> = rate.parse().ok();
+                    *best = if *best < rate { rate } else { *best };
+                }
+            }
         }
+        Figures { places }
     }
-    figures
-}
 
-fn rate(figures: &Figures, call: &str, workload: &str, size: usize, who: &str) -> Option<f64> {
-    let place = WHO.iter().position(|w| *w == who)?;
-    *figures.get(&(call.into(), workload.into(), size))?.get(place)?
-}
+    fn at_each_place(&self, call: &str, workload: &str, size: usize, who: &str) -> Vec<f64> {
+        let who = WHO.iter().position(|w| *w == who).unwrap();
+        let row = (call.to_string(), workload.to_string(), size);
+        self.places.values().filter_map(|rows| rows.get(&row)?[who]).collect()
+    }
 
-/// How many times as fast as the state machine.
-fn ratio(figures: &Figures, call: &str, workload: &str, size: usize, who: &str) -> Option<f64> {
-    Some(rate(figures, call, workload, size, who)? / rate(figures, call, workload, size, "machine")?)
+    fn best(&self, call: &str, workload: &str, size: usize, who: &str) -> Option<f64> {
+        self.at_each_place(call, workload, size, who).into_iter().max_by(f64::total_cmp)
+    }
+
+    fn worst(&self, call: &str, workload: &str, size: usize, who: &str) -> Option<f64> {
+        self.at_each_place(call, workload, size, who).into_iter().min_by(f64::total_cmp)
+    }
+
+    /// How many times as fast as that implementation, best place against best place.
+    fn ratio(&self, call: &str, workload: &str, size: usize, who: &str) -> Option<f64> {
+        Some(self.best(call, workload, size, "ours")? / self.best(call, workload, size, who)?)
+    }
+
+    /// What the ratios are to: the crate, where it was measured.
+    fn baseline(&self) -> &'static str {
+        if self.best("encode", "zeros", MAIN_SIZE, "crate").is_some() { "crate" } else { "machine" }
+    }
 }
 
 fn shown(value: Option<f64>, places: usize) -> String {
@@ -42,108 +79,148 @@ fn size_name(size: usize) -> String {
     if size < 1048576 { format!("{} KiB", size / 1024) } else { format!("{} MiB", size / 1048576) }
 }
 
-/// A table of ratios to the state machine, a row for each workload and a column for each call.
-fn ratios(figures: &Figures, size: usize) {
-    println!("| {} | {} |", size_name(size), CALLS.join(" | "));
-    println!("|---|{}", "--:|".repeat(CALLS.len()));
+fn name_of(who: &str) -> &str {
+    match who {
+        "crate" => "the crate",
+        "machine" => "the state machine",
+        "plain" => "plain C",
+        "simd" => "SIMD by hand",
+        other => other,
+    }
+}
+
+/// A table of ratios to the baseline, a row for each workload and a column for each call.
+fn summary(figures: &Figures, size: usize) {
+    let calls: Vec<&str> = CALLS.iter().filter(|(_, sizes)| sizes.contains(&size)).map(|(call, _)| *call).collect();
+    println!("| {} in all | {} |", size_name(size), calls.join(" | "));
+    println!("|---|{}", "--:|".repeat(calls.len()));
     for workload in WORKLOADS {
-        let cells: Vec<String> = CALLS.iter().map(|call| shown_ratio(ratio(figures, call, workload, size, "ours"))).collect();
+        let cells: Vec<String> =
+            calls.iter().map(|call| shown_ratio(figures.ratio(call, workload, size, figures.baseline()))).collect();
         println!("| {workload} | {} |", cells.join(" | "));
     }
     println!();
 }
 
-/// A table of megabytes a second, for the calls that each implementation has.
-fn rates(figures: &Figures, size: usize) {
-    println!("| {} | encode: {} | decode: {} |", size_name(size), WHO.join(" | "), WHO.join(" | "));
-    println!("|---|{}", "--:|".repeat(2 * WHO.len()));
-    for workload in WORKLOADS {
-        let cells: Vec<String> = ["encode", "decode"]
-            .iter()
-            .flat_map(|call| WHO.iter().map(|who| shown(rate(figures, call, workload, size, who), 0)))
-            .collect();
-        println!("| {workload} | {} |", cells.join(" | "));
+/// A call beside everyone who has it: the rates of the best and the worst place, and ratios of the best ones.
+fn beside(figures: &Figures, call: &str, sizes: &[usize]) {
+    let others: Vec<&str> =
+        WHO[1..].iter().copied().filter(|who| figures.best(call, "zeros", MAIN_SIZE, who).is_some()).collect();
+    let names: Vec<String> = others.iter().map(|who| format!("/ {}", name_of(who))).collect();
+    println!("| {call} | MB/s | at the worst place | {} |", names.join(" | "));
+    println!("|---|--:|--:|{}", "--:|".repeat(others.len()));
+    let mut rows: Vec<(String, &str, usize)> = WORKLOADS.iter().map(|w| (w.to_string(), *w, MAIN_SIZE)).collect();
+    if sizes.contains(&SIZES[0]) {
+        rows.extend(SHORT.iter().map(|w| (format!("{w}, {}", size_name(SIZES[0])), *w, SIZES[0])));
+    }
+    for (label, workload, size) in rows {
+        let ratios: Vec<String> =
+            others.iter().map(|who| shown_ratio(figures.ratio(call, workload, size, who))).collect();
+        let best = shown(figures.best(call, workload, size, "ours"), 0);
+        let worst = shown(figures.worst(call, workload, size, "ours"), 0);
+        println!("| {label} | {best} | {worst} | {} |", ratios.join(" | "));
     }
     println!();
 }
 
-/// The least ratio of a file, and where it is.
-fn least(figures: &Figures) {
-    let mut found: Vec<(f64, &(String, String, usize))> = figures
-        .keys()
-        .filter_map(|key| Some((ratio(figures, &key.0, &key.1, key.2, "ours")?, key)))
-        .collect();
-    found.sort_by(|a, b| a.0.total_cmp(&b.0));
-    let below = found.iter().filter(|row| row.0 < 1.0).count();
-    println!("Of {} rows {below} have a ratio below 1.00. The least of each call:\n", found.len());
-    for call in CALLS {
-        if let Some((value, (_, workload, size))) = found.iter().find(|row| row.1.0 == call) {
-            println!("- {call}: {value:.2} ({workload}, {})", size_name(*size));
+/// The rows below a limit of each other implementation, at the main size and on short messages.
+fn below(figures: &Figures) {
+    for (who, limit) in [("crate", 1.3), ("plain", 1.0), ("simd", 0.95), ("simd", 1.0)] {
+        let mut rows = 0;
+        let mut found = Vec::new();
+        for (call, sizes) in CALLS {
+            for &size in sizes.iter().filter(|size| **size <= MAIN_SIZE) {
+                for workload in WORKLOADS {
+                    if size != MAIN_SIZE && !SHORT.contains(&workload) {
+                        continue;
+                    }
+                    if let Some(ratio) = figures.ratio(call, workload, size, who) {
+                        rows += 1;
+                        if ratio < limit {
+                            found.push(format!("{call} on {workload} at {} {ratio:.2}", size_name(size)));
+                        }
+                    }
+                }
+            }
         }
-    }
-    println!();
-}
-
-/// The rows of the files, with the greatest figure that any of them has for each implementation.
-pub fn best(files: &[&str]) {
-    let all: Vec<Figures> = files.iter().map(|file| read(file)).collect();
-    for key in all[0].keys() {
-        let cells: Vec<String> = WHO
-            .iter()
-            .map(|who| {
-                let found = all.iter().filter_map(|figures| rate(figures, &key.0, &key.1, key.2, who));
-                shown(found.max_by(f64::total_cmp), 0)
-            })
-            .collect();
-        println!("{},{},{},{}", key.0, key.1, key.2, cells.join(","));
-    }
-}
-
-pub fn print(files: &[&str]) {
-    if let ["--svg", file] = files {
-        return chart(&read(file));
-    }
-    for file in files {
-        let figures = read(file);
-        let name = file.rsplit('/').next().unwrap_or(file).trim_end_matches(".csv");
-        let built = if name == "default" { "built by default" } else { "built as one code generation unit" };
-        println!("### Times as fast as the state machine, driver {built}\n");
-        SIZES.iter().for_each(|size| ratios(&figures, *size));
-        least(&figures);
-        println!("### Megabytes a second, driver {built}\n");
-        rates(&figures, 65536);
-    }
-}
-
-/// Bars of the ratios at 64 KiB, one group a workload, on a scale of powers of two.
-fn chart(figures: &Figures) {
-    const SHOWN: [(&str, &str); 4] = [("encode", "#1b6ca8"), ("decode", "#2e8b57"), ("in place", "#c97b12"), ("push 64", "#8a4fa3")];
-    let (left, top, width, group) = (110.0, 46.0, 600.0, 84.0);
-    let height = top + group * WORKLOADS.len() as f64 + 50.0;
-    let most = 6.0; // 2 ^ 6 times as fast at the right edge
-    println!(r##"<svg xmlns="http://www.w3.org/2000/svg" width="760" height="{height}" font-family="sans-serif" font-size="13">"##);
-    println!(r##"<rect width="760" height="{height}" fill="#ffffff"/>"##);
-    println!(r##"<text x="{left}" y="20" font-size="15">Times as fast as a byte-at-a-time state machine, messages of 64 KiB</text>"##);
-    for power in 0..=6 {
-        let x = left + width * power as f64 / most;
-        println!(r##"<line x1="{x}" y1="{top}" x2="{x}" y2="{}" stroke="#dddddd"/>"##, height - 40.0);
-        println!(r##"<text x="{x}" y="{}" text-anchor="middle">{}</text>"##, height - 22.0, 1 << power);
-    }
-    for (i, (call, colour)) in SHOWN.iter().enumerate() {
-        let x = left + 110.0 * i as f64;
-        println!(r##"<rect x="{x}" y="28" width="10" height="10" fill="{colour}"/><text x="{}" y="38">{call}</text>"##, x + 14.0);
-    }
-    for (row, workload) in WORKLOADS.iter().enumerate() {
-        let y = top + group * row as f64 + 8.0;
-        println!(r##"<text x="{}" y="{}" text-anchor="end">{workload}</text>"##, left - 8.0, y + 38.0);
-        for (i, (call, colour)) in SHOWN.iter().enumerate() {
-            if let Some(value) = ratio(figures, call, workload, 65536, "ours") {
-                let long = (value.max(1.0).log2() / most * width).min(width);
-                let at = y + 17.0 * i as f64;
-                println!(r##"<rect x="{left}" y="{at}" width="{long:.1}" height="14" fill="{colour}"/>"##);
-                println!(r##"<text x="{:.1}" y="{}" font-size="11">{value:.1}</text>"##, left + long + 4.0, at + 11.0);
+        if rows > 0 {
+            println!("- Below {limit} of {}: {} of {rows} rows.", name_of(who), found.len());
+            if limit != 1.0 || who == "plain" {
+                found.iter().for_each(|row| println!("  - {row}"));
             }
         }
     }
+    println!();
+}
+
+pub fn print(files: &[&str]) {
+    let figures = Figures::read(files);
+    println!("### Times as fast as {}\n", name_of(figures.baseline()));
+    SIZES.iter().for_each(|size| summary(&figures, *size));
+    println!("### Rows that fall short\n");
+    below(&figures);
+    println!("### Beside other code, {} in all\n", size_name(MAIN_SIZE));
+    CALLS.iter().for_each(|(call, sizes)| beside(&figures, call, sizes));
+}
+
+const PANEL: (f64, f64) = (340.0, 262.0);
+const COLUMNS: usize = 3;
+const OURS: &str = "#1b6ca8";
+const SIMD: &str = "#c97b12";
+const MEMCPY: &str = "#777777";
+
+/// One panel a call: a bar for each workload, with marks for SIMD and memcpy, on a scale of powers of two.
+pub fn chart(files: &[&str]) {
+    let figures = Figures::read(files);
+    let (width, top) = (PANEL.0 * COLUMNS as f64 + 20.0, 78.0);
+    let height = top + PANEL.1 * CALLS.len().div_ceil(COLUMNS) as f64;
+    println!(r##"<svg xmlns="http://www.w3.org/2000/svg" width="{width}" height="{height}" font-family="sans-serif" font-size="11">"##);
+    println!(r##"<rect width="{width}" height="{height}" fill="#ffffff"/>"##);
+    println!(
+        r##"<text x="20" y="26" font-size="17">Times as fast as {}, messages of {} in all</text>"##,
+        name_of(figures.baseline()),
+        size_name(MAIN_SIZE)
+    );
+    println!(r##"<rect x="20" y="42" width="22" height="10" fill="{OURS}"/><text x="48" y="51">this library</text>"##);
+    println!(r##"<rect x="140" y="40" width="3" height="14" fill="{SIMD}"/><text x="150" y="51">SIMD by hand</text>"##);
+    println!(r##"<rect x="250" y="40" width="3" height="14" fill="{MEMCPY}"/><text x="260" y="51">memcpy of the message</text>"##);
+    for (i, (call, _)) in CALLS.iter().enumerate() {
+        let (left, top) = (PANEL.0 * (i % COLUMNS) as f64, top + PANEL.1 * (i / COLUMNS) as f64);
+        panel(&figures, call, left, top);
+    }
     println!("</svg>");
+}
+
+fn panel(figures: &Figures, call: &str, left: f64, top: f64) {
+    let (label, scale, row) = (118.0, 190.0, 15.0);
+    let most = 8.0; // 2 ^ 8 times as fast at the right edge
+    let base = left + label;
+    let at = |ratio: f64| base + scale * (ratio.max(0.5).log2() + 1.0).min(most + 1.0) / (most + 1.0);
+    let bottom = top + 18.0 + row * WORKLOADS.len() as f64;
+    println!(r##"<text x="{}" y="{}" font-size="13" font-weight="bold">{call}</text>"##, base, top + 10.0);
+    for power in (0..=8).step_by(2) {
+        let x = at(f64::from(1 << power));
+        println!(r##"<line x1="{x:.1}" y1="{}" x2="{x:.1}" y2="{bottom}" stroke="#cccccc"/>"##, top + 16.0);
+        println!(r##"<text x="{x:.1}" y="{}" text-anchor="middle">{}</text>"##, bottom + 13.0, 1 << power);
+    }
+    println!(
+        r##"<text x="{}" y="{}" text-anchor="middle">times as fast, each step four times</text>"##,
+        base + scale / 2.0,
+        bottom + 28.0
+    );
+    for (i, workload) in WORKLOADS.iter().enumerate() {
+        let y = top + 18.0 + row * i as f64;
+        println!(r##"<text x="{}" y="{}" text-anchor="end">{workload}</text>"##, base - 6.0, y + 10.0);
+        let Some(baseline) = figures.best(call, workload, MAIN_SIZE, figures.baseline()) else { continue };
+        if let Some(ours) = figures.best(call, workload, MAIN_SIZE, "ours") {
+            let end = at(ours / baseline);
+            println!(r##"<rect x="{base}" y="{y}" width="{:.1}" height="11" fill="{OURS}"/>"##, end - base);
+            println!(r##"<text x="{:.1}" y="{}" font-size="9">{:.1}</text>"##, end + 4.0, y + 9.0, ours / baseline);
+        }
+        for (who, colour) in [("simd", SIMD), ("memcpy", MEMCPY)] {
+            if let Some(rate) = figures.best(call, workload, MAIN_SIZE, who) {
+                println!(r##"<rect x="{:.1}" y="{}" width="3" height="13" fill="{colour}"/>"##, at(rate / baseline), y - 1.0);
+            }
+        }
+    }
 }

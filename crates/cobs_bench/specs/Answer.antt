@@ -1,5 +1,5 @@
 -- The answers of the library's calls, as C sees them.
-use Rattle.std.specs.Prelude.{Result, Ok, Err}
+use Rattle.std.specs.Prelude.{ℕ, Result, Ok, Err}
 use Rattle.cobs.specs.Report.{parsed_size_of, frame_size_of}
 use Rattle.cobs.specs.declared.dec.report.DecodeReport.{DecodeReport}
 use Rattle.cobs.specs.declared.dec.report.DecodeError.{DecodeError}
@@ -17,3 +17,8 @@ refusal_of TargetBufTooSmall = record { status = TOO_SMALL; parsed = 0; len = 0 
 abbrev pub answer_of : Result DecodeReport DecodeError → Answer
 answer_of (Ok report) = record { status = OK; parsed = parsed_size_of report; len = frame_size_of report }
 answer_of (Err error) = refusal_of error
+
+-- the answer for what a decoding call answers that says the message's length alone
+abbrev pub answer_of_size : Result ℕ DecodeError → Answer
+answer_of_size (Ok n) = record { status = OK; parsed = 0; len = n }
+answer_of_size (Err error) = refusal_of error

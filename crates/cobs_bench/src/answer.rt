@@ -35,7 +35,23 @@ pub(crate) fn status_of(error: &DecodeError) -> u32
     }
 }
 
-ghost use Rattle.cobs_bench.specs.Answer.{answer_of, refusal_of};
+ghost use Rattle.cobs_bench.specs.Answer.{answer_of, answer_of_size, refusal_of};
+
+/// The answer for a refusal.
+fn refusal_of(error: DecodeError) -> Answer
+    ensures { result ≡ refusal_of error }
+{
+    let status = status_of(&error);
+    let len = match error {
+        DecodeError::InvalidFrame { decoded_bytes } => decoded_bytes,
+        _ => 0,
+    };
+    Answer {
+        status,
+        parsed: 0,
+        len,
+    }
+}
 
 /// The answer for what a decoding call answers.
 pub(crate) fn answer_of(decoded: Result<DecodeReport, DecodeError>) -> Answer
@@ -47,17 +63,20 @@ pub(crate) fn answer_of(decoded: Result<DecodeReport, DecodeError>) -> Answer
             parsed: report.parsed_size(),
             len: report.frame_size(),
         },
-        Err(error) => {
-            let status = status_of(&error);
-            let len = match error {
-                DecodeError::InvalidFrame { decoded_bytes } => decoded_bytes,
-                _ => 0,
-            };
-            Answer {
-                status,
-                parsed: 0,
-                len,
-            }
-        }
+        Err(error) => refusal_of(error),
+    }
+}
+
+/// The answer for what a decoding call answers that says the message's length alone.
+pub(crate) fn answer_of_size(decoded: Result<usize, DecodeError>) -> Answer
+    ensures { result ≡ answer_of_size decoded }
+{
+    match decoded {
+        Ok(len) => Answer {
+            status: OK,
+            parsed: 0,
+            len,
+        },
+        Err(error) => refusal_of(error),
     }
 }

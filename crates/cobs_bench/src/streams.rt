@@ -21,7 +21,7 @@ fn next_len(chunk: usize, left: usize) -> usize
 /// Pushes the message to a `CobsEncoder`, `chunk` bytes at a time, or all at once where `chunk` is 0, up to the first
 /// chunk that it refuses, and ends the frame.
 #[unsafe(no_mangle)]
-pub extern "C" fn cobs_encode_in_chunks(source: &[u8], chunk: usize, dest: &mut [u8]) -> Answer
+pub extern "C" fn bench_encoder_push(source: &[u8], chunk: usize, dest: &mut [u8]) -> Answer
     ensures fits { encoded_len source.now ≤ length dest.old
         → result ≡ record { status = OK; parsed = length source.now; len = encoded_len source.now } }
     ensures too_small { length dest.old < encoded_len source.now → result.status ≡ TOO_SMALL }
@@ -65,7 +65,7 @@ pub extern "C" fn cobs_encode_in_chunks(source: &[u8], chunk: usize, dest: &mut 
 /// Pushes the stream to a `CobsDecoder`, `chunk` bytes at a time, or all at once where `chunk` is 0, up to the first
 /// refusal.
 #[unsafe(no_mangle)]
-pub extern "C" fn cobs_push_in_chunks(stream: &[u8], chunk: usize, dest: &mut [u8]) -> Answer
+pub extern "C" fn bench_push(stream: &[u8], chunk: usize, dest: &mut [u8]) -> Answer
     ensures { result ≡ tallied 0 0 (outcomes_to_end stream.now (length dest.old)) }
 {
     let mut decoder = CobsDecoder::new(dest);
@@ -102,7 +102,7 @@ pub extern "C" fn cobs_push_in_chunks(stream: &[u8], chunk: usize, dest: &mut [u
 
 /// Feeds the stream to a `CobsDecoder` one byte after another, up to the first refusal.
 #[unsafe(no_mangle)]
-pub extern "C" fn cobs_feed_each(stream: &[u8], dest: &mut [u8]) -> Answer
+pub extern "C" fn bench_feed_each(stream: &[u8], dest: &mut [u8]) -> Answer
     ensures { result ≡ tallied 0 0 (outcomes_to_end stream.now (length dest.old)) }
 {
     let mut decoder = CobsDecoder::new(dest);

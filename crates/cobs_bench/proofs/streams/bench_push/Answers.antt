@@ -4,8 +4,8 @@ use Rattle.cobs.specs.Report.{parsed_size_of, frame_size_of}
 use Rattle.cobs_bench.specs.Tally.{tallied, outcomes_to_end}
 use Rattle.cobs_bench.proofs.ChunkLemmas.{take-to, take-within, take-rest}
 use Rattle.cobs_bench.proofs.TallyLemmas.{TalliedTo, tally-start, tally-bound, pushed-none, pushed-some, pushed-size, pushed-refused}
-use Rattle.cobs_bench.proofs.streams.cobs_push_in_chunks.Goals as goal
-use Rattle.cobs_bench.proofs.streams.cobs_push_in_chunks.Goals.{then-at-end, else-at-end}
+use Rattle.cobs_bench.proofs.streams.bench_push.Goals as goal
+use Rattle.cobs_bench.proofs.streams.bench_push.Goals.{then-at-end, else-at-end}
 
 pub by_push-init : goal.by_push-init
 by_push-init c =

@@ -1,7 +1,7 @@
 use Rattle.std.proofs.Common.{◌≤◌, ◌-◌, length, take}
 use Rattle.cobs.specs.Buffers.{lent_buffer, lent_phase}
 use Rattle.cobs_bench.proofs.TallyLemmas.{TalliedTo}
-use Rattle.cobs_bench.proofs.streams.cobs_push_in_chunks.Given as goal
+use Rattle.cobs_bench.proofs.streams.bench_push.Given as goal
 
 abbrev pub invariant-by_push : goal.invariant-by_push
 invariant-by_push l = record {

@@ -1,7 +1,7 @@
 use Rattle.std.proofs.Common.{◌≡◌, ◌≤◌, length, take, drop, ◌-◌}
 use Rattle.cobs.specs.CobsEncoder.{slice_of, HasTaken}
 use Rattle.cobs.specs.Length.{encoded_len}
-use Rattle.cobs_bench.proofs.streams.cobs_encode_in_chunks.Given as goal
+use Rattle.cobs_bench.proofs.streams.bench_encoder_push.Given as goal
 
 abbrev pub invariant-by_chunk : goal.invariant-by_chunk
 invariant-by_chunk l = record {

@@ -6,7 +6,7 @@ use Rattle.cobs.specs.CobsEncoder.{HasTaken, slice_of, reached_by}
 use Rattle.cobs.proofs.InPlaceSteps.{drop-later}
 use Rattle.cobs_bench.specs.Tally.{chunk_len}
 use Rattle.cobs_bench.proofs.ChunkLemmas.{take-to, encoded_len-all, encoded_len-front, next-within}
-use Rattle.cobs_bench.proofs.streams.cobs_encode_in_chunks.Goals as goal
+use Rattle.cobs_bench.proofs.streams.bench_encoder_push.Goals as goal
 
 pub by_chunk-preserved : goal.by_chunk-preserved
 by_chunk-preserved c =

@@ -4,8 +4,8 @@ use Rattle.cobs.specs.Decoder.{Phase}
 use Rattle.cobs.specs.Buffers.{lent_buffer, lent_phase}
 use Rattle.cobs_bench.specs.Tally.{tallied, outcomes_to_end}
 use Rattle.cobs_bench.proofs.TallyLemmas.{TalliedTo, tally-start, fed-none, fed-some, fed-refused, tally-bound}
-use Rattle.cobs_bench.proofs.streams.cobs_feed_each.Goals as goal
-use Rattle.cobs_bench.proofs.streams.cobs_feed_each.Goals.{in-Ok-None, in-Ok-Some}
+use Rattle.cobs_bench.proofs.streams.bench_feed_each.Goals as goal
+use Rattle.cobs_bench.proofs.streams.bench_feed_each.Goals.{in-Ok-None, in-Ok-Some}
 
 pub by_byte-init : goal.by_byte-init
 by_byte-init c =
