@@ -10,27 +10,25 @@ use Rattle.cobs.specs.Grammar.{is_full}
 use Rattle.cobs.specs.Piece.{output, lacks, last_part}
 use Rattle.cobs.specs.Stream.{Outcome, stream_outcomes, unended, is_nonempty}
 use Rattle.cobs.specs.Decoder.{Phase, Idle, Within, Over, DecoderAfter, Feeds, phase_after}
-use Rattle.cobs.specs.Streaming.{outcome_told}
+use Rattle.cobs.specs.Streaming.{outcome_at, TakesPiece}
 use Rattle.cobs.specs.Reading.{Read, bytes_given, GaveBytes, all_given, EndsIn, Runs, CallsForMore, EachCalledFor, EndsFirst, EndsFirstIn, ReaderState, IsBehind, AtStreamEnd, Tells, ReadsNext, HasTaken, IsOutcome, TellsFirst}
 use Rattle.cobs.specs.declared.framed.Next.{Next}
 use Rattle.cobs.specs.declared.framed.Next.TheVariants as nexts
 use Rattle.cobs.specs.declared.framed.ReadFault.TheVariants as faults
-use Rattle.cobs.specs.declared.dec.report.DecodeError.{DecodeError}
+use Rattle.cobs.specs.declared.dec.frame_decoder.PieceEnd.{PieceEnd}
 use Rattle.cobs.proofs.StreamLemmas.{stream_outcomes-append, stream_outcomes-no_zero, unended-append, unended-no_zero, unended-zero}
-use Rattle.cobs.proofs.SoFar.{SoFar, step_zero, around_zero, left_nothing}
+use Rattle.cobs.proofs.SoFar.{left_nothing}
 
 -- THE FIRST PIECE THAT ENDS
 
--- a zero whose answer tells an outcome, where nothing was told before
-pub EndsFirstIn-at_zero : {buffer₀ buffer buffer' : List ℕ} {phase₀ phase phase' : Phase} {result : Result (Option ℕ) DecodeError} (bytes : List ℕ) (i : ℕ) → i < length bytes → get_or bytes i 0 ≡ 0
-    → SoFar buffer₀ phase₀ buffer phase (take i bytes) [] → Feeds buffer phase (get_or bytes i 0) result buffer' phase'
-    → (outcome : Outcome) → outcome_told result buffer' ≡ outcome ∷ [] → (p : List ℕ) → DecoderAfter buffer₀ phase₀ p → EndsFirstIn p bytes (length buffer₀) outcome (drop (i + 1) bytes)
-EndsFirstIn-at_zero {buffer₀} bytes i within z s f outcome e p h = record {
-  front = take i bytes;
-  cut = around_zero bytes i within z ∙ append_assoc (take i bytes) (0 ∷ []) (drop (i + 1) bytes);
-  none_before = sym (s.outcomes p h);
-  here = ap (λ (x : List ℕ). stream_outcomes (p ++ x) (length buffer₀)) (ap (λ (x : ℕ). take i bytes ++ x ∷ []) (sym z) ∙ sym (take_more bytes i 0 within))
-      ∙ sym ((step_zero bytes i within z s f).outcomes p h) ∙ e;
+-- a piece that a decoder has taken
+pub EndsFirstIn-taken : {buffer buffer' : List ℕ} {phase phase' : Phase} {end : PieceEnd} {count : ℕ} (bytes : List ℕ) → TakesPiece buffer phase bytes (Some (end, count)) buffer' phase'
+    → (p : List ℕ) → DecoderAfter buffer phase p → EndsFirstIn p bytes (length buffer) (outcome_at end buffer') (drop count bytes)
+EndsFirstIn-taken {buffer} {buffer'} {phase} {phase'} {end} {count} bytes t p h = record {
+  front = t.ends.front;
+  cut = sym (take-append-drop count bytes) ∙ ap (λ (x : List ℕ). x ++ drop count bytes) t.ends.taken ∙ append_assoc t.ends.front (0 ∷ []) (drop count bytes);
+  none_before = t.ends.none_before p h.phased;
+  here = ap (λ (x : List ℕ). stream_outcomes (p ++ x) (length buffer)) (sym t.ends.taken) ∙ sym (t.takes.outcomes p h);
 }
 
 -- bytes behind a stream t in which no piece has ended

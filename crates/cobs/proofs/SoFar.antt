@@ -1,25 +1,22 @@
 -- A stream so far: what a loop that feeds one byte after another keeps.
-use Rattle.std.proofs.Common.{◌≡◌, ◌≢◌, ℕ, zero, suc, ◌+◌, ◌<◌, Bool, true, false, cond, leb, List, [], ◌∷◌, ◌++◌, length, take, drop, get_or, refl, sym, ap, ◌∙◌, subst, arith, append_assoc, length-take, inl, inr, ◌⊎◌, Option, Result}
+use Rattle.std.proofs.Common.{◌≡◌, ◌≢◌, ℕ, zero, suc, ◌+◌, ◌-◌, ◌<◌, ◌≤◌, Bool, true, false, cond, leb, List, [], ◌∷◌, ◌++◌, length, take, drop, get_or, refl, sym, ap, ◌∙◌, subst, arith, append_assoc, length-append, length-take, length-drop, inl, inr, ◌⊎◌, Option, Some, None, Result}
 use Rattle.std.specs.List.{Contains}
 use Rattle.std.proofs.lemmas.List.{append-nil, take_all, take_more, take-append-drop}
-use Rattle.std.proofs.lemmas.List.Elements.{All-nil, All-cons, All-append, Contains-push_cases}
+use Rattle.std.proofs.lemmas.List.Elements.{All-nil, All-cons, All-append, Contains-push_cases, Contains-append_cases}
 use Rattle.std.proofs.lemmas.Bool.{leb-true}
+use Rattle.std.proofs.Math.Seq.{take-add}
 use Rattle.cobs.specs.Grammar.{HasNoZero}
 use Rattle.cobs.specs.Piece.{output, is_whole, parts, parts_behind}
 use Rattle.cobs.specs.Stream.{unended, Outcome, Message, Broken, TooLong, outcome_of, stream_outcomes}
 use Rattle.cobs.specs.Decoder.{Phase, Idle, PhaseAfter, DecoderAfter, Feeds, fed, told, answer_to, answer_at_end, phase_after}
-use Rattle.cobs.specs.Streaming.{outcome_told, AreAlike, AreAlikeAtFirst}
+use Rattle.cobs.specs.Streaming.{outcome_told, AreAlike, AreAlikeAtFirst, TakesBytes, TakesPiece, EndsPiece, outcome_at, IsWithin}
+use Rattle.cobs.specs.declared.dec.frame_decoder.PieceEnd.{PieceEnd}
 use Rattle.cobs.specs.declared.dec.report.DecodeError.{DecodeError}
-use Rattle.cobs.proofs.StreamLemmas.{stream_outcomes-no_zero, unended-no_zero, stream_outcomes-push, unended-push, outcomes_at, outcomes_at-nonzero, stream_outcomes-append}
+use Rattle.cobs.proofs.StreamLemmas.{stream_outcomes-no_zero, unended-no_zero, stream_outcomes-push, unended-push, outcomes_at, outcomes_at-nonzero, stream_outcomes-append, unended-append}
 
 -- from a buffer and a phase before, these bytes led to a buffer, a phase and these outcomes
-pub record SoFar (buffer₀ : List ℕ) (phase₀ : Phase) (buffer : List ℕ) (phase : Phase) (done : List ℕ) (found : List Outcome) : Type 0 where
-  pub len : length buffer ≡ length buffer₀
-  pub phased : (p : List ℕ) → PhaseAfter (length buffer₀) phase₀ p → PhaseAfter (length buffer₀) phase (unended (p ++ done))
-  pub after : (p : List ℕ) → DecoderAfter buffer₀ phase₀ p → DecoderAfter buffer phase (unended (p ++ done))
-  pub outcomes : (p : List ℕ) → DecoderAfter buffer₀ phase₀ p → found ≡ stream_outcomes (p ++ done) (length buffer₀)
-  pub alike : (p : List ℕ) → PhaseAfter (length buffer₀) phase₀ p → AreAlikeAtFirst found (stream_outcomes (p ++ done) (length buffer₀))
-  pub after_zero : (p : List ℕ) → PhaseAfter (length buffer₀) phase₀ p → Contains done 0 → DecoderAfter buffer phase (unended (p ++ done))
+abbrev pub SoFar : List ℕ → Phase → List ℕ → Phase → List ℕ → List Outcome → Type 0
+SoFar buffer₀ phase₀ buffer phase done found = TakesBytes buffer₀ phase₀ done found buffer phase
 
 -- AN IDLE DECODER
 
@@ -72,6 +69,10 @@ told-phased buffer (c ∷ q) = at_test (leb (length (output (c ∷ q))) (length 
 alike-nil : (xs : List Outcome) → AreAlikeAtFirst xs [] → xs ≡ []
 alike-nil [] h = refl
 alike-nil (x ∷ xs) h = absurd h
+
+nil-alike : (xs : List Outcome) → AreAlikeAtFirst [] xs → xs ≡ []
+nil-alike [] h = refl
+nil-alike (x ∷ xs) h = absurd h
 
 alike-refl : (x : Outcome) → AreAlike x x
 alike-refl (Message m) = refl
@@ -180,6 +181,39 @@ module _ {buffer₀ buffer buffer' : List ℕ} {phase₀ phase phase' : Phase} {
     after_zero = λ p h z. rw (unended_on p done 0) (DecoderAfter-idle buffer' phase' (f.zero_idle refl));
   }
 
+-- MORE BYTES AT ONCE
+
+unended_more : (p done more : List ℕ) → unended (p ++ (done ++ more)) ≡ unended (unended (p ++ done) ++ more)
+unended_more p done more = ap unended (sym (append_assoc p done more)) ∙ unended-append (p ++ done) more
+
+outcomes_more : (p done more : List ℕ) (n : ℕ) → stream_outcomes (p ++ (done ++ more)) n ≡ stream_outcomes (p ++ done) n ++ stream_outcomes (unended (p ++ done) ++ more) n
+outcomes_more p done more n = ap (λ (x : List ℕ). stream_outcomes x n) (sym (append_assoc p done more)) ∙ stream_outcomes-append (p ++ done) more n
+
+module _ {buffer₀ buffer buffer' : List ℕ} {phase₀ phase phase' : Phase} {done more : List ℕ} {found told : List Outcome} where
+  told_more : SoFar buffer₀ phase₀ buffer phase done found → TakesBytes buffer phase more told buffer' phase' → (p : List ℕ) → DecoderAfter buffer phase (unended (p ++ done))
+      → told ≡ stream_outcomes (unended (p ++ done) ++ more) (length buffer₀)
+  told_more s t p w = t.outcomes _ w ∙ ap (stream_outcomes (unended (p ++ done) ++ more)) s.len
+
+  -- bytes taken behind those so far
+  pub SoFar-more : SoFar buffer₀ phase₀ buffer phase done found → TakesBytes buffer phase more told buffer' phase' → SoFar buffer₀ phase₀ buffer' phase' (done ++ more) (found ++ told)
+  SoFar-more s t = record {
+    len = t.len ∙ s.len;
+    phased = λ p h. rw (unended_more p done more) (subst (λ n. PhaseAfter n phase' (unended (unended (p ++ done) ++ more))) s.len (t.phased _ (here s p h)));
+    after = λ p h. rw (unended_more p done more) (t.after _ (s.after p h));
+    outcomes = λ p h. rw (outcomes_more p done more (length buffer₀), ← s.outcomes p h, told_more s t p (s.after p h)) refl;
+    alike = λ p h. elim (zero_or_none done) [
+      | inl old ↦ rw (outcomes_more p done more (length buffer₀), told_more s t p (s.after_zero p h old)) (alike-append _ _ _ (s.alike p h))
+      | inr none ↦
+          let plain : stream_outcomes (p ++ done) (length buffer₀) ≡ [] = stream_outcomes-no_zero (p ++ done) (length buffer₀) (All-append (λ b. b ≢ 0) p done h.piece none) in
+          rw (outcomes_more p done more (length buffer₀), plain, alike-nil found (rw plain at (s.alike p h)))
+          (subst (λ n. AreAlikeAtFirst told (stream_outcomes (unended (p ++ done) ++ more) n)) s.len (t.alike _ (here s p h)))
+    ];
+    after_zero = λ p h z. rw (unended_more p done more) (elim (Contains-append_cases done more 0 z) [
+      | inl old ↦ t.after _ (s.after_zero p h old)
+      | inr new ↦ t.after_zero _ (here s p h) new
+    ]);
+  }
+
 -- NOTHING TOLD
 
 nothing_at : (q : List ℕ) (n : ℕ) → outcomes_at q 0 n ≡ [] → q ≡ []
@@ -231,3 +265,59 @@ module _ {buffer₀ buffer buffer' : List ℕ} {phase₀ phase phase' : Phase} {
   pub told_nothing : get_or bytes i 0 ≡ 0 → SoFar buffer₀ phase₀ buffer phase (take i bytes) found → Feeds buffer phase (get_or bytes i 0) result buffer' phase'
       → (p : List ℕ) → PhaseAfter (length buffer₀) phase₀ p → stream_outcomes (p ++ bytes) (length buffer₀) ≡ [] → outcome_told result buffer' ≡ []
   told_nothing z s f = nothing_told bytes i within z s (subst (λ b. Feeds buffer phase b result buffer' phase') z f)
+
+-- A PIECE IS TAKEN
+
+pub TakesPiece-at_zero : {buffer₀ buffer buffer' : List ℕ} {phase₀ phase phase' : Phase} {result : Result (Option ℕ) DecodeError} (bytes : List ℕ) (i : ℕ) → i < length bytes → get_or bytes i 0 ≡ 0
+    → SoFar buffer₀ phase₀ buffer phase (take i bytes) [] → Feeds buffer phase (get_or bytes i 0) result buffer' phase'
+    → (end : PieceEnd) → outcome_told result buffer' ≡ outcome_at end buffer' ∷ [] → IsWithin (length buffer') end
+    → TakesPiece buffer₀ phase₀ bytes (Some (end, i + 1)) buffer' phase'
+TakesPiece-at_zero {buffer₀} {buffer} {buffer'} bytes i within z s f end e fits = record {
+  takes = rw e at (step_zero bytes i within z s f);
+  ends = record {
+    front = take i bytes;
+    taken = take_more bytes i 0 within ∙ ap (λ (x : ℕ). take i bytes ++ x ∷ []) z;
+    none_before = λ p h. nil-alike (stream_outcomes (p ++ take i bytes) (length buffer₀)) (s.alike p h);
+  };
+  idle = f.zero_idle z;
+  within = (omega (arith, within), subst (λ n. IsWithin n end) (f.len ∙ s.len) fits);
+}
+
+-- no piece ends in all of the bytes
+pub TakesPiece-none : {buffer₀ buffer : List ℕ} {phase₀ phase : Phase} (bytes : List ℕ) → SoFar buffer₀ phase₀ buffer phase bytes [] → TakesPiece buffer₀ phase₀ bytes None buffer phase
+TakesPiece-none bytes s = record { takes = s; ends = tt; idle = tt; within = tt }
+
+-- THE BYTES FROM A PLACE ON
+
+-- they are a range of the bytes
+from_place : (bytes : List ℕ) (i : ℕ) → take (length bytes - i) (drop i bytes) ≡ drop i bytes
+from_place bytes i = take_all (length bytes - i) (drop i bytes) (omega (arith, length-drop i bytes))
+
+-- a piece that ends in them takes some, and no more than they are
+pub piece_count : {buffer buffer' : List ℕ} {phase phase' : Phase} (bytes : List ℕ) (i : ℕ) (end : PieceEnd) (count : ℕ) → i ≤ length bytes
+    → TakesPiece buffer phase (take (length bytes - i) (drop i bytes)) (Some (end, count)) buffer' phase' → (0 < count) × (i + count ≤ length bytes)
+piece_count bytes i end count within t =
+    let rest = take (length bytes - i) (drop i bytes) in
+    (omega (arith, ap length t.ends.taken, length-append t.ends.front (0 ∷ []), length-take count rest), omega (arith, t.within.0, length-take (length bytes - i) (drop i bytes), length-drop i bytes, within))
+
+module _ {buffer₀ buffer buffer' : List ℕ} {phase₀ phase phase' : Phase} {found : List Outcome} (bytes : List ℕ) (i : ℕ) where
+  -- no piece ends in them
+  pub SoFar-all : SoFar buffer₀ phase₀ buffer phase (take i bytes) found → TakesPiece buffer phase (take (length bytes - i) (drop i bytes)) None buffer' phase' → SoFar buffer₀ phase₀ buffer' phase' bytes found
+  SoFar-all s t = rw (append-nil found, take-append-drop i bytes) at (SoFar-more s (rw (from_place bytes i) at t.takes))
+
+  -- a piece ends in them behind so many
+  pub SoFar-piece : (end : PieceEnd) (count : ℕ) → SoFar buffer₀ phase₀ buffer phase (take i bytes) found → TakesPiece buffer phase (take (length bytes - i) (drop i bytes)) (Some (end, count)) buffer' phase'
+      → SoFar buffer₀ phase₀ buffer' phase' (take (i + count) bytes) (found ++ outcome_at end buffer' ∷ [])
+  SoFar-piece end count s t = rw (take-add i count bytes) (SoFar-more s (rw (from_place bytes i) at t.takes))
+
+  -- so the stream has an outcome
+  pub outcome_there : (end : PieceEnd) (count : ℕ) → SoFar buffer₀ phase₀ buffer phase (take i bytes) found → TakesPiece buffer phase (take (length bytes - i) (drop i bytes)) (Some (end, count)) buffer' phase'
+      → (p : List ℕ) → PhaseAfter (length buffer₀) phase₀ p → stream_outcomes (p ++ bytes) (length buffer₀) ≡ [] → ⊥
+  outcome_there end count s t p h none =
+      let n = length buffer₀ in
+      let front = take (i + count) bytes in
+      let whole : stream_outcomes (p ++ bytes) n ≡ stream_outcomes (p ++ front) n ++ stream_outcomes (unended (p ++ front) ++ drop (i + count) bytes) n
+      = ap (λ (x : List ℕ). stream_outcomes (p ++ x) n) (sym (take-append-drop (i + count) bytes)) ∙ outcomes_more p front (drop (i + count) bytes) n in
+      let nothing : stream_outcomes (p ++ front) n ≡ [] = left_nothing _ _ (sym whole ∙ none) in
+      let nil : found ++ outcome_at end buffer' ∷ [] ≡ [] = alike-nil _ (rw nothing at ((SoFar-piece end count s t).alike p h)) in
+      absurd (omega (arith, ap length nil, length-append found (outcome_at end buffer' ∷ [])))

@@ -20,7 +20,8 @@ mod unbuffered;
 mod vector;
 mod write_buffer;
 
-pub use frame_decoder::FrameDecoder;
+pub(crate) use frame_decoder::piece_end;
+pub use frame_decoder::{FrameDecoder, PieceEnd};
 pub use heapless::CobsDecoderHeapless;
 pub use in_place::{decode_in_place, decode_in_place_report, decode_in_place_with_sentinel};
 pub use kind::{FrameKind, frame_kind};

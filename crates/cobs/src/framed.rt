@@ -8,10 +8,10 @@ ghost use Rattle.std.specs.Prelude.{◌≡◌, ℕ, ◌≤◌, List, [], ◌∷�
 ghost use Rattle.cobs.specs.Grammar.{HasNoZero};
 ghost use Rattle.cobs.specs.Stream.{Outcome, stream_outcomes, unended, is_nonempty};
 ghost use Rattle.cobs.specs.Decoder.{DecoderAfter};
-ghost use Rattle.cobs.specs.Streaming.{outcome_told};
+ghost use Rattle.cobs.specs.Streaming.{outcome_at, IsWithin};
 ghost use Rattle.cobs.specs.Reading.{HasTaken, IsOutcome, TellsFirst};
 
-use crate::dec::{DecodeError, FrameDecoder};
+use crate::dec::{FrameDecoder, PieceEnd};
 use std::io::Read;
 
 /// What a call of `next_frame` found.
@@ -101,42 +101,15 @@ impl<R: Read> FrameSource for Recorded<R> {
     }
 }
 
-/// What the answer to a zero tells: nothing where no piece has ended.
-fn next_of(answer: Result<Option<usize>, DecodeError>) -> Option<Next>
-    ensures { (buffer : List ℕ) → IfOk answer (λ found. IfSome found (λ n. n ≤ length buffer)) →
-        MatchOption result (outcome_told answer buffer ≡ []) (λ next. (outcome : Outcome)
-        × (outcome_told answer buffer ≡ outcome ∷ []) × IsOutcome next buffer outcome) }
+/// What a piece that ended so comes to.
+fn next_of(end: PieceEnd) -> Next
+    ensures { (buffer : List ℕ) → IsWithin (length buffer) end → IsOutcome result buffer (outcome_at end buffer) }
 {
-    match answer {
-        Ok(None) | Err(DecodeError::EmptyFrame) => None,
-        Ok(Some(n)) => Some(Next::Message(n)),
-        Err(DecodeError::InvalidFrame { decoded_bytes }) => Some(Next::Broken(decoded_bytes)),
-        Err(DecodeError::TargetBufTooSmall) => Some(Next::TooLong),
+    match end {
+        PieceEnd::Message(n) => Next::Message(n),
+        PieceEnd::Broken(count) => Next::Broken(count),
+        PieceEnd::TooLong => Next::TooLong,
     }
-}
-
-/// Feeds bytes until a piece ends: what it came to, and how many bytes were fed.
-fn feed_until<D: FrameDecoder>(decoder: &mut D, bytes: &[u8]) -> Option<(Next, usize)>
-    ensures within { IfSome result (λ found. found.1 ≤ length bytes.now) }
-    ensures none_ended { IfNone result ((p : List ℕ) → DecoderAfter (D.bytes decoder.old) (D.phase decoder.old) p →
-        stream_outcomes (p ++ bytes.now) (length (D.bytes decoder.new)) ≡ []) }
-    ensures after { IfNone result ((p : List ℕ) → DecoderAfter (D.bytes decoder.old) (D.phase decoder.old) p →
-        DecoderAfter (D.bytes decoder.new) (D.phase decoder.new) (unended (p ++ bytes.now))) }
-    ensures first { IfSome result (λ found. (p : List ℕ) → DecoderAfter (D.bytes decoder.old) (D.phase decoder.old) p →
-        TellsFirst found.0 p bytes.now (D.bytes decoder.new) (drop found.1 bytes.now)) }
-    ensures idle { OnSome result (DecoderAfter (D.bytes decoder.new) (D.phase decoder.new) []) }
-    ensures len { length (D.bytes decoder.new) ≡ length (D.bytes decoder.old) }
-    ensures same_loan { D.loan decoder.new ≡ D.loan decoder.old }
-{
-    'by_byte: for (i, byte) in bytes.iter().enumerate() {
-        let answer = decoder.feed_byte(*byte);
-        if *byte == 0 {
-            if let Some(next) = next_of(answer) {
-                return Some((next, i + 1));
-            }
-        }
-    }
-    None
 }
 
 /// Whether a piece is unfinished behind these bytes, given whether one was before them.
@@ -213,16 +186,16 @@ impl<D: FrameDecoder> FrameReader<D> {
     {
         let chunk = self.chunk;
         let kept = &chunk[self.start..self.end];
-        match feed_until(&mut self.decoder, kept) {
+        match self.decoder.feed_piece(kept) {
             None => {
                 self.unfinished = is_unfinished(self.unfinished, kept);
                 self.start = self.end;
                 None
             }
-            Some((next, fed)) => {
+            Some((end, count)) => {
                 self.unfinished = false;
-                self.start += fed;
-                Some(next)
+                self.start += count;
+                Some(next_of(end))
             }
         }
     }

@@ -13,7 +13,7 @@ mod window;
 
 pub use dec::{
     CobsDecoder, CobsDecoderHeapless, CobsDecoderOwned, DecodeError, DecodeReport, DecodeResult,
-    DecodeVecError, DecoderState, DecodingResult, FrameDecoder, FrameKind, PushError,
+    DecodeVecError, DecoderState, DecodingResult, FrameDecoder, FrameKind, PieceEnd, PushError,
     UnbufferedDecoder, WriteBuffer, decode, decode_in_place, decode_in_place_report,
     decode_in_place_with_sentinel, decode_vec, decode_vec_with_sentinel, decode_with_sentinel,
     frame_kind,

@@ -9,10 +9,9 @@ ghost use Rattle.std.specs.Option.{SomeIff};
 ghost use Rattle.cobs.specs.Decoder.{DecoderAfter, PhaseAfter};
 ghost use Rattle.cobs.specs.Length.{max_encoded_len};
 ghost use Rattle.cobs.specs.Stream.{Message, stream_outcomes, unended};
-ghost use Rattle.cobs.specs.Streaming.{outcome_told, outcomes_in, AreAlikeAtFirst, AreFrames, messages_in, room_for_frames};
+ghost use Rattle.cobs.specs.Streaming.{outcome_at, outcome_in, outcomes_in, IsWithin, AreAlikeAtFirst, AreFrames, messages_in, room_for_frames};
 
-use crate::dec::DecodeError;
-pub use crate::dec::FrameDecoder;
+use crate::dec::{FrameDecoder, PieceEnd};
 use crate::enc::encode;
 use crate::{max_encoding_length, max_encoding_overhead};
 use std::alloc::{AllocError, Global};
@@ -30,23 +29,15 @@ pub enum FrameOutcome {
     TooLong,
 }
 
-/// The outcome that the answer to a zero tells: none where no piece has ended.
-fn outcome_of(
-    alloc: Global,
-    answer: Result<Option<usize>, DecodeError>,
-    buffer: &[u8],
-) -> Result<Option<FrameOutcome>, AllocError>
-    requires { IfOk answer (λ found. IfSome found (λ n. n ≤ length buffer.now)) }
-    ensures told { IfOk result (λ one. outcomes_in (option_to_list one) ≡ outcome_told answer buffer.now) }
-    ensures succeeds { outcome_told answer buffer.now ≡ [] → IsOk result }
+/// The outcome of a piece that ended so, over the buffer behind it.
+fn outcome_of(alloc: Global, end: PieceEnd, buffer: &[u8]) -> Result<FrameOutcome, AllocError>
+    requires { IsWithin (length buffer.now) end }
+    ensures { IfOk result (λ outcome. outcome_in outcome ≡ outcome_at end buffer.now) }
 {
-    match answer {
-        Ok(None) | Err(DecodeError::EmptyFrame) => Ok(None),
-        Ok(Some(n)) => Ok(Some(FrameOutcome::Message(Vec::from_slice(alloc, &buffer[..n])?))),
-        Err(DecodeError::InvalidFrame { decoded_bytes }) => {
-            Ok(Some(FrameOutcome::Broken(decoded_bytes)))
-        }
-        Err(DecodeError::TargetBufTooSmall) => Ok(Some(FrameOutcome::TooLong)),
+    match end {
+        PieceEnd::Message(n) => Ok(FrameOutcome::Message(Vec::from_slice(alloc, &buffer[..n])?)),
+        PieceEnd::Broken(count) => Ok(FrameOutcome::Broken(count)),
+        PieceEnd::TooLong => Ok(FrameOutcome::TooLong),
     }
 }
 
@@ -91,13 +82,10 @@ pub fn decode_stream<D: FrameDecoder>(
     ensures same_loan { D.loan decoder.new ≡ D.loan decoder.old }
 {
     let mut outcomes = Vec::new(alloc);
-    'by_byte: for byte in bytes {
-        let answer = decoder.feed_byte(*byte);
-        if *byte == 0 {
-            if let Some(outcome) = outcome_of(alloc, answer, decoder.buffer())? {
-                outcomes.push(outcome)?;
-            }
-        }
+    let mut at = 0;
+    'by_piece: while let Some((end, count)) = decoder.feed_piece(&bytes[at..]) {
+        outcomes.push(outcome_of(alloc, end, decoder.buffer())?)?;
+        at += count;
     }
     Ok(outcomes)
 }

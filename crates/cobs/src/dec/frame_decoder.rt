@@ -1,8 +1,36 @@
 //! What the streaming decoders have in common.
-ghost use Rattle.std.specs.Prelude.{◌≡◌, ℕ, List};
+ghost use Rattle.std.specs.Prelude.{◌≡◌, ◌≤◌, ◌∷◌, ℕ, List, [], length, IfOk, IfSome, MatchOption};
 ghost use Rattle.cobs.specs.Decoder.{Feeds, Phase};
+ghost use Rattle.cobs.specs.Streaming.{outcome_at, outcome_told, IsWithin, TakesPiece};
 
 use crate::dec::report::DecodeError;
+
+/// How a piece of a stream ended.
+#[derive(Debug, Clone, Copy, PartialEq, Eq)]
+pub enum PieceEnd {
+    /// The piece is a frame. Its message is the first so many bytes of the decoder's buffer.
+    Message(usize),
+
+    /// The piece breaks off inside a block. It decodes to this many bytes, those of the broken block included.
+    Broken(usize),
+
+    /// The piece decodes to more bytes than the decoder's buffer holds.
+    TooLong,
+}
+
+/// What the answer to a zero tells: nothing where no piece has ended.
+pub(crate) fn piece_end(answer: Result<Option<usize>, DecodeError>) -> Option<PieceEnd>
+    ensures { (buffer : List ℕ) → IfOk answer (λ found. IfSome found (λ n. n ≤ length buffer)) →
+        MatchOption result (outcome_told answer buffer ≡ []) (λ end.
+        (outcome_told answer buffer ≡ outcome_at end buffer ∷ []) × IsWithin (length buffer) end) }
+{
+    match answer {
+        Ok(None) | Err(DecodeError::EmptyFrame) => None,
+        Ok(Some(n)) => Some(PieceEnd::Message(n)),
+        Err(DecodeError::InvalidFrame { decoded_bytes }) => Some(PieceEnd::Broken(decoded_bytes)),
+        Err(DecodeError::TargetBufTooSmall) => Some(PieceEnd::TooLong),
+    }
+}
 
 /// A decoder that is fed one byte of a stream after another, and owns or borrows the buffer of its output.
 ///
@@ -25,6 +53,30 @@ pub trait FrameDecoder {
     fn feed_byte(&mut self, byte: u8) -> Result<Option<usize>, DecodeError>
         ensures feeds { Feeds (bytes self.old) (phase self.old) byte result (bytes self.new) (phase self.new) }
         ensures same_loan { loan self.new ≡ loan self.old };
+
+    /// Takes bytes of the stream through the first zero that ends a piece.
+    ///
+    /// `None` says that no piece ended in these bytes, and that all were taken. `Some((end, count))` says that a piece
+    /// ended with the byte at index `count - 1`, and how; the bytes behind it were not looked at. A piece that is too
+    /// long for the buffer ends at its zero, as every other: so no byte has to be given one by one.
+    ///
+    /// An implementation has no need to write this method, which feeds one byte after another; the decoders of this
+    /// library copy whole blocks instead.
+    fn feed_piece(&mut self, stream: &[u8]) -> Option<(PieceEnd, usize)>
+        ensures takes { TakesPiece (bytes self.old) (phase self.old) stream.now result
+            (bytes self.new) (phase self.new) }
+        ensures same_loan { loan self.new ≡ loan self.old }
+    {
+        'by_byte: for (i, byte) in stream.iter().enumerate() {
+            let answer = self.feed_byte(*byte);
+            if *byte == 0 {
+                if let Some(end) = piece_end(answer) {
+                    return Some((end, i + 1));
+                }
+            }
+        }
+        None
+    }
 
     /// The whole buffer.
     fn buffer(&self) -> &[u8]

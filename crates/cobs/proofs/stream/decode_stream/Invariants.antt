@@ -1,14 +1,18 @@
-use Rattle.std.proofs.Common.{◌≡◌, take}
+use Rattle.std.proofs.Common.{◌≡◌, ◌≤◌, ◌-◌, length, take}
 use Rattle.cobs.specs.Streaming.{outcomes_in}
 use Rattle.cobs.proofs.SoFar.{SoFar}
 use Rattle.cobs.proofs.stream.decode_stream.Given as goal
 
-abbrev pub invariant-by_byte : goal.invariant-by_byte
-invariant-by_byte g l =
+abbrev pub invariant-by_piece : goal.invariant-by_piece
+invariant-by_piece g l =
     let bytes = g.D.FrameDecoder.bytes in
     let phase = g.D.FrameDecoder.phase in
     let loan = g.D.FrameDecoder.loan in
     record {
-      so_far : SoFar (bytes l.fn.decoder) (phase l.fn.decoder) (bytes l.decoder) (phase l.decoder) (take l.byte-index l.bytes) (outcomes_in l.outcomes.items);
+      within : l.at ≤ length l.bytes;
+      so_far : SoFar (bytes l.fn.decoder) (phase l.fn.decoder) (bytes l.decoder) (phase l.decoder) (take l.at l.bytes) (outcomes_in l.outcomes.items);
       same_loan : loan l.decoder ≡ loan l.fn.decoder;
     }
+
+abbrev pub decreases-by_piece : goal.decreases-by_piece
+decreases-by_piece g l = length l.bytes - l.at
