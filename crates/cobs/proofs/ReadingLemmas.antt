@@ -1,7 +1,7 @@
 -- Reads, one after another, and the first piece that ends in what they gave.
-use Rattle.std.proofs.Common.{◌≡◌, ◌≢◌, ℕ, ◌+◌, ◌-◌, ◌<◌, ◌≤◌, Bool, true, false, cond, leb, List, [], ◌∷◌, ◌++◌, length, take, drop, get_or, refl, sym, ap, ◌∙◌, subst, arith, append_assoc, length-append, Option, Some, None, Result, Ok, Err}
+use Rattle.std.proofs.Common.{◌≡◌, ◌≢◌, ℕ, ◌+◌, ◌-◌, ◌<◌, ◌≤◌, Bool, true, false, cond, leb, List, [], ◌∷◌, ◌++◌, length, take, drop, refl, sym, ap, ◌∙◌, subst, arith, append_assoc, length-append, Some, None, Ok, Err}
 use Rattle.std.specs.List.{All}
-use Rattle.std.proofs.lemmas.List.{append-nil, take_all, take_more, take-append-le, take-append-drop, flat_map_more, length_push, same_from_push}
+use Rattle.std.proofs.lemmas.List.{append-nil, take_all, take-append-le, take-append-drop, flat_map_more, length_push, same_from_push}
 use Rattle.std.proofs.lemmas.List.Elements.{All-nil, All-push, All-take, All-head, All-tail}
 use Rattle.std.proofs.lemmas.Grind.{flat_map-append}
 use Rattle.std.proofs.Math.Logic.{∥∥₁_elim}
@@ -9,7 +9,7 @@ use Rattle.std.proofs.Math.Bool.{Bool-set}
 use Rattle.cobs.specs.Grammar.{is_full}
 use Rattle.cobs.specs.Piece.{output, lacks, last_part}
 use Rattle.cobs.specs.Stream.{Outcome, stream_outcomes, unended, is_nonempty}
-use Rattle.cobs.specs.Decoder.{Phase, Idle, Within, Over, DecoderAfter, Feeds, phase_after}
+use Rattle.cobs.specs.Decoder.{Phase, Idle, Within, Over, DecoderAfter, phase_after}
 use Rattle.cobs.specs.Streaming.{outcome_at, TakesPiece}
 use Rattle.cobs.specs.Reading.{Read, bytes_given, GaveBytes, all_given, EndsIn, Runs, CallsForMore, EachCalledFor, EndsFirst, EndsFirstIn, ReaderState, IsBehind, AtStreamEnd, Tells, ReadsNext, HasTaken, IsOutcome, TellsFirst}
 use Rattle.cobs.specs.declared.framed.Next.{Next}

@@ -9,7 +9,7 @@ use Rattle.cobs.specs.Grammar.{HasNoZero}
 use Rattle.cobs.specs.Piece.{output, is_whole, parts, parts_behind}
 use Rattle.cobs.specs.Stream.{unended, Outcome, Message, Broken, TooLong, outcome_of, stream_outcomes}
 use Rattle.cobs.specs.Decoder.{Phase, Idle, PhaseAfter, DecoderAfter, Feeds, fed, told, answer_to, answer_at_end, phase_after}
-use Rattle.cobs.specs.Streaming.{outcome_told, AreAlike, AreAlikeAtFirst, TakesBytes, TakesPiece, EndsPiece, outcome_at, IsWithin}
+use Rattle.cobs.specs.Streaming.{outcome_told, AreAlike, AreAlikeAtFirst, TakesBytes, TakesPiece, outcome_at, IsWithin}
 use Rattle.cobs.specs.declared.dec.frame_decoder.PieceEnd.{PieceEnd}
 use Rattle.cobs.specs.declared.dec.report.DecodeError.{DecodeError}
 use Rattle.cobs.proofs.StreamLemmas.{stream_outcomes-no_zero, unended-no_zero, stream_outcomes-push, unended-push, outcomes_at, outcomes_at-nonzero, stream_outcomes-append, unended-append}

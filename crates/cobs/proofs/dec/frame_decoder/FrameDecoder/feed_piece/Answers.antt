@@ -1,4 +1,4 @@
-use Rattle.std.proofs.Common.{◌∙◌, ap, refl, get_or}
+use Rattle.std.proofs.Common.{◌∙◌, refl, get_or}
 use Rattle.cobs.specs.Decoder.{Feeds}
 use Rattle.cobs.proofs.SoFar.{SoFar-start, TakesPiece-at_zero, step_none, step_nonzero}
 use Rattle.cobs.proofs.dec.frame_decoder.FrameDecoder.feed_piece.Goals as goal
