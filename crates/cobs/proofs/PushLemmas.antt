@@ -9,7 +9,7 @@ use Rattle.cobs.specs.Piece.{output, is_whole, parts, parts_behind}
 use Rattle.cobs.specs.Stream.{stretches, is_nonempty, but_last, ended_pieces, unended, Outcome, Message, Broken, TooLong, outcome_of, stream_outcomes}
 use Rattle.cobs.specs.Buffer.{overwritten}
 use Rattle.cobs.specs.Decoder.{Phase, Idle, PhaseAfter, DecoderAfter, fed, told, answer_at_end, answer_to, Feeds}
-use Rattle.cobs.specs.Push.{last_piece, answer_at, IsQuiet, StopsAfter, refused_outcomes, PushesBytes}
+use Rattle.cobs.specs.Push.{FeedsInTurn, last_piece, answer_at, IsQuiet, StopsAfter, refused_outcomes, PushesBytes}
 use Rattle.cobs.specs.Report.{report_of}
 use Rattle.cobs.specs.declared.dec.report.DecodeError.{DecodeError}
 use Rattle.cobs.specs.declared.dec.report.DecodeError.TheVariants.{InvalidFrame, TargetBufTooSmall}
@@ -126,6 +126,16 @@ pub record Pushed (buffer₀ : List ℕ) (phase₀ : Phase) (buffer : List ℕ) 
   pub untouched : (p : List ℕ) → PhaseAfter (length buffer₀) phase₀ p
       → drop (length (output (unended (p ++ take i bytes)))) buffer ≡ drop (length (output (unended (p ++ take i bytes)))) buffer₀
   pub zero_idle : (front : List ℕ) → take i bytes ≡ front ++ 0 ∷ [] → phase ≡ Idle
+  pub feeds : FeedsInTurn buffer₀ phase₀ (take i bytes) (Ok None) buffer phase
+
+-- one more byte is fed
+FeedsInTurn-push : (xs buffer₀ : List ℕ) (phase₀ : Phase) {buffer buffer' : List ℕ} {phase phase' : Phase} {byte : ℕ} {answer : Result (Option ℕ) DecodeError}
+    → FeedsInTurn buffer₀ phase₀ xs (Ok None) buffer phase → Feeds buffer phase byte answer buffer' phase' → FeedsInTurn buffer₀ phase₀ (xs ++ byte ∷ []) answer buffer' phase'
+FeedsInTurn-push [] buffer₀ phase₀ {buffer} {buffer'} {phase} {phase'} {byte} {answer} f g =
+    subst (λ (b : List ℕ). Feeds b phase₀ byte answer buffer' phase') f.1 (subst (λ (p : Phase). Feeds buffer p byte answer buffer' phase') f.2 g)
+FeedsInTurn-push (x ∷ []) buffer₀ phase₀ {buffer} {buffer'} {phase} f g = (buffer, phase, f, g)
+FeedsInTurn-push (x ∷ y ∷ xs) buffer₀ phase₀ (between, phase_between, f, more) g =
+    (between, phase_between, f, FeedsInTurn-push (y ∷ xs) between phase_between more g)
 
 no_push : (front : List ℕ) (b : ℕ) → [] ≡ front ++ b ∷ [] → ⊥
 no_push [] b e = cc
@@ -166,6 +176,7 @@ Pushed-start buffer phase bytes = record {
   after = λ p h. rw (append-nil p, unended-no_zero p h.phased.piece) h;
   untouched = λ p h. refl;
   zero_idle = λ front e. absurd (no_push front 0 e);
+  feeds = (refl, refl, refl);
 }
 
 module _ {buffer₀ buffer buffer' : List ℕ} {phase₀ phase phase' : Phase} {result : Result (Option ℕ) DecodeError} (bytes : List ℕ) (i : ℕ) (within : i < length bytes)
@@ -190,6 +201,9 @@ module _ {buffer₀ buffer buffer' : List ℕ} {phase₀ phase phase' : Phase} {
 
   zero_behind : (front : List ℕ) → take (i + 1) bytes ≡ front ++ 0 ∷ [] → phase' ≡ Idle
   zero_behind front e = f.zero_idle (last_same (take i bytes) front (get_or bytes i 0) 0 (sym (take_more bytes i 0 within) ∙ e))
+
+  feeds_behind : FeedsInTurn buffer₀ phase₀ (take (i + 1) bytes) result buffer' phase'
+  feeds_behind = subst (λ (l : List ℕ). FeedsInTurn buffer₀ phase₀ l result buffer' phase') (sym (take_more bytes i 0 within)) (FeedsInTurn-push (take i bytes) buffer₀ phase₀ s.feeds f)
 
   -- the piece that was read
   piece_nonzero : get_or bytes i 0 ≢ 0 → (p : List ℕ) → PhaseAfter (length buffer₀) phase₀ p → last_piece (p ++ take (i + 1) bytes) ≡ unended (p ++ take (i + 1) bytes)
@@ -269,6 +283,7 @@ module _ {buffer₀ buffer buffer' : List ℕ} {phase₀ phase phase' : Phase} {
     after = after_behind;
     untouched = untouched_on e;
     zero_idle = zero_behind;
+    feeds = subst (λ r. FeedsInTurn buffer₀ phase₀ (take (i + 1) bytes) r buffer' phase') e feeds_behind;
   }
 
   -- THE PUSH ENDS
@@ -313,6 +328,7 @@ module _ {buffer₀ buffer buffer' : List ℕ} {phase₀ phase phase' : Phase} {
     within = omega arith;
     bound = rw (← s.len) (rw e at f.bound);
     zero_idle = zero_behind;
+    feeds = subst (λ r. FeedsInTurn buffer₀ phase₀ (take (i + 1) bytes) r buffer' phase') e feeds_behind;
     len = f.len ∙ s.len;
   }
 
@@ -328,6 +344,7 @@ module _ {buffer₀ buffer buffer' : List ℕ} {phase₀ phase phase' : Phase} {
     within = omega arith;
     bound = tt;
     zero_idle = zero_behind;
+    feeds = subst (λ r. FeedsInTurn buffer₀ phase₀ (take (i + 1) bytes) r buffer' phase') is feeds_behind;
     len = f.len ∙ s.len;
   }
 
@@ -350,5 +367,6 @@ pushed_none {buffer₀} {buffer} {phase₀} {phase} bytes i all s =
       within = omega arith;
       bound = tt;
       zero_idle = λ front e. s.zero_idle front (ap (λ (k : ℕ). take k bytes) all ∙ e);
+      feeds = subst (λ (k : ℕ). FeedsInTurn buffer₀ phase₀ (take k bytes) (Ok None) buffer phase) all s.feeds;
       len = s.len;
     }

@@ -3,7 +3,7 @@ use Rattle.std.specs.Prelude.{ℕ, ◌≡◌, ◌+◌, ◌-◌, ◌<◌, ◌≤�
 use Rattle.cobs.specs.Grammar.{last_of}
 use Rattle.cobs.specs.Piece.{output}
 use Rattle.cobs.specs.Stream.{stretches, is_nonempty, unended, Outcome, Message, Broken, TooLong, stream_outcomes}
-use Rattle.cobs.specs.Decoder.{Phase, Idle, PhaseAfter, DecoderAfter, answer_to}
+use Rattle.cobs.specs.Decoder.{Phase, Idle, PhaseAfter, DecoderAfter, Feeds, answer_to}
 use Rattle.cobs.specs.Buffer.{overwritten}
 use Rattle.cobs.specs.Report.{parsed_size_of, frame_size_of}
 use Rattle.cobs.specs.declared.dec.report.DecodeReport.{DecodeReport}
@@ -62,6 +62,21 @@ pushed_outcomes bytes (Ok (Some report)) buffer = Message (take (frame_size_of r
 pushed_outcomes bytes (Err refusal) buffer =
     if slice_index bytes (refusal.parsed_size - 1) == 0 then refused_outcomes refusal.error else []
 
+-- the bytes are fed one after another, from the one buffer and phase to the other: each but the last is answered by
+-- `Ok(None)`, and the last one so
+abbrev pub FeedsInTurn : List ℕ → Phase → List ℕ → Result (Option ℕ) DecodeError → List ℕ → Phase → Type 0
+FeedsInTurn buffer phase [] answer buffer' phase' = (answer ≡ Ok None) × (buffer' ≡ buffer) × (phase' ≡ phase)
+FeedsInTurn buffer phase (byte ∷ []) answer buffer' phase' = Feeds buffer phase byte answer buffer' phase'
+FeedsInTurn buffer phase (byte ∷ next ∷ bytes) answer buffer' phase' =
+    (between : List ℕ) × (phase_between : Phase) × Feeds buffer phase byte (Ok None) between phase_between
+    × FeedsInTurn between phase_between (next ∷ bytes) answer buffer' phase'
+
+-- what the last byte that a push consumed is answered by `feed`
+abbrev pub last_answer : Result (Option DecodeReport) PushError → Result (Option ℕ) DecodeError
+last_answer (Ok None) = Ok None
+last_answer (Ok (Some report)) = Ok (Some (frame_size_of report))
+last_answer (Err refusal) = Err refusal.error
+
 -- a push of the bytes takes a decoder from the one buffer and phase to the other, and this is its answer
 pub record PushesBytes (buffer : List ℕ) (phase : Phase) (bytes : List ℕ)
     (result : Result (Option DecodeReport) PushError) (buffer' : List ℕ) (phase' : Phase) : Type 0 where
@@ -78,7 +93,8 @@ pub record PushesBytes (buffer : List ℕ) (phase : Phase) (bytes : List ℕ)
   -- it tells of each piece that ended in these bytes
   pub outcomes : (p : List ℕ) → DecoderAfter buffer phase p
       → stream_outcomes (p ++ consumed bytes result) (length buffer) ≡ pushed_outcomes bytes result buffer'
-  -- in every phase
+  -- in every phase: it feeds the bytes that were consumed
+  pub feeds : FeedsInTurn buffer phase (consumed bytes result) (last_answer result) buffer' phase'
   pub within : consumed_size bytes result ≤ length bytes
   pub bound : IfOk result (λ found. IfSome found (λ report. frame_size_of report ≤ length buffer))
   pub zero_idle : (front : List ℕ) → consumed bytes result ≡ front ++ 0 ∷ [] → phase' ≡ Idle

@@ -3,13 +3,15 @@
 //! No test stands here: each function has a contract, and the prover derives it from the clauses of the calls that it
 //! makes. So a clause that said too little for its users would be noticed here.
 ghost use Rattle.std.specs.Prelude.{◌≡◌, ◌≢◌, ◌≤◌, ◌<◌, ◌+◌, ◌↔◌, All, length, take, slice_index, IfOk, IfSome, IsTrue};
+ghost use Rattle.cobs.specs.Buffers.{lent_buffer, lent_phase, lent_slice, owned_buffer};
 ghost use Rattle.cobs.specs.Grammar.{Reads};
 ghost use Rattle.cobs.specs.Headline.{IsPiece};
 ghost use Rattle.cobs.specs.Length.{encoded_len};
-ghost use Rattle.cobs.specs.Sentinel.{xor_each};
 ghost use Rattle.cobs.specs.Streaming.{AreFrames, messages_in};
 
-use cobs::{decode, decode_with_sentinel, encode_frames, encode_frames_room, encode_with_sentinel};
+use cobs::{
+    CobsDecoder, CobsDecoderOwned, decode, encode_frames, encode_frames_room, encode_with_sentinel,
+};
 use std::alloc::{AllocError, Global};
 
 /// Whether the piece reads as the message, and the message fits the buffer.
@@ -43,4 +45,20 @@ pub fn frames_of(alloc: Global, messages: &[Vec<u8>]) -> Result<Option<Vec<u8>>,
         return Ok(None);
     }
     Ok(Some(encode_frames(alloc, messages)?))
+}
+
+/// Pushes a zero, which changes no byte of the buffer in any phase: also where that was written to inside a piece.
+pub fn push_zero(decoder: &mut CobsDecoderOwned)
+    ensures same_bytes { owned_buffer decoder.new ≡ owned_buffer decoder.old }
+{
+    let _answer = decoder.push(&[0]);
+}
+
+/// Pushes no bytes, which changes nothing in any phase.
+pub fn push_nothing(decoder: &mut CobsDecoder<'_>)
+    ensures same_bytes { lent_buffer decoder.new ≡ lent_buffer decoder.old }
+    ensures same_phase { lent_phase decoder.new ≡ lent_phase decoder.old }
+    ensures same_slice { lent_slice decoder.new ≡ lent_slice decoder.old }
+{
+    let _answer = decoder.push(&[]);
 }
