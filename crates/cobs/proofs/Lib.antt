@@ -13,6 +13,7 @@ pub mod ReachLemmas
 pub mod MarkLemmas
 pub mod AfterLemmas
 pub mod CoreLemmas
+pub mod PlaceLemmas
 pub mod ShortSteps
 pub mod RoomLemmas
 pub mod Examples

@@ -13,6 +13,8 @@ use Rattle.cobs.specs.contracts.dec.owned.CobsDecoderOwned.{the_row as owned_row
 use Rattle.cobs.specs.contracts.dec.heapless.CobsDecoderHeapless.{the_row as heapless_row}
 use Rattle.cobs.specs.Decoder.{Phase, Idle, Within, Over}
 use Rattle.cobs.specs.declared.dec.unbuffered.UnbufferedDecoder.{UnbufferedDecoder}
+use Rattle.cobs.specs.declared.dec.unbuffered.DecoderPhase.{DecoderPhase}
+use Rattle.cobs.specs.declared.dec.unbuffered.DecoderPhase.TheVariants.{Idle as TheIdle, Within as TheWithin, TooLong}
 
 -- the phase by the block, full or not, that lacks so many bytes, with so many bytes written: before a piece begins, it
 -- is as behind a full block, with nothing written
@@ -21,6 +23,12 @@ phase_with false left count = Within false left count
 phase_with true (suc left) count = Within true (suc left) count
 phase_with true zero (suc count) = Within true zero (suc count)
 phase_with true zero zero = Idle
+
+-- the phase that a `DecoderPhase` names
+abbrev pub phase_at : DecoderPhase → Phase
+phase_at TheIdle = Idle
+phase_at (TheWithin is_full lacking written) = phase_with is_full lacking written
+phase_at TooLong = Over
 
 -- where a decoder stands whose buffer is passed to each call, as the three others do by the one in them
 abbrev pub phase_of : UnbufferedDecoder → Phase

@@ -7,6 +7,7 @@ pub mod Buffer
 pub mod Encoder
 pub mod Mask
 pub mod CobsEncoder
+pub mod UnbufferedEncoder
 pub mod Table
 pub mod Decoder
 pub mod Report

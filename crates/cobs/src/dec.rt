@@ -31,7 +31,7 @@ use piece::{decode_ended, leading_zeros, piece_len};
 pub use report::{DecodeError, DecodeReport, DecodingResult, PushError};
 pub use sentinel::decode_with_sentinel;
 pub use state::{DecodeResult, DecoderState};
-pub use unbuffered::UnbufferedDecoder;
+pub use unbuffered::{DecoderPhase, UnbufferedDecoder};
 pub use vector::{DecodeVecError, decode_vec, decode_vec_with_sentinel};
 pub use write_buffer::WriteBuffer;
 

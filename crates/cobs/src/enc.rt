@@ -9,6 +9,7 @@ mod error;
 mod room;
 mod sentinel;
 mod state;
+mod unbuffered;
 mod vector;
 
 pub(crate) use blocks::FULL_CODE;
@@ -21,6 +22,7 @@ pub use sentinel::{
     encode_including_sentinels, encode_with_sentinel, try_encode_including_sentinels,
 };
 pub use state::{EncoderState, PushResult};
+pub use unbuffered::{EncoderProgress, UnbufferedEncoder};
 pub use vector::{encode_vec, encode_vec_including_sentinels, encode_vec_with_sentinel};
 
 /// Writes the encoded frame of `source` to the front of `dest`, and answers its length in bytes.

@@ -13,15 +13,16 @@ mod window;
 
 pub use dec::{
     CobsDecoder, CobsDecoderHeapless, CobsDecoderOwned, DecodeError, DecodeReport, DecodeResult,
-    DecodeVecError, DecoderState, DecodingResult, FrameDecoder, FrameKind, PieceEnd, PushError,
-    UnbufferedDecoder, WriteBuffer, decode, decode_in_place, decode_in_place_report,
+    DecodeVecError, DecoderPhase, DecoderState, DecodingResult, FrameDecoder, FrameKind, PieceEnd,
+    PushError, UnbufferedDecoder, WriteBuffer, decode, decode_in_place, decode_in_place_report,
     decode_in_place_with_sentinel, decode_vec, decode_vec_with_sentinel, decode_with_sentinel,
     frame_kind,
 };
 pub use enc::{
-    CobsEncoder, DestBufTooSmallError, EncoderState, PushResult, encode,
-    encode_including_sentinels, encode_vec, encode_vec_including_sentinels,
-    encode_vec_with_sentinel, encode_with_sentinel, try_encode, try_encode_including_sentinels,
+    CobsEncoder, DestBufTooSmallError, EncoderProgress, EncoderState, PushResult,
+    UnbufferedEncoder, encode, encode_including_sentinels, encode_vec,
+    encode_vec_including_sentinels, encode_vec_with_sentinel, encode_with_sentinel, try_encode,
+    try_encode_including_sentinels,
 };
 pub use framed::{FrameReader, FrameSource, Next, ReadFault, Recorded};
 pub use stream::{FrameOutcome, decode_stream, encode_frames, encode_frames_room};

@@ -3,7 +3,7 @@ ghost use Rattle.std.specs.Prelude.{◌≡◌, ◌<◌, ◌≤◌, ℕ, false, L
 ghost use Rattle.cobs.specs.Grammar.{HasNoZero};
 ghost use Rattle.cobs.specs.Decoder.{DecoderAfter, Feeds, Idle, Over};
 ghost use Rattle.cobs.specs.declared.dec.report.DecodeError.TheVariants.{TargetBufTooSmall};
-ghost use Rattle.cobs.specs.Buffers.{phase_of};
+ghost use Rattle.cobs.specs.Buffers.{phase_at, phase_of};
 ghost use Rattle.cobs.specs.Machine.{next_phase, next_buffer, next_answer, end_answer, FedInTurn};
 ghost use Rattle.cobs.specs.Push.{PushesBytes};
 
@@ -18,6 +18,28 @@ const FEW: usize = 16;
 
 /// The code of a full block, as a byte.
 const FULL: u8 = FULL_CODE as u8;
+
+/// Where an [`UnbufferedDecoder`] stands.
+#[derive(Debug, Clone, Copy, PartialEq, Eq)]
+pub enum DecoderPhase {
+    /// No piece has begun.
+    Idle,
+
+    /// Inside a piece.
+    Within {
+        /// Whether the open block is a full one, which no zero joins to the next.
+        is_full: bool,
+
+        /// How many bytes the open block lacks.
+        lacking: u8,
+
+        /// How many bytes of the piece's output are written.
+        written: usize,
+    },
+
+    /// The output of this piece was too long for the buffer.
+    TooLong,
+}
 
 /// Decodes a stream of frames, each ended by a zero, into a buffer that the caller passes to each call.
 ///
@@ -134,6 +156,49 @@ impl UnbufferedDecoder {
         self.code = byte;
         self.left = byte - 1;
         Ok(None)
+    }
+
+    /// The decoder that stands there, whatever the numbers are. A full block that lacks nothing, with nothing written, is
+    /// where an idle decoder stands.
+    pub fn from_phase(phase: DecoderPhase) -> Self
+        ensures { phase_of result ≡ phase_at phase }
+    {
+        match phase {
+            DecoderPhase::Idle => UnbufferedDecoder::new(),
+            DecoderPhase::Within {
+                is_full,
+                lacking,
+                written,
+            } => UnbufferedDecoder {
+                dest_idx: written,
+                left: lacking,
+                code: if is_full { FULL } else { 1 },
+                over: false,
+            },
+            DecoderPhase::TooLong => UnbufferedDecoder {
+                dest_idx: 0,
+                left: 0,
+                code: FULL,
+                over: true,
+            },
+        }
+    }
+
+    /// Where the decoder stands.
+    pub fn phase(&self) -> DecoderPhase
+        ensures { phase_at result ≡ phase_of self.now }
+    {
+        if self.over {
+            return DecoderPhase::TooLong;
+        }
+        if self.dest_idx == 0 && self.left == 0 && self.code == FULL {
+            return DecoderPhase::Idle;
+        }
+        DecoderPhase::Within {
+            is_full: self.code == FULL,
+            lacking: self.left,
+            written: self.dest_idx,
+        }
     }
 
     /// Makes the decoder idle, so that the next byte begins a new piece.

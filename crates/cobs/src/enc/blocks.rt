@@ -1,5 +1,5 @@
 //! How a message is cut into blocks: the core that every encoder into a slice stands on.
-ghost use Rattle.std.specs.Prelude.{◌≡◌, ◌≢◌, ◌<◌, ◌≤◌, ◌+◌, ◌-◌, ◌%◌, ◌++◌, [], ℕ, List, false, length, take, drop, slice_set};
+ghost use Rattle.std.specs.Prelude.{◌≡◌, ◌≢◌, ◌<◌, ◌≤◌, ◌+◌, ◌-◌, ◌%◌, ◌^◌, ◌++◌, [], ℕ, List, false, length, take, drop, slice_set};
 ghost use Rattle.cobs.specs.Grammar.{IsEncodedFrame};
 ghost use Rattle.cobs.specs.Encoder.{CobsEncoderAfter, end_of, open_len};
 ghost use Rattle.cobs.specs.Mask.{lowest, without_lowest};
@@ -54,6 +54,27 @@ impl Progress {
         self.index = index;
         self.next = next;
         self.full = full;
+    }
+
+    /// So far: an open block with this code at this index, which is only the place behind a full one, or not.
+    pub(crate) fn at(index: usize, code: usize, full: bool) -> Progress
+        requires some { 0 < code }
+        requires open_block { code < 255 }
+        requires next { index + code < 2 ^ 64 }
+        ensures { result ≡ record { block = record { index = index; code = code }; full = full } }
+    {
+        Progress {
+            index,
+            next: index + code,
+            full,
+        }
+    }
+
+    /// Whether the frame's last block is full.
+    pub(crate) fn is_full(&self) -> bool
+        ensures { result ≡ self.now.full }
+    {
+        self.full
     }
 
     /// Where the code of the open block belongs.

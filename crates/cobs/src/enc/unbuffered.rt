@@ -1,0 +1,178 @@
+//! The encoder whose buffer is passed to each call, of a message that comes in pieces.
+ghost use Rattle.std.specs.Prelude.{◌≡◌, ◌<◌, ◌≤◌, ◌++◌, ◌↔◌, [], ℕ, List, length, take, drop, IsOk, IsSome, IfOk, IfSome, OnOk, OnErr, false};
+ghost use Rattle.cobs.specs.Grammar.{IsEncodedFrame};
+ghost use Rattle.cobs.specs.Length.{encoded_len};
+ghost use Rattle.cobs.specs.Encoder.{CobsEncoderAfter, end_of};
+ghost use Rattle.cobs.specs.UnbufferedEncoder.{reached_at, reached_by, IsPlaceIn};
+
+use crate::enc::DestBufTooSmallError;
+use crate::enc::blocks::{FULL_CODE, Progress, append, close};
+use crate::enc::room::fits;
+
+/// How far the frame in a buffer has come, in plain numbers: where an [`UnbufferedEncoder`] stands.
+#[derive(Debug, Clone, Copy, PartialEq, Eq)]
+pub struct EncoderProgress {
+    /// The index in the buffer at which the code of the open block belongs.
+    pub index: usize,
+
+    /// The code that the open block has so far, which is one more than it has bytes: from 1 to 254.
+    pub code: u8,
+
+    /// Whether the frame's last block is full, so that the open one is only the place behind it.
+    pub is_full: bool,
+}
+
+/// Encodes a message that comes in pieces, straight into a buffer that the caller passes to each call.
+///
+/// It writes the frame that [`CobsEncoder`](crate::CobsEncoder) writes, and has no buffer of its own: a few words say how
+/// far the frame has come. So an encoder can lie in a struct beside its buffer, or cross to another language.
+///
+/// From the first push to the end of the message the caller passes one buffer, as the call before left it. Any other
+/// buffer is safe too, of whatever length, and so is any [`EncoderProgress`]: no call panics, or answers a length that is
+/// greater than the buffer's. But what the buffer holds then isn't said.
+///
+/// ```
+/// let mut encoder = UnbufferedEncoder::new();
+/// let mut buffer = [0; 64];
+/// encoder.push(&mut buffer, b"hel")?;
+/// encoder.push(&mut buffer, b"lo")?;
+/// let len = encoder.finalize(&mut buffer)?;
+/// assert_eq!(rt; &buffer[..len], b"\x06hello");
+/// ```
+#[derive(Debug, Drop)]
+pub struct UnbufferedEncoder {
+    progress: EncoderProgress,
+}
+
+impl UnbufferedEncoder {
+    /// An encoder that has taken nothing yet, for a buffer of one byte at least: the frame of the empty message has one.
+    pub fn new() -> Self
+        ensures start { reached_by result ≡ record { block = record { index = 0; code = 1 }; full = false } }
+        ensures taken { (buffer : List ℕ) → 0 < length buffer → CobsEncoderAfter buffer (reached_by result) [] }
+    {
+        UnbufferedEncoder {
+            progress: EncoderProgress {
+                index: 0,
+                code: 1,
+                is_full: false,
+            },
+        }
+    }
+
+    /// The encoder that stands there, whatever the numbers are.
+    pub fn from_progress(progress: EncoderProgress) -> Self
+        ensures { reached_by result ≡ reached_at progress }
+    {
+        UnbufferedEncoder { progress }
+    }
+
+    /// Where the encoder stands.
+    pub fn progress(&self) -> EncoderProgress
+        ensures { reached_at result ≡ reached_by self.now }
+    {
+        self.progress
+    }
+
+    /// Makes the encoder one that has taken nothing.
+    pub fn reset(&mut self)
+        ensures start { reached_by self.new ≡ record { block = record { index = 0; code = 1 }; full = false } }
+        ensures taken { (buffer : List ℕ) → 0 < length buffer → CobsEncoderAfter buffer (reached_by self.new) [] }
+    {
+        *self = UnbufferedEncoder::new();
+    }
+
+    /// The place as the core has it, where a frame that ends in this buffer can have come so far.
+    fn place_in(&self, dest: &[u8]) -> Option<Progress>
+        ensures known { IsSome result ↔ IsPlaceIn (length dest.now) (reached_by self.now) }
+        ensures place { IfSome result (λ progress. progress ≡ reached_by self.now) }
+    {
+        let EncoderProgress {
+            index,
+            code,
+            is_full,
+        } = self.progress;
+        let code = code as usize;
+        if code == 0 || code == FULL_CODE || dest.len() < index {
+            return None;
+        }
+        if !is_full && dest.len() - index < code {
+            return None;
+        }
+        Some(Progress::at(index, code, is_full))
+    }
+
+    /// Stands where the core has come to.
+    fn stand_at(&mut self, progress: &Progress)
+        ensures place { reached_by self.new ≡ progress.now }
+        ensures some { 0 < progress.now.block.code }
+        ensures open_block { progress.now.block.code < 255 }
+    {
+        self.progress = EncoderProgress {
+            index: progress.index(),
+            code: progress.code() as u8,
+            is_full: progress.is_full(),
+        };
+    }
+
+    /// Takes the next bytes of the message.
+    ///
+    /// They are refused exactly where the encoded frame of all the bytes that were taken so far, followed by these, is
+    /// longer than the buffer, or where no frame can have come so far in a buffer of this length. Then neither the
+    /// encoder nor the buffer has changed, so the caller may end the frame, or push fewer bytes. An empty push changes
+    /// nothing. The bytes of the buffer behind the frame are never written.
+    ///
+    /// # Errors
+    /// `DestBufTooSmallError` where the bytes are refused.
+    pub fn push(&mut self, dest: &mut [u8], bytes: &[u8]) -> Result<(), DestBufTooSmallError>
+        ensures fits { (m : List ℕ) → CobsEncoderAfter dest.old (reached_by self.old) m
+            → (IsOk result ↔ (encoded_len (m ++ bytes.now) ≤ length dest.old)) }
+        ensures taken { OnOk result ((m : List ℕ) → CobsEncoderAfter dest.old (reached_by self.old) m
+            → CobsEncoderAfter dest.new (reached_by self.new) (m ++ bytes.now)) }
+        ensures rest { OnOk result (let end = end_of (reached_by self.new) in drop end dest.new ≡ drop end dest.old) }
+        ensures within { OnOk result (IsPlaceIn (length dest.new) (reached_by self.new)) }
+        ensures len { length dest.new ≡ length dest.old }
+        ensures refused { OnErr result ((dest.new ≡ dest.old) × (reached_by self.new ≡ reached_by self.old)) }
+        ensures empty { bytes.now ≡ [] → (dest.new ≡ dest.old) × (reached_by self.new ≡ reached_by self.old) }
+    {
+        let Some(mut progress) = self.place_in(dest) else {
+            return Err(DestBufTooSmallError);
+        };
+        if bytes.is_empty() {
+            return Ok(());
+        }
+        let room = dest.len() - progress.index();
+        if !fits(progress.code(), bytes, room) {
+            return Err(DestBufTooSmallError);
+        }
+        append(bytes, dest, &mut progress);
+        self.stand_at(&progress);
+        Ok(())
+    }
+
+    /// Ends the message, and answers the length of its encoded frame in bytes. The buffer begins with that frame, and the
+    /// encoder has taken nothing. Every byte behind the frame is as it was.
+    ///
+    /// # Errors
+    /// `DestBufTooSmallError` where no frame can have come so far in a buffer of this length. Then neither the encoder nor
+    /// the buffer has changed.
+    pub fn finalize(&mut self, dest: &mut [u8]) -> Result<usize, DestBufTooSmallError>
+        ensures fits { (m : List ℕ) → CobsEncoderAfter dest.old (reached_by self.old) m → IsOk result }
+        ensures len { IfOk result (λ n. (m : List ℕ) → CobsEncoderAfter dest.old (reached_by self.old) m
+            → n ≡ encoded_len m) }
+        ensures frame { IfOk result (λ n. (m : List ℕ) → CobsEncoderAfter dest.old (reached_by self.old) m
+            → IsEncodedFrame (take n dest.new) m) }
+        ensures end { IfOk result (λ n. n ≡ end_of (reached_by self.old)) }
+        ensures within { IfOk result (λ n. n ≤ length dest.old) }
+        ensures rest { IfOk result (λ n. drop n dest.new ≡ drop n dest.old) }
+        ensures buffer_len { length dest.new ≡ length dest.old }
+        ensures start { OnOk result (reached_by self.new ≡ record { block = record { index = 0; code = 1 }; full = false }) }
+        ensures refused { OnErr result ((dest.new ≡ dest.old) × (reached_by self.new ≡ reached_by self.old)) }
+    {
+        let Some(progress) = self.place_in(dest) else {
+            return Err(DestBufTooSmallError);
+        };
+        let len = close(dest, progress);
+        self.reset();
+        Ok(len)
+    }
+}
