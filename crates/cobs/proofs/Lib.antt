@@ -48,3 +48,4 @@ pub mod StepLemmas
 pub mod PushHeadline
 pub mod FlatLemmas
 pub mod VectorHeadline
+pub mod TakenLemmas

@@ -214,6 +214,15 @@ module _ {buffer₀ buffer buffer' : List ℕ} {phase₀ phase phase' : Phase} {
     ]);
   }
 
+-- A BYTE ALONE
+
+module _ {buffer buffer' : List ℕ} {phase phase' : Phase} {result : Result (Option ℕ) DecodeError} where
+  pub TakesBytes-zero : Feeds buffer phase 0 result buffer' phase' → outcome_told result buffer' ≡ [] → TakesBytes buffer phase (0 ∷ []) [] buffer' phase'
+  TakesBytes-zero f none = rw none at (SoFar-zero (SoFar-start buffer phase) f)
+
+  pub TakesBytes-nonzero : (b : ℕ) → b ≢ 0 → Feeds buffer phase b result buffer' phase' → TakesBytes buffer phase (b ∷ []) [] buffer' phase'
+  TakesBytes-nonzero b nz f = SoFar-nonzero b nz (SoFar-start buffer phase) f
+
 -- NOTHING TOLD
 
 nothing_at : (q : List ℕ) (n : ℕ) → outcomes_at q 0 n ≡ [] → q ≡ []
@@ -321,3 +330,10 @@ module _ {buffer₀ buffer buffer' : List ℕ} {phase₀ phase phase' : Phase} {
       let nothing : stream_outcomes (p ++ front) n ≡ [] = left_nothing _ _ (sym whole ∙ none) in
       let nil : found ++ outcome_at end buffer' ∷ [] ≡ [] = alike-nil _ (rw nothing at ((SoFar-piece end count s t).alike p h)) in
       absurd (omega (arith, ap length nil, length-append found (outcome_at end buffer' ∷ [])))
+
+-- so many of them, which tell nothing
+pub SoFar-run : {buffer₀ buffer buffer' : List ℕ} {phase₀ phase phase' : Phase} {found : List Outcome} (bytes : List ℕ) (i count : ℕ) → SoFar buffer₀ phase₀ buffer phase (take i bytes) found
+    → TakesBytes buffer phase (take count (take (length bytes - i) (drop i bytes))) [] buffer' phase' → SoFar buffer₀ phase₀ buffer' phase' (take (i + count) bytes) found
+SoFar-run {buffer₀} {buffer} {buffer'} {phase₀} {phase} {phase'} {found} bytes i count s t =
+    subst (λ (x : List Outcome). SoFar buffer₀ phase₀ buffer' phase' (take (i + count) bytes) x) (append-nil found)
+    (rw (take-add i count bytes) (SoFar-more s (rw (from_place bytes i) at t)))

@@ -8,7 +8,7 @@ ghost use Rattle.cobs.specs.Headline.{IsPiece, PushesMessage};
 ghost use Rattle.cobs.specs.Push.{PushesBytes};
 ghost use Rattle.cobs.specs.Buffers.{heapless_buffer, heapless_phase, LendsHeapless};
 
-use crate::dec::frame_decoder::FrameDecoder;
+use crate::dec::frame_decoder::{FrameDecoder, PieceEnd};
 use crate::dec::report::{DecodeError, DecodeReport, PushError};
 use crate::dec::unbuffered::UnbufferedDecoder;
 use crate::dec::write_buffer::WriteBuffer;
@@ -132,6 +132,10 @@ impl<const N: usize> FrameDecoder for CobsDecoderHeapless<N> {
 
     fn feed_byte(&mut self, byte: u8) -> Result<Option<usize>, DecodeError> {
         self.feed(byte)
+    }
+
+    fn feed_piece(&mut self, stream: &[u8]) -> Option<(PieceEnd, usize)> {
+        self.inner.feed_piece(&mut self.dest, stream)
     }
 
     fn buffer(&self) -> &[u8] {

@@ -7,7 +7,7 @@ ghost use Rattle.cobs.specs.Headline.{IsPiece, PushesMessage};
 ghost use Rattle.cobs.specs.Push.{PushesBytes};
 ghost use Rattle.cobs.specs.Buffers.{lent_buffer, lent_phase, lent_slice, LendsSlice};
 
-use crate::dec::frame_decoder::FrameDecoder;
+use crate::dec::frame_decoder::{FrameDecoder, PieceEnd};
 use crate::dec::report::{DecodeError, DecodeReport, PushError};
 use crate::dec::unbuffered::UnbufferedDecoder;
 use crate::dec::write_buffer::WriteBuffer;
@@ -107,6 +107,10 @@ impl FrameDecoder for CobsDecoder<'_> {
 
     fn feed_byte(&mut self, byte: u8) -> Result<Option<usize>, DecodeError> {
         self.feed(byte)
+    }
+
+    fn feed_piece(&mut self, stream: &[u8]) -> Option<(PieceEnd, usize)> {
+        self.inner.feed_piece(self.dest, stream)
     }
 
     fn buffer(&self) -> &[u8] {

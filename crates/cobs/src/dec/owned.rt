@@ -7,7 +7,7 @@ ghost use Rattle.cobs.specs.Headline.{IsPiece, PushesMessage};
 ghost use Rattle.cobs.specs.Push.{PushesBytes};
 ghost use Rattle.cobs.specs.Buffers.{owned_buffer, owned_phase, LendsOwned};
 
-use crate::dec::frame_decoder::FrameDecoder;
+use crate::dec::frame_decoder::{FrameDecoder, PieceEnd};
 use crate::dec::report::{DecodeError, DecodeReport, PushError};
 use crate::dec::unbuffered::UnbufferedDecoder;
 use crate::dec::write_buffer::WriteBuffer;
@@ -111,6 +111,10 @@ impl FrameDecoder for CobsDecoderOwned {
 
     fn feed_byte(&mut self, byte: u8) -> Result<Option<usize>, DecodeError> {
         self.feed(byte)
+    }
+
+    fn feed_piece(&mut self, stream: &[u8]) -> Option<(PieceEnd, usize)> {
+        self.inner.feed_piece(&mut self.dest, stream)
     }
 
     fn buffer(&self) -> &[u8] {

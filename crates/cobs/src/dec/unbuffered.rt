@@ -6,8 +6,10 @@ ghost use Rattle.cobs.specs.declared.dec.report.DecodeError.TheVariants.{TargetB
 ghost use Rattle.cobs.specs.Buffers.{phase_at, phase_of};
 ghost use Rattle.cobs.specs.Machine.{next_phase, next_buffer, next_answer, end_answer, FedInTurn};
 ghost use Rattle.cobs.specs.Push.{PushesBytes};
+ghost use Rattle.cobs.specs.Streaming.{TakesBytes, TakesPiece};
 
 use crate::dec::fit::fitting_len;
+use crate::dec::frame_decoder::{PieceEnd, piece_end};
 use crate::dec::piece::{decode_piece, piece_len};
 use crate::dec::report::{DecodeError, DecodeReport, PushError};
 use crate::enc::FULL_CODE;
@@ -340,7 +342,8 @@ impl UnbufferedDecoder {
         ensures within { result ≤ length bytes.now }
         ensures fed { FedInTurn dest.old (phase_of self.old) (take result bytes.now) dest.new (phase_of self.new) }
     {
-        if bytes.len() < FEW {
+        // A piece that is too long is answered byte by byte, and no search for its end may run for each of them.
+        if self.over || bytes.len() < FEW {
             return self.take_few(dest, bytes);
         }
         let end = piece_len(bytes);
@@ -375,5 +378,55 @@ impl UnbufferedDecoder {
             }
         }
         Ok(None)
+    }
+}
+
+impl UnbufferedDecoder {
+    /// Takes first bytes in which no piece ends, as many as can be taken at once, and answers how many: of a piece that
+    /// is too long for the buffer, all in front of its zero.
+    fn take_inside(&mut self, dest: &mut [u8], bytes: &[u8]) -> usize
+        ensures within { result ≤ length bytes.now }
+        ensures takes { TakesBytes dest.old (phase_of self.old) (take result bytes.now) []
+            dest.new (phase_of self.new) }
+    {
+        if self.over {
+            return piece_len(bytes);
+        }
+        self.take_run(dest, bytes)
+    }
+
+    /// Takes bytes of the stream, over this buffer, through the first zero that ends a piece.
+    ///
+    /// `None`: no piece has ended in these bytes, and all were taken. `Some((end, count))`: a piece has ended with the
+    /// byte at index `count - 1`, and how; the bytes behind it were not looked at. All bytes of the buffer behind the
+    /// output of the piece are as they were. A piece that is too long for the buffer ends at its zero, as every other:
+    /// so, other than with [`push`](UnbufferedDecoder::push), its bytes need not be pushed one by one. (A choice of this
+    /// library.)
+    ///
+    /// ```
+    /// let mut decoder = UnbufferedDecoder::new();
+    /// let mut buffer = [0; 4];
+    /// let stream = b"\x06hello\0\x03hi\0";
+    /// assert_eq!(rt; decoder.feed_piece(&mut buffer, stream), Some((PieceEnd::TooLong, 7)));
+    /// assert_eq!(rt; decoder.feed_piece(&mut buffer, &stream[7..]), Some((PieceEnd::Message(2), 4)));
+    /// ```
+    pub fn feed_piece(&mut self, dest: &mut [u8], bytes: &[u8]) -> Option<(PieceEnd, usize)>
+        ensures { TakesPiece dest.old (phase_of self.old) bytes.now result dest.new (phase_of self.new) }
+    {
+        let mut at = 0;
+        'by_run: while at < bytes.len() {
+            at += self.take_inside(dest, &bytes[at..]);
+            if at < bytes.len() {
+                let byte = bytes[at];
+                let answer = self.feed(dest, byte);
+                at += 1;
+                if byte == 0 {
+                    if let Some(end) = piece_end(answer) {
+                        return Some((end, at));
+                    }
+                }
+            }
+        }
+        None
     }
 }
