@@ -413,16 +413,16 @@ impl UnbufferedDecoder {
     pub fn feed_piece(&mut self, dest: &mut [u8], bytes: &[u8]) -> Option<(PieceEnd, usize)>
         ensures { TakesPiece dest.old (phase_of self.old) bytes.now result dest.new (phase_of self.new) }
     {
-        let mut at = 0;
-        'by_run: while at < bytes.len() {
-            at += self.take_inside(dest, &bytes[at..]);
-            if at < bytes.len() {
-                let byte = bytes[at];
+        let mut taken = 0;
+        'by_run: while taken < bytes.len() {
+            taken += self.take_inside(dest, &bytes[taken..]);
+            if taken < bytes.len() {
+                let byte = bytes[taken];
                 let answer = self.feed(dest, byte);
-                at += 1;
+                taken += 1;
                 if byte == 0 {
                     if let Some(end) = piece_end(answer) {
-                        return Some((end, at));
+                        return Some((end, taken));
                     }
                 }
             }

@@ -2,34 +2,34 @@ use Rattle.std.proofs.Common.{◌+◌, ◌-◌, arith, [], length, drop, take, l
 use Rattle.cobs.specs.Buffers.{phase_of}
 use Rattle.cobs.proofs.SoFar.{SoFar, SoFar-start, SoFar-run, TakesPiece-at_zero, step_none, step_nonzero}
 use Rattle.cobs.proofs.dec.unbuffered.UnbufferedDecoder.feed_piece.Goals as goal
-use Rattle.cobs.proofs.dec.unbuffered.UnbufferedDecoder.feed_piece.Goals.{After-take_inside-at}
+use Rattle.cobs.proofs.dec.unbuffered.UnbufferedDecoder.feed_piece.Goals.{After-take_inside-taken}
 
 pub by_run-init : goal.by_run-init
 by_run-init c = record { within = omega arith; so_far = SoFar-start _ _ }
 
 -- behind the run
-ran : (c : After-take_inside-at) → SoFar c.args.dest.now (phase_of c.args.self.now) c.take_inside-at.new.dest (phase_of c.take_inside-at.new.self) (take (c.by_run.at + c.take_inside-at.result) c.args.bytes.now) []
-ran c = SoFar-run c.args.bytes.now c.by_run.at _ c.by_run.invariant.so_far c.take_inside-at.ensures.takes
+ran : (c : After-take_inside-taken) → SoFar c.args.dest.now (phase_of c.args.self.now) c.take_inside-taken.new.dest (phase_of c.take_inside-taken.new.self) (take (c.by_run.taken + c.take_inside-taken.result) c.args.bytes.now) []
+ran c = SoFar-run c.args.bytes.now c.by_run.taken _ c.by_run.invariant.so_far c.take_inside-taken.ensures.takes
 
 pub returns-in-Some : goal.returns-in-Some
 returns-in-Some c =
-    let s = ran (goal.at.returns-in-Some c).After-take_inside-at in
+    let s = ran (goal.at.returns-in-Some c).After-take_inside-taken in
     let e = c.in-Some.ensures c.feed-answer.new.dest (rw c.feed-answer.ensures.len c.feed-answer.ensures.bound) in
-    TakesPiece-at_zero _ _ c.if-at-bytes.true c.if-byte-eq0.true s c.feed-answer.ensures _ e.0 e.1
+    TakesPiece-at_zero _ _ c.if-taken-bytes.true c.if-byte-eq0.true s c.feed-answer.ensures _ e.0 e.1
 
 pub by_run-preserved-in_default : goal.by_run-preserved-in_default
 by_run-preserved-in_default c =
-    let s = ran (goal.at.by_run-preserved-in_default c).After-take_inside-at in
+    let s = ran (goal.at.by_run-preserved-in_default c).After-take_inside-taken in
     let e = c.in_default.ensures c.feed-answer.new.dest (rw c.feed-answer.ensures.len c.feed-answer.ensures.bound) in
-    record { within = omega arith; so_far = step_none _ _ c.if-at-bytes.true c.if-byte-eq0.true e s c.feed-answer.ensures }
+    record { within = omega arith; so_far = step_none _ _ c.if-taken-bytes.true c.if-byte-eq0.true e s c.feed-answer.ensures }
 
 pub by_run-preserved-else-byte-eq0 : goal.by_run-preserved-else-byte-eq0
 by_run-preserved-else-byte-eq0 c =
-    let s = ran (goal.at.by_run-preserved-else-byte-eq0 c).After-take_inside-at in
-    record { within = omega arith; so_far = step_nonzero _ _ c.if-at-bytes.true c.if-byte-eq0.false s c.feed-answer.ensures }
+    let s = ran (goal.at.by_run-preserved-else-byte-eq0 c).After-take_inside-taken in
+    record { within = omega arith; so_far = step_nonzero _ _ c.if-taken-bytes.true c.if-byte-eq0.false s c.feed-answer.ensures }
 
 pub by_run-preserved : goal.by_run-preserved
 by_run-preserved c = record {
-  within = omega (arith, length-drop c.by_run.at c.args.bytes.now, length-take (length c.args.bytes.now - c.by_run.at) (drop c.by_run.at c.args.bytes.now), c.take_inside-at.ensures.within);
-  so_far = ran (goal.at.by_run-preserved c).After-take_inside-at;
+  within = omega (arith, length-drop c.by_run.taken c.args.bytes.now, length-take (length c.args.bytes.now - c.by_run.taken) (drop c.by_run.taken c.args.bytes.now), c.take_inside-taken.ensures.within);
+  so_far = ran (goal.at.by_run-preserved c).After-take_inside-taken;
 }

@@ -3,12 +3,12 @@ use Rattle.cobs.specs.Buffers.{phase_of}
 use Rattle.cobs.proofs.SoFar.{SoFar}
 use Rattle.cobs.proofs.dec.unbuffered.UnbufferedDecoder.feed_piece.Given as goal
 
--- the bytes before `at` are taken, and no piece has ended in them
+-- the bytes before `taken` are taken, and no piece has ended in them
 abbrev pub invariant-by_run : goal.invariant-by_run
 invariant-by_run l = record {
-  within : l.at ≤ length l.bytes;
-  so_far : SoFar l.fn.dest (phase_of l.fn.self) l.dest (phase_of l.self) (take l.at l.bytes) [];
+  within : l.taken ≤ length l.bytes;
+  so_far : SoFar l.fn.dest (phase_of l.fn.self) l.dest (phase_of l.self) (take l.taken l.bytes) [];
 }
 
 abbrev pub decreases-by_run : goal.decreases-by_run
-decreases-by_run l = length l.bytes - l.at
+decreases-by_run l = length l.bytes - l.taken
