@@ -20,6 +20,7 @@ use room::fits;
 pub(crate) use sentinel::xor_bytes;
 pub use sentinel::{
     encode_including_sentinels, encode_with_sentinel, try_encode_including_sentinels,
+    try_encode_with_sentinel,
 };
 pub use state::{EncoderState, PushResult};
 pub use unbuffered::{EncoderProgress, UnbufferedEncoder};

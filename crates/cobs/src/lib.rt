@@ -22,7 +22,7 @@ pub use enc::{
     CobsEncoder, DestBufTooSmallError, EncoderProgress, EncoderState, PushResult,
     UnbufferedEncoder, encode, encode_including_sentinels, encode_vec,
     encode_vec_including_sentinels, encode_vec_with_sentinel, encode_with_sentinel, try_encode,
-    try_encode_including_sentinels,
+    try_encode_including_sentinels, try_encode_with_sentinel,
 };
 pub use framed::{FrameReader, FrameSource, Next, ReadFault, Recorded};
 pub use stream::{FrameOutcome, decode_stream, encode_frames, encode_frames_room};

@@ -26,6 +26,29 @@ pub fn encode_with_sentinel(source: &[u8], dest: &mut [u8], sentinel: u8) -> usi
     len
 }
 
+/// Does what [`encode_with_sentinel`] does, where the frame fits `dest`.
+///
+/// The frame is refused exactly where it is longer than `dest`, and then no byte of `dest` has changed.
+///
+/// # Errors
+/// `DestBufTooSmallError` where the frame is refused.
+pub fn try_encode_with_sentinel(
+    source: &[u8],
+    dest: &mut [u8],
+    sentinel: u8,
+) -> Result<usize, DestBufTooSmallError>
+    ensures fits { IsOk result ↔ (encoded_len source.now ≤ length dest.old) }
+    ensures frame { IfOk result (λ n. IsEncodedFrameFor sentinel (take n dest.new) source.now) }
+    ensures no_sentinel { IfOk result (λ n. IsFreeOf sentinel (take n dest.new)) }
+    ensures len { IfOk result (λ n. n ≡ encoded_len source.now) }
+    ensures rest { IfOk result (λ n. drop n dest.new ≡ drop n dest.old) }
+    ensures refused { OnErr result (dest.new ≡ dest.old) }
+{
+    let written = try_encode(source, dest)?;
+    xor_bytes(&mut dest[..written], sentinel);
+    Ok(written)
+}
+
 /// Changes each byte by exclusive or with `sentinel`.
 pub(crate) fn xor_bytes(bytes: &mut [u8], sentinel: u8)
     ensures { bytes.new ≡ xor_each sentinel bytes.old }
