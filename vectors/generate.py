@@ -1,7 +1,7 @@
 #!/usr/bin/env python3
-"""Writes the vectors: a file for each group of calls beside this script, and all of them, one behind another, where the
-program crates/cobs_conformance reads them. README.md has the format. With --check nothing is written, and the status
-is 1 where a file isn't what would be written."""
+"""Writes the vectors: a file for each group of calls beside this script, and all of them, one behind another, as what the
+program crates/cobs_conformance is run on. README.md has the format. With --check nothing is written, and the status is 1
+where a file isn't what would be written."""
 
 import itertools
 import os
@@ -11,7 +11,7 @@ import model
 from definition import encoded_frame, is_whole, masked, output, parts
 
 HERE = os.path.dirname(os.path.abspath(__file__))
-JOINED = f"{HERE}/../crates/cobs_conformance/stdin"
+PROGRAM = f"{HERE}/../crates/cobs_conformance"
 
 ANY = "?"
 MESSAGE = bytes([10, 11, 0, 12])
@@ -421,19 +421,19 @@ def main(words):
         text = "\n".join(group.lines) + "\n"
         texts[f"{HERE}/{group.name.replace('-', '_')}.txt"] = text
         joined += text
-    texts[JOINED] = joined
+    lines = [line for line in joined.splitlines() if not line.startswith("#")]
+    texts[f"{PROGRAM}/stdin"] = joined
+    texts[f"{PROGRAM}/stdout"] = f"{len(lines)} cases, 0 differ\n"
     stale = []
     for path, text in texts.items():
         if words == ["--check"]:
             if not os.path.isfile(path) or open(path, encoding="ascii").read() != text:
                 stale.append(os.path.relpath(path, f"{HERE}/.."))
         else:
-            os.makedirs(os.path.dirname(path), exist_ok=True)
             with open(path, "w", encoding="ascii") as file:
                 file.write(text)
     for path in stale:
         print(f"{path} is not what vectors/generate.py writes")
-    lines = [line for line in joined.splitlines() if not line.startswith("#")]
     owed = sum(line.split(" ")[1] == "owed" for line in lines)
     print(f"{len(lines)} cases, {owed} of them owed, {len(joined)} bytes")
     return 1 if stale else 0

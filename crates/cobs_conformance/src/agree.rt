@@ -1,0 +1,33 @@
+//! Whether the answer that came is the one that is wanted.
+ghost use Rattle.std.specs.Prelude.{◌↔◌, IsTrue, string_bytes};
+ghost use Rattle.std.specs.List.{AllZip};
+ghost use Rattle.cobs_conformance.specs.Agree.{Agrees, IsRefusal};
+
+/// Whether the words agree in turn, and there are as many.
+pub fn agree(wanted: &[&str], came: &[String]) -> bool
+    ensures { IsTrue result ↔ AllZip (λ one other. Agrees one.now (string_bytes other)) wanted.now came.now }
+{
+    match wanted {
+        [] => came.is_empty(),
+        [one, wanted @ ..] => match came {
+            [] => false,
+            [other, came @ ..] => agrees(one, other.as_str()) && agree(wanted, came),
+        },
+    }
+}
+
+/// Whether a word is what is wanted: the same one, any where `?` is wanted, any refusal where `refused` is.
+fn agrees(wanted: &str, came: &str) -> bool
+    ensures { IsTrue result ↔ Agrees wanted.now came.now }
+{
+    wanted == "?" || wanted == came || wanted == "refused" && is_refusal(came)
+}
+
+fn is_refusal(word: &str) -> bool
+    ensures { IsTrue result ↔ IsRefusal word.now }
+{
+    match word {
+        "empty" | "invalid" | "too_small" | "broken" | "too_long" => true,
+        _ => false,
+    }
+}

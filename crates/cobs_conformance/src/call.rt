@@ -1,0 +1,47 @@
+//! Which call a case makes.
+use crate::answer::Answer;
+use crate::fault::CaseFault;
+use crate::{decoding, encoding, machines, streams};
+use std::alloc::Global;
+
+/// Makes the call of this name.
+///
+/// # Errors
+/// `Malformed` where no call has the name or the arguments aren't its own, `NotCallable` where they break what the call
+/// asks of its caller, `OutOfMemory`.
+pub fn answer_to(alloc: Global, call: &str, arguments: &[&str]) -> Result<Answer, CaseFault> {
+    match call {
+        "max_encoding_overhead" => encoding::max_encoding_overhead(alloc, arguments),
+        "max_encoding_length" => encoding::max_encoding_length(alloc, arguments),
+        "encode_vec" => encoding::encode_vec(alloc, arguments),
+        "encode_vec_including_sentinels" => {
+            encoding::encode_vec_including_sentinels(alloc, arguments)
+        }
+        "encode_vec_with_sentinel" => encoding::encode_vec_with_sentinel(alloc, arguments),
+        "encode" => encoding::encode(alloc, arguments),
+        "encode_including_sentinels" => encoding::encode_including_sentinels(alloc, arguments),
+        "encode_with_sentinel" => encoding::encode_with_sentinel(alloc, arguments),
+        "try_encode" => encoding::try_encode(alloc, arguments),
+        "try_encode_including_sentinels" => {
+            encoding::try_encode_including_sentinels(alloc, arguments)
+        }
+        "encoder" => encoding::encoder(alloc, arguments),
+        "encode_frames" => encoding::encode_frames(alloc, arguments),
+        "decode_vec" => decoding::decode_vec(alloc, arguments),
+        "decode_vec_with_sentinel" => decoding::decode_vec_with_sentinel(alloc, arguments),
+        "decode" => decoding::decode(alloc, arguments),
+        "decode_with_sentinel" => decoding::decode_with_sentinel(alloc, arguments),
+        "decode_in_place" => decoding::decode_in_place(alloc, arguments),
+        "decode_in_place_report" => decoding::decode_in_place_report(alloc, arguments),
+        "decode_in_place_with_sentinel" => {
+            decoding::decode_in_place_with_sentinel(alloc, arguments)
+        }
+        "frame_kind" => decoding::frame_kind(alloc, arguments),
+        "decoder" => streams::decoder(alloc, arguments),
+        "decode_stream" => streams::decode_stream(alloc, arguments),
+        "next_frame" => streams::next_frame(alloc, arguments),
+        "encoder_state" => machines::encoder_state(alloc, arguments),
+        "decoder_state" => machines::decoder_state(alloc, arguments),
+        _ => Err(CaseFault::Malformed),
+    }
+}

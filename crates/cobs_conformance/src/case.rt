@@ -1,0 +1,94 @@
+//! One case: its line, its call, and whether the answer is the one that is wanted.
+ghost use Rattle.std.specs.Prelude.{◌≡◌, ◌↔◌, ◌+◌, length, slice_index_or, IfSome};
+ghost use Rattle.cobs_conformance.specs.Case.{IsNoCase};
+
+use crate::agree::agree;
+use crate::call::answer_to;
+use crate::fault::CaseFault;
+use std::alloc::{AllocError, Global};
+
+/// What came of a line.
+#[derive(Debug, Drop)]
+pub enum Verdict {
+    /// The line is empty or a comment.
+    NoCase,
+
+    /// The answer is the one that is wanted.
+    Agrees,
+
+    /// It isn't, or none came: this says what is wanted and what came.
+    Differs(String),
+}
+
+/// A line's words by what they are.
+#[derive(Debug, Drop)]
+struct Case<'a> {
+    name: &'a str,
+    call: &'a str,
+    arguments: &'a [&'a str],
+    wanted: &'a [&'a str],
+}
+
+/// Makes the call of a line, and holds its answer against the line's.
+pub fn verdict_of(alloc: Global, line: &str) -> Result<Verdict, AllocError>
+    ensures { (result ≡ Ok Verdict.NoCase) ↔ IsNoCase line.now }
+{
+    if line.is_empty() || line.starts_with('#') {
+        return Ok(Verdict::NoCase);
+    }
+    let words: Vec<&str> = line.split(' ').collect(alloc)?;
+    let Some(case) = case_of(&words) else {
+        return Ok(Verdict::Differs(format!(in alloc; "no case: {line}")?));
+    };
+    let name = case.name;
+    match answer_to(alloc, case.call, case.arguments) {
+        Ok(answer) => {
+            if agree(case.wanted, answer.words()) {
+                return Ok(Verdict::Agrees);
+            }
+            let wanted = joined(alloc, case.wanted)?;
+            let came = answer.text()?;
+            Ok(Verdict::Differs(format!(in alloc; "{name}: wanted {wanted}, came {came}")?))
+        }
+        Err(CaseFault::Malformed) => Ok(Verdict::Differs(format!(in alloc;
+            "{name}: arguments that no call takes"
+        )?)),
+        Err(CaseFault::NotCallable) => Ok(Verdict::Differs(format!(in alloc;
+            "{name}: arguments that break what the call asks for"
+        )?)),
+        Err(CaseFault::OutOfMemory) => Err(AllocError),
+    }
+}
+
+/// The words of a case, or `None` where they aren't a case's.
+fn case_of<'a>(words: &'a [&'a str]) -> Option<Case<'a>>
+    ensures call { IfSome result (λ case. case.call ≡ slice_index_or words.now 2 case.call) }
+    ensures each_word { IfSome result (λ case.
+        length words.now ≡ length case.arguments.now + length case.wanted.now + 4) }
+{
+    let [name, level, call, rest @ ..] = words else {
+        return None;
+    };
+    if *level != "owed" && *level != "choice" {
+        return None;
+    }
+    let at = rest.iter().position(|word| *word == "->")?;
+    Some(Case {
+        name,
+        call,
+        arguments: &rest[..at],
+        wanted: &rest[at + 1..],
+    })
+}
+
+/// Words with single spaces between them.
+fn joined(alloc: Global, words: &[&str]) -> Result<String, AllocError> {
+    let mut text = String::new(alloc);
+    for (at, word) in words.iter().enumerate() {
+        if at > 0 {
+            text.push(' ')?;
+        }
+        text.push_str(word)?;
+    }
+    Ok(text)
+}

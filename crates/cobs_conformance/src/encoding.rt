@@ -1,0 +1,201 @@
+//! The calls that encode.
+ghost use Rattle.std.specs.Prelude.{◌<◌, length};
+
+use crate::answer::Answer;
+use crate::arguments::{byte_of, bytes_of, number_of};
+use crate::fault::CaseFault;
+use cobs::CobsEncoder;
+use std::alloc::Global;
+
+/// The greatest number of bytes by which a frame is longer than its message.
+pub fn max_encoding_overhead(alloc: Global, arguments: &[&str]) -> Result<Answer, CaseFault> {
+    let [length] = arguments else {
+        return Err(CaseFault::Malformed);
+    };
+    let mut answer = Answer::new(alloc);
+    answer.say_number(cobs::max_encoding_overhead(number_of(length)?))?;
+    Ok(answer)
+}
+
+/// The greatest length of a message's frame.
+pub fn max_encoding_length(alloc: Global, arguments: &[&str]) -> Result<Answer, CaseFault> {
+    let [length] = arguments else {
+        return Err(CaseFault::Malformed);
+    };
+    let length = number_of(length)?;
+    if length > usize::MAX / 2 {
+        return Err(CaseFault::NotCallable);
+    }
+    let mut answer = Answer::new(alloc);
+    answer.say_number(cobs::max_encoding_length(length))?;
+    Ok(answer)
+}
+
+/// The frame handed out.
+pub fn encode_vec(alloc: Global, arguments: &[&str]) -> Result<Answer, CaseFault> {
+    let [message] = arguments else {
+        return Err(CaseFault::Malformed);
+    };
+    let frame = cobs::encode_vec(alloc, &bytes_of(alloc, message)?)?;
+    said(alloc, &frame)
+}
+
+/// The frame between two zeros, handed out.
+pub fn encode_vec_including_sentinels(
+    alloc: Global,
+    arguments: &[&str],
+) -> Result<Answer, CaseFault> {
+    let [message] = arguments else {
+        return Err(CaseFault::Malformed);
+    };
+    let delimited = cobs::encode_vec_including_sentinels(alloc, &bytes_of(alloc, message)?)?;
+    said(alloc, &delimited)
+}
+
+/// The frame for a sentinel, handed out.
+pub fn encode_vec_with_sentinel(alloc: Global, arguments: &[&str]) -> Result<Answer, CaseFault> {
+    let [sentinel, message] = arguments else {
+        return Err(CaseFault::Malformed);
+    };
+    let sentinel = byte_of(alloc, sentinel)?;
+    let frame = cobs::encode_vec_with_sentinel(alloc, &bytes_of(alloc, message)?, sentinel)?;
+    said(alloc, &frame)
+}
+
+/// The frame in a buffer that has room for it.
+pub fn encode(alloc: Global, arguments: &[&str]) -> Result<Answer, CaseFault> {
+    let [message, buffer] = arguments else {
+        return Err(CaseFault::Malformed);
+    };
+    let message = bytes_of(alloc, message)?;
+    let mut tried = bytes_of(alloc, buffer)?;
+    let mut buffer = bytes_of(alloc, buffer)?;
+    if cobs::try_encode(&message, &mut tried).is_err() {
+        return Err(CaseFault::NotCallable);
+    }
+    let len = cobs::encode(&message, &mut buffer);
+    said_in(alloc, len, &buffer)
+}
+
+/// The frame between two zeros, in a buffer that has room for it.
+pub fn encode_including_sentinels(alloc: Global, arguments: &[&str]) -> Result<Answer, CaseFault> {
+    let [message, buffer] = arguments else {
+        return Err(CaseFault::Malformed);
+    };
+    let message = bytes_of(alloc, message)?;
+    let mut tried = bytes_of(alloc, buffer)?;
+    let mut buffer = bytes_of(alloc, buffer)?;
+    if cobs::try_encode_including_sentinels(&message, &mut tried).is_err() {
+        return Err(CaseFault::NotCallable);
+    }
+    let len = cobs::encode_including_sentinels(&message, &mut buffer);
+    said_in(alloc, len, &buffer)
+}
+
+/// The frame for a sentinel, in a buffer that has room for it.
+pub fn encode_with_sentinel(alloc: Global, arguments: &[&str]) -> Result<Answer, CaseFault> {
+    let [sentinel, message, buffer] = arguments else {
+        return Err(CaseFault::Malformed);
+    };
+    let sentinel = byte_of(alloc, sentinel)?;
+    let message = bytes_of(alloc, message)?;
+    let mut tried = bytes_of(alloc, buffer)?;
+    let mut buffer = bytes_of(alloc, buffer)?;
+    if cobs::try_encode(&message, &mut tried).is_err() {
+        return Err(CaseFault::NotCallable);
+    }
+    let len = cobs::encode_with_sentinel(&message, &mut buffer, sentinel);
+    said_in(alloc, len, &buffer)
+}
+
+/// The frame in a buffer, where it fits.
+pub fn try_encode(alloc: Global, arguments: &[&str]) -> Result<Answer, CaseFault> {
+    let [message, buffer] = arguments else {
+        return Err(CaseFault::Malformed);
+    };
+    let message = bytes_of(alloc, message)?;
+    let mut buffer = bytes_of(alloc, buffer)?;
+    let written = cobs::try_encode(&message, &mut buffer);
+    let mut answer = Answer::new(alloc);
+    answer.say_written(&written)?;
+    answer.say_bytes(&buffer)?;
+    Ok(answer)
+}
+
+/// The frame between two zeros in a buffer, where it fits.
+pub fn try_encode_including_sentinels(
+    alloc: Global,
+    arguments: &[&str],
+) -> Result<Answer, CaseFault> {
+    let [message, buffer] = arguments else {
+        return Err(CaseFault::Malformed);
+    };
+    let message = bytes_of(alloc, message)?;
+    let mut buffer = bytes_of(alloc, buffer)?;
+    let written = cobs::try_encode_including_sentinels(&message, &mut buffer);
+    let mut answer = Answer::new(alloc);
+    answer.say_written(&written)?;
+    answer.say_bytes(&buffer)?;
+    Ok(answer)
+}
+
+/// A streaming encoder over a buffer, given pieces.
+pub fn encoder(alloc: Global, arguments: &[&str]) -> Result<Answer, CaseFault> {
+    let [buffer, pieces @ ..] = arguments else {
+        return Err(CaseFault::Malformed);
+    };
+    let mut buffer = bytes_of(alloc, buffer)?;
+    if buffer.is_empty() {
+        return Err(CaseFault::NotCallable);
+    }
+    let mut taken = Answer::new(alloc);
+    let len = push_pieces(alloc, &mut buffer, pieces, &mut taken)?;
+    let mut answer = said_in(alloc, len, &buffer)?;
+    answer.append(taken)?;
+    Ok(answer)
+}
+
+/// Pushes each piece to a new encoder, says whether it was taken, and answers the frame's length.
+fn push_pieces(
+    alloc: Global,
+    buffer: &mut [u8],
+    pieces: &[&str],
+    taken: &mut Answer,
+) -> Result<usize, CaseFault>
+    requires { 0 < length buffer.old }
+{
+    let mut encoder = CobsEncoder::new(buffer);
+    for piece in pieces {
+        let pushed = encoder.push(&bytes_of(alloc, piece)?);
+        taken.say(if pushed.is_ok() { "ok" } else { "too_small" })?;
+    }
+    Ok(encoder.finalize())
+}
+
+/// A stream of frames, each with a zero behind it.
+pub fn encode_frames(alloc: Global, arguments: &[&str]) -> Result<Answer, CaseFault> {
+    let mut messages = Vec::new(alloc);
+    for message in arguments {
+        messages.push(bytes_of(alloc, message)?)?;
+    }
+    if cobs::encode_frames_room(&messages).is_none() {
+        return Err(CaseFault::NotCallable);
+    }
+    let stream = cobs::encode_frames(alloc, &messages)?;
+    said(alloc, &stream)
+}
+
+/// The bytes alone.
+fn said(alloc: Global, bytes: &[u8]) -> Result<Answer, CaseFault> {
+    let mut answer = Answer::new(alloc);
+    answer.say_bytes(bytes)?;
+    Ok(answer)
+}
+
+/// A length and the buffer behind the call.
+fn said_in(alloc: Global, len: usize, buffer: &[u8]) -> Result<Answer, CaseFault> {
+    let mut answer = Answer::new(alloc);
+    answer.say_number(len)?;
+    answer.say_bytes(buffer)?;
+    Ok(answer)
+}

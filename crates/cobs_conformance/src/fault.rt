@@ -1,0 +1,34 @@
+//! Why a case gives no answer.
+ghost use Rattle.std.specs.Prelude.{◌≡◌};
+ghost use Rattle.cobs_conformance.specs.declared.fault.CaseFault.TheVariants.{OutOfMemory};
+
+use std::alloc::{AllocError, AllocFailed};
+
+/// Why a case gives no answer to be compared.
+#[derive(Debug, PartialEq, Eq, Drop)]
+pub enum CaseFault {
+    /// The line isn't in the format: no such call, an argument too few or too many, a word that can't be read.
+    Malformed,
+
+    /// The arguments break what the call asks of its caller, such as room for the frame.
+    NotCallable,
+
+    /// Memory was refused.
+    OutOfMemory,
+}
+
+impl From<AllocError> for CaseFault {
+    ghost from_gives = { λ _ fault. fault ≡ OutOfMemory };
+
+    fn from(_error: AllocError) -> CaseFault {
+        CaseFault::OutOfMemory
+    }
+}
+
+impl<T: Drop> From<AllocFailed<T>> for CaseFault {
+    ghost from_gives = { λ _ fault. fault ≡ OutOfMemory };
+
+    fn from(_error: AllocFailed<T>) -> CaseFault {
+        CaseFault::OutOfMemory
+    }
+}

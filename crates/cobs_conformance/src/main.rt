@@ -1,0 +1,61 @@
+//! This library held against the vectors.
+//!
+//! `cobs_conformance` reads cases from standard input, one a line, in the format of vectors/README.md. It makes each
+//! call, compares the answer and every byte of the buffer behind it, and prints a line for each case that differs:
+//! its name, the answer that is wanted and the answer that came. The last line is `N cases, M differ`. The exit status
+//! is 0 where M is 0, and else 1; it is 2 where the input can't be read to its end or memory is wanting.
+#![tactic(auto)]
+
+mod agree;
+mod answer;
+mod arguments;
+mod call;
+mod case;
+mod decoding;
+mod encoding;
+mod fault;
+mod machines;
+mod reads;
+mod streams;
+mod tally;
+
+use case::{Verdict, verdict_of};
+use std::alloc::Global;
+use std::io::{self, BufRead, BufReader};
+use std::process::ExitCode;
+use tally::Tally;
+
+fn main(rt: HostRuntime) -> ExitCode {
+    match run(&rt) {
+        Ok(tally) => {
+            if tally.agrees() {
+                ExitCode::SUCCESS
+            } else {
+                ExitCode::FAILURE
+            }
+        }
+        Err(error) => {
+            let _ = eprintln!(rt; "cobs_conformance: {error}");
+            ExitCode::from(2)
+        }
+    }
+}
+
+/// Holds the library against each case of the input, prints what differs, and last how many.
+fn run(rt: &(impl Input + Print + AllocGlobal)) -> io::Result<Tally> {
+    let alloc: Global = rt.alloc();
+    let mut tally = Tally::new();
+    for line in BufReader::new(alloc, rt.reader())?.lines(alloc) {
+        let line = line?;
+        match verdict_of(alloc, line.as_str())? {
+            Verdict::NoCase => {}
+            Verdict::Agrees => tally.count(true),
+            Verdict::Differs(difference) => {
+                tally.count(false);
+                rt.println(difference)?;
+            }
+        }
+    }
+    rt.println(tally.last_line(alloc)?)?;
+    Ok(tally)
+}

@@ -1,0 +1,195 @@
+//! The calls over streams.
+use crate::answer::Answer;
+use crate::arguments::{MAX_BYTES, NONE, bytes_of, number_of};
+use crate::fault::CaseFault;
+use crate::reads::Reads;
+use cobs::{CobsDecoder, CobsDecoderOwned, DecodeError, FrameReader, Next};
+use std::alloc::Global;
+
+/// The most calls of one case of `next_frame`.
+const MOST_CALLS: usize = 1000;
+
+/// How a streaming decoder is given its bytes.
+#[derive(Debug, Drop)]
+enum Feeding {
+    Pushes,
+    Bytes,
+}
+
+/// A streaming decoder over a buffer, given pieces: once by pushes and once byte by byte. Where the two come to
+/// something else, both answers follow each other, so the case differs.
+pub fn decoder(alloc: Global, arguments: &[&str]) -> Result<Answer, CaseFault> {
+    let mut pushed = fed(alloc, arguments, &Feeding::Pushes)?;
+    let bytewise = fed(alloc, arguments, &Feeding::Bytes)?;
+    if !pushed.is_same(&bytewise) {
+        pushed.append(bytewise)?;
+    }
+    Ok(pushed)
+}
+
+fn fed(alloc: Global, arguments: &[&str], feeding: &Feeding) -> Result<Answer, CaseFault> {
+    let [buffer, pieces @ ..] = arguments else {
+        return Err(CaseFault::Malformed);
+    };
+    let mut decoder = decoder_over(alloc, &bytes_of(alloc, buffer)?)?;
+    let mut events = Answer::new(alloc);
+    let mut taken = 0;
+    'by_piece: for piece in pieces {
+        if *piece == "reset" {
+            decoder.reset();
+        } else {
+            let bytes = bytes_of(alloc, piece)?;
+            match feeding {
+                Feeding::Pushes => push_piece(&mut decoder, &bytes, taken, &mut events)?,
+                Feeding::Bytes => feed_piece(&mut decoder, &bytes, taken, &mut events)?,
+            }
+            taken = taken.saturating_add(bytes.len());
+        }
+    }
+    let mut answer = Answer::new(alloc);
+    answer.say_bytes(decoder.dest())?;
+    answer.append(events)?;
+    Ok(answer)
+}
+
+/// An idle decoder whose buffer holds these bytes.
+fn decoder_over(alloc: Global, bytes: &[u8]) -> Result<CobsDecoderOwned, CaseFault> {
+    let mut decoder = CobsDecoderOwned::new(alloc, bytes.len())?;
+    let buffer = decoder.dest_mut();
+    if buffer.len() == bytes.len() {
+        buffer.copy_from_slice(bytes);
+    }
+    Ok(decoder)
+}
+
+/// Pushes a piece, and what each answer leaves of it again.
+fn push_piece(
+    decoder: &mut CobsDecoderOwned,
+    piece: &[u8],
+    taken: usize,
+    events: &mut Answer,
+) -> Result<(), CaseFault> {
+    let mut left = piece;
+    let mut taken = taken;
+    'by_push: for _ in 0..piece.len() {
+        let (consumed, answered) = match decoder.push(left) {
+            Ok(None) => (left.len(), Ok(None)),
+            Ok(Some(report)) => (report.parsed_size(), Ok(Some(report.frame_size()))),
+            Err(refusal) => (refusal.parsed_size, Err(refusal.error)),
+        };
+        taken = taken.saturating_add(consumed);
+        say_event(events, taken, &answered, decoder.dest())?;
+        left = left.get(consumed..).unwrap_or(&[]);
+    }
+    Ok(())
+}
+
+/// Feeds a piece byte by byte.
+fn feed_piece(
+    decoder: &mut CobsDecoderOwned,
+    piece: &[u8],
+    taken: usize,
+    events: &mut Answer,
+) -> Result<(), CaseFault> {
+    let mut taken = taken;
+    'by_byte: for byte in piece {
+        taken = taken.saturating_add(1);
+        let answered = decoder.feed(*byte);
+        say_event(events, taken, &answered, decoder.dest())?;
+    }
+    Ok(())
+}
+
+/// Says an answer to a byte, if it isn't "nothing yet": the bytes taken, the kind, and what begins the buffer.
+fn say_event(
+    events: &mut Answer,
+    taken: usize,
+    answered: &Result<Option<usize>, DecodeError>,
+    buffer: &[u8],
+) -> Result<(), CaseFault> {
+    let (kind, len) = match answered {
+        Ok(None) => return Ok(()),
+        Ok(Some(len)) => ("message", *len),
+        Err(DecodeError::InvalidFrame { decoded_bytes }) => ("broken", *decoded_bytes),
+        Err(_) => ("too_small", buffer.len()),
+    };
+    events.say_number(taken)?;
+    events.say(kind)?;
+    events.say_bytes(buffer.get(..len).unwrap_or(buffer))?;
+    Ok(())
+}
+
+/// The outcomes of a stream that comes in pieces.
+pub fn decode_stream(alloc: Global, arguments: &[&str]) -> Result<Answer, CaseFault> {
+    let [room, pieces @ ..] = arguments else {
+        return Err(CaseFault::Malformed);
+    };
+    let mut buffer = buffer_of(alloc, room)?;
+    let mut decoder = CobsDecoder::new(&mut buffer);
+    let mut answer = Answer::new(alloc);
+    'by_piece: for piece in pieces {
+        let bytes = bytes_of(alloc, piece)?;
+        let outcomes = cobs::decode_stream(alloc, &mut decoder, &bytes)?;
+        'by_outcome: for outcome in &outcomes {
+            answer.say_outcome(outcome)?;
+        }
+    }
+    Ok(answer)
+}
+
+/// A buffer of so many zeros.
+fn buffer_of(alloc: Global, room: &str) -> Result<Vec<u8>, CaseFault> {
+    let room = number_of(room)?;
+    if room > MAX_BYTES {
+        return Err(CaseFault::Malformed);
+    }
+    let buffer = vec![in alloc; 0; room]?;
+    Ok(buffer)
+}
+
+/// A reader of frames over a source that gives these reads: the answer of each call, until the source has ended and
+/// all reads were made.
+pub fn next_frame(alloc: Global, arguments: &[&str]) -> Result<Answer, CaseFault> {
+    let [room, reads @ ..] = arguments else {
+        return Err(CaseFault::Malformed);
+    };
+    let mut buffer = buffer_of(alloc, room)?;
+    let mut source = Reads::of_words(alloc, reads)?;
+    let mut frames = FrameReader::new(CobsDecoder::new(&mut buffer));
+    let mut answer = Answer::new(alloc);
+    'by_call: for _ in 0..MOST_CALLS {
+        let before = source.made();
+        let next = frames.next_frame(&mut source).ok();
+        answer.say_number(source.made().saturating_sub(before))?;
+        say_next(&mut answer, &next, frames.decoder().dest())?;
+        if matches!(&next, Some(Next::End { .. })) && source.is_at_end() {
+            return Ok(answer);
+        }
+    }
+    Ok(answer)
+}
+
+/// Says what a call of `next_frame` found, nothing where a read failed.
+fn say_next(answer: &mut Answer, next: &Option<Next>, buffer: &[u8]) -> Result<(), CaseFault> {
+    match next {
+        Some(Next::Message(len)) => {
+            answer.say("message")?;
+            answer.say_bytes(buffer.get(..*len).unwrap_or(buffer))?;
+        }
+        Some(Next::Broken(count)) => {
+            answer.say("broken")?;
+            answer.say_number(*count)?;
+        }
+        Some(Next::TooLong) => say_alone(answer, "too_long")?,
+        Some(Next::End { unfinished: false }) => say_alone(answer, "end")?,
+        Some(Next::End { unfinished: true }) => say_alone(answer, "unfinished")?,
+        None => say_alone(answer, "failed")?,
+    }
+    Ok(())
+}
+
+fn say_alone(answer: &mut Answer, kind: &str) -> Result<(), CaseFault> {
+    answer.say(kind)?;
+    answer.say(NONE)?;
+    Ok(())
+}

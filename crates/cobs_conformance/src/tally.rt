@@ -1,0 +1,57 @@
+//! How many cases there were, and how many of them differ.
+ghost use Rattle.std.specs.Prelude.{◌≡◌, ◌+◌, ◌<◌, ◌++◌, ◌↔◌, IsTrue, IfOk, codes, if◌then◌else◌, string_bytes};
+ghost use Rattle.std.specs.Fmt.{decimal};
+
+use std::alloc::{AllocError, Global};
+
+/// Counts of cases.
+#[derive(Debug, Drop)]
+pub struct Tally {
+    pub cases: u64,
+    pub differing: u64,
+}
+
+impl Tally {
+    /// No case yet.
+    pub fn new() -> Tally
+        ensures cases { result.cases ≡ 0 }
+        ensures differing { result.differing ≡ 0 }
+    {
+        Tally {
+            cases: 0,
+            differing: 0,
+        }
+    }
+
+    /// Counts a case. Past `u64::MAX` cases the counts stay where they are.
+    pub fn count(&mut self, agrees: bool)
+        ensures cases { self.old.cases < u64.MAX → self.new.cases ≡ self.old.cases + 1 }
+        ensures differing { self.old.differing < u64.MAX
+            → self.new.differing ≡ self.old.differing + (if agrees then 0 else 1) }
+    {
+        self.cases = self.cases.saturating_add(1);
+        if !agrees {
+            self.differing = self.differing.saturating_add(1);
+        }
+    }
+
+    /// Whether no case differs.
+    pub fn agrees(&self) -> bool
+        ensures { IsTrue result ↔ (self.now.differing ≡ 0) }
+    {
+        self.differing == 0
+    }
+
+    /// The last line of what is printed, without the newline.
+    pub fn last_line(&self, alloc: Global) -> Result<String, AllocError>
+        ensures { IfOk result (λ line. string_bytes line
+            ≡ decimal self.now.cases ++ codes " cases, " ++ decimal self.now.differing ++ codes " differ") }
+    {
+        let cases = self.cases;
+        let differing = self.differing;
+        let mut line = String::new(alloc);
+        write!(line, "{cases} cases, ")?;
+        write!(line, "{differing} differ")?;
+        Ok(line)
+    }
+}
