@@ -10,7 +10,7 @@ use Rattle.cobs.specs.Encoder.{Reached, CobsEncoderAfter, next_of, end_of, open_
 use Rattle.cobs.specs.Length.{encoded_len}
 use Rattle.cobs.proofs.OpenedLemmas.{Opened}
 use Rattle.cobs.proofs.OpenLenLemmas.{Opened-len}
-use Rattle.cobs.proofs.ReachLemmas.{Reaches, Reaches-at, Reaches-start, IsNotFull, taken-full, ends-full, rest-full, taken-open, ends-open}
+use Rattle.cobs.proofs.ReachLemmas.{Reaches, Reaches-at, Reaches-noted, Reaches-start, IsNotFull, least, taken-full, ends-full, rest-full, taken-open, ends-open}
 use Rattle.cobs.proofs.AfterLemmas.{at, from_after, to_after, end-is, open-same}
 use Rattle.cobs.proofs.UniqueLemmas.{length-encoded}
 use Rattle.cobs.proofs.OpenLemmas.{concat-append}
@@ -26,6 +26,27 @@ core-start source old r index next full is ordered short =
     let sum : index + (next - index) ≡ next = omega arith in
     Reaches-start (CobsEncoderAfter old r) source old (end_with r source) index next full ordered short (ap (λ (x : Reached). end_with x source) is)
     (λ m h. subst (λ (n : ℕ). Opened old m index n full) sum (from_after old m (at index (next - index) full) (subst (λ (x : Reached). CobsEncoderAfter old x m) (sym is) h)))
+
+pub core-noted : (source old : List ℕ) (r : Reached) (index next : ℕ) (full : Bool) → at index (next - index) full ≡ r → index < next → next < index + 255
+    → Reaches (CobsEncoderAfter old r) source old old (end_with r source) 0 index next (λ noted. noted ≡ full)
+core-noted source old r index next full is ordered short =
+    let sum : index + (next - index) ≡ next = omega arith in
+    Reaches-noted (CobsEncoderAfter old r) source old (end_with r source) index next full ordered short (ap (λ (x : Reached). end_with x source) is)
+    (λ m h. subst (λ (n : ℕ). Opened old m index n full) sum (from_after old m (at index (next - index) full) (subst (λ (x : Reached). CobsEncoderAfter old x m) (sym is) h)))
+
+ends-within : (full : Bool) (index next n : ℕ) → index < next → next ≤ n → (if full then index else next) ≤ n
+ends-within true index next n ordered le = omega arith
+ends-within false index next n ordered le = le
+
+-- so far, of the bytes that were taken
+pub after-so-far : (H : List ℕ → Type 0) (source old slice : List ℕ) (end pos index next : ℕ) (full : Bool) → Reaches H source old slice end pos index next (λ noted. noted ≡ full) → pos < length source → next < index + 255 → end ≤ length slice
+    → (m : List ℕ) → H m → CobsEncoderAfter slice (at index (next - index) full) (m ++ take pos source)
+after-so-far H source old slice end pos index next full r more short fits m h =
+    let t = r.taken m h in
+    let o = r.ordered in
+    let l = least source end pos index next r.ordered r.within r.room in
+    to_after slice (m ++ take pos source) index next (next - index) full (omega arith) (omega arith) (ends-within full index next (length slice) r.ordered (omega arith))
+    (subst (λ (b : Bool). Opened slice (m ++ take pos source) index next b) t.1 t.2)
 
 -- the last byte of the source filled its block
 module _ (H : List ℕ → Type 0) (source old slice : List ℕ) (end pos index : ℕ) (r : Reaches H source old slice end pos index (index + 255) (λ _. Unit {0})) (fits : end ≤ length slice) (last : pos ≡ length source) where

@@ -194,17 +194,22 @@ module _ (H : List ℕ → Type 0) (source old slice : List ℕ) (end pos index 
       let t = r.taken m h in
       subst (λ (x : List ℕ). Opened slice (m ++ x) index next false) (all-taken last) (subst (λ (b : Bool). Opened slice (m ++ take pos source) index next b) (not_full t.0 t.1) t.2)
 
--- where the core begins
-pub Reaches-start : (H : List ℕ → Type 0) (source old : List ℕ) (end index next : ℕ) (full : Bool) → index < next → next < index + 255 → index + open_len (next - index) source ≡ end
-    → ((m : List ℕ) → H m → Opened old m index next full) → Reaches H source old old end 0 index next (λ _. Unit {0})
-Reaches-start H source old end index next full ordered short room opens = record {
+-- where the core begins, with what is noted of the last block
+pub Reaches-noted : (H : List ℕ → Type 0) (source old : List ℕ) (end index next : ℕ) (full : Bool) → index < next → next < index + 255 → index + open_len (next - index) source ≡ end
+    → ((m : List ℕ) → H m → Opened old m index next full) → Reaches H source old old end 0 index next (λ noted. noted ≡ full)
+Reaches-noted H source old end index next full ordered short room opens = record {
   ordered = ordered;
   short = omega arith;
   within = omega arith;
   room = room;
   rest = refl;
-  taken = λ m h. (full, tt, subst (λ (x : List ℕ). Opened old x index next full) (sym (append-nil m)) (opens m h));
+  taken = λ m h. (full, refl, subst (λ (x : List ℕ). Opened old x index next full) (sym (append-nil m)) (opens m h));
 }
+
+pub Reaches-start : (H : List ℕ → Type 0) (source old : List ℕ) (end index next : ℕ) (full : Bool) → index < next → next < index + 255 → index + open_len (next - index) source ≡ end
+    → ((m : List ℕ) → H m → Opened old m index next full) → Reaches H source old old end 0 index next (λ _. Unit {0})
+Reaches-start H source old end index next full ordered short room opens =
+    Reaches-at H source old old end 0 index next (λ noted. noted ≡ full) (λ _. Unit {0}) old 0 index next refl refl refl refl (λ noted is. tt) (Reaches-noted H source old end index next full ordered short room opens)
 
 -- what is known of the last block behind a step: it isn't full
 abbrev pub IsNotFull : Bool → Type 0

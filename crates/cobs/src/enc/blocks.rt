@@ -4,7 +4,7 @@ ghost use Rattle.cobs.specs.Grammar.{IsEncodedFrame};
 ghost use Rattle.cobs.specs.Encoder.{CobsEncoderAfter, end_of, open_len};
 ghost use Rattle.cobs.specs.Mask.{lowest, without_lowest};
 
-use crate::window::{WINDOW, copy_window, is_all_zeros, write_ones, write_some_ones};
+use crate::window::{WINDOW, copy_32, copy_window, is_all_zeros, write_ones, write_some_ones};
 use std::marker::Model;
 
 /// The code of a full block, which is how many bytes the block has with its code.
@@ -123,6 +123,7 @@ fn append_short(source: &[u8], dest: &mut [u8], progress: &mut Progress)
     ensures after { (m : List ℕ) → CobsEncoderAfter dest.old progress.old m
         → CobsEncoderAfter dest.new progress.new (m ++ source.now) }
     ensures fits { end_of progress.new ≤ length dest.new }
+    ensures end { end_of progress.new ≡ progress.old.block.index + open_len progress.old.block.code source.now }
     ensures rest { drop (end_of progress.new) dest.new ≡ drop (end_of progress.new) dest.old }
 {
     let len = source.len();
@@ -141,18 +142,15 @@ fn append_short(source: &[u8], dest: &mut [u8], progress: &mut Progress)
     progress.set(index, next + len, false);
 }
 
-/// Takes a `source` of any length.
-///
-/// Windows of up to 32 bytes are copied to where the next byte goes. Where no zero is near enough to keep the open block
-/// from being full, that block is closed, and what doesn't belong to it is copied anew. Else each zero of the window
-/// gives its place to the code of the block that it begins, and the last block stays open for the next window. Nothing
-/// is written behind what the frame needs at the least, so a slice of exactly the frame's length is enough.
+/// Takes a `source` of any length, by windows of up to 32 bytes: what the other two functions don't take.
 #[inline(always)]
 fn append_windows(source: &[u8], dest: &mut [u8], progress: &mut Progress)
     requires { progress.old.block.index + open_len progress.old.block.code source.now ≤ length dest.old }
     ensures after { (m : List ℕ) → CobsEncoderAfter dest.old progress.old m
         → CobsEncoderAfter dest.new progress.new (m ++ source.now) }
     ensures fits { end_of progress.new ≤ length dest.new }
+    ensures end { 0 < length source.now
+        → end_of progress.new ≡ progress.old.block.index + open_len progress.old.block.code source.now }
     ensures rest { drop (end_of progress.new) dest.new ≡ drop (end_of progress.new) dest.old }
 {
     if source.is_empty() {
@@ -197,6 +195,86 @@ fn append_windows(source: &[u8], dest: &mut [u8], progress: &mut Progress)
     }
 }
 
+/// Takes the last bytes of a source, which may be all of it.
+#[inline(always)]
+fn append_last(source: &[u8], dest: &mut [u8], progress: &mut Progress)
+    requires { progress.old.block.index + open_len progress.old.block.code source.now ≤ length dest.old }
+    ensures after { (m : List ℕ) → CobsEncoderAfter dest.old progress.old m
+        → CobsEncoderAfter dest.new progress.new (m ++ source.now) }
+    ensures fits { end_of progress.new ≤ length dest.new }
+    ensures end { 0 < length source.now
+        → end_of progress.new ≡ progress.old.block.index + open_len progress.old.block.code source.now }
+    ensures rest { drop (end_of progress.new) dest.new ≡ drop (end_of progress.new) dest.old }
+{
+    let len = source.len();
+    if len > 0 && len < WINDOW && progress.code() + len < FULL_CODE {
+        append_short(source, dest, progress);
+    } else {
+        append_windows(source, dest, progress);
+    }
+}
+
+/// Takes whole windows of 32 bytes while more than one is left, and answers how many bytes these are.
+///
+/// Each window is copied to where the next byte goes. Where no zero is near enough to keep the open block from being full,
+/// that block is closed, and what doesn't belong to it is copied anew. Else each zero of the window gives its place to the
+/// code of the block that it begins, and the last block stays open for the next window. Nothing is written behind what
+/// the frame needs at the least, so a slice of exactly the frame's length is enough.
+#[inline(always)]
+fn append_whole_windows(source: &[u8], dest: &mut [u8], progress: &mut Progress) -> usize
+    requires some { 0 < length source.now }
+    requires fits { progress.old.block.index + open_len progress.old.block.code source.now ≤ length dest.old }
+    ensures within { result < length source.now }
+    ensures few { length source.now ≤ result + 32 }
+    ensures after { (m : List ℕ) → CobsEncoderAfter dest.old progress.old m
+        → CobsEncoderAfter dest.new progress.new (m ++ take result source.now) }
+    ensures end { progress.new.block.index + open_len progress.new.block.code (drop result source.now)
+        ≡ progress.old.block.index + open_len progress.old.block.code source.now }
+    ensures rest { let end = progress.old.block.index + open_len progress.old.block.code source.now in
+        drop end dest.new ≡ drop end dest.old }
+{
+    let mut index = progress.index;
+    let mut next = progress.next;
+    let mut full = progress.full;
+    let mut read = 0;
+    'by_window: while source.len() - read > WINDOW {
+        let mut zeros = copy_32(source, read, dest, next);
+        let lacking = index + FULL_CODE - next;
+        if zeros == 0 {
+            if lacking > WINDOW {
+                read += WINDOW;
+                next += WINDOW;
+                full = false;
+                continue;
+            }
+        } else if (zeros.trailing_zeros() as usize) < lacking {
+            if zeros == ALL_ZEROS {
+                dest[index] = (next - index) as u8;
+                write_ones(dest, next);
+                index = next + WINDOW - 1;
+            } else {
+                'by_zero: while zeros != 0 {
+                    (index, zeros) = mark_first(dest, index, next, zeros);
+                    if zeros != 0 {
+                        (index, zeros) = mark_first(dest, index, next, zeros);
+                    }
+                }
+            }
+            read += WINDOW;
+            next += WINDOW;
+            full = false;
+            continue;
+        }
+        dest[index] = FULL_CODE as u8;
+        read += lacking;
+        index += FULL_CODE;
+        next = index + 1;
+        full = true;
+    }
+    progress.set(index, next, full);
+    read
+}
+
 /// Takes `source` into the frame that `dest` holds as far as `progress` says. The code of the open block is written by
 /// [`close`] alone: what stands in its place before that is of no matter.
 #[inline(always)]
@@ -207,11 +285,11 @@ pub(crate) fn append(source: &[u8], dest: &mut [u8], progress: &mut Progress)
     ensures fits { end_of progress.new ≤ length dest.new }
     ensures rest { drop (end_of progress.new) dest.new ≡ drop (end_of progress.new) dest.old }
 {
-    let len = source.len();
-    if len > 0 && len < WINDOW && progress.code() + len < FULL_CODE {
-        append_short(source, dest, progress);
+    if source.len() <= WINDOW {
+        append_last(source, dest, progress);
     } else {
-        append_windows(source, dest, progress);
+        let read = append_whole_windows(source, dest, progress);
+        append_last(&source[read..], dest, progress);
     }
 }
 

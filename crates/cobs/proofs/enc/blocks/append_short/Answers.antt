@@ -4,7 +4,7 @@ use Rattle.cobs.specs.Mask.{lowest}
 use Rattle.cobs.specs.Encoder.{CobsEncoderAfter, Reached, end_of}
 use Rattle.cobs.proofs.MarkLemmas.{WindowTaken, WindowTaken-at, marks-end}
 use Rattle.cobs.proofs.ShortSteps.{code-inside, code-ordered, first-marked, all-taken, short-reaches, short-fits, short-marks}
-use Rattle.cobs.proofs.CoreLemmas.{end_with, open-after, open-rest}
+use Rattle.cobs.proofs.CoreLemmas.{end_with, open-after, open-end, open-rest}
 use Rattle.cobs.proofs.enc.blocks.append_short.Goals.{then-zeros-ne0+then-is_all_zeros, else-zeros-ne0+else-by_zero-test}
 use Rattle.cobs.proofs.enc.blocks.append_short.Goals as goal
 
@@ -100,6 +100,27 @@ returns-clause-after c =
           (marks-end _ _ _ _ _ _ _ _ _ _ _ w.by_zero.invariant w.by_zero-test.false (omega arith))
     ] in
     λ m h. subst (λ (x : Reached). CobsEncoderAfter c.if-zeros-ne0.dest x (m ++ c.args.source.now)) (sym c.set.ensures) (open-after H c.args.source.now c.args.dest.now c.if-zeros-ne0.dest end 0 len c.if-zeros-ne0.index p.next taken (omega arith) (omega arith) m h)
+
+pub returns-clause-end : goal.returns-clause-end
+returns-clause-end c =
+    let H : List ℕ → Type 0 = CobsEncoderAfter c.args.dest.now c.args.progress.now in
+    let end : ℕ = end_with c.args.progress.now c.args.source.now in
+    let len : ℕ = length c.args.source.now in
+    let p = c.progress.inside in
+    let fits = short-fits c.args.source.now c.args.dest.now c.copy_window-mask.new.dest c.args.progress.now p.index p.next p.full c.copy_window-mask.result c.progress.view_is c.progress.invariant.0 c.progress.invariant.1 c.requires.some c.requires.few c.requires.open_block c.requires.fits c.copy_window-mask.ensures.copied c.copy_window-mask.ensures.zeros in
+    let start = short-marks c.args.source.now c.args.dest.now c.copy_window-mask.new.dest c.args.progress.now p.index p.next p.full c.copy_window-mask.result c.progress.view_is c.progress.invariant.0 c.progress.invariant.1 c.requires.some c.requires.few c.requires.open_block c.requires.fits c.copy_window-mask.ensures.copied c.copy_window-mask.ensures.zeros in
+    let r = short-reaches c.args.source.now c.args.dest.now c.copy_window-mask.new.dest c.args.progress.now p.index p.next p.full c.copy_window-mask.result c.progress.view_is c.progress.invariant.0 c.progress.invariant.1 c.requires.some c.requires.few c.requires.open_block c.requires.fits c.copy_window-mask.ensures.copied c.copy_window-mask.ensures.zeros in
+    let taken : WindowTaken H c.args.source.now c.args.dest.now c.if-zeros-ne0.dest end 0 len c.if-zeros-ne0.index p.next = elim c.if-zeros-ne0.branch [
+      | then-zeros-ne0+then-is_all_zeros w ↦ WindowTaken-at _ _ _ _ _ _ _ _ _ _ _ (sym w.dest-is) (sym w.index-is)
+          (all-taken H c.args.source.now c.args.dest.now c.copy_window-mask.new.dest end 0 len p.index p.next c.copy_window-mask.result r fits (omega arith) c.requires.some (omega arith) c.copy_window-mask.ensures.zeros (w.is_all_zeros.ensures.0 w.if-is_all_zeros.true).1
+          c.mark_first-first.new.dest c.mark_first-index.new.dest w.write_some_ones.new.dest c.mark_first-first.result _ c.progress.invariant.1 c.mark_first-first.ensures.code c.mark_first-first.ensures.some c.mark_first-index.ensures.code w.write_some_ones.ensures)
+      | else-zeros-ne0+else-by_zero-test w ↦ WindowTaken-at _ _ _ _ _ _ _ _ _ _ _ (sym w.dest-is) (sym w.index-is)
+          (marks-end _ _ _ _ _ _ _ _ _ _ _ w.by_zero.invariant w.by_zero-test.false (omega arith))
+    ] in
+    let e = open-end H c.args.source.now c.args.dest.now c.if-zeros-ne0.dest end 0 len c.if-zeros-ne0.index p.next taken (omega arith) (omega arith) in
+    let o = taken.ordered in
+    let is : c.if-zeros-ne0.index + (p.next + len - c.if-zeros-ne0.index) ≡ end = omega arith in
+    subst (λ (x : Reached). end_of x ≡ end) (sym c.set.ensures) is
 
 pub returns-clause-rest : goal.returns-clause-rest
 returns-clause-rest c =

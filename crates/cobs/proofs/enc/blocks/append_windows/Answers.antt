@@ -7,7 +7,7 @@ use Rattle.cobs.proofs.ReachLemmas.{Reaches, Reaches-full}
 use Rattle.cobs.proofs.MarkLemmas.{WindowTaken, WindowTaken-at, copied-reaches, filled, marks-start, marks-end, ones-room, ones-taken}
 use Rattle.cobs.specs.Mask.{lowest}
 use Rattle.cobs.proofs.ShortSteps.{code-inside, code-ordered, first-marked}
-use Rattle.cobs.proofs.CoreLemmas.{end_with, core-start, full-after, full-rest, open-after, open-rest, still-open}
+use Rattle.cobs.proofs.CoreLemmas.{end_with, core-start, full-after, full-end, full-rest, open-after, open-end, open-rest, still-open}
 use Rattle.cobs.proofs.enc.blocks.append_windows.Goals.{then-zeros-eq-ALL_ZEROS, else-zeros-eq-ALL_ZEROS+else-by_zero-test}
 use Rattle.cobs.proofs.enc.blocks.append_windows.Goals as goal
 
@@ -35,6 +35,21 @@ returns-then-read-source-clause-after c =
     let r = subst (λ (n : ℕ). Reaches H c.args.source.now c.args.dest.now c.copy_window-zeros.new.dest end (c.by_window.read + lacking) c.by_window.index n (λ _. Unit {0})) sum joined in
     let room : end ≤ length c.copy_window-zeros.new.dest = omega arith in
     λ m h. subst (λ (r : Reached). CobsEncoderAfter (set c.copy_window-zeros.new.dest c.by_window.index 255) r (m ++ c.args.source.now)) (sym c.set.ensures) (full-after H c.args.source.now c.args.dest.now c.copy_window-zeros.new.dest end (c.by_window.read + lacking) c.by_window.index r room (omega arith) m h)
+
+pub returns-then-read-source-clause-end : goal.returns-then-read-source-clause-end
+returns-then-read-source-clause-end c =
+    let H : List ℕ → Type 0 = CobsEncoderAfter c.args.dest.now c.args.progress.now in
+    let end : ℕ = end_with c.args.progress.now c.args.source.now in
+    let fits : end ≤ length c.by_window.dest = omega arith in
+    let inside : c.by_window.read + c.min-len.result ≤ length c.args.source.now = omega arith in
+    let few : c.min-len.result ≤ 32 = omega arith in
+    let lacking : ℕ = c.by_window.index + 255 - c.by_window.next in
+    let short = c.by_window.invariant.open' in
+    let sum : c.by_window.next + lacking ≡ c.by_window.index + 255 = omega arith in
+    let joined = filled H c.args.source.now c.args.dest.now c.by_window.dest c.copy_window-zeros.new.dest end c.by_window.read c.min-len.result c.by_window.index c.by_window.next c.copy_window-zeros.result c.by_window.invariant.reaches fits inside few c.copy_window-zeros.ensures.copied c.copy_window-zeros.ensures.zeros lacking refl (omega arith) in
+    let r = subst (λ (n : ℕ). Reaches H c.args.source.now c.args.dest.now c.copy_window-zeros.new.dest end (c.by_window.read + lacking) c.by_window.index n (λ _. Unit {0})) sum joined in
+    let room : end ≤ length c.copy_window-zeros.new.dest = omega arith in
+    λ some. subst (λ (r : Reached). end_of r ≡ end) (sym c.set.ensures) (sym (full-end H c.args.source.now c.args.dest.now c.copy_window-zeros.new.dest end (c.by_window.read + lacking) c.by_window.index r room (omega arith)))
 
 pub returns-then-read-source-clause-rest : goal.returns-then-read-source-clause-rest
 returns-then-read-source-clause-rest c =
@@ -125,6 +140,26 @@ returns-then-read-source-2-clause-after c =
           (marks-end _ _ _ _ _ _ _ _ _ _ _ w.by_zero.invariant w.by_zero-test.false (omega arith))
     ] in
     λ m h. subst (λ (r : Reached). CobsEncoderAfter c.if-zeros-eq-ALL_ZEROS.dest r (m ++ c.args.source.now)) (sym c.set-then-read-source-2.ensures) (open-after H c.args.source.now c.args.dest.now c.if-zeros-eq-ALL_ZEROS.dest end c.by_window.read c.min-len.result c.if-zeros-eq-ALL_ZEROS.index c.by_window.next taken (omega arith) (omega arith) m h)
+
+pub returns-then-read-source-2-clause-end : goal.returns-then-read-source-2-clause-end
+returns-then-read-source-2-clause-end c =
+    let H : List ℕ → Type 0 = CobsEncoderAfter c.args.dest.now c.args.progress.now in
+    let end : ℕ = end_with c.args.progress.now c.args.source.now in
+    let fits : end ≤ length c.by_window.dest = omega arith in
+    let inside : c.by_window.read + c.min-len.result ≤ length c.args.source.now = omega arith in
+    let few : c.min-len.result ≤ 32 = omega arith in
+    let r = copied-reaches H c.args.source.now c.args.dest.now c.by_window.dest c.copy_window-zeros.new.dest end c.by_window.read c.min-len.result c.by_window.index c.by_window.next c.copy_window-zeros.result c.by_window.invariant.reaches fits inside few c.copy_window-zeros.ensures.copied c.copy_window-zeros.ensures.zeros in
+    let room : end ≤ length c.copy_window-zeros.new.dest = omega arith in
+    let taken : WindowTaken H c.args.source.now c.args.dest.now c.if-zeros-eq-ALL_ZEROS.dest end c.by_window.read c.min-len.result c.if-zeros-eq-ALL_ZEROS.index c.by_window.next = elim c.if-zeros-eq-ALL_ZEROS.branch [
+      | then-zeros-eq-ALL_ZEROS w ↦ WindowTaken-at _ _ _ _ _ _ _ _ _ _ _ (sym w.dest-is) (sym w.index-is)
+          (ones-taken H c.args.source.now c.args.dest.now c.copy_window-zeros.new.dest end c.by_window.read c.min-len.result c.by_window.index c.by_window.next c.copy_window-zeros.result r room inside few c.copy_window-zeros.ensures.zeros w.if-zeros-eq-ALL_ZEROS.true w.write_ones.new.dest c.by_window.invariant.open' w.write_ones.ensures)
+      | else-zeros-eq-ALL_ZEROS+else-by_zero-test w ↦ WindowTaken-at _ _ _ _ _ _ _ _ _ _ _ (sym w.dest-is) (sym w.index-is)
+          (marks-end _ _ _ _ _ _ _ _ _ _ _ w.by_zero.invariant w.by_zero-test.false (omega arith))
+    ] in
+    let e = open-end H c.args.source.now c.args.dest.now c.if-zeros-eq-ALL_ZEROS.dest end c.by_window.read c.min-len.result c.if-zeros-eq-ALL_ZEROS.index c.by_window.next taken (omega arith) (omega arith) in
+    let o = taken.ordered in
+    let is : c.if-zeros-eq-ALL_ZEROS.index + (c.by_window.next + c.min-len.result - c.if-zeros-eq-ALL_ZEROS.index) ≡ end = omega arith in
+    λ some. subst (λ (r : Reached). end_of r ≡ end) (sym c.set-then-read-source-2.ensures) is
 
 pub returns-then-read-source-2-clause-rest : goal.returns-then-read-source-2-clause-rest
 returns-then-read-source-2-clause-rest c =

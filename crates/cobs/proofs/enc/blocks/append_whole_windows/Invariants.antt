@@ -1,0 +1,21 @@
+use Rattle.std.proofs.Common.{◌≡◌, ◌<◌, ◌-◌, ◌+◌, length}
+use Rattle.cobs.specs.Encoder.{CobsEncoderAfter, open_len}
+use Rattle.cobs.proofs.ReachLemmas.{Reaches}
+use Rattle.cobs.proofs.MarkLemmas.{Marks}
+use Rattle.cobs.proofs.enc.blocks.append_whole_windows.Given as goal
+
+abbrev pub invariant-by_window : goal.invariant-by_window
+invariant-by_window l = record {
+  more : l.read < length l.source;
+  open' : l.next < l.index + 255;
+  reaches : Reaches (CobsEncoderAfter l.fn.dest l.fn.progress) l.source l.fn.dest l.dest (l.fn.progress.block.index + open_len l.fn.progress.block.code l.source) l.read l.index l.next (λ noted. noted ≡ l.full);
+}
+
+abbrev pub decreases-by_window : goal.decreases-by_window
+decreases-by_window l = length l.source - l.read
+
+abbrev pub invariant-by_zero : goal.invariant-by_zero
+invariant-by_zero l = Marks (CobsEncoderAfter l.fn.dest l.fn.progress) l.source l.fn.dest l.dest (l.fn.progress.block.index + open_len l.fn.progress.block.code l.source) l.read 32 l.index l.next l.zeros
+
+abbrev pub decreases-by_zero : goal.decreases-by_zero
+decreases-by_zero l = l.zeros
