@@ -91,9 +91,6 @@ pub record BlocksBehind (bytes : List ℕ) (read : ℕ) (behind_full : Bool) : T
   pub joined : bytes ≡ concat front ++ drop read bytes
   pub noted : behind_full ≡ is_full (last_of front)
 
-pub none-behind : (bytes : List ℕ) → 0 < length bytes → BlocksBehind bytes 0 false
-none-behind bytes some = record { front = []; within = some; each = All-nil IsBlock; joined = refl; noted = refl }
-
 module _ (bytes : List ℕ) (read : ℕ) (behind_full : Bool) (b : BlocksBehind bytes read behind_full) (nonzero : HasNoZero bytes) (code : ℕ) (is : code ≡ get_or bytes read 0) (below : code < 256) where
   more : List ℕ
   more = drop (read + 1) bytes

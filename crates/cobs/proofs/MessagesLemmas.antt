@@ -18,10 +18,6 @@ use Rattle.cobs.proofs.StreamLemmas.{stream_outcomes-append, stream_outcomes-pie
 
 -- ONE MORE MESSAGE
 
--- no message
-pub AreFrames-nil : AreFrames [] []
-AreFrames-nil = record { frames = []; each = tt; joined = refl }
-
 -- one more message's frame and its zero
 pub AreFrames-push : (messages : List (List ℕ)) (bytes frame message : List ℕ) → AreFrames messages bytes → IsEncodedFrame frame message → AreFrames (messages ++ message ∷ []) (bytes ++ frame ++ 0 ∷ [])
 AreFrames-push messages bytes frame message h encoded = record {

@@ -81,17 +81,6 @@ unfolding is_whole
 is_whole-of [] h = absurd (omega arith)
 is_whole-of (x ∷ p) h = refl
 
-pub is_whole-empty : (p : List ℕ) → length p ≡ 0 → is_whole p ≡ false
-unfolding is_whole
-is_whole-empty [] h = refl
-is_whole-empty (x ∷ p) h = absurd (omega arith)
-
-pub same_test : (m n : ℕ) → n ≤ m → eqb m n ≡ eqb (m - n) 0
-same_test m n le = elim (cases_eq m n) [
-  | inl is ↦ eq-eqb m n is ∙ sym (eq-eqb (m - n) 0 (omega arith))
-  | inr other ↦ ne_eqb m n other ∙ sym (ne_eqb (m - n) 0 (λ e. other (omega arith)))
-]
-
 pub last_part-ones : (n : ℕ) (p : List ℕ) → 0 < length p → last_part (replicate n 1 ++ p) ≡ last_part p
 last_part-ones zero p some = refl
 last_part-ones (suc n) p some =

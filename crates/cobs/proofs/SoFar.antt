@@ -94,10 +94,6 @@ pub left_nothing : (xs ys : List Outcome) → xs ++ ys ≡ [] → xs ≡ []
 left_nothing [] ys e = refl
 left_nothing (x ∷ xs) ys e = cc
 
-right_nothing : (xs ys : List Outcome) → xs ++ ys ≡ [] → ys ≡ []
-right_nothing [] ys e = e
-right_nothing (x ∷ xs) ys e = cc
-
 zero_or_none : (xs : List ℕ) → Contains xs 0 ⊎ HasNoZero xs
 zero_or_none [] = inr (All-nil (λ b. b ≢ 0))
 zero_or_none (zero ∷ xs) = inl (0, omega arith, refl)
@@ -225,33 +221,6 @@ module _ {buffer buffer' : List ℕ} {phase phase' : Phase} {result : Result (Op
 
 -- NOTHING TOLD
 
-nothing_at : (q : List ℕ) (n : ℕ) → outcomes_at q 0 n ≡ [] → q ≡ []
-nothing_at [] n e = refl
-nothing_at (c ∷ q) n e = cc
-
-tells_nothing : (q buffer : List ℕ) (n : ℕ) → q ≡ [] → outcome_told (answer_to q 0 n) buffer ≡ []
-unfolding answer_to answer_at_end
-tells_nothing q buffer n e = rw e refl
-
--- the bytes around a zero
-pub around_zero : (bytes : List ℕ) (i : ℕ) → i < length bytes → get_or bytes i 0 ≡ 0 → bytes ≡ take i bytes ++ 0 ∷ [] ++ drop (i + 1) bytes
-around_zero bytes i within z =
-    sym (ap (λ (x : List ℕ). x ++ drop (i + 1) bytes) (ap (λ (x : ℕ). take i bytes ++ x ∷ []) (sym z) ∙ sym (take_more bytes i 0 within)) ∙ take-append-drop (i + 1) bytes)
-
--- where the whole stream gives nothing, a zero in it tells nothing
-nothing_told : {buffer₀ buffer buffer' : List ℕ} {phase₀ phase phase' : Phase} {found : List Outcome} {result : Result (Option ℕ) DecodeError}
-    (bytes : List ℕ) (i : ℕ) → i < length bytes → get_or bytes i 0 ≡ 0
-    → SoFar buffer₀ phase₀ buffer phase (take i bytes) found → Feeds buffer phase 0 result buffer' phase'
-    → (p : List ℕ) → PhaseAfter (length buffer₀) phase₀ p → stream_outcomes (p ++ bytes) (length buffer₀) ≡ [] → outcome_told result buffer' ≡ []
-nothing_told {buffer₀} {buffer} {buffer'} bytes i within z s f p h none =
-    let n = length buffer₀ in
-    let whole : stream_outcomes (p ++ bytes) n ≡ stream_outcomes (p ++ (take i bytes ++ 0 ∷ [])) n ++ stream_outcomes (unended (p ++ (take i bytes ++ 0 ∷ [])) ++ drop (i + 1) bytes) n
-    = ap (λ (x : List ℕ). stream_outcomes x n) (ap (λ (x : List ℕ). p ++ x) (around_zero bytes i within z) ∙ sym (append_assoc p (take i bytes ++ 0 ∷ []) (drop (i + 1) bytes)))
-    ∙ stream_outcomes-append (p ++ (take i bytes ++ 0 ∷ [])) (drop (i + 1) bytes) n in
-    let front : stream_outcomes (p ++ (take i bytes ++ 0 ∷ [])) n ≡ [] = left_nothing _ _ (sym whole ∙ none) in
-    let nil : unended (p ++ take i bytes) ≡ [] = nothing_at _ _ (right_nothing _ _ (sym (outcomes_on p (take i bytes) 0 n) ∙ front)) in
-    ap (λ (x : Result (Option ℕ) DecodeError). outcome_told x buffer') (f.answer _ (here s p h)) ∙ tells_nothing _ buffer' (length buffer) nil
-
 -- AT A PLACE IN THE BYTES
 
 module _ {buffer₀ buffer buffer' : List ℕ} {phase₀ phase phase' : Phase} {found : List Outcome} {result : Result (Option ℕ) DecodeError} (bytes : List ℕ) (i : ℕ) (within : i < length bytes) where
@@ -270,11 +239,6 @@ module _ {buffer₀ buffer buffer' : List ℕ} {phase₀ phase phase' : Phase} {
       → SoFar buffer₀ phase₀ buffer' phase' (take (i + 1) bytes) found
   step_none z none s f = rw append-nil at (rw none at (step_zero z s f))
 
-  -- where the whole stream gives nothing, a zero there tells nothing
-  pub told_nothing : get_or bytes i 0 ≡ 0 → SoFar buffer₀ phase₀ buffer phase (take i bytes) found → Feeds buffer phase (get_or bytes i 0) result buffer' phase'
-      → (p : List ℕ) → PhaseAfter (length buffer₀) phase₀ p → stream_outcomes (p ++ bytes) (length buffer₀) ≡ [] → outcome_told result buffer' ≡ []
-  told_nothing z s f = nothing_told bytes i within z s (subst (λ b. Feeds buffer phase b result buffer' phase') z f)
-
 -- A PIECE IS TAKEN
 
 pub TakesPiece-at_zero : {buffer₀ buffer buffer' : List ℕ} {phase₀ phase phase' : Phase} {result : Result (Option ℕ) DecodeError} (bytes : List ℕ) (i : ℕ) → i < length bytes → get_or bytes i 0 ≡ 0
@@ -291,10 +255,6 @@ TakesPiece-at_zero {buffer₀} {buffer} {buffer'} bytes i within z s f end e fit
   idle = f.zero_idle z;
   within = (omega (arith, within), subst (λ n. IsWithin n end) (f.len ∙ s.len) fits);
 }
-
--- no piece ends in all of the bytes
-pub TakesPiece-none : {buffer₀ buffer : List ℕ} {phase₀ phase : Phase} (bytes : List ℕ) → SoFar buffer₀ phase₀ buffer phase bytes [] → TakesPiece buffer₀ phase₀ bytes None buffer phase
-TakesPiece-none bytes s = record { takes = s; ends = tt; idle = tt; within = tt }
 
 -- THE BYTES FROM A PLACE ON
 

@@ -23,11 +23,6 @@ nonzero b h = ne_eqb b 0 h
 pub fed-nonzero : (p : List ℕ) (b : ℕ) → b ≢ 0 → fed p b ≡ p ++ b ∷ []
 fed-nonzero p b h = ap (λ (x : Bool). cond x [] (p ++ b ∷ [])) (nonzero b h)
 
--- the front stays free of zeros
-pub fed-piece : (p : List ℕ) (b : ℕ) → HasNoZero p → HasNoZero (fed p b)
-fed-piece p zero h = All-nil (λ x. x ≢ 0)
-fed-piece p (suc b) h = rw (fed-nonzero p (suc b) (λ e. omega arith)) (All-push (λ x. x ≢ 0) p (suc b) h (λ e. omega arith))
-
 -- STRETCHES OF A STREAM IN TWO PARTS
 
 stretches-nonzero : (b : ℕ) (t : List ℕ) → b ≢ 0 → stretches (b ∷ t) ≡ onto_first b (stretches t)
