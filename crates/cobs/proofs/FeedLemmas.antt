@@ -10,6 +10,7 @@ use Rattle.cobs.specs.Decoder.{Phase, Idle, Within, Over, phase_after, PhaseAfte
 use Rattle.cobs.specs.Machine.{grows, next_phase, next_buffer, if_over, end_answer, next_answer}
 use Rattle.cobs.specs.declared.dec.report.DecodeError.TheVariants.{TargetBufTooSmall}
 use Rattle.std.specs.Prelude.{IfOk, IfSome}
+use Rattle.cobs.proofs.TableLemmas.{phase_by_table}
 use Rattle.cobs.proofs.PieceLemmas.{output-one, last_part-one, output-push_more, output-push_next, last_part-push_next, lacks-push_more, is_full-push_more, output-push}
 
 -- the phase behind a piece, from what is known of the piece
@@ -261,6 +262,7 @@ Feeds-step buffer phase b fits = record {
   untouched = λ p h nz. PhaseAfter-untouched buffer phase p b h nz;
   zero_idle = λ e. rw e (zero_phase (length buffer) phase);
   zero_unchanged = λ e. rw e (zero_buffer buffer phase);
+  by_table = λ state e going. phase_by_table (length buffer) phase b state e going;
   bound = fits;
   len = length-next_buffer buffer phase b;
 }

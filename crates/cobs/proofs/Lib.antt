@@ -49,3 +49,4 @@ pub mod PushHeadline
 pub mod FlatLemmas
 pub mod VectorHeadline
 pub mod TakenLemmas
+pub mod TableLemmas

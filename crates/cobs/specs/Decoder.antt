@@ -1,9 +1,12 @@
 -- What a streaming decoder answers, and where it stands, behind the front of a piece.
-use Rattle.std.specs.Prelude.{ℕ, ◌≡◌, ◌≢◌, ◌≤◌, ◌==◌, nat_le, Bool, List, [], ◌∷◌, ◌++◌, length, take, drop, Option, Some, None, Result, Ok, Err, IfOk, IfSome, if◌then◌else◌}
+use Rattle.std.specs.Prelude.{ℕ, ◌≡◌, ◌≢◌, ◌≤◌, ◌==◌, nat_le, Bool, true, false, List, [], ◌∷◌, ◌++◌, length, take, drop, Option, Some, None, Result, Ok, Err, IfOk, IfSome, if◌then◌else◌}
 use Rattle.cobs.specs.Grammar.{HasNoZero, is_full}
 use Rattle.cobs.specs.Piece.{output, last_part, lacks}
+use Rattle.cobs.specs.Table.{table_state}
 use Rattle.cobs.specs.Stream.{Outcome, Message, Broken, TooLong, outcome_of}
 use Rattle.cobs.specs.declared.dec.report.DecodeError.{DecodeError}
+use Rattle.cobs.specs.declared.dec.state.DecoderState.{DecoderState}
+use Rattle.cobs.specs.declared.dec.state.DecoderState.TheVariants as states
 use Rattle.cobs.specs.declared.dec.report.DecodeError.TheVariants.{InvalidFrame, TargetBufTooSmall}
 
 -- how an outcome is answered
@@ -34,6 +37,13 @@ pub data Phase : Type 0 where
   Within : (full : Bool) (left count : ℕ) → Phase
   Over : Phase
 
+-- the state of the table of `DecoderState` in which a decoder stands; none where the output was too long
+abbrev pub state_in : Phase → Option DecoderState
+state_in Idle = Some states.Idle
+state_in (Within false left count) = Some (states.Grab left)
+state_in (Within true left count) = Some (states.GrabChain left)
+state_in Over = None
+
 -- the phase behind the front p of a piece, over a buffer of n bytes
 unfoldable pub phase_after : List ℕ → ℕ → Phase
 phase_after [] n = Idle
@@ -61,5 +71,7 @@ pub record Feeds (buffer : List ℕ) (phase : Phase) (byte : ℕ) (result : Resu
   -- in every phase
   pub zero_idle : byte ≡ 0 → phase' ≡ Idle
   pub zero_unchanged : byte ≡ 0 → buffer' ≡ buffer
+  -- its state moves as the table says, unless the output is now too long
+  pub by_table : (state : DecoderState) → state_in phase ≡ Some state → phase' ≢ Over → state_in phase' ≡ Some (table_state state byte)
   pub bound : IfOk result (λ found. IfSome found (λ n. n ≤ length buffer))
   pub len : length buffer' ≡ length buffer

@@ -1,5 +1,7 @@
--- The table of `DecoderState`: what each state answers to a byte, and the state behind it.
-use Rattle.std.specs.Prelude.{ℕ, zero, suc, ◌-◌, ◌==◌, Result, Ok, Err, if◌then◌else◌}
+-- The table of `DecoderState`: what each state answers to a byte, and the state behind it; and what that means of a piece.
+use Rattle.std.specs.Prelude.{ℕ, zero, suc, ◌≡◌, ◌<◌, ◌-◌, ◌==◌, List, [], ◌∷◌, All, Result, Ok, Err, if◌then◌else◌}
+use Rattle.cobs.specs.Grammar.{HasNoZero, is_full}
+use Rattle.cobs.specs.Piece.{last_part, lacks, output}
 use Rattle.cobs.specs.declared.dec.state.DecoderState.{DecoderState}
 use Rattle.cobs.specs.declared.dec.state.DecoderState.TheVariants.{Idle, Grab, GrabChain}
 use Rattle.cobs.specs.declared.dec.state.DecodeResult.{DecodeResult}
@@ -26,3 +28,25 @@ table_state (Grab (suc left)) byte = if byte == 0 then Idle else Grab left
 table_state (GrabChain (suc left)) byte = if byte == 0 then Idle else GrabChain left
 table_state (Grab zero) byte = if byte == 0 then Idle else opened_by byte
 table_state (GrabChain zero) byte = if byte == 0 then Idle else opened_by byte
+
+-- the bytes of the message that an answer gives
+abbrev pub data_of : Result DecodeResult DecodeError → List ℕ
+data_of (Ok NoData) = []
+data_of (Ok DataStart) = []
+data_of (Ok DataComplete) = []
+data_of (Ok (DataContinue byte)) = byte ∷ []
+data_of (Err error) = []
+
+-- the state behind the front p of a piece: in its last part, full or not, which lacks so many bytes
+abbrev pub state_after : List ℕ → DecoderState
+state_after [] = Idle
+state_after (byte ∷ bytes) =
+    let part = last_part (byte ∷ bytes) in
+    if is_full part then GrabChain (lacks part) else Grab (lacks part)
+
+-- the state has taken the front p of a piece, and these are the bytes that its answers gave so far: what p decodes to
+pub record StateAfter (state : DecoderState) (p so_far : List ℕ) : Type 0 where
+  pub piece : HasNoZero p
+  pub bytes : All (λ byte. byte < 256) p
+  pub state_is : state ≡ state_after p
+  pub so_far_is : so_far ≡ output p

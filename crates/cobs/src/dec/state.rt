@@ -1,16 +1,17 @@
 //! The state machine of a decoder, without a buffer.
-ghost use Rattle.std.specs.Prelude.{◌≡◌, ◌≢◌};
-ghost use Rattle.cobs.specs.Table.{opened_by, table_answer, table_state};
+ghost use Rattle.std.specs.Prelude.{◌≡◌, ◌≢◌, ◌↔◌, ◌++◌, ◌∷◌, [], List, ℕ, Ok};
+ghost use Rattle.cobs.specs.Grammar.{Reads};
+ghost use Rattle.cobs.specs.Table.{data_of, opened_by, table_answer, table_state, StateAfter};
+ghost use Rattle.cobs.specs.declared.dec.state.DecodeResult.TheVariants.{DataComplete};
 
 use crate::dec::report::DecodeError;
 
 /// Where a decoder stands in a frame.
 ///
 /// The state holds no output, so a caller can stream the decoded bytes into a container of its own.
-#[derive(Debug, Default, Drop)]
+#[derive(Debug, Drop)]
 pub enum DecoderState {
     /// No nonzero byte has come since the last sentinel.
-    #[default]
     Idle,
 
     /// In a block with a code from 1 to 254, which lacks this many bytes.
@@ -36,6 +37,20 @@ pub enum DecodeResult {
     DataContinue(u8),
 }
 
+impl Default for DecoderState {
+    ghost use Rattle.cobs.specs.declared.dec.state.DecoderState.TheVariants.{Idle};
+
+    ghost is_default = { λ state. state ≡ Idle };
+
+    /// The start: no byte has come.
+    fn default() -> Self
+        ensures start { result ≡ Idle }
+        ensures after_nothing { StateAfter result [] [] }
+    {
+        DecoderState::Idle
+    }
+}
+
 impl DecoderState {
     /// The state behind a code, which lacks all the bytes that the code counts.
     fn opened(code: u8) -> DecoderState
@@ -49,24 +64,12 @@ impl DecoderState {
         }
     }
 
-    /// Takes the next byte of a frame, and answers what it brought.
-    ///
-    /// A sentinel, the byte 0, is `DataComplete` where the last block has all the bytes that its code counts,
-    /// and `NoData` where no frame has begun. Inside a block it is the error `InvalidFrame`, whose
-    /// `decoded_bytes` is always 0 here, since the state counts no output. Behind each sentinel the state is
-    /// `Idle`.
-    ///
-    /// Any other byte is a code where no block is open: `DataStart` for the first one, `NoData` behind a full
-    /// block, and behind any other block `DataContinue(0)`, the zero that joins the two blocks. Inside a block it
-    /// is `DataContinue` of the byte itself.
-    ///
-    /// Every state has an answer to every byte, also one that no frame leads to, such as `Grab(255)`. These are
-    /// the block rules of the paper by Cheshire and Baker; the names of the answers are those of the crate `cobs`.
-    pub fn feed(&mut self, byte: u8) -> Result<DecodeResult, DecodeError>
-        ensures answer { result ≡ table_answer self.old byte }
-        ensures state { self.new ≡ table_state self.old byte }
+    /// What the table has for this state and this byte: the answer, and the state behind it.
+    fn row(&self, byte: u8) -> (Result<DecodeResult, DecodeError>, DecoderState)
+        ensures answer { result.0 ≡ table_answer self.now byte }
+        ensures state { result.1 ≡ table_state self.now byte }
     {
-        let (answer, next) = match (&*self, byte) {
+        match (self, byte) {
             (DecoderState::Idle, 0) => (Ok(DecodeResult::NoData), DecoderState::Idle),
             (DecoderState::Idle, code) => (Ok(DecodeResult::DataStart), DecoderState::opened(code)),
             (DecoderState::Grab(0) | DecoderState::GrabChain(0), 0) => {
@@ -99,7 +102,34 @@ impl DecoderState {
                     DecoderState::GrabChain(*left - 1),
                 )
             }
-        };
+        }
+    }
+
+    /// Takes the next byte of a frame, and answers what it brought.
+    ///
+    /// A sentinel, the byte 0, is `DataComplete` where the last block has all the bytes that its code counts,
+    /// and `NoData` where no frame has begun. Inside a block it is the error `InvalidFrame`, whose
+    /// `decoded_bytes` is always 0 here, since the state counts no output. Behind each sentinel the state is
+    /// `Idle`.
+    ///
+    /// Any other byte is a code where no block is open: `DataStart` for the first one, `NoData` behind a full
+    /// block, and behind any other block `DataContinue(0)`, the zero that joins the two blocks. Inside a block it
+    /// is `DataContinue` of the byte itself.
+    ///
+    /// Every state has an answer to every byte, also one that no frame leads to, such as `Grab(255)`. These are
+    /// the block rules of the paper by Cheshire and Baker; the names of the answers are those of the crate `cobs`.
+    pub fn feed(&mut self, byte: u8) -> Result<DecodeResult, DecodeError>
+        ensures answer { result ≡ table_answer self.old byte }
+        ensures state { self.new ≡ table_state self.old byte }
+
+        // Behind the front p of a piece, with the bytes that the answers gave so far.
+        ensures after { (p so_far : List ℕ) → StateAfter self.old p so_far → byte ≢ 0
+            → StateAfter self.new (p ++ byte ∷ []) (so_far ++ data_of result) }
+        ensures message { (p so_far m : List ℕ) → StateAfter self.old p so_far → byte ≡ 0
+            → (((result ≡ Ok DataComplete) × (so_far ≡ m)) ↔ Reads p m) }
+        ensures idle { byte ≡ 0 → StateAfter self.new [] [] }
+    {
+        let (answer, next) = self.row(byte);
         *self = next;
         answer
     }

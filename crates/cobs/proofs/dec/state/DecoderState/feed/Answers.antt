@@ -1,0 +1,14 @@
+use Rattle.std.proofs.Common.{sym, ap, ◌∙◌, subst}
+use Rattle.cobs.specs.Table.{table_state, StateAfter}
+use Rattle.cobs.proofs.TableLemmas.{StateAfter-start, StateAfter-step, StateAfter-end, table_state-zero}
+use Rattle.cobs.proofs.dec.state.DecoderState.feed.Goals as goal
+
+pub returns-clause-after : goal.returns-clause-after
+returns-clause-after c = λ p so_far s some.
+    rw (c.row-answer.ensures.answer, c.row-answer.ensures.state) (StateAfter-step c.args.self.now p so_far c.args.byte c.ranges.byte.fits s some)
+
+pub returns-clause-message : goal.returns-clause-message
+returns-clause-message c = λ p so_far m s zero. rw (c.row-answer.ensures.answer, zero) (StateAfter-end c.args.self.now p so_far m s)
+
+pub returns-clause-idle : goal.returns-clause-idle
+returns-clause-idle c = λ zero. rw (c.row-answer.ensures.state, zero, table_state-zero c.args.self.now) StateAfter-start
