@@ -1,6 +1,5 @@
 -- Where an encoder can stand whose buffer is passed to each call.
-use Rattle.std.proofs.Common.{◌≡◌, ℕ, ◌<◌, ◌≤◌, List, [], ◌∷◌, ◌++◌, length, arith}
-use Rattle.cobs.specs.Grammar.{IsBlock}
+use Rattle.std.proofs.Common.{ℕ, List, ◌∷◌, length, arith}
 use Rattle.cobs.specs.Encoder.{Reached, CobsEncoderAfter}
 use Rattle.cobs.specs.UnbufferedEncoder.{IsPlaceIn}
 use Rattle.cobs.proofs.OpenLemmas.{All-front}

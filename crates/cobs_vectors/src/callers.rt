@@ -2,15 +2,18 @@
 //!
 //! No test stands here: each function has a contract, and the prover derives it from the clauses of the calls that it
 //! makes. So a clause that said too little for its users would be noticed here.
-ghost use Rattle.std.specs.Prelude.{◌≡◌, ◌≢◌, ◌≤◌, ◌<◌, ◌+◌, ◌↔◌, All, length, take, slice_index, IfOk, IfSome, IsTrue};
-ghost use Rattle.cobs.specs.Buffers.{lent_buffer, lent_phase, lent_slice, owned_buffer};
-ghost use Rattle.cobs.specs.Grammar.{Reads};
+ghost use Rattle.std.specs.Prelude.{◌≡◌, ◌≢◌, ◌≤◌, ◌<◌, ◌+◌, ◌↔◌, All, length, take, slice_index, List, ℕ, Ok, Some, option_to_list, IfOk, IfSome, IsSomeAnd, IsTrue};
+ghost use Rattle.cobs.specs.Buffers.{lent_buffer, lent_phase, lent_slice, owned_buffer, owned_phase};
+ghost use Rattle.cobs.specs.Decoder.{state_in, Over};
+ghost use Rattle.cobs.specs.Grammar.{HasNoZero, Reads};
 ghost use Rattle.cobs.specs.Headline.{IsPiece};
 ghost use Rattle.cobs.specs.Length.{encoded_len};
 ghost use Rattle.cobs.specs.Streaming.{AreFrames, messages_in};
+ghost use Rattle.cobs.specs.Table.{data_of};
 
 use cobs::{
-    CobsDecoder, CobsDecoderOwned, decode, encode_frames, encode_frames_room, encode_with_sentinel,
+    CobsDecoder, CobsDecoderOwned, DecodeError, DecodeResult, DecoderState, decode, encode_frames,
+    encode_frames_room, encode_with_sentinel,
 };
 use std::alloc::{AllocError, Global};
 
@@ -61,4 +64,51 @@ pub fn push_nothing(decoder: &mut CobsDecoder<'_>)
     ensures same_slice { lent_slice decoder.new ≡ lent_slice decoder.old }
 {
     let _answer = decoder.push(&[]);
+}
+
+/// The byte of the message that an answer gives.
+fn byte_given(answer: Result<DecodeResult, DecodeError>) -> Option<u8>
+    ensures { option_to_list result ≡ data_of answer }
+{
+    match answer {
+        Ok(DecodeResult::DataContinue(byte)) => Some(byte),
+        _ => None,
+    }
+}
+
+/// Whether an answer says that a whole frame has ended.
+fn is_complete(answer: Result<DecodeResult, DecodeError>) -> bool
+    ensures { IsTrue result ↔ (answer ≡ Ok DecodeResult.DataComplete) }
+{
+    matches!(answer, Ok(DecodeResult::DataComplete))
+}
+
+/// Decodes a frame byte by byte into a vector, by the state machine alone: the message, or `None` where it is no frame.
+pub fn decode_by_state(alloc: Global, frame: &[u8]) -> Result<Option<Vec<u8>>, AllocError>
+    requires { HasNoZero frame.now }
+    ensures { (m : List ℕ) → IfOk result (λ found.
+        IsSomeAnd found (λ message. message.items ≡ m) ↔ Reads frame.now m) }
+{
+    let mut state = DecoderState::default();
+    let mut message = Vec::new(alloc);
+    'by_byte: for byte in frame {
+        if let Some(given) = byte_given(state.feed(*byte)) {
+            message.push(given)?;
+        }
+    }
+    if is_complete(state.feed(0)) {
+        Ok(Some(message))
+    } else {
+        Ok(None)
+    }
+}
+
+/// Feeds a byte to a decoder and to the state machine that stands where the decoder does: so they stand again, unless
+/// the decoder's buffer is now too short.
+pub fn feed_both(decoder: &mut CobsDecoderOwned, state: &mut DecoderState, byte: u8)
+    requires { state_in (owned_phase decoder.old) ≡ Some state.old }
+    ensures { owned_phase decoder.new ≢ Over → state_in (owned_phase decoder.new) ≡ Some state.new }
+{
+    let _answer = decoder.feed(byte);
+    let _row = state.feed(byte);
 }

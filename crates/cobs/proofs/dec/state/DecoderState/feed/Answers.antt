@@ -1,5 +1,3 @@
-use Rattle.std.proofs.Common.{sym, ap, ◌∙◌, subst}
-use Rattle.cobs.specs.Table.{table_state, StateAfter}
 use Rattle.cobs.proofs.TableLemmas.{StateAfter-start, StateAfter-step, StateAfter-end, table_state-zero}
 use Rattle.cobs.proofs.dec.state.DecoderState.feed.Goals as goal
 
