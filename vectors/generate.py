@@ -203,6 +203,9 @@ def sentinels():
                 group.choice("short-into", "decode_with_sentinel", sentinel, source, filled(room, 2))
             group.choice("short-in-place", "decode_in_place_with_sentinel", sentinel, source)
             group.choice("short", "decode_vec_with_sentinel", sentinel, source)
+        for message in [b"", b"\0", b"\1\2", MESSAGE]:
+            for room in range(len(encoded_frame(message)) + 2):
+                group.choice("try", "try_encode_with_sentinel", sentinel, message, filled(room, 9))
         for room in range(7):
             given = masked(FRAME + b"\0\x63", sentinel[0])
             group.choice("room", "decode_with_sentinel", sentinel, given, filled(room, 255))

@@ -59,8 +59,12 @@ def encode_including_sentinels(message, before):
     return try_encode_including_sentinels(message, before)[1:]
 
 
+def try_encode_with_sentinel(sentinel, message, before):
+    return try_write(encode_vec_with_sentinel(sentinel, message)[0], before)
+
+
 def encode_with_sentinel(sentinel, message, before):
-    return try_write(encode_vec_with_sentinel(sentinel, message)[0], before)[1:]
+    return try_encode_with_sentinel(sentinel, message, before)[1:]
 
 
 def encoder(before, *pieces):

@@ -25,6 +25,7 @@ pub fn answer_to(alloc: Global, call: &str, arguments: &[&str]) -> Result<Answer
         "try_encode_including_sentinels" => {
             encoding::try_encode_including_sentinels(alloc, arguments)
         }
+        "try_encode_with_sentinel" => encoding::try_encode_with_sentinel(alloc, arguments),
         "encoder" => encoding::encoder(alloc, arguments),
         "encode_frames" => encoding::encode_frames(alloc, arguments),
         "decode_vec" => decoding::decode_vec(alloc, arguments),

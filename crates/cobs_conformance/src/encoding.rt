@@ -139,6 +139,21 @@ pub fn try_encode_including_sentinels(
     Ok(answer)
 }
 
+/// The frame for a sentinel in a buffer, where it fits.
+pub fn try_encode_with_sentinel(alloc: Global, arguments: &[&str]) -> Result<Answer, CaseFault> {
+    let [sentinel, message, buffer] = arguments else {
+        return Err(CaseFault::Malformed);
+    };
+    let sentinel = byte_of(alloc, sentinel)?;
+    let message = bytes_of(alloc, message)?;
+    let mut buffer = bytes_of(alloc, buffer)?;
+    let written = cobs::try_encode_with_sentinel(&message, &mut buffer, sentinel);
+    let mut answer = Answer::new(alloc);
+    answer.say_written(&written)?;
+    answer.say_bytes(&buffer)?;
+    Ok(answer)
+}
+
 /// A streaming encoder over a buffer, given pieces.
 pub fn encoder(alloc: Global, arguments: &[&str]) -> Result<Answer, CaseFault> {
     let [buffer, pieces @ ..] = arguments else {

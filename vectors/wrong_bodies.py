@@ -1,0 +1,270 @@
+#!/usr/bin/env python3
+"""Puts one wrong body after another into the plain library, and shows which case notices it.
+
+Prints for each body how many cases notice it, how many of those every COBS library owes, and the first of them with what
+it wants and what it gets. The status is 1 where some body is noticed by no case, or where the plain library itself
+differs."""
+
+import glob
+import os
+import sys
+
+from plain import Decoder, Encoder, Library, Measure, Reader, cases, masked, run
+
+HERE = os.path.dirname(os.path.abspath(__file__))
+
+
+# Encoders
+
+
+class ClosesFullBlock(Encoder):
+    def finalize(self):
+        if self.full:
+            self.buffer[self.index] = 1
+            return self.index + 1
+        return super().finalize()
+
+    def fits(self, piece):
+        trial = Measure(self)
+        for byte in piece:
+            trial.put(byte)
+        return trial.end() + trial.full <= len(self.buffer)
+
+
+class WritesBehindFrame(Encoder):
+    def finalize(self):
+        if self.full and self.index < len(self.buffer):
+            self.buffer[self.index] = 1
+        return super().finalize()
+
+
+class ClearsBuffer(Encoder):
+    def __init__(self, buffer):
+        super().__init__(buffer)
+        buffer[:] = bytes(len(buffer))
+
+
+class AddsByteForEmptyPush(Encoder):
+    def push(self, piece):
+        self.full = self.full and piece != b""
+        return super().push(piece)
+
+    def finalize(self):
+        if self.end() <= len(self.buffer):
+            return super().finalize()
+        return self.end()
+
+
+class RefusesForPlaceholder(Encoder):
+    def fits(self, piece):
+        trial = Measure(self)
+        for byte in piece:
+            trial.put(byte)
+        return trial.index + trial.code <= len(self.buffer)
+
+
+class WritesThenRefuses(Encoder):
+    def push(self, piece):
+        for byte in piece:
+            if self.index + self.code + 1 > len(self.buffer):
+                return False
+            self.put(byte)
+        return self.end() <= len(self.buffer)
+
+
+class AnswersPastBuffer(Library):
+    def try_encode(self, message, buffer):
+        status, length, after = super().try_encode(message, bytes(buffer) + b"\0")
+        if status == "ok" and length > len(buffer) and message[-1:] in (b"", b"\0"):
+            return [status, length, after[:-1]]
+        return super().try_encode(message, buffer)
+
+
+# Decoders
+
+
+class AddsZeroAfterFullBlock(Decoder):
+    def has_zero_behind(self):
+        return True
+
+
+class AddsZeroInPlace(Library):
+    def joined_in_place(self, buffer, code, written, goes_on):
+        return super().joined_in_place(buffer, 1 if code == 255 else code, written, goes_on)
+
+
+class AcceptsShortLastBlock(Decoder):
+    def ended(self):
+        answer = super().ended()
+        return ("message", answer[1]) if answer and answer[0] == "broken" else answer
+
+
+class RefusesLoneBlockAfterFull(Decoder):
+    def reset(self):
+        super().reset()
+        self.lone = False
+
+    def feed(self, byte):
+        at_code, full = self.left == 0 and byte != 0, self.full
+        answer = super().feed(byte)
+        if byte != 0:
+            self.lone = at_code and full and byte == 1
+        return answer
+
+    def ended(self):
+        answer = super().ended()
+        return ("broken", answer[1]) if answer and answer[0] == "message" and self.lone else answer
+
+
+class SkipsPieceAfterBroken(Decoder):
+    skipping = False
+
+    def feed(self, byte):
+        if self.skipping:
+            self.skipping = byte != 0
+            return None
+        answer = super().feed(byte)
+        self.skipping = bool(answer) and answer[0] == "broken"
+        return answer
+
+
+class ReportsCutMessage(Decoder):
+    def ended(self):
+        return ("message", len(self.buffer)) if self.over else super().ended()
+
+
+class WritesWrongBytes(Decoder):
+    def put(self, byte):
+        super().put(byte ^ 1 if self.count else byte)
+
+
+class OmitsLastByte(Decoder):
+    def push(self, piece):
+        answer, taken = super().push(piece)
+        return answer, taken - (bool(answer) and answer[0] != "message" and taken > 1)
+
+
+class ReadsDestination(Library):
+    def decode_with_sentinel(self, sentinel, source, buffer):
+        copied = masked(source[: len(buffer)], sentinel)
+        return self.decode_in_place(copied + buffer[len(copied) :])
+
+
+class WritesZeroBehindMessage(Library):
+    def joined_in_place(self, buffer, code, written, goes_on):
+        if code < 255 and written < len(buffer):
+            buffer[written] = 0
+        return super().joined_in_place(buffer, code, written, goes_on)
+
+
+class CountsKeptOutput(Library):
+    def decode(self, source, buffer):
+        status, taken, count, after = super().decode(source, buffer)
+        piece = source.lstrip(b"\0").split(b"\0")[0]
+        if status == "invalid" and piece:
+            count = self.decode_in_place(piece)[1]
+        return [status, taken, count, after]
+
+
+class AlwaysCanonical(Library):
+    def frame_kind(self, given):
+        kind = super().frame_kind(given)[0]
+        return ["canonical" if kind == "longer" else kind]
+
+
+# Streams
+
+
+class DropsBegunPiece(Library):
+    def begin_call(self, decoder):
+        decoder.reset()
+
+
+class DropsKeptBytes(Reader):
+    def keep(self, taken):
+        self.kept = b""
+
+
+class ReadsTooEarly(Reader):
+    def next(self, source):
+        if self.kept:
+            read = source.read()
+            self.kept += b"" if read == "fail" else read
+        return super().next(source)
+
+
+class ReadsAfterEnd(Reader):
+    def at_end(self, source):
+        read = source.read()
+        if read and read != "fail":
+            self.kept = read
+            return self.next(source)
+        return super().at_end(source)
+
+
+def with_parts(**parts):
+    return type("Library", (Library,), parts)
+
+
+BODIES = {
+    "encode_closes_full_block_with_01": with_parts(Encoder=ClosesFullBlock),
+    "decode_adds_zero_after_full_block": with_parts(Decoder=AddsZeroAfterFullBlock),
+    "decode_adds_zero_after_full_block-in_place": AddsZeroInPlace,
+    "decode_adds_zero_after_full_block-push": with_parts(StreamDecoder=AddsZeroAfterFullBlock),
+    "decode_accepts_short_last_block": with_parts(Decoder=AcceptsShortLastBlock),
+    "decode_accepts_short_last_block-push": with_parts(StreamDecoder=AcceptsShortLastBlock),
+    "decode_refuses_lone_block_after_full": with_parts(Decoder=RefusesLoneBlockAfterFull),
+    "decode_refuses_lone_block_after_full-push": with_parts(StreamDecoder=RefusesLoneBlockAfterFull),
+    "stream_skips_piece_after_broken": with_parts(StreamDecoder=SkipsPieceAfterBroken),
+    "stream_reports_message_after_overflow": with_parts(StreamDecoder=ReportsCutMessage),
+    "sentinel_decode_reads_destination": ReadsDestination,
+    "try_encode_writes_then_refuses": with_parts(Encoder=WritesThenRefuses),
+    "try_encode_answers_past_slice": AnswersPastBuffer,
+    "empty_push_adds_byte": with_parts(Encoder=AddsByteForEmptyPush),
+    "in_place_writes_zero_behind_message": WritesZeroBehindMessage,
+    "frame_kind_always_canonical": AlwaysCanonical,
+    "finalize_writes_behind_frame": with_parts(Encoder=WritesBehindFrame),
+    "new_clears_slice": with_parts(Encoder=ClearsBuffer),
+    "push_refuses_for_placeholder": with_parts(Encoder=RefusesForPlaceholder),
+    "decode_counts_kept_output": CountsKeptOutput,
+    "decode_stream_drops_begun_piece": DropsBegunPiece,
+    "next_frame_drops_kept_bytes": with_parts(Reader=DropsKeptBytes),
+    "next_frame_reads_too_early": with_parts(Reader=ReadsTooEarly),
+    "push_error_omits_last_byte": with_parts(StreamDecoder=OmitsLastByte),
+    "decode_right_sizes_wrong_bytes": with_parts(Decoder=WritesWrongBytes),
+    "push_right_sizes_wrong_bytes": with_parts(StreamDecoder=WritesWrongBytes),
+    "next_frame_reads_after_end": with_parts(Reader=ReadsAfterEnd),
+}
+
+
+def noticed(library, lines):
+    return [answer for answer in (run(library(), line) for line in lines) if not answer[0]]
+
+
+def main():
+    lines = [line for path in sorted(glob.glob(f"{HERE}/*.txt")) for line in cases(open(path, encoding="ascii"))]
+    owed = [line for line in lines if line.split(" ")[1] == "owed"]
+    passed = len(noticed(Library, lines))
+    print(f"the plain library: {len(lines)} cases, {passed} differ")
+    for name, library in BODIES.items():
+        found = noticed(library, lines)
+        owed_too = len(noticed(library, owed))
+        if not found:
+            passed += 1
+            print(f"{name}: NOTICED BY NO CASE")
+            continue
+        _, case, wanted, came = found[0]
+        print(f"{name}: {len(found)} cases, {owed_too} of them owed; {case}")
+        print(f"    wants {shortened(wanted, came)}, gets {shortened(came, wanted)}")
+    return 1 if passed else 0
+
+
+def shortened(words, other):
+    """A long answer from a little before the place where it differs from the other one."""
+    first = next((at for at, pair in enumerate(zip(words, other)) if pair[0] != pair[1]), min(len(words), len(other)))
+    start = max(0, first - 20)
+    return ".." * (start > 0) + words[start : first + 20] + ".." * (first + 20 < len(words))
+
+
+if __name__ == "__main__":
+    sys.exit(main())
