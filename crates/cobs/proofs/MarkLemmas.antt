@@ -20,11 +20,6 @@ module _ (dest part : List ℕ) (at n : ℕ) (long : length part ≡ n) (fits : 
   pub front-three : take at (take at dest ++ (part ++ drop (at + n) dest)) ≡ take at dest
   front-three = take_at (take at dest) (part ++ drop (at + n) dest) at length-front
 
-  pub more-three : take (at + n) (take at dest ++ (part ++ drop (at + n) dest)) ≡ take at dest ++ part
-  more-three =
-      ap (take (at + n)) (sym (append_assoc (take at dest) part (drop (at + n) dest)))
-      ∙ take_at (take at dest ++ part) (drop (at + n) dest) (at + n) (length-append (take at dest) part ∙ (let l = length-front in omega arith))
-
   pub mid-three : take n (drop at (take at dest ++ (part ++ drop (at + n) dest))) ≡ part
   mid-three = ap (take n) (drop_at (take at dest) (part ++ drop (at + n) dest) at length-front) ∙ take_at part (drop (at + n) dest) n long
 

@@ -45,16 +45,6 @@ half : (b : Bool) (m : ℕ) → (cond b 1 0 + 2 * m) / 2 ≡ m
 half true m = omega arith
 half false m = omega arith
 
--- a shift passes over the first bytes
-pub zero_mask-drop : (k : ℕ) (bytes : List ℕ) → zero_mask bytes / 2 ^ k ≡ zero_mask (drop k bytes)
-zero_mask-drop zero bytes = ap (λ n. zero_mask bytes / n) (pow-zero 2) ∙ div-one (zero_mask bytes)
-zero_mask-drop (suc k) [] = zero-div (2 ^ suc k)
-zero_mask-drop (suc k) (b ∷ bytes) =
-    ap (λ n. zero_mask (b ∷ bytes) / n) (pow-suc 2 k ∙ mul_comm (2 ^ k) 2)
-    ∙ sym (div-div-eq-div-mul (zero_mask (b ∷ bytes)) 2 (2 ^ k))
-    ∙ ap (λ n. n / 2 ^ k) (half (eqb b 0) (zero_mask bytes))
-    ∙ zero_mask-drop k bytes
-
 -- no bit is set where no byte is 0
 pub zero_mask-none : (bytes : List ℕ) → zero_mask bytes ≡ 0 → All (λ b. b ≢ 0) bytes
 zero_mask-none [] e = All-nil (λ b. b ≢ 0)
@@ -253,14 +243,6 @@ window_all bytes few e =
     ] in
     (long, zero_mask-all bytes (omega (arith, ap (λ k. 2 ^ k) long)) ∙ ap (λ k. replicate k 0) long)
 
-pub zero_mask-append : (a b : List ℕ) → zero_mask (a ++ b) ≡ zero_mask a + 2 ^ length a * zero_mask b
-zero_mask-append [] b = let z : 2 ^ 0 ≡ 1 = refl in let m = one-mul (zero_mask b) in omega arith
-zero_mask-append (x ∷ a) b =
-    let ih = zero_mask-append a b in
-    let p = pow-suc 2 (length a) in
-    let m : 2 ^ suc (length a) * zero_mask b ≡ 2 * (2 ^ length a * zero_mask b) = ap (λ k. k * zero_mask b) (p ∙ mul_comm (2 ^ length a) 2) ∙ mul_assoc 2 (2 ^ length a) (zero_mask b) in
-    omega arith
-
 -- a window that is copied as two parts of n bytes, which may overlap
 module _ (source dest first after : List ℕ) (read at len n front back : ℕ) (inside : read + len ≤ length source) (room : at + len ≤ length dest) (some : n ≤ len) (few : len ≤ n + n) (small : n ≤ 16)
     (is : first ≡ take at dest ++ (take n (drop read source) ++ drop (at + n) dest))
@@ -342,16 +324,6 @@ module _ (source : List ℕ) (read i zeros : ℕ) (more : read + i < length sour
       let bit = byte_bit b i small in
       let place : (if b == 0 then 1 else 0) * 2 ^ length (take i (drop read source)) ≡ (if b == 0 then 1 else 0) * 2 ^ i = ap (λ k. (if b == 0 then 1 else 0) * 2 ^ k) l in
       ap (λ k. k + bool_byte (eqb b 0) * 2 ^ i % 18446744073709551616) is ∙ ap (λ k. zero_mask (take i (drop read source)) + k) (bit ∙ sym place) ∙ sym push
-
-  pub mask-grown-lt : i < 32 → zeros + bool_byte (eqb (get_or source (read + i) 0) 0) * 2 ^ i % 18446744073709551616 < 18446744073709551616
-  mask-grown-lt few =
-      let d = length-drop read source in
-      let l : length (take (i + 1) (drop read source)) ≡ i + 1 = length-take-le (i + 1) (drop read source) (omega arith) in
-      let lt = zero_mask-lt (take (i + 1) (drop read source)) in
-      let lt' : zero_mask (take (i + 1) (drop read source)) < 2 ^ (i + 1) = subst (λ k. zero_mask (take (i + 1) (drop read source)) < 2 ^ k) l lt in
-      let most : 2 ^ (i + 1) ≤ 2 ^ 32 = pow-le-pow_right {n = 2} (omega arith) {i = i + 1} {j = 32} (omega arith) in
-      let e = mask-grown in
-      omega arith
 
 -- a byte more of a message, copied
 pub copied-more : (source old dest : List ℕ) (read at i : ℕ) → read + i < length source → at + i < length old → dest ≡ take at old ++ (take i (drop read source) ++ drop (at + i) old)
