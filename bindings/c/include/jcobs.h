@@ -212,7 +212,7 @@ jcobs_answer jcobs_decoder_push(jcobs_decoder *decoder, unsigned char *buffer, s
 
 /* Whether no frame is open: 1 if all that was pushed is answered, 0 if a frame has begun. At the end of a
  * stream 0 says that its last frame has no zero. */
-int jcobs_decoder_is_idle(const jcobs_decoder *decoder);
+unsigned int jcobs_decoder_is_idle(const jcobs_decoder *decoder);
 
 /* Makes the encoder one that has taken nothing, whatever stood in the state. */
 void jcobs_encoder_reset(jcobs_encoder *encoder);

@@ -1,0 +1,3 @@
+mod BrokenLemmas
+mod BufferLemmas
+mod SourceLemmas

@@ -1,0 +1,12 @@
+use Rattle.std.proofs.Common.{◌≢◌, ◌++◌, ◌-◌, ℕ, List, length, min, take, drop, set, sym, ap, ◌∙◌, arith}
+use Rattle.std.proofs.lemmas.Bool.{eqb-false}
+use Rattle.cobs_c.specs.Text.{words}
+use Rattle.cobs_c.proofs.BufferLemmas.{words-written}
+use Rattle.cobs_c.proofs.text.jcobs_strerror.Goals as goal
+
+pub returns-clause-text : goal.returns-clause-text
+returns-clause-text c =
+    let some : length c.args.text.now ≢ 0 = eqb-false _ 0 (sym c.is_empty.ensures ∙ c.if-is_empty.false) in
+    let same = c.as_bytes-words.ensures.value ∙ c.words.ensures in
+    let e = words-written c.args.text.now (words c.args.status) c.min-end.result (omega arith) (c.min-end.ensures ∙ ap (λ (w : List ℕ). min (length w) (length c.args.text.now - 1)) same) in
+    ap (λ (l : List ℕ). set (l ++ drop c.min-end.result c.args.text.now) c.min-end.result 0) (c.copy_from_slice.ensures.after ∙ ap (take c.min-end.result) same) ∙ e

@@ -1,0 +1,4 @@
+pub mod Answer
+pub mod State
+pub mod Text
+pub mod Terminated

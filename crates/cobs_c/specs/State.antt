@@ -1,0 +1,21 @@
+-- Where the coders stand whose state is C's.
+use Rattle.std.specs.Prelude.{ℕ, ◌+◌, ◌==◌, not, min, if◌then◌else◌}
+use Rattle.cobs.specs.Buffers.{phase_with}
+use Rattle.cobs.specs.Decoder.{Phase, Idle, Within, Over}
+use Rattle.cobs.specs.Encoder.{Reached}
+use Rattle.cobs_c.specs.declared.stream.Decoder.{Decoder}
+use Rattle.cobs_c.specs.declared.stream.Encoder.{Encoder}
+
+-- where a decoder stands, whatever its numbers are
+abbrev pub phase_in : Decoder → Phase
+phase_in decoder = if decoder.too_long == 0 then phase_with (decoder.joint == 0) decoder.lacking decoder.written else Over
+
+-- how many bytes of an open message a buffer of n bytes holds
+abbrev pub held : ℕ → Phase → ℕ
+held n Idle = 0
+held n (Within full lacking written) = min written n
+held n Over = n
+
+-- how far the frame in an encoder's buffer has come, whatever its numbers are: an open block has at most 253 bytes
+abbrev pub reached_in : Encoder → Reached
+reached_in encoder = record { block = record { index = encoder.index; code = min encoder.taken 254 + 1 }; full = not (encoder.full == 0) }

@@ -1,0 +1,58 @@
+//! What a call answers, as C sees it.
+ghost use Rattle.std.specs.Prelude.{◌≡◌};
+ghost use Rattle.cobs_c.specs.Answer.{answer_by};
+
+use cobs::DecodeError;
+
+/// The call did what it is for.
+pub const OK: u32 = 0;
+
+/// All bytes were taken, and no frame has ended in them.
+pub const MORE: u32 = 1;
+
+/// The buffer is too short.
+pub const TOO_SMALL: u32 = 2;
+
+/// The frame breaks off inside a block.
+pub const BROKEN: u32 = 3;
+
+/// There is no frame.
+pub const EMPTY: u32 = 4;
+
+/// A status, how many bytes were taken, and how many bytes stand at the front of the buffer.
+#[repr(C)]
+#[derive(Clone, Copy)]
+pub struct Answer {
+    pub status: u32,
+    pub consumed: usize,
+    pub length: usize,
+}
+
+/// The answer of a call that took and left nothing, since the buffer is too short.
+pub(crate) fn too_small() -> Answer
+    ensures { result ≡ record { status = TOO_SMALL; consumed = 0; length = 0 } }
+{
+    Answer {
+        status: TOO_SMALL,
+        consumed: 0,
+        length: 0,
+    }
+}
+
+/// The answer of a decoding call that took so many bytes, into a buffer of `room` bytes, by the message's length or the
+/// refusal.
+pub(crate) fn answer_by(consumed: usize, room: usize, size: Result<usize, DecodeError>) -> Answer
+    ensures { result ≡ answer_by consumed room size }
+{
+    let (status, length) = match size {
+        Ok(length) => (OK, length),
+        Err(DecodeError::EmptyFrame) => (EMPTY, 0),
+        Err(DecodeError::InvalidFrame { decoded_bytes }) => (BROKEN, decoded_bytes),
+        Err(DecodeError::TargetBufTooSmall) => (TOO_SMALL, room),
+    };
+    Answer {
+        status,
+        consumed,
+        length,
+    }
+}

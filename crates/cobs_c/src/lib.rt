@@ -1,0 +1,14 @@
+//! The library `jcobs` for C: one function for each call, over slices, plain structs and numbers.
+//!
+//! `bindings/c/include/jcobs.h` declares them and says what a C caller owes. Nothing checks that he keeps to it. Of a
+//! slice, C passes the pointer and then the length.
+#![tactic(auto)]
+
+mod answer;
+mod decode;
+mod encode;
+mod stream;
+mod text;
+
+pub use answer::Answer;
+pub use stream::{Decoder, Encoder};
