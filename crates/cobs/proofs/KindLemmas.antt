@@ -1,8 +1,8 @@
 -- A list that is read by blocks: whether it is a frame, and whether its last two blocks are a full one and the lone block.
-use Rattle.std.proofs.Common.{◌≡◌, ◌≢◌, ◌↔◌, ℕ, ◌+◌, ◌-◌, ◌<◌, ◌≤◌, ◌==◌, Bool, true, false, List, [], ◌∷◌, ◌++◌, length, take, drop, get_or, All, refl, sym, ap, ◌∙◌, subst, arith, append_assoc, length-append, length-drop, length-take, length-take-le, take-append-drop, take_all, append-nil}
+use Rattle.std.proofs.Common.{◌≡◌, ◌≢◌, ◌↔◌, ℕ, ◌+◌, ◌-◌, ◌<◌, ◌≤◌, ◌==◌, Bool, true, List, [], ◌∷◌, ◌++◌, length, take, drop, get_or, All, refl, sym, ap, ◌∙◌, subst, arith, append_assoc, length-append, length-drop, length-take, length-take-le, take-append-drop, take_all, append-nil}
 use Rattle.std.specs.List.{concat}
 use Rattle.std.proofs.lemmas.List.{drop-drop, drop_all, drop_more}
-use Rattle.std.proofs.lemmas.List.Elements.{All-nil, All-push, All-head, All-tail, All-take, All-drop, All-get_or}
+use Rattle.std.proofs.lemmas.List.Elements.{All-push, All-head, All-tail, All-take, All-drop, All-get_or}
 use Rattle.cobs.specs.Grammar.{HasNoZero, IsBlock, IsFull, IsFrame, IsFrameOf, IsCanonical, code_of, is_full, last_of, lone_block, message_of}
 use Rattle.cobs.specs.Piece.{parts, parts_behind}
 use Rattle.cobs.specs.declared.dec.kind.FrameKind.{FrameKind}

@@ -24,6 +24,8 @@ pub mod PushLemmas
 pub mod RunLemmas
 pub mod PieceCuts
 pub mod WindowSteps
+pub mod FrontSteps
+pub mod NonzeroCopies
 pub mod SoFar
 pub mod ReadingLemmas
 pub mod UniqueLemmas

@@ -2,7 +2,7 @@
 use Rattle.std.proofs.Common.{min, ◌≡◌, ◌≢◌, ℕ, ◌+◌, ◌-◌, ◌*◌, ◌/◌, ◌%◌, ◌^◌, ◌<◌, ◌≤◌, cond, eqb, not, Bool, true, false, List, [], ◌∷◌, ◌++◌, length, map, drop, take, get_or, replicate, All, if◌then◌else◌, ◌==◌, suc, zero, refl, sym, ap, ◌∙◌, subst, inl, inr, arith, length-take-le, length-append, length-drop, append_assoc, w8}
 use Rattle.std.proofs.Math.ListN.{set}
 use mir.Val.{bool_byte}
-use Rattle.std.proofs.Math.Nat.{pow-suc, pow-zero, div-div-eq-div-mul, mul_comm, mul_assoc, mul-one, one-mul, div-one, zero-div, pow-le-pow_right}
+use Rattle.std.proofs.Math.Nat.{pow-suc, mul_comm, mul_assoc, mul-one, pow-le-pow_right}
 use Rattle.std.proofs.lemmas.Bool.{ne_eqb, eq-eqb, eqb-true, not-true, not-false, true≢false, cases_eq, cases_lt}
 use Rattle.std.proofs.lemmas.List.{drop-take, get_or-take, drop-drop, length-map, length-replicate, take-take, take_more, get_or-drop, drop_more, set_at, take-append-le, take-append-drop}
 use Rattle.std.proofs.Math.Seq.{drop-append-add, take-append-add}

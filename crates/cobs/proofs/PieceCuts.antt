@@ -1,5 +1,5 @@
 -- A piece is its first part and what follows it: what that says of its output and of its last part.
-use Rattle.std.proofs.Common.{◌≡◌, ◌≢◌, ℕ, zero, suc, ◌+◌, ◌-◌, ◌/◌, ◌⊎◌, ◌<◌, ◌≤◌, false, eqb, List, [], ◌∷◌, ◌++◌, length, take, drop, replicate, if◌then◌else◌, ◌==◌, refl, sym, ap, ◌∙◌, inl, inr, arith, length-append, take_all, length-take-le, length-drop, get_or}
+use Rattle.std.proofs.Common.{◌≡◌, ◌≢◌, ℕ, zero, suc, ◌+◌, ◌-◌, ◌/◌, ◌⊎◌, ◌<◌, ◌≤◌, eqb, List, [], ◌∷◌, ◌++◌, length, take, drop, replicate, if◌then◌else◌, ◌==◌, refl, ap, ◌∙◌, inl, inr, arith, length-append, take_all, length-take-le, length-drop, get_or}
 use Rattle.std.proofs.lemmas.List.{drop-drop, drop_more}
 use Rattle.std.proofs.lemmas.Bool.{cases_lt, cases_eq, ne_eqb, eq-eqb}
 use Rattle.cobs.specs.Grammar.{bytes_of, joint, message_of, last_of}
@@ -137,10 +137,10 @@ output-le p some = le_by (length p) p (omega arith) some
 pub output-short : (p : List ℕ) → 0 < length p → length p < 255 → length (output p) + 1 ≡ length p
 output-short p some few = let l = long_by (length p) p (omega arith) in let k = le_by (length p) p (omega arith) some in omega arith
 
-pub output-long : (p : List ℕ) → 40 ≤ length p → 33 ≤ length (output p)
+pub output-long : (p : List ℕ) → 33 ≤ length p → 32 ≤ length (output p)
 output-long p h = let l = long_by (length p) p (omega arith) in short_case (length p) (length (output p)) h l
   where
-    short_case : (n m : ℕ) → 40 ≤ n → n ≤ m + 1 + n / 255 → 33 ≤ m
+    short_case : (n m : ℕ) → 33 ≤ n → n ≤ m + 1 + n / 255 → 32 ≤ m
     short_case n m h l = omega arith
 
 -- parts of a code alone

@@ -9,16 +9,8 @@ use Rattle.std.specs.Prelude.{if◌then◌else◌}
 use borrow.Rule.Slice.PartMut.{put_mid, same_len_mid}
 use Rattle.cobs.specs.Grammar.{HasNoZero, code_of}
 use Rattle.cobs.specs.Piece.{output, last_part, lacks}
+pub use Rattle.cobs.specs.Piece.{Decoded}
 use Rattle.cobs.proofs.PieceCuts.{last_part-more, last_part-last, last_part-ones, output-last, output-more, output-long, output-le, output-short, output-ones, length-output-last, joint_of, joint-length}
-
--- The front of dest is the front of the output, and lacks the output of what is left, which begins with a code.
--- Behind the output dest is as it was.
-pub record Decoded (piece old dest : List ℕ) (read written : ℕ) : Type 0 where
-  pub within : read < length piece
-  pub left : written + length (output (drop read piece)) ≡ length (output piece)
-  pub front : take written dest ++ output (drop read piece) ≡ output piece
-  pub rest : drop (length (output piece)) dest ≡ drop (length (output piece)) old
-  pub last : last_part (drop read piece) ≡ last_part piece
 
 -- Behind the front stand the bytes from the code's on up to end.
 pub record CopiedTo (piece dest : List ℕ) (read end written : ℕ) : Type 0 where
@@ -93,7 +85,7 @@ module _ (piece old dest : List ℕ) (read written code : ℕ) (p : Decoded piec
     }
 
     -- a zero written behind the part's bytes, which stand there
-    zero-front : code ≢ 255 → length (output piece) ≤ length dest → take (code - 1) (drop written dest) ≡ take (code - 1) (drop (read + 1) piece)
+    zero-front : code ≢ 255 → written + code ≤ length dest → take (code - 1) (drop written dest) ≡ take (code - 1) (drop (read + 1) piece)
         → take (written + code) (set dest (written + (code - 1)) 0) ≡ take written dest ++ (take (code - 1) (drop (read + 1) piece) ++ joint_of code)
     zero-front other room here =
         let r = room-zero other in
@@ -113,7 +105,7 @@ module _ (piece old dest : List ℕ) (read written code : ℕ) (p : Decoded piec
       | inr short ↦ (let k = short.1 in omega arith)
     ]
 
-    zero-step : code ≢ 255 → length (output piece) ≤ length dest → take (code - 1) (drop written dest) ≡ take (code - 1) (drop (read + 1) piece)
+    pub zero-step : code ≢ 255 → written + code ≤ length dest → take (code - 1) (drop written dest) ≡ take (code - 1) (drop (read + 1) piece)
         → Decoded piece old (set dest (written + (code - 1)) 0) (read + code) (written + code)
     zero-step other room here = step (set dest (written + (code - 1)) 0) (written + code) (zero-front other room here) (zero-ends other)
         (let r = room-zero other in drop-set-lt (length (output piece)) dest (written + (code - 1)) 0 (omega arith))
@@ -126,7 +118,10 @@ module _ (piece old dest : List ℕ) (read written code : ℕ) (p : Decoded piec
       code-room = let r = room-zero short in omega arith
 
       pub code-decoded : length (output piece) ≤ length dest → Decoded piece old (set dest (written + (code - 1)) 0) (read + code) (written + code)
-      code-decoded room = zero-step short room here
+      code-decoded room = let r = room-zero short in zero-step short (omega arith) here
+
+      pub code-decoded-within : written + code ≤ length dest → Decoded piece old (set dest (written + (code - 1)) 0) (read + code) (written + code)
+      code-decoded-within room = zero-step short room here
 
       pub code-copied : CopiedTo piece (set dest (written + (code - 1)) 0) (read + code) end (written + code)
       code-copied =
@@ -142,7 +137,7 @@ module _ (piece old dest : List ℕ) (read written code : ℕ) (p : Decoded piec
           }
 
     -- the part's bytes, by a copy of their own
-    module _ (k : ℕ) (part : List ℕ) (room : length (output piece) ≤ length dest) (k-is : k ≡ code - 1) (part-is : part ≡ take (code - 1) (drop (read + 1) piece)) where
+    module _ (k : ℕ) (part : List ℕ) (room : written + (code - 1) ≤ length dest) (k-is : k ≡ code - 1) (part-is : part ≡ take (code - 1) (drop (read + 1) piece)) where
       long-part : length part ≡ k
       long-part = ap length part-is ∙ length-take-le (code - 1) (drop (read + 1) piece) (let l = length-drop (read + 1) piece in omega arith) ∙ sym k-is
 
@@ -187,15 +182,16 @@ pub long-decoded : (piece old dest : List ℕ) (read written code : ℕ) (p : De
 long-decoded piece old dest read written code p is some more k part room k-is part-is other =
     let after : List ℕ = put_mid written k dest part in
     let r = room-zero piece old dest read written code p is some more other in
-    let l = long-part piece old dest read written code p is some more k part room k-is part-is in
+    let fits : written + (code - 1) ≤ length dest = omega arith in
+    let l = long-part piece old dest read written code p is some more k part fits k-is part-is in
     let front : take written after ≡ take written dest =
-    sym (take-take written (written + (code - 1)) after (omega arith)) ∙ ap (take written) (long-front piece old dest read written code p is some more k part room k-is part-is)
+    sym (take-take written (written + (code - 1)) after (omega arith)) ∙ ap (take written) (long-front piece old dest read written code p is some more k part fits k-is part-is)
     ∙ take_at (take written dest) (take (code - 1) (drop (read + 1) piece)) written (length-take-le written dest (omega arith)) in
     let q : Decoded piece old after read written = record {
       within = p.within;
       left = p.left;
       front = ap (λ (x : List ℕ). x ++ output (drop read piece)) front ∙ p.front;
-      rest = long-behind piece old dest read written code p is some more k part room k-is part-is ∙ p.rest;
+      rest = long-behind piece old dest read written code p is some more k part fits k-is part-is ∙ p.rest;
       last = p.last;
     } in
     let same : length after ≡ length dest = same_len_mid written k dest part (l ∙ sym (length-take-le k (drop written dest) (let d = length-drop written dest in omega arith))) in
@@ -222,7 +218,7 @@ drop-past xs ys n m k long is =
     ap (λ (j : ℕ). drop j (xs ++ ys)) is ∙ sym (drop-drop m n (xs ++ ys)) ∙ ap (drop m) (drop_at xs ys n long)
 
 -- a window of 32 bytes at the front of a piece
-module _ (piece dest after : List ℕ) (long : 40 ≤ length piece) (room : length (output piece) ≤ length dest) where
+module _ (piece dest after : List ℕ) (long : 33 ≤ length piece) where
   behind-window : (window : List ℕ) → length window ≡ 32 → after ≡ window ++ drop 32 dest → drop (length (output piece)) after ≡ drop (length (output piece)) dest
   behind-window window w is = let o = output-long piece long in ap (drop (length (output piece))) is ∙ drop-append-drop 32 dest window (length (output piece)) (omega arith) w
 

@@ -1,5 +1,5 @@
 -- A piece is a nonempty stretch of a stream without a zero. It is read in parts: blocks, of which the last may be cut short.
-use Rattle.std.specs.Prelude.{◌≡◌, ℕ, zero, suc, ◌+◌, ◌-◌, ◌<◌, ◌==◌, Bool, false, List, [], ◌∷◌, length, take, if◌then◌else◌, IsTrue}
+use Rattle.std.specs.Prelude.{◌≡◌, ℕ, zero, suc, ◌+◌, ◌-◌, ◌<◌, ◌==◌, Bool, false, List, [], ◌∷◌, ◌++◌, length, take, drop, if◌then◌else◌, IsTrue}
 use Rattle.cobs.specs.Grammar.{code_of, bytes_of, message_of, last_of}
 
 -- the parts of what stands behind the first n bytes: a part is as many bytes as its code says, or what is left
@@ -41,3 +41,12 @@ pub record IsFlat (p : List ℕ) : Type 0 where
   pub some : 0 < length p
   pub len : length (output p) + 1 ≡ length p
   pub whole : lacks (last_part p) ≡ 0
+
+-- How far a piece is decoded into a buffer: read bytes of it, up to a code, have become the first written bytes of the
+-- buffer, which lacks the output of what is left. Behind the output the buffer is as it was.
+pub record Decoded (piece old new : List ℕ) (read written : ℕ) : Type 0 where
+  pub within : read < length piece
+  pub left : written + length (output (drop read piece)) ≡ length (output piece)
+  pub front : take written new ++ output (drop read piece) ≡ output piece
+  pub rest : drop (length (output piece)) new ≡ drop (length (output piece)) old
+  pub last : last_part (drop read piece) ≡ last_part piece

@@ -7,6 +7,7 @@ ghost use Rattle.cobs.specs.Headline.{IsPiece, ReportsMessage};
 
 mod fit;
 mod frame_decoder;
+mod front;
 mod heapless;
 mod in_place;
 mod kind;
@@ -22,6 +23,7 @@ mod write_buffer;
 
 pub(crate) use frame_decoder::piece_end;
 pub use frame_decoder::{FrameDecoder, PieceEnd};
+use front::decode_front;
 pub use heapless::CobsDecoderHeapless;
 pub use in_place::{decode_in_place, decode_in_place_report, decode_in_place_with_sentinel};
 pub use kind::{FrameKind, frame_kind};
@@ -45,11 +47,12 @@ fn decode_first(source: &[u8], dest: &mut [u8]) -> Result<DecodeReport, DecodeEr
     }
     let start = leading_zeros(source);
     let rest = &source[start..];
-    let len = piece_len(rest);
-    if len == 0 {
+    if rest.is_empty() {
         return Err(DecodeError::InvalidFrame { decoded_bytes: 0 });
     }
-    let frame_size = decode_ended(&rest[..len], dest)?;
+    let front = decode_front(rest, dest);
+    let len = front.read + piece_len(&rest[front.read..]);
+    let frame_size = decode_ended(&rest[..len], dest, front.read, front.written)?;
     let end = start + len;
     let parsed_size = if end < source.len() { end + 1 } else { end };
     Ok(DecodeReport::new(parsed_size, frame_size))

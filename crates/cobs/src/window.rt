@@ -1,5 +1,5 @@
 //! Windows of up to 32 bytes, in vectors: where their zeros are, copied, and written.
-ghost use Rattle.std.specs.Prelude.{◌≡◌, ◌<◌, ◌≤◌, ◌+◌, ◌^◌, ◌++◌, ◌↔◌, IsTrue, length, take, drop, replicate, slice_index};
+ghost use Rattle.std.specs.Prelude.{◌≡◌, ◌<◌, ◌≤◌, ◌+◌, ◌^◌, ◌++◌, ◌↔◌, IsTrue, false, length, take, drop, replicate, slice_index};
 ghost use Rattle.cobs.specs.Grammar.{HasNoZero};
 ghost use Rattle.cobs.specs.Mask.{zero_mask};
 
@@ -7,6 +7,9 @@ use std::simd::prelude::*;
 
 /// How many bytes a whole window has.
 pub(crate) const WINDOW: usize = 32;
+
+/// How many bytes of a long block are copied at once.
+const WIDE_WINDOW: usize = 64;
 
 /// Which of the 32 bytes from `at` on are zeros.
 #[inline(always)]
@@ -201,6 +204,85 @@ pub(crate) fn copy_window(source: &[u8], read: usize, len: usize, dest: &mut [u8
     } else {
         copy_few(source, read, len, dest, at)
     }
+}
+
+/// Copies the 32 bytes from `read` on if none of them is a zero, and says whether it did.
+#[inline(always)]
+pub(crate) fn copy_nonzero_32(source: &[u8], read: usize, dest: &mut [u8], at: usize) -> bool
+    requires source { read + 32 ≤ length source.now }
+    requires room { at + 32 ≤ length dest.old }
+    ensures nonzero { IsTrue result ↔ HasNoZero (take 32 (drop read source.now)) }
+    ensures copied { IsTrue result
+        → dest.new ≡ take at dest.old ++ (take 32 (drop read source.now) ++ drop (at + 32) dest.old) }
+    ensures kept { result ≡ false → dest.new ≡ dest.old }
+{
+    let bytes = u8x32::from_slice(&source[read..]);
+    if bytes.simd_eq(u8x32::splat(0)).to_bitmask() != 0 {
+        return false;
+    }
+    bytes.copy_to_slice(&mut dest[at..]);
+    true
+}
+
+/// Copies the `len` bytes from `read` on, 32 to 64 of them, if none is a zero, and says whether it did: as two windows
+/// that may overlap.
+#[inline(always)]
+pub(crate) fn copy_nonzero_pair(
+    source: &[u8],
+    read: usize,
+    len: usize,
+    dest: &mut [u8],
+    at: usize,
+) -> bool
+    requires source { read + len ≤ length source.now }
+    requires some { 32 ≤ len }
+    requires few { len ≤ 64 }
+    requires room { at + len ≤ length dest.old }
+    ensures nonzero { IsTrue result → HasNoZero (take len (drop read source.now)) }
+    ensures copied { IsTrue result
+        → dest.new ≡ take at dest.old ++ (take len (drop read source.now) ++ drop (at + len) dest.old) }
+    ensures kept { result ≡ false → dest.new ≡ dest.old }
+{
+    let front = u8x32::from_slice(&source[read..]);
+    let back = u8x32::from_slice(&source[read + len - WINDOW..]);
+    let zeros = front.simd_eq(u8x32::splat(0)).to_bitmask()
+        | back.simd_eq(u8x32::splat(0)).to_bitmask();
+    if zeros != 0 {
+        return false;
+    }
+    front.copy_to_slice(&mut dest[at..]);
+    back.copy_to_slice(&mut dest[at + len - WINDOW..]);
+    true
+}
+
+/// Copies the `len` bytes from `read` on, at least 64 of them, up to the first 64 of which one is a zero, and answers
+/// how many: in windows of 64 bytes, of which the last may overlap the one before it.
+#[inline(always)]
+pub(crate) fn copy_nonzero(
+    source: &[u8],
+    read: usize,
+    len: usize,
+    dest: &mut [u8],
+    at: usize,
+) -> usize
+    requires source { read + len ≤ length source.now }
+    requires some { 64 ≤ len }
+    requires room { at + len ≤ length dest.old }
+    ensures within { result ≤ len }
+    ensures nonzero { HasNoZero (take result (drop read source.now)) }
+    ensures copied { dest.new ≡ take at dest.old ++ (take result (drop read source.now) ++ drop (at + result) dest.old) }
+{
+    let mut done = 0;
+    'by_window: while done < len {
+        let start = done.min(len - WIDE_WINDOW);
+        let bytes = u8x64::from_slice(&source[read + start..]);
+        if bytes.simd_eq(u8x64::splat(0)).to_bitmask() != 0 {
+            return done;
+        }
+        bytes.copy_to_slice(&mut dest[at + start..]);
+        done = start + WIDE_WINDOW;
+    }
+    done
 }
 
 /// Whether the first 32 bytes are all 1.

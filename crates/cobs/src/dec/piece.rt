@@ -1,16 +1,20 @@
 //! Pieces that are at hand as a whole: where they end, how long their outputs are, and the outputs.
-ghost use Rattle.std.specs.Prelude.{◌≡◌, ◌+◌, ◌-◌, ◌++◌, ◌<◌, ◌≤◌, length, take, drop, slice_index};
+ghost use Rattle.std.specs.Prelude.{◌≡◌, ◌+◌, ◌-◌, ◌++◌, ◌<◌, ◌≤◌, ℕ, List, length, take, drop, slice_index};
 ghost use Rattle.cobs.specs.Grammar.{HasNoZero, code_of};
 ghost use Rattle.cobs.specs.Buffer.{overwritten};
 ghost use Rattle.cobs.specs.Decoding.{leading_zeros, sized};
-ghost use Rattle.cobs.specs.Piece.{output, last_part, lacks};
+ghost use Rattle.cobs.specs.Piece.{Decoded, output, last_part, lacks};
 ghost use Rattle.cobs.specs.Stream.{outcome_of};
 
 use crate::dec::fit::fitting_len;
+use crate::dec::front::decode_window;
 use crate::dec::report::DecodeError;
 use crate::enc::FULL_CODE;
-use crate::window::{WINDOW, copy_32, copy_window, first_zero_of_few, is_ones, write_zeros};
+use crate::window::{WINDOW, copy_window, first_zero_of_few};
 use memchr::memchr;
+
+/// So many bytes of a piece at least are decoded by windows.
+const MANY: usize = 128;
 
 /// What is to be known of a piece once its output is written.
 #[derive(Clone, Copy)]
@@ -58,44 +62,6 @@ pub(crate) fn leading_zeros(source: &[u8]) -> usize
         }
     }
     source.len()
-}
-
-/// Decodes the first codes of a piece, those within 33 bytes, and says how many bytes it has read and written.
-///
-/// Codes of one value in a row go by a loop of their own, which needn't wait for each code to know where the next is.
-#[inline(always)]
-fn decode_window(piece: &[u8], dest: &mut [u8]) -> usize
-    requires nonzero { HasNoZero piece.now }
-    requires long { 40 ≤ length piece.now }
-    requires first { slice_index piece.now 0 < 33 }
-    requires room { length (output piece.now) ≤ length dest.old }
-    ensures some { 0 < result }
-    ensures within { result < length piece.now }
-    ensures count { result + length (output (drop result piece.now)) ≡ length (output piece.now) }
-    ensures begins { take result dest.new ++ output (drop result piece.now) ≡ output piece.now }
-    ensures last { last_part (drop result piece.now) ≡ last_part piece.now }
-    ensures rest { drop (length (output piece.now)) dest.new ≡ drop (length (output piece.now)) dest.old }
-{
-    let mut code = piece[0] as usize;
-    if code == 1 && is_ones(piece) {
-        write_zeros(dest);
-        return 32;
-    }
-    copy_32(piece, 1, dest, 0);
-    let mut read = 0;
-    'by_code: loop {
-        'alike: loop {
-            dest[read + (code - 1)] = 0;
-            read += code;
-            if piece[read] as usize != code || 33 - read <= code {
-                break;
-            }
-        }
-        code = piece[read] as usize;
-        if 33 - read <= code {
-            return read;
-        }
-    }
 }
 
 /// Copies what stands behind the first code of a piece.
@@ -161,9 +127,9 @@ pub(crate) fn decode_piece(piece: &[u8], dest: &mut [u8]) -> PieceEnd
 {
     let mut read = 0;
     let mut written = 0;
-    'by_window: while 128 <= piece.len() - read {
+    'by_window: while MANY <= piece.len() - read {
         let code = piece[read] as usize;
-        if code < 33 {
+        if code <= WINDOW {
             let step = decode_window(&piece[read..], &mut dest[written..]);
             read += step;
             written += step;
@@ -187,26 +153,37 @@ pub(crate) fn decode_piece(piece: &[u8], dest: &mut [u8]) -> PieceEnd
     }
 }
 
-/// Decodes a piece that has ended, and answers its message's length.
+/// Decodes what is left of a piece that has ended, where `read` bytes of it have become the first `written` bytes of
+/// `dest`, and answers its message's length.
 ///
 /// Where the output is longer than `dest`, its first bytes fill `dest`; else it stands at the front of `dest`, whole
 /// or broken off, and no byte behind it is written.
-pub(crate) fn decode_ended(piece: &[u8], dest: &mut [u8]) -> Result<usize, DecodeError>
-    requires some { 0 < length piece.now }
+#[inline(always)]
+pub(crate) fn decode_ended(
+    piece: &[u8],
+    dest: &mut [u8],
+    read: usize,
+    written: usize,
+) -> Result<usize, DecodeError>
+    requires some { read < length piece.now }
     requires nonzero { HasNoZero piece.now }
-    ensures answer { result ≡ sized (outcome_of piece.now (length dest.old)) }
-    ensures buffer { dest.new ≡ overwritten dest.old (output piece.now) }
+    requires within { written ≤ length dest.old }
+    ensures answer { (old : List ℕ) → Decoded piece.now old dest.old read written
+        → result ≡ sized (outcome_of piece.now (length dest.old)) }
+    ensures buffer { (old : List ℕ) → length old ≡ length dest.old → Decoded piece.now old dest.old read written
+        → dest.new ≡ overwritten old (output piece.now) }
 {
-    let fit = fitting_len(piece, dest.len());
-    let end = decode_piece(&piece[..fit], dest);
-    if fit < piece.len() {
+    let fit = fitting_len(&piece[read..], dest.len() - written);
+    let end = decode_piece(&piece[read..read + fit], &mut dest[written..]);
+    if read + fit < piece.len() {
         return Err(DecodeError::TargetBufTooSmall);
     }
+    let decoded = written + end.written;
     if end.left == 0 {
-        Ok(end.written)
+        Ok(decoded)
     } else {
         Err(DecodeError::InvalidFrame {
-            decoded_bytes: end.written,
+            decoded_bytes: decoded,
         })
     }
 }

@@ -1,9 +1,15 @@
-use Rattle.std.proofs.Common.{◌≡◌, ◌≢◌, ◌-◌, ℕ, List, length, take, drop, Option, Err, sym, ap, ◌∙◌, rules, arith, length-drop, length-take-le}
+use Rattle.std.proofs.Common.{◌≡◌, ◌≢◌, ◌+◌, ◌-◌, ℕ, List, length, take, drop, get_or, Option, Some, None, Err, subst, refl, sym, ap, ◌∙◌, rules, arith, length-drop, length-take-le}
 use Rattle.std.proofs.lemmas.List.{take_rest}
 use Rattle.std.proofs.lemmas.Bool.{eqb-true, eqb-false}
 use Rattle.cobs.specs.Buffer.{overwritten}
-use Rattle.cobs.specs.Decoding.{output_of, consumed}
-use Rattle.cobs.proofs.HeadLemmas.{first_piece_none, first_piece_some, first_piece_empty}
+use Rattle.cobs.specs.Decoding.{output_of, consumed, sized}
+use Rattle.std.proofs.lemmas.List.Elements.{All-nil}
+use Rattle.cobs.specs.Decoding.{leading_zeros}
+use Rattle.cobs.specs.Piece.{Decoded}
+use Rattle.cobs.specs.Stream.{first_piece, outcome_of}
+use Rattle.cobs.proofs.FrontSteps.{head-one_more, piece-within, piece-nonzero, piece-stop, piece-is}
+use Rattle.cobs.proofs.OutcomeLemmas.{length-head}
+use Rattle.cobs.proofs.HeadLemmas.{first_piece_none, first_piece_some, first_piece_empty, leading_zeros-stop}
 use Rattle.cobs.proofs.OutcomeSteps.{decode_answer-none, decode_answer-refused, decode_answer-decoded, overwritten-none}
 use Rattle.cobs.proofs.dec.decode_first.Goals as goal
 use Rattle.cobs.proofs.dec.decode_first.Goals.{then-end-source, else-end-source}
@@ -13,60 +19,198 @@ returns-then-is_empty-clause-buffer c =
     let none = first_piece_empty c.args.source.now (eqb-true _ 0 (sym c.is_empty.ensures ∙ c.if-is_empty.true)) in
     sym (ap (λ (p : Option (List ℕ)). overwritten c.args.dest.now (output_of p)) none ∙ overwritten-none c.args.dest.now)
 
-pub returns-then-len-eq0-clause-answer : goal.returns-then-len-eq0-clause-answer
-returns-then-len-eq0-clause-answer c =
-    let e = c.piece_len-len.ensures in
-    let rest-is = take_rest c.args.source.now c.leading_zeros-start.result ∙ ap (λ (k : ℕ). drop k c.args.source.now) c.leading_zeros-start.ensures.count in
-    let none = first_piece_none c.args.source.now _ c.piece_len-len.result rest-is e.within e.nonzero e.stop c.if-len-eq0.true in
-    let some : length c.args.source.now ≢ 0 = eqb-false _ 0 (sym c.is_empty.ensures ∙ c.if-is_empty.false) in
-    decode_answer-none c.args.source.now _ (omega arith) none
+-- what stands behind the leading zeros
+behind-zeros : (source : List ℕ) (start : ℕ) → start ≡ leading_zeros source → take (length source - start) (drop start source) ≡ drop (leading_zeros source) source
+behind-zeros source start is = take_rest source start ∙ ap (λ (k : ℕ). drop k source) is
 
-pub returns-then-len-eq0-clause-buffer : goal.returns-then-len-eq0-clause-buffer
-returns-then-len-eq0-clause-buffer c =
-    let e = c.piece_len-len.ensures in
-    let rest-is = take_rest c.args.source.now c.leading_zeros-start.result ∙ ap (λ (k : ℕ). drop k c.args.source.now) c.leading_zeros-start.ensures.count in
-    let none = first_piece_none c.args.source.now _ c.piece_len-len.result rest-is e.within e.nonzero e.stop c.if-len-eq0.true in
+none-behind : (source rest : List ℕ) → rest ≡ drop (leading_zeros source) source → length rest ≡ 0 → first_piece source ≡ None
+none-behind source rest is empty = first_piece_none source rest 0 is (omega arith) (All-nil (λ b. b ≢ 0)) (λ some. absurd (omega arith)) refl
+
+pub returns-then-is_empty-2-clause-answer : goal.returns-then-is_empty-2-clause-answer
+returns-then-is_empty-2-clause-answer c =
+    let source : List ℕ = c.args.source.now in
+    let start : ℕ = c.leading_zeros-start.result in
+    let rest : List ℕ = take (length source - start) (drop start source) in
+    let rest-is : rest ≡ drop (leading_zeros source) source = behind-zeros source start c.leading_zeros-start.ensures.count in
+    let none = none-behind source rest rest-is (eqb-true _ 0 (sym c.is_empty-2.ensures ∙ c.if-is_empty-2.true)) in
+    let some : length source ≢ 0 = eqb-false _ 0 (sym c.is_empty.ensures ∙ c.if-is_empty.false) in
+    decode_answer-none source _ (omega arith) none
+
+pub returns-then-is_empty-2-clause-buffer : goal.returns-then-is_empty-2-clause-buffer
+returns-then-is_empty-2-clause-buffer c =
+    let source : List ℕ = c.args.source.now in
+    let start : ℕ = c.leading_zeros-start.result in
+    let rest : List ℕ = take (length source - start) (drop start source) in
+    let rest-is : rest ≡ drop (leading_zeros source) source = behind-zeros source start c.leading_zeros-start.ensures.count in
+    let none = none-behind source rest rest-is (eqb-true _ 0 (sym c.is_empty-2.ensures ∙ c.if-is_empty-2.true)) in
     sym (ap (λ (p : Option (List ℕ)). overwritten c.args.dest.now (output_of p)) none ∙ overwritten-none c.args.dest.now)
+
+pub decode_front-front-requires : goal.decode_front-front-requires
+decode_front-front-requires c =
+    let source : List ℕ = c.args.source.now in
+    let start : ℕ = c.leading_zeros-start.result in
+    let rest : List ℕ = take (length source - start) (drop start source) in
+    let rest-is : rest ≡ drop (leading_zeros source) source = behind-zeros source start c.leading_zeros-start.ensures.count in
+    let some : length rest ≢ 0 = eqb-false _ 0 (sym c.is_empty-2.ensures ∙ c.if-is_empty-2.false) in
+    let l = ap length rest-is in
+    let d = length-drop (leading_zeros source) source in
+    let first : get_or rest 0 0 ≢ 0 = λ zero. leading_zeros-stop source (omega arith) (sym (ap (λ (xs : List ℕ). get_or xs 0 0) rest-is) ∙ zero) in
+    record { begun = head-one_more 0 rest (omega arith) (omega arith) first }
+
+pub slice_bounds-piece_len-count : goal.slice_bounds-piece_len-count
+slice_bounds-piece_len-count c =
+    let source : List ℕ = c.args.source.now in
+    let start : ℕ = c.leading_zeros-start.result in
+    let rest : List ℕ = take (length source - start) (drop start source) in
+    let l = length-head rest in
+    omega (arith, c.decode_front-front.ensures.decoded.within)
+
+pub slice_bounds-piece_len-start : goal.slice_bounds-piece_len-start
+slice_bounds-piece_len-start c =
+    let source : List ℕ = c.args.source.now in
+    let start : ℕ = c.leading_zeros-start.result in
+    let rest : List ℕ = take (length source - start) (drop start source) in
+    let l = length-head rest in
+    omega (arith, c.decode_front-front.ensures.decoded.within)
+
+pub slice_bounds-decode_ended-end : goal.slice_bounds-decode_ended-end
+slice_bounds-decode_ended-end c =
+    let source : List ℕ = c.args.source.now in
+    let start : ℕ = c.leading_zeros-start.result in
+    let rest : List ℕ = take (length source - start) (drop start source) in
+    let rest-is : rest ≡ drop (leading_zeros source) source = behind-zeros source start c.leading_zeros-start.ensures.count in
+    let read : ℕ = c.decode_front-front.result.read in
+    let n : ℕ = c.piece_len.result in
+    let e = c.piece_len.ensures in
+    let f = c.decode_front-front.ensures in
+    let tail-is = take_rest rest read in
+    sym (length-take-le (read + n) rest (piece-within rest _ read n tail-is f.decoded.within e.within e.nonzero e.stop))
+
+pub decode_ended-requires-clause-some : goal.decode_ended-requires-clause-some
+decode_ended-requires-clause-some c =
+    let source : List ℕ = c.args.source.now in
+    let start : ℕ = c.leading_zeros-start.result in
+    let rest : List ℕ = take (length source - start) (drop start source) in
+    let rest-is : rest ≡ drop (leading_zeros source) source = behind-zeros source start c.leading_zeros-start.ensures.count in
+    let read : ℕ = c.decode_front-front.result.read in
+    let n : ℕ = c.piece_len.result in
+    let e = c.piece_len.ensures in
+    let f = c.decode_front-front.ensures in
+    let tail-is = take_rest rest read in
+    let p = ap length (piece-is rest _ read n tail-is f.decoded.within e.within e.nonzero e.stop) in
+    omega (arith, f.decoded.within)
+
+pub decode_ended-requires-clause-nonzero : goal.decode_ended-requires-clause-nonzero
+decode_ended-requires-clause-nonzero c =
+    let source : List ℕ = c.args.source.now in
+    let start : ℕ = c.leading_zeros-start.result in
+    let rest : List ℕ = take (length source - start) (drop start source) in
+    let rest-is : rest ≡ drop (leading_zeros source) source = behind-zeros source start c.leading_zeros-start.ensures.count in
+    let read : ℕ = c.decode_front-front.result.read in
+    let n : ℕ = c.piece_len.result in
+    let e = c.piece_len.ensures in
+    let f = c.decode_front-front.ensures in
+    let tail-is = take_rest rest read in
+    piece-nonzero rest _ read n tail-is f.decoded.within e.within e.nonzero e.stop
+
+pub overflow_add-end : goal.overflow_add-end
+overflow_add-end c =
+    let source : List ℕ = c.args.source.now in
+    let start : ℕ = c.leading_zeros-start.result in
+    let rest : List ℕ = take (length source - start) (drop start source) in
+    let rest-is : rest ≡ drop (leading_zeros source) source = behind-zeros source start c.leading_zeros-start.ensures.count in
+    let read : ℕ = c.decode_front-front.result.read in
+    let n : ℕ = c.piece_len.result in
+    let e = c.piece_len.ensures in
+    let f = c.decode_front-front.ensures in
+    let tail-is = take_rest rest read in
+    let within = piece-within rest _ read n tail-is f.decoded.within e.within e.nonzero e.stop in
+    let l = ap length rest-is in
+    let d = length-drop (leading_zeros source) source in
+    omega arith
 
 pub returns-in_err-frame_size-clause-answer : goal.returns-in_err-frame_size-clause-answer
 returns-in_err-frame_size-clause-answer c =
-    let e = c.piece_len-len.ensures in
-    let rest-is = take_rest c.args.source.now c.leading_zeros-start.result ∙ ap (λ (k : ℕ). drop k c.args.source.now) c.leading_zeros-start.ensures.count in
-    let other = c.if-len-eq0.false in
-    let some = first_piece_some c.args.source.now _ c.piece_len-len.result rest-is e.within e.nonzero e.stop (omega arith) in
-    let full : length c.args.source.now ≢ 0 = eqb-false _ 0 (sym c.is_empty.ensures ∙ c.if-is_empty.false) in
+    let source : List ℕ = c.args.source.now in
+    let start : ℕ = c.leading_zeros-start.result in
+    let rest : List ℕ = take (length source - start) (drop start source) in
+    let rest-is : rest ≡ drop (leading_zeros source) source = behind-zeros source start c.leading_zeros-start.ensures.count in
+    let read : ℕ = c.decode_front-front.result.read in
+    let n : ℕ = c.piece_len.result in
+    let e = c.piece_len.ensures in
+    let f = c.decode_front-front.ensures in
+    let tail-is = take_rest rest read in
+    let within = piece-within rest _ read n tail-is f.decoded.within e.within e.nonzero e.stop in
+    let some : first_piece source ≡ Some (take (read + n) rest) =
+    first_piece_some source rest (read + n) rest-is within (piece-nonzero rest _ read n tail-is f.decoded.within e.within e.nonzero e.stop) (piece-stop rest _ read n tail-is f.decoded.within e.within e.nonzero e.stop) (let w = f.decoded.within in let p = ap length (piece-is rest _ read n tail-is f.decoded.within e.within e.nonzero e.stop) in let t = length-take-le (read + n) rest within in omega arith) in
+    let front : Decoded (take (read + n) rest) c.args.dest.now c.decode_front-front.new.dest read c.decode_front-front.result.written =
+    subst (λ (p : List ℕ). Decoded p c.args.dest.now c.decode_front-front.new.dest read c.decode_front-front.result.written) (sym (piece-is rest _ read n tail-is f.decoded.within e.within e.nonzero e.stop)) f.decoded in
+    let same : length c.decode_front-front.new.dest ≡ length c.args.dest.now = omega arith in
+    let answer = c.decode_ended.ensures.answer c.args.dest.now front ∙ ap (λ (k : ℕ). sized (outcome_of (take (read + n) rest) k)) same in
+    let full : length source ≢ 0 = eqb-false _ 0 (sym c.is_empty.ensures ∙ c.if-is_empty.false) in
     let is : c.from_residual.result ≡ Err c.in_err-frame_size.field-0.0 = search rules in
-    is ∙ decode_answer-refused c.args.source.now _ _ (omega arith) some c.decode_ended.result c.decode_ended.ensures.answer _ c.in_err-frame_size.was
+    is ∙ decode_answer-refused source _ _ (omega arith) some c.decode_ended.result answer _ c.in_err-frame_size.was
 
 pub returns-in_err-frame_size-clause-buffer : goal.returns-in_err-frame_size-clause-buffer
 returns-in_err-frame_size-clause-buffer c =
-    let e = c.piece_len-len.ensures in
-    let rest-is = take_rest c.args.source.now c.leading_zeros-start.result ∙ ap (λ (k : ℕ). drop k c.args.source.now) c.leading_zeros-start.ensures.count in
-    let other = c.if-len-eq0.false in
-    let some = first_piece_some c.args.source.now _ c.piece_len-len.result rest-is e.within e.nonzero e.stop (omega arith) in
-    c.decode_ended.ensures.buffer ∙ sym (ap (λ (p : Option (List ℕ)). overwritten c.args.dest.now (output_of p)) some)
+    let source : List ℕ = c.args.source.now in
+    let start : ℕ = c.leading_zeros-start.result in
+    let rest : List ℕ = take (length source - start) (drop start source) in
+    let rest-is : rest ≡ drop (leading_zeros source) source = behind-zeros source start c.leading_zeros-start.ensures.count in
+    let read : ℕ = c.decode_front-front.result.read in
+    let n : ℕ = c.piece_len.result in
+    let e = c.piece_len.ensures in
+    let f = c.decode_front-front.ensures in
+    let tail-is = take_rest rest read in
+    let within = piece-within rest _ read n tail-is f.decoded.within e.within e.nonzero e.stop in
+    let some : first_piece source ≡ Some (take (read + n) rest) =
+    first_piece_some source rest (read + n) rest-is within (piece-nonzero rest _ read n tail-is f.decoded.within e.within e.nonzero e.stop) (piece-stop rest _ read n tail-is f.decoded.within e.within e.nonzero e.stop) (let w = f.decoded.within in let p = ap length (piece-is rest _ read n tail-is f.decoded.within e.within e.nonzero e.stop) in let t = length-take-le (read + n) rest within in omega arith) in
+    let front : Decoded (take (read + n) rest) c.args.dest.now c.decode_front-front.new.dest read c.decode_front-front.result.written =
+    subst (λ (p : List ℕ). Decoded p c.args.dest.now c.decode_front-front.new.dest read c.decode_front-front.result.written) (sym (piece-is rest _ read n tail-is f.decoded.within e.within e.nonzero e.stop)) f.decoded in
+    c.decode_ended.ensures.buffer c.args.dest.now (omega arith) front ∙ sym (ap (λ (p : Option (List ℕ)). overwritten c.args.dest.now (output_of p)) some)
 
 pub returns-clause-answer : goal.returns-clause-answer
 returns-clause-answer c =
-    let e = c.piece_len-len.ensures in
-    let rest-is = take_rest c.args.source.now c.leading_zeros-start.result ∙ ap (λ (k : ℕ). drop k c.args.source.now) c.leading_zeros-start.ensures.count in
-    let other = c.if-len-eq0.false in
-    let some = first_piece_some c.args.source.now _ c.piece_len-len.result rest-is e.within e.nonzero e.stop (omega arith) in
-    let full : length c.args.source.now ≢ 0 = eqb-false _ 0 (sym c.is_empty.ensures ∙ c.if-is_empty.false) in
-    let rest : List ℕ = take (length c.args.source.now - c.leading_zeros-start.result) (drop c.leading_zeros-start.result c.args.source.now) in
-    let long = length-take-le c.piece_len-len.result rest e.within in
-    let r = ap length (take_rest c.args.source.now c.leading_zeros-start.result) ∙ length-drop c.leading_zeros-start.result c.args.source.now in
-    let start = c.leading_zeros-start.ensures.count in
-    let parsed : c.if-end-source.parsed_size ≡ consumed c.args.source.now (take c.piece_len-len.result rest) = elim c.if-end-source.branch [
+    let source : List ℕ = c.args.source.now in
+    let start : ℕ = c.leading_zeros-start.result in
+    let rest : List ℕ = take (length source - start) (drop start source) in
+    let rest-is : rest ≡ drop (leading_zeros source) source = behind-zeros source start c.leading_zeros-start.ensures.count in
+    let read : ℕ = c.decode_front-front.result.read in
+    let n : ℕ = c.piece_len.result in
+    let e = c.piece_len.ensures in
+    let f = c.decode_front-front.ensures in
+    let tail-is = take_rest rest read in
+    let within = piece-within rest _ read n tail-is f.decoded.within e.within e.nonzero e.stop in
+    let some : first_piece source ≡ Some (take (read + n) rest) =
+    first_piece_some source rest (read + n) rest-is within (piece-nonzero rest _ read n tail-is f.decoded.within e.within e.nonzero e.stop) (piece-stop rest _ read n tail-is f.decoded.within e.within e.nonzero e.stop) (let w = f.decoded.within in let p = ap length (piece-is rest _ read n tail-is f.decoded.within e.within e.nonzero e.stop) in let t = length-take-le (read + n) rest within in omega arith) in
+    let front : Decoded (take (read + n) rest) c.args.dest.now c.decode_front-front.new.dest read c.decode_front-front.result.written =
+    subst (λ (p : List ℕ). Decoded p c.args.dest.now c.decode_front-front.new.dest read c.decode_front-front.result.written) (sym (piece-is rest _ read n tail-is f.decoded.within e.within e.nonzero e.stop)) f.decoded in
+    let same : length c.decode_front-front.new.dest ≡ length c.args.dest.now = omega arith in
+    let answer = c.decode_ended.ensures.answer c.args.dest.now front ∙ ap (λ (k : ℕ). sized (outcome_of (take (read + n) rest) k)) same in
+    let full : length source ≢ 0 = eqb-false _ 0 (sym c.is_empty.ensures ∙ c.if-is_empty.false) in
+    let long = length-take-le (read + n) rest within in
+    let r = ap length (take_rest source start) ∙ length-drop start source in
+    let count = c.leading_zeros-start.ensures.count in
+    let parsed : c.if-end-source.parsed_size ≡ consumed source (take (read + n) rest) = elim c.if-end-source.branch [
       | then-end-source w ↦ omega arith
       | else-end-source w ↦ omega arith
     ] in
-    decode_answer-decoded c.args.source.now _ _ (omega arith) some c.decode_ended.result c.decode_ended.ensures.answer _ _ c.in_ok-frame_size.was parsed _ c.new.ensures
+    decode_answer-decoded source _ _ (omega arith) some c.decode_ended.result answer _ _ c.in_ok-frame_size.was parsed _ c.new.ensures
 
 pub returns-clause-buffer : goal.returns-clause-buffer
 returns-clause-buffer c =
-    let e = c.piece_len-len.ensures in
-    let rest-is = take_rest c.args.source.now c.leading_zeros-start.result ∙ ap (λ (k : ℕ). drop k c.args.source.now) c.leading_zeros-start.ensures.count in
-    let other = c.if-len-eq0.false in
-    let some = first_piece_some c.args.source.now _ c.piece_len-len.result rest-is e.within e.nonzero e.stop (omega arith) in
-    c.decode_ended.ensures.buffer ∙ sym (ap (λ (p : Option (List ℕ)). overwritten c.args.dest.now (output_of p)) some)
+    let source : List ℕ = c.args.source.now in
+    let start : ℕ = c.leading_zeros-start.result in
+    let rest : List ℕ = take (length source - start) (drop start source) in
+    let rest-is : rest ≡ drop (leading_zeros source) source = behind-zeros source start c.leading_zeros-start.ensures.count in
+    let read : ℕ = c.decode_front-front.result.read in
+    let n : ℕ = c.piece_len.result in
+    let e = c.piece_len.ensures in
+    let f = c.decode_front-front.ensures in
+    let tail-is = take_rest rest read in
+    let within = piece-within rest _ read n tail-is f.decoded.within e.within e.nonzero e.stop in
+    let some : first_piece source ≡ Some (take (read + n) rest) =
+    first_piece_some source rest (read + n) rest-is within (piece-nonzero rest _ read n tail-is f.decoded.within e.within e.nonzero e.stop) (piece-stop rest _ read n tail-is f.decoded.within e.within e.nonzero e.stop) (let w = f.decoded.within in let p = ap length (piece-is rest _ read n tail-is f.decoded.within e.within e.nonzero e.stop) in let t = length-take-le (read + n) rest within in omega arith) in
+    let front : Decoded (take (read + n) rest) c.args.dest.now c.decode_front-front.new.dest read c.decode_front-front.result.written =
+    subst (λ (p : List ℕ). Decoded p c.args.dest.now c.decode_front-front.new.dest read c.decode_front-front.result.written) (sym (piece-is rest _ read n tail-is f.decoded.within e.within e.nonzero e.stop)) f.decoded in
+    c.decode_ended.ensures.buffer c.args.dest.now (omega arith) front ∙ sym (ap (λ (p : Option (List ℕ)). overwritten c.args.dest.now (output_of p)) some)

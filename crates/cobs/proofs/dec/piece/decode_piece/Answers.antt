@@ -1,15 +1,42 @@
-use Rattle.std.proofs.Common.{◌≡◌, ◌+◌, ◌-◌, ◌∙◌, ℕ, List, length, take, drop, get_or, refl, sym, ap, subst, arith}
+use Rattle.std.proofs.Common.{◌≡◌, ◌+◌, ◌-◌, ◌∙◌, ◌≢◌, length-drop, ℕ, List, length, take, drop, get_or, refl, sym, ap, subst, arith}
 use Rattle.std.proofs.lemmas.List.{take_rest}
 use Rattle.cobs.specs.Piece.{output}
-use Rattle.cobs.proofs.WindowSteps.{code-pos, room-zero, room-full, long-decoded, full-decoded, window-joined, joined-begins, joined-rest, flat-few, flat-one}
+use Rattle.cobs.proofs.WindowSteps.{code-pos, room-zero, room-full, long-decoded, full-decoded, joined-begins, joined-rest, flat-few, flat-one}
+use Rattle.std.proofs.lemmas.List.Elements.{All-drop, All-take, All-same}
+use Rattle.cobs.proofs.PieceCuts.{output-long}
+use Rattle.cobs.proofs.FrontSteps.{decoded-joined, part-head}
 use Rattle.cobs.proofs.dec.piece.decode_piece.Goals as goal
-use Rattle.cobs.proofs.dec.piece.decode_piece.Goals.{else-by_window-test, then-by_window-test+else-code-lt33+then-piece-read}
+use Rattle.cobs.proofs.dec.piece.decode_piece.Goals.{else-by_window-test, then-by_window-test+else-code-le-WINDOW+then-piece-read}
 
-pub by_window-preserved-then-code-lt33 : goal.by_window-preserved-then-code-lt33
-by_window-preserved-then-code-lt33 c =
-    let e = c.decode_window-step.ensures in
-    window-joined c.args.piece.now c.args.dest.now c.by_window.dest c.by_window.read c.by_window.written c.by_window.invariant (omega arith) c.decode_window-step.new.dest _ (take_rest c.args.piece.now c.by_window.read)
-    _ (take_rest c.by_window.dest c.by_window.written) _ refl c.decode_window-step.result e.within e.count e.begins e.last e.rest
+pub decode_window-step-requires-clause-begun : goal.decode_window-step-requires-clause-begun
+decode_window-step-requires-clause-begun c =
+    let piece : List ℕ = c.args.piece.now in
+    let d = length-drop c.by_window.read piece in
+    let is = ap length (part-head piece c.by_window.read c.requires.nonzero) in
+    omega arith
+
+pub decode_window-step-requires-clause-room : goal.decode_window-step-requires-clause-room
+decode_window-step-requires-clause-room c =
+    let piece : List ℕ = c.args.piece.now in
+    let d = length-drop c.by_window.read piece in
+    let long = output-long (drop c.by_window.read piece) (omega arith) in
+    let e = ap length (take_rest c.by_window.dest c.by_window.written) ∙ length-drop c.by_window.written c.by_window.dest in
+    omega (arith, c.by_window.invariant.left)
+
+pub by_window-smaller-then-code-le-WINDOW : goal.by_window-smaller-then-code-le-WINDOW
+by_window-smaller-then-code-le-WINDOW c =
+    let piece : List ℕ = c.args.piece.now in
+    let nonzero = All-drop (λ b. b ≢ 0) c.by_window.read piece c.requires.nonzero in
+    let part = take_rest piece c.by_window.read in
+    let some = c.decode_window-step.ensures.some (All-take (λ b. b ≢ 0) 33 _ (All-same (λ b. b ≢ 0) _ (drop c.by_window.read piece) part nonzero)) in
+    omega arith
+
+pub by_window-preserved-then-code-le-WINDOW : goal.by_window-preserved-then-code-le-WINDOW
+by_window-preserved-then-code-le-WINDOW c =
+    let piece : List ℕ = c.args.piece.now in
+    let i = c.by_window.invariant in
+    decoded-joined piece c.args.dest.now c.by_window.dest c.by_window.read c.by_window.written i (omega (arith, i.left)) c.decode_window-step.new.dest _ (part-head piece c.by_window.read c.requires.nonzero)
+    _ (take_rest c.by_window.dest c.by_window.written) _ refl _ _ c.decode_window-step.ensures.decoded
 
 pub slice_bounds-copy_from_slice-end : goal.slice_bounds-copy_from_slice-end
 slice_bounds-copy_from_slice-end c =
@@ -43,6 +70,7 @@ by_window-preserved c =
     let read : ℕ = c.by_window.read in
     let code : ℕ = get_or c.args.piece.now read 0 in
     let pos = code-pos c.args.piece.now read c.requires.nonzero p.within in
+    let r = room-full c.args.piece.now c.args.dest.now c.by_window.dest read c.by_window.written code p refl pos (omega arith) in
     let n : read + code - (read + 1) ≡ code - 1 = omega arith in
     let part-is = c.copy_from_slice.ensures.after ∙ ap (λ (m : ℕ). take m (drop (read + 1) c.args.piece.now)) n in
     full-decoded c.args.piece.now c.args.dest.now c.by_window.dest c.by_window.read c.by_window.written code p refl pos (omega arith) _ _ (omega arith) (omega arith) part-is (omega arith)
@@ -53,7 +81,7 @@ decode_end-end-requires-clause-flat c =
     let flat : length (output (drop c.by_window.read c.args.piece.now)) + 1 ≡ length (drop c.by_window.read c.args.piece.now) =
     elim c.by_window-test.branch [
       | else-by_window-test w ↦ flat-few c.args.piece.now c.args.dest.now c.by_window.dest c.by_window.read c.by_window.written p (omega arith)
-      | then-by_window-test+else-code-lt33+then-piece-read w ↦ flat-one c.args.piece.now c.args.dest.now c.by_window.dest c.by_window.read c.by_window.written p w.if-piece-read.true
+      | then-by_window-test+else-code-le-WINDOW+then-piece-read w ↦ flat-one c.args.piece.now c.args.dest.now c.by_window.dest c.by_window.read c.by_window.written p w.if-piece-read.true
     ] in
     subst (λ (xs : List ℕ). length (output xs) + 1 ≡ length xs) (sym (take_rest c.args.piece.now c.by_window.read)) flat
 

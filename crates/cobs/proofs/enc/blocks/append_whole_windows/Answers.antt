@@ -1,4 +1,4 @@
-use Rattle.std.proofs.Common.{◌∙◌, drop, ◌≢◌, length-take-le, length-drop, ◌≡◌, ◌≤◌, ◌<◌, ◌+◌, ◌-◌, ◌%◌, min, true, ap, ◌++◌, ℕ, List, length, take, refl, sym, subst, arith}
+use Rattle.std.proofs.Common.{◌∙◌, drop, ◌≢◌, length-take-le, length-drop, ◌≡◌, ◌≤◌, ◌+◌, ◌-◌, ◌%◌, min, true, ap, ◌++◌, ℕ, List, length, take, refl, sym, subst, arith}
 use lib.Count.{count_trailing_zeros}
 use Rattle.std.proofs.lemmas.List.{length-set}
 use Rattle.cobs.specs.Encoder.{CobsEncoderAfter, Reached}

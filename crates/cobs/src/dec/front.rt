@@ -1,0 +1,242 @@
+//! The front of a source, decoded in one pass: each step looks for a zero in the bytes that it has loaded before it stores
+//! them.
+ghost use Rattle.std.specs.Prelude.{◌≡◌, ◌<◌, ◌≤◌, length, take, slice_index};
+ghost use Rattle.cobs.specs.Grammar.{HasNoZero};
+ghost use Rattle.cobs.specs.Piece.{Decoded};
+ghost use Rattle.cobs.specs.Stream.{head};
+
+use crate::enc::FULL_CODE;
+use crate::window::{
+    WINDOW, copy_nonzero, copy_nonzero_32, copy_nonzero_pair, is_ones, write_zeros,
+};
+
+/// No step reads or writes more bytes than a full block and the code behind it.
+const LONGEST_STEP: usize = FULL_CODE + 1;
+
+/// So short a source is searched and copied as a whole.
+const SHORT: usize = 96;
+
+/// How far a source is decoded: up to a code of it, and how many bytes of the output are written.
+#[derive(Clone, Copy)]
+pub(crate) struct Reached {
+    /// How many bytes of the source are read.
+    pub(crate) read: usize,
+    /// How many bytes of the output are written.
+    pub(crate) written: usize,
+}
+
+/// Decodes the codes that stand within the first 33 bytes of a source, and answers how many bytes it has read and
+/// written: none where one of the 33 is a zero.
+///
+/// Codes of one value in a row go by a loop of their own, which needn't wait for each code to know where the next is.
+#[inline(always)]
+pub(crate) fn decode_window(source: &[u8], dest: &mut [u8]) -> usize
+    requires begun { 0 < length (head source.now) }
+    requires long { 33 ≤ length source.now }
+    requires first { slice_index source.now 0 < 33 }
+    requires room { 32 ≤ length dest.old }
+    ensures decoded { Decoded (head source.now) dest.old dest.new result result }
+    ensures within { result ≤ 32 }
+    ensures some { HasNoZero (take 33 source.now) → 0 < result }
+{
+    let mut code = source[0] as usize;
+    if code == 1 && is_ones(&source[1..]) {
+        write_zeros(dest);
+        return WINDOW;
+    }
+    if !copy_nonzero_32(source, 1, dest, 0) {
+        return 0;
+    }
+    let mut read = 0;
+    'by_code: loop {
+        'alike: loop {
+            dest[read + (code - 1)] = 0;
+            read += code;
+            if source[read] as usize != code || WINDOW + 1 - read <= code {
+                break;
+            }
+        }
+        code = source[read] as usize;
+        if WINDOW + 1 - read <= code {
+            return read;
+        }
+    }
+}
+
+/// Decodes the full block at the front of a source, if neither it nor the code behind it has a zero.
+#[inline(always)]
+fn decode_full(source: &[u8], dest: &mut [u8]) -> Reached
+    requires begun { 0 < length (head source.now) }
+    requires code { slice_index source.now 0 ≡ 255 }
+    requires long { 256 ≤ length source.now }
+    requires room { 254 ≤ length dest.old }
+    ensures decoded { Decoded (head source.now) dest.old dest.new result.read result.written }
+    ensures slower { result.written ≤ result.read }
+    ensures within { result.read ≤ 255 }
+{
+    let copied = copy_nonzero(source, 1, FULL_CODE - 1, dest, 0);
+    if copied < FULL_CODE - 1 || source[FULL_CODE] == 0 {
+        return Reached {
+            read: 0,
+            written: 0,
+        };
+    }
+    Reached {
+        read: FULL_CODE,
+        written: FULL_CODE - 1,
+    }
+}
+
+/// Decodes the block of 32 bytes at the front of a source, if neither it nor the code behind it has a zero; answers how
+/// many bytes it has read and written.
+#[inline(always)]
+fn decode_33(source: &[u8], dest: &mut [u8]) -> usize
+    requires begun { 0 < length (head source.now) }
+    requires code { slice_index source.now 0 ≡ 33 }
+    requires long { 34 ≤ length source.now }
+    requires room { 33 ≤ length dest.old }
+    ensures decoded { Decoded (head source.now) dest.old dest.new result result }
+    ensures within { result ≤ 33 }
+{
+    if !copy_nonzero_32(source, 1, dest, 0) || source[WINDOW + 1] == 0 {
+        return 0;
+    }
+    dest[WINDOW] = 0;
+    WINDOW + 1
+}
+
+/// Decodes the block at the front of a source, one with 32 bytes or more that isn't full, if neither it nor the code
+/// behind it has a zero; answers how many bytes it has read and written.
+#[inline(always)]
+fn decode_long(source: &[u8], dest: &mut [u8]) -> usize
+    requires begun { 0 < length (head source.now) }
+    requires long { 32 < slice_index source.now 0 }
+    requires not_full { slice_index source.now 0 < 255 }
+    requires source { slice_index source.now 0 < length source.now }
+    requires room { slice_index source.now 0 ≤ length dest.old }
+    ensures decoded { Decoded (head source.now) dest.old dest.new result result }
+    ensures within { result ≤ 254 }
+{
+    let code = source[0] as usize;
+    let copied = if code <= 2 * WINDOW {
+        copy_nonzero_pair(source, 1, code, dest, 0)
+    } else {
+        copy_nonzero(source, 1, code, dest, 0) == code
+    };
+    if !copied {
+        return 0;
+    }
+    dest[code - 1] = 0;
+    code
+}
+
+/// Decodes what stands at the front of a source up to a code: a block, or those of a window. It has read nothing where
+/// a zero is near.
+#[inline(always)]
+fn decode_step(source: &[u8], dest: &mut [u8]) -> Reached
+    requires begun { 0 < length (head source.now) }
+    requires long { 256 ≤ length source.now }
+    requires room { 256 ≤ length dest.old }
+    ensures decoded { Decoded (head source.now) dest.old dest.new result.read result.written }
+    ensures slower { result.written ≤ result.read }
+    ensures within { result.read ≤ 255 }
+{
+    let code = source[0] as usize;
+    if code == FULL_CODE {
+        return decode_full(source, dest);
+    }
+    let step = if code <= WINDOW {
+        decode_window(source, dest)
+    } else if code == WINDOW + 1 {
+        decode_33(source, dest)
+    } else {
+        decode_long(source, dest)
+    };
+    Reached {
+        read: step,
+        written: step,
+    }
+}
+
+/// Decodes the front of a source, as long as enough of the source and of the room is left for any block, and no zero is
+/// near.
+///
+/// One bound covers both, since no step writes more than it reads.
+fn decode_blocks(source: &[u8], dest: &mut [u8]) -> Reached
+    requires begun { 0 < length (head source.now) }
+    ensures decoded { Decoded (head source.now) dest.old dest.new result.read result.written }
+    ensures within { result.written ≤ length dest.old }
+{
+    let mut read = 0;
+    let mut written = 0;
+    let mut end = 0;
+    'by_step: loop {
+        if end <= read {
+            let left = (source.len() - read).min(dest.len() - written);
+            if left < 2 * LONGEST_STEP {
+                return Reached { read, written };
+            }
+            end = read + (left - LONGEST_STEP);
+        }
+        let step = decode_step(&source[read..], &mut dest[written..]);
+        read += step.read;
+        written += step.written;
+        if step.read == 0 {
+            return Reached { read, written };
+        }
+    }
+}
+
+/// Decodes the front of a source, as long as a window of it and the room for one are left, no zero is near, and no long
+/// block begins.
+#[inline(always)]
+fn decode_windows(source: &[u8], dest: &mut [u8]) -> usize
+    requires begun { 0 < length (head source.now) }
+    ensures decoded { Decoded (head source.now) dest.old dest.new result result }
+    ensures within { result ≤ length dest.old }
+{
+    let mut at = 0;
+    'by_window: while WINDOW < source.len() - at
+        && WINDOW <= dest.len() - at
+        && source[at] as usize <= WINDOW
+    {
+        let step = decode_window(&source[at..], &mut dest[at..]);
+        at += step;
+        if step == 0 {
+            return at;
+        }
+    }
+    at
+}
+
+/// Decodes the front of a long source by steps.
+#[inline(never)]
+fn decode_steps(source: &[u8], dest: &mut [u8]) -> Reached
+    requires begun { 0 < length (head source.now) }
+    ensures decoded { Decoded (head source.now) dest.old dest.new result.read result.written }
+    ensures within { result.written ≤ length dest.old }
+{
+    let front = decode_blocks(source, dest);
+    let step = decode_windows(&source[front.read..], &mut dest[front.written..]);
+    Reached {
+        read: front.read + step,
+        written: front.written + step,
+    }
+}
+
+/// Decodes the front of a source, which begins with a code, and answers how far it has come: to the last bytes of the
+/// source or of the room, or near to the first zero. A short source has no such front.
+#[inline(always)]
+pub(crate) fn decode_front(source: &[u8], dest: &mut [u8]) -> Reached
+    requires begun { 0 < length (head source.now) }
+    ensures decoded { Decoded (head source.now) dest.old dest.new result.read result.written }
+    ensures within { result.written ≤ length dest.old }
+{
+    if source.len() <= SHORT {
+        return Reached {
+            read: 0,
+            written: 0,
+        };
+    }
+    decode_steps(source, dest)
+}
