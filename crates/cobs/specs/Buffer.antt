@@ -1,6 +1,10 @@
 -- What a buffer holds after a call.
-use Rattle.std.specs.Prelude.{ℕ, List, ◌++◌, length, take, drop}
+use Rattle.std.specs.Prelude.{ℕ, List, ◌+◌, ◌++◌, length, take, drop}
 
 -- the buffer with these bytes at its front, as far as they fit, and its other bytes as they were
 abbrev pub overwritten : List ℕ → List ℕ → List ℕ
 overwritten buffer bytes = take (length buffer) bytes ++ drop (length bytes) buffer
+
+-- the buffer with these bytes over its own from an index on
+abbrev pub written_at : List ℕ → ℕ → List ℕ → List ℕ
+written_at buffer at bytes = take at buffer ++ bytes ++ drop (at + length bytes) buffer

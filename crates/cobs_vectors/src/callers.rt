@@ -2,9 +2,10 @@
 //!
 //! No test stands here: each function has a contract, and the prover derives it from the clauses of the calls that it
 //! makes. So a clause that said too little for its users would be noticed here.
-ghost use Rattle.std.specs.Prelude.{◌≡◌, ◌≢◌, ◌≤◌, ◌<◌, ◌+◌, ◌↔◌, All, length, take, slice_index, List, ℕ, Ok, Some, option_to_list, IfOk, IfSome, IsSomeAnd, IsTrue};
+ghost use Rattle.std.specs.Prelude.{◌≡◌, ◌≢◌, ◌≤◌, ◌<◌, ◌+◌, ◌↔◌, All, length, take, slice_index, slice_set, List, ℕ, Ok, Some, option_to_list, IfOk, IfSome, IsSomeAnd, IsTrue};
+ghost use Rattle.cobs.specs.Buffer.{written_at};
 ghost use Rattle.cobs.specs.Buffers.{lent_buffer, lent_phase, lent_slice, owned_buffer, owned_phase};
-ghost use Rattle.cobs.specs.Decoder.{state_in, Over};
+ghost use Rattle.cobs.specs.Decoder.{state_in, Over, PhaseAfter};
 ghost use Rattle.cobs.specs.Grammar.{HasNoZero, Reads};
 ghost use Rattle.cobs.specs.Headline.{IsPiece};
 ghost use Rattle.cobs.specs.Length.{encoded_len};
@@ -12,8 +13,8 @@ ghost use Rattle.cobs.specs.Streaming.{AreFrames, messages_in};
 ghost use Rattle.cobs.specs.Table.{data_of};
 
 use cobs::{
-    CobsDecoder, CobsDecoderOwned, DecodeError, DecodeResult, DecoderState, decode, encode_frames,
-    encode_frames_room, encode_with_sentinel,
+    CobsDecoder, CobsDecoderOwned, DecodeError, DecodeResult, DecoderState, WriteBuffer, decode,
+    encode_frames, encode_frames_room, encode_with_sentinel,
 };
 use std::alloc::{AllocError, Global};
 
@@ -111,4 +112,24 @@ pub fn feed_both(decoder: &mut CobsDecoderOwned, state: &mut DecoderState, byte:
 {
     let _answer = decoder.feed(byte);
     let _row = state.feed(byte);
+}
+
+/// Writes a byte to the front of a decoder's buffer: the decoder stands where it stood.
+pub fn write_first<D: WriteBuffer>(decoder: &mut D, byte: u8)
+    requires { 0 < length (D.bytes decoder.old) }
+    ensures bytes { D.bytes decoder.new ≡ slice_set (D.bytes decoder.old) 0 byte }
+    ensures phase { (n : ℕ) (p : List ℕ) → PhaseAfter n (D.phase decoder.old) p → PhaseAfter n (D.phase decoder.new) p }
+    ensures same_loan { D.loan decoder.new ≡ D.loan decoder.old }
+{
+    decoder.dest_mut()[0] = byte;
+}
+
+/// Writes to the slice that was lent to a decoder, inside a piece: the piece that it has taken is the same.
+pub fn write_lent(decoder: &mut CobsDecoder<'_>, at: usize, source: &[u8])
+    requires { at + length source.now ≤ length (lent_buffer decoder.old) }
+    ensures bytes { lent_buffer decoder.new ≡ written_at (lent_buffer decoder.old) at source.now }
+    ensures phase { (n : ℕ) (p : List ℕ) → PhaseAfter n (lent_phase decoder.old) p → PhaseAfter n (lent_phase decoder.new) p }
+    ensures same_slice { lent_slice decoder.new ≡ lent_slice decoder.old }
+{
+    decoder.write_dest(at, source);
 }

@@ -98,6 +98,18 @@ fn buffers_in_the_value(rt: HostRuntime) {
 }
 
 #[test]
+fn a_piece_goes_on_behind_a_write(rt: HostRuntime) {
+    let mut buffer = [0; 3];
+    let mut decoder = CobsDecoder::new(&mut buffer);
+    assert_eq!(rt; decoder.feed(3), Ok(None));
+    assert_eq!(rt; decoder.feed(7), Ok(None));
+    decoder.write_dest(0, &[9]);
+    assert_eq!(rt; decoder.feed(8), Ok(None));
+    assert_eq!(rt; decoder.feed(0), Ok(Some(2)));
+    assert_eq!(rt; decoder.dest(), [9, 8, 0].as_slice());
+}
+
+#[test]
 fn push_goes_on_behind_an_error(rt: HostRuntime) -> Result<(), Fail> {
     let mut buffer = [0; 4];
     let mut decoder = CobsDecoder::new(&mut buffer);

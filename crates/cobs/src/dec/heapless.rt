@@ -144,13 +144,18 @@ impl<const N: usize> FrameDecoder for CobsDecoderHeapless<N> {
 }
 
 impl<const N: usize> WriteBuffer for CobsDecoderHeapless<N> {
-    ghost use Rattle.cobs.specs.Buffers.{heapless_buffer, with_heapless_buffer};
-
-    ghost bytes = { heapless_buffer };
+    ghost use Rattle.cobs.specs.Buffers.{with_heapless_buffer};
+    ghost use Rattle.std.proofs.Common.{refl, take_at, drop, length};
 
     ghost with_bytes = { with_heapless_buffer };
 
     fn dest_mut(&mut self) -> &mut [u8] {
         CobsDecoderHeapless::dest_mut(self)
     }
+
+    ghost bytes_are_written = { λ decoder written same. take_at written (drop (length written) decoder.dest.items) (length decoder.dest.items) same };
+
+    ghost phase_stays = { λ _ _. refl };
+
+    ghost loan_stays = { λ _ _. refl };
 }

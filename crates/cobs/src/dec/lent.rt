@@ -87,7 +87,8 @@ impl<'a> CobsDecoder<'a> {
     /// The whole slice, to be written to.
     ///
     /// What is written inside a piece changes no answer that this piece gets: only the bytes of its message are
-    /// then not known.
+    /// then not known. A proof about its caller learns what stands in the slice while it is lent, and not what the
+    /// decoder is behind the write: [`write_dest`](crate::WriteBuffer::write_dest) tells that too.
     pub fn dest_mut(&mut self) -> &mut [u8]
         ensures* writes_back { sem 𝓛 (LendsSlice self.entry result) }
         ensures value { result.now ≡ lent_buffer self.old }
@@ -119,13 +120,18 @@ impl FrameDecoder for CobsDecoder<'_> {
 }
 
 impl WriteBuffer for CobsDecoder<'_> {
-    ghost use Rattle.cobs.specs.Buffers.{lent_buffer, with_lent_buffer};
-
-    ghost bytes = { lent_buffer };
+    ghost use Rattle.cobs.specs.Buffers.{with_lent_buffer};
+    ghost use Rattle.std.proofs.Common.{refl};
 
     ghost with_bytes = { with_lent_buffer };
 
     fn dest_mut(&mut self) -> &mut [u8] {
         self.dest
     }
+
+    ghost bytes_are_written = { λ _ _ _. refl };
+
+    ghost phase_stays = { λ _ _. refl };
+
+    ghost loan_stays = { λ _ _. refl };
 }

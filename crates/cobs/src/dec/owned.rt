@@ -123,13 +123,18 @@ impl FrameDecoder for CobsDecoderOwned {
 }
 
 impl WriteBuffer for CobsDecoderOwned {
-    ghost use Rattle.cobs.specs.Buffers.{owned_buffer, with_owned_buffer};
-
-    ghost bytes = { owned_buffer };
+    ghost use Rattle.cobs.specs.Buffers.{with_owned_buffer};
+    ghost use Rattle.std.proofs.Common.{refl, sym, take_at, drop, length, ◌∙◌};
 
     ghost with_bytes = { with_owned_buffer };
 
     fn dest_mut(&mut self) -> &mut [u8] {
         CobsDecoderOwned::dest_mut(self)
     }
+
+    ghost bytes_are_written = { λ decoder written same. take_at written (drop (length written) decoder.dest.items) decoder.dest.len (same ∙ sym decoder.dest.ok.0) };
+
+    ghost phase_stays = { λ _ _. refl };
+
+    ghost loan_stays = { λ _ _. refl };
 }

@@ -1,23 +1,51 @@
-//! Writing to a decoder's buffer, so that generic callers know what the decoder then is.
-ghost use Rattle.std.specs.Prelude.{◌≡◌, ℕ, List};
+//! Writing to a decoder's buffer, so that callers know what the decoder then is.
+ghost use Rattle.std.specs.Prelude.{◌≡◌, ◌+◌, ◌≤◌, ℕ, List, length};
 ghost use Rattle.std.specs.Borrow.{sem};
+ghost use Rattle.cobs.specs.Buffer.{written_at};
 ghost use Rattle.cobs.specs.Buffers.{LendsBytes};
+
+use crate::dec::frame_decoder::FrameDecoder;
 
 /// A decoder that lends its buffer to be written to.
 ///
-/// Each streaming decoder has a method `dest_mut` of its own. This trait has the same one for code that is generic
-/// over the decoder. There a contract can say what a write leaves: the decoder with other bytes in its buffer, and
-/// otherwise as it was. (Of a `CobsDecoder` a caller's proof learns that through this trait alone, since its slice is
-/// itself a loan.)
-pub trait WriteBuffer {
-    /// The bytes of the buffer.
-    ghost bytes: { Self → List ℕ };
-
-    /// The same with other bytes in it.
+/// Writing changes the buffer's bytes to those that were written, and neither where the decoder stands nor which slice
+/// its buffer is. So a decoder that has taken the front of a piece (`PhaseAfter`) still has: each answer that this piece
+/// gets is the same, and only the bytes of its message are then not known.
+///
+/// Each streaming decoder has a method `dest_mut` of its own too. Of a `CobsDecoder`, whose slice is itself a loan, a
+/// caller's proof learns through that method only what stands in the slice while it is lent. Such a caller writes by
+/// [`write_dest`](WriteBuffer::write_dest), or in code that is generic over this trait.
+pub trait WriteBuffer: FrameDecoder {
+    /// The decoder with other bytes in its buffer.
     ghost with_bytes: { Self → List ℕ → Self };
 
     /// The whole buffer, to be written to: the decoder ends with the bytes that are left there.
     fn dest_mut(&mut self) -> &mut [u8]
         ensures* writes_back { sem 𝓛 (LendsBytes Self.row self.entry result with_bytes) }
-        ensures value { result.now ≡ bytes self.old };
+        ensures value { result.now ≡ Self.bytes self.old };
+
+    /// Writes these bytes over those of the buffer, from index `at` on.
+    ///
+    /// The caller owes that they fit: that `at` plus their number is at most the buffer's length.
+    fn write_dest(&mut self, at: usize, source: &[u8])
+        requires { at + length source.now ≤ length (Self.bytes self.old) }
+        ensures buffer { Self.bytes self.new ≡ written_at (Self.bytes self.old) at source.now }
+        ensures same_phase { Self.phase self.new ≡ Self.phase self.old }
+        ensures same_loan { Self.loan self.new ≡ Self.loan self.old }
+    {
+        let dest = self.dest_mut();
+        dest[at..at + source.len()].copy_from_slice(source);
+    }
+
+    /// The bytes are then those that were written.
+    ghost bytes_are_written: { (decoder : Self) (written : List ℕ) → length written ≡ length (Self.bytes decoder)
+        → Self.bytes (with_bytes decoder written) ≡ written };
+
+    /// The decoder stands where it stood.
+    ghost phase_stays: { (decoder : Self) (written : List ℕ)
+        → Self.phase (with_bytes decoder written) ≡ Self.phase decoder };
+
+    /// The buffer is the slice that it was.
+    ghost loan_stays: { (decoder : Self) (written : List ℕ)
+        → Self.loan (with_bytes decoder written) ≡ Self.loan decoder };
 }

@@ -67,12 +67,14 @@ fn send_and_receive<D: FrameDecoder>(
 fn frames_of_messages(rt: HostRuntime) -> Result<(), Fail> {
     let alloc = rt.alloc();
     let none = encode_frames(alloc, &[])?;
+    assert_eq!(rt; encode_frames_room(&[]), Some(0));
     assert!(rt; none.is_empty());
     let messages = [
         Vec::new(alloc),
         [0u8].to_vec(alloc)?,
         [1u8, 2].to_vec(alloc)?,
     ];
+    assert_eq!(rt; encode_frames_room(&messages), Some(9));
     let frames = encode_frames(alloc, &messages)?;
     assert_eq!(rt; frames.as_slice(), [1, 0, 1, 1, 0, 3, 1, 2, 0].as_slice());
     let mut buffer = [0u8; 2];
