@@ -3,7 +3,7 @@ use Rattle.std.proofs.Common.{◌≡◌, ◌≢◌, ℕ, zero, suc, ◌-◌, ◌
 use Rattle.std.specs.List.{concat}
 use Rattle.std.proofs.lemmas.Bool.{cases_lt, eq-eqb, eqb-true, true≢false}
 use Rattle.std.proofs.lemmas.List.Elements.{All-head, All-tail, All-cons, All-nil, All-append, All-take}
-use Rattle.cobs.specs.Grammar.{HasNoZero, IsBlock, message_of, last_of, IsFrameOf, Reads}
+use Rattle.cobs.specs.Grammar.{HasNoZero, IsBlock, bytes_of, joint, message_of, last_of, IsFrameOf, Reads}
 use Rattle.cobs.specs.Piece.{parts_behind, parts, last_part, lacks, is_whole, IsWhole, output}
 
 -- THE PARTS OF A LIST
@@ -168,3 +168,30 @@ reads_output f some nonzero below whole = record {
   frame = record { some = parts-some f some; each = blocks_of_whole f nonzero below whole; whole = sym (concat-parts f) };
   message = refl;
 }
+
+-- A FRAME OF BYTES
+
+-- two lists end to end, each by itself
+All-apart : (P : ℕ → Type 0) (xs ys : List ℕ) → All P (xs ++ ys) → All P xs × All P ys
+All-apart P [] ys h = (All-nil P, h)
+All-apart P (x ∷ xs) ys h =
+    let more = All-apart P xs ys (All-tail P x (xs ++ ys) h) in
+    (All-cons P x xs (All-head P x (xs ++ ys) h) more.0, more.1)
+
+block_bytes : (block : List ℕ) → IsBlock block → All (λ b. b < 256) (bytes_of block) → All (λ b. b < 256) block
+block_bytes [] h below = absurd h
+block_bytes (c ∷ bytes) h below = All-cons (λ b. b < 256) c bytes h.1 below
+
+blocks_bytes : (blocks : List (List ℕ)) → All IsBlock blocks → All (λ b. b < 256) (message_of blocks) → All (λ b. b < 256) (concat blocks)
+blocks_bytes [] h below = All-nil (λ b. b < 256)
+blocks_bytes (block ∷ []) h below = All-append (λ b. b < 256) block [] (block_bytes block (All-head IsBlock block [] h) below) (All-nil (λ b. b < 256))
+blocks_bytes (block ∷ next ∷ blocks) h below =
+    let apart = All-apart (λ b. b < 256) (bytes_of block ++ joint block) (message_of (next ∷ blocks)) below in
+    All-append (λ b. b < 256) block (concat (next ∷ blocks))
+    (block_bytes block (All-head IsBlock block (next ∷ blocks) h) (All-apart (λ b. b < 256) (bytes_of block) (joint block) apart.0).0)
+    (blocks_bytes (next ∷ blocks) (All-tail IsBlock block (next ∷ blocks) h) apart.1)
+
+pub frame_bytes : (f m : List ℕ) → Reads f m → All (λ b. b < 256) m → All (λ b. b < 256) f
+frame_bytes f m r below =
+    subst (λ (x : List ℕ). All (λ b. b < 256) x) (sym r.frame.whole)
+    (blocks_bytes r.blocks r.frame.each (subst (λ (x : List ℕ). All (λ b. b < 256) x) r.message below))

@@ -89,12 +89,12 @@ encoded_len-nonzero m h =
     let blocks : full_blocks (runs m) ≡ (length m - 1) / 254 = ap full_blocks one in
     omega arith
 
-pub encoded_len-reached : (n : ℕ) → (m : List ℕ) × (length m ≡ n) × (encoded_len m ≡ max_encoded_len n)
+pub encoded_len-reached : (n : ℕ) → (m : List ℕ) × (length m ≡ n) × All (λ byte. byte < 256) m × (encoded_len m ≡ max_encoded_len n)
 encoded_len-reached n =
     let ones : List ℕ = replicate n 1 in
     let l : length ones ≡ n = length-replicate n 1 in
     let h = encoded_len-nonzero ones (All-replicate (λ byte. byte ≢ 0) n 1 (λ e. cc)) in
-    (ones, l, h ∙ ap max_encoded_len l)
+    (ones, l, All-replicate (λ byte. byte < 256) n 1 (omega arith), h ∙ ap max_encoded_len l)
 
 -- the bound, for the tactics of a function
 pub ruleset bounds = encoded_len-le

@@ -30,7 +30,8 @@ phase_at TheIdle = Idle
 phase_at (TheWithin is_full lacking written) = phase_with is_full lacking written
 phase_at TooLong = Over
 
--- where a decoder stands whose buffer is passed to each call, as the three others do by the one in them
+-- where a decoder stands whose buffer is passed to each call, as the three others do by the one in them. It reads the
+-- private fields: contracts name where a decoder stands by this word, and know nothing else of those fields.
 abbrev pub phase_of : UnbufferedDecoder → Phase
 phase_of inner = if inner.over then Over else phase_with (inner.code == 255) inner.left inner.dest_idx
 

@@ -22,11 +22,13 @@ pub fn law_1()
 ///
 /// So what encoders give may be compared byte by byte, be it to find a message in a store or to check a signature, and
 /// two encoders that keep to the definition agree. Its length is that by which `try_encode` and `CobsEncoder` accept
-/// and refuse.
+/// and refuse. Where the message is one of bytes, so is its frame.
 pub fn law_2()
     ensures one { (m : List ℕ) → (f : List ℕ) × IsEncodedFrame f m }
     ensures only { (f g m : List ℕ) → IsEncodedFrame f m → IsEncodedFrame g m → f ≡ g }
     ensures len { (f m : List ℕ) → IsEncodedFrame f m → length f ≡ encoded_len m }
+    ensures bytes { (f m : List ℕ) → IsEncodedFrame f m → All (λ byte. byte < 256) m
+        → All (λ byte. byte < 256) f }
 {}
 
 /// All frames of a message: the encoded one and, only where the message ends in a full run, that one followed by 01.
@@ -46,7 +48,8 @@ pub fn law_4()
     ensures lower { (m : List ℕ) → length m + 1 ≤ encoded_len m }
     ensures upper { (m : List ℕ) → encoded_len m ≤ max_encoded_len (length m) }
     ensures reached { (m : List ℕ) → HasNoZero m → encoded_len m ≡ max_encoded_len (length m) }
-    ensures everywhere { (n : ℕ) → (m : List ℕ) × (length m ≡ n) × (encoded_len m ≡ max_encoded_len n) }
+    ensures everywhere { (n : ℕ) → (m : List ℕ) × (length m ≡ n) × All (λ byte. byte < 256) m
+        × (encoded_len m ≡ max_encoded_len n) }
 {}
 
 /// Messages with equal encoded frames are equal, and a frame has one message at all.

@@ -6,12 +6,13 @@ ghost use Rattle.std.specs.Prelude.{◌≡◌, ◌≢◌, ◌≤◌, ◌<◌, �
 ghost use Rattle.cobs.specs.Buffer.{written_at};
 ghost use Rattle.cobs.specs.Buffers.{lent_buffer, lent_phase, lent_slice, owned_buffer, owned_phase};
 ghost use Rattle.cobs.specs.Decoder.{state_in, Over, PhaseAfter};
-ghost use Rattle.cobs.specs.Grammar.{HasNoZero, Reads};
+ghost use Rattle.cobs.specs.Grammar.{HasNoZero, IsEncodedFrame, Reads};
 ghost use Rattle.cobs.specs.Headline.{IsPiece};
-ghost use Rattle.cobs.specs.Length.{encoded_len};
+ghost use Rattle.cobs.specs.Length.{encoded_len, max_encoded_len};
 ghost use Rattle.cobs.specs.Streaming.{AreFrames, messages_in};
 ghost use Rattle.cobs.specs.Table.{data_of};
 
+use cobs::laws::{law_2, law_4};
 use cobs::{
     CobsDecoder, CobsDecoderOwned, DecodeError, DecodeResult, DecoderState, WriteBuffer, decode,
     encode_frames, encode_frames_room, encode_with_sentinel,
@@ -132,4 +133,13 @@ pub fn write_lent(decoder: &mut CobsDecoder<'_>, at: usize, source: &[u8])
     ensures same_slice { lent_slice decoder.new ≡ lent_slice decoder.old }
 {
     decoder.write_dest(at, source);
+}
+
+/// Does nothing: to each length there is a message of bytes whose frame, of bytes too, is as long as a frame can be.
+pub fn longest_frame(len: usize)
+    ensures { (m : List ℕ) × (f : List ℕ) × (length m ≡ len) × All (λ byte. byte < 256) m × IsEncodedFrame f m
+        × All (λ byte. byte < 256) f × (length f ≡ max_encoded_len len) }
+{
+    law_2();
+    law_4();
 }

@@ -70,6 +70,7 @@ impl<'a> CobsEncoder<'a> {
     /// Ends the message, and answers the length of its encoded frame in bytes. The slice begins with that frame, and
     /// every byte behind it is as it was before [`new`](CobsEncoder::new).
     pub fn finalize(self) -> usize
+        // `self.exit.0.now` is what the slice, the first field, holds at the return.
         ensures len { (m : List ℕ) → HasTaken self.entry m → result ≡ encoded_len m }
         ensures frame { (m : List ℕ) → HasTaken self.entry m → IsEncodedFrame (take result self.exit.0.now) m }
         ensures no_sentinel { (m : List ℕ) → HasTaken self.entry m → HasNoZero (take result self.exit.0.now) }

@@ -1,4 +1,5 @@
 use Rattle.cobs.proofs.UniqueLemmas.{encoded_frame, length-encoded, one_encoded}
+use Rattle.cobs.proofs.FrameLemmas.{frame_bytes}
 use Rattle.cobs.proofs.laws.law_2.Goals as goal
 
 pub returns-clause-one : goal.returns-clause-one
@@ -9,3 +10,6 @@ returns-clause-only c = one_encoded
 
 pub returns-clause-len : goal.returns-clause-len
 returns-clause-len c = length-encoded
+
+pub returns-clause-bytes : goal.returns-clause-bytes
+returns-clause-bytes c = λ f m e below. frame_bytes f m e.reads below

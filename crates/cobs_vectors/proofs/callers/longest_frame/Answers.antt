@@ -1,0 +1,8 @@
+use Rattle.std.proofs.Common.{◌∙◌}
+use Rattle.cobs_vectors.proofs.callers.longest_frame.Goals as goal
+
+pub returns : goal.returns
+returns c =
+    let m = c.law_4.ensures.everywhere c.args.len in
+    let f = c.law_2.ensures.one m.0 in
+    (m.0, f.0, m.1, m.2, f.1, c.law_2.ensures.bytes f.0 m.0 f.1 m.2, c.law_2.ensures.len f.0 m.0 f.1 ∙ m.3)
