@@ -1,0 +1,54 @@
+#!/bin/sh
+# The module and what is made from it:
+#
+#     build.sh                 cobs.wasm, from the proved crate (needs the kit of Rattle; RATTLE is its folder)
+#     build.sh to FILE         the same, written to FILE
+#     build.sh pictures        the pictures of docs/FORMAT.md (Node)
+#     build.sh screenshots     the screenshots in docs/ (Node and Chromium)
+#     build.sh serve [PORT]    the page, at http://localhost:8000/ or another port (Node)
+#
+# Everything is proved before it is built: on a clone with no checks kept, that takes some minutes.
+set -eu
+here=$(cd "$(dirname "$0")" && pwd)
+root=$(cd "$here/../.." && pwd)
+kit=${RATTLE:-/opt/rattle}
+node=${NODE:-node}
+crate=cobs_c
+target=wasm64-unknown-unknown
+stack=131072
+
+need() { # COMMAND PACKAGE
+    command -v "$1" >/dev/null || { echo "build.sh: $1 is not there: install Debian's $2" >&2; exit 2; }
+}
+
+# Node before 24 has 64-bit memory behind a flag.
+node_flags() {
+    if "$node" --experimental-wasm-memory64 -e 0 2>/dev/null; then echo --experimental-wasm-memory64; fi
+}
+
+build() { # FILE
+    [ -x "$kit/bin/rt" ] || { echo "build.sh: $kit/bin/rt is not there: set RATTLE to the kit's folder" >&2; exit 2; }
+    archive=$root/crates/$crate/out/lib$crate.a
+    kept=$(mktemp)
+    log=$(mktemp)
+    had=no
+    if [ -f "$archive" ]; then cp "$archive" "$kept"; had=yes; fi
+    # the archive has one place for every target: what stood there comes back
+    trap 'if [ $had = yes ]; then cp "$kept" "$archive"; else rm -f "$archive"; fi; rm -f "$kept" "$log"' EXIT
+    (cd "$root/crates/$crate" && "$kit/bin/rt" lib --target $target) >"$log" 2>&1 || { cat "$log" >&2; exit 1; }
+    "$kit/bin/rattle-link" --target $target --toolchain "$kit/toolchain" --stack $stack -o "$1" "$archive" 2>"$log" \
+        || { cat "$log" >&2; exit 1; }
+}
+
+case ${1:-} in
+    '') build "$here/cobs.wasm"; ls -l "$here/cobs.wasm" ;;
+    to) build "$2" ;;
+    pictures) need "$node" nodejs; "$node" $(node_flags) "$here/figures.mjs" "$root/docs" ;;
+    screenshots)
+        need "$node" nodejs
+        need "${CHROMIUM:-chromium}" chromium
+        "$node" "$here/test/screenshots.mjs" "$root/docs"
+        ;;
+    serve) need "$node" nodejs; exec "$node" "$here/serve.mjs" "${2:-8000}" ;;
+    *) sed -n '2,10s/^# \{0,1\}//p' "$0" >&2; exit 2 ;;
+esac

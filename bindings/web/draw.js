@@ -1,0 +1,249 @@
+// Pictures of frames, as SVG text. The page and figures.mjs draw by this module alone; it needs no DOM.
+//
+// A picture is a row of cells, one for each byte of the frame. Over each byte stands what it is in the
+// message: a data byte is itself, and a code stands where a zero of the message was, but the first one
+// and the one behind a full block. Under the cells an arc leads from each code to the next.
+
+export const CELL = 32;          // width of a cell, in pixels
+export const ROW_HEIGHT = 100;   // height of a row with its arcs and a margin
+const TOP = 30;                  // where the cells of a row begin
+const HEIGHT = 28;               // height of a cell
+const DEPTH = 17;                // how far an arc hangs below the cells
+
+/** The style of the pictures; `root` is the selector that holds the colours. */
+export function style(root) {
+  return `${root}{--paper:#ffffff;--ink:#1b2330;--quiet:#5b6675;--line:#8d99a8;--data:#eef2f7;--code:#1f5fbf;--on-code:#ffffff;--full:#7a3bc9;--zero:#b04a00;--bad:#b3261e}
+@media (prefers-color-scheme:dark){${root}{--paper:#12161c;--ink:#e6eaf0;--quiet:#a3afbf;--line:#6b7888;--data:#1f2833;--code:#7fb1ff;--on-code:#0d1117;--full:#c7a4ff;--zero:#ffb070;--bad:#ff938a}}
+${root} text{font:14px ui-monospace,"DejaVu Sans Mono",Menlo,Consolas,monospace;fill:var(--ink);text-anchor:middle}
+${root} .paper{fill:var(--paper)}
+${root} .data{fill:var(--data)}
+${root} .code{fill:var(--code)}${root} .code.full{fill:var(--full)}${root} .code.bad{fill:var(--bad)}
+${root} text.on{fill:var(--on-code);font-weight:700}
+${root} text.over{fill:var(--quiet);font-size:13px}
+${root} text.zero{fill:var(--zero);font-weight:700}
+${root} text.note,${root} text.at{fill:var(--quiet);font-size:11px}
+${root} text.label{font:13px system-ui,"DejaVu Sans",sans-serif;text-anchor:end;fill:var(--quiet)}
+${root} text.title{font:13px system-ui,"DejaVu Sans",sans-serif;text-anchor:start;fill:var(--ink)}
+${root} .edge{fill:none;stroke:var(--line)}${root} .edge.full{stroke:var(--full);stroke-width:2}
+${root} .edge.bad{stroke:var(--bad);stroke-dasharray:4 3;stroke-width:1.5}
+${root} .ring{fill:none;stroke:var(--zero)}${root} .stem{stroke:var(--zero)}
+${root} .arc{fill:none;stroke:var(--code);stroke-width:1.5}${root} .arc.full{stroke:var(--full);stroke-width:2}
+${root} .arc.bad{stroke:var(--bad);stroke-dasharray:4 3}
+${root} .tip{fill:var(--code)}${root} .tip.full{fill:var(--full)}
+${root} .end{fill:none;stroke:var(--line);stroke-dasharray:2 3}`;
+}
+
+/** A byte as two hexadecimal digits. */
+export const hex = (byte) => byte.toString(16).padStart(2, "0");
+
+/** Where the codes of a piece stand: the first byte, and each byte right behind a part. */
+export function codePlaces(piece, sentinel = 0) {
+  const places = new Uint32Array(piece.length);
+  let count = 0;
+  for (let at = 0; at < piece.length; at += (piece[at] ^ sentinel) || 1) places[count++] = at;
+  return places.slice(0, count);
+}
+
+/** The number of the last place at or before `at`. `places` rises and begins with 0. */
+export function partOf(places, at) {
+  let low = 0;
+  let high = places.length;
+  while (high - low > 1) {
+    const middle = (low + high) >> 1;
+    if (places[middle] <= at) low = middle;
+    else high = middle;
+  }
+  return low;
+}
+
+/** A printable ASCII byte as its sign, any other as digits. */
+const sign = (byte) => (byte > 32 && byte < 127 ? String.fromCharCode(byte) : hex(byte));
+
+const escaped = (text) => text.replace(/[&<>"]/g, (c) => ({ "&": "&amp;", "<": "&lt;", ">": "&gt;", '"': "&quot;" })[c]);
+
+/** One part of a piece, as the drawing sees it. */
+function partAt(piece, places, number, sentinel) {
+  const at = places[number];
+  const code = piece[at] ^ sentinel;
+  return { at, code, end: at + code, full: code === 255, bad: at + code > piece.length };
+}
+
+/** What stands over a code: the zero of the message, nothing at the front, and a note behind a full block. */
+function overCode(piece, places, number, sentinel) {
+  if (number === 0) return { text: "", kind: "over" };
+  const before = partAt(piece, places, number - 1, sentinel);
+  return before.full ? { text: "no 0", kind: "note" } : { text: "0", kind: "zero" };
+}
+
+/**
+ * The cells and arcs of the bytes `from` up to `to` of a piece.
+ * `options.show` makes the text of a frame's byte, `options.showOver` that of a message's.
+ */
+export function cellsOf(piece, places, from, to, options = {}) {
+  const { sentinel = 0, show = hex, showOver = sign } = options;
+  const cells = [];
+  const arcs = [];
+  let number = partOf(places, from);
+  for (let at = from; at < to; at++) {
+    if (number + 1 < places.length && places[number + 1] === at) number++;
+    const part = partAt(piece, places, number, sentinel);
+    const isCode = part.at === at;
+    cells.push({
+      text: show(piece[at]),
+      isCode,
+      full: part.full,
+      bad: part.bad,
+      first: isCode,
+      last: at + 1 === Math.min(part.end, piece.length),
+      over: isCode ? overCode(piece, places, number, sentinel) : { text: showOver(piece[at]), kind: "over" },
+    });
+    if (isCode || at === from) {
+      const inside = part.end < to || (part.end === to && part.end === piece.length);
+      arcs.push({
+        from: isCode ? at - from : null,
+        to: inside ? part.end - from : part.bad && piece.length <= to ? piece.length - from : null,
+        full: part.full,
+        bad: part.bad,
+        note: part.full ? "full: 255" : `${part.code}`,
+      });
+    }
+  }
+  return { cells, arcs };
+}
+
+/** A side of a block's outline that goes on in another row is left open. */
+function outline(x, width, cells, kind) {
+  const [l, r, t, b, c] = [x + 1.5, x + width - 1.5, TOP - 1.5, TOP + HEIGHT + 1.5, 5];
+  const openLeft = !cells[0].first;
+  const openRight = !cells[cells.length - 1].last;
+  const path = openLeft
+    ? `M${x} ${t}H${openRight ? x + width : `${r - c}q${c} 0 ${c} ${c}V${b - c}q0 ${c} ${-c} ${c}`}${openRight ? `M${x + width} ${b}` : ""}H${x}`
+    : openRight
+      ? `M${x + width} ${t}H${l + c}q${-c} 0 ${-c} ${c}V${b - c}q0 ${c} ${c} ${c}H${x + width}`
+      : `M${l + c} ${t}H${r - c}q${c} 0 ${c} ${c}V${b - c}q0 ${c} ${-c} ${c}H${l + c}q${-c} 0 ${-c} ${-c}V${t + c}q0 ${-c} ${c} ${-c}z`;
+  return `<path class="edge${kind}" d="${path}"/>`;
+}
+
+/** An arc from the middle of a code's cell to that of the next code's, or to the edge of the row. */
+function arcPath(arc, x, right) {
+  const top = TOP + HEIGHT + 3;
+  const kind = (arc.full ? " full" : "") + (arc.bad ? " bad" : "");
+  const start = arc.from === null ? x : x + (arc.from + 0.5) * CELL + 3;
+  const end = arc.to === null ? right : x + (arc.to + 0.5) * CELL - 3;
+  const low = top + DEPTH;
+  const r = Math.min(12, (end - start) / 2);
+  const open = arc.from === null ? `M${start} ${low}` : `M${start} ${top}Q${start} ${low} ${start + r} ${low}`;
+  const close = arc.to === null ? `H${end}` : `H${end - r}Q${end} ${low} ${end} ${top + 3}`;
+  const tip = arc.to === null || arc.bad ? "" : `<path class="tip${kind}" d="M${end} ${top - 1}l-3.5 7h7z"/>`;
+  const room = end - start > arc.note.length * 7 + 16;
+  const note = room && arc.from !== null ? `<text class="note" x="${(start + end) / 2}" y="${low + 12}">${escaped(arc.note)}</text>` : "";
+  return `<path class="arc${kind}" d="${open}${close}"/>${tip}${note}`;
+}
+
+function overText(over, x) {
+  if (over.text === "") return "";
+  if (over.kind !== "zero") return `<text class="${over.kind}" x="${x}" y="${TOP - 11}">${escaped(over.text)}</text>`;
+  return `<circle class="ring" cx="${x}" cy="${TOP - 16}" r="9"/><path class="stem" d="M${x} ${TOP - 7}v5"/><text class="zero" x="${x}" y="${TOP - 11}">${escaped(over.text)}</text>`;
+}
+
+/** A row of cells with its arcs, its first cell at `x`. A cell `{gap}` stands for bytes that are left out. */
+export function row(cells, arcs, x = 0) {
+  const out = [];
+  const right = x + cells.length * CELL;
+  for (let i = 0; i < cells.length; ) {
+    let j = i + 1;
+    while (j < cells.length && !cells[j].first) j++;
+    const kind = cells[i].ending ? null : (cells[i].full ? " full" : "") + (cells[i].bad ? " bad" : "");
+    if (kind !== null) {
+      for (let k = i; k < j; k++) out.push(box(cells[k], x + k * CELL));
+      out.push(outline(x + i * CELL, (j - i) * CELL, cells.slice(i, j), kind));
+    } else {
+      out.push(`<rect class="end" x="${x + i * CELL + 2}" y="${TOP}" width="${CELL - 4}" height="${HEIGHT}" rx="4"/>`);
+    }
+    for (let k = i; k < j; k++) out.push(cellText(cells[k], x + (k + 0.5) * CELL));
+    i = j;
+  }
+  for (const arc of arcs) out.push(arcPath(arc, x, right));
+  return out.join("");
+}
+
+function box(cell, x) {
+  if (cell.gap) return `<rect class="data" x="${x}" y="${TOP}" width="${CELL}" height="${HEIGHT}"/>`;
+  const kind = cell.isCode ? `code${cell.full ? " full" : ""}${cell.bad ? " bad" : ""}` : "data";
+  const left = cell.first ? 3 : 0;
+  const right = cell.last ? 3 : 0;
+  return `<rect class="${kind}" x="${x + left}" y="${TOP}" width="${CELL - left - right}" height="${HEIGHT}"${cell.isCode ? ' rx="3"' : ""}/>`;
+}
+
+function cellText(cell, x) {
+  const text = `<text${cell.isCode ? ' class="on"' : cell.ending ? ' class="over"' : ""} x="${cell.isCode ? x + 1.5 : x}" y="${TOP + 19}">${escaped(cell.text)}</text>`;
+  return text + overText(cell.over, x);
+}
+
+/** A row of a long piece, as a whole SVG with the place of its first byte in front, and words for those who don't see it. */
+export function rowPicture(piece, places, from, to, options = {}) {
+  const margin = options.margin ?? 58;
+  const { cells, arcs } = cellsOf(piece, places, from, to, options);
+  const label = words(cells, from);
+  // the last arc leads to the place behind the frame, where the sentinel will stand
+  if (to === piece.length) cells.push(sentinelCell((options.show ?? hex)(options.sentinel ?? 0)));
+  const width = margin + cells.length * CELL;
+  return `<svg width="${width}" height="${ROW_HEIGHT - 4}" viewBox="0 0 ${width} ${ROW_HEIGHT - 4}" role="img" aria-label="${escaped(label)}">`
+    + `<text class="at" x="${margin / 2}" y="${TOP + 19}">${from}</text>${row(cells, arcs, margin)}</svg>`;
+}
+
+/** The place of the sentinel behind a frame. */
+const sentinelCell = (text) => ({ text, first: true, last: true, ending: true, over: { text: "", kind: "over" } });
+
+/** A row in words. */
+function words(cells, from) {
+  const said = cells.map((cell) => {
+    if (!cell.isCode) return cell.text;
+    const joint = cell.over.kind === "zero" ? ", a zero of the message" : cell.over.kind === "note" ? ", no zero" : "";
+    return `${cell.full ? "full block, code" : "code"} ${cell.text}${joint};`;
+  });
+  return `Bytes ${from} to ${from + cells.length - 1}: ${said.join(" ")}`;
+}
+
+/** `cells` and `arcs` without the cells `cut.from` up to `cut.to`, which one cell with their number stands for. */
+function elide({ cells, arcs }, cut) {
+  if (!cut) return { cells, arcs };
+  const shift = cut.to - cut.from - 1;
+  const moved = (at) => (at === null || at <= cut.from ? at : at - shift);
+  const gap = { ...cells[cut.from], gap: true, text: "…", over: { text: "…", kind: "over" } };
+  return {
+    cells: [...cells.slice(0, cut.from), gap, ...cells.slice(cut.to)],
+    arcs: arcs.map((arc) => ({ ...arc, from: moved(arc.from), to: moved(arc.to) })),
+  };
+}
+
+/**
+ * A picture for a document: one line for each of `lines`, `{label, pieces, cut, note}`, where `pieces` are what
+ * stands between sentinels. `cut` leaves out the bytes from `cut.from` up to `cut.to` of the first piece.
+ */
+export function figure({ title, lines, show = String }) {
+  const margin = 118;
+  const drawn = lines.map((line) => {
+    const cells = [];
+    const arcs = [];
+    for (const piece of line.pieces) {
+      const part = elide(cellsOf(piece, codePlaces(piece), 0, piece.length, { show, showOver: show }), piece === line.pieces[0] ? line.cut : undefined);
+      for (const arc of part.arcs) arcs.push({ ...arc, from: arc.from + cells.length, to: arc.to + cells.length });
+      cells.push(...part.cells, sentinelCell(show(0)));
+    }
+    return { ...line, cells, arcs };
+  });
+  const columns = Math.max(...drawn.map((line) => line.cells.length));
+  const lineHeight = ROW_HEIGHT + 22;
+  const width = Math.max(margin + columns * CELL + 16, 720);
+  const height = 34 + drawn.length * lineHeight;
+  const body = drawn.map((line, i) => {
+    const y = 34 + i * lineHeight;
+    return `<g transform="translate(0 ${y})"><text class="label" x="${margin - 12}" y="${TOP - 11}">message</text>`
+      + `<text class="label" x="${margin - 12}" y="${TOP + 19}">${escaped(line.label)}</text>${row(line.cells, line.arcs, margin)}`
+      + `<text class="title" x="${margin}" y="${ROW_HEIGHT + 4}">${escaped(line.note ?? "")}</text></g>`;
+  });
+  return `<svg xmlns="http://www.w3.org/2000/svg" class="jcobs" width="${width}" height="${height}" viewBox="0 0 ${width} ${height}" role="img" aria-label="${escaped(title)}">`
+    + `<title>${escaped(title)}</title><style>${style(".jcobs")}</style><rect class="paper" width="${width}" height="${height}"/>`
+    + `<text class="title" x="16" y="22" style="font-weight:600">${escaped(title)}</text>${body.join("")}</svg>\n`;
+}

@@ -1,0 +1,77 @@
+// A field for text that may be very long. What is pasted into it past LIMIT signs is held beside it, since a
+// browser lays out a whole field at once; the field shows how much is held, and nothing of it is lost.
+
+const LIMIT = 20_000;
+
+export class Field {
+  #area;
+  #held = null;
+  #note;
+  #noteText;
+  #changed;
+
+  constructor(area, changed) {
+    this.#area = area;
+    this.#changed = changed;
+    this.#note = document.createElement("div");
+    this.#note.className = "held";
+    this.#note.hidden = true;
+    this.#noteText = document.createElement("span");
+    this.#note.append(this.#noteText, this.#button("Clear", () => (this.text = "")), this.#button("Edit in the field", () => this.#release()));
+    area.after(this.#note);
+    area.addEventListener("input", () => changed());
+    area.addEventListener("paste", (event) => this.#paste(event));
+  }
+
+  /** All of the text. */
+  get text() {
+    return this.#held ?? this.#area.value;
+  }
+
+  set text(text) {
+    this.#hold(text.length > LIMIT ? text : null);
+    this.#area.value = this.#held === null ? text : "";
+    this.#changed();
+  }
+
+  #paste(event) {
+    const pasted = event.clipboardData?.getData("text/plain") ?? "";
+    if (pasted.length <= LIMIT) return;
+    event.preventDefault();
+    const { value, selectionStart, selectionEnd } = this.#area;
+    this.text = value.slice(0, selectionStart) + pasted + value.slice(selectionEnd);
+    this.#note.querySelector("button").focus();
+  }
+
+  #button(text, act) {
+    const button = document.createElement("button");
+    button.type = "button";
+    button.textContent = text;
+    button.addEventListener("click", () => {
+      act();
+      this.#area.focus();
+    });
+    return button;
+  }
+
+  #release() {
+    const text = this.#held;
+    this.#hold(null);
+    this.#area.value = text;
+  }
+
+  #hold(text) {
+    this.#held = text;
+    this.#area.hidden = text !== null;
+    this.#note.hidden = text === null;
+    if (text !== null) this.#noteText.textContent = `${text.length.toLocaleString("en")} characters, which begin “${text.slice(0, 40)}…”`;
+  }
+
+  /** Says what is wrong with the text, or with null that nothing is. */
+  complain(error, place) {
+    place.textContent = error ?? "";
+    place.hidden = error === null;
+    if (error === null) this.#area.removeAttribute("aria-invalid");
+    else this.#area.setAttribute("aria-invalid", "true");
+  }
+}

@@ -1,0 +1,34 @@
+// A port without a device: what is written to it can be read from it, in pieces of a few bytes as from a line.
+
+const PIECE = 5;
+const EVERY = 3;
+
+/** Has what a Web Serial port has: `open`, `close`, `readable`, `writable`. Where `isNoisy()`, it damages every third frame. */
+export class LoopPort {
+  readable = null;
+  writable = null;
+  #isNoisy;
+
+  constructor(isNoisy) {
+    this.#isNoisy = isNoisy;
+  }
+
+  async open() {
+    let frames = 0;
+    const line = new TransformStream({
+      transform: (frame, controller) => {
+        const bytes = frame.slice();
+        frames++;
+        if (this.#isNoisy() && frames % EVERY === 0) bytes[0] ^= 0x80; // the first code, so that it leads astray
+        for (let at = 0; at < bytes.length; at += PIECE) controller.enqueue(bytes.subarray(at, at + PIECE));
+      },
+    });
+    this.readable = line.readable;
+    this.writable = line.writable;
+  }
+
+  async close() {
+    this.readable = null;
+    this.writable = null;
+  }
+}

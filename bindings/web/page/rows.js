@@ -1,0 +1,111 @@
+// A list of rows of one height, of which only those in sight are in the document.
+
+const LONGEST = 8_000_000; // browsers draw no element much higher than this, so a longer list scrolls faster
+const MARGIN = 3;          // rows kept above and below those in sight
+
+export class Rows {
+  #box;
+  #spacer;
+  #shown = new Map();
+  #count = 0;
+  #height;
+  #fill;
+  #isAsked = false;
+
+  /** `fill(element, index)` writes row `index` into an element. */
+  constructor(box, { height, fill }) {
+    this.#box = box;
+    this.#height = height;
+    this.#fill = fill;
+    this.#spacer = document.createElement("div");
+    this.#spacer.className = "spacer";
+    this.#spacer.setAttribute("role", "presentation");
+    box.append(this.#spacer);
+    box.addEventListener("scroll", () => this.#ask(), { passive: true });
+    new ResizeObserver(() => this.#ask()).observe(box);
+  }
+
+  get count() {
+    return this.#count;
+  }
+
+  /** So many rows from now on, each drawn anew. */
+  reset(count) {
+    this.#count = count;
+    this.#spacer.style.height = `${Math.min(count * this.#height, LONGEST)}px`;
+    for (const element of this.#shown.values()) element.remove();
+    this.#shown.clear();
+    this.#draw();
+  }
+
+  /** The same rows, filled anew where they are in sight. */
+  refresh() {
+    for (const [index, element] of this.#shown) this.#fill(element, index);
+  }
+
+  /** Scrolls as little as brings a row into sight. */
+  reveal(index) {
+    const top = index * this.#height;
+    const seen = this.#box.clientHeight;
+    const offset = this.#offset();
+    if (top < offset) this.#scrollTo(top);
+    else if (top + this.#height > offset + seen) this.#scrollTo(top + this.#height - seen);
+    this.#draw();
+  }
+
+  /** How many rows are in sight at a time. */
+  get page() {
+    return Math.max(1, Math.floor(this.#box.clientHeight / this.#height));
+  }
+
+  #total() {
+    return this.#count * this.#height;
+  }
+
+  /** How far the list is scrolled, in pixels of the whole list. */
+  #offset() {
+    const seen = this.#box.clientHeight;
+    const most = Math.min(this.#total(), LONGEST) - seen;
+    return this.#total() <= LONGEST || most <= 0 ? this.#box.scrollTop : (this.#box.scrollTop / most) * (this.#total() - seen);
+  }
+
+  #scrollTo(offset) {
+    const seen = this.#box.clientHeight;
+    const most = LONGEST - seen;
+    this.#box.scrollTop = this.#total() <= LONGEST ? offset : (offset / (this.#total() - seen)) * most;
+  }
+
+  #ask() {
+    if (this.#isAsked) return;
+    this.#isAsked = true;
+    requestAnimationFrame(() => {
+      this.#isAsked = false;
+      this.#draw();
+    });
+  }
+
+  #draw() {
+    const offset = this.#offset();
+    const first = Math.max(0, Math.floor(offset / this.#height) - MARGIN);
+    const last = Math.min(this.#count, Math.ceil((offset + this.#box.clientHeight) / this.#height) + MARGIN);
+    const slip = this.#box.scrollTop - offset;
+    for (const [index, element] of this.#shown) {
+      if (index >= first && index < last) continue;
+      element.remove();
+      this.#shown.delete(index);
+    }
+    let before = null;
+    for (let index = last - 1; index >= first; index--) {
+      let element = this.#shown.get(index);
+      if (!element) {
+        element = document.createElement("div");
+        element.className = "row";
+        this.#fill(element, index);
+        this.#shown.set(index, element);
+        this.#spacer.insertBefore(element, before);
+      }
+      element.style.transform = `translateY(${index * this.#height + slip}px)`;
+      before = element;
+    }
+  }
+}

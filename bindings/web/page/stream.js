@@ -1,0 +1,355 @@
+// The view of a stream: its pieces, what each comes to, and what damage does to them.
+import { CobsError, FrameDecoder, decode, encode } from "../jcobs.js";
+import { codePlaces, partOf } from "../draw.js";
+import { Field } from "./field.js";
+import { parseHex, printHex, printText } from "./hex.js";
+import { byId, complain, count, counted, once, readRoom, readSentinel, settled } from "./inputs.js";
+import { Rows } from "./rows.js";
+
+const ROW_HEIGHT = 36;
+const BYTE_WIDTH = 32;
+const SHOWN_BYTES = 24;
+const FILE_LIMIT = 16 << 20;
+const WIDTHS = [32, 28, 24, 20, 16, 12, 8, 6, 4];
+
+const MESSAGE = 0;
+const BROKEN = 1;
+const TOO_LONG = 2;
+const UNFINISHED = 3;
+const BADGES = ["message", "broken", "too long", "unfinished"];
+
+/** What a stream comes to: for each piece where it begins, its first byte that is no sentinel, its end, and its outcome. */
+class Pieces {
+  constructor(stream, { maxLength, sentinel }) {
+    this.stream = stream;
+    this.maxLength = maxLength;
+    this.sentinel = sentinel;
+    this.count = 0;
+    this.ends = new Uint32Array(16);
+    this.fronts = new Uint32Array(16);
+    this.kinds = new Uint8Array(16);
+    this.lengths = new Uint32Array(16);
+    const decoder = new FrameDecoder({ maxLength, sentinel });
+    decoder.push(stream, (outcome, end) => this.#add(outcome, end));
+    this.ended = this.count;
+    if (this.count === 0 ? stream.length > 0 : this.ends[this.count - 1] < stream.length) this.#add({ unfinished: true }, stream.length);
+    decoder.close();
+  }
+
+  #add(outcome, end) {
+    if (this.count === this.ends.length) this.#grow();
+    const at = this.count++;
+    this.ends[at] = end;
+    let front = this.start(at);
+    while (front < end && this.stream[front] === this.sentinel) front++;
+    this.fronts[at] = front;
+    this.kinds[at] = outcome.message ? MESSAGE : outcome.broken !== undefined ? BROKEN : outcome.tooLong ? TOO_LONG : UNFINISHED;
+    this.lengths[at] = outcome.message?.length ?? outcome.broken ?? 0;
+  }
+
+  #grow() {
+    for (const name of ["ends", "fronts", "kinds", "lengths"]) {
+      const longer = new this[name].constructor(2 * this.count);
+      longer.set(this[name]);
+      this[name] = longer;
+    }
+  }
+
+  start(at) {
+    return at === 0 ? 0 : this.ends[at - 1];
+  }
+
+  /** The bytes of a piece without the sentinels around it. */
+  piece(at) {
+    const end = this.kinds[at] === UNFINISHED ? this.ends[at] : this.ends[at] - 1;
+    return this.stream.subarray(this.fronts[at], Math.max(end, this.fronts[at]));
+  }
+
+  countOf(kind) {
+    let found = 0;
+    for (let at = 0; at < this.count; at++) if (this.kinds[at] === kind) found++;
+    return found;
+  }
+
+  /** How many ended pieces of this stream stand as they are in `other` too, with none of their bytes damaged. */
+  keptIn(other, damaged) {
+    let kept = 0;
+    let hurt = 0;
+    for (let at = 0, there = 0; at < this.ended; at++) {
+      while (there < other.ended && other.ends[there] < this.ends[at]) there++;
+      if (there === other.ended) break;
+      while (hurt < damaged.length && damaged[hurt] < this.fronts[at]) hurt++;
+      const isHurt = hurt < damaged.length && damaged[hurt] < this.ends[at];
+      if (!isHurt && other.ends[there] === this.ends[at] && other.fronts[there] === this.fronts[at]) kept++;
+    }
+    return kept;
+  }
+}
+
+let original = new Uint8Array();
+let stream = new Uint8Array();
+let damage = new Map();
+let before;
+let pieces;
+let rowStarts = new Float64Array(1);
+let columns = 8;
+let active = 0;
+let field;
+let rows;
+let fromFile = null;
+
+function readStream() {
+  if (fromFile) return fromFile;
+  const { bytes, error } = parseHex(field.text);
+  field.complain(error ? `${error} The pieces below are of the last good input.` : null, byId("stream-error"));
+  return bytes ?? null;
+}
+
+function update() {
+  const bytes = readStream();
+  const maxLength = readRoom(byId("stream-room"), byId("stream-room-error"));
+  const sentinel = readSentinel(byId("stream-sentinel"), byId("stream-sentinel-error"));
+  if (bytes === null || maxLength === null || sentinel === null) return;
+  const isSame = bytes.length === original.length && bytes.every((byte, at) => byte === original[at]);
+  if (!isSame) {
+    damage = new Map();
+    active = 0;
+    original = bytes;
+  }
+  before = new Pieces(original, { maxLength, sentinel });
+  applyDamage();
+}
+
+function applyDamage() {
+  stream = original;
+  if (damage.size > 0) {
+    stream = original.slice();
+    for (const [at, byte] of damage) stream[at] = byte;
+  }
+  pieces = damage.size > 0 ? new Pieces(stream, before) : before;
+  byId("stream-mend").disabled = damage.size === 0;
+  draw();
+  say();
+}
+
+const say = settled(() => {
+  const parts = [MESSAGE, BROKEN, TOO_LONG].map((kind) => [pieces.countOf(kind), BADGES[kind]]);
+  const said = parts.filter(([number]) => number > 0).map(([number, name]) => (name === "message" ? counted(number, name) : `${count(number)} ${name}`));
+  let text = `${counted(stream.length, "byte")}, ${counted(pieces.ended, "piece")}${said.length > 0 ? `: ${said.join(", ")}` : ""}.`;
+  if (pieces.count > pieces.ended) text += " The last bytes have no sentinel behind them yet.";
+  if (damage.size > 0) {
+    const kept = before.keptIn(pieces, [...damage.keys()].sort((a, b) => a - b));
+    text += ` ${counted(damage.size, "byte")} damaged: ${count(kept)} of the ${counted(before.ended, "piece")} came through as before.`;
+  }
+  byId("stream-status").textContent = text;
+}, 250);
+
+function draw() {
+  if (!pieces) return;
+  const box = byId("stream-pieces");
+  const offset = box.clientWidth < 500 ? 52 : 82;
+  columns = WIDTHS.find((width) => width * BYTE_WIDTH <= box.clientWidth - offset) ?? 4;
+  rowStarts = new Float64Array(pieces.count + 1);
+  for (let at = 0; at < pieces.count; at++) rowStarts[at + 1] = rowStarts[at] + 1 + Math.ceil((pieces.ends[at] - pieces.start(at)) / columns);
+  const lines = rowStarts[pieces.count];
+  box.style.height = `${Math.max(2, Math.min(lines, 16)) * ROW_HEIGHT + 2}px`;
+  rows.reset(lines);
+  mark();
+}
+
+/** The last piece that begins at or before a row or byte, by the rising list of their beginnings. */
+function lastAtOrBefore(startOf, wanted) {
+  let low = 0;
+  let high = pieces.count;
+  while (high - low > 1) {
+    const middle = (low + high) >> 1;
+    if (startOf(middle) <= wanted) low = middle;
+    else high = middle;
+  }
+  return low;
+}
+
+function fillRow(element, index) {
+  const piece = lastAtOrBefore((at) => rowStarts[at], index);
+  if (index === rowStarts[piece]) fillOutcome(element, piece);
+  else fillBytes(element, piece, pieces.start(piece) + (index - rowStarts[piece] - 1) * columns);
+}
+
+/** The front of what a piece decodes to, for the eye. */
+function outputOf(piece) {
+  try {
+    return decode(piece.piece, { sentinel: piece.sentinel });
+  } catch (error) {
+    if (error instanceof CobsError) return new Uint8Array();
+    throw error;
+  }
+}
+
+function fillOutcome(element, at) {
+  const kind = pieces.kinds[at];
+  element.className = "row outcome";
+  element.setAttribute("role", "presentation");
+  const badge = document.createElement("span");
+  badge.className = `badge ${BADGES[kind].replace(" ", "-")}`;
+  badge.textContent = BADGES[kind];
+  const words = document.createElement("span");
+  words.textContent = outcomeWords(at, kind);
+  element.replaceChildren(`${count(at + 1)}`, badge, words);
+  if (kind !== MESSAGE || pieces.lengths[at] === 0) return;
+  const message = outputOf({ piece: pieces.piece(at), sentinel: pieces.sentinel });
+  const front = message.subarray(0, SHOWN_BYTES);
+  const more = message.length > front.length ? " …" : "";
+  const code = document.createElement("code");
+  code.textContent = `${printHex(front)}${more}  “${printText(front)}${more && "…"}”`;
+  element.append(code);
+}
+
+function outcomeWords(at, kind) {
+  if (kind === MESSAGE) return counted(pieces.lengths[at], "byte");
+  if (kind === BROKEN) return `after ${counted(pieces.lengths[at], "byte")} of output`;
+  if (kind === TOO_LONG) return `for a buffer of ${counted(pieces.maxLength, "byte")}`;
+  return "no sentinel yet";
+}
+
+let placesOf = { front: -1, stream: null, places: null };
+
+/** The places of a piece's codes, kept for the next row of the same piece. */
+function codesOf(at) {
+  const front = pieces.fronts[at];
+  if (placesOf.front !== front || placesOf.stream !== stream) placesOf = { front, stream, places: codePlaces(pieces.piece(at), pieces.sentinel) };
+  return placesOf.places;
+}
+
+function fillBytes(element, at, from) {
+  element.className = "row";
+  element.setAttribute("role", "presentation");
+  const to = Math.min(pieces.ends[at], from + columns);
+  const places = codesOf(at);
+  let html = `<span class="offset" aria-hidden="true">${from}</span>`;
+  for (let i = from; i < to; i++) html += byteCell(i, at, places);
+  element.innerHTML = html;
+}
+
+function byteCell(i, at, places) {
+  const byte = stream[i];
+  const inPiece = i - pieces.fronts[at];
+  const isSentinel = byte === pieces.sentinel;
+  const isCode = !isSentinel && inPiece >= 0 && places[partOf(places, inPiece)] === inPiece;
+  const isFull = isCode && (byte ^ pieces.sentinel) === 255;
+  const role = isSentinel ? ", sentinel" : isFull ? ", code of a full block" : isCode ? ", code" : "";
+  const was = damage.has(i) ? `, was ${printHex(original, i, i + 1)}` : "";
+  const names = `byte${isSentinel ? " end" : ""}${isCode ? " code" : ""}${isFull ? " full" : ""}${i === active ? " active" : ""}`;
+  return `<span role="option" id="byte-${i}" data-at="${i}" class="${names}" aria-selected="${damage.has(i)}" aria-posinset="${i + 1}" aria-setsize="${stream.length}"`
+    + ` aria-label="Byte ${i}: ${printHex(stream, i, i + 1)}${role}${was}"${was ? ` title="${was.slice(2)}"` : ""}>${printHex(stream, i, i + 1)}</span>`;
+}
+
+function damagedByte(byte) {
+  const how = byId("stream-damage").value;
+  if (how === "zero") return 0;
+  if (how === "ff") return 255;
+  if (how === "sentinel") return before.sentinel;
+  return byte ^ 1;
+}
+
+function toggle(at) {
+  active = at;
+  if (damage.has(at)) damage.delete(at);
+  else if (damagedByte(original[at]) !== original[at]) damage.set(at, damagedByte(original[at]));
+  applyDamage();
+}
+
+function rowOf(at) {
+  const piece = lastAtOrBefore((each) => pieces.start(each), at);
+  return rowStarts[piece] + 1 + Math.floor((at - pieces.start(piece)) / columns);
+}
+
+function mark() {
+  const box = byId("stream-pieces");
+  box.querySelector(".active")?.classList.remove("active");
+  const cell = byId(`byte-${active}`);
+  cell?.classList.add("active");
+  if (cell) box.setAttribute("aria-activedescendant", cell.id);
+  else box.removeAttribute("aria-activedescendant");
+}
+
+function onKey(event) {
+  if (event.key === "Enter" || event.key === " ") {
+    event.preventDefault();
+    if (stream.length > 0) toggle(active);
+    return;
+  }
+  const page = rows.page * columns;
+  const step = { ArrowLeft: -1, ArrowRight: 1, ArrowUp: -columns, ArrowDown: columns, PageUp: -page, PageDown: page, Home: -active, End: stream.length }[event.key];
+  if (step === undefined || stream.length === 0) return;
+  event.preventDefault();
+  active = Math.min(stream.length - 1, Math.max(0, active + step));
+  rows.reveal(rowOf(active));
+  mark();
+}
+
+async function takeFile(file) {
+  if (!file) return;
+  if (file.size > FILE_LIMIT) {
+    field.complain(`${file.name} has ${counted(file.size, "byte")}; the most that is shown is ${count(FILE_LIMIT)}. What was here stays.`, byId("stream-error"));
+    return;
+  }
+  const bytes = new Uint8Array(await file.arrayBuffer());
+  field.text = "";
+  fromFile = bytes;
+  field.complain(null, byId("stream-error"));
+  byId("stream-input").placeholder = `${file.name}, ${counted(bytes.length, "byte")}. Type or paste to replace it.`;
+  update();
+}
+
+function example() {
+  const messages = ["temp=21.5", "temp=21.6", "", "a\0b\0c", "x".repeat(80), "temp=21.7"];
+  const frames = messages.map((text) => printHex(encode(new TextEncoder().encode(text))));
+  return `${frames.join(" 00\n")} 00\n05 6c 6f 00\n${printHex(encode(new TextEncoder().encode("not yet ended")))}`;
+}
+
+function startDrop() {
+  const view = byId("stream");
+  view.addEventListener("dragover", (event) => {
+    event.preventDefault();
+    view.classList.add("dropping");
+  });
+  view.addEventListener("dragleave", () => view.classList.remove("dropping"));
+  view.addEventListener("drop", (event) => {
+    event.preventDefault();
+    view.classList.remove("dropping");
+    takeFile(event.dataTransfer.files[0]);
+  });
+}
+
+export function startStream() {
+  const asked = once(update);
+  field = new Field(byId("stream-input"), () => {
+    fromFile = null;
+    byId("stream-input").placeholder = "";
+    asked();
+  });
+  rows = new Rows(byId("stream-pieces"), { height: ROW_HEIGHT, fill: fillRow });
+  let width = 0;
+  new ResizeObserver(([{ contentRect }]) => {
+    if (contentRect.width === width) return;
+    width = contentRect.width;
+    draw();
+  }).observe(byId("stream-pieces"));
+  byId("stream-room").addEventListener("input", asked);
+  byId("stream-sentinel").addEventListener("input", asked);
+  byId("stream-example").addEventListener("click", () => (field.text = example()));
+  byId("stream-file").addEventListener("change", (event) => takeFile(event.target.files[0]));
+  byId("stream-mend").addEventListener("click", () => {
+    damage.clear();
+    applyDamage();
+    byId("stream-pieces").focus();
+  });
+  byId("stream-pieces").addEventListener("click", (event) => {
+    const cell = event.target.closest("[data-at]");
+    if (cell) toggle(Number(cell.dataset.at));
+  });
+  byId("stream-pieces").addEventListener("keydown", onKey);
+  byId("stream").querySelector("form").addEventListener("submit", (event) => event.preventDefault());
+  startDrop();
+  field.text = example();
+}

@@ -1,0 +1,40 @@
+// Serves this folder to this computer alone: node serve.mjs [PORT]
+import { createServer } from "node:http";
+import { readFile } from "node:fs/promises";
+import { extname, join, normalize } from "node:path";
+import { fileURLToPath, pathToFileURL } from "node:url";
+
+const ROOT = fileURLToPath(new URL(".", import.meta.url));
+const TYPES = {
+  ".html": "text/html; charset=utf-8",
+  ".js": "text/javascript; charset=utf-8",
+  ".mjs": "text/javascript; charset=utf-8",
+  ".css": "text/css; charset=utf-8",
+  ".wasm": "application/wasm",
+  ".svg": "image/svg+xml",
+};
+
+async function answer(request, response) {
+  const { pathname } = new URL(request.url, "http://localhost");
+  const path = normalize(decodeURIComponent(pathname === "/" ? "/index.html" : pathname));
+  try {
+    const body = await readFile(join(ROOT, path));
+    response.writeHead(200, { "content-type": TYPES[extname(path)] ?? "application/octet-stream", "cache-control": "no-store" });
+    response.end(body);
+  } catch {
+    response.writeHead(404, { "content-type": "text/plain" });
+    response.end("there is no such file\n");
+  }
+}
+
+/** Starts serving, and gives the server and its address. Port 0 is any free one. */
+export async function serve(port = 0) {
+  const server = createServer((request, response) => answer(request, response).catch(() => response.destroy()));
+  await new Promise((done, failed) => server.once("error", failed).listen(port, "127.0.0.1", done));
+  return { server, address: `http://localhost:${server.address().port}/` };
+}
+
+if (process.argv[1] && import.meta.url === pathToFileURL(process.argv[1]).href) {
+  const { address } = await serve(Number(process.argv[2] ?? 8000));
+  console.log(`${address} (Ctrl+C ends it)`);
+}

@@ -1,0 +1,200 @@
+// What jcobs.js adds to the module's calls: node module.mjs COBS.WASM
+import { readFile } from "node:fs/promises";
+import * as cobs from "../jcobs.js";
+import * as plain from "./plain.js";
+import { check, equal, holds, report, throws } from "./tally.mjs";
+
+const wasm = await readFile(process.argv[2]);
+const bytes = (...values) => Uint8Array.from(values);
+const FRAME = bytes(3, 10, 11, 2, 12);
+const MESSAGE = bytes(10, 11, 0, 12);
+
+/** The same bytes at each run. */
+function randomBytes(length, zeros, seed) {
+  let state = seed;
+  return Uint8Array.from({ length }, () => {
+    state = (Math.imul(state, 1664525) + 1013904223) >>> 0;
+    const byte = state >>> 24;
+    return (state >>> 8) % 1000 < zeros * 1000 ? 0 : byte || 1;
+  });
+}
+
+function source(chunks) {
+  return new ReadableStream({
+    start(controller) {
+      for (const chunk of chunks) controller.enqueue(chunk);
+      controller.close();
+    },
+  });
+}
+
+async function all(stream) {
+  const taken = [];
+  const reader = stream.getReader();
+  for (let next = await reader.read(); !next.done; next = await reader.read()) taken.push(next.value);
+  return taken;
+}
+
+await check("a call before load says so", () => throws(() => cobs.encode(MESSAGE), (error) => /load/.test(error.message), "encode"));
+await check("the engine has 64-bit memory", () => holds(cobs.isSupported(), "isSupported()"));
+await check("bytes that are no module are refused", () => throws(() => cobs.load(bytes(1, 2, 3)), (error) => error instanceof WebAssembly.CompileError, "load"));
+await check("an address without a file is refused", () => throws(() => cobs.load(new URL("none.wasm", import.meta.url)), () => true, "load"));
+
+for (const [name, given] of Object.entries({
+  "a Buffer": wasm,
+  "an ArrayBuffer": wasm.buffer.slice(wasm.byteOffset, wasm.byteOffset + wasm.length),
+  "a module": await WebAssembly.compile(wasm),
+  "a Response": new Response(wasm),
+})) {
+  await check(`load takes ${name}`, async () => {
+    await cobs.load(given);
+    equal(cobs.encode(MESSAGE), FRAME, "the frame");
+  });
+}
+
+await check("encode, with each option", () => {
+  equal(cobs.encode(bytes()), bytes(1), "the frame of the empty message");
+  equal(cobs.encode(MESSAGE, { terminated: true }), bytes(...FRAME, 0), "with a sentinel behind");
+  equal(cobs.encode(MESSAGE, { sentinel: 170, terminated: true }), bytes(...FRAME.map((byte) => byte ^ 170), 170), "with another sentinel");
+});
+await check("every kind of bytes is taken", () => {
+  const padded = bytes(9, 9, ...MESSAGE, 9);
+  equal(cobs.encode(padded.subarray(2, 6)), FRAME, "of a subarray");
+  equal(cobs.encode(new DataView(padded.buffer, 2, 4)), FRAME, "of a view");
+  equal(cobs.encode(MESSAGE.buffer), FRAME, "of a buffer");
+});
+await check("what is no bytes is refused", async () => {
+  for (const wrong of ["text", [1, 2], null, 7]) await throws(() => cobs.encode(wrong), (error) => error instanceof TypeError, `encode of ${wrong}`);
+});
+await check("what is no sentinel is refused", async () => {
+  for (const sentinel of [-1, 256, 1.5, "0", null]) {
+    await throws(() => cobs.encode(MESSAGE, { sentinel }), (error) => error instanceof RangeError, `encode with ${sentinel}`);
+    await throws(() => cobs.decode(FRAME, { sentinel }), (error) => error instanceof RangeError, `decode with ${sentinel}`);
+    await throws(() => new cobs.FrameDecoderStream({ sentinel }), (error) => error instanceof RangeError, `a stream with ${sentinel}`);
+  }
+});
+await check("decode answers and refuses", async () => {
+  equal(cobs.decode(bytes(0, 0, ...FRAME, 0, 9, 9)), MESSAGE, "the first frame");
+  await throws(() => cobs.decode(bytes()), (error) => error instanceof cobs.CobsError && error.kind === "empty" && error.decodedBytes === 0, "no bytes");
+  await throws(() => cobs.decode(bytes(0, 0)), (error) => error.kind === "empty", "zeros alone");
+  await throws(() => cobs.decode(bytes(2, 5, 3, 1)), (error) => error.kind === "broken" && error.decodedBytes === 3, "a cut frame");
+});
+await check("greatest lengths", async () => {
+  equal([0, 1, 5, 253, 254, 255, 508, 509].map(cobs.maxEncodedLength), [1, 2, 6, 254, 255, 257, 510, 512], "they");
+  await throws(() => cobs.maxEncodedLength(-1), (error) => error instanceof RangeError, "-1");
+});
+await check("kinds of frames", () => {
+  const full = cobs.encode(new Uint8Array(254).fill(1));
+  equal(cobs.frameKind(full), "canonical");
+  equal(cobs.frameKind(bytes(...full, 1)), "longer");
+  equal(cobs.frameKind(bytes(3, 1)), "notAFrame");
+  equal(cobs.frameKind(bytes(3 ^ 7, 10 ^ 7, 11 ^ 7), { sentinel: 7 }), "canonical");
+});
+await check("long messages, past the shared memory, and short ones after them", () => {
+  for (const length of [300_000, 2_000_000, 2_100_000, 9_000_000, 10]) {
+    const message = randomBytes(length, 0.02, length);
+    const frame = cobs.encode(message);
+    equal(Buffer.compare(frame, plain.encode(message)), 0, `comparing with plain code at ${length}`);
+    equal(Buffer.compare(cobs.decode(frame), message), 0, `round trip at ${length}`);
+    equal(cobs.frameKind(frame), "canonical");
+  }
+});
+await check("a message that was given out stays as it is", () => {
+  const first = cobs.decode(FRAME);
+  cobs.decode(bytes(3, 99, 98));
+  equal(first, MESSAGE);
+});
+
+await check("a stream gives its outcomes however it is cut", async () => {
+  const stream = bytes(...FRAME, 0, 0, 4, 7, 8, 9, 0, 5, 1, 0, 7, 1, 2, 3, 4, 5, 6, 0, 3, 5, 6, 0, 2);
+  const wanted = [{ message: MESSAGE }, { message: bytes(7, 8, 9) }, { broken: 1 }, { tooLong: true }, { message: bytes(5, 6) }];
+  for (const sentinel of [0, 0x55]) {
+    const changed = stream.map((byte) => byte ^ sentinel);
+    for (let size = 1; size <= stream.length; size++) {
+      const chunks = [];
+      for (let at = 0; at < stream.length; at += size) chunks.push(changed.subarray(at, at + size));
+      const decoder = new cobs.FrameDecoderStream({ maxLength: 5, sentinel });
+      equal(await all(source(chunks).pipeThrough(decoder)), wanted, `by ${size}`);
+      equal(decoder.unfinished, true, "unfinished");
+    }
+  }
+});
+await check("random streams as plain code reads them", async () => {
+  for (let round = 0; round < 60; round++) {
+    const stream = randomBytes(4000 + round, [0.004, 0.05, 0.4][round % 3], round + 1);
+    const wanted = [];
+    new plain.PlainDecoder(200).push(stream, (outcome) => wanted.push(outcome));
+    const chunks = [];
+    for (let at = 0; at < stream.length; at += 1 + ((at * 7 + round) % 97)) chunks.push(stream.subarray(at, at + 1 + ((at * 7 + round) % 97)));
+    equal(await all(source(chunks).pipeThrough(new cobs.FrameDecoderStream({ maxLength: 200 }))), wanted, `round ${round}`);
+  }
+});
+await check("what is written through both streams comes back", async () => {
+  const messages = [bytes(), bytes(0), MESSAGE, randomBytes(5000, 0.1, 3), randomBytes(700, 0, 4)];
+  for (const sentinel of [0, 10]) {
+    const back = source(messages).pipeThrough(new cobs.FrameEncoderStream({ sentinel })).pipeThrough(new cobs.FrameDecoderStream({ maxLength: 5000, sentinel }));
+    equal((await all(back)).map(({ message }) => message), messages, "they");
+  }
+});
+await check("a decoder says where each piece ends, and lets other calls in between", () => {
+  const decoder = new cobs.FrameDecoder({ maxLength: 100 });
+  const other = new cobs.FrameDecoder({ maxLength: 100 });
+  const seen = [];
+  decoder.push(bytes(...FRAME, 0, 2, 7, 0, 1), ({ message }, end) => {
+    other.push(bytes(0, 5, 1, 2, 3, 4, 0), () => {});
+    cobs.encode(randomBytes(500, 0, 9));
+    seen.push([[...message], end]);
+  });
+  equal(seen, [[[...MESSAGE], 6], [[7], 9]]);
+  equal(decoder.unfinished, true);
+  decoder.push(bytes(0), () => {});
+  equal(decoder.unfinished, false);
+  decoder.close();
+  other.close();
+});
+await check("a decoder refuses a push within a push, and after its close", async () => {
+  const decoder = new cobs.FrameDecoder();
+  await throws(() => decoder.push(bytes(1, 0), () => decoder.push(bytes(1, 0), () => {})), (error) => /under way/.test(error.message), "a push within");
+  decoder.close();
+  decoder.close();
+  await throws(() => decoder.push(bytes(1), () => {}), (error) => /closed/.test(error.message), "a push after");
+});
+await check("a chunk that is no bytes breaks the stream off", () => throws(() => all(source(["text"]).pipeThrough(new cobs.FrameDecoderStream())), (error) => error instanceof TypeError, "it"));
+await check("maxLength 0 lets the empty message through alone", async () => {
+  equal(await all(source([bytes(1, 0, 2, 1, 0)]).pipeThrough(new cobs.FrameDecoderStream({ maxLength: 0 }))), [{ message: bytes() }, { tooLong: true }]);
+  await throws(() => new cobs.FrameDecoderStream({ maxLength: -1 }), (error) => error instanceof RangeError, "-1");
+});
+
+const { memoryOf } = await import("./memory.mjs");
+await check("memory doesn't grow with a stream, nor with the number of streams", async () => {
+  const frame = cobs.encode(randomBytes(900, 0.05, 5), { terminated: true });
+  await memoryOf(async (pages) => {
+    await cobs.load(wasm);
+    const decoder = new cobs.FrameDecoder({ maxLength: 1000 });
+    const before = pages();
+    let count = 0;
+    for (let i = 0; i < 5000; i++) decoder.push(frame, () => count++);
+    equal(count, 5000, "messages");
+    decoder.close();
+    for (let i = 0; i < 2000; i++) {
+      const next = new cobs.FrameDecoder({ maxLength: 100_000 });
+      next.push(frame, () => count++);
+      next.close();
+    }
+    for (let i = 0; i < 300; i++) await all(source([frame]).pipeThrough(new cobs.FrameDecoderStream({ maxLength: 50_000 })));
+    holds(pages() <= before + 3, `memory had ${before} pages and has ${pages()}`);
+  });
+});
+if (globalThis.gc) {
+  await check("the memory of decoders that were let go is used again", () => memoryOf(async (pages) => {
+    await cobs.load(wasm);
+    const before = pages();
+    for (let round = 0; round < 20; round++) {
+      for (let i = 0; i < 20; i++) new cobs.FrameDecoder({ maxLength: 1 << 20 }).push(bytes(1, 0), () => {});
+      globalThis.gc();
+      await new Promise((done) => setTimeout(done, 5));
+    }
+    holds(pages() < before + 100 * 17, `memory had ${before} pages and has ${pages()}, and 400 decoders of 17 pages were made`);
+  }));
+}
+report("module");

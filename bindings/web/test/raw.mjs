@@ -1,0 +1,79 @@
+// The module's calls with nothing between: each buffer stands between guard bytes, which a call must leave alone.
+import { equal } from "./tally.mjs";
+
+const GUARD = 64;
+const GUARD_BYTE = 0xa5;
+const STATUS = ["ok", "more", "too_small", "invalid", "empty"];
+
+export class Raw {
+  #places = [];
+
+  constructor(module) {
+    this.calls = new WebAssembly.Instance(module, {}).exports;
+    this.answerAt = Number(this.calls.__heap_base.value);
+    this.clear();
+  }
+
+  get #bytes() {
+    return new Uint8Array(this.calls.memory.buffer);
+  }
+
+  clear() {
+    this.#places = [];
+    this.end = this.answerAt + 128;
+  }
+
+  /** A place with these bytes, between guards. */
+  place(bytes) {
+    const place = { at: this.end + GUARD, length: bytes.length };
+    this.end = Math.ceil((place.at + bytes.length + GUARD) / 16) * 16;
+    const missing = Math.ceil((this.end - this.#bytes.length) / 65536);
+    if (missing > 0) this.#grow(missing);
+    this.#bytes.fill(GUARD_BYTE, place.at - GUARD, this.end);
+    this.#bytes.set(bytes, place.at);
+    this.#places.push(place);
+    return place;
+  }
+
+  #grow(pages) {
+    try {
+      this.calls.memory.grow(BigInt(pages));
+    } catch {
+      this.calls.memory.grow(pages);
+    }
+  }
+
+  read({ at, length }, count = length) {
+    return this.#bytes.slice(at, at + count);
+  }
+
+  /** Makes a call that answers a jcobs_answer. A place stands for its pointer and length, `{state}` for its pointer alone. */
+  answer(name, ...words) {
+    this.#bytes.fill(0xee, this.answerAt, this.answerAt + 24);
+    this.call(name, this.answerAt, ...words);
+    const view = new DataView(this.calls.memory.buffer, this.answerAt, 24);
+    const [consumed, length] = [Number(view.getBigUint64(8, true)), Number(view.getBigUint64(16, true))];
+    return { status: STATUS[view.getUint32(0, true)], consumed, length };
+  }
+
+  call(name, ...words) {
+    const args = words.flatMap((word) => {
+      if (typeof word === "number") return [BigInt(word)];
+      if (word.byte !== undefined) return [word.byte];
+      return word.state ? [BigInt(word.state.at)] : [BigInt(word.at), BigInt(word.length)];
+    });
+    const result = this.calls[name](...args);
+    this.#checkGuards(name);
+    return result;
+  }
+
+  #checkGuards(name) {
+    for (const { at, length } of this.#places) {
+      const bytes = this.#bytes;
+      for (let i = 1; i <= GUARD; i++) {
+        const around = [bytes[at - i], bytes[at + length + i - 1]];
+        if (around[0] !== GUARD_BYTE || around[1] !== GUARD_BYTE) equal(around, [GUARD_BYTE, GUARD_BYTE], `a guard of ${name}`);
+      }
+    }
+  }
+}

@@ -1,0 +1,48 @@
+// The screenshots of the README: node screenshots.mjs FOLDER
+import { join } from "node:path";
+import { serve } from "../serve.mjs";
+import { Browser } from "./chromium.mjs";
+
+const folder = process.argv[2];
+const { server, address } = await serve();
+const browser = await Browser.start(process.env.CHROMIUM ?? "chromium");
+
+async function shot(name, view, options, act) {
+  const page = await browser.open(`${address}#${view}`, options);
+  await page.until("document.documentElement.dataset.ready === 'yes'");
+  await act(page);
+  await new Promise((done) => setTimeout(done, 1200)); // until the status lines have been set
+  await page.value("document.activeElement.blur(), scrollTo({ top: 0, behavior: 'instant' })");
+  await page.screenshot(join(folder, name));
+  await page.close();
+}
+
+async function message(page) {
+  await page.click('input[name="message-kind"][value="hex"]');
+  await page.fill("#message-input", "48 65 6c 6c 6f 00 00 77 6f 72 6c 64");
+}
+
+async function stream(page) {
+  await page.click("#byte-24");
+}
+
+async function line(page) {
+  await page.click("#line-noise");
+  await page.click("#line-loop");
+  await page.until('!document.getElementById("line-submit").disabled');
+  for (const text of ["hello", "temp=21.5", "temp=21.6", "temp=21.7"]) {
+    await page.fill("#line-text", text);
+    await page.press("Enter");
+  }
+}
+
+try {
+  const desktop = { width: 900, height: 780 };
+  await shot("page-message.png", "message", desktop, message);
+  await shot("page-stream.png", "stream", { ...desktop, height: 900 }, stream);
+  await shot("page-line.png", "line", { ...desktop, height: 700 }, line);
+  await shot("page-phone.png", "message", { width: 390, height: 1000, isPhone: true, isDark: true, scale: 1 }, (page) => page.click('[data-run="255"]'));
+} finally {
+  await browser.close();
+  server.close();
+}

@@ -1,0 +1,41 @@
+// Counts checks. A test file ends with `report()`, which prints the counts for tests/web.sh and sets the status.
+import { isDeepStrictEqual, inspect } from "node:util";
+
+let passed = 0;
+let failed = 0;
+
+export async function check(name, act) {
+  try {
+    await act();
+    passed++;
+    if (process.env.VERBOSE) console.log(`ok: ${name}`);
+  } catch (error) {
+    failed++;
+    console.log(`FAILED: ${name}\n  ${error.stack ?? error}`);
+  }
+}
+
+export function equal(found, wanted, what = "it") {
+  if (isDeepStrictEqual(found, wanted)) return;
+  const shown = (value) => inspect(value, { maxArrayLength: 40, maxStringLength: 300, breakLength: 200 });
+  throw new Error(`${what} is ${shown(found)}, and ${shown(wanted)} was wanted`);
+}
+
+export function holds(condition, what) {
+  if (!condition) throw new Error(`this doesn't hold: ${what}`);
+}
+
+export async function throws(act, matches, what) {
+  try {
+    await act();
+  } catch (error) {
+    holds(matches(error), `${what}: it threw ${error.name} ${error.kind ?? ""} ${error.message}`);
+    return;
+  }
+  throw new Error(`${what}: nothing was thrown`);
+}
+
+export function report(name) {
+  console.log(`${name}: ${passed} passed, ${failed} failed`);
+  process.exitCode = failed === 0 ? 0 : 1;
+}

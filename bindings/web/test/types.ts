@@ -1,0 +1,31 @@
+// What a user of the types may write; tests/web.sh has the TypeScript compiler read it.
+import { CobsError, FrameDecoder, FrameDecoderStream, FrameEncoderStream, type Outcome, decode, encode, frameKind, isSupported, load, maxEncodedLength } from "../jcobs.js";
+
+export async function use(port: { readable: ReadableStream<Uint8Array>; writable: WritableStream<Uint8Array> }): Promise<number> {
+  if (!isSupported()) return 0;
+  await load(new URL("https://example.org/cobs.wasm"));
+  const frame: Uint8Array = encode(new Uint8Array(3), { sentinel: 10, terminated: true });
+  const longest: number = maxEncodedLength(frame.length);
+  const kind: "canonical" | "longer" | "notAFrame" = frameKind(frame.buffer as ArrayBuffer, { sentinel: 10 });
+  try {
+    decode(new DataView(new ArrayBuffer(4)));
+  } catch (error) {
+    if (error instanceof CobsError && error.kind === "broken") return error.decodedBytes;
+  }
+  const lengths: number[] = [];
+  const count = (outcome: Outcome): void => {
+    if (outcome.message) lengths.push(outcome.message.length);
+    else if (outcome.tooLong) lengths.push(-1);
+    else lengths.push(outcome.broken);
+  };
+  const decoder = new FrameDecoder({ maxLength: 100 });
+  decoder.push(frame, (outcome, end) => count(end > 0 ? outcome : { tooLong: true }));
+  decoder.close();
+  const stream = new FrameDecoderStream({ maxLength: 4096 });
+  const reader = port.readable.pipeThrough<Outcome>(stream).getReader();
+  const { value } = await reader.read();
+  if (value) count(value);
+  const sender = new FrameEncoderStream();
+  void sender.readable.pipeTo(port.writable);
+  return longest + lengths.length + kind.length + Number(stream.unfinished);
+}

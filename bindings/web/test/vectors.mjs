@@ -1,0 +1,243 @@
+// The vectors of vectors/ through the module: by its calls as they are, and where a line fits by jcobs.js too.
+//
+//     node vectors.mjs COBS.WASM VECTORS
+//
+// vectors/README.md says what a line is. Left out are the calls that the module lacks: `next_frame` and the two state
+// machines. Where this library answers otherwise than the crate's own names say, the comment at the call has it.
+import { readFile, readdir } from "node:fs/promises";
+import { join } from "node:path";
+import { CobsError, FrameDecoderStream, FrameEncoderStream, decode, encode, frameKind, load, maxEncodedLength } from "../jcobs.js";
+import { Raw } from "./raw.mjs";
+import { equal } from "./tally.mjs";
+
+const [, , wasm, folder] = process.argv;
+const module = await WebAssembly.compile(await readFile(wasm));
+await load(module);
+const raw = new Raw(module);
+
+const bytesOf = (word) => (word === "-" ? new Uint8Array() : Uint8Array.from(Buffer.from(word, "hex")));
+const wordOf = (bytes) => (bytes.length === 0 ? "-" : Buffer.from(bytes).toString("hex"));
+const joined = (parts) => Uint8Array.from(parts.flatMap((part) => [...part]));
+const sentinelOf = (word) => ({ byte: bytesOf(word)[0] });
+
+/** What encoding into a buffer answers: the length where it fits, and all of the buffer. */
+function encoded(call, message, room, ...sentinel) {
+  const buffer = raw.place(room);
+  const { status, consumed, length } = raw.answer(call, raw.place(message), buffer, ...sentinel);
+  equal(consumed, status === "ok" ? message.length : 0, "consumed");
+  return { status, length: status === "ok" ? String(length) : "-", after: wordOf(raw.read(buffer)) };
+}
+
+/** A sentinel in front by hand, as no call of the module writes one. */
+function wrapped(message, room) {
+  if (room.length === 0) return { status: "too_small", length: "-", after: "-" };
+  const { status, length, after } = encoded("jcobs_encode_terminated", message, room.subarray(1));
+  if (status !== "ok") return { status, length, after: wordOf(room) };
+  return { status, length: String(Number(length) + 1), after: `00${after === "-" ? "" : after}` };
+}
+
+/** In `decode` zeros alone are `empty` here, and a refused frame of 0 bytes by the crate's names. */
+const named = (status, source) => (status === "empty" && source.length > 0 ? "invalid" : status);
+const countWord = (status, length) => (status === "ok" || status === "invalid" ? String(length) : "-");
+
+function decoded(call, source, room, ...sentinel) {
+  const buffer = raw.place(room);
+  const answer = raw.answer(call, raw.place(source), buffer, ...sentinel);
+  const status = named(answer.status, source);
+  return { status, length: countWord(status, answer.length), consumed: status === "ok" ? String(answer.consumed) : "-", after: wordOf(raw.read(buffer)), message: wordOf(raw.read(buffer, answer.length)) };
+}
+
+/** In place the module counts the sentinel that ends the frame as consumed; the vectors don't. */
+function decodedInPlace(call, bytes, ...sentinel) {
+  const buffer = raw.place(bytes);
+  const { status, consumed, length } = raw.answer(call, buffer, ...sentinel);
+  const ending = status === "ok" && consumed > 0 && bytes[consumed - 1] === (sentinel[0]?.byte ?? 0) ? 1 : 0;
+  return { status, consumed: status === "ok" ? String(consumed - ending) : "-", length: countWord(status, length), after: wordOf(raw.read(buffer)) };
+}
+
+/** What `decode` of jcobs.js answers, in the words of the vectors. */
+function decodedByModule(source, sentinel = 0) {
+  try {
+    const message = decode(source, { sentinel });
+    return ["ok", String(message.length), wordOf(message)];
+  } catch (error) {
+    if (!(error instanceof CobsError)) throw error;
+    const status = named({ empty: "empty", broken: "invalid" }[error.kind], source);
+    return [status, status === "empty" ? "-" : String(error.decodedBytes), "-"];
+  }
+}
+
+/** The answers of a streaming encoder of the module's calls. */
+function encodedByPieces(room, pieces) {
+  const buffer = raw.place(room);
+  const state = { state: raw.place(new Uint8Array(16).fill(0x77)) };
+  raw.call("jcobs_encoder_reset", state);
+  const statuses = pieces.map((piece) => raw.answer("jcobs_encoder_push", state, buffer, raw.place(bytesOf(piece))).status);
+  const { length } = raw.answer("jcobs_encoder_finish", state, buffer);
+  return [String(length), wordOf(raw.read(buffer)), ...statuses];
+}
+
+/** The answers of a streaming decoder of the module's calls: the buffer at the end, and three words for each piece. */
+function decodedByPieces(room, pieces) {
+  const buffer = raw.place(room);
+  const state = { state: raw.place(new Uint8Array(16).fill(0x77)) };
+  raw.call("jcobs_decoder_reset", state);
+  const said = [];
+  let taken = 0;
+  for (const piece of pieces) {
+    if (piece === "reset") {
+      raw.call("jcobs_decoder_reset", state);
+      continue;
+    }
+    const source = raw.place(bytesOf(piece));
+    for (let at = 0; at < source.length; ) {
+      const { status, consumed, length } = raw.answer("jcobs_decoder_push", state, buffer, { at: source.at + at, length: source.length - at });
+      at += consumed;
+      taken += consumed;
+      if (status !== "more") said.push(String(taken), { ok: "message", invalid: "broken" }[status] ?? status, wordOf(raw.read(buffer, length)));
+    }
+  }
+  return { after: wordOf(raw.read(buffer)), said };
+}
+
+/** The crate answers `too_small` to each byte from the overflow on; the module once, at the zero. */
+function withoutRepeats(wanted, pieces) {
+  const stream = joined(pieces.filter((piece) => piece !== "reset").map(bytesOf));
+  const kept = [];
+  for (let i = 0; i < wanted.length; i += 3) {
+    if (wanted[i + 1] !== "too_small" || stream[Number(wanted[i]) - 1] === 0) kept.push(...wanted.slice(i, i + 3));
+  }
+  return kept;
+}
+
+async function throughStream(stream, chunks) {
+  const given = new ReadableStream({
+    start(controller) {
+      for (const chunk of chunks) controller.enqueue(chunk);
+      controller.close();
+    },
+  });
+  const taken = [];
+  const reader = given.pipeThrough(stream).getReader();
+  for (let next = await reader.read(); !next.done; next = await reader.read()) taken.push(next.value);
+  return taken;
+}
+
+const outcomeWords = ({ message, broken }) => (message ? ["message", wordOf(message)] : broken !== undefined ? ["broken", String(broken)] : ["too_long", "-"]);
+
+/** For each call, all answers that are to be the line's: one for each way to make it. */
+const calls = {
+  max_encoding_length: ([length]) => [[String(maxEncodedLength(Number(length)))], [String(raw.call("jcobs_max_length", Number(length)))]],
+  max_encoding_overhead: ([length]) => [[String(maxEncodedLength(Number(length)) - Number(length))]],
+  encode_vec: ([message]) => [[wordOf(encode(bytesOf(message)))]],
+  encode_vec_including_sentinels: ([message]) => [[wordOf(Uint8Array.of(0, ...encode(bytesOf(message), { terminated: true })))]],
+  encode_vec_with_sentinel: ([sentinel, message]) => [[wordOf(encode(bytesOf(message), { sentinel: bytesOf(sentinel)[0] }))]],
+  encode([message, room]) {
+    const { length, after } = encoded("jcobs_encode", bytesOf(message), bytesOf(room));
+    return [[length, after]];
+  },
+  encode_including_sentinels([message, room]) {
+    const { length, after } = wrapped(bytesOf(message), bytesOf(room));
+    return [[length, after]];
+  },
+  encode_with_sentinel([sentinel, message, room]) {
+    const { length, after } = encoded("jcobs_encode_with_sentinel", bytesOf(message), bytesOf(room), sentinelOf(sentinel));
+    return [[length, after]];
+  },
+  try_encode([message, room]) {
+    const { status, length, after } = encoded("jcobs_encode", bytesOf(message), bytesOf(room));
+    return [[status, length, after]];
+  },
+  try_encode_including_sentinels([message, room]) {
+    const { status, length, after } = wrapped(bytesOf(message), bytesOf(room));
+    return [[status, length, after]];
+  },
+  encoder: ([room, ...pieces]) => [encodedByPieces(bytesOf(room), pieces)],
+  async encode_frames(messages) {
+    return [[wordOf(joined(await throughStream(new FrameEncoderStream(), messages.map(bytesOf))))]];
+  },
+  decode_vec([source]) {
+    const bytes = bytesOf(source);
+    const { status, length, message } = decoded("jcobs_decode", bytes, new Uint8Array(bytes.length));
+    return [[status, length, status === "ok" ? message : "-"], decodedByModule(bytes)];
+  },
+  decode_vec_with_sentinel([sentinel, source], level) {
+    const bytes = bytesOf(source);
+    const { status, length, message } = decoded("jcobs_decode_with_sentinel", bytes, new Uint8Array(bytes.length), sentinelOf(sentinel));
+    const own = [status, length, status === "ok" ? message : "-"];
+    // `decode` of jcobs.js skips sentinels in front for every sentinel, so it is held to frames alone
+    return level === "owed" ? [own, decodedByModule(bytes, bytesOf(sentinel)[0])] : [own];
+  },
+  decode([source, room]) {
+    const { status, consumed, length, after } = decoded("jcobs_decode", bytesOf(source), bytesOf(room));
+    return [[status, consumed, length, after]];
+  },
+  decode_with_sentinel([sentinel, source, room]) {
+    const { status, length, after } = decoded("jcobs_decode_with_sentinel", bytesOf(source), bytesOf(room), sentinelOf(sentinel));
+    return [[status, length, after]];
+  },
+  decode_in_place([buffer]) {
+    const { status, length, after } = decodedInPlace("jcobs_decode_in_place", bytesOf(buffer));
+    return [[status, length, after]];
+  },
+  decode_in_place_report([buffer]) {
+    const { status, consumed, length, after } = decodedInPlace("jcobs_decode_in_place", bytesOf(buffer));
+    return [[status, consumed, length, after]];
+  },
+  decode_in_place_with_sentinel([sentinel, buffer]) {
+    const { status, length, after } = decodedInPlace("jcobs_decode_in_place_with_sentinel", bytesOf(buffer), sentinelOf(sentinel));
+    return [[status, length, after]];
+  },
+  decoder([room, ...pieces]) {
+    const { after, said } = decodedByPieces(bytesOf(room), pieces);
+    return [[after, ...said]];
+  },
+  async decode_stream([room, ...pieces]) {
+    const outcomes = await throughStream(new FrameDecoderStream({ maxLength: Number(room) }), pieces.map(bytesOf));
+    return [outcomes.flatMap(outcomeWords)];
+  },
+  frame_kind([source]) {
+    const bytes = bytesOf(source);
+    const own = ["not_a_frame", "canonical", "longer"][raw.call("jcobs_frame_kind", raw.place(bytes))];
+    return [[own], [{ notAFrame: "not_a_frame", canonical: "canonical", longer: "longer" }[frameKind(bytes)]]];
+  },
+};
+
+/** Whether an answer is the one that a line wants. `refused` is any refusal, and what stands behind it isn't owed. */
+function agrees(found, wanted) {
+  if (found.length !== wanted.length) return false;
+  return wanted.every((word, i) => word === "?" || word === found[i] || (word === "refused" && found[i] !== "ok" && found[i] !== "message"));
+}
+
+const counts = { cases: 0, differ: 0 };
+const leftOut = new Map();
+for (const file of (await readdir(folder)).filter((name) => name.endsWith(".txt")).sort()) {
+  for (const line of (await readFile(join(folder, file), "utf8")).split("\n")) {
+    if (line === "" || line.startsWith("#")) continue;
+    const [left, right] = line.split(" ->").map((words) => words.trim());
+    const [name, level, call, ...args] = left.split(" ");
+    if (!calls[call]) {
+      leftOut.set(call, (leftOut.get(call) ?? 0) + 1);
+      continue;
+    }
+    raw.clear();
+    counts.cases++;
+    let wanted = right === "" ? [] : right.split(" ");
+    if (call === "decoder") wanted = [wanted[0], ...withoutRepeats(wanted.slice(1), args.slice(1))];
+    let answers;
+    try {
+      answers = await calls[call](args, level);
+    } catch (error) {
+      answers = [[`threw ${error.message}`]];
+    }
+    for (const found of answers) {
+      if (agrees(found, wanted)) continue;
+      counts.differ++;
+      console.log(`${name}: ${call} ${args.join(" ").slice(0, 200)}\n  gave   ${found.join(" ").slice(0, 300)}\n  wanted ${wanted.join(" ").slice(0, 300)}`);
+      break;
+    }
+  }
+}
+for (const [call, lines] of leftOut) console.log(`left out: ${lines} lines of ${call}, which the module lacks`);
+console.log(`vectors: ${counts.cases - counts.differ} passed, ${counts.differ} failed`);
+process.exitCode = counts.differ === 0 && counts.cases > 0 ? 0 : 1;
