@@ -148,6 +148,10 @@ const calls = {
     const { status, length, after } = encoded("jcobs_encode", bytesOf(message), bytesOf(room));
     return [[status, length, after]];
   },
+  try_encode_with_sentinel([sentinel, message, room]) {
+    const { status, length, after } = encoded("jcobs_encode_with_sentinel", bytesOf(message), bytesOf(room), sentinelOf(sentinel));
+    return [[status, length, after]];
+  },
   try_encode_including_sentinels([message, room]) {
     const { status, length, after } = wrapped(bytesOf(message), bytesOf(room));
     return [[status, length, after]];
