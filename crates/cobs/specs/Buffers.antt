@@ -1,5 +1,7 @@
 -- What contracts see of the streaming decoders: their buffers, and where they stand.
-use Rattle.std.specs.Prelude.{ℕ, zero, suc, ◌==◌, Bool, true, false, List, [], if◌then◌else◌}
+use Rattle.std.specs.Prelude.{length, ℕ, zero, suc, ◌==◌, Bool, true, false, List, [], if◌then◌else◌}
+use Rattle.std.specs.List.{length_refill}
+use Rattle.std.proofs.Common.{refl, sym, ◌∙◌}
 use Rattle.std.specs.Borrow.{Lends, MutBor, Fml, RattleType, u8, Array}
 use Rattle.std.specs.Vec.{with_items}
 use denote.Param.{value_of}
@@ -82,7 +84,10 @@ module _ {N : ℕ} where
 
   -- the decoder with these bytes in its vector
   abbrev pub with_heapless_buffer : CobsDecoderHeapless N → List ℕ → CobsDecoderHeapless N
-  with_heapless_buffer decoder bytes = record decoder { dest = refilled decoder.dest bytes }
+  with_heapless_buffer decoder bytes = record decoder {
+    dest = refilled decoder.dest bytes;
+    filled = sym (length_refill (length decoder.dest.items) decoder.dest.items bytes refl) ∙ decoder.filled;
+  }
 
 -- the decoder ends with what the caller leaves behind the reference, and is otherwise as it was
 abbrev pub LendsHeapless : (N : RattleType) → MutBor (CobsDecoderHeapless (value_of N)) → MutBor (List ℕ) → Fml

@@ -14,8 +14,8 @@ ghost use Rattle.cobs.specs.Table.{data_of};
 
 use cobs::laws::{law_2, law_4};
 use cobs::{
-    CobsDecoder, CobsDecoderOwned, DecodeError, DecodeResult, DecoderState, WriteBuffer, decode,
-    encode_frames, encode_frames_room, encode_with_sentinel,
+    CobsDecoder, CobsDecoderHeapless, CobsDecoderOwned, DecodeError, DecodeResult, DecoderState,
+    WriteBuffer, decode, encode_frames, encode_frames_room, encode_with_sentinel,
 };
 use std::alloc::{AllocError, Global};
 
@@ -133,6 +133,13 @@ pub fn write_lent(decoder: &mut CobsDecoder<'_>, at: usize, source: &[u8])
     ensures same_slice { lent_slice decoder.new ≡ lent_slice decoder.old }
 {
     decoder.write_dest(at, source);
+}
+
+/// How long the buffer of a decoder is that lies in the value itself, whatever was done with the decoder before.
+pub fn buffer_len<const N: usize>(decoder: &CobsDecoderHeapless<N>) -> usize
+    ensures { result ≡ N }
+{
+    decoder.dest().len()
 }
 
 /// Does nothing: to each length there is a message of bytes whose frame, of bytes too, is as long as a frame can be.

@@ -6,7 +6,6 @@ ghost use Rattle.cobs.specs.Decoder.{DecoderAfter, Feeds, Idle};
 ghost use Rattle.cobs.specs.Grammar.{Reads};
 ghost use Rattle.cobs.specs.Headline.{IsPiece, PushesMessage};
 ghost use Rattle.cobs.specs.Push.{PushesBytes};
-ghost use Rattle.cobs.specs.Buffers.{heapless_buffer, heapless_phase, LendsHeapless};
 
 use crate::dec::frame_decoder::{FrameDecoder, PieceEnd};
 use crate::dec::report::{DecodeError, DecodeReport, PushError};
@@ -21,9 +20,12 @@ use arrayvec::ArrayVec;
 pub struct CobsDecoderHeapless<const N: usize> {
     dest: ArrayVec<u8, N>,
     inner: UnbufferedDecoder,
+    ghost filled: { length dest.items ≡ N },
 }
 
 impl<const N: usize> CobsDecoderHeapless<N> {
+    ghost use Rattle.cobs.specs.Buffers.{heapless_buffer, heapless_phase, LendsHeapless};
+
     /// An idle decoder over `N` zeros.
     pub fn new() -> Self
         ensures buffer { heapless_buffer result ≡ replicate N 0 }
@@ -94,7 +96,8 @@ impl<const N: usize> CobsDecoderHeapless<N> {
 
     /// The whole buffer, `N` bytes.
     pub fn dest(&self) -> &[u8]
-        ensures { result.now ≡ heapless_buffer self.now }
+        ensures value { result.now ≡ heapless_buffer self.now }
+        ensures len { length result.now ≡ N }
     {
         self.dest.as_slice()
     }
@@ -112,6 +115,8 @@ impl<const N: usize> CobsDecoderHeapless<N> {
 }
 
 impl<const N: usize> Default for CobsDecoderHeapless<N> {
+    ghost use Rattle.cobs.specs.Buffers.{heapless_buffer, heapless_phase};
+
     /// An idle decoder over `N` zeros, as `new` makes it.
     fn default() -> Self
         ensures buffer { heapless_buffer result ≡ replicate N 0 }
