@@ -139,7 +139,9 @@ typedef struct jcobs_decoder {
 } jcobs_decoder;
 
 /* The start, when no frame has begun, which is all zeros. jcobs_decoder_reset makes the same. */
+/* clang-format off */
 #define JCOBS_DECODER_INIT {0, 0, 0, 0}
+/* clang-format on */
 
 /* Where a streaming encoder stands. The members are the library's own. */
 typedef struct jcobs_encoder {
@@ -149,7 +151,9 @@ typedef struct jcobs_encoder {
 } jcobs_encoder;
 
 /* The start, when nothing was taken, which is all zeros. jcobs_encoder_reset makes the same. */
+/* clang-format off */
 #define JCOBS_ENCODER_INIT {0, 0, 0}
+/* clang-format on */
 
 /* The length of the longest frame of a message of so many bytes, without a terminator: the message's length
  * and a 254th of it, rounded up, and 1 for the empty message. For each length up to PTRDIFF_MAX that fits a
@@ -160,8 +164,7 @@ size_t jcobs_max_length(size_t message_len);
 
 /* Writes the frame of the message to the front of the buffer `frame`. Room for jcobs_max_length(message_len)
  * bytes always suffices; it is refused exactly where the frame itself doesn't fit. */
-jcobs_answer jcobs_encode(const unsigned char *message, size_t message_len, unsigned char *frame,
-                          size_t frame_len);
+jcobs_answer jcobs_encode(const unsigned char *message, size_t message_len, unsigned char *frame, size_t frame_len);
 
 /* The same with a zero behind the frame, which needs one byte more. */
 jcobs_answer jcobs_encode_terminated(const unsigned char *message, size_t message_len, unsigned char *frame,
@@ -172,13 +175,11 @@ jcobs_answer jcobs_encode_terminated(const unsigned char *message, size_t messag
 jcobs_answer jcobs_encode_with_sentinel(const unsigned char *message, size_t message_len, unsigned char *frame,
                                         size_t frame_len, unsigned char sentinel);
 jcobs_answer jcobs_encode_terminated_with_sentinel(const unsigned char *message, size_t message_len,
-                                                   unsigned char *frame, size_t frame_len,
-                                                   unsigned char sentinel);
+                                                   unsigned char *frame, size_t frame_len, unsigned char sentinel);
 
 /* Decodes the first frame of the source to the front of `message`. Zeros in front of it are skipped, and it
  * ends at the next zero or with the source. A buffer as long as the source always suffices. */
-jcobs_answer jcobs_decode(const unsigned char *source, size_t source_len, unsigned char *message,
-                          size_t message_len);
+jcobs_answer jcobs_decode(const unsigned char *source, size_t source_len, unsigned char *message, size_t message_len);
 
 /* Decodes the frame at the front of the source, for this sentinel, to the front of `message`. It ends at the
  * first sentinel or with the source. No sentinel is skipped: one in front is an empty message. */
@@ -191,8 +192,7 @@ jcobs_answer jcobs_decode_in_place(unsigned char *buffer, size_t buffer_len);
 
 /* The same for this sentinel. Each byte of the buffer, those behind the frame too, is first changed by
  * exclusive or with the sentinel. */
-jcobs_answer jcobs_decode_in_place_with_sentinel(unsigned char *buffer, size_t buffer_len,
-                                                 unsigned char sentinel);
+jcobs_answer jcobs_decode_in_place_with_sentinel(unsigned char *buffer, size_t buffer_len, unsigned char sentinel);
 
 /* Whether the bytes are a frame for the sentinel 0, and which one of its message: one of enum jcobs_kind. */
 unsigned int jcobs_frame_kind(const unsigned char *bytes, size_t len);

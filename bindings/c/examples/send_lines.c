@@ -1,0 +1,60 @@
+/* Sends each line of standard input, without its newline, as a frame on standard output with a zero behind it.
+ *
+ * A line is given to the encoder in pieces, as they are read, so only the frame is kept. */
+#include <jcobs.h>
+
+#include <stdio.h>
+#include <string.h>
+
+#define LONGEST 65536
+
+/* The frame of the longest line, and the zero behind it. */
+static unsigned char frame[JCOBS_MAX_LENGTH(LONGEST) + 1];
+
+/* Ends the frame of a line and sends it; 0 where that failed. */
+static int send_frame(jcobs_encoder *encoder)
+{
+    jcobs_answer answer = jcobs_encoder_finish(encoder, frame, sizeof frame - 1);
+
+    if (answer.status != JCOBS_OK)
+        return 0;
+    frame[answer.length] = 0;
+    return fwrite(frame, 1, answer.length + 1, stdout) == answer.length + 1 && fflush(stdout) == 0;
+}
+
+int main(void)
+{
+    jcobs_encoder encoder = JCOBS_ENCODER_INIT;
+    unsigned char piece[256];
+    size_t begun = 0; /* bytes of a line that has no newline yet */
+    size_t n;
+
+    while ((n = fread(piece, 1, sizeof piece, stdin)) > 0) {
+        size_t at = 0;
+
+        while (at < n) {
+            unsigned char *newline = memchr(piece + at, '\n', n - at);
+            size_t len = (newline != NULL ? (size_t)(newline - piece) : n) - at;
+
+            if (jcobs_encoder_push(&encoder, frame, sizeof frame - 1, piece + at, len).status != JCOBS_OK) {
+                fputs("send_lines: a line is too long\n", stderr);
+                return 1;
+            }
+            begun += len;
+            at += len;
+            if (newline != NULL) {
+                if (!send_frame(&encoder)) {
+                    perror("send_lines");
+                    return 1;
+                }
+                begun = 0;
+                at++;
+            }
+        }
+    }
+    if (ferror(stdin) || (begun > 0 && !send_frame(&encoder))) {
+        perror("send_lines");
+        return 1;
+    }
+    return 0;
+}

@@ -1,0 +1,197 @@
+#!/bin/sh
+# Builds the library for C and all that stands beside it, and runs it.
+#
+# Prints a line for each part: 'ok', 'FAILED' with what it said, or 'skipped' with the Debian packages that it lacks. The
+# last line counts them; the status is 0 only if nothing failed.
+set -u
+c=$(cd "$(dirname "$0")/.." && pwd)
+cd "$c" || exit 1
+PATH=$PATH:/opt/rattle/bin
+export PATH
+work=$(mktemp -d)
+trap 'rm -rf "$work"' EXIT
+machine=$(uname -m)
+here=build/$machine-unknown-linux-gnu
+flags='-Wall -Wextra -Wpedantic -Wconversion -Werror'
+passed=0
+failed=0
+skipped=0
+
+part() { # NAME COMMAND..
+    name=$1
+    shift
+    if "$@" >"$work/said" 2>&1; then
+        passed=$((passed + 1))
+        echo "ok: $name"
+    else
+        failed=$((failed + 1))
+        echo "FAILED: $name"
+        sed 's/^/    /' "$work/said"
+    fi
+}
+
+# Whether a tool is there; else the part is skipped, and its package named.
+has() { # TOOL PACKAGE PART
+    command -v "$1" >/dev/null && return 0
+    skipped=$((skipped + 1))
+    echo "skipped: $3: lacks $1 (Debian package $2)"
+    return 1
+}
+
+# Runs a command and compares what it prints.
+prints() { # EXPECTED COMMAND..
+    expected=$1
+    shift
+    "$@" >"$work/printed" || return 1
+    printf '%s\n' "$expected" | diff - "$work/printed"
+}
+
+header() { # COMPILER LANGUAGE STANDARD..: the header alone, and twice
+    compiler=$1
+    language=$2
+    shift 2
+    printf '#include <jcobs.h>\n#include <jcobs.h>\n' >"$work/header.$language"
+    for standard; do
+        # A compiler from before C23 knows it by its working name.
+        if [ "$standard" = c23 ] && ! "$compiler" -std=c23 -E -x c /dev/null >/dev/null 2>&1; then
+            standard=c2x
+        fi
+        # shellcheck disable=SC2086
+        "$compiler" "-std=$standard" $flags -Iinclude -c "$work/header.$language" -o "$work/header.o" || return 1
+    done
+}
+
+# A stream with each kind of piece, and what a reader with room for 8 bytes makes of it.
+stream() {
+    printf '\006hello\000\000\001\000\005\001\000\014hello world\000\003hi\000\004x'
+}
+answers='message 5 68656c6c6f
+message 0
+broken 1
+too long
+message 2 6869
+unfinished'
+
+reads() { # CHUNK
+    stream | prints "$answers" $run "$at/read_frames" "$1" 8
+}
+
+# The same stream from a writer that stops in the midst of frames.
+reads_slowly() {
+    { printf '\006hel'; sleep 0.2; printf 'lo\000\000\001\000\005\001\000\014hello wo'; sleep 0.2
+      printf 'rld\000\003hi\000'; sleep 0.2; printf '\004x'; } | prints "$answers" $run "$at/read_frames" 4096 8
+}
+
+sends() {
+    printf 'hello\n\nx' | $run "$at/send_lines" >"$work/sent" || return 1
+    prints '06 68 65 6c 6c 6f 00 01 00 02 78 00' sh -c "od -An -v -tx1 '$work/sent' | tr -s ' \\n' ' ' | sed 's/^ //; s/ \$//'; echo"
+}
+
+# Lines of every length round a block's end, sent and read.
+sends_and_reads() {
+    awk 'BEGIN { for (n = 0; n < 600; n += n > 240 && n < 260 || n > 500 && n < 515 ? 1 : 23) { s = ""; for (i = 0; i < n; i++) s = s "a"; print s } }' >"$work/lines"
+    $run "$at/send_lines" <"$work/lines" | $run "$at/read_frames" 100 | sed 's/^message [0-9]* *//; s/61/a/g' | diff "$work/lines" -
+}
+
+messages() {
+    prints 'message 5: 68 65 6c 6c 6f
+message 0:
+message 3: 61 00 62
+refused: the buffer is too small
+first message: 5 bytes
+of nothing: no message' $run "$at/messages"
+}
+
+symbols() {
+    prints "$(sed -n 's/^[a-z].* \**\(jcobs_[a-z_]*\)(.*/\1/p' include/jcobs.h | sort)" \
+        sh -c "nm -D --defined-only $at/libjcobs.so | sed 's/.* T //' | sort" || return 1
+    # The library calls nothing but these two.
+    ! nm -u "$at/libjcobs.a" | sed -n 's/.* U //p' | sort -u | grep -v -x -e memcpy -e memmove
+}
+
+shared() {
+    "${CC:-cc}" -std=c99 -Iinclude tests/calls.c -L"$at" -ljcobs -o "$work/calls" &&
+        LD_LIBRARY_PATH=$at "$work/calls"
+}
+
+installed() (
+    make install "DESTDIR=$work/root" PREFIX=/usr || return 1
+    PKG_CONFIG_SYSROOT_DIR=$work/root
+    PKG_CONFIG_LIBDIR=$work/root/usr/lib/pkgconfig
+    PKG_CONFIG_ALLOW_SYSTEM_CFLAGS=1
+    PKG_CONFIG_ALLOW_SYSTEM_LIBS=1
+    export PKG_CONFIG_SYSROOT_DIR PKG_CONFIG_LIBDIR PKG_CONFIG_ALLOW_SYSTEM_CFLAGS PKG_CONFIG_ALLOW_SYSTEM_LIBS
+    # shellcheck disable=SC2046
+    "${CC:-cc}" "$work/root/usr/share/doc/jcobs/examples/send_lines.c" $(pkg-config --cflags --libs jcobs) -o "$work/installed" || return 1
+    echo hi | LD_LIBRARY_PATH=$work/root/usr/lib "$work/installed" | od -An -tx1
+)
+
+# The tarball, unpacked elsewhere: its own pkg-config file finds the rest.
+unpacked() {
+    make dist >"$work/dist" || { cat "$work/dist"; return 1; }
+    tar -C "$work" -xzf "$(tail -1 "$work/dist")" || return 1
+    root=$(echo "$work"/jcobs-*-linux)
+    test -f "$root/share/man/man3/jcobs.3" && test -f "$root/share/doc/jcobs/README.md" || return 1
+    # shellcheck disable=SC2046
+    "${CC:-cc}" -static "$root/share/doc/jcobs/examples/send_lines.c" \
+        $(PKG_CONFIG_LIBDIR="$root/lib/pkgconfig" pkg-config --cflags --libs jcobs) -o "$work/unpacked" || return 1
+    echo hi | "$work/unpacked" | od -An -tx1
+}
+
+manual() {
+    man --warnings -E UTF-8 -l -Tutf8 man/jcobs.3 2>&1 >/dev/null | grep . && return 1
+    return 0
+}
+
+run=
+at=$here
+if has make make 'the library'; then
+    part 'build: the library, the tests and the examples' make all tests examples
+fi
+if has gcc gcc 'header by gcc'; then
+    part 'header by gcc, C90 to C23' header gcc c c90 c99 c11 c17 c23
+fi
+if has g++ g++ 'header by g++'; then
+    part 'header by g++, C++98 to C++20' header g++ cpp c++98 c++11 c++14 c++17 c++20
+fi
+if has clang clang 'header by clang'; then
+    part 'header by clang, C90 to C23' header clang c c90 c99 c11 c17 c23
+    part 'header by clang++, C++98 to C++20' header clang++ cpp c++98 c++11 c++14 c++17 c++20
+fi
+part 'symbols: those of the header alone' symbols
+part 'vectors' "$at/vectors" ../../vectors/*.txt
+part 'calls: constants, texts, NULL, loops' "$at/calls"
+part 'calls by the shared library' shared
+part '1,000,000 random calls between pages without access' "$at/guard" 1000000
+for chunk in 1 7 4096; do
+    part "read_frames, $chunk bytes at a time" reads "$chunk"
+done
+part 'read_frames from a slow writer' reads_slowly
+part 'send_lines' sends
+part 'send_lines, and read_frames behind it' sends_and_reads
+part 'messages in C++17' messages
+if has pkg-config pkg-config 'install and dist'; then
+    part 'install' installed
+    part 'dist' unpacked
+fi
+if has man man-db 'manual page'; then
+    part 'manual page' manual
+fi
+if has clang-format clang-format 'layout'; then
+    part 'layout' clang-format --dry-run -Werror include/jcobs.h examples/*.c examples/*.cpp tests/*.c
+fi
+if [ "$machine" != aarch64 ] && has aarch64-linux-gnu-gcc gcc-aarch64-linux-gnu aarch64 &&
+    has qemu-aarch64 qemu-user aarch64; then
+    at=build/aarch64-unknown-linux-gnu
+    run='qemu-aarch64 -L /usr/aarch64-linux-gnu'
+    part 'build for aarch64' make TARGET=aarch64-unknown-linux-gnu all tests "$at/read_frames"
+    # shellcheck disable=SC2086
+    part 'vectors on aarch64' $run "$at/vectors" ../../vectors/*.txt
+    # shellcheck disable=SC2086
+    part 'calls on aarch64' $run "$at/calls"
+    # shellcheck disable=SC2086
+    part '100,000 random calls on aarch64' $run "$at/guard" 100000
+    part 'read_frames on aarch64' reads 7
+fi
+echo "$passed passed, $failed failed, $skipped skipped"
+[ "$failed" -eq 0 ]

@@ -1,0 +1,590 @@
+/* Runs the cases of vectors/ that this library has calls for: vectors FILE...
+ *
+ * Prints each case that fails, and last how many were run, passed over and failed. vectors/README.md has the
+ * format. Where this library answers otherwise than the vectors say:
+ *
+ * - It counts a terminator that it has taken, in place too, and says with a refusal too how many bytes it took.
+ *   The counts that the vectors leave out are tested against a count made here.
+ * - JCOBS_EMPTY stands for `empty`, and for `invalid` with 0 where the source of `decode` is zeros alone.
+ * - A piece that is too long for the buffer is answered once, at its zero: the answers of `decoder` before that
+ *   are passed over. */
+#include <jcobs.h>
+
+#include <stdio.h>
+#include <stdlib.h>
+#include <string.h>
+
+#define MOST_WORDS 200
+#define MOST_LINE 20000
+
+static char *words[MOST_WORDS];
+static size_t word_count; /* of the whole line */
+static size_t arrow;      /* the index of the word -> */
+static size_t next_answer;
+static int failed; /* whether the case failed */
+
+typedef struct bytes {
+    unsigned char *data;
+    size_t len;
+} bytes;
+
+static void fail(const char *what)
+{
+    printf("failed %s: %s\n", words[0], what);
+    failed = 1;
+}
+
+static void *room_for(size_t len)
+{
+    void *room = malloc(len == 0 ? 1 : len);
+    if (room == NULL) {
+        fputs("out of memory\n", stderr);
+        exit(1);
+    }
+    return room;
+}
+
+static unsigned int digit(char c)
+{
+    return (unsigned int)(c <= '9' ? c - '0' : c - 'a' + 10);
+}
+
+/* The bytes of a word, in memory of exactly their length; NULL where there are none. */
+static bytes bytes_of(const char *word)
+{
+    bytes read = {NULL, 0};
+    size_t i;
+
+    if (strcmp(word, "-") == 0)
+        return read;
+    read.len = strlen(word) / 2;
+    read.data = room_for(read.len);
+    for (i = 0; i < read.len; i++)
+        read.data[i] = (unsigned char)(digit(word[2 * i]) * 16 + digit(word[2 * i + 1]));
+    return read;
+}
+
+static bytes argument(size_t index)
+{
+    return bytes_of(words[3 + index]);
+}
+
+static size_t argument_count(void)
+{
+    return arrow - 3;
+}
+
+/* Compares the next word of the answer, unless it is a question mark. */
+static void expect_word(const char *what, const char *found)
+{
+    if (next_answer >= word_count) {
+        fail("more answers than words");
+        return;
+    }
+    if (strcmp(words[next_answer], "?") != 0 && strcmp(words[next_answer], found) != 0)
+        fail(what);
+    next_answer++;
+}
+
+static void expect_count(const char *what, size_t found)
+{
+    char text[32];
+
+    sprintf(text, "%lu", (unsigned long)found);
+    expect_word(what, text);
+}
+
+static void expect_bytes(const char *what, const unsigned char *found, size_t len)
+{
+    char *text = room_for(2 * len + 2);
+    size_t i;
+
+    strcpy(text, "-");
+    for (i = 0; i < len; i++)
+        sprintf(text + 2 * i, "%02x", (unsigned int)found[i]);
+    expect_word(what, text);
+    free(text);
+}
+
+static void expect(const char *what, int holds)
+{
+    if (!holds)
+        fail(what);
+}
+
+/* How many bytes stand up to the first sentinel, with it. */
+static size_t through(bytes source, size_t from, unsigned char sentinel)
+{
+    size_t i;
+
+    for (i = from; i < source.len; i++)
+        if (source.data[i] == sentinel)
+            return i + 1;
+    return source.len;
+}
+
+static size_t zeros_in_front(bytes source)
+{
+    size_t i = 0;
+
+    while (i < source.len && source.data[i] == 0)
+        i++;
+    return i;
+}
+
+/* A refusal by this word, or by `refused` where the answer says that. */
+static void expect_refusal(const char *word)
+{
+    if (next_answer < word_count && strcmp(words[next_answer], "refused") == 0)
+        word = "refused";
+    expect_word("refusal", word);
+}
+
+static void expect_status(jcobs_answer answer, size_t source_len)
+{
+    const char *word = "?";
+
+    switch (answer.status) {
+    case JCOBS_OK:
+        expect_word("status", "ok");
+        return;
+    case JCOBS_TOO_SMALL:
+        word = "too_small";
+        break;
+    case JCOBS_BROKEN:
+        word = "invalid";
+        break;
+    case JCOBS_EMPTY:
+        word = source_len == 0 ? "empty" : "invalid";
+        break;
+    default:
+        fail("unknown status");
+    }
+    expect_refusal(word);
+}
+
+/* The length, which the vectors leave out where the room is too small or there is nothing. */
+static void expect_length(jcobs_answer answer)
+{
+    if (next_answer < word_count && strcmp(words[next_answer], "-") == 0)
+        next_answer++;
+    else
+        expect_count("length", answer.length);
+}
+
+static void run_max_length(int overhead)
+{
+    size_t len = (size_t)strtoul(words[3], NULL, 10);
+
+    expect_count("greatest length", jcobs_max_length(len) - (overhead ? len : 0));
+    expect("the macro is the function", JCOBS_MAX_LENGTH(len) == jcobs_max_length(len));
+}
+
+/* The frame alone, in a buffer of exactly its length, and with its terminator. */
+static void run_encode_vec(int with_sentinel)
+{
+    bytes message = argument(with_sentinel ? 1 : 0);
+    unsigned char sentinel = 0;
+    size_t room = jcobs_max_length(message.len) + 1;
+    unsigned char *frame = room_for(room);
+    unsigned char *exact;
+    jcobs_answer answer;
+    jcobs_answer again;
+
+    if (with_sentinel) {
+        bytes word = argument(0);
+        sentinel = word.data[0];
+        free(word.data);
+        answer = jcobs_encode_with_sentinel(message.data, message.len, frame, room, sentinel);
+    } else {
+        answer = jcobs_encode(message.data, message.len, frame, room);
+    }
+    expect("ok", answer.status == JCOBS_OK && answer.consumed == message.len);
+    expect_bytes("frame", frame, answer.length);
+    exact = room_for(answer.length + 1);
+    again = with_sentinel
+                ? jcobs_encode_terminated_with_sentinel(message.data, message.len, exact, answer.length + 1, sentinel)
+                : jcobs_encode_terminated(message.data, message.len, exact, answer.length + 1);
+    expect("terminated", again.status == JCOBS_OK && again.length == answer.length + 1 &&
+                             again.consumed == message.len && memcmp(exact, frame, answer.length) == 0 &&
+                             exact[answer.length] == sentinel);
+    memset(exact, 0xaa, answer.length + 1);
+    again = with_sentinel
+                ? jcobs_encode_terminated_with_sentinel(message.data, message.len, exact, answer.length, sentinel)
+                : jcobs_encode_terminated(message.data, message.len, exact, answer.length);
+    expect("no room for a terminator", again.status == JCOBS_TOO_SMALL && again.consumed == 0 && again.length == 0 &&
+                                           exact[0] == 0xaa && exact[answer.length - 1] == 0xaa);
+    free(exact);
+    free(frame);
+    free(message.data);
+}
+
+static void run_encode(int with_sentinel, int with_status)
+{
+    bytes message = argument(with_sentinel ? 1 : 0);
+    bytes buffer = argument(with_sentinel ? 2 : 1);
+    jcobs_answer answer;
+
+    if (with_sentinel) {
+        bytes word = argument(0);
+        answer = jcobs_encode_with_sentinel(message.data, message.len, buffer.data, buffer.len, word.data[0]);
+        free(word.data);
+    } else {
+        answer = jcobs_encode(message.data, message.len, buffer.data, buffer.len);
+    }
+    if (with_status)
+        expect_status(answer, message.len);
+    expect("consumed", answer.consumed == (answer.status == JCOBS_OK ? message.len : 0));
+    expect_length(answer);
+    if (with_status && answer.status != JCOBS_OK && next_answer < word_count && strcmp(words[next_answer], "-") == 0 &&
+        buffer.len > 0)
+        next_answer++;
+    else
+        expect_bytes("buffer", buffer.data, buffer.len);
+    free(message.data);
+    free(buffer.data);
+}
+
+static void run_encoder(void)
+{
+    bytes buffer = argument(0);
+    jcobs_encoder encoder = JCOBS_ENCODER_INIT;
+    const char *told[MOST_WORDS];
+    jcobs_answer answer;
+    size_t pieces = argument_count() - 1;
+    size_t i;
+
+    for (i = 0; i < pieces; i++) {
+        bytes piece = argument(i + 1);
+        answer = jcobs_encoder_push(&encoder, buffer.data, buffer.len, piece.data, piece.len);
+        told[i] = answer.status == JCOBS_OK ? "ok" : "too_small";
+        expect("consumed", answer.consumed == (answer.status == JCOBS_OK ? piece.len : 0));
+        free(piece.data);
+    }
+    answer = jcobs_encoder_finish(&encoder, buffer.data, buffer.len);
+    expect("finished", answer.status == JCOBS_OK && answer.consumed == 0);
+    expect_count("length", answer.length);
+    expect_bytes("buffer", buffer.data, buffer.len);
+    for (i = 0; i < pieces; i++)
+        expect_word("push", told[i]);
+    free(buffer.data);
+}
+
+static void run_encode_frames(void)
+{
+    unsigned char *stream = room_for(MOST_LINE);
+    size_t len = 0;
+    size_t i;
+
+    for (i = 0; i < argument_count(); i++) {
+        bytes message = argument(i);
+        jcobs_answer answer = jcobs_encode_terminated(message.data, message.len, stream + len, MOST_LINE - len);
+        expect("ok", answer.status == JCOBS_OK);
+        len += answer.length;
+        free(message.data);
+    }
+    expect_bytes("frames", stream, len);
+    free(stream);
+}
+
+enum decoding { INTO_BUFFER, INTO_VECTOR };
+
+static void run_decode(enum decoding how)
+{
+    bytes source = argument(0);
+    bytes buffer = {NULL, 0};
+    size_t zeros = zeros_in_front(source);
+    jcobs_answer answer;
+
+    if (how == INTO_BUFFER)
+        buffer = argument(1);
+    else {
+        buffer.len = source.len;
+        buffer.data = room_for(buffer.len);
+    }
+    answer = jcobs_decode(source.data, source.len, buffer.data, buffer.len);
+    expect_status(answer, source.len);
+    expect("consumed", answer.consumed == through(source, zeros, 0));
+    if (how == INTO_BUFFER) {
+        if (answer.status == JCOBS_OK)
+            expect_count("consumed", answer.consumed);
+        else
+            expect_word("consumed", "-");
+        if (answer.status == JCOBS_TOO_SMALL)
+            expect("the whole buffer", answer.length == buffer.len);
+        expect_length(answer);
+        expect_bytes("buffer", buffer.data, buffer.len);
+    } else {
+        expect_length(answer);
+        if (answer.status == JCOBS_OK)
+            expect_bytes("message", buffer.data, answer.length);
+        else
+            next_answer++;
+    }
+    free(source.data);
+    free(buffer.data);
+}
+
+static void run_decode_with_sentinel(enum decoding how)
+{
+    bytes word = argument(0);
+    bytes source = argument(1);
+    bytes buffer = {NULL, 0};
+    jcobs_answer answer;
+
+    if (how == INTO_BUFFER)
+        buffer = argument(2);
+    else {
+        buffer.len = source.len;
+        buffer.data = room_for(buffer.len);
+    }
+    answer = jcobs_decode_with_sentinel(source.data, source.len, buffer.data, buffer.len, word.data[0]);
+    expect_status(answer, source.len);
+    expect("consumed", answer.consumed == through(source, 0, word.data[0]));
+    expect_length(answer);
+    if (how == INTO_BUFFER)
+        expect_bytes("buffer", buffer.data, buffer.len);
+    else if (answer.status == JCOBS_OK)
+        expect_bytes("message", buffer.data, answer.length);
+    else
+        next_answer++;
+    free(word.data);
+    free(source.data);
+    free(buffer.data);
+}
+
+static void run_in_place(int with_sentinel, int with_consumed)
+{
+    bytes buffer = argument(with_sentinel ? 1 : 0);
+    unsigned char sentinel = 0;
+    size_t consumed;
+    size_t terminator;
+    jcobs_answer answer;
+
+    if (with_sentinel) {
+        bytes word = argument(0);
+        sentinel = word.data[0];
+        free(word.data);
+    }
+    consumed = through(buffer, 0, sentinel);
+    terminator = consumed > 0 && buffer.data[consumed - 1] == sentinel ? 1 : 0;
+    answer = with_sentinel ? jcobs_decode_in_place_with_sentinel(buffer.data, buffer.len, sentinel)
+                           : jcobs_decode_in_place(buffer.data, buffer.len);
+    expect_status(answer, buffer.len);
+    expect("consumed", answer.consumed == consumed);
+    if (with_consumed) {
+        if (answer.status == JCOBS_OK)
+            expect_count("consumed", answer.consumed - terminator);
+        else
+            expect_word("consumed", "-");
+    }
+    expect_length(answer);
+    expect_bytes("buffer", buffer.data, buffer.len);
+    free(buffer.data);
+}
+
+/* Passes over the answers to a piece that is too long, in front of its zero: those whose byte isn't one. */
+static void pass_over_early(bytes stream)
+{
+    while (next_answer + 2 < word_count && strcmp(words[next_answer + 1], "too_small") == 0) {
+        size_t place = (size_t)strtoul(words[next_answer], NULL, 10);
+        if (stream.data[place - 1] == 0)
+            return;
+        next_answer += 3;
+    }
+}
+
+static void run_decoder(void)
+{
+    bytes buffer = argument(0);
+    bytes stream = {NULL, 0};
+    jcobs_decoder decoder = JCOBS_DECODER_INIT;
+    size_t after = next_answer++;
+    size_t i;
+
+    stream.data = room_for(MOST_LINE);
+    for (i = 1; i < argument_count(); i++) {
+        bytes piece;
+        size_t at = 0;
+
+        if (strcmp(words[3 + i], "reset") == 0) {
+            jcobs_decoder_reset(&decoder);
+            continue;
+        }
+        piece = argument(i);
+        if (piece.len > 0)
+            memcpy(stream.data + stream.len, piece.data, piece.len);
+        while (at < piece.len) {
+            jcobs_answer answer =
+                jcobs_decoder_push(&decoder, buffer.data, buffer.len, piece.data + at, piece.len - at);
+            at += answer.consumed;
+            if (answer.consumed == 0) {
+                fail("nothing consumed");
+                break;
+            }
+            if (answer.status == JCOBS_MORE) {
+                expect("all consumed", at == piece.len);
+                continue;
+            }
+            pass_over_early(stream);
+            expect_count("place", stream.len + at);
+            expect_word("answer", answer.status == JCOBS_OK       ? "message"
+                                  : answer.status == JCOBS_BROKEN ? "broken"
+                                                                  : "too_small");
+            expect_bytes("front of the buffer", buffer.data, answer.length);
+        }
+        stream.len += piece.len;
+        free(piece.data);
+    }
+    pass_over_early(stream);
+    i = next_answer;
+    next_answer = after;
+    expect_bytes("buffer", buffer.data, buffer.len);
+    next_answer = i;
+    free(stream.data);
+    free(buffer.data);
+}
+
+static void run_decode_stream(void)
+{
+    size_t room = (size_t)strtoul(words[3], NULL, 10);
+    unsigned char *buffer = room_for(room);
+    jcobs_decoder decoder = JCOBS_DECODER_INIT;
+    size_t i;
+
+    for (i = 1; i < argument_count(); i++) {
+        bytes piece = argument(i);
+        size_t at = 0;
+
+        while (at < piece.len) {
+            jcobs_answer answer = jcobs_decoder_push(&decoder, buffer, room, piece.data + at, piece.len - at);
+            at += answer.consumed;
+            switch (answer.status) {
+            case JCOBS_OK:
+                expect_word("message", "message");
+                expect_bytes("message", buffer, answer.length);
+                break;
+            case JCOBS_BROKEN:
+                expect_refusal("broken");
+                expect_count("broken", answer.length);
+                break;
+            case JCOBS_TOO_SMALL:
+                expect_refusal("too_long");
+                expect_word("too long", "-");
+                break;
+            default:
+                break;
+            }
+        }
+        free(piece.data);
+    }
+    if (next_answer < word_count && strcmp(words[next_answer], "-") == 0)
+        next_answer++;
+    free(buffer);
+}
+
+static void run_frame_kind(void)
+{
+    static const char *const names[] = {"not_a_frame", "canonical", "longer"};
+    bytes frame = argument(0);
+
+    expect_word("kind", names[jcobs_frame_kind(frame.data, frame.len)]);
+    free(frame.data);
+}
+
+/* Whether the library has this call; if so, the case has been run. */
+static int run_case(const char *call)
+{
+    if (strcmp(call, "max_encoding_overhead") == 0)
+        run_max_length(1);
+    else if (strcmp(call, "max_encoding_length") == 0)
+        run_max_length(0);
+    else if (strcmp(call, "encode_vec") == 0)
+        run_encode_vec(0);
+    else if (strcmp(call, "encode_vec_with_sentinel") == 0)
+        run_encode_vec(1);
+    else if (strcmp(call, "encode") == 0)
+        run_encode(0, 0);
+    else if (strcmp(call, "encode_with_sentinel") == 0)
+        run_encode(1, 0);
+    else if (strcmp(call, "try_encode") == 0)
+        run_encode(0, 1);
+    else if (strcmp(call, "encoder") == 0)
+        run_encoder();
+    else if (strcmp(call, "encode_frames") == 0)
+        run_encode_frames();
+    else if (strcmp(call, "decode_vec") == 0)
+        run_decode(INTO_VECTOR);
+    else if (strcmp(call, "decode") == 0)
+        run_decode(INTO_BUFFER);
+    else if (strcmp(call, "decode_vec_with_sentinel") == 0)
+        run_decode_with_sentinel(INTO_VECTOR);
+    else if (strcmp(call, "decode_with_sentinel") == 0)
+        run_decode_with_sentinel(INTO_BUFFER);
+    else if (strcmp(call, "decode_in_place") == 0)
+        run_in_place(0, 0);
+    else if (strcmp(call, "decode_in_place_report") == 0)
+        run_in_place(0, 1);
+    else if (strcmp(call, "decode_in_place_with_sentinel") == 0)
+        run_in_place(1, 0);
+    else if (strcmp(call, "decoder") == 0)
+        run_decoder();
+    else if (strcmp(call, "decode_stream") == 0)
+        run_decode_stream();
+    else if (strcmp(call, "frame_kind") == 0)
+        run_frame_kind();
+    else
+        return 0;
+    return 1;
+}
+
+/* Cuts the line into its words. */
+static void cut(char *line)
+{
+    char *word;
+
+    word_count = 0;
+    arrow = 0;
+    for (word = strtok(line, " \n"); word != NULL && word_count < MOST_WORDS; word = strtok(NULL, " \n")) {
+        if (arrow == 0 && strcmp(word, "->") == 0)
+            arrow = word_count;
+        words[word_count++] = word;
+    }
+    next_answer = arrow + 1;
+}
+
+int main(int argc, char **argv)
+{
+    static char line[MOST_LINE];
+    unsigned long run = 0;
+    unsigned long over = 0;
+    unsigned long bad = 0;
+    int i;
+
+    for (i = 1; i < argc; i++) {
+        FILE *file = fopen(argv[i], "r");
+        if (file == NULL) {
+            perror(argv[i]);
+            return 1;
+        }
+        while (fgets(line, sizeof line, file) != NULL) {
+            if (line[0] == '#' || line[0] == '\n')
+                continue;
+            cut(line);
+            failed = 0;
+            if (arrow < 3) {
+                fail("no case");
+            } else if (run_case(words[2])) {
+                run++;
+                if (next_answer != word_count)
+                    fail("fewer answers than words");
+            } else {
+                over++;
+            }
+            bad += failed ? 1 : 0;
+        }
+        fclose(file);
+    }
+    printf("%lu cases run, %lu of calls that this library lacks, %lu failed\n", run, over, bad);
+    return bad == 0 && run > 0 ? 0 : 1;
+}
