@@ -16,6 +16,7 @@ mod owned;
 mod piece;
 mod report;
 mod sentinel;
+mod short;
 mod state;
 mod unbuffered;
 mod vector;
@@ -32,6 +33,7 @@ pub use owned::CobsDecoderOwned;
 use piece::{decode_ended, leading_zeros, piece_len};
 pub use report::{DecodeError, DecodeReport, DecodingResult, PushError};
 pub use sentinel::decode_with_sentinel;
+use short::{copy_short, decode_copied};
 pub use state::{DecodeResult, DecoderState};
 pub use unbuffered::{DecoderPhase, UnbufferedDecoder};
 pub use vector::{DecodeVecError, decode_vec, decode_vec_with_sentinel};
@@ -49,6 +51,10 @@ fn decode_first(source: &[u8], dest: &mut [u8]) -> Result<DecodeReport, DecodeEr
     let rest = &source[start..];
     if rest.is_empty() {
         return Err(DecodeError::InvalidFrame { decoded_bytes: 0 });
+    }
+    if copy_short(rest, dest) {
+        let frame_size = decode_copied(rest, dest)?;
+        return Ok(DecodeReport::new(source.len(), frame_size));
     }
     let front = decode_front(rest, dest);
     let len = front.read + piece_len(&rest[front.read..]);

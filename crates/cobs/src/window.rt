@@ -9,7 +9,7 @@ use std::simd::prelude::*;
 pub(crate) const WINDOW: usize = 32;
 
 /// How many bytes of a long block are copied at once.
-const WIDE_WINDOW: usize = 64;
+pub(crate) const WIDE_WINDOW: usize = 64;
 
 /// Which of the 32 bytes from `at` on are zeros.
 #[inline(always)]
@@ -227,7 +227,7 @@ pub(crate) fn copy_nonzero_32(source: &[u8], read: usize, dest: &mut [u8], at: u
 /// Copies the `len` bytes from `read` on, 32 to 64 of them, if none is a zero, and says whether it did: as two windows
 /// that may overlap.
 #[inline(always)]
-pub(crate) fn copy_nonzero_pair(
+pub(crate) fn copy_nonzero_32_to_64(
     source: &[u8],
     read: usize,
     len: usize,
@@ -253,6 +253,140 @@ pub(crate) fn copy_nonzero_pair(
     front.copy_to_slice(&mut dest[at..]);
     back.copy_to_slice(&mut dest[at + len - WINDOW..]);
     true
+}
+
+/// Copies the `len` bytes from `read` on, 16 to 32 of them, if none is a zero, and says whether it did.
+#[inline(always)]
+fn copy_nonzero_16_to_32(source: &[u8], read: usize, len: usize, dest: &mut [u8], at: usize) -> bool
+    requires source { read + len ≤ length source.now }
+    requires some { 16 ≤ len }
+    requires few { len ≤ 32 }
+    requires room { at + len ≤ length dest.old }
+    ensures nonzero { IsTrue result → HasNoZero (take len (drop read source.now)) }
+    ensures copied { IsTrue result
+        → dest.new ≡ take at dest.old ++ (take len (drop read source.now) ++ drop (at + len) dest.old) }
+    ensures kept { result ≡ false → dest.new ≡ dest.old }
+{
+    let front = u8x16::from_slice(&source[read..]);
+    let back = u8x16::from_slice(&source[read + len - 16..]);
+    let zeros = front.simd_eq(u8x16::splat(0)).to_bitmask()
+        | back.simd_eq(u8x16::splat(0)).to_bitmask();
+    if zeros != 0 {
+        return false;
+    }
+    front.copy_to_slice(&mut dest[at..]);
+    back.copy_to_slice(&mut dest[at + len - 16..]);
+    true
+}
+
+/// Copies the `len` bytes from `read` on, 8 to 16 of them, if none is a zero, and says whether it did.
+#[inline(always)]
+fn copy_nonzero_8_to_16(source: &[u8], read: usize, len: usize, dest: &mut [u8], at: usize) -> bool
+    requires source { read + len ≤ length source.now }
+    requires some { 8 ≤ len }
+    requires few { len ≤ 16 }
+    requires room { at + len ≤ length dest.old }
+    ensures nonzero { IsTrue result → HasNoZero (take len (drop read source.now)) }
+    ensures copied { IsTrue result
+        → dest.new ≡ take at dest.old ++ (take len (drop read source.now) ++ drop (at + len) dest.old) }
+    ensures kept { result ≡ false → dest.new ≡ dest.old }
+{
+    let front = u8x8::from_slice(&source[read..]);
+    let back = u8x8::from_slice(&source[read + len - 8..]);
+    let zeros = front.simd_eq(u8x8::splat(0)).to_bitmask()
+        | back.simd_eq(u8x8::splat(0)).to_bitmask();
+    if zeros != 0 {
+        return false;
+    }
+    front.copy_to_slice(&mut dest[at..]);
+    back.copy_to_slice(&mut dest[at + len - 8..]);
+    true
+}
+
+/// Copies the `len` bytes from `read` on, 4 to 8 of them, if none is a zero, and says whether it did.
+#[inline(always)]
+fn copy_nonzero_4_to_8(source: &[u8], read: usize, len: usize, dest: &mut [u8], at: usize) -> bool
+    requires source { read + len ≤ length source.now }
+    requires some { 4 ≤ len }
+    requires few { len ≤ 8 }
+    requires room { at + len ≤ length dest.old }
+    ensures nonzero { IsTrue result → HasNoZero (take len (drop read source.now)) }
+    ensures copied { IsTrue result
+        → dest.new ≡ take at dest.old ++ (take len (drop read source.now) ++ drop (at + len) dest.old) }
+    ensures kept { result ≡ false → dest.new ≡ dest.old }
+{
+    let front = u8x4::from_slice(&source[read..]);
+    let back = u8x4::from_slice(&source[read + len - 4..]);
+    let zeros = front.simd_eq(u8x4::splat(0)).to_bitmask()
+        | back.simd_eq(u8x4::splat(0)).to_bitmask();
+    if zeros != 0 {
+        return false;
+    }
+    front.copy_to_slice(&mut dest[at..]);
+    back.copy_to_slice(&mut dest[at + len - 4..]);
+    true
+}
+
+/// Copies one, two or three bytes if none is a zero, and says whether it did: the first one, the one in the middle and
+/// the last one, some of which may be the same.
+#[inline(always)]
+fn copy_nonzero_few(source: &[u8], read: usize, len: usize, dest: &mut [u8], at: usize) -> bool
+    requires source { read + len ≤ length source.now }
+    requires some { 0 < len }
+    requires few { len ≤ 3 }
+    requires room { at + len ≤ length dest.old }
+    ensures nonzero { IsTrue result → HasNoZero (take len (drop read source.now)) }
+    ensures copied { IsTrue result
+        → dest.new ≡ take at dest.old ++ (take len (drop read source.now) ++ drop (at + len) dest.old) }
+    ensures kept { result ≡ false → dest.new ≡ dest.old }
+{
+    let half = len / 2;
+    let last = len - 1;
+    let front = source[read];
+    let middle = source[read + half];
+    let back = source[read + last];
+    let zeros = (front == 0) as u64
+        | (((middle == 0) as u64) << half)
+        | (((back == 0) as u64) << last);
+    if zeros != 0 {
+        return false;
+    }
+    dest[at] = front;
+    dest[at + half] = middle;
+    dest[at + last] = back;
+    true
+}
+
+/// Copies the `len` bytes from `read` on, up to 64, if none is a zero, and says whether it did: by one class of their
+/// number.
+#[inline(always)]
+pub(crate) fn copy_nonzero_short(
+    source: &[u8],
+    read: usize,
+    len: usize,
+    dest: &mut [u8],
+    at: usize,
+) -> bool
+    requires source { read + len ≤ length source.now }
+    requires some { 0 < len }
+    requires few { len ≤ 64 }
+    requires room { at + len ≤ length dest.old }
+    ensures nonzero { IsTrue result → HasNoZero (take len (drop read source.now)) }
+    ensures copied { IsTrue result
+        → dest.new ≡ take at dest.old ++ (take len (drop read source.now) ++ drop (at + len) dest.old) }
+    ensures kept { result ≡ false → dest.new ≡ dest.old }
+{
+    if len >= 32 {
+        copy_nonzero_32_to_64(source, read, len, dest, at)
+    } else if len >= 16 {
+        copy_nonzero_16_to_32(source, read, len, dest, at)
+    } else if len >= 8 {
+        copy_nonzero_8_to_16(source, read, len, dest, at)
+    } else if len >= 4 {
+        copy_nonzero_4_to_8(source, read, len, dest, at)
+    } else {
+        copy_nonzero_few(source, read, len, dest, at)
+    }
 }
 
 /// Copies the `len` bytes from `read` on, at least 64 of them, up to the first 64 of which one is a zero, and answers

@@ -4,7 +4,7 @@ use lib.Lanes.{put_chunk}
 use Rattle.cobs.specs.Grammar.{HasNoZero}
 use Rattle.cobs.proofs.MaskLemmas.{put_is, zeros_by_lanes, zero_mask-none}
 use Rattle.cobs.proofs.NonzeroCopies.{or-none, more-nonzero, more-copied}
-use Rattle.cobs.proofs.window.copy_nonzero_pair.Goals as goal
+use Rattle.cobs.proofs.window.copy_nonzero_32_to_64.Goals as goal
 
 pub returns-clause-nonzero : goal.returns-clause-nonzero
 returns-clause-nonzero c holds =
