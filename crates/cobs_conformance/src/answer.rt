@@ -11,7 +11,7 @@ pub struct Answer {
 }
 
 impl Answer {
-    ghost use Rattle.std.specs.Prelude.{◌≡◌, ◌↔◌, [], ◌∷◌, ◌++◌, IsTrue, OnOk, map, string_bytes};
+    ghost use Rattle.std.specs.Prelude.{◌≡◌, ◌⊎◌, [], ◌∷◌, ◌++◌, OnOk, map, string_bytes};
     ghost use Rattle.std.specs.Fmt.{decimal};
     ghost use Rattle.cobs_conformance.specs.Answer.{bytes_word, words_of};
 
@@ -32,11 +32,6 @@ impl Answer {
         self.words.as_slice()
     }
 
-    /// Whether the words are the same.
-    pub fn is_same(&self, other: &Answer) -> bool {
-        self.words == other.words
-    }
-
     /// The words with single spaces between them.
     pub fn text(&self) -> Result<String, AllocError> {
         let mut text = String::new(self.alloc);
@@ -54,6 +49,17 @@ impl Answer {
         ensures { OnOk result (words_of self.new ≡ words_of self.old ++ words_of other) }
     {
         self.words.append(&mut other.words)
+    }
+
+    /// Adds the words of another answer where they aren't the same.
+    pub fn append_other(&mut self, other: Answer) -> Result<(), AllocError>
+        ensures { OnOk result ((words_of self.new ≡ words_of self.old)
+            ⊎ (words_of self.new ≡ words_of self.old ++ words_of other)) }
+    {
+        if self.words == other.words {
+            return Ok(());
+        }
+        self.append(other)
     }
 
     /// Adds a word.

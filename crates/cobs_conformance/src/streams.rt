@@ -3,7 +3,10 @@ use crate::answer::Answer;
 use crate::arguments::{MAX_BYTES, NONE, bytes_of, number_of};
 use crate::fault::CaseFault;
 use crate::reads::Reads;
-use cobs::{CobsDecoder, CobsDecoderOwned, DecodeError, FrameReader, Next};
+use cobs::{
+    CobsDecoder, CobsDecoderHeapless, CobsDecoderOwned, DecodeError, DecodeReport, FrameDecoder,
+    FrameReader, Next, PushError,
+};
 use std::alloc::Global;
 
 /// The most calls of one case of `next_frame`.
@@ -16,55 +19,134 @@ enum Feeding {
     Bytes,
 }
 
-/// A streaming decoder over a buffer, given pieces: once by pushes and once byte by byte. Where the two come to
-/// something else, both answers follow each other, so the case differs.
-pub fn decoder(alloc: Global, arguments: &[&str]) -> Result<Answer, CaseFault> {
-    let mut pushed = fed(alloc, arguments, &Feeding::Pushes)?;
-    let bytewise = fed(alloc, arguments, &Feeding::Bytes)?;
-    if !pushed.is_same(&bytewise) {
-        pushed.append(bytewise)?;
-    }
-    Ok(pushed)
+/// What the cases ask of a streaming decoder beyond `FrameDecoder`.
+trait Streaming: FrameDecoder {
+    /// Pushes bytes until the first answer that isn't "nothing yet".
+    fn push_bytes(&mut self, bytes: &[u8]) -> Result<Option<DecodeReport>, PushError>;
+
+    /// Goes back to the start of a frame, and leaves the buffer as it is.
+    fn restart(&mut self);
 }
 
-fn fed(alloc: Global, arguments: &[&str], feeding: &Feeding) -> Result<Answer, CaseFault> {
+impl Streaming for CobsDecoderOwned {
+    fn push_bytes(&mut self, bytes: &[u8]) -> Result<Option<DecodeReport>, PushError> {
+        self.push(bytes)
+    }
+
+    fn restart(&mut self) {
+        self.reset();
+    }
+}
+
+impl<const N: usize> Streaming for CobsDecoderHeapless<N> {
+    fn push_bytes(&mut self, bytes: &[u8]) -> Result<Option<DecodeReport>, PushError> {
+        self.push(bytes)
+    }
+
+    fn restart(&mut self) {
+        self.reset();
+    }
+}
+
+impl Streaming for CobsDecoder<'_> {
+    fn push_bytes(&mut self, bytes: &[u8]) -> Result<Option<DecodeReport>, PushError> {
+        self.push(bytes)
+    }
+
+    /// This decoder has no `reset`. A zero leaves it idle too, and changes no byte.
+    fn restart(&mut self) {
+        let _ = self.feed(0);
+    }
+}
+
+/// A streaming decoder over a buffer, given pieces: each of the three decoders, once by pushes and once byte by byte.
+/// Where one comes to something else than the first, its answer follows, so the case differs.
+pub fn decoder(alloc: Global, arguments: &[&str]) -> Result<Answer, CaseFault> {
     let [buffer, pieces @ ..] = arguments else {
         return Err(CaseFault::Malformed);
     };
-    let mut decoder = decoder_over(alloc, &bytes_of(alloc, buffer)?)?;
+    let buffer = bytes_of(alloc, buffer)?;
+    let mut answer = owned(alloc, &buffer, pieces, &Feeding::Pushes)?;
+    answer.append_other(owned(alloc, &buffer, pieces, &Feeding::Bytes)?)?;
+    answer.append_other(lent(alloc, &buffer, pieces, &Feeding::Pushes)?)?;
+    answer.append_other(lent(alloc, &buffer, pieces, &Feeding::Bytes)?)?;
+    if buffer.len() == 4 {
+        answer.append_other(heapless(alloc, &buffer, pieces, &Feeding::Pushes)?)?;
+        answer.append_other(heapless(alloc, &buffer, pieces, &Feeding::Bytes)?)?;
+    }
+    Ok(answer)
+}
+
+fn owned(
+    alloc: Global,
+    buffer: &[u8],
+    pieces: &[&str],
+    feeding: &Feeding,
+) -> Result<Answer, CaseFault> {
+    let mut decoder = CobsDecoderOwned::new(alloc, buffer.len())?;
+    write_over(decoder.dest_mut(), buffer);
+    given(alloc, &mut decoder, pieces, feeding)
+}
+
+fn lent(
+    alloc: Global,
+    buffer: &[u8],
+    pieces: &[&str],
+    feeding: &Feeding,
+) -> Result<Answer, CaseFault> {
+    let mut dest = Vec::from_slice(alloc, buffer)?;
+    let mut decoder = CobsDecoder::new(&mut dest);
+    given(alloc, &mut decoder, pieces, feeding)
+}
+
+fn heapless(
+    alloc: Global,
+    buffer: &[u8],
+    pieces: &[&str],
+    feeding: &Feeding,
+) -> Result<Answer, CaseFault> {
+    let mut decoder = CobsDecoderHeapless::<4>::new();
+    write_over(decoder.dest_mut(), buffer);
+    given(alloc, &mut decoder, pieces, feeding)
+}
+
+/// Writes bytes over as many others.
+fn write_over(dest: &mut [u8], bytes: &[u8]) {
+    if dest.len() == bytes.len() {
+        dest.copy_from_slice(bytes);
+    }
+}
+
+/// Gives a decoder the pieces: its buffer behind them, and each answer but "nothing yet".
+fn given<D: Streaming>(
+    alloc: Global,
+    decoder: &mut D,
+    pieces: &[&str],
+    feeding: &Feeding,
+) -> Result<Answer, CaseFault> {
     let mut events = Answer::new(alloc);
-    let mut taken = 0;
+    let mut taken = 0usize;
     'by_piece: for piece in pieces {
         if *piece == "reset" {
-            decoder.reset();
+            decoder.restart();
         } else {
             let bytes = bytes_of(alloc, piece)?;
             match feeding {
-                Feeding::Pushes => push_piece(&mut decoder, &bytes, taken, &mut events)?,
-                Feeding::Bytes => feed_piece(&mut decoder, &bytes, taken, &mut events)?,
+                Feeding::Pushes => push_piece(decoder, &bytes, taken, &mut events)?,
+                Feeding::Bytes => feed_piece(decoder, &bytes, taken, &mut events)?,
             }
             taken = taken.saturating_add(bytes.len());
         }
     }
     let mut answer = Answer::new(alloc);
-    answer.say_bytes(decoder.dest())?;
+    answer.say_bytes(decoder.buffer())?;
     answer.append(events)?;
     Ok(answer)
 }
 
-/// An idle decoder whose buffer holds these bytes.
-fn decoder_over(alloc: Global, bytes: &[u8]) -> Result<CobsDecoderOwned, CaseFault> {
-    let mut decoder = CobsDecoderOwned::new(alloc, bytes.len())?;
-    let buffer = decoder.dest_mut();
-    if buffer.len() == bytes.len() {
-        buffer.copy_from_slice(bytes);
-    }
-    Ok(decoder)
-}
-
 /// Pushes a piece, and what each answer leaves of it again.
-fn push_piece(
-    decoder: &mut CobsDecoderOwned,
+fn push_piece<D: Streaming>(
+    decoder: &mut D,
     piece: &[u8],
     taken: usize,
     events: &mut Answer,
@@ -72,21 +154,21 @@ fn push_piece(
     let mut left = piece;
     let mut taken = taken;
     'by_push: for _ in 0..piece.len() {
-        let (consumed, answered) = match decoder.push(left) {
+        let (consumed, answered) = match decoder.push_bytes(left) {
             Ok(None) => (left.len(), Ok(None)),
             Ok(Some(report)) => (report.parsed_size(), Ok(Some(report.frame_size()))),
             Err(refusal) => (refusal.parsed_size, Err(refusal.error)),
         };
         taken = taken.saturating_add(consumed);
-        say_event(events, taken, &answered, decoder.dest())?;
+        say_event(events, taken, &answered, decoder.buffer())?;
         left = left.get(consumed..).unwrap_or(&[]);
     }
     Ok(())
 }
 
 /// Feeds a piece byte by byte.
-fn feed_piece(
-    decoder: &mut CobsDecoderOwned,
+fn feed_piece<D: Streaming>(
+    decoder: &mut D,
     piece: &[u8],
     taken: usize,
     events: &mut Answer,
@@ -94,8 +176,8 @@ fn feed_piece(
     let mut taken = taken;
     'by_byte: for byte in piece {
         taken = taken.saturating_add(1);
-        let answered = decoder.feed(*byte);
-        say_event(events, taken, &answered, decoder.dest())?;
+        let answered = decoder.feed_byte(*byte);
+        say_event(events, taken, &answered, decoder.buffer())?;
     }
     Ok(())
 }
