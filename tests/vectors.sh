@@ -2,13 +2,14 @@
 # Sees that the vectors are what the definition gives, that they notice wrong bodies and changed digits, and that plain
 # code in Python and in C passes what it owes.
 #
-# usage: vectors/check.sh
+# usage: tests/vectors.sh
 #
 # Takes python3 and a C compiler (cc, or CC). Where the program crates/cobs_conformance is built (rt run in its folder),
-# digits are changed under it, else under the plain library in Python. Ends within a minute.
+# digits are changed under it, else under the plain library in Python. Ends within two minutes.
 set -eu
 
-here=$(cd "$(dirname "$0")" && pwd)
+top=$(cd "$(dirname "$0")/.." && pwd)
+here=$top/vectors
 work=$(mktemp -d)
 trap 'rm -rf "$work"' EXIT
 export PYTHONDONTWRITEBYTECODE=1
@@ -17,7 +18,7 @@ python3 "$here/generate.py" --check
 cat "$here"/*.txt | python3 "$here/plain.py"
 python3 "$here/wrong_bodies.py"
 
-program=$here/../crates/cobs_conformance/out/cobs_conformance
+program=$top/crates/cobs_conformance/out/cobs_conformance
 if [ -x "$program" ]; then
     python3 "$here/change_digit.py" "$program"
 else
