@@ -262,24 +262,6 @@ module _ (piece old dest : List ℕ) (read : ℕ) (p : Decoded piece old dest re
         | inr other ↦ absurd (other.0 full)
       ]
 
--- all the bytes of a piece behind its first code, by one copy
-module _ (piece dest after : List ℕ) (some : 0 < length piece) (flat : length (output piece) + 1 ≡ length piece) (room : length (output piece) ≤ length dest) (k : ℕ) (k-is : k ≡ length piece - 1)
-    (is : after ≡ drop 1 piece ++ drop k dest) where
-  long-copy : length (drop 1 piece) ≡ k
-  long-copy = length-drop 1 piece ∙ sym k-is
-
-  pub copy-decoded : Decoded piece dest after 0 0
-  copy-decoded = record { within = some; left = omega arith; front = refl; rest = ap (drop (length (output piece))) is ∙ drop-append-drop k dest (drop 1 piece) (length (output piece)) (omega arith) long-copy; last = refl }
-
-  pub copy-copied : CopiedTo piece after 0 (length piece) 0
-  copy-copied =
-      let n : length piece - (0 + 1) ≡ k = omega arith in
-      let d = length-drop 1 piece in
-      record {
-        within = omega arith;
-        bytes = ap (take (length piece - (0 + 1))) is ∙ take_at (drop 1 piece) (drop k dest) (length piece - (0 + 1)) (long-copy ∙ sym n) ∙ sym (take_all (length piece - (0 + 1)) (drop 1 piece) (omega arith));
-      }
-
 -- where no code is left
 module _ (piece old dest : List ℕ) (read written code : ℕ) (p : Decoded piece old dest read written) (is : code ≡ get_or piece read 0) (some : 0 < code) (last : length piece ≤ read + code)
     (k : CopiedTo piece dest read (length piece) written) (room : length (output piece) ≤ length dest) where
@@ -317,27 +299,6 @@ module _ (piece old dest : List ℕ) (read written : ℕ) (p : Decoded piece old
       ∙ drop-past (take written dest) new written (length (output part)) (length (output piece)) front-long (sym left-is) ∙ rest
       ∙ ap (drop (length (output part))) back-is
       ∙ drop-drop (length (output part)) written dest ∙ ap (λ (n : ℕ). drop n dest) left-is ∙ p.rest
-
-  pub window-joined : (n : ℕ) → n < length part → n + length (output (drop n part)) ≡ length (output part) → take n new ++ output (drop n part) ≡ output part
-      → last_part (drop n part) ≡ last_part part → drop (length (output part)) new ≡ drop (length (output part)) back
-      → Decoded piece old (put_mid written k dest new) (read + n) (written + n)
-  window-joined n within count begins last rest =
-      let next : drop n part ≡ drop (read + n) piece = ap (drop n) part-is ∙ drop-drop n read piece in
-      let d = length-drop read piece in
-      let long = ap length part-is in
-      let e = left-is in
-      let l : n + length (output (drop (read + n) piece)) ≡ length (output part) = ap (λ (x : List ℕ). n + length (output x)) (sym next) ∙ count in
-      record {
-        within = omega arith;
-        left = omega arith;
-        front = ap (λ (x : List ℕ). take (written + n) x ++ output (drop (read + n) piece)) joined-is
-            ∙ ap (λ (x : List ℕ). x ++ output (drop (read + n) piece)) (take-past (take written dest) new written n (written + n) front-long refl)
-            ∙ append_assoc (take written dest) (take n new) (output (drop (read + n) piece))
-            ∙ ap (λ (x : List ℕ). take written dest ++ (take n new ++ output x)) (sym next)
-            ∙ ap (λ (x : List ℕ). take written dest ++ x) (begins ∙ ap output part-is) ∙ p.front;
-        rest = behind rest;
-        last = ap last_part (sym next) ∙ last ∙ ap last_part part-is ∙ p.last;
-      }
 
   module _ (m : ℕ) (count : m ≡ length (output part)) where
     pub joined-len : written + m ≡ length (output piece)
