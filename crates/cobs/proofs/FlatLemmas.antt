@@ -1,11 +1,13 @@
 -- Frames in which no block but the last is full, decoded in their own place.
-use Rattle.std.proofs.Common.{◌≡◌, ◌≢◌, ℕ, ◌+◌, ◌-◌, ◌<◌, true, List, [], ◌∷◌, length, take, drop, get_or, Ok, refl, sym, ap, ◌∙◌, arith, length-drop, inl, inr}
+use Rattle.std.proofs.Common.{append-nil, length-append, zero, suc, ◌≤◌, ◌++◌, replicate, subst, append_assoc, take-append-drop, length-take-le, set, ◌≡◌, ◌≢◌, ℕ, ◌+◌, ◌-◌, ◌<◌, true, List, [], ◌∷◌, length, take, drop, get_or, Ok, refl, sym, ap, ◌∙◌, arith, length-drop, inl, inr}
 use Rattle.std.proofs.lemmas.Bool.{eq-eqb}
-use Rattle.std.proofs.lemmas.List.{drop-drop, drop_more, drop-take, get_or-take, get_or-drop}
+use Rattle.std.proofs.lemmas.List.{drop_all, take_rest, length-set, drop-set-lt, take_more_set, drop-drop, drop_more, drop-take, get_or-take, get_or-drop}
+use borrow.Rule.Slice.PartMut.{put_mid}
+use Rattle.cobs.specs.Grammar.{code_of}
 use Rattle.cobs.specs.Piece.{output, kept_output, last_part, lacks, is_whole, IsFlat}
 use Rattle.cobs.specs.Decoding.{head_answer}
-use Rattle.cobs.proofs.PieceCuts.{last_part-more, last_part-last, is_whole-of, length-output-last, length-output-more, joint_of, joint-length}
-use Rattle.cobs.proofs.WindowSteps.{CopiedTo}
+use Rattle.cobs.proofs.PieceCuts.{output-le, last_part-more, last_part-last, is_whole-of, length-output-last, length-output-more, joint_of, joint-length}
+use Rattle.cobs.proofs.WindowSteps.{CopiedTo, Decoded, code-decoded, code-copied}
 
 -- the parts in front of `read` aren't full, and what is left ends as the piece does
 pub record FlatSoFar (piece : List ℕ) (read : ℕ) : Type 0 where
@@ -53,6 +55,61 @@ module _ (piece : List ℕ) (read code : ℕ) (f : FlatSoFar piece read) (is : c
         whole = ap lacks part ∙ omega arith;
       }
 
+  pub flat-code : length piece - read ≡ code → code_of (last_part piece) ≡ code
+  flat-code ends =
+      let w = f.within in
+      let l = length-drop (read + 1) piece in
+      ap code_of (sym f.last ∙ ap last_part cons ∙ last_part-last code (drop (read + 1) piece) (omega arith))
+
+-- the blocks in front of `read` are whole and not full, whatever stands behind
+pub record FrontSoFar (piece : List ℕ) (read : ℕ) : Type 0 where
+  pub within : read < length piece
+  pub front : (end : ℕ) → read < end → end ≤ length piece → FlatSoFar (take end piece) read
+  pub whole : 0 < read → IsFlat (take read piece) × (code_of (last_part (take read piece)) ≢ 255)
+
+pub front-started : (piece : List ℕ) → 0 < length piece → FrontSoFar piece 0
+front-started piece some = record {
+  within = some;
+  front = λ end lt le. flat-started (take end piece) (let l = length-take-le end piece le in omega arith);
+  whole = λ none. absurd (omega arith);
+}
+
+module _ (piece : List ℕ) (read code : ℕ) (f : FrontSoFar piece read) (is : code ≡ get_or piece read 0) (some : 0 < code) where
+  -- a whole block
+  pub front-whole : read + code ≤ length piece → IsFlat (take (read + code) piece) × (code_of (last_part (take (read + code) piece)) ≡ code)
+  front-whole le =
+      let end : ℕ = read + code in
+      let l = length-take-le end piece le in
+      let g = f.front end (omega arith) le in
+      let is' : code ≡ get_or (take end piece) read 0 = is ∙ sym (get_or-take end piece read 0 (omega arith)) in
+      (flat-whole (take end piece) read code g is' (omega arith), flat-code (take end piece) read code g is' (omega arith))
+
+  -- one that isn't full, and more behind it
+  pub front-more : read + code < length piece → code ≢ 255 → FrontSoFar piece (read + code)
+  front-more lt other =
+      let w = front-whole (omega arith) in
+      record {
+        within = lt;
+        front = λ end before le.
+            let l = length-take-le end piece le in
+            flat-more (take end piece) read code (f.front end (omega arith) le) (is ∙ sym (get_or-take end piece read 0 (omega arith))) some (omega arith) other;
+        whole = λ _. (w.0, λ full. other (sym w.1 ∙ full));
+      }
+
+-- empty blocks
+front-ones-by : (n : ℕ) (piece : List ℕ) (read : ℕ) → FrontSoFar piece read → take n (drop read piece) ≡ replicate n 1 → read + n < length piece → FrontSoFar piece (read + n)
+front-ones-by zero piece read f ones lt = let at : read ≡ read + 0 = omega arith in subst (FrontSoFar piece) at f
+front-ones-by (suc n) piece read f ones lt =
+    let left : drop read piece ≡ get_or piece read 0 ∷ drop (read + 1) piece = drop_more piece read 0 (omega arith) in
+    let all : get_or piece read 0 ∷ take n (drop (read + 1) piece) ≡ 1 ∷ replicate n 1 = ap (take (suc n)) (sym left) ∙ ones in
+    let first : 1 ≡ get_or piece read 0 = cc in
+    let others : take n (drop (read + 1) piece) ≡ replicate n 1 = cc in
+    let at : read + 1 + n ≡ read + suc n = omega arith in
+    subst (FrontSoFar piece) at (front-ones-by n piece (read + 1) (front-more piece read 1 f first (omega arith) (omega arith) (λ e. omega (arith, e))) others (omega arith))
+
+pub front-ones : (piece : List ℕ) (read : ℕ) → FrontSoFar piece read → take 32 (drop read piece) ≡ replicate 32 1 → read + 32 < length piece → FrontSoFar piece (read + 32)
+front-ones piece read f ones lt = front-ones-by 32 piece read f ones lt
+
 -- what stands behind the front of a copy is the next code
 pub next-code : (piece dest : List ℕ) (read code : ℕ) → CopiedTo piece dest read (length piece) read → 0 < code → read + code < length piece → get_or dest (read + (code - 1)) 0 ≡ get_or piece (read + code) 0
 next-code piece dest read code k some more =
@@ -60,6 +117,81 @@ next-code piece dest read code k some more =
     let at : read + 1 + (code - 1) ≡ read + code = omega arith in
     sym (get_or-drop read dest (code - 1) 0) ∙ sym (get_or-take n (drop read dest) (code - 1) 0 (omega arith)) ∙ ap (λ (xs : List ℕ). get_or xs (code - 1) 0) k.bytes
     ∙ get_or-take n (drop (read + 1) piece) (code - 1) 0 (omega arith) ∙ get_or-drop (read + 1) piece (code - 1) 0 ∙ ap (λ (m : ℕ). get_or piece m 0) at
+
+-- empty blocks behind a copy of their codes, one after another
+zeroed : ℕ → ℕ → List ℕ → List ℕ
+zeroed zero read dest = dest
+zeroed (suc n) read dest = zeroed n (read + 1) (set dest read 0)
+
+zeroed-is : (n read : ℕ) (dest : List ℕ) → read + n ≤ length dest → zeroed n read dest ≡ take read dest ++ (replicate n 0 ++ drop (read + n) dest)
+unfolding zeroed
+zeroed-is zero read dest le =
+    let at : read ≡ read + 0 = omega arith in
+    sym (take-append-drop read dest) ∙ ap (λ (k : ℕ). take read dest ++ drop k dest) at
+zeroed-is (suc n) read dest le =
+    let l = length-set dest read 0 in
+    let at : read + 1 + n ≡ read + suc n = omega arith in
+    zeroed-is n (read + 1) (set dest read 0) (omega arith)
+    ∙ ap (λ (x : List ℕ). x ++ (replicate n 0 ++ drop (read + 1 + n) (set dest read 0))) (take_more_set dest read 0 (omega arith))
+    ∙ append_assoc (take read dest) (0 ∷ []) (replicate n 0 ++ drop (read + 1 + n) (set dest read 0))
+    ∙ ap (λ (x : List ℕ). take read dest ++ (0 ∷ (replicate n 0 ++ x))) (drop-set-lt (read + 1 + n) dest read 0 (omega arith) ∙ ap (λ (k : ℕ). drop k dest) at)
+
+-- the codes of the blocks in front of `read` are zeros, and the others stand copied
+pub record FlatCopied (piece old dest : List ℕ) (read code : ℕ) : Type 0 where
+  pub decoded : Decoded piece old dest read read
+  pub copied : CopiedTo piece dest read (length piece) read
+  pub at-read : code ≡ get_or piece read 0
+
+copied-ones-by : (n : ℕ) (piece old dest : List ℕ) (read : ℕ) → FlatCopied piece old dest read 1 → take n (drop read dest) ≡ replicate n 1 → read + n < length piece → length piece ≤ length dest
+    → FlatCopied piece old (zeroed n read dest) (read + n) 1
+unfolding zeroed
+copied-ones-by zero piece old dest read f ones lt room = let at : read ≡ read + 0 = omega arith in subst (λ (k : ℕ). FlatCopied piece old dest k 1) at f
+copied-ones-by (suc n) piece old dest read f ones lt room =
+    let l = length-set dest read 0 in
+    let left : drop read dest ≡ get_or dest read 0 ∷ drop (read + 1) dest = drop_more dest read 0 (omega arith) in
+    let all : get_or dest read 0 ∷ take n (drop (read + 1) dest) ≡ 1 ∷ replicate n 1 = ap (take (suc n)) (sym left) ∙ ones in
+    let first : get_or dest read 0 ≡ 1 = cc in
+    let others : take n (drop (read + 1) dest) ≡ replicate n 1 = cc in
+    let place : read + (1 - 1) ≡ read = omega arith in
+    let short : ◌≢◌ {A = ℕ} 1 255 = λ e. omega (arith, e) in
+    let o = output-le piece (omega arith) in
+    let d = code-decoded piece old dest read read 1 f.decoded f.at-read (omega arith) (omega arith) (length piece) f.copied (omega arith) short (omega arith) in
+    let k = code-copied piece old dest read read 1 f.decoded f.at-read (omega arith) (omega arith) (length piece) f.copied (omega arith) short in
+    let one : FlatCopied piece old (set dest read 0) (read + 1) 1 = record {
+      decoded = subst (λ (m : ℕ). Decoded piece old (set dest m 0) (read + 1) (read + 1)) place d;
+      copied = subst (λ (m : ℕ). CopiedTo piece (set dest m 0) (read + 1) (length piece) (read + 1)) place k;
+      at-read = sym first ∙ ap (λ (m : ℕ). get_or dest m 0) (sym place) ∙ next-code piece dest read 1 f.copied (omega arith) (omega arith);
+    } in
+    let at : read + 1 + n ≡ read + suc n = omega arith in
+    subst (λ (m : ℕ). FlatCopied piece old (zeroed n (read + 1) (set dest read 0)) m 1) at
+    (copied-ones-by n piece old (set dest read 0) (read + 1) one (ap (take n) (drop-set-lt (read + 1) dest read 0 (omega arith)) ∙ others) (omega arith) (omega arith))
+
+pub copied-ones : (piece old dest after : List ℕ) (read : ℕ) → FlatCopied piece old dest read 1 → take 32 (drop read dest) ≡ replicate 32 1 → read + 32 < length piece → length piece ≤ length dest
+    → after ≡ take read dest ++ (replicate 32 0 ++ drop (read + 32) dest) → FlatCopied piece old after (read + 32) 1
+copied-ones piece old dest after read f ones lt room is =
+    subst (λ (x : List ℕ). FlatCopied piece old x (read + 32) 1) (zeroed-is 32 read dest (omega arith) ∙ sym is) (copied-ones-by 32 piece old dest read f ones lt room)
+
+-- a slice from some place on, put back
+put-back : (read : ℕ) (buffer new : List ℕ) → put_mid read (length buffer - read) buffer new ≡ take read buffer ++ new
+put-back read buffer new =
+    let n : drop (length buffer - read) (drop read buffer) ≡ [] = drop-drop (length buffer - read) read buffer ∙ drop_all (read + (length buffer - read)) buffer (omega arith) in
+    ap (λ (x : List ℕ). take read buffer ++ (new ++ x)) n ∙ ap (λ (x : List ℕ). take read buffer ++ x) (append-nil new)
+
+-- 32 zeros written there
+pub zeros-put : (read : ℕ) (buffer new : List ℕ) → new ≡ replicate 32 0 ++ drop 32 (take (length buffer - read) (drop read buffer))
+    → put_mid read (length buffer - read) buffer new ≡ take read buffer ++ (replicate 32 0 ++ drop (read + 32) buffer)
+zeros-put read buffer new is =
+    put-back read buffer new ∙ ap (λ (x : List ℕ). take read buffer ++ x)
+    (is ∙ ap (λ (x : List ℕ). replicate 32 0 ++ drop 32 x) (take_rest buffer read) ∙ ap (λ (x : List ℕ). replicate 32 0 ++ x) (drop-drop 32 read buffer))
+
+pub zeros-put-len : (read : ℕ) (buffer : List ℕ) → read + 32 ≤ length buffer → length (take read buffer ++ (replicate 32 0 ++ drop (read + 32) buffer)) ≡ length buffer
+zeros-put-len read buffer le =
+    let a = length-append (take read buffer) (replicate 32 0 ++ drop (read + 32) buffer) in
+    let b = length-append {A = ℕ} (replicate 32 0) (drop (read + 32) buffer) in
+    let c : length {A = ℕ} (replicate 32 0) ≡ 32 = refl in
+    let d = length-take-le read buffer (omega arith) in
+    let e = length-drop (read + 32) buffer in
+    omega arith
 
 -- the front of a list without its first byte
 pub front-rest : (xs : List ℕ) (end : ℕ) → 0 < end → drop 1 (take end xs) ≡ take (end - 1) (drop 1 xs)

@@ -1,134 +1,113 @@
 //! Decoding a frame in the buffer in which it stands.
-ghost use Rattle.std.specs.Prelude.{◌≡◌, ◌≢◌, ◌↔◌, ◌-◌, ◌<◌, ◌≤◌, ℕ, List, All, length, take, drop, slice_index, IfErr, IsTrue};
+ghost use Rattle.std.specs.Prelude.{◌≡◌, ◌≢◌, ◌↔◌, ◌+◌, ◌-◌, ◌<◌, ◌≤◌, ℕ, List, All, length, take, drop, slice_index, IfErr, IsTrue};
 ghost use Rattle.cobs.specs.Buffer.{overwritten};
 ghost use Rattle.cobs.specs.Decoding.{head_answer, in_place, in_place_answer, in_place_report};
-ghost use Rattle.cobs.specs.Grammar.{HasNoZero, Reads};
+ghost use Rattle.cobs.specs.Grammar.{HasNoZero, Reads, code_of};
 ghost use Rattle.cobs.specs.Headline.{AnswersMessage, IsPiece, ReportsMessage};
 ghost use Rattle.cobs.specs.Piece.{kept_output, lacks, last_part, output, IsFlat};
 ghost use Rattle.cobs.specs.Sentinel.{xor_each};
 ghost use Rattle.cobs.specs.declared.dec.report.DecodeError.TheVariants.{TargetBufTooSmall};
 
-use crate::dec::piece::{decode_piece, piece_len};
+use crate::dec::piece::piece_len;
 use crate::dec::report::{DecodeError, DecodeReport};
 use crate::enc::{FULL_CODE, xor_bytes};
+use crate::window::{WINDOW, is_ones, write_zeros};
 
-/// How many bytes of a frame are decoded at a time, at most: room for each block.
-const STRETCH: usize = 256;
-
-/// How many bytes the whole blocks at the front of a frame have, as far as they fit a stretch.
-fn whole_blocks_len(bytes: &[u8]) -> usize
-    requires { HasNoZero bytes.now }
-    ensures within { result ≤ length bytes.now }
-    ensures few { result ≤ 256 }
-    ensures whole { 0 < result → lacks (last_part (take result bytes.now)) ≡ 0 }
-    ensures broken { result ≡ 0 → 0 < length bytes.now → length bytes.now < slice_index bytes.now 0 }
-{
-    let mut len = 0;
-    'by_block: while len < bytes.len() {
-        let code = bytes[len] as usize;
-        if bytes.len() - len < code || STRETCH - len < code {
-            return len;
-        }
-        len += code;
-    }
-    len
-}
-
-/// Decodes the blocks in the first `end` bytes of the buffer, and answers how many bytes they give.
+/// How many bytes the first whole blocks of a piece have, through the first full one, and whether the last of them is full.
+/// 0 bytes: the first block is broken.
 ///
-/// Each stretch of whole blocks is copied out and decoded to the front, so no byte of a broken block is moved.
-fn decode_blocks(buffer: &mut [u8], end: usize) -> Result<usize, DecodeError>
-    requires within { end ≤ length buffer.old }
-    requires nonzero { HasNoZero (take end buffer.old) }
-    ensures answer { result ≡ head_answer (take end buffer.old) }
-    ensures buffer { buffer.new ≡ overwritten buffer.old (kept_output (take end buffer.old)) }
-{
-    let mut stretch = [0; STRETCH];
-    let mut read = 0;
-    let mut written = 0;
-    'by_stretch: while read < end {
-        let len = whole_blocks_len(&buffer[read..end]);
-        if len == 0 {
-            return Err(DecodeError::InvalidFrame {
-                decoded_bytes: written,
-            });
-        }
-        stretch[..len].copy_from_slice(&buffer[read..read + len]);
-        let last = decode_piece(&stretch[..len], &mut buffer[written..]);
-        read += len;
-        written += last.written;
-        if last.code != FULL_CODE && read < end {
-            buffer[written] = 0;
-            written += 1;
-        }
-    }
-    Ok(written)
-}
-
-/// Whether a piece is a frame in which no block but the last is full: then each byte behind the first gives one byte of
-/// the message. Codes of one value in a row go by a loop of their own, which needn't wait for each.
-fn is_flat(piece: &[u8]) -> bool
+/// Rows of empty blocks go by 32 at a time, and codes of one value in a row by a loop of their own, which needn't wait for
+/// each.
+fn flat_front(piece: &[u8]) -> (usize, bool)
     requires { HasNoZero piece.now }
-    ensures { IsTrue result → IsFlat piece.now }
+    ensures within { result.0 ≤ length piece.now }
+    ensures flat { 0 < result.0 → IsFlat (take result.0 piece.now) }
+    ensures full { 0 < result.0 → (IsTrue result.1 ↔ (code_of (last_part (take result.0 piece.now)) ≡ 255)) }
+    ensures broken { result.0 ≡ 0 → 0 < length piece.now → length piece.now < slice_index piece.now 0 }
 {
-    if piece.is_empty() {
-        return false;
-    }
     let mut read = 0;
+    if piece.is_empty() {
+        return (read, false);
+    }
     'by_code: loop {
         let code = piece[read] as usize;
-        'alike: loop {
-            if piece.len() - read <= code {
-                return piece.len() - read == code;
-            }
-            if code == FULL_CODE {
-                return false;
-            }
-            read += code;
-            if piece[read] as usize != code {
-                break;
+        if code == 1 && piece.len() - read > WINDOW && is_ones(&piece[read..]) {
+            read += WINDOW;
+        } else {
+            'alike: loop {
+                if piece.len() - read < code {
+                    return (read, false);
+                }
+                if code == FULL_CODE || piece.len() - read == code {
+                    return (read + code, code == FULL_CODE);
+                }
+                read += code;
+                if piece[read] as usize != code {
+                    break;
+                }
             }
         }
     }
 }
 
-/// Decodes such a frame in the first `end` bytes of the buffer: one move of all its bytes, and a zero at each code.
-fn decode_flat(buffer: &mut [u8], end: usize)
-    requires within { end ≤ length buffer.old }
-    requires nonzero { HasNoZero (take end buffer.old) }
-    requires flat { IsFlat (take end buffer.old) }
-    ensures begins { take (end - 1) buffer.new ≡ output (take end buffer.old) }
-    ensures rest { drop (end - 1) buffer.new ≡ drop (end - 1) buffer.old }
+/// Decodes `len` bytes of the buffer, which begin at `from`, to its front, where they are whole blocks of which none but
+/// the last is full: one move of all these bytes, and a zero at each code. Each byte behind what they give stays.
+fn decode_flat(buffer: &mut [u8], from: usize, len: usize)
+    requires within { from + len ≤ length buffer.old }
+    requires nonzero { HasNoZero (take len (drop from buffer.old)) }
+    requires flat { IsFlat (take len (drop from buffer.old)) }
+    ensures begins { take (len - 1) buffer.new ≡ output (take len (drop from buffer.old)) }
+    ensures rest { drop (len - 1) buffer.new ≡ drop (len - 1) buffer.old }
 {
-    let mut code = buffer[0] as usize;
-    buffer.copy_within(1..end, 0);
+    let mut code = buffer[from] as usize;
+    buffer.copy_within(from + 1..from + len, 0);
     let mut read = 0;
-    'by_code: while code < end - read {
-        'alike: loop {
-            let at = read + (code - 1);
-            let next = buffer[at] as usize;
-            buffer[at] = 0;
-            read += code;
-            if next != code || end - read <= code {
-                code = next;
-                break;
+    'by_code: while code < len - read {
+        if code == 1 && len - read > WINDOW && is_ones(&buffer[read..]) {
+            write_zeros(&mut buffer[read..]);
+            read += WINDOW;
+        } else {
+            'alike: loop {
+                let at = read + (code - 1);
+                let next = buffer[at] as usize;
+                buffer[at] = 0;
+                read += code;
+                if next != code || len - read <= code {
+                    code = next;
+                    break;
+                }
             }
         }
     }
 }
 
 /// Decodes the piece in the first `end` bytes of the buffer, and answers how many bytes it gives.
+///
+/// The whole blocks through each full one are decoded to the front by one move, so no byte of a broken block is moved.
 fn decode_front(buffer: &mut [u8], end: usize) -> Result<usize, DecodeError>
     requires within { end ≤ length buffer.old }
     requires nonzero { HasNoZero (take end buffer.old) }
     ensures answer { result ≡ head_answer (take end buffer.old) }
     ensures buffer { buffer.new ≡ overwritten buffer.old (kept_output (take end buffer.old)) }
 {
-    if is_flat(&buffer[..end]) {
-        decode_flat(buffer, end);
-        return Ok(end - 1);
+    let mut read = 0;
+    let mut written = 0;
+    'by_front: while read < end {
+        let (len, full) = flat_front(&buffer[read..end]);
+        if len == 0 {
+            return Err(DecodeError::InvalidFrame {
+                decoded_bytes: written,
+            });
+        }
+        decode_flat(&mut buffer[written..], read - written, len);
+        read += len;
+        written += len - 1;
+        if !full && read < end {
+            buffer[written] = 0;
+            written += 1;
+        }
     }
-    decode_blocks(buffer, end)
+    Ok(written)
 }
 
 /// Does nothing: what a slice holds are bytes.

@@ -1,16 +1,16 @@
 use Rattle.std.proofs.Common.{◌≡◌, ◌-◌, ◌≤◌, length, get_or}
-use Rattle.cobs.proofs.FlatLemmas.{FlatSoFar}
-use Rattle.cobs.proofs.dec.in_place.is_flat.Given as goal
+use Rattle.cobs.proofs.FlatLemmas.{FrontSoFar}
+use Rattle.cobs.proofs.dec.in_place.flat_front.Given as goal
 
 abbrev pub invariant-by_code : goal.invariant-by_code
-invariant-by_code l = FlatSoFar l.piece l.read
+invariant-by_code l = FrontSoFar l.piece l.read
 
 abbrev pub decreases-by_code : goal.decreases-by_code
 decreases-by_code l = length l.piece - l.read
 
 abbrev pub invariant-alike : goal.invariant-alike
 invariant-alike l = record {
-  flat : FlatSoFar l.piece l.read;
+  front : FrontSoFar l.piece l.read;
   code : l.code ≡ get_or l.piece l.read 0;
   onward : l.initial.read ≤ l.read;
 }
