@@ -1,7 +1,9 @@
 -- Frames in which no block but the last is full, decoded in their own place.
 use Rattle.std.proofs.Common.{append-nil, length-append, zero, suc, ◌≤◌, ◌++◌, replicate, subst, append_assoc, take-append-drop, length-take-le, set, ◌≡◌, ◌≢◌, ℕ, ◌+◌, ◌-◌, ◌<◌, true, List, [], ◌∷◌, length, take, drop, get_or, Ok, refl, sym, ap, ◌∙◌, arith, length-drop, inl, inr}
 use Rattle.std.proofs.lemmas.Bool.{eq-eqb}
-use Rattle.std.proofs.lemmas.List.{drop_all, take_rest, length-set, drop-set-lt, take_more_set, drop-drop, drop_more, drop-take, get_or-take, get_or-drop}
+use Rattle.std.proofs.lemmas.List.Edits.{drop-paste, take-paste}
+use Rattle.std.proofs.Math.Seq.{paste}
+use Rattle.std.proofs.lemmas.List.{take-take, drop_all, take_rest, length-set, drop-set-lt, take_more_set, drop-drop, drop_more, drop-take, get_or-take, get_or-drop}
 use borrow.Rule.Slice.PartMut.{put_mid}
 use Rattle.cobs.specs.Grammar.{code_of}
 use Rattle.cobs.specs.Piece.{output, kept_output, last_part, lacks, is_whole, IsFlat}
@@ -171,6 +173,36 @@ pub copied-ones : (piece old dest after : List ℕ) (read : ℕ) → FlatCopied 
 copied-ones piece old dest after read f ones lt room is =
     subst (λ (x : List ℕ). FlatCopied piece old x (read + 32) 1) (zeroed-is 32 read dest (omega arith) ∙ sym is) (copied-ones-by 32 piece old dest read f ones lt room)
 
+-- the front of a list without its first byte
+pub front-rest : (xs : List ℕ) (end : ℕ) → 0 < end → drop 1 (take end xs) ≡ take (end - 1) (drop 1 xs)
+front-rest xs end some = let sum : end ≡ 1 + (end - 1) = omega arith in ap (λ (k : ℕ). drop 1 (take k xs)) sum ∙ drop-take 1 (end - 1) xs
+
+-- what stands behind the first code, moved to the front
+pub copied-start : (old after part : List ℕ) (from len n : ℕ) → from + len ≤ length old → IsFlat (take len (drop from old)) → after ≡ paste old 0 part n → n ≡ len - 1 → part ≡ drop (from + 1) old
+    → FlatCopied (take len (drop from old)) old after 0 (get_or old from 0)
+copied-start old after part from len n inside flat is n-is part-is =
+    let piece : List ℕ = take len (drop from old) in
+    let d = length-drop from old in
+    let long : length piece ≡ len = length-take-le len (drop from old) (omega arith) in
+    let some = flat.some in
+    let count = flat.len in
+    let e : length part ≡ length old - (from + 1) = ap length part-is ∙ length-drop (from + 1) old in
+    let out : length (output piece) ≡ 0 + n = omega arith in
+    let rest : drop (length (output piece)) after ≡ drop (length (output piece)) old =
+    ap (λ (k : ℕ). drop k after) out ∙ ap (drop (0 + n)) is ∙ drop-paste old 0 part n (omega arith) (omega arith) ∙ ap (λ (k : ℕ). drop k old) (sym out) in
+    let m : length piece - (0 + 1) ≡ 0 + n = omega arith in
+    let front : take (0 + n) after ≡ take n (drop (from + 1) old) = ap (take (0 + n)) is ∙ take-paste old 0 part n (omega arith) (omega arith) ∙ ap (take n) part-is in
+    let behind : drop (0 + 1) piece ≡ take (len - 1) (drop (from + 1) old) =
+    front-rest (drop from old) len (omega arith) ∙ ap (take (len - 1)) (drop-drop 1 from old) in
+    let whole : take (length piece - (0 + 1)) (drop (0 + 1) piece) ≡ take n (drop (from + 1) old) =
+    ap (take (length piece - (0 + 1))) behind ∙ take-take (length piece - (0 + 1)) (len - 1) (drop (from + 1) old) (omega arith) ∙ ap (λ (k : ℕ). take k (drop (from + 1) old)) (omega arith) in
+    let at : from + 0 ≡ from = omega arith in
+    record {
+      decoded = record { within = some; left = omega arith; front = refl; rest = rest; last = refl };
+      copied = record { within = omega arith; bytes = ap (λ (k : ℕ). take k after) m ∙ front ∙ sym whole };
+      at-read = sym (get_or-take len (drop from old) 0 0 (omega arith) ∙ get_or-drop from old 0 0 ∙ ap (λ (k : ℕ). get_or old k 0) at);
+    }
+
 -- a slice from some place on, put back
 put-back : (read : ℕ) (buffer new : List ℕ) → put_mid read (length buffer - read) buffer new ≡ take read buffer ++ new
 put-back read buffer new =
@@ -192,10 +224,6 @@ zeros-put-len read buffer le =
     let d = length-take-le read buffer (omega arith) in
     let e = length-drop (read + 32) buffer in
     omega arith
-
--- the front of a list without its first byte
-pub front-rest : (xs : List ℕ) (end : ℕ) → 0 < end → drop 1 (take end xs) ≡ take (end - 1) (drop 1 xs)
-front-rest xs end some = let sum : end ≡ 1 + (end - 1) = omega arith in ap (λ (k : ℕ). drop 1 (take k xs)) sum ∙ drop-take 1 (end - 1) xs
 
 -- such a frame is whole, so all its output is kept
 module _ (h : List ℕ) (flat : IsFlat h) where

@@ -35,11 +35,14 @@ fn flat_front(piece: &[u8]) -> (usize, bool)
             read += WINDOW;
         } else {
             'alike: loop {
-                if piece.len() - read < code {
-                    return (read, false);
-                }
-                if code == FULL_CODE || piece.len() - read == code {
+                if piece.len() - read <= code {
+                    if piece.len() - read < code {
+                        return (read, false);
+                    }
                     return (read + code, code == FULL_CODE);
+                }
+                if code == FULL_CODE {
+                    return (read + code, true);
                 }
                 read += code;
                 if piece[read] as usize != code {
@@ -60,7 +63,12 @@ fn decode_flat(buffer: &mut [u8], from: usize, len: usize)
     ensures rest { drop (len - 1) buffer.new ≡ drop (len - 1) buffer.old }
 {
     let mut code = buffer[from] as usize;
-    buffer.copy_within(from + 1..from + len, 0);
+    if from == 0 {
+        // This compiles to one call of memmove, since the distance is known.
+        buffer.copy_within(1..len, 0);
+    } else {
+        buffer.copy_within(from + 1..from + len, 0);
+    }
     let mut read = 0;
     'by_code: while code < len - read {
         if code == 1 && len - read > WINDOW && is_ones(&buffer[read..]) {
