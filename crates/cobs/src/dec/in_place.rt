@@ -18,6 +18,7 @@ use crate::window::{WINDOW, is_ones, write_zeros};
 ///
 /// Rows of empty blocks go by 32 at a time, and codes of one value in a row by a loop of their own, which needn't wait for
 /// each.
+#[inline(always)]
 fn flat_front(piece: &[u8]) -> (usize, bool)
     requires { HasNoZero piece.now }
     ensures within { result.0 ≤ length piece.now }
@@ -55,6 +56,7 @@ fn flat_front(piece: &[u8]) -> (usize, bool)
 
 /// Decodes `len` bytes of the buffer, which begin at `from`, to its front, where they are whole blocks of which none but
 /// the last is full: one move of all these bytes, and a zero at each code. Each byte behind what they give stays.
+#[inline(always)]
 fn decode_flat(buffer: &mut [u8], from: usize, len: usize)
     requires within { from + len ≤ length buffer.old }
     requires nonzero { HasNoZero (take len (drop from buffer.old)) }
@@ -63,12 +65,7 @@ fn decode_flat(buffer: &mut [u8], from: usize, len: usize)
     ensures rest { drop (len - 1) buffer.new ≡ drop (len - 1) buffer.old }
 {
     let mut code = buffer[from] as usize;
-    if from == 0 {
-        // This compiles to one call of memmove, since the distance is known.
-        buffer.copy_within(1..len, 0);
-    } else {
-        buffer.copy_within(from + 1..from + len, 0);
-    }
+    buffer.copy_within(from + 1..from + len, 0);
     let mut read = 0;
     'by_code: while code < len - read {
         if code == 1 && len - read > WINDOW && is_ones(&buffer[read..]) {
@@ -89,10 +86,11 @@ fn decode_flat(buffer: &mut [u8], from: usize, len: usize)
     }
 }
 
-/// Decodes the piece in the first `end` bytes of the buffer, and answers how many bytes it gives.
+/// Decodes the blocks in the first `end` bytes of the buffer, and answers how many bytes they give.
 ///
 /// The whole blocks through each full one are decoded to the front by one move, so no byte of a broken block is moved.
-fn decode_front(buffer: &mut [u8], end: usize) -> Result<usize, DecodeError>
+#[inline(never)]
+fn decode_blocks(buffer: &mut [u8], end: usize) -> Result<usize, DecodeError>
     requires within { end ≤ length buffer.old }
     requires nonzero { HasNoZero (take end buffer.old) }
     ensures answer { result ≡ head_answer (take end buffer.old) }
@@ -116,6 +114,22 @@ fn decode_front(buffer: &mut [u8], end: usize) -> Result<usize, DecodeError>
         }
     }
     Ok(written)
+}
+
+/// Decodes the piece in the first `end` bytes of the buffer, and answers how many bytes it gives. Most frames have no full
+/// block before their last, and are one move.
+fn decode_front(buffer: &mut [u8], end: usize) -> Result<usize, DecodeError>
+    requires within { end ≤ length buffer.old }
+    requires nonzero { HasNoZero (take end buffer.old) }
+    ensures answer { result ≡ head_answer (take end buffer.old) }
+    ensures buffer { buffer.new ≡ overwritten buffer.old (kept_output (take end buffer.old)) }
+{
+    let (len, _) = flat_front(&buffer[..end]);
+    if len == 0 || len < end {
+        return decode_blocks(buffer, end);
+    }
+    decode_flat(buffer, 0, end);
+    Ok(end - 1)
 }
 
 /// Does nothing: what a slice holds are bytes.

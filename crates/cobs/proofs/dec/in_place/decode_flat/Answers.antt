@@ -4,26 +4,13 @@ use borrow.Rule.Slice.PartMut.{put_mid}
 use Rattle.cobs.specs.Piece.{output}
 use Rattle.cobs.proofs.WindowSteps.{code-pos, code-decoded, code-copied, flat-short, end-begins}
 use Rattle.cobs.proofs.FlatLemmas.{FlatCopied, copied-start, copied-ones, next-code, zeros-put, zeros-put-len}
-use Rattle.cobs.proofs.dec.in_place.decode_flat.Goals.{then-from-eq0, else-from-eq0}
 use Rattle.cobs.proofs.dec.in_place.decode_flat.Goals as goal
 
 pub by_code-init : goal.by_code-init
-by_code-init c =
-    let old : List ℕ = c.args.buffer.now in
-    let from : ℕ = c.args.from in
-    elim c.if-from-eq0.branch [
-      | then-from-eq0 w ↦ (
-          let at : 1 ≡ from + 1 = omega (arith, w.if-from-eq0.true) in
-          record {
-            flat = copied-start old c.if-from-eq0.buffer (drop 1 old) from c.args.len (c.args.len - 1) c.requires.within c.requires.flat (w.buffer-is ∙ w.copy_within.ensures.after) refl (ap (λ (k : ℕ). drop k old) at);
-            len = ap length w.buffer-is ∙ w.copy_within.ensures.len;
-          }
-          )
-      | else-from-eq0 w ↦ record {
-        flat = copied-start old c.if-from-eq0.buffer (drop (from + 1) old) from c.args.len (from + c.args.len - (from + 1)) c.requires.within c.requires.flat (w.buffer-is ∙ w.copy_within-else-from-eq0.ensures.after) (omega arith) refl;
-        len = ap length w.buffer-is ∙ w.copy_within-else-from-eq0.ensures.len;
-      }
-    ]
+by_code-init c = record {
+  flat = copied-start c.args.buffer.now c.copy_within.new.self (drop (c.args.from + 1) c.args.buffer.now) c.args.from c.args.len (c.args.from + c.args.len - (c.args.from + 1)) c.requires.within c.requires.flat c.copy_within.ensures.after (omega arith) refl;
+  len = c.copy_within.ensures.len;
+}
 
 pub by_code-preserved-then-is_ones : goal.by_code-preserved-then-is_ones
 by_code-preserved-then-is_ones c =
