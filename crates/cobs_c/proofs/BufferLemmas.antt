@@ -1,6 +1,6 @@
 -- What stands in a buffer.
 use Rattle.std.proofs.Common.{◌≡◌, ℕ, ◌+◌, ◌-◌, ◌<◌, ◌≤◌, min, List, [], ◌∷◌, ◌++◌, length, take, drop, set, get_or, sym, ap, ◌∙◌, arith, length-append, length-take-le, take-append-drop, take_all, append_assoc, nat_le, true, false, ⊎_elim}
-use Rattle.std.proofs.lemmas.List.{drop-append-le, drop-drop, drop-set-lt, drop_more, set_at}
+use Rattle.std.proofs.lemmas.List.{drop-append-le, drop-drop, drop-set-lt, drop_more, set_at, take_more_set, take-append-le}
 use Rattle.std.proofs.lemmas.Bool.{leb-true, leb-false, cases_Bool}
 use Rattle.cobs.specs.Buffer.{overwritten}
 
@@ -15,6 +15,12 @@ behind_terminator buffer part last end s len within short behind =
     let next : end + 1 ≡ 1 + end = omega arith in
     drop-set-lt (end + 1) (part ++ drop last buffer) end s (omega arith)
     ∙ sym (drop-drop 1 end (part ++ drop last buffer)) ∙ ap (drop 1) same ∙ drop-drop 1 end buffer
+
+-- and it begins with the frame and the terminator
+pub terminated : (part rest : List ℕ) (end s : ℕ) → end ≤ length part → 0 < length rest → take (end + 1) (set (part ++ rest) end s) ≡ take end part ++ s ∷ []
+terminated part rest end s within some =
+    let l = length-append part rest in
+    take_more_set (part ++ rest) end s (omega arith) ∙ ap (λ (xs : List ℕ). xs ++ s ∷ []) (take-append-le end part rest within)
 
 -- words with a zero behind, as far as both fit
 pub words-written : (text words : List ℕ) (end : ℕ) → 0 < length text → end ≡ min (length words) (length text - 1)

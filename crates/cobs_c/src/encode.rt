@@ -78,7 +78,21 @@ pub extern "C" fn jcobs_encode_terminated(message: &[u8], frame: &mut [u8]) -> A
         → result ≡ record { status = TOO_SMALL; consumed = 0; length = 0 } }
     ensures rest { drop result.length frame.new ≡ drop result.length frame.old }
 {
-    jcobs_encode_terminated_with_sentinel(message, frame, 0)
+    if frame.is_empty() {
+        return too_small();
+    }
+    let room = frame.len() - 1;
+    match try_encode(message, &mut frame[..room]) {
+        Ok(end) => {
+            frame[end] = 0;
+            Answer {
+                status: OK,
+                consumed: message.len(),
+                length: end + 1,
+            }
+        }
+        Err(_) => too_small(),
+    }
 }
 
 /// The frame of the message for this sentinel and the sentinel behind it at the front of the buffer `frame`, where both
