@@ -1,6 +1,6 @@
 //! The encoder whose buffer is passed to each call, of a message that comes in pieces.
 ghost use Rattle.std.specs.Prelude.{◌≡◌, ◌<◌, ◌≤◌, ◌++◌, ◌↔◌, [], ℕ, List, length, take, drop, IsOk, IsSome, IfOk, IfSome, OnOk, OnErr, false};
-ghost use Rattle.cobs.specs.Grammar.{IsEncodedFrame};
+ghost use Rattle.cobs.specs.Grammar.{HasNoZero, IsEncodedFrame};
 ghost use Rattle.cobs.specs.Length.{encoded_len};
 ghost use Rattle.cobs.specs.Encoder.{CobsEncoderAfter, end_of};
 ghost use Rattle.cobs.specs.UnbufferedEncoder.{reached_at, reached_by, IsPlaceIn};
@@ -161,6 +161,8 @@ impl UnbufferedEncoder {
             → n ≡ encoded_len m) }
         ensures frame { IfOk result (λ n. (m : List ℕ) → CobsEncoderAfter dest.old (reached_by self.old) m
             → IsEncodedFrame (take n dest.new) m) }
+        ensures no_sentinel { IfOk result (λ n. (m : List ℕ) → CobsEncoderAfter dest.old (reached_by self.old) m
+            → HasNoZero (take n dest.new)) }
         ensures end { IfOk result (λ n. n ≡ end_of (reached_by self.old)) }
         ensures within { IfOk result (λ n. n ≤ length dest.old) }
         ensures rest { IfOk result (λ n. drop n dest.new ≡ drop n dest.old) }
