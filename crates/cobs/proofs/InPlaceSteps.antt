@@ -12,7 +12,7 @@ use Rattle.cobs.proofs.PieceCuts.{output-le}
 use Rattle.cobs.proofs.KeptLemmas.{joins, whole_left}
 use Rattle.cobs.proofs.WholeLemmas.{in_front}
 use Rattle.cobs.proofs.WindowSteps.{take-past, drop-past}
-use Rattle.cobs.proofs.BlockSteps.{BlocksRead, blocks-started, all-kept, all-answer, broken-kept, broken-answer, overwritten-front}
+use Rattle.cobs.proofs.BlockSteps.{BlocksRead, all-kept, all-answer, broken-kept, broken-answer, overwritten-front}
 
 -- the blocks in the first `read` of `end` bytes are decoded to the front of the buffer, and behind what they gave it is
 -- as it was
@@ -23,9 +23,6 @@ pub record DecodedInPlace (before : List ℕ) (end : ℕ) (buffer : List ℕ) (r
   pub len : length buffer ≡ length before
   pub rest : drop written buffer ≡ drop written before
   pub blocks : BlocksRead (take end before) (take written buffer) read
-
-pub in_place-started : (before : List ℕ) (end : ℕ) → end ≤ length before → DecodedInPlace before end before 0 0
-in_place-started before end fits = record { order = omega arith; within = omega arith; fits = fits; len = refl; rest = refl; blocks = blocks-started (take end before) }
 
 -- what two lists have behind n bytes they have behind more
 pub drop-later : (n m : ℕ) (xs ys : List ℕ) → n ≤ m → drop n xs ≡ drop n ys → drop m xs ≡ drop m ys

@@ -1,12 +1,11 @@
 -- Whole blocks in front of what is left of a frame.
-use Rattle.std.proofs.Common.{◌≡◌, ◌≢◌, ℕ, zero, suc, get_or, ◌+◌, ◌-◌, ◌<◌, ◌≤◌, List, [], ◌∷◌, ◌++◌, length, take, drop, refl, sym, ap, ◌∙◌, arith, append_assoc, length-append, length-drop, length-take-le, take_at, drop_at, inl, inr}
+use Rattle.std.proofs.Common.{◌≡◌, ◌≢◌, ℕ, zero, suc, ◌+◌, ◌-◌, ◌<◌, ◌≤◌, List, [], ◌∷◌, ◌++◌, length, take, drop, refl, sym, ap, ◌∙◌, arith, append_assoc, length-append, length-drop, take_at, drop_at, inl, inr}
 use Rattle.std.proofs.lemmas.Bool.{cases_lt}
-use Rattle.std.proofs.lemmas.List.{take-append-le, drop-append-le, drop_more}
-use Rattle.std.proofs.lemmas.List.Elements.{All-head, All-tail, All-drop, All-take, All-get_or}
+use Rattle.std.proofs.lemmas.List.{take-append-le, drop-append-le}
+use Rattle.std.proofs.lemmas.List.Elements.{All-head, All-tail, All-drop}
 use Rattle.cobs.specs.Grammar.{HasNoZero, code_of}
 use Rattle.cobs.specs.Piece.{output, last_part, lacks, kept_output}
 use Rattle.cobs.proofs.PieceCuts.{joint_of, output-last, output-more, last_part-more, last_part-last}
-use Rattle.cobs.proofs.WindowSteps.{take_parts}
 use Rattle.cobs.proofs.KeptLemmas.{joins, whole_left, output-part, whole-part, kept-part}
 
 -- what whole blocks p in front of q give
@@ -83,23 +82,3 @@ by_length (suc n) (code ∷ bytes) q le some none whole =
 -- whole blocks in front of anything
 pub in_front : (p q : List ℕ) → 0 < length p → HasNoZero p → lacks (last_part p) ≡ 0 → InFront p q
 in_front p q some none whole = by_length (length p) p q (omega arith) some none whole
-
--- one block more behind whole blocks
-pub whole-push : (bytes : List ℕ) (len code : ℕ) → HasNoZero bytes → len < length bytes → code ≡ get_or bytes len 0 → code ≤ length bytes - len → (0 < len → lacks (last_part (take len bytes)) ≡ 0)
-    → lacks (last_part (take (len + code) bytes)) ≡ 0
-whole-push bytes len code none within is fits whole =
-    let other = All-get_or (λ byte. byte ≢ 0) bytes len 0 within none in
-    let block : List ℕ = code ∷ take (code - 1) (drop (len + 1) bytes) in
-    let d = length-drop (len + 1) bytes in
-    let t = length-take-le (code - 1) (drop (len + 1) bytes) (omega arith) in
-    let cons : drop len bytes ≡ code ∷ drop (len + 1) bytes = drop_more bytes len 0 within ∙ ap (λ (k : ℕ). k ∷ drop (len + 1) bytes) (sym is) in
-    let n : code ≡ suc (code - 1) = omega arith in
-    let here : take code (drop len bytes) ≡ block = ap (take code) cons ∙ ap (λ (k : ℕ). take k (code ∷ drop (len + 1) bytes)) n in
-    let split : take (len + code) bytes ≡ take len bytes ++ block = take_parts bytes len code (omega arith) ∙ ap (λ (x : List ℕ). take len bytes ++ x) here in
-    let l = length-take-le len bytes (omega arith) in
-    let alone : lacks (last_part block) ≡ 0 = ap lacks (last_part-last code (take (code - 1) (drop (len + 1) bytes)) (omega arith)) ∙ omega arith in
-    elim (cases_lt 0 len) [
-      | inl some ↦ ap (λ (x : List ℕ). lacks (last_part x)) split
-          ∙ ap lacks ((in_front (take len bytes) block (omega arith) (All-take (λ byte. byte ≢ 0) len bytes none) (whole some)).last (omega arith)) ∙ alone
-      | inr none_yet ↦ (let start : len ≡ 0 = omega arith in ap (λ (x : List ℕ). lacks (last_part x)) (split ∙ ap (λ (k : ℕ). take k bytes ++ block) start) ∙ alone)
-    ]

@@ -1,4 +1,4 @@
-use Rattle.std.proofs.Common.{◌≡◌, ◌∙◌, ◌-◌, ◌<◌, ◌≤◌, ℕ, List, length, take, length-take-le, ap, sym, subst, arith}
+use Rattle.std.proofs.Common.{◌≡◌, ◌∙◌, ◌-◌, ◌<◌, ℕ, List, take, length-take-le, ap, sym, subst, arith}
 use Rattle.std.proofs.lemmas.List.{take-take}
 use Rattle.cobs.specs.Piece.{IsFlat}
 use Rattle.cobs.proofs.FlatLemmas.{flat-kept, flat-answer}
