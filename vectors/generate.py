@@ -117,6 +117,14 @@ def at_block_ends():
     yield bytes(300)
 
 
+def round_words():
+    """Runs and rows of zeros of lengths round those of machine words and vectors, with a little behind them."""
+    for length in [7, 8, 9, 15, 16, 17, 31, 32, 33, 63, 64, 65, 127, 128, 129]:
+        yield counting(length) + b"\0\1\2"
+        yield bytes(length) + b"\1"
+        yield b"\1\0" * (length // 2) + b"\2"
+
+
 def short_sources():
     """Pieces, broken pieces and zeros in every order, up to four bytes."""
     return lists([0, 1, 2, 3], 4)
@@ -148,6 +156,7 @@ def encoding():
     for label, messages in [
         ("short", SHORT_MESSAGES),
         ("named", NAMED_MESSAGES),
+        ("words", round_words()),
         ("long", long_messages()),
     ]:
         for message in messages:
@@ -221,6 +230,7 @@ def decoding():
     for label, messages in [
         ("short", SHORT_MESSAGES),
         ("named", NAMED_MESSAGES),
+        ("words", round_words()),
         ("long", long_messages()),
     ]:
         for message in messages:
@@ -273,6 +283,8 @@ def in_place():
     for message in [*SHORT_MESSAGES, *NAMED_MESSAGES, *at_block_ends()]:
         group.choice("frame", "decode_in_place", encoded_frame(message))
         group.choice("frame-report", "decode_in_place_report", encoded_frame(message) + b"\0\x07")
+    for message in round_words():
+        group.choice("words", "decode_in_place", encoded_frame(message))
     for frame in long_frames():
         group.choice("long-report", "decode_in_place_report", frame)
         group.choice("long-report", "decode_in_place_report", frame + b"\0\x07")
