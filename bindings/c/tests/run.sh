@@ -3,6 +3,9 @@
 #
 # Prints a line for each part: 'ok', 'FAILED' with what it said, or 'skipped' with the Debian packages that it lacks. The
 # last line counts them; the status is 0 only if nothing failed.
+#
+# Some words are meant to be split: flags, and the command that runs what was built for another processor.
+# shellcheck disable=SC2046,SC2086,SC2094
 set -u
 c=$(cd "$(dirname "$0")/.." && pwd)
 cd "$c" || exit 1
@@ -56,7 +59,6 @@ header() { # COMPILER LANGUAGE STANDARD..: the header alone, and twice
         if [ "$standard" = c23 ] && ! "$compiler" -std=c23 -E -x c /dev/null >/dev/null 2>&1; then
             standard=c2x
         fi
-        # shellcheck disable=SC2086
         "$compiler" "-std=$standard" $flags -Iinclude -c "$work/header.$language" -o "$work/header.o" || return 1
     done
 }
@@ -121,7 +123,6 @@ installed() (
     PKG_CONFIG_ALLOW_SYSTEM_CFLAGS=1
     PKG_CONFIG_ALLOW_SYSTEM_LIBS=1
     export PKG_CONFIG_SYSROOT_DIR PKG_CONFIG_LIBDIR PKG_CONFIG_ALLOW_SYSTEM_CFLAGS PKG_CONFIG_ALLOW_SYSTEM_LIBS
-    # shellcheck disable=SC2046
     "${CC:-cc}" "$work/root/usr/share/doc/jcobs/examples/send_lines.c" $(pkg-config --cflags --libs jcobs) -o "$work/installed" || return 1
     echo hi | LD_LIBRARY_PATH=$work/root/usr/lib "$work/installed" | od -An -tx1
 )
@@ -132,7 +133,6 @@ unpacked() {
     tar -C "$work" -xzf "$(tail -1 "$work/dist")" || return 1
     root=$(echo "$work"/jcobs-*-linux)
     test -f "$root/share/man/man3/jcobs.3" && test -f "$root/share/doc/jcobs/README.md" || return 1
-    # shellcheck disable=SC2046
     "${CC:-cc}" -static "$root/share/doc/jcobs/examples/send_lines.c" \
         $(PKG_CONFIG_LIBDIR="$root/lib/pkgconfig" pkg-config --cflags --libs jcobs) -o "$work/unpacked" || return 1
     echo hi | "$work/unpacked" | od -An -tx1
@@ -185,11 +185,8 @@ if [ "$machine" != aarch64 ] && has aarch64-linux-gnu-gcc gcc-aarch64-linux-gnu 
     at=build/aarch64-unknown-linux-gnu
     run='qemu-aarch64 -L /usr/aarch64-linux-gnu'
     part 'build for aarch64' make TARGET=aarch64-unknown-linux-gnu all tests "$at/read_frames"
-    # shellcheck disable=SC2086
     part 'vectors on aarch64' $run "$at/vectors" ../../vectors/*.txt
-    # shellcheck disable=SC2086
     part 'calls on aarch64' $run "$at/calls"
-    # shellcheck disable=SC2086
     part '100,000 random calls on aarch64' $run "$at/guard" 100000
     part 'read_frames on aarch64' reads 7
 fi

@@ -509,6 +509,8 @@ static int run_case(const char *call)
         run_encode(1, 0);
     else if (strcmp(call, "try_encode") == 0)
         run_encode(0, 1);
+    else if (strcmp(call, "try_encode_with_sentinel") == 0)
+        run_encode(1, 1);
     else if (strcmp(call, "encoder") == 0)
         run_encoder();
     else if (strcmp(call, "encode_frames") == 0)
