@@ -1,12 +1,12 @@
-// How fast streams are decoded, in this browser: by the module and by plain JavaScript, in turn.
+// What speed.mjs measures: streams and whole messages, by the module and by plain JavaScript.
 import { FrameDecoder, FrameDecoderStream, decode, encode, load } from "../jcobs.js";
 import { memoryOf } from "./memory.mjs";
 import * as plain from "./plain.js";
 
 const MIB = 1 << 20;
 const STREAM = 16 * MIB;
+const TIMES = 16;
 const MAX_LENGTH = 65536;
-const ROUNDS = 4;
 
 /** The same bytes at each run: `zeros` of a thousand are zero. */
 function bytes(length, zeros, seed) {
@@ -76,76 +76,48 @@ function throughDecoder(decoder, frames, size) {
   return seen;
 }
 
-/** Megabytes of stream a second, the best of some rounds, of two ways in turn; and that both saw the same. */
-async function compare(size, ...ways) {
-  const best = ways.map(() => 0);
-  const seen = new Set();
-  for (let round = 0; round < ROUNDS; round++) {
-    for (const [i, way] of ways.entries()) {
-      const begun = performance.now();
-      seen.add(JSON.stringify(await way()));
-      best[i] = Math.max(best[i], size / 1e3 / (performance.now() - begun));
-    }
-  }
-  if (seen.size !== 1) throw new Error(`they differ: ${[...seen].join(" and ")}`);
-  return best.map(Math.round);
+/** What is measured: each takes a kind of frames or messages and the chunks' size, and gives what it saw, for a comparison. */
+const ways = {
+  stream: (kind, size) => throughStream(new FrameDecoderStream({ maxLength: MAX_LENGTH }), frames[kind], size),
+  plainStream: (kind, size) => throughStream(new plain.PlainDecoderStream({ maxLength: MAX_LENGTH }), frames[kind], size),
+  push: async (kind, size) => throughDecoder(new FrameDecoder({ maxLength: MAX_LENGTH }), frames[kind], size),
+  plainPush: async (kind, size) => throughDecoder(new plain.PlainDecoder(MAX_LENGTH), frames[kind], size),
+  encode: async (kind) => repeated(() => encode(messages[kind])),
+  plainEncode: async (kind) => repeated(() => plain.encode(messages[kind])),
+  decode: async (kind) => repeated(() => decode(encodedOnce(kind))),
+  plainDecode: async (kind) => repeated(() => plain.decode(encodedOnce(kind))),
+};
+
+const frames = {};
+const messages = {};
+const encoded = {};
+const encodedOnce = (kind) => (encoded[kind] ??= encode(messages[kind]));
+
+function repeated(act) {
+  let length = 0;
+  for (let i = 0; i < TIMES; i++) length = act().length;
+  return { length };
 }
 
-async function streams(name, frames) {
-  const rows = [];
-  for (const size of [64, 512, 4096, "mixed"]) {
-    const [ours, theirs] = await compare(
-      STREAM,
-      () => throughStream(new FrameDecoderStream({ maxLength: MAX_LENGTH }), frames, size),
-      () => throughStream(new plain.PlainDecoderStream({ maxLength: MAX_LENGTH }), frames, size),
-    );
-    const [push, plainPush] = await compare(
-      STREAM,
-      () => throughDecoder(new FrameDecoder({ maxLength: MAX_LENGTH }), frames, size),
-      () => throughDecoder(new plain.PlainDecoder(MAX_LENGTH), frames, size),
-    );
-    rows.push({ name, size, ours, theirs, push, plainPush });
-  }
-  return rows;
-}
+let pages;
+globalThis.run = (way, kind, size) => ways[way](kind, size);
 
-async function whole(name, message) {
-  const frame = encode(message);
-  const times = 16;
-  const repeat = (act) => () => {
-    let sum = 0;
-    for (let i = 0; i < times; i++) sum += act().length;
-    return sum;
-  };
-  const [encodeOurs, encodeTheirs] = await compare(times * message.length, repeat(() => encode(message)), repeat(() => plain.encode(message)));
-  const [decodeOurs, decodeTheirs] = await compare(times * message.length, repeat(() => decode(frame)), repeat(() => plain.decode(frame)));
-  return { name, encodeOurs, encodeTheirs, decodeOurs, decodeTheirs };
-}
+/** The memory of the module and of JavaScript, in bytes. */
+globalThis.memory = () => {
+  globalThis.gc?.();
+  return { module: pages() * 65536, heap: performance.memory?.usedJSHeapSize ?? 0 };
+};
 
-/** The memory of the module and of JavaScript after each of some runs of 16 MiB. */
-async function memory(pages) {
-  const frames = framesOf(1000, 20);
-  const heap = () => (globalThis.gc?.(), performance.memory?.usedJSHeapSize ?? 0);
-  const samples = [];
-  for (let run = 0; run < 5; run++) {
-    await throughStream(new FrameDecoderStream({ maxLength: MAX_LENGTH }), frames, "mixed");
-    await new Promise((done) => setTimeout(done, 50));
-    samples.push({ module: pages() * 65536, heap: heap() });
-  }
-  return samples;
-}
-
-try {
-  await memoryOf(async (pages) => {
-    await load();
-    const kinds = [["1,000 bytes, 2 % zeros", framesOf(1000, 20)], ["1,000 bytes, 30 % zeros", framesOf(1000, 300)], ["60 bytes, 10 % zeros", framesOf(60, 100)]];
-    const samples = await memory(pages);
-    const rows = [];
-    for (const [name, frames] of kinds) rows.push(...(await streams(name, frames)));
-    const wholes = [];
-    for (const [name, message] of [["no zeros", bytes(MIB, 0, 1)], ["2 % zeros", bytes(MIB, 20, 2)], ["30 % zeros", bytes(MIB, 300, 3)], ["zeros alone", new Uint8Array(MIB)]]) wholes.push(await whole(name, message));
-    globalThis.result = { rows, wholes, samples };
-  });
-} catch (error) {
-  globalThis.result = { error: error.stack };
-}
+/** Memory is looked at while this runs. */
+memoryOf(async (pagesNow) => {
+  pages = pagesNow;
+  await load();
+  frames["1,000 bytes, 2 % zeros"] = framesOf(1000, 20);
+  frames["1,000 bytes, 30 % zeros"] = framesOf(1000, 300);
+  frames["60 bytes, 10 % zeros"] = framesOf(60, 100);
+  messages["no zeros"] = bytes(MIB, 0, 1);
+  messages["2 % zeros"] = bytes(MIB, 20, 2);
+  messages["30 % zeros"] = bytes(MIB, 300, 3);
+  messages["zeros alone"] = new Uint8Array(MIB);
+  globalThis.kinds = { frames: Object.keys(frames), messages: Object.keys(messages) };
+}).catch((error) => (globalThis.kinds = { error: error.stack }));

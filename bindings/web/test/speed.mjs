@@ -1,25 +1,66 @@
 // The figures of the README, measured in Chromium: node speed.mjs
+//
+// A figure is megabytes for each second of the page's processor time, so that other work on the machine counts little;
+// the best of some rounds, in which the ways take turns. Ways that are compared must have seen the same.
 import { cpus } from "node:os";
 import { serve } from "../serve.mjs";
 import { Browser } from "./chromium.mjs";
 
+const MIB = 1 << 20;
+const SIZE = 16 * MIB;
+const ROUNDS = 3;
+const CHUNKS = [64, 512, 4096, "mixed"];
+
 const { server, address } = await serve();
 const browser = await Browser.start(process.env.CHROMIUM ?? "chromium", ["--js-flags=--expose-gc", "--enable-precise-memory-info"]);
+
+/** The processor time that pages have taken, in seconds. */
+async function processorTime() {
+  const { processInfo } = await browser.send("SystemInfo.getProcessInfo");
+  return processInfo.filter(({ type }) => type === "renderer").reduce((sum, { cpuTime }) => sum + cpuTime, 0);
+}
+
+async function compare(page, ways, kind, size) {
+  const best = ways.map(() => 0);
+  const seen = new Set();
+  for (let round = 0; round < ROUNDS; round++) {
+    for (const [i, way] of ways.entries()) {
+      const begun = await processorTime();
+      seen.add(JSON.stringify(await page.value(`run(${JSON.stringify(way)}, ${JSON.stringify(kind)}, ${JSON.stringify(size)})`)));
+      best[i] = Math.max(best[i], SIZE / 1e6 / ((await processorTime()) - begun));
+    }
+  }
+  if (ways.length > 1 && seen.size !== 1) throw new Error(`they differ: ${[...seen].join(" and ")}`);
+  return best.map(Math.round);
+}
+
 try {
   const page = await browser.open(`${address}test/speed.html`);
-  await page.until("globalThis.result !== undefined", 600_000);
-  const { rows, wholes, samples, error } = await page.value("globalThis.result");
+  await page.until("globalThis.kinds !== undefined", 120_000);
+  const { frames, messages, error } = await page.value("kinds");
   if (error) throw new Error(error);
   console.log(`${await browser.version()}, ${cpus()[0].model}\n`);
-  console.log("Streams of 16 MiB, in MB of stream a second:\n");
-  console.log("| messages | chunks | FrameDecoderStream | plain stream | FrameDecoder | plain loop |\n|---|---|---|---|---|---|");
-  for (const { name, size, ours, theirs, push, plainPush } of rows) console.log(`| ${name} | ${size === "mixed" ? "64 to 4,096" : size.toLocaleString("en")} | ${ours} | ${theirs} | ${push} | ${plainPush} |`);
-  console.log("\nWhole messages of 1 MiB, in MB of message a second:\n");
-  console.log("| message | encode | plain | decode | plain |\n|---|---|---|---|---|");
-  for (const { name, encodeOurs, encodeTheirs, decodeOurs, decodeTheirs } of wholes) console.log(`| ${name} | ${encodeOurs} | ${encodeTheirs} | ${decodeOurs} | ${decodeTheirs} |`);
-  console.log("\nMemory after each of five streams of 16 MiB, in bytes:\n");
+
   console.log("| after | module | JavaScript |\n|---|---|---|");
-  samples.forEach(({ module, heap }, i) => console.log(`| ${(i + 1) * 16} MiB | ${module.toLocaleString("en")} | ${heap.toLocaleString("en")} |`));
+  for (let i = 1; i <= 5; i++) {
+    await page.value(`run("stream", ${JSON.stringify(frames[0])}, "mixed")`);
+    const { module, heap } = await page.value("memory()");
+    console.log(`| ${i * 16} MiB | ${module.toLocaleString("en")} | ${heap.toLocaleString("en")} |`);
+  }
+
+  console.log("\n| messages | chunks | `FrameDecoderStream` | plain stream | `FrameDecoder` | plain loop |\n|---|---|---|---|---|---|");
+  for (const kind of frames) {
+    for (const size of CHUNKS) {
+      const figures = await compare(page, ["stream", "plainStream", "push", "plainPush"], kind, size);
+      console.log(`| ${kind} | ${size === "mixed" ? "64 to 4,096" : size.toLocaleString("en")} | ${figures.join(" | ")} |`);
+    }
+  }
+
+  console.log("\n| message | `encode` | plain | `decode` | plain |\n|---|---|---|---|---|");
+  for (const kind of messages) {
+    const figures = [...(await compare(page, ["encode", "plainEncode"], kind)), ...(await compare(page, ["decode", "plainDecode"], kind))];
+    console.log(`| ${kind} | ${figures.join(" | ")} |`);
+  }
 } finally {
   await browser.close();
   server.close();
