@@ -35,24 +35,25 @@ class Machine {
   #calls;
   #memory;
   #bytes;
-  #view;
+  #words;
 
   constructor(module) {
     this.#calls = new WebAssembly.Instance(module, {}).exports;
     this.#memory = this.#calls.memory;
-    this.answerAt = Number(this.#calls.__heap_base.value);
+    this.answerAt = Math.ceil(Number(this.#calls.__heap_base.value) / ANSWER_SIZE) * ANSWER_SIZE;
     this.scratchAt = this.answerAt + ANSWER_SIZE;
+    this.reach(this.scratchAt);
     this.#see();
   }
 
   #see() {
     this.#bytes = new Uint8Array(this.#memory.buffer);
-    this.#view = new DataView(this.#memory.buffer);
+    this.#words = new Uint32Array(this.#memory.buffer, this.answerAt, 6);
   }
 
   /** Makes the memory so long that `end` is its end or lies in it. */
   reach(end) {
-    const pages = Math.ceil((end - this.#bytes.length) / WASM_PAGE);
+    const pages = Math.ceil((end - this.#memory.buffer.byteLength) / WASM_PAGE);
     if (pages <= 0) return;
     grow(this.#memory, pages);
     this.#see();
@@ -103,13 +104,10 @@ class Machine {
     };
   }
 
-  #number(at) {
-    return this.#view.getUint32(at, true) + this.#view.getUint32(at + 4, true) * 0x100000000;
-  }
-
+  /** The jcobs_answer of the call just made: a 32-bit number, and two of 64 bits behind it, low half first. */
   #answer() {
-    const at = this.answerAt;
-    return { status: this.#view.getUint32(at, true), consumed: this.#number(at + 8), length: this.#number(at + 16) };
+    const words = this.#words;
+    return { status: words[0], consumed: words[2] + words[3] * 0x100000000, length: words[4] + words[5] * 0x100000000 };
   }
 }
 
@@ -310,7 +308,8 @@ export class FrameDecoder {
     const bytes = bytesOf(chunk);
     this.#isPushing = true;
     try {
-      for (let at = 0; at < bytes.length; at += CHUNK_SIZE) this.#pushSome(bytes.subarray(at, at + CHUNK_SIZE), at, visit);
+      if (bytes.length <= CHUNK_SIZE) this.#pushSome(bytes, 0, visit);
+      else for (let at = 0; at < bytes.length; at += CHUNK_SIZE) this.#pushSome(bytes.subarray(at, at + CHUNK_SIZE), at, visit);
     } finally {
       this.#isPushing = false;
     }

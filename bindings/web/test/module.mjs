@@ -152,6 +152,20 @@ await check("a decoder says where each piece ends, and lets other calls in betwe
   decoder.close();
   other.close();
 });
+await check("many decoders at a time keep apart", () => {
+  const decoders = Array.from({ length: 300 }, (_, i) => ({ decoder: new cobs.FrameDecoder({ maxLength: i + 1 }), message: randomBytes(i + 1, 0.1, i + 1), seen: [] }));
+  const half = (i) => Math.floor(i / 2);
+  for (const { decoder, message, seen } of decoders) {
+    const frame = cobs.encode(message, { terminated: true });
+    decoder.push(frame.subarray(0, half(frame.length)), (outcome) => seen.push(outcome));
+  }
+  for (const { decoder, message, seen } of decoders) {
+    const frame = cobs.encode(message, { terminated: true });
+    decoder.push(frame.subarray(half(frame.length)), (outcome) => seen.push(outcome));
+    equal(seen, [{ message }]);
+    decoder.close();
+  }
+});
 await check("a decoder refuses a push within a push, and after its close", async () => {
   const decoder = new cobs.FrameDecoder();
   await throws(() => decoder.push(bytes(1, 0), () => decoder.push(bytes(1, 0), () => {})), (error) => /under way/.test(error.message), "a push within");
