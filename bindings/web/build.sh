@@ -27,6 +27,7 @@ node_flags() {
 }
 
 build() { # FILE
+    need python3 python3
     [ -x "$kit/bin/rt" ] || { echo "build.sh: $kit/bin/rt is not there: set RATTLE to the kit's folder" >&2; exit 2; }
     archive=$root/crates/$crate/out/lib$crate.a
     kept=$(mktemp)
@@ -38,6 +39,7 @@ build() { # FILE
     (cd "$root/crates/$crate" && "$kit/bin/rt" lib --target $target) >"$log" 2>&1 || { cat "$log" >&2; exit 1; }
     "$kit/bin/rattle-link" --target $target --toolchain "$kit/toolchain" --stack $stack -o "$1" "$archive" 2>"$log" \
         || { cat "$log" >&2; exit 1; }
+    python3 "$here/strip.py" "$1"
 }
 
 case ${1:-} in
