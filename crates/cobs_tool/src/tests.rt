@@ -7,10 +7,14 @@ use crate::modes::run_mode;
 use crate::text::fault_line;
 use std::alloc::{AllocError, Global};
 use std::io::{self, ErrorKind, Read, Write};
+use std::process::Abort;
 use std::test::Fail;
 
-/// Each mode with an input and what it writes: the rows that everything else is compared with.
-const ROWS: [(Mode, &[u8], &[u8]); 11] = [
+/// A mode, an input, and what is written of it.
+type Row = (Mode, &'static [u8], &'static [u8]);
+
+/// The rows that everything else is compared with.
+const ROWS: [Row; 11] = [
     (Mode::Show, b"hello", b"06 68 65 6c 6c 6f 00\n"),
     (Mode::Show, b"", b"01 00\n"),
     (Mode::Show, b"\x00\xff", b"01 02 ff 00\n"),
@@ -97,23 +101,34 @@ fn words(alloc: Global, texts: &[&str]) -> Result<Vec<String>, AllocError> {
     Ok(words)
 }
 
-#[test]
-fn words_choose_the_mode(rt: HostRuntime) -> Result<(), Fail> {
-    let alloc = rt.alloc();
-    let rows: [(&[&str], Option<Mode>); 8] = [
-        (&[], Some(Mode::Show)),
-        (&["show"], Some(Mode::Show)),
-        (&["encode"], Some(Mode::Encode)),
-        (&["decode"], Some(Mode::Decode)),
-        (&["show", "show"], None),
-        (&["encode", "decode"], None),
-        (&["other"], None),
-        (&[""], None),
-    ];
+/// The words choose the mode, or none.
+fn check_words(
+    rt: &impl Abort,
+    alloc: Global,
+    rows: &[(&[&str], Option<Mode>)],
+) -> Result<(), Fail> {
     for (texts, mode) in rows {
-        assert_eq!(rt; mode_of(&words(alloc, texts)?), mode);
+        assert_eq!(rt; mode_of(&words(alloc, texts)?), *mode, "{texts:?}");
     }
     Ok(())
+}
+
+#[test]
+fn words_choose_the_mode(rt: HostRuntime) -> Result<(), Fail> {
+    check_words(
+        &rt,
+        rt.alloc(),
+        &[
+            (&[], Some(Mode::Show)),
+            (&["show"], Some(Mode::Show)),
+            (&["encode"], Some(Mode::Encode)),
+            (&["decode"], Some(Mode::Decode)),
+            (&["show", "show"], None),
+            (&["encode", "decode"], None),
+            (&["other"], None),
+            (&[""], None),
+        ],
+    )
 }
 
 #[test]
@@ -129,115 +144,135 @@ fn faults_have_lines(rt: HostRuntime) {
     }
 }
 
+/// Each row is written.
+fn check_rows(rt: &impl Abort, alloc: Global, rows: &[Row]) {
+    for (at, (mode, input, written)) in rows.iter().enumerate() {
+        let mut output = Vec::new(alloc);
+        let mut left = *input;
+        let result = run_mode(alloc, mode, &mut left, &mut output);
+        assert_eq!(rt; result, Ok(()), "row {at}");
+        assert_eq!(rt; output.as_slice(), *written, "row {at}");
+    }
+}
+
 #[test]
-fn rows_are_written(rt: HostRuntime) -> Result<(), Fail> {
-    for (mode, mut input, written) in ROWS {
-        let mut output = Vec::new(rt.alloc());
+fn rows_are_written(rt: HostRuntime) {
+    check_rows(&rt, rt.alloc(), &ROWS);
+}
+
+/// The read of this number fails by this fault, where the input is read so often: once for each byte, and once more to
+/// find the end.
+fn check_read(rt: &impl Abort, alloc: Global, row: &Row, fault: ErrorKind, failing: usize) {
+    let (mode, bytes, written) = row;
+    let mut input = ByteReader {
+        bytes,
+        reads: 0,
+        failing,
+        fault,
+    };
+    let mut output = Vec::new(alloc);
+    let result = run_mode(alloc, mode, &mut input, &mut output);
+    if failing <= bytes.len() {
         assert_eq!(rt;
-            run_mode(rt.alloc(), &mode, &mut input, &mut output),
-            Ok(())
+            result,
+            Err(ToolFault::ReadFailed),
+            "read {failing} of {bytes:?}"
         );
-        assert_eq!(rt; output.as_slice(), written);
+        assert_eq!(rt; output.len(), 0, "read {failing} of {bytes:?}");
+        // Nothing is read after a fault.
+        assert_eq!(rt; Some(input.reads), failing.checked_add(1), "{bytes:?}");
+    } else {
+        assert_eq!(rt; result, Ok(()), "{bytes:?}");
+        assert_eq!(rt; output.as_slice(), *written, "{bytes:?}");
+        // Nothing is read after the end.
+        assert_eq!(rt; input.reads, failing, "{bytes:?}");
     }
-    Ok(())
 }
 
-#[test]
-fn each_read_may_fail(rt: HostRuntime) -> Result<(), Fail> {
-    for (mode, bytes, written) in ROWS {
-        for fault in [ErrorKind::ConnectionReset, ErrorKind::Interrupted] {
-            // One read for each byte, and one that finds the end.
-            for failing in 0..=bytes.len() + 1 {
-                let mut input = ByteReader {
-                    bytes,
-                    reads: 0,
-                    failing,
-                    fault,
-                };
-                let mut output = Vec::new(rt.alloc());
-                let result = run_mode(rt.alloc(), &mode, &mut input, &mut output);
-                if failing <= bytes.len() {
-                    assert_eq!(rt; result, Err(ToolFault::ReadFailed));
-                    assert_eq!(rt; output.len(), 0);
-                    assert_eq!(rt; input.reads, failing + 1, "nothing is read after a fault");
-                } else {
-                    assert_eq!(rt; result, Ok(()));
-                    assert_eq!(rt; output.as_slice(), written);
-                    assert_eq!(rt; input.reads, failing, "nothing is read after the end");
-                }
-            }
+/// Each read of each row fails in turn, by either fault, until none is left to fail.
+fn check_reads(rt: &impl Abort, alloc: Global, rows: &[Row]) {
+    for row in rows {
+        let (_, bytes, _) = row;
+        for failing in 0..=bytes.len().saturating_add(1) {
+            check_read(rt, alloc, row, ErrorKind::ConnectionReset, failing);
+            check_read(rt, alloc, row, ErrorKind::Interrupted, failing);
         }
     }
-    Ok(())
 }
 
 #[test]
-fn each_write_may_fail(rt: HostRuntime) -> Result<(), Fail> {
-    for (mode, bytes, written) in ROWS {
+fn each_read_may_fail(rt: HostRuntime) {
+    check_reads(&rt, rt.alloc(), &ROWS);
+}
+
+/// The write of this number fails, where so much is written, and otherwise each flush does where this is said.
+fn check_write(rt: &impl Abort, alloc: Global, row: &Row, failing: usize, fails_to_flush: bool) {
+    let (mode, bytes, written) = row;
+    let mut input = *bytes;
+    let mut output = ByteWriter {
+        bytes: Vec::new(alloc),
+        writes: 0,
+        failing,
+        fails_to_flush,
+    };
+    let result = run_mode(alloc, mode, &mut input, &mut output);
+    if fails_to_flush || failing < written.len() {
+        assert_eq!(rt;
+            result,
+            Err(ToolFault::WriteFailed),
+            "write {failing} of {bytes:?}"
+        );
+    } else {
+        assert_eq!(rt; result, Ok(()), "{bytes:?}");
+        assert_eq!(rt; output.bytes.as_slice(), *written, "{bytes:?}");
+    }
+}
+
+/// Each write of each row fails in turn, until none is left to fail, and then each flush.
+fn check_writes(rt: &impl Abort, alloc: Global, rows: &[Row]) {
+    for row in rows {
+        let (_, _, written) = row;
         for failing in 0..=written.len() {
-            let mut input = bytes;
-            let mut output = ByteWriter {
-                bytes: Vec::new(rt.alloc()),
-                writes: 0,
-                failing,
-                fails_to_flush: false,
-            };
-            let result = run_mode(rt.alloc(), &mode, &mut input, &mut output);
-            if failing < written.len() {
-                assert_eq!(rt; result, Err(ToolFault::WriteFailed));
-            } else {
-                assert_eq!(rt; result, Ok(()));
-                assert_eq!(rt; output.bytes.as_slice(), written);
-            }
+            check_write(rt, alloc, row, failing, false);
         }
+        check_write(rt, alloc, row, usize::MAX, true);
     }
-    Ok(())
 }
 
 #[test]
-fn a_flush_may_fail(rt: HostRuntime) {
-    for (mode, mut input, _) in ROWS {
-        let mut output = ByteWriter {
-            bytes: Vec::new(rt.alloc()),
-            writes: 0,
-            failing: usize::MAX,
-            fails_to_flush: true,
-        };
-        let result = run_mode(rt.alloc(), &mode, &mut input, &mut output);
-        assert_eq!(rt; result, Err(ToolFault::WriteFailed));
-    }
+fn each_write_and_each_flush_may_fail(rt: HostRuntime) {
+    check_writes(&rt, rt.alloc(), &ROWS);
+}
+
+/// The mode writes so many bytes of the longest input, and refuses one that is a byte longer, and one without end.
+fn check_limit(rt: &impl Abort, alloc: Global, mode: &Mode, zeros: &[u8], count: usize) {
+    let mut output = Vec::new(alloc);
+    let mut longest = zeros.split_last().map_or(zeros, |(_, front)| front);
+    assert_eq!(rt; run_mode(alloc, mode, &mut longest, &mut output), Ok(()));
+    assert_eq!(rt; output.len(), count);
+
+    let mut refused = Vec::new(alloc);
+    let mut longer = zeros;
+    let result = run_mode(alloc, mode, &mut longer, &mut refused);
+    assert_eq!(rt; result, Err(ToolFault::InputTooLong));
+    let result = run_mode(alloc, mode, &mut io::repeat(1), &mut refused);
+    assert_eq!(rt; result, Err(ToolFault::InputTooLong));
+    assert_eq!(rt; refused.len(), 0);
 }
 
 #[test]
 fn input_has_a_limit(rt: HostRuntime) -> Result<(), Fail> {
+    let zeros = vec![in rt.alloc(); 0u8; 1_048_577]?;
+    check_limit(&rt, rt.alloc(), &Mode::Show, &zeros, 3_145_734);
+    check_limit(&rt, rt.alloc(), &Mode::Encode, &zeros, 1_048_578);
+    check_limit(&rt, rt.alloc(), &Mode::Decode, &zeros, 0);
+    Ok(())
+}
+
+#[test]
+fn nothing_is_read_behind_the_first_byte_too_many(rt: HostRuntime) -> Result<(), Fail> {
     let alloc = rt.alloc();
-    let mut zeros = vec![in alloc; 0u8; 1_048_576]?;
-    let rows = [
-        (Mode::Show, 3_145_734),
-        (Mode::Encode, 1_048_578),
-        (Mode::Decode, 0),
-    ];
-    for (mode, count) in rows {
-        let mut output = Vec::new(alloc);
-        assert_eq!(rt;
-            run_mode(alloc, &mode, &mut zeros.as_slice(), &mut output),
-            Ok(())
-        );
-        assert_eq!(rt; output.len(), count);
-    }
-    zeros.push(0)?;
-    for mode in [Mode::Show, Mode::Encode, Mode::Decode] {
-        let mut output = Vec::new(alloc);
-        let result = run_mode(alloc, &mode, &mut zeros.as_slice(), &mut output);
-        assert_eq!(rt; result, Err(ToolFault::InputTooLong));
-        let result = run_mode(alloc, &mode, &mut io::repeat(1), &mut output);
-        assert_eq!(rt;
-            result,
-            Err(ToolFault::InputTooLong),
-            "of a reader without end"
-        );
-        assert_eq!(rt; output.len(), 0);
-    }
+    let zeros = vec![in alloc; 0u8; 1_048_577]?;
     let mut input = ByteReader {
         bytes: &zeros,
         reads: 0,
@@ -246,11 +281,7 @@ fn input_has_a_limit(rt: HostRuntime) -> Result<(), Fail> {
     };
     let result = run_mode(alloc, &Mode::Encode, &mut input, &mut Vec::new(alloc));
     assert_eq!(rt; result, Err(ToolFault::InputTooLong));
-    assert_eq!(rt;
-        input.reads,
-        1_048_577,
-        "nothing is read behind the first byte too many"
-    );
+    assert_eq!(rt; input.reads, 1_048_577);
     Ok(())
 }
 
