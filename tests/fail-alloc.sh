@@ -29,12 +29,12 @@ copy() {
             '/^#\[cfg\(test\)\]$/ { getline item; if (item ~ kept) { print; print item } next } { print }' \
             "$from" > "$work/crates/$1/src/$root.rt"
     done
-    # no module names these files any more
+    # no module names these files and their proofs any more
     for file in "$work/crates/$1/src"/*.rt; do
         name=$(basename "$file" .rt)
         case $name in lib | main) continue ;; esac
         grep -q -E "^(pub )?mod $name;" "$work/crates/$1/src"/lib.rt "$work/crates/$1/src"/main.rt 2> /dev/null ||
-            rm "$file"
+            rm -rf "$file" "$work/crates/$1/proofs/$name"
     done
     grep -E "^$1( [a-z_]+=[^ :]+)*:" "$top/crates.txt" >> "$work/crates.txt"
 }
@@ -67,7 +67,7 @@ refuse() {
 }
 
 copy cobs ''
-copy cobs_vectors 'examples|memory'
+copy cobs_vectors 'bytes|memory|messages|slices'
 copy cobs_tool 'refused_memory'
 refuse cobs_tool refused_memory::without_a_refusal_every_mode_writes_its_output
 refuse cobs_vectors memory::without_a_refusal_every_call_gives_its_value

@@ -87,8 +87,3 @@ pub fn decode(source: &[u8], dest: &mut [u8]) -> Result<DecodeReport, DecodeErro
 {
     decode_first(source, dest)
 }
-
-#[cfg(test)]
-mod decoder_tests;
-#[cfg(test)]
-mod decoding_tests;

@@ -63,6 +63,3 @@ pub fn try_encode(source: &[u8], dest: &mut [u8]) -> Result<usize, DestBufTooSma
     }
     Ok(encode(source, dest))
 }
-
-#[cfg(test)]
-mod tests;

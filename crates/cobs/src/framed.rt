@@ -240,6 +240,3 @@ impl<D: FrameDecoder> FrameReader<D> {
         Err(ReadFault::TooManyReads)
     }
 }
-
-#[cfg(test)]
-mod tests;

@@ -160,6 +160,3 @@ fn write_frames(messages: &[Vec<u8>], dest: &mut [u8]) -> usize
     }
     end
 }
-
-#[cfg(test)]
-mod tests;

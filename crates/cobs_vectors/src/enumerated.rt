@@ -1,12 +1,12 @@
 //! All lists of a few parts, compared with the plain reference.
-use crate::examples::{joined, repeated};
+use crate::bytes::{ONES, joined, repeated};
+use crate::encoders::encode_in_two;
 use crate::reference::{Reading, frame_of, reading_of, split_at_zero};
-use crate::streaming::StreamingDecoder;
-use cobs::{
-    CobsDecoder, CobsDecoderHeapless, CobsDecoderOwned, CobsEncoder, DecodeError,
-    DestBufTooSmallError, FrameDecoder, FrameKind, FrameOutcome, decode, decode_in_place_report,
-    decode_stream, decode_vec, decode_with_sentinel, encode_vec, frame_kind, try_encode,
+use crate::slices::{
+    Answer, Decoder, Encoder, VectorCall, check_decoder, check_encoder, check_vector,
 };
+use crate::streaming::{Check, StreamingDecoder, check_all, fed};
+use cobs::{FrameKind, FrameOutcome, decode_stream, frame_kind};
 use std::alloc::{AllocError, Global};
 use std::process::Abort;
 use std::test::Fail;
@@ -32,64 +32,73 @@ fn chosen(
     Ok(list)
 }
 
+/// So many bytes of 170, written over by the front of the output that fits.
+fn written(alloc: Global, output: &[u8], room: usize) -> Result<Vec<u8>, AllocError> {
+    let mut filled = output.to_vec(alloc)?;
+    filled.resize(filled.len().max(room), 170)?;
+    filled.truncate(room);
+    Ok(filled)
+}
+
 /// `decode` into a buffer of 170s of this length.
 fn check_decode(rt: &impl Abort, alloc: Global, source: &[u8], room: usize) -> Result<(), Fail> {
-    let mut dest = repeated(alloc, 170, room)?;
-    let answer = decode(source, &mut dest);
     let zeros = source.iter().take_while(|byte| **byte == 0).count();
     let (_, behind_zeros) = source.split_at(zeros.min(source.len()));
     let (piece, behind) = split_at_zero(behind_zeros);
-    let reading = reading_of(alloc, piece)?;
-    let wanted = if source.is_empty() {
-        Err(DecodeError::EmptyFrame)
+    let Reading {
+        output,
+        is_whole,
+        ..
+    } = reading_of(alloc, piece)?;
+    let answer = if source.is_empty() {
+        Answer::EmptyFrame
     } else if piece.is_empty() {
-        Err(DecodeError::InvalidFrame { decoded_bytes: 0 })
-    } else if reading.output.len() > room {
-        Err(DecodeError::TargetBufTooSmall)
-    } else if !reading.is_whole {
-        Err(DecodeError::InvalidFrame {
-            decoded_bytes: reading.output.len(),
-        })
+        Answer::InvalidFrame(0)
+    } else if output.len() > room {
+        Answer::TooSmall
+    } else if !is_whole {
+        Answer::InvalidFrame(output.len())
     } else {
         let terminator = if behind.is_some() { 1 } else { 0 };
-        Ok((
-            reading.output.len(),
-            zeros.saturating_add(piece.len()).saturating_add(terminator),
-        ))
+        let parsed = zeros.saturating_add(piece.len()).saturating_add(terminator);
+        Answer::Sizes(output.len(), parsed)
     };
-    let sizes = answer.map(|report| (report.frame_size(), report.parsed_size()));
-    assert_eq!(rt; sizes, wanted, "{source:?} into {room}");
-    let mut filled = reading.output;
-    filled.resize(filled.len().max(room), 170)?;
-    filled.truncate(room);
-    assert_eq!(rt; dest, filled, "{source:?} into {room}");
-    Ok(())
+    let before = repeated(alloc, 170, room)?;
+    let after = written(alloc, &output, room)?;
+    check_decoder(
+        rt,
+        alloc,
+        (Decoder::Decode, source, &before),
+        (answer, &after),
+    )
 }
 
 /// `decode_in_place_report`.
 fn check_in_place(rt: &impl Abort, alloc: Global, source: &[u8]) -> Result<(), Fail> {
-    let mut buffer = source.to_vec(alloc)?;
-    let answer = decode_in_place_report(&mut buffer);
     let (head, _) = split_at_zero(source);
-    let reading = reading_of(alloc, head)?;
-    let wanted = if source.is_empty() {
-        Err(DecodeError::EmptyFrame)
-    } else if head.is_empty() || reading.is_whole {
-        Ok((reading.output.len(), head.len()))
+    let Reading {
+        output,
+        is_whole,
+        kept,
+    } = reading_of(alloc, head)?;
+    let answer = if source.is_empty() {
+        Answer::EmptyFrame
+    } else if head.is_empty() || is_whole {
+        Answer::Sizes(output.len(), head.len())
     } else {
-        Err(DecodeError::InvalidFrame {
-            decoded_bytes: reading.kept,
-        })
+        Answer::InvalidFrame(kept)
     };
-    let sizes = answer.map(|report| (report.frame_size(), report.parsed_size()));
-    assert_eq!(rt; sizes, wanted, "{source:?}");
-    let mut filled = reading.output;
-    filled.truncate(reading.kept);
-    if let Some(rest) = source.get(reading.kept..) {
-        filled.extend_from_slice(rest)?;
+    let mut after = output;
+    after.truncate(kept);
+    if let Some(rest) = source.get(kept..) {
+        after.extend_from_slice(rest)?;
     }
-    assert_eq!(rt; buffer, filled, "{source:?}");
-    Ok(())
+    check_decoder(
+        rt,
+        alloc,
+        (Decoder::InPlaceReport, &[], source),
+        (answer, &after),
+    )
 }
 
 /// `decode_with_sentinel` into a buffer of 170s of this length.
@@ -99,28 +108,31 @@ fn check_with_sentinel(
     source: &[u8],
     room: usize,
 ) -> Result<(), Fail> {
-    let mut dest = repeated(alloc, 170, room)?;
-    let answer = decode_with_sentinel(source, &mut dest, 0);
     let (head, _) = split_at_zero(source);
-    let reading = reading_of(alloc, head)?;
-    let wanted = if source.is_empty() {
-        Err(DecodeError::EmptyFrame)
-    } else if reading.kept > room {
-        Err(DecodeError::TargetBufTooSmall)
-    } else if head.is_empty() || reading.is_whole {
-        Ok(reading.kept)
+    let Reading {
+        output,
+        is_whole,
+        kept,
+    } = reading_of(alloc, head)?;
+    let answer = if source.is_empty() {
+        Answer::EmptyFrame
+    } else if kept > room {
+        Answer::TooSmall
+    } else if head.is_empty() || is_whole {
+        Answer::Length(kept)
     } else {
-        Err(DecodeError::InvalidFrame {
-            decoded_bytes: reading.kept,
-        })
+        Answer::InvalidFrame(kept)
     };
-    assert_eq!(rt; answer, wanted, "{source:?} into {room}");
-    let mut filled = reading.output;
-    filled.truncate(reading.kept);
-    filled.resize(filled.len().max(room), 170)?;
-    filled.truncate(room);
-    assert_eq!(rt; dest, filled, "{source:?} into {room}");
-    Ok(())
+    let mut known = output;
+    known.truncate(kept);
+    let before = repeated(alloc, 170, room)?;
+    let after = written(alloc, &known, room)?;
+    check_decoder(
+        rt,
+        alloc,
+        (Decoder::WithSentinel(0), source, &before),
+        (answer, &after),
+    )
 }
 
 /// `frame_kind`: a frame is a whole piece without zeros, and it is the longer one of two where the encoder gives
@@ -138,58 +150,69 @@ fn check_kind(rt: &impl Abort, alloc: Global, source: &[u8]) -> Result<(), Fail>
     Ok(())
 }
 
-/// A decoder of `room` bytes, fed the whole stream, answers each zero by the piece in front of it.
-fn check_fed<D: StreamingDecoder + Drop>(
-    rt: &impl Abort,
-    alloc: Global,
-    mut decoder: D,
-    stream: &[u8],
+/// A list of bytes to a streaming decoder of `room` bytes.
+#[derive(Drop)]
+struct Fed<'a> {
+    list: &'a [u8],
     room: usize,
-) -> Result<(), Fail> {
-    let mut piece = Vec::new(alloc);
-    for byte in stream {
-        if *byte != 0 {
-            piece.push(*byte)?;
-        }
-        let reading = reading_of(alloc, &piece)?;
-        let count = reading.output.len();
-        let wanted = if count > room {
-            Err(DecodeError::TargetBufTooSmall)
-        } else if *byte != 0 || piece.is_empty() {
-            Ok(None)
-        } else if reading.is_whole {
-            Ok(Some(count))
-        } else {
-            Err(DecodeError::InvalidFrame {
-                decoded_bytes: count,
-            })
-        };
-        assert_eq!(rt;
-            decoder.feed_one(*byte),
-            wanted,
-            "{byte} in {stream:?} over {room}"
-        );
-        let (front, _) = reading.output.split_at(count.min(room));
-        assert!(rt;
-            decoder.whole_buffer().starts_with(front),
-            "{stream:?} over {room}"
-        );
-        if *byte == 0 {
-            piece.clear();
-        }
-    }
-    Ok(())
 }
 
-/// The outcomes of a stream, over a decoder of `room` bytes: each piece comes to what the reference reads.
-fn check_outcomes<D: FrameDecoder + Drop>(
-    rt: &impl Abort,
-    alloc: Global,
-    mut decoder: D,
-    stream: &[u8],
+impl Check for Fed<'_> {
+    /// Each zero is answered by the piece in front of it.
+    fn check<D: StreamingDecoder + Drop>(
+        &self,
+        rt: &impl Abort,
+        alloc: Global,
+        mut decoder: D,
+    ) -> Result<(), Fail> {
+        let Fed { list, room } = *self;
+        let mut piece = Vec::new(alloc);
+        for byte in list {
+            if *byte != 0 {
+                piece.push(*byte)?;
+            }
+            let Reading {
+                output,
+                is_whole,
+                ..
+            } = reading_of(alloc, &piece)?;
+            let wanted = if output.len() > room {
+                Answer::TooSmall
+            } else if *byte != 0 || piece.is_empty() {
+                Answer::Nothing
+            } else if is_whole {
+                Answer::Length(output.len())
+            } else {
+                Answer::InvalidFrame(output.len())
+            };
+            assert_eq!(rt;
+                fed(decoder.feed_one(*byte)),
+                wanted,
+                "{byte} in {list:?} over {room}"
+            );
+            let (front, _) = output.split_at(output.len().min(room));
+            assert!(rt;
+                decoder.whole_buffer().starts_with(front),
+                "{list:?} over {room}"
+            );
+            if *byte == 0 {
+                piece.clear();
+            }
+        }
+        Ok(())
+    }
+}
+
+/// A list of bytes and a zero, as a stream to a decoder of `room` bytes.
+#[derive(Drop)]
+struct Streamed<'a> {
+    list: &'a [u8],
     room: usize,
-) -> Result<(), Fail> {
-    let mut wanted = Vec::new(alloc);
+}
+
+/// The outcomes of the pieces that a stream has, over a buffer of `room` bytes.
+fn outcomes_of(alloc: Global, stream: &[u8], room: usize) -> Result<Vec<FrameOutcome>, AllocError> {
+    let mut outcomes = Vec::new(alloc);
     let mut rest = stream;
     for _ in stream {
         let (piece, Some(behind)) = split_at_zero(rest) else {
@@ -202,7 +225,7 @@ fn check_outcomes<D: FrameDecoder + Drop>(
                 is_whole,
                 ..
             } = reading_of(alloc, piece)?;
-            wanted.push(if output.len() > room {
+            outcomes.push(if output.len() > room {
                 FrameOutcome::TooLong
             } else if is_whole {
                 FrameOutcome::Message(output)
@@ -211,96 +234,98 @@ fn check_outcomes<D: FrameDecoder + Drop>(
             })?;
         }
     }
-    assert_eq!(rt;
-        decode_stream(alloc, &mut decoder, stream)?,
-        wanted,
-        "{stream:?} over {room}"
-    );
+    Ok(outcomes)
+}
+
+impl Check for Streamed<'_> {
+    /// Each piece comes to what the reference reads.
+    fn check<D: StreamingDecoder + Drop>(
+        &self,
+        rt: &impl Abort,
+        alloc: Global,
+        mut decoder: D,
+    ) -> Result<(), Fail> {
+        let Streamed { list, room } = *self;
+        let stream = joined(alloc, &[list, &[0]])?;
+        let wanted = outcomes_of(alloc, &stream, room)?;
+        let found = decode_stream(alloc, &mut decoder, &stream)?;
+        assert_eq!(rt; found, wanted, "{stream:?} over {room}");
+        Ok(())
+    }
+}
+
+/// Every call that decodes a list, into buffers of these lengths. Only a short one is fed byte by byte: there the
+/// reference reads each front anew.
+fn check_list(rt: &impl Abort, alloc: Global, list: &[u8], rooms: &[usize]) -> Result<(), Fail> {
+    check_in_place(rt, alloc, list)?;
+    check_kind(rt, alloc, list)?;
+    for room in rooms {
+        check_decode(rt, alloc, list, *room)?;
+        check_with_sentinel(rt, alloc, list, *room)?;
+        check_all(rt, alloc, *room, &Streamed { list, room: *room })?;
+        if list.len() < 10 {
+            check_all(rt, alloc, *room, &Fed { list, room: *room })?;
+        }
+    }
     Ok(())
 }
 
-/// Every call that decodes a list, into a buffer of this length.
-fn check_list(rt: &impl Abort, alloc: Global, list: &[u8], room: usize) -> Result<(), Fail> {
-    check_decode(rt, alloc, list, room)?;
-    check_with_sentinel(rt, alloc, list, room)?;
-    let stream = joined(alloc, &[list, &[0]])?;
-    check_outcomes(
-        rt,
-        alloc,
-        CobsDecoderOwned::new(alloc, room)?,
-        &stream,
-        room,
-    )?;
-    let mut buffer = repeated(alloc, 170, room)?;
-    check_outcomes(rt, alloc, CobsDecoder::new(&mut buffer), &stream, room)
+/// All lists of so many of the parts, for each count: the count, and how many lists there are.
+fn check_lists(
+    rt: &impl Abort,
+    alloc: Global,
+    parts: &[&[u8]],
+    counts: &[(usize, usize)],
+    rooms: &[usize],
+) -> Result<(), Fail> {
+    for (count, numbers) in counts {
+        for number in 0..*numbers {
+            let list = chosen(alloc, parts, *count, number)?;
+            check_list(rt, alloc, &list, rooms)?;
+        }
+    }
+    Ok(())
 }
 
 #[test]
 fn every_short_list_decodes_as_the_reference_says(rt: HostRuntime) -> Result<(), Fail> {
-    let alloc = rt.alloc();
     let parts: [&[u8]; 5] = [&[0], &[1], &[2], &[3], &[255]];
-    for (count, numbers) in [(0, 1), (1, 5), (2, 25), (3, 125), (4, 625), (5, 3125)] {
-        for number in 0..numbers {
-            let list = chosen(alloc, &parts, count, number)?;
-            check_in_place(&rt, alloc, &list)?;
-            check_kind(&rt, alloc, &list)?;
-            check_fed(&rt, alloc, CobsDecoderHeapless::<2>::new(), &list, 2)?;
-            check_fed(&rt, alloc, CobsDecoderHeapless::<4>::new(), &list, 4)?;
-            for room in 0..=5 {
-                check_list(&rt, alloc, &list, room)?;
-                check_fed(&rt, alloc, CobsDecoderOwned::new(alloc, room)?, &list, room)?;
-                let mut buffer = repeated(alloc, 170, room)?;
-                check_fed(&rt, alloc, CobsDecoder::new(&mut buffer), &list, room)?;
-            }
-        }
-    }
-    Ok(())
+    let counts = [(0, 1), (1, 5), (2, 25), (3, 125), (4, 625), (5, 3125)];
+    check_lists(&rt, rt.alloc(), &parts, &counts, &[0, 1, 2, 3, 4, 5])
 }
 
 #[test]
 fn every_list_with_full_blocks_decodes_as_the_reference_says(rt: HostRuntime) -> Result<(), Fail> {
-    let alloc = rt.alloc();
-    let ones = repeated(alloc, 1, 254)?;
-    let full = joined(alloc, &[&[255], &ones])?;
-    let fives = repeated(alloc, 5, 252)?;
-    let nearly_full = joined(alloc, &[&[254], &fives])?;
+    let full = joined(rt.alloc(), &[&[255], &ONES])?;
+    let nearly_full = joined(rt.alloc(), &[&[254], &[5; 252]])?;
     let parts: [&[u8]; 5] = [&full, &nearly_full, &[0], &[1], &[2]];
-    for (count, numbers) in [(1, 5), (2, 25), (3, 125)] {
-        for number in 0..numbers {
-            let list = chosen(alloc, &parts, count, number)?;
-            check_in_place(&rt, alloc, &list)?;
-            check_kind(&rt, alloc, &list)?;
-            for room in [253, 254, 255, 507, 508, 1000] {
-                check_list(&rt, alloc, &list, room)?;
-            }
-            let stream = joined(alloc, &[&list, &[0]])?;
-            check_outcomes(&rt, alloc, CobsDecoderHeapless::<508>::new(), &stream, 508)?;
-        }
-    }
-    Ok(())
+    let counts = [(1, 5), (2, 25), (3, 125)];
+    check_lists(
+        &rt,
+        rt.alloc(),
+        &parts,
+        &counts,
+        &[253, 254, 255, 507, 508, 1000],
+    )
 }
 
 /// Every call that encodes, of one message, and the way back.
 fn check_message(rt: &impl Abort, alloc: Global, message: &[u8]) -> Result<(), Fail> {
-    assert!(rt; message.len() < 10_000);
     let frame = frame_of(alloc, message)?;
-    assert_eq!(rt; encode_vec(alloc, message)?, frame, "{message:?}");
-    assert_eq!(rt; decode_vec(alloc, &frame)?.as_slice(), message);
-    let mut dest = repeated(alloc, 170, frame.len())?;
-    assert_eq!(rt;
-        try_encode(message, &mut dest),
-        Ok(frame.len()),
-        "{message:?}"
-    );
-    assert_eq!(rt; dest, frame, "{message:?}");
-
-    let _ = dest.pop();
-    assert_eq!(rt;
-        try_encode(message, &mut dest),
-        Err(DestBufTooSmallError),
-        "{message:?}"
-    );
-    Ok(())
+    let room = repeated(alloc, 170, frame.len())?;
+    let len = Answer::Length(frame.len());
+    check_encoder(
+        rt,
+        alloc,
+        (Encoder::TryEncode, message, &room),
+        (len, &frame),
+    )?;
+    if let Some((_, short)) = room.as_slice().split_last() {
+        let refused = (Answer::NoRoom, short);
+        check_encoder(rt, alloc, (Encoder::TryEncode, message, short), refused)?;
+    }
+    check_vector(rt, alloc, (VectorCall::Encode, message), Ok(&frame))?;
+    check_vector(rt, alloc, (VectorCall::Decode, &frame), Ok(message))
 }
 
 /// The message in two pieces into exact room.
@@ -308,40 +333,42 @@ fn check_two_pieces(rt: &impl Abort, alloc: Global, front: &[u8], back: &[u8]) -
     let message = joined(alloc, &[front, back])?;
     let frame = frame_of(alloc, &message)?;
     let mut slice = repeated(alloc, 170, frame.len())?;
-    assert!(rt; !slice.is_empty());
-    let mut encoder = CobsEncoder::new(&mut slice);
-    assert_eq!(rt; encoder.push(front), Ok(()));
-    assert_eq!(rt; encoder.push(back), Ok(()), "{front:?} and {back:?}");
-    assert_eq!(rt; encoder.finalize(), frame.len());
+    let len = encode_in_two(rt, front, back, &mut slice);
+    assert_eq!(rt; len, frame.len(), "{front:?} and {back:?}");
     assert_eq!(rt; slice, frame, "{front:?} and {back:?}");
+    Ok(())
+}
+
+/// All messages of so many of the parts, for each count: the count, and how many messages there are.
+fn check_messages(
+    rt: &impl Abort,
+    alloc: Global,
+    parts: &[&[u8]],
+    counts: &[(usize, usize)],
+) -> Result<(), Fail> {
+    for (count, numbers) in counts {
+        for number in 0..*numbers {
+            let message = chosen(alloc, parts, *count, number)?;
+            check_message(rt, alloc, &message)?;
+            let front = chosen(alloc, parts, *count / 2, number)?;
+            if let Some(back) = message.as_slice().get(front.len()..) {
+                check_two_pieces(rt, alloc, &front, back)?;
+            }
+        }
+    }
     Ok(())
 }
 
 #[test]
 fn every_short_message_encodes_as_the_reference_says(rt: HostRuntime) -> Result<(), Fail> {
     let parts: [&[u8]; 3] = [&[0], &[1], &[255]];
-    for (count, numbers) in [(0, 1), (1, 3), (2, 9), (3, 27), (4, 81), (5, 243), (6, 729)] {
-        for number in 0..numbers {
-            let message = chosen(rt.alloc(), &parts, count, number)?;
-            check_message(&rt, rt.alloc(), &message)?;
-        }
-    }
-    Ok(())
+    let counts = [(0, 1), (1, 3), (2, 9), (3, 27), (4, 81), (5, 243), (6, 729)];
+    check_messages(&rt, rt.alloc(), &parts, &counts)
 }
 
 #[test]
 fn every_message_with_long_runs_encodes_as_the_reference_says(rt: HostRuntime) -> Result<(), Fail> {
-    let alloc = rt.alloc();
     let parts: [&[u8]; 5] = [&[0], &[1], &[1; 253], &[1; 254], &[1; 255]];
-    for (count, numbers) in [(1, 5), (2, 25), (3, 125), (4, 625)] {
-        for number in 0..numbers {
-            let message = chosen(alloc, &parts, count, number)?;
-            check_message(&rt, alloc, &message)?;
-            let front = chosen(alloc, &parts, count / 2, number)?;
-            if let Some(back) = message.as_slice().get(front.len()..) {
-                check_two_pieces(&rt, alloc, &front, back)?;
-            }
-        }
-    }
-    Ok(())
+    let counts = [(1, 5), (2, 25), (3, 125), (4, 625)];
+    check_messages(&rt, rt.alloc(), &parts, &counts)
 }

@@ -1,168 +1,156 @@
-//! Messages with their frames, and what the tests share.
-use cobs::{encode, encode_frames, max_encoding_length, try_encode};
-use std::alloc::{AllocError, Global};
+//! Messages with their frames, through every call that encodes, and back.
+use crate::bytes::{FROM_3_TO_254, LONG_FRAME, LONG_MESSAGE, ONES, Parts, joined, repeated};
+use crate::encoders::{check_pieces, list_by_state};
+use crate::messages::encode_few;
+use crate::slices::Answer::{Length, NoRoom, Sizes};
+use crate::slices::Decoder::{Decode, InPlace, InPlaceReport};
+use crate::slices::Encoder::{Encode, TryEncode, TryIncludingSentinels};
+use crate::slices::{Encoder, VectorCall, check_decoder, check_encoder, check_vector};
+use cobs::{CobsDecoderOwned, FrameKind, FrameOutcome, decode_stream, frame_kind};
+use std::alloc::Global;
 use std::process::Abort;
 use std::test::Fail;
 
 /// A message and its encoded frame.
-#[derive(Drop)]
-pub struct Example {
-    pub message: Vec<u8>,
-    pub frame: Vec<u8>,
-}
+const EXAMPLES: [(Parts, Parts); 14] = [
+    (&[], &[&[1]]),
+    (&[&[0]], &[&[1, 1]]),
+    (&[&[1]], &[&[2, 1]]),
+    (&[&[255, 0]], &[&[2, 255, 1]]),
+    (&[&[1, 2, 3]], &[&[4, 1, 2, 3]]),
+    (&[&[10, 11, 0, 12]], &[&[3, 10, 11, 2, 12]]),
+    (&[&[0, 0, 1, 0]], &[&[1, 1, 2, 1, 1]]),
+    // 1 to 254, 0 to 254, 1 to 255
+    (&[&[1, 2], &FROM_3_TO_254], &[&[255, 1, 2], &FROM_3_TO_254]),
+    (
+        &[&[0, 1, 2], &FROM_3_TO_254],
+        &[&[1, 255, 1, 2], &FROM_3_TO_254],
+    ),
+    (
+        &[&[1, 2], &FROM_3_TO_254, &[255]],
+        &[&[255, 1, 2], &FROM_3_TO_254, &[2, 255]],
+    ),
+    // 2 to 255 and 0, 3 to 255 and 0 and 1
+    (
+        &[&[2], &FROM_3_TO_254, &[255, 0]],
+        &[&[255, 2], &FROM_3_TO_254, &[255, 1, 1]],
+    ),
+    (
+        &[&FROM_3_TO_254, &[255, 0, 1]],
+        &[&[254], &FROM_3_TO_254, &[255, 2, 1]],
+    ),
+    (&[&ONES, &ONES], &[&[255], &ONES, &[255], &ONES]),
+    (LONG_MESSAGE, LONG_FRAME),
+];
 
-/// The bytes from the first to the last, in order.
-pub fn ascending(alloc: Global, first: u8, last: u8) -> Result<Vec<u8>, AllocError> {
-    let mut bytes = Vec::new(alloc);
-    for byte in first..=last {
-        bytes.push(byte)?;
+/// The call writes this, where it tries: a buffer that is a byte short, one that fits, and one with a byte to spare.
+fn check_room(
+    rt: &impl Abort,
+    alloc: Global,
+    call: Encoder,
+    message: &[u8],
+    wanted: &[u8],
+) -> Result<(), Fail> {
+    let len = wanted.len();
+    let full = repeated(alloc, 170, len)?;
+    if let Some((_, short)) = full.as_slice().split_last() {
+        check_encoder(rt, alloc, (call, message, short), (NoRoom, short))?;
     }
-    Ok(bytes)
+    check_encoder(rt, alloc, (call, message, &full), (Length(len), wanted))?;
+    let before = joined(alloc, &[&full, &[170]])?;
+    let after = joined(alloc, &[wanted, &[170]])?;
+    check_encoder(rt, alloc, (call, message, &before), (Length(len), &after))
 }
 
-/// That many times the same byte.
-pub fn repeated(alloc: Global, byte: u8, count: usize) -> Result<Vec<u8>, AllocError> {
-    vec![in alloc; byte; count]
-}
-
-/// The lists one behind the other.
-pub fn joined(alloc: Global, lists: &[&[u8]]) -> Result<Vec<u8>, AllocError> {
-    let mut whole = Vec::new(alloc);
-    for list in lists {
-        whole.extend_from_slice(list)?;
-    }
-    Ok(whole)
-}
-
-/// Whether every byte of the buffer is this one.
-pub fn is_filled(buffer: &[u8], byte: u8) -> bool {
-    buffer.iter().all(|found| *found == byte)
-}
-
-/// An example of which both lists are written out.
-fn written_out(alloc: Global, message: &[u8], frame: &[u8]) -> Result<Example, AllocError> {
-    Ok(Example {
-        message: message.to_vec(alloc)?,
-        frame: frame.to_vec(alloc)?,
-    })
-}
-
-/// Messages below a block's length.
-fn short_examples(alloc: Global) -> Result<Vec<Example>, AllocError> {
-    let mut examples = Vec::new(alloc);
-    examples.push(written_out(alloc, &[], &[1])?)?;
-    examples.push(written_out(alloc, &[0], &[1, 1])?)?;
-    examples.push(written_out(alloc, &[1], &[2, 1])?)?;
-    examples.push(written_out(alloc, &[255, 0], &[2, 255, 1])?)?;
-    examples.push(written_out(alloc, &[1, 2, 3], &[4, 1, 2, 3])?)?;
-    examples.push(written_out(alloc, &[10, 11, 0, 12], &[3, 10, 11, 2, 12])?)?;
-    examples.push(written_out(alloc, &[0, 0, 1, 0], &[1, 1, 2, 1, 1])?)?;
-    Ok(examples)
-}
-
-/// Messages with full blocks, and one whose block is a byte short of full.
-fn long_examples(alloc: Global) -> Result<Vec<Example>, AllocError> {
-    let from_1 = ascending(alloc, 1, 254)?;
-    let from_2 = ascending(alloc, 2, 255)?;
-    let from_3 = ascending(alloc, 3, 255)?;
-    let ones = repeated(alloc, 1, 254)?;
-    let mut examples = Vec::new(alloc);
-    examples.push(Example {
-        frame: joined(alloc, &[&[255], &from_1])?,
-        message: from_1.clone()?,
-    })?;
-    examples.push(Example {
-        message: joined(alloc, &[&[0], &from_1])?,
-        frame: joined(alloc, &[&[1, 255], &from_1])?,
-    })?;
-    examples.push(Example {
-        message: joined(alloc, &[&from_1, &[255]])?,
-        frame: joined(alloc, &[&[255], &from_1, &[2, 255]])?,
-    })?;
-    examples.push(Example {
-        message: joined(alloc, &[&from_2, &[0]])?,
-        frame: joined(alloc, &[&[255], &from_2, &[1, 1]])?,
-    })?;
-    examples.push(Example {
-        message: joined(alloc, &[&from_3, &[0, 1]])?,
-        frame: joined(alloc, &[&[254], &from_3, &[2, 1]])?,
-    })?;
-    examples.push(Example {
-        message: joined(alloc, &[&ones, &ones])?,
-        frame: joined(alloc, &[&[255], &ones, &[255], &ones])?,
-    })?;
-    Ok(examples)
-}
-
-/// Two runs of 1,000 ones with a zero between them: each run is three full blocks and a block of 238 bytes.
-pub fn two_long_runs(alloc: Global) -> Result<Example, AllocError> {
-    let run = repeated(alloc, 1, 1000)?;
-    let block = repeated(alloc, 1, 254)?;
-    let rest = repeated(alloc, 1, 238)?;
-    let blocks = joined(
+/// The message to its frame.
+fn check_there(rt: &impl Abort, alloc: Global, message: &[u8], frame: &[u8]) -> Result<(), Fail> {
+    check_room(rt, alloc, TryEncode, message, frame)?;
+    let delimited = joined(alloc, &[&[0], frame, &[0]])?;
+    check_room(rt, alloc, TryIncludingSentinels, message, &delimited)?;
+    let before = repeated(alloc, 128, frame.len())?;
+    check_encoder(
+        rt,
         alloc,
-        &[
-            &[255],
-            &block,
-            &[255],
-            &block,
-            &[255],
-            &block,
-            &[239],
-            &rest,
-        ],
+        (Encode, message, &before),
+        (Length(frame.len()), frame),
     )?;
-    Ok(Example {
-        message: joined(alloc, &[&run, &[0], &run])?,
-        frame: joined(alloc, &[&blocks, &blocks])?,
-    })
+    check_vector(rt, alloc, (VectorCall::Encode, message), Ok(frame))?;
+    check_pieces(rt, alloc, (message, frame), 1)?;
+    assert_eq!(rt; frame_kind(frame), FrameKind::Canonical, "{message:?}");
+    Ok(())
 }
 
-/// All messages with known frames but the one of two long runs.
-pub fn examples(alloc: Global) -> Result<Vec<Example>, AllocError> {
-    let mut all = short_examples(alloc)?;
-    for example in long_examples(alloc)? {
-        all.push(example)?;
-    }
-    Ok(all)
+/// The frame and a sentinel back to the message.
+fn check_back(rt: &impl Abort, alloc: Global, message: &[u8], frame: &[u8]) -> Result<(), Fail> {
+    let stream = joined(alloc, &[frame, &[0]])?;
+    let before = repeated(alloc, 128, message.len())?;
+    let sizes = Sizes(message.len(), stream.len());
+    check_decoder(rt, alloc, (Decode, &stream, &before), (sizes, message))?;
+    check_vector(rt, alloc, (VectorCall::Decode, &stream), Ok(message))
 }
 
-/// `encode` into a buffer in which `try_encode` finds room. Both write the same.
-pub fn encode_where_it_fits(
+/// The frame in place: the message, and what the frame has behind it.
+fn check_in_place(
     rt: &impl Abort,
     alloc: Global,
-    source: &[u8],
-    dest: &mut [u8],
-) -> Result<usize, Fail> {
-    let mut tried = dest.to_vec(alloc)?;
-    let room = try_encode(source, &mut tried);
-    assert!(rt; room.is_ok());
-    let len = encode(source, dest);
-    assert_eq!(rt; room, Ok(len));
-    assert!(rt; &*dest == tried.as_slice());
-    Ok(len)
+    message: &[u8],
+    frame: &[u8],
+) -> Result<(), Fail> {
+    let mut after = message.to_vec(alloc)?;
+    if let Some(behind) = frame.get(message.len()..) {
+        after.extend_from_slice(behind)?;
+    }
+    let sizes = Sizes(message.len(), frame.len());
+    check_decoder(rt, alloc, (InPlaceReport, &[], frame), (sizes, &after))?;
+    let length = Length(message.len());
+    check_decoder(rt, alloc, (InPlace, &[], frame), (length, &after))
 }
 
-/// The empty message, a zero, and two bytes.
-pub fn three_messages(alloc: Global) -> Result<Vec<Vec<u8>>, AllocError> {
+/// The caller of a state gets the frame that ends in no full block.
+fn check_state(rt: &impl Abort, alloc: Global, message: &[u8], frame: &[u8]) -> Result<(), Fail> {
+    let list = list_by_state(rt, alloc, message)?;
+    let longer = joined(alloc, &[frame, &[1]])?;
+    assert!(rt; list.len() >= frame.len(), "{message:?}");
+    assert!(rt; longer.as_slice().starts_with(&list), "{message:?}");
+    Ok(())
+}
+
+/// Checks each example.
+fn check_examples(rt: &impl Abort, alloc: Global, rows: &[(Parts, Parts)]) -> Result<(), Fail> {
+    for (message, frame) in rows {
+        let message = joined(alloc, message)?;
+        let frame = joined(alloc, frame)?;
+        check_there(rt, alloc, &message, &frame)?;
+        check_back(rt, alloc, &message, &frame)?;
+        check_in_place(rt, alloc, &message, &frame)?;
+        check_state(rt, alloc, &message, &frame)?;
+    }
+    Ok(())
+}
+
+#[test]
+fn every_example_goes_there_and_back(rt: HostRuntime) -> Result<(), Fail> {
+    check_examples(&rt, rt.alloc(), &EXAMPLES)
+}
+
+/// The frames of all examples as one stream.
+fn check_stream(rt: &impl Abort, alloc: Global, rows: &[(Parts, Parts)]) -> Result<(), Fail> {
+    let mut frames = Vec::new(alloc);
+    let mut wanted = Vec::new(alloc);
     let mut messages = Vec::new(alloc);
-    messages.push(Vec::new(alloc))?;
-    messages.push([0].to_vec(alloc)?)?;
-    messages.push([1, 2].to_vec(alloc)?)?;
-    Ok(messages)
+    for (message, frame) in rows {
+        frames.extend_from_slice(&joined(alloc, frame)?)?;
+        frames.push(0)?;
+        wanted.push(FrameOutcome::Message(joined(alloc, message)?))?;
+        messages.push(joined(alloc, message)?)?;
+    }
+    assert_eq!(rt; encode_few(rt, alloc, &messages)?, frames);
+    let mut decoder = CobsDecoderOwned::new(alloc, 2001)?;
+    assert_eq!(rt; decode_stream(alloc, &mut decoder, &frames)?, wanted);
+    Ok(())
 }
 
-/// `encode_frames` of messages that are few and short enough.
-pub fn encode_few(
-    rt: &impl Abort,
-    alloc: Global,
-    messages: &[Vec<u8>],
-) -> Result<Vec<u8>, AllocError> {
-    let mut room = 0usize;
-    'by_message: for message in messages {
-        assert!(rt; message.len() < 10_000 && room < 1_000_000);
-        room += max_encoding_length(message.len()) + 1;
-    }
-    assert!(rt; room < 2_000_000);
-    encode_frames(alloc, messages)
+#[test]
+fn every_example_comes_out_of_one_stream(rt: HostRuntime) -> Result<(), Fail> {
+    check_stream(&rt, rt.alloc(), &EXAMPLES)
 }

@@ -1,140 +1,126 @@
 //! Decoders in states that no careful caller brings about.
-use crate::examples::repeated;
-use crate::streaming::{ResetDecoder, StreamingDecoder, feed_message, feed_quietly};
-use cobs::{CobsDecoder, CobsDecoderHeapless, CobsDecoderOwned, DecodeError};
+use crate::bytes::{ONES, Parts, joined};
+use crate::slices::Answer;
+use crate::streaming::{Check, StreamingDecoder, check_all, feed_all, overwrite};
 use std::alloc::Global;
 use std::process::Abort;
 use std::test::Fail;
 
-/// The empty message, and then one that has no room.
-fn has_no_room<D: StreamingDecoder + Drop>(rt: &impl Abort, mut decoder: D) {
-    feed_message(rt, &mut decoder, &[1, 0], &[]);
-    feed_quietly(rt, &mut decoder, &[2]);
-    assert_eq!(rt; decoder.feed_one(5), Err(DecodeError::TargetBufTooSmall));
-    assert_eq!(rt; decoder.feed_one(0), Err(DecodeError::TargetBufTooSmall));
-    feed_message(rt, &mut decoder, &[0, 1, 0], &[]);
-    assert!(rt; decoder.whole_buffer().is_empty());
-}
-
-#[test]
-fn a_buffer_of_no_bytes_holds_the_empty_message(rt: HostRuntime) -> Result<(), Fail> {
-    has_no_room(&rt, CobsDecoder::new(&mut []));
-    has_no_room(&rt, CobsDecoderHeapless::<0>::new());
-    has_no_room(&rt, CobsDecoderOwned::new(rt.alloc(), 0)?);
-    Ok(())
-}
-
-/// Bytes that lead from idle to each phase, over a buffer of four bytes.
-const FRONTS: [&[u8]; 9] = [
+/// Over a buffer of so many bytes: bytes that lead from idle to each phase.
+const FRONTS: [(usize, Parts); 10] = [
     // idle, at the start and behind a frame
-    &[],
-    &[0],
-    &[2, 5, 0],
+    (4, &[]),
+    (4, &[&[0]]),
+    (4, &[&[2, 5, 0]]),
     // in a block, at its start, inside it, and at its end
-    &[4],
-    &[4, 7],
-    &[3, 7, 8],
-    // in a full block
-    &[255, 1, 2],
+    (4, &[&[4]]),
+    (4, &[&[4, 7]]),
+    (4, &[&[3, 7, 8]]),
+    // in a full block, and at its end
+    (4, &[&[255, 1, 2]]),
+    (254, &[&[255], &ONES]),
     // over, in a block and at its end
-    &[9, 1, 2, 3, 4, 5],
-    &[6, 1, 2, 3, 4, 5],
+    (4, &[&[9, 1, 2, 3, 4, 5]]),
+    (4, &[&[6, 1, 2, 3, 4, 5]]),
 ];
 
-/// Feeds bytes whose answers don't matter here.
-fn feed_anyhow<D: StreamingDecoder>(decoder: &mut D, bytes: &[u8]) {
-    for byte in bytes {
-        let _ = decoder.feed_one(*byte);
+/// What comes behind the write.
+const BEHIND: [&[u8]; 5] = [&[], &[1], &[3], &[2, 9], &[7, 8, 9, 1, 1, 1]];
+
+/// A buffer that is written to inside a piece: whatever comes of it, the decoder is idle behind the next zero.
+#[derive(Drop)]
+struct Written<'a> {
+    front: &'a [u8],
+    behind: &'static [u8],
+    is_pushed: bool,
+}
+
+/// Gives the decoder bytes whose answers don't matter.
+fn give<D: StreamingDecoder>(decoder: &mut D, bytes: &[u8], is_pushed: bool) {
+    if is_pushed {
+        let _ = decoder.push_some(bytes);
+    } else {
+        for byte in bytes {
+            let _ = decoder.feed_one(*byte);
+        }
     }
 }
 
-/// A buffer that was written to: whatever comes of the piece, the decoder is idle behind the next zero.
-fn forgets_at_the_next_zero<D: StreamingDecoder + Drop>(
-    rt: &impl Abort,
-    mut decoder: D,
-    front: &[u8],
-    behind: &[u8],
-) {
-    feed_anyhow(&mut decoder, front);
-    decoder.overwrite(77);
-    feed_anyhow(&mut decoder, behind);
-    let _ = decoder.feed_one(0);
-    feed_message(rt, &mut decoder, &[2, 5, 0], &[5]);
+/// The decoder is idle: the next frame is read.
+fn check_idle<D: StreamingDecoder>(rt: &impl Abort, decoder: &mut D) {
+    assert_eq!(rt; feed_all(rt, decoder, &[2, 5, 0], false), Answer::Length(1));
+    assert!(rt; decoder.whole_buffer().starts_with(&[5]));
 }
 
-/// The same, with pushes.
-fn forgets_at_the_next_pushed_zero<D: StreamingDecoder + Drop>(
-    rt: &impl Abort,
-    mut decoder: D,
-    front: &[u8],
-    behind: &[u8],
-) {
-    let _ = decoder.push_some(front);
-    decoder.overwrite(77);
-    let _ = decoder.push_some(behind);
-    let _ = decoder.push_some(&[0]);
-    feed_message(rt, &mut decoder, &[2, 5, 0], &[5]);
+impl Check for Written<'_> {
+    fn check<D: StreamingDecoder + Drop>(
+        &self,
+        rt: &impl Abort,
+        _alloc: Global,
+        mut decoder: D,
+    ) -> Result<(), Fail> {
+        give(&mut decoder, self.front, self.is_pushed);
+        overwrite(&mut decoder, 77);
+        give(&mut decoder, self.behind, self.is_pushed);
+        give(&mut decoder, &[0], self.is_pushed);
+        check_idle(rt, &mut decoder);
+        Ok(())
+    }
 }
 
-#[test]
-fn a_buffer_that_is_written_to_inside_a_piece(rt: HostRuntime) -> Result<(), Fail> {
-    for front in FRONTS {
-        for behind in [[].as_slice(), &[1], &[3], &[7, 8, 9, 1, 1, 1]] {
-            forgets_at_the_next_zero(&rt, CobsDecoder::new(&mut [0; 4]), front, behind);
-            forgets_at_the_next_zero(&rt, CobsDecoderHeapless::<4>::new(), front, behind);
-            let owned = CobsDecoderOwned::new(rt.alloc(), 4)?;
-            forgets_at_the_next_zero(&rt, owned, front, behind);
-            forgets_at_the_next_pushed_zero(&rt, CobsDecoder::new(&mut [0; 4]), front, behind);
-            forgets_at_the_next_pushed_zero(&rt, CobsDecoderHeapless::<4>::new(), front, behind);
-            let owned = CobsDecoderOwned::new(rt.alloc(), 4)?;
-            forgets_at_the_next_pushed_zero(&rt, owned, front, behind);
+/// A reset inside a piece: the decoder is idle at once, and its buffer is as it was.
+#[derive(Drop)]
+struct Resets<'a> {
+    front: &'a [u8],
+}
+
+impl Check for Resets<'_> {
+    fn check<D: StreamingDecoder + Drop>(
+        &self,
+        rt: &impl Abort,
+        alloc: Global,
+        mut decoder: D,
+    ) -> Result<(), Fail> {
+        give(&mut decoder, self.front, false);
+        let before = decoder.whole_buffer().to_vec(alloc)?;
+        if decoder.begin_anew() {
+            assert!(rt; decoder.whole_buffer() == before.as_slice());
+            assert_eq!(rt; feed_all(rt, &mut decoder, &[0], false), Answer::Nothing);
+            check_idle(rt, &mut decoder);
+
+            give(&mut decoder, self.front, false);
+            let _ = decoder.begin_anew();
+            check_idle(rt, &mut decoder);
+        }
+        Ok(())
+    }
+}
+
+/// Writes to the buffer, and resets the decoder, behind each front.
+fn check_fronts(
+    rt: &impl Abort,
+    alloc: Global,
+    fronts: &[(usize, Parts)],
+    behinds: &[&'static [u8]],
+) -> Result<(), Fail> {
+    for (room, front) in fronts {
+        let front = joined(alloc, front)?;
+        check_all(rt, alloc, *room, &Resets { front: &front })?;
+        for behind in behinds {
+            for is_pushed in [false, true] {
+                let written = Written {
+                    front: &front,
+                    behind: *behind,
+                    is_pushed,
+                };
+                check_all(rt, alloc, *room, &written)?;
+            }
         }
     }
     Ok(())
 }
 
-/// A reset: the decoder is idle at once, and its buffer is as it was.
-fn forgets_at_a_reset<D: ResetDecoder + Drop>(
-    rt: &impl Abort,
-    alloc: Global,
-    mut decoder: D,
-    front: &[u8],
-) -> Result<(), Fail> {
-    feed_anyhow(&mut decoder, front);
-    let before = decoder.whole_buffer().to_vec(alloc)?;
-    decoder.begin_anew();
-    assert!(rt; decoder.whole_buffer() == before.as_slice());
-    assert_eq!(rt; decoder.feed_one(0), Ok(None));
-    feed_message(rt, &mut decoder, &[2, 5, 0], &[5]);
-
-    feed_anyhow(&mut decoder, front);
-    decoder.begin_anew();
-    feed_message(rt, &mut decoder, &[2, 5, 0], &[5]);
-    Ok(())
-}
-
 #[test]
-fn a_reset_in_every_phase(rt: HostRuntime) -> Result<(), Fail> {
-    let alloc = rt.alloc();
-    for front in FRONTS {
-        forgets_at_a_reset(&rt, alloc, CobsDecoderHeapless::<4>::new(), front)?;
-        forgets_at_a_reset(&rt, alloc, CobsDecoderOwned::new(alloc, 4)?, front)?;
-    }
-    Ok(())
-}
-
-#[test]
-fn the_phase_behind_a_full_block(rt: HostRuntime) -> Result<(), Fail> {
-    let alloc = rt.alloc();
-    let mut full = [255u8].to_vec(alloc)?;
-    full.extend_from_slice(&repeated(alloc, 1, 254)?)?;
-    forgets_at_a_reset(&rt, alloc, CobsDecoderHeapless::<254>::new(), &full)?;
-    forgets_at_a_reset(&rt, alloc, CobsDecoderOwned::new(alloc, 254)?, &full)?;
-    for behind in [[].as_slice(), &[1], &[3], &[2, 9]] {
-        let mut buffer = [0u8; 254];
-        forgets_at_the_next_zero(&rt, CobsDecoder::new(&mut buffer), &full, behind);
-        forgets_at_the_next_zero(&rt, CobsDecoderHeapless::<254>::new(), &full, behind);
-        forgets_at_the_next_zero(&rt, CobsDecoderOwned::new(alloc, 254)?, &full, behind);
-    }
-    Ok(())
+fn a_decoder_forgets_at_a_zero_and_at_a_reset(rt: HostRuntime) -> Result<(), Fail> {
+    check_fronts(&rt, rt.alloc(), &FRONTS, &BEHIND)
 }

@@ -1,4 +1,4 @@
-//! Tests of the crate `cobs` by examples, as a caller sees it.
+//! Tests of the crate `cobs`, as a caller sees it.
 //!
 //! The contracts of `cobs` say for every input what each call answers and what each buffer then holds. What stands
 //! here is what no contract can say: that the contracts mean what they should (examples of the format and of the
@@ -6,35 +6,35 @@
 //! printed and written as JSON.
 #![tactic(auto)]
 
+#[cfg(test)]
+mod bytes;
 pub mod callers;
 #[cfg(test)]
 mod decoding;
 #[cfg(test)]
 mod encoders;
 #[cfg(test)]
+mod encoding;
+#[cfg(test)]
 mod enumerated;
 #[cfg(test)]
 mod examples;
 #[cfg(test)]
-mod feeding;
-#[cfg(test)]
-mod framed;
-#[cfg(test)]
-mod frames;
-#[cfg(test)]
 mod hostile;
 #[cfg(test)]
-mod kinds;
-#[cfg(test)]
-mod lengths;
-#[cfg(test)]
 mod memory;
+#[cfg(test)]
+mod messages;
+#[cfg(test)]
+mod readers;
 #[cfg(test)]
 mod reference;
 #[cfg(test)]
 mod roundtrip;
 #[cfg(test)]
-mod sentinels;
+mod scripts;
+#[cfg(test)]
+mod slices;
 #[cfg(test)]
 mod states;
 #[cfg(test)]
@@ -43,3 +43,7 @@ mod streaming;
 mod streams;
 #[cfg(test)]
 mod texts;
+#[cfg(test)]
+mod vectors;
+#[cfg(test)]
+mod worked_callers;

@@ -1,136 +1,81 @@
 //! From messages to frames and back.
-use crate::examples::{
-    Example, ascending, encode_where_it_fits, examples, joined, repeated, two_long_runs,
-};
-use cobs::{
-    CobsDecoder, CobsEncoder, DecodeError, DecodeVecError, decode, decode_in_place,
-    decode_in_place_report, decode_vec, decode_with_sentinel, encode_vec,
-    encode_vec_including_sentinels, encode_with_sentinel, max_encoding_length, try_encode,
-    try_encode_including_sentinels,
-};
+use crate::bytes::{FROM_3_TO_254, LONG_FRAME, LONG_MESSAGE, joined, repeated};
+use crate::encoders::encode_in_pieces;
+use crate::slices::{Answer, Decoder, VectorCall, check_decoder, check_vector, vector};
+use crate::streaming::{Check, StreamingDecoder, check_all, pushed};
+use cobs::{CobsDecoder, CobsDecoderOwned, encode_with_sentinel, max_encoding_length, try_encode};
 use std::alloc::Global;
 use std::process::Abort;
 use std::test::Fail;
 
-/// Encodes into bytes of 128, decodes the frame and a sentinel into bytes of 128, and decodes the frame in place.
-fn check_pair(rt: &impl Abort, alloc: Global, example: &Example) -> Result<(), Fail> {
-    let Example { message, frame } = example;
-    let mut encoded = repeated(alloc, 128, frame.len())?;
-    assert_eq!(rt;
-        encode_where_it_fits(rt, alloc, message, &mut encoded)?,
-        frame.len()
-    );
-    assert_eq!(rt; encoded.as_slice(), frame.as_slice());
-
-    encoded.push(0)?;
-    let mut decoded = repeated(alloc, 128, message.len())?;
-    let report = decode(&encoded, &mut decoded)?;
-    assert_eq!(rt; decoded.as_slice(), message.as_slice());
-    assert_eq!(rt; report.frame_size(), message.len());
-    assert_eq!(rt; report.parsed_size(), encoded.len());
-
-    let mut buffer = frame.clone()?;
-    let report = decode_in_place_report(&mut buffer)?;
-    assert!(rt; buffer.as_slice().starts_with(message));
-    assert_eq!(rt; report.frame_size(), message.len());
-    assert_eq!(rt; report.parsed_size(), frame.len());
-
-    let mut buffer = frame.clone()?;
-    assert_eq!(rt; decode_in_place(&mut buffer), Ok(message.len()));
-    assert!(rt; buffer.as_slice().starts_with(message));
-    Ok(())
-}
-
-#[test]
-fn every_example_goes_there_and_back(rt: HostRuntime) -> Result<(), Fail> {
-    for example in examples(rt.alloc())? {
-        check_pair(&rt, rt.alloc(), &example)?;
-    }
-    check_pair(&rt, rt.alloc(), &two_long_runs(rt.alloc())?)
-}
-
 /// The vector forms, with a sentinel behind the frame.
 fn check_vectors(rt: &impl Abort, alloc: Global, message: &[u8]) -> Result<(), Fail> {
-    assert!(rt; message.len() < 1000);
-    let mut frame = encode_vec(alloc, message)?;
+    let mut frame = vector(rt, alloc, VectorCall::Encode, message)?;
     frame.push(0)?;
-    let decoded = decode_vec(alloc, &frame)?;
-    assert_eq!(rt; decoded.as_slice(), message);
-    Ok(())
+    check_vector(rt, alloc, (VectorCall::Decode, &frame), Ok(message))
 }
 
 #[test]
 fn vectors_go_there_and_back(rt: HostRuntime) -> Result<(), Fail> {
-    let alloc = rt.alloc();
-    check_vectors(&rt, alloc, &[1, 2, 3])?;
-    let up_to_251 = ascending(alloc, 0, 251)?;
-    let rest = [252, 253, 254, 255];
-    for count in 0..=4 {
-        let message = joined(alloc, &[&up_to_251, &rest[..count]])?;
-        assert_eq!(rt; message.len(), 252 + count);
-        check_vectors(&rt, alloc, &message)?;
+    check_vectors(&rt, rt.alloc(), &[1, 2, 3])?;
+    let all = joined(rt.alloc(), &[&[0, 1, 2], &FROM_3_TO_254, &[255]])?;
+    for count in 252..=256 {
+        let (message, _) = all.as_slice().split_at(all.len().min(count));
+        assert_eq!(rt; message.len(), count);
+        check_vectors(&rt, rt.alloc(), message)?;
     }
     Ok(())
 }
 
-#[test]
-fn a_sentinel_form_goes_there_and_back(rt: HostRuntime) -> Result<(), Fail> {
-    let message = [0u8, 17, 0, 34];
-    let mut frame = [0u8; 128];
-    let mut room = [0u8; 128];
-    assert!(rt; try_encode(&message, &mut room).is_ok());
-    assert_eq!(rt; encode_with_sentinel(&message, &mut frame, 0), 5);
-    let frame = &frame[..5];
-    assert_eq!(rt; frame, [1, 2, 17, 2, 34].as_slice());
+/// A message with a zero.
+const MESSAGE: [u8; 4] = [10, 11, 0, 12];
 
-    let mut decoded = [0u8; 128];
-    assert_eq!(rt; decode_with_sentinel(frame, &mut decoded, 0), Ok(4));
-    assert_eq!(rt; &decoded[..4], message.as_slice());
-    Ok(())
-}
-
-#[test]
-fn nothing_to_decode_is_an_empty_frame(rt: HostRuntime) {
+/// The frame of the message for this sentinel lacks it, and each sentinel form gives the message back.
+fn check_sentinel(rt: &impl Abort, alloc: Global, sentinel: u8) -> Result<(), Fail> {
+    let frame = vector(
+        rt,
+        alloc,
+        VectorCall::EncodeWithSentinel(sentinel),
+        &MESSAGE,
+    )?;
+    assert_eq!(rt; frame.len(), 5, "sentinel {sentinel}");
     assert!(rt;
-        matches!(
-            decode_vec(rt.alloc(), &[]),
-            Err(DecodeVecError::Decode(DecodeError::EmptyFrame))
-        )
+        !frame.as_slice().contains(&sentinel),
+        "sentinel {sentinel}"
     );
-    assert_eq!(rt; decode_in_place(&mut []), Err(DecodeError::EmptyFrame));
-    let mut dest = [0u8; 256];
-    assert_eq!(rt; decode(&[], &mut dest), Err(DecodeError::EmptyFrame));
+
+    let mut dest = [0u8; 5];
+    assert!(rt; try_encode(&MESSAGE, &mut dest).is_ok());
+    assert_eq!(rt; encode_with_sentinel(&MESSAGE, &mut dest, sentinel), 5);
+    assert_eq!(rt; dest.as_slice(), frame.as_slice(), "sentinel {sentinel}");
+
+    let back = VectorCall::DecodeWithSentinel(sentinel);
+    check_vector(rt, alloc, (back, &frame), Ok(&MESSAGE))?;
+    let back = (
+        Decoder::WithSentinel(sentinel),
+        frame.as_slice(),
+        [0; 4].as_slice(),
+    );
+    check_decoder(rt, alloc, back, (Answer::Length(4), &MESSAGE))?;
+    // The frame has a byte more than its message, and in place that last one stays behind it.
+    let back = (
+        Decoder::InPlaceWithSentinel(sentinel),
+        [].as_slice(),
+        frame.as_slice(),
+    );
+    check_decoder(rt, alloc, back, (Answer::Length(4), &[10, 11, 0, 12, 12]))
 }
 
 #[test]
-fn a_frame_in_its_sentinels_goes_there_and_back(rt: HostRuntime) -> Result<(), Fail> {
-    let mut dest = [0u8; 7];
-    assert_eq!(rt;
-        try_encode_including_sentinels(&[10, 11, 0, 12], &mut dest),
-        Ok(7)
-    );
-    assert_eq!(rt; dest, [0, 3, 10, 11, 2, 12, 0]);
-    let decoded = decode_vec(rt.alloc(), &dest)?;
-    assert_eq!(rt; decoded.as_slice(), [10, 11, 0, 12].as_slice());
-    Ok(())
-}
-
-#[test]
-fn sentinels_may_be_left_off(rt: HostRuntime) -> Result<(), Fail> {
-    let alloc = rt.alloc();
-    let wrapped = encode_vec_including_sentinels(alloc, &[1, 2, 3])?;
-    assert_eq!(rt; wrapped.as_slice(), [0, 4, 1, 2, 3, 0].as_slice());
-    let decoded = decode_vec(alloc, &wrapped)?;
-    assert_eq!(rt; decoded.as_slice(), [1, 2, 3].as_slice());
-    let decoded = decode_vec(alloc, &[4, 1, 2, 3, 0])?;
-    assert_eq!(rt; decoded.as_slice(), [1, 2, 3].as_slice());
-    let decoded = decode_vec(alloc, &[4, 1, 2, 3])?;
-    assert_eq!(rt; decoded.as_slice(), [1, 2, 3].as_slice());
+fn every_sentinel_goes_there_and_back(rt: HostRuntime) -> Result<(), Fail> {
+    for sentinel in 0..=255 {
+        check_sentinel(&rt, rt.alloc(), sentinel)?;
+    }
     Ok(())
 }
 
 /// The bytes from `first` to `2 * first - 1`, each modulo 256.
-fn counted(alloc: Global, first: u16) -> Result<Vec<u8>, Fail> {
+fn ascending_from(alloc: Global, first: u16) -> Result<Vec<u8>, Fail> {
     let mut bytes = Vec::new(alloc);
     for number in first..first.saturating_mul(2) {
         bytes.push((number % 256) as u8)?;
@@ -141,18 +86,13 @@ fn counted(alloc: Global, first: u16) -> Result<Vec<u8>, Fail> {
 /// Encodes the message pushed by 17 bytes, decodes its frame pushed by 11, and a sentinel fed.
 fn check_stream(rt: &impl Abort, alloc: Global, message: &[u8]) -> Result<(), Fail> {
     assert!(rt; message.len() <= 1000);
-    let mut slice = repeated(alloc, 0, max_encoding_length(message.len()))?;
-    assert!(rt; !slice.is_empty());
-    let mut encoder = CobsEncoder::new(&mut slice);
-    for piece in message.chunks(17) {
-        assert_eq!(rt; encoder.push(piece), Ok(()));
-    }
-    let len = encoder.finalize();
-    slice.truncate(len);
+    let mut frame = repeated(alloc, 0, max_encoding_length(message.len()))?;
+    let len = encode_in_pieces(rt, message, 17, &mut frame);
+    frame.truncate(len);
 
     let mut buffer = repeated(alloc, 128, message.len())?;
     let mut decoder = CobsDecoder::new(&mut buffer);
-    for piece in slice.chunks(11) {
+    for piece in frame.chunks(11) {
         assert_eq!(rt; decoder.push(piece), Ok(None));
     }
     assert_eq!(rt; decoder.feed(0), Ok(Some(message.len())));
@@ -164,9 +104,78 @@ fn check_stream(rt: &impl Abort, alloc: Global, message: &[u8]) -> Result<(), Fa
 #[test]
 fn streams_go_there_and_back(rt: HostRuntime) -> Result<(), Fail> {
     for first in 1..=1000 {
-        let message = counted(rt.alloc(), first)?;
+        let message = ascending_from(rt.alloc(), first)?;
         assert_eq!(rt; message.len(), usize::from(first));
         check_stream(&rt, rt.alloc(), &message)?;
     }
+    Ok(())
+}
+
+/// A frame of two blocks or more in pieces of one size, and then a sentinel.
+#[derive(Drop)]
+struct Pieces<'a> {
+    frame: &'a [u8],
+    size: usize,
+    answer: Answer,
+}
+
+impl Check for Pieces<'_> {
+    /// Each piece finds nothing or is refused, and the sentinel gets the answer. Once a piece was refused, so is each
+    /// one behind it. The buffer then holds what of the message fits.
+    fn check<D: StreamingDecoder + Drop>(
+        &self,
+        rt: &impl Abort,
+        alloc: Global,
+        mut decoder: D,
+    ) -> Result<(), Fail> {
+        let size = self.size;
+        assert!(rt; size > 0);
+        let mut last = Answer::Nothing;
+        for piece in self.frame.chunks(size) {
+            let (answer, _) = pushed(decoder.push_some(piece), piece.len());
+            if last == Answer::Nothing {
+                assert!(rt;
+                    answer == last || answer == self.answer,
+                    "in pieces of {size}"
+                );
+            } else {
+                assert_eq!(rt; answer, last, "in pieces of {size}");
+            }
+            last = answer;
+        }
+        let end = pushed(decoder.push_some(&[0]), 1);
+        assert_eq!(rt; end, (self.answer, 1), "in pieces of {size}");
+        assert_eq!(rt; last == Answer::TooSmall, self.answer == Answer::TooSmall);
+        let message = joined(alloc, LONG_MESSAGE)?;
+        assert!(rt;
+            message.as_slice().starts_with(decoder.whole_buffer()),
+            "in pieces of {size}"
+        );
+        Ok(())
+    }
+}
+
+#[test]
+fn pieces_of_any_size_give_the_message_or_overflow(rt: HostRuntime) -> Result<(), Fail> {
+    let mut frame = joined(rt.alloc(), LONG_FRAME)?;
+    for (room, answer) in [(2001, Answer::Length(2001)), (2000, Answer::TooSmall)] {
+        for size in [1, 7, 254, 255, 1000, 2008] {
+            check_all(
+                &rt,
+                rt.alloc(),
+                room,
+                &Pieces {
+                    frame: &frame,
+                    size,
+                    answer,
+                },
+            )?;
+        }
+    }
+    // The frame's last byte is the one that overflows.
+    let mut decoder = CobsDecoderOwned::new(rt.alloc(), 2000)?;
+    frame.push(0)?;
+    let found = pushed(decoder.push(&frame), frame.len());
+    assert_eq!(rt; found, (Answer::TooSmall, 2008));
     Ok(())
 }

@@ -116,27 +116,10 @@ fn check_each_byte(rt: &impl Abort, state: State) {
 
 #[test]
 fn every_state_with_every_byte(rt: HostRuntime) {
+    assert_eq!(rt; seen(&DecoderState::default()), State::Idle);
     check_each_byte(&rt, State::Idle);
     for left in 0..=255u8 {
         check_each_byte(&rt, State::InBlock { full: false, left });
         check_each_byte(&rt, State::InBlock { full: true, left });
     }
-}
-
-#[test]
-fn states_that_no_frame_leads_to(rt: HostRuntime) {
-    let mut state = DecoderState::Grab(255);
-    let answer = state.feed(7);
-    assert!(rt; matches!(answer, Ok(DecodeResult::DataContinue(7))));
-    assert!(rt; matches!(state, DecoderState::Grab(254)));
-
-    let mut state = DecoderState::GrabChain(0);
-    let answer = state.feed(255);
-    assert!(rt; matches!(answer, Ok(DecodeResult::NoData)));
-    assert!(rt; matches!(state, DecoderState::GrabChain(254)));
-}
-
-#[test]
-fn a_decoder_begins_idle(rt: HostRuntime) {
-    assert!(rt; matches!(DecoderState::default(), DecoderState::Idle));
 }

@@ -80,6 +80,3 @@ impl<'a> CobsEncoder<'a> {
         close(dest, progress)
     }
 }
-
-#[cfg(test)]
-mod tests;

@@ -4,8 +4,8 @@ use Rattle.cobs.specs.declared.enc.state.PushResult.{PushResult}
 use Rattle.cobs.specs.declared.enc.state.PushResult.TheVariants.{AddSingle, ModifyFromStartAndSkip, ModifyFromStartAndPushAndSkip}
 use Rattle.cobs.specs.Encoder.{OpenBlock, IsOpenOutput, push_answer, applied}
 use Rattle.cobs.proofs.OpenLemmas.{length-IsOpenOutput, index-IsOpenOutput}
-use Rattle.cobs.proofs.enc.tests.encode_by_state.Goals.{in-AddSingle+in_ok-push-in-AddSingle, in-ModifyFromStartAndSkip+in_ok-push-in-ModifyFromStartAndSkip, in-ModifyFromStartAndPushAndSkip+in_ok-push-in-ModifyFromStartAndPushAndSkip+in_ok-push-in-ModifyFromStartAndPushAndSkip-2}
-use Rattle.cobs.proofs.enc.tests.encode_by_state.Goals as goal
+use Rattle.cobs_vectors.proofs.worked_callers.encode_by_state.Goals.{in-AddSingle+in_ok-push-in-AddSingle, in-ModifyFromStartAndSkip+in_ok-push-in-ModifyFromStartAndSkip, in-ModifyFromStartAndPushAndSkip+in_ok-push-in-ModifyFromStartAndPushAndSkip+in_ok-push-in-ModifyFromStartAndPushAndSkip-2}
+use Rattle.cobs_vectors.proofs.worked_callers.encode_by_state.Goals as goal
 
 -- the index that an answer names
 abbrev index_of : PushResult → ℕ

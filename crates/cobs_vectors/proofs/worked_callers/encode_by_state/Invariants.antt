@@ -1,6 +1,6 @@
 use Rattle.std.proofs.Common.{take}
 use Rattle.cobs.specs.Encoder.{IsOpenOutput}
-use Rattle.cobs.proofs.enc.tests.encode_by_state.Given as goal
+use Rattle.cobs_vectors.proofs.worked_callers.encode_by_state.Given as goal
 
 abbrev pub invariant-by_byte : goal.invariant-by_byte
 invariant-by_byte l = IsOpenOutput l.output.items l.state (take l.byte-index l.source)

@@ -3,7 +3,7 @@ use Rattle.std.proofs.lemmas.Result.{err_from_is_err_and}
 use Rattle.cobs.specs.Grammar.{IsEncodedFrame}
 use Rattle.cobs.specs.Length.{encoded_len}
 use Rattle.cobs.proofs.RoomLemmas.{encoded_len-longer}
-use Rattle.cobs.proofs.enc.encoder.tests.encode_both.Goals as goal
+use Rattle.cobs_vectors.proofs.worked_callers.encode_both.Goals as goal
 
 pub returns-in_err-push-clause-fits : goal.returns-in_err-push-clause-fits
 returns-in_err-push-clause-fits c =
