@@ -10,7 +10,7 @@ use crate::dec::fit::fitting_len;
 use crate::dec::front::decode_window;
 use crate::dec::report::DecodeError;
 use crate::enc::FULL_CODE;
-use crate::window::{WINDOW, copy_32, copy_window, first_zero_of_few, zeros_32};
+use crate::window::{WINDOW, copy_window, first_zero_of_few};
 use memchr::memchr;
 
 /// So many bytes of a piece at least are decoded by windows.
@@ -43,11 +43,7 @@ pub(crate) fn piece_len(source: &[u8]) -> usize
     ensures stop { result < length source.now → slice_index source.now result ≡ 0 }
 {
     if source.len() > WINDOW {
-        let zeros = zeros_32(source, 0);
-        if zeros != 0 {
-            return zeros.trailing_zeros() as usize;
-        }
-        return WINDOW + first_zero(&source[WINDOW..]);
+        return first_zero(source);
     }
     if source.is_empty() {
         return 0;
@@ -76,11 +72,8 @@ fn copy_behind_code(piece: &[u8], dest: &mut [u8])
     ensures { dest.new ≡ drop 1 piece.now ++ drop (length piece.now - 1) dest.old }
 {
     let len = piece.len() - 1;
-    if len > 2 * WINDOW {
+    if len > WINDOW {
         dest[..len].copy_from_slice(&piece[1..]);
-    } else if len > WINDOW {
-        copy_32(piece, 1, dest, 0);
-        copy_32(piece, piece.len() - WINDOW, dest, len - WINDOW);
     } else if len > 0 {
         copy_window(piece, 1, len, dest, 0);
     }
