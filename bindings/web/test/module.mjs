@@ -152,6 +152,18 @@ await check("a decoder says where each piece ends, and lets other calls in betwe
   decoder.close();
   other.close();
 });
+await check("a decoder says where each piece ends in a long chunk", () => {
+  const stream = randomBytes(100_000, 0.03, 21);
+  const decoder = new cobs.FrameDecoder({ maxLength: 40 });
+  const seen = [];
+  decoder.push(stream, (outcome, end) => seen.push([outcome, end]));
+  decoder.close();
+  const wanted = [];
+  const one = new plain.PlainDecoder(40);
+  for (let at = 0; at < stream.length; at++) one.push(stream.subarray(at, at + 1), (outcome) => wanted.push([outcome, at + 1]));
+  holds(["message", "broken", "tooLong"].every((kind) => wanted.some(([outcome]) => kind in outcome)), "each kind of outcome is there");
+  equal(seen, wanted);
+});
 await check("many decoders at a time keep apart", () => {
   const decoders = Array.from({ length: 300 }, (_, i) => ({ decoder: new cobs.FrameDecoder({ maxLength: i + 1 }), message: randomBytes(i + 1, 0.1, i + 1), seen: [] }));
   const half = (i) => Math.floor(i / 2);
@@ -199,6 +211,16 @@ await check("memory doesn't grow with a stream, nor with the number of streams",
     holds(pages() <= before + 3, `memory had ${before} pages and has ${pages()}`);
   });
 });
+await check("places that lie together serve a longer one when they are given back", () => memoryOf(async (pages) => {
+  await cobs.load(wasm);
+  const [first, second, last] = [1 << 20, 1 << 20, 10].map((maxLength) => new cobs.FrameDecoder({ maxLength }));
+  const before = pages();
+  second.close();
+  first.close();
+  new cobs.FrameDecoder({ maxLength: 2 << 20 }).close();
+  equal(pages(), before, "pages");
+  last.close();
+}));
 if (globalThis.gc) {
   await check("the memory of decoders that were let go is used again", () => memoryOf(async (pages) => {
     await cobs.load(wasm);
