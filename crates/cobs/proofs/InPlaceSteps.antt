@@ -126,9 +126,6 @@ module _ (before : List ℕ) (end : ℕ) (buffer : List ℕ) (read written : ℕ
     pub stretch-shorter : length (output p) + 1 ≤ len
     stretch-shorter = let l = p-long in let o = output-le p (omega arith) in omega arith
 
-    pub stretch-room : length (output p) ≤ length buffer - written
-    stretch-room = let o = stretch-shorter in let l = left-long in let r = s.order in let w = s.within in let f = s.fits in let n = s.len in omega arith
-
     -- decoded to the front
     module _ (new : List ℕ) (w k : ℕ) (k-is : k ≡ length buffer - written) (same : length new ≡ length buffer - written) (count : w ≡ length (output p)) (begins : take w new ≡ output p)
         (rest-is : drop w new ≡ drop w (drop written buffer)) where
