@@ -1,4 +1,3 @@
 pub mod InputLemmas
 pub mod TextLemmas
 pub mod ReportLemmas
-pub mod MemoryLemmas

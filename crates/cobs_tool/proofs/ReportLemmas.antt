@@ -8,11 +8,12 @@ use Rattle.cobs.specs.Stream.{Outcome, Message, Broken, TooLong, is_nonempty, st
 use Rattle.cobs.specs.declared.framed.Next.TheVariants as nexts
 use Rattle.cobs.specs.declared.framed.ReadFault.{ReadFault}
 use Rattle.cobs.specs.declared.framed.ReadFault.TheVariants as faults
-use Rattle.cobs_tool.proofs.MemoryLemmas.{MemoryStep, bytes_left-Runs, never_fails, bytes_left-at_end, few_reads}
-use Rattle.cobs_tool.specs.Memory.{bytes_left}
-use Rattle.cobs_tool.specs.Report.{longest_message, outcome_line, report, unfinished_line}
+use Rattle.cobs_lines.proofs.MemoryLemmas.{MemoryStep, bytes_left-Runs, never_fails, bytes_left-at_end, few_reads}
+use Rattle.cobs_lines.specs.Memory.{bytes_left}
+use Rattle.cobs_lines.specs.Lines.{outcome_line}
+use Rattle.cobs_tool.specs.Report.{longest_message, report, unfinished_line}
 use Rattle.cobs_tool.specs.Input.{max_input}
-use Rattle.cobs_tool.specs.declared.memory.InMemory.{InMemory}
+use Rattle.cobs_lines.specs.declared.memory.InMemory.{InMemory}
 
 -- the line of the empty message
 pub outcome_line-empty : (message : List ℕ) → length message ≡ 0 → codes "message 0\n" ≡ outcome_line (Message message)

@@ -15,7 +15,6 @@
 
 mod fault;
 mod input;
-mod memory;
 mod mode;
 mod modes;
 mod output;

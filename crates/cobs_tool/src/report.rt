@@ -1,11 +1,12 @@
 //! What becomes of the pieces of a stream, in words.
 ghost use Rattle.std.specs.Prelude.{◌≡◌, ◌≤◌, ◌++◌, length, IfOk, OnOk, string_bytes};
 ghost use Rattle.cobs.specs.Stream.{Broken, Message};
-ghost use Rattle.cobs_tool.specs.Report.{outcome_line, report};
+ghost use Rattle.cobs_lines.specs.Lines.{outcome_line};
+ghost use Rattle.cobs_tool.specs.Report.{report};
 
 use crate::input::MAX_INPUT;
-use crate::memory::InMemory;
 use cobs::{CobsDecoderOwned, FrameReader, Next};
+use cobs_lines::InMemory;
 use std::alloc::{AllocError, Global};
 
 /// The length of the longest message that is decoded, 64 KiB: a piece that decodes to more is too long.

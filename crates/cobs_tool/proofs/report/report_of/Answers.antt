@@ -2,7 +2,7 @@ use Rattle.std.proofs.Common.{ℕ, ◌++◌, length, string_bytes, take, ap, sym
 use Rattle.std.proofs.lemmas.List.{length-replicate}
 use Rattle.cobs.specs.Buffers.{owned_buffer}
 use Rattle.cobs.specs.Stream.{Message}
-use Rattle.cobs_tool.specs.Report.{outcome_line}
+use Rattle.cobs_lines.specs.Lines.{outcome_line}
 use Rattle.cobs_tool.proofs.ReportLemmas.{report-start, few_at_start, still_few, told_all, unfinished_text, message_told, broken_told, too_long_told, end_told, no_fault, told_more}
 use Rattle.cobs_tool.proofs.report.report_of.Goals.{then-unfinished+in_ok-push_str-in-Ok-End, else-unfinished}
 use Rattle.cobs_tool.proofs.report.report_of.Goals as goal

@@ -2,7 +2,7 @@ use Rattle.std.proofs.Common.{◌≡◌, ◌≤◌, ◌+◌, [], ◌++◌, lengt
 use Rattle.cobs.specs.Buffers.{owned_buffer, owned_phase}
 use Rattle.cobs.specs.Decoder.{DecoderAfter}
 use Rattle.cobs.specs.Reader.{decoder_of, kept_of}
-use Rattle.cobs_tool.specs.Memory.{bytes_left}
+use Rattle.cobs_lines.specs.Memory.{bytes_left}
 use Rattle.cobs_tool.specs.Report.{longest_message, report}
 use Rattle.cobs_tool.specs.Input.{max_input}
 use Rattle.cobs_tool.proofs.report.report_of.Given as goal

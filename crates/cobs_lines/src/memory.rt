@@ -10,7 +10,7 @@ pub struct InMemory<'a> {
 
 impl<'a> InMemory<'a> {
     ghost use Rattle.std.specs.Prelude.{◌≡◌};
-    ghost use Rattle.cobs_tool.specs.Memory.{bytes_left};
+    ghost use Rattle.cobs_lines.specs.Memory.{bytes_left};
 
     /// A source of all these bytes.
     pub fn new(bytes: &'a [u8]) -> Self
@@ -21,7 +21,7 @@ impl<'a> InMemory<'a> {
 }
 
 impl FrameSource for InMemory<'_> {
-    ghost use Rattle.cobs_tool.specs.Memory.{TakesChunk, bytes_left};
+    ghost use Rattle.cobs_lines.specs.Memory.{TakesChunk, bytes_left};
 
     ghost step = { λ from read to. TakesChunk (bytes_left from) read (bytes_left to) };
 

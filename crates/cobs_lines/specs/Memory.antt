@@ -1,6 +1,6 @@
 -- Bytes in memory as the source of a stream.
 use Rattle.std.specs.Prelude.{ℕ, ◌≡◌, List, take, drop, Option, Some}
-use Rattle.cobs_tool.specs.declared.memory.InMemory.{InMemory}
+use Rattle.cobs_lines.specs.declared.memory.InMemory.{InMemory}
 
 -- the bytes that no read has given yet
 abbrev pub bytes_left : InMemory → List ℕ

@@ -1,5 +1,5 @@
-use Rattle.cobs_tool.proofs.MemoryLemmas.{TakesChunk-read}
-use Rattle.cobs_tool.proofs.memory.InMemoryFrameSource.read_some.Goals as goal
+use Rattle.cobs_lines.proofs.MemoryLemmas.{TakesChunk-read}
+use Rattle.cobs_lines.proofs.memory.InMemoryFrameSource.read_some.Goals as goal
 
 pub returns-clause-step : goal.returns-clause-step
 returns-clause-step c =

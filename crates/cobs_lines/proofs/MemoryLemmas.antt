@@ -7,8 +7,8 @@ use Rattle.std.proofs.lemmas.List.Elements.{All-head, All-tail}
 use Rattle.std.specs.Option.{option_map}
 use Rattle.std.specs.Result.{result_ok, IfOk}
 use Rattle.cobs.specs.Reading.{Read, bytes_given, GaveBytes, all_given, Runs}
-use Rattle.cobs_tool.specs.Memory.{TakesChunk, bytes_left}
-use Rattle.cobs_tool.specs.declared.memory.InMemory.{InMemory}
+use Rattle.cobs_lines.specs.Memory.{TakesChunk, bytes_left}
+use Rattle.cobs_lines.specs.declared.memory.InMemory.{InMemory}
 
 -- the first n bytes, where n is 64 or all that there are
 take_least : (xs : List ℕ) (n : ℕ) → n ≡ min (length xs) 64 → take n xs ≡ take 64 xs

@@ -1,0 +1,31 @@
+use Rattle.std.proofs.Common.{◌≡◌, ◌+◌, ◌-◌, ◌*◌, ℕ, List, ◌++◌, take, drop, length, sym, ap, ◌∙◌, arith, length-take, length-drop, length-append}
+use Rattle.std.proofs.KnownBytes.{Appends-nil, Appends-trans}
+use Rattle.std.proofs.Math.Seq.{take-add}
+use Rattle.hex.specs.Hex.{encode_lower, lower_digits}
+use Rattle.hex.proofs.HexLemmas.{length-encode_with}
+use Rattle.cobs_lines.proofs.LineLemmas.{encode_with-append, encode_with-nil, of_ok}
+use Rattle.cobs_lines.proofs.lines.write_digits.Goals as goal
+
+pub by_chunk-init : goal.by_chunk-init
+by_chunk-init g c = record { within = omega arith; room = omega arith; written = rw (encode_with-nil lower_digits) (Appends-nil _) }
+
+pub by_chunk-preserved : goal.by_chunk-preserved
+by_chunk-preserved g c =
+    let bytes = c.args.bytes.now in
+    let at = c.by_chunk.at in
+    let end = c.min-end.result in
+    let chunk = take (end - at) (drop at bytes) in
+    let is : end ≡ at + (end - at) = omega (arith, c.min-end.ensures, c.by_chunk-test.true) in
+    let count : length chunk ≡ end - at = omega (arith, length-take (end - at) (drop at bytes), length-drop at bytes, c.min-end.ensures) in
+    let fits : length (take (2 * (end - at)) c.by_chunk.digits) ≡ 2 * length chunk =
+    omega (arith, length-take (2 * (end - at)) c.by_chunk.digits, c.by_chunk.invariant.room, count, c.min-end.ensures) in
+    let ok = c.encode_to_slice.ensures.fits.1 fits in
+    let digits : c.encode_to_slice.new.output ≡ encode_lower chunk = of_ok _ ok c.encode_to_slice.ensures.written in
+    let whole : encode_lower (take end bytes) ≡ encode_lower (take at bytes) ++ c.encode_to_slice.new.output =
+    ap (λ (n : ℕ). encode_lower (take n bytes)) is ∙ ap encode_lower (take-add at (end - at) bytes) ∙ encode_with-append lower_digits (take at bytes) chunk ∙ ap (λ (l : List ℕ). encode_lower (take at bytes) ++ l) (sym digits) in
+    record {
+      within = omega (arith, c.min-end.ensures);
+      room = omega (arith, length-append c.encode_to_slice.new.output (drop (2 * (end - at)) c.by_chunk.digits), length-drop (2 * (end - at)) c.by_chunk.digits,
+      ap length digits, length-encode_with lower_digits chunk, count, c.by_chunk.invariant.room, c.min-end.ensures);
+      written = rw whole (Appends-trans _ _ _ _ _ c.by_chunk.invariant.written c.in_ok-write_all.ensures.bytes);
+    }

@@ -1,0 +1,3 @@
+pub mod Memory
+pub mod Lines
+pub use Rattle.cobs.specs.Stream

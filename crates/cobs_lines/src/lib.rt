@@ -1,0 +1,8 @@
+//! What the programs share: a stream in memory as a source of bytes, and the lines that they print of its pieces.
+#![tactic(auto)]
+
+mod lines;
+mod memory;
+
+pub use lines::{write_broken, write_message, write_too_long};
+pub use memory::InMemory;

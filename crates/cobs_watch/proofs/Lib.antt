@@ -1,0 +1,3 @@
+pub mod ShowLemmas
+pub mod RunLemmas
+pub mod SendLemmas

@@ -1,0 +1,47 @@
+-- What a run of `send` has read, and what it has written of it.
+use Rattle.std.specs.Prelude.{ℕ, ◌≡◌, ◌-◌, ◌==◌, ◌&&◌, nat_lt, Bool, true, false, List, [], ◌∷◌, ◌++◌, length, take, slice_index, All, Option, IfSome, Result, Ok, Err, MatchResult, if◌then◌else◌}
+use Rattle.std.specs.List.{AllZip, concat}
+use Rattle.std.specs.Io.{StopsAt}
+use Rattle.std.specs.Io.KnownBytes.{Appends, Consumes}
+use Rattle.hex.specs.Hex.{decode_of}
+use Rattle.cobs.specs.Sentinel.{IsEncodedFrameFor}
+use Rattle.cobs_watch.specs.declared.fault.WatchFault.{WatchFault}
+use Rattle.cobs_watch.specs.declared.fault.WatchFault.TheVariants.{ReadFailed, WriteFailed, OutputClosed, OutOfMemory}
+use Rattle.cobs_watch.specs.declared.send.Settings.{Settings}
+
+-- a line without the newline at its end; 10 is the newline
+abbrev pub text_of : List ℕ → List ℕ
+text_of line = if nat_lt 0 (length line) && (slice_index line (length line - 1) == 10) then take (length line - 1) line else line
+
+-- the bytes are the message's frame and its sentinel
+pub record IsSent (sentinel : ℕ) (message bytes : List ℕ) : Type 0 where
+  pub frame : List ℕ
+  pub encoded : IsEncodedFrameFor sentinel frame message
+  pub ended : bytes ≡ frame ++ sentinel ∷ []
+
+-- what is written of a line's text: its frame, or that of the bytes whose digits it has; nothing where it has none
+abbrev pub SendsAs : (hex : Bool) → ℕ → List ℕ → List ℕ → Type 0
+SendsAs false sentinel text bytes = IsSent sentinel text bytes
+SendsAs true sentinel text bytes = MatchResult (decode_of text) (λ message. IsSent sentinel message bytes) (λ error. bytes ≡ [])
+
+abbrev pub SendsText : Settings → List ℕ → List ℕ → Type 0
+SendsText settings text bytes = SendsAs settings.hex settings.sentinel text bytes
+
+-- lines were read, and of each the bytes were written that belong to it
+pub record HasSentLines (settings : Settings) (rest : List ℕ) (from to before after : Option (List ℕ)) : Type 0 where
+  pub lines : List (List ℕ)
+  pub each_stops : All (λ line. StopsAt line 10) lines
+  pub sent : List (List ℕ)
+  pub each : AllZip (λ line bytes. SendsText settings (text_of line) bytes) lines sent
+  -- what is left is what a failed read cut
+  pub read : Consumes from to (concat lines ++ rest)
+  pub written : Appends before after (concat sent)
+
+-- a run of `send`, by its answer
+abbrev pub HasSent : Settings → Result Bool WatchFault → (from to before after : Option (List ℕ)) → Type 0
+HasSent settings (Ok all_sent) from to before after =
+    (s : HasSentLines settings [] from to before after) × IfSome from (λ bytes. bytes ≡ concat s.lines)
+HasSent settings (Err ReadFailed) from to before after = (rest : List ℕ) × HasSentLines settings rest from to before after
+HasSent settings (Err OutOfMemory) from to before after = Unit {0}
+HasSent settings (Err WriteFailed) from to before after = Unit {0}
+HasSent settings (Err OutputClosed) from to before after = Unit {0}

@@ -1,0 +1,142 @@
+//! Sending lines as frames.
+ghost use Rattle.std.specs.Prelude.{◌≡◌, ◌≢◌, List, OnOk, IfOk, IfErr, ℕ, true};
+ghost use Rattle.std.specs.Io.KnownBytes.{Appends};
+ghost use Rattle.cobs_watch.specs.Sent.{HasSent, IsSent, SendsAs, SendsText, text_of};
+
+use crate::fault::WatchFault;
+use cobs::encode_vec_with_sentinel;
+use hex::FromHexError;
+use std::alloc::{AllocError, Global};
+use std::io::{BufRead, Write};
+
+/// How lines are sent.
+#[derive(Debug, PartialEq, Eq, Clone, Copy)]
+pub struct Settings {
+    /// Whether a line is the hexadecimal digits of a message, and not the message itself.
+    pub hex: bool,
+
+    /// The byte that ends each frame.
+    pub sentinel: u8,
+}
+
+/// Sends each line of the input, without its newline, as a frame and its sentinel, and flushes the output behind it.
+///
+/// The answer is whether each line was sent: one that isn't hexadecimal digits, where these are wanted, is named on
+/// `errors` with its number, counted from 1, and skipped. An interrupted read is tried again. Memory is taken for one
+/// line and its frame.
+///
+/// - `ReadFailed`: a read failed, or memory was refused while a line was read. All lines before it were sent.
+/// - `WriteFailed`: a write or a flush failed. How much of it went out is not known.
+/// - `OutputClosed`: the same, since nobody reads the output any more.
+/// - `OutOfMemory`: memory was refused for a frame. All lines before it were sent.
+pub fn run_send<B: BufRead, W: Write, E: Write>(
+    alloc: Global,
+    settings: &Settings,
+    input: &mut B,
+    output: &mut W,
+    errors: &mut E,
+) -> Result<bool, WatchFault>
+    ensures { HasSent settings.now result (B.remaining input.old) (B.remaining input.new)
+        (W.contents output.old) (W.contents output.new) }
+{
+    let mut line = Vec::new(alloc);
+    let mut all_sent = true;
+    'by_line: for number in 1..usize::MAX {
+        line.clear();
+        let Ok(count) = input.read_until(b'\n', &mut line) else {
+            return Err(WatchFault::ReadFailed);
+        };
+        if count == 0 {
+            return Ok(all_sent);
+        }
+        if !send_text(alloc, settings, without_newline(&line), output)? {
+            all_sent = false;
+            let _ = writeln!(errors, "cobs_watch: line {number}: not hexadecimal digits");
+        }
+    }
+    Err(WatchFault::ReadFailed)
+}
+
+/// The line without the newline at its end.
+fn without_newline(line: &[u8]) -> &[u8]
+    ensures { result.now ≡ text_of line.now }
+{
+    if line.len() > 0 && line[line.len() - 1] == b'\n' {
+        &line[..line.len() - 1]
+    } else {
+        line
+    }
+}
+
+/// Sends the text of a line, and answers whether it was sent.
+fn send_text<W: Write>(
+    alloc: Global,
+    settings: &Settings,
+    text: &[u8],
+    output: &mut W,
+) -> Result<bool, WatchFault>
+    ensures sent { OnOk result ((bytes : List ℕ) × SendsText settings.now text.now bytes
+        × Appends (W.contents output.old) (W.contents output.new) bytes) }
+    ensures fault { IfErr result (λ fault. fault ≢ WatchFault.ReadFailed) }
+{
+    if settings.hex {
+        send_digits(alloc, settings.sentinel, text, output)
+    } else {
+        send_message(alloc, settings.sentinel, text, output)?;
+        Ok(true)
+    }
+}
+
+/// Sends the message whose hexadecimal digits the text has, and answers whether it has some.
+fn send_digits<W: Write>(
+    alloc: Global,
+    sentinel: u8,
+    text: &[u8],
+    output: &mut W,
+) -> Result<bool, WatchFault>
+    ensures sent { OnOk result ((bytes : List ℕ) × SendsAs true sentinel text.now bytes
+        × Appends (W.contents output.old) (W.contents output.new) bytes) }
+    ensures fault { IfErr result (λ fault. fault ≢ WatchFault.ReadFailed) }
+{
+    match hex::decode(alloc, text) {
+        Ok(message) => {
+            send_message(alloc, sentinel, &message, output)?;
+            Ok(true)
+        }
+        Err(error) => {
+            if error == FromHexError::OutOfMemory {
+                return Err(WatchFault::OutOfMemory);
+            }
+            Ok(false)
+        }
+    }
+}
+
+/// Sends a message.
+fn send_message<W: Write>(
+    alloc: Global,
+    sentinel: u8,
+    message: &[u8],
+    output: &mut W,
+) -> Result<(), WatchFault>
+    ensures sent { OnOk result ((bytes : List ℕ) × IsSent sentinel message.now bytes
+        × Appends (W.contents output.old) (W.contents output.new) bytes) }
+    ensures fault { IfErr result (λ fault. fault ≢ WatchFault.ReadFailed) }
+{
+    let bytes = ended_frame(alloc, sentinel, message)?;
+    output.write_all(&bytes)?;
+    output.flush()?;
+    Ok(())
+}
+
+/// The frame of a message and its sentinel.
+fn ended_frame(alloc: Global, sentinel: u8, message: &[u8]) -> Result<Vec<u8>, AllocError>
+    ensures { IfOk result (λ bytes. IsSent sentinel message.now bytes.items) }
+{
+    if usize::MAX / 2 < message.len() {
+        return Err(AllocError);
+    }
+    let mut bytes = encode_vec_with_sentinel(alloc, message, sentinel)?;
+    bytes.push(sentinel)?;
+    Ok(bytes)
+}
