@@ -1,6 +1,6 @@
 #!/bin/sh
 # Runs cobs_watch as people do: on a pseudo-terminal, on a pipe that stays open, before `head`, and over much data.
-# It prints each figure, and last how many parts passed. It is no part of `rt ci`, and .ci/run calls it behind that.
+# It prints each figure, and last how many parts passed. It is no part of the test command, since it measures speed.
 set -eu
 cd "$(dirname "$0")/.."
 rt=$(command -v rt || echo /opt/rattle/bin/rt)
