@@ -1,0 +1,185 @@
+//! Frames to messages.
+
+mod decoder;
+mod kind;
+mod report;
+mod state;
+
+use crate::sys::{self, Answer, Status};
+
+#[cfg(feature = "alloc")]
+pub use decoder::CobsDecoderOwned;
+pub use decoder::{CobsDecoder, CobsDecoderHeapless};
+pub use kind::{frame_kind, FrameKind};
+#[allow(deprecated)]
+pub use report::DecodingResult;
+pub use report::{DecodeError, DecodeReport};
+pub use state::{DecodeResult, DecoderState};
+
+/// The message's length that a decoding call answers, or its refusal.
+fn length_of(answer: Answer) -> Result<usize, DecodeError> {
+    match answer.status {
+        Status::Ok => Ok(answer.length),
+        Status::Broken => Err(DecodeError::InvalidFrame {
+            decoded_bytes: answer.length,
+        }),
+        Status::TooSmall => Err(DecodeError::TargetBufTooSmall),
+        Status::Empty | Status::More => Err(DecodeError::EmptyFrame),
+    }
+}
+
+/// Decodes the first frame of `source` to the front of `dest`. Zeros in front of the frame are skipped, and it ends at
+/// the next zero, or with the source. The bytes of `dest` behind the message stay as they are.
+///
+/// The report counts what was parsed with the zeros in front, and the one behind where there is one.
+///
+/// A frame that was cut off between two of its blocks is a frame too. Where the zero has to be there, test the last byte
+/// that was parsed.
+///
+/// ```
+/// let mut dest = [0; 8];
+/// let report = jcobs::decode(b"\0\x03hi\0\x02", &mut dest)?;
+/// assert_eq!((report.frame_size(), report.parsed_size()), (2, 5));
+/// assert_eq!(dest[..2], *b"hi");
+/// # Ok::<(), jcobs::DecodeError>(())
+/// ```
+///
+/// # Errors
+///
+/// - [`DecodeError::EmptyFrame`]: `source` is empty.
+/// - [`DecodeError::InvalidFrame`]: the frame breaks off inside a block, after so many bytes of output, which stand at
+///   the front of `dest`; or `source` has zeros alone.
+/// - [`DecodeError::TargetBufTooSmall`]: the output of the frame, broken or not, is longer than `dest`, which holds as
+///   much of it as fits.
+pub fn decode(source: &[u8], dest: &mut [u8]) -> Result<DecodeReport, DecodeError> {
+    let answer = sys::decode(source, dest);
+    if answer.status == Status::Empty && !source.is_empty() {
+        return Err(DecodeError::InvalidFrame { decoded_bytes: 0 });
+    }
+    length_of(answer).map(|frame_size| DecodeReport::new(answer.consumed, frame_size))
+}
+
+/// Decodes the frame at the front of `buff` in its own place, and answers the message's length. It ends at the first
+/// zero, or with the buffer. No zero is skipped: one in front is an empty message. The bytes behind the message stay as
+/// they are.
+///
+/// ```
+/// let mut buff = *b"\x02a\x02b\0";
+/// assert_eq!(jcobs::decode_in_place(&mut buff), Ok(3));
+/// assert_eq!(buff[..3], *b"a\0b");
+/// ```
+///
+/// # Errors
+///
+/// - [`DecodeError::EmptyFrame`]: `buff` is empty.
+/// - [`DecodeError::InvalidFrame`]: the frame breaks off inside a block. The count is that of the output of the whole
+///   blocks, which stands at the front of `buff`.
+pub fn decode_in_place(buff: &mut [u8]) -> Result<usize, DecodeError> {
+    length_of(sys::decode_in_place(buff))
+}
+
+/// As [`decode_in_place`], with a report that also says how long the frame is. A zero behind it isn't counted.
+///
+/// ```
+/// let mut buf = *b"\x03hi\0\x02x";
+/// let report = jcobs::decode_in_place_report(&mut buf)?;
+/// assert_eq!((report.frame_size(), report.parsed_size()), (2, 3));
+/// # Ok::<(), jcobs::DecodeError>(())
+/// ```
+///
+/// # Errors
+///
+/// Those of [`decode_in_place`].
+pub fn decode_in_place_report(buf: &mut [u8]) -> Result<DecodeReport, DecodeError> {
+    let answer = sys::decode_in_place(buf);
+    let frame_size = length_of(answer)?;
+    // The library counts a zero behind the frame. The last byte that it took is as it was: no frame's byte is 0, and a
+    // message is shorter than its frame.
+    let has_zero = buf[answer.consumed - 1] == 0;
+    Ok(DecodeReport::new(
+        answer.consumed - usize::from(has_zero),
+        frame_size,
+    ))
+}
+
+/// Decodes the frame at the front of `source`, for the given sentinel, to the front of `dest`, and answers the message's
+/// length. It ends at the first sentinel, or with the source. No sentinel is skipped: one in front is an empty message.
+/// The bytes of `dest` behind the message stay as they are.
+///
+/// ```
+/// let mut frame = [0; 8];
+/// let n = jcobs::encode_with_sentinel(b"line\n", &mut frame, b'\n');
+/// let mut dest = [0; 8];
+/// assert_eq!(jcobs::decode_with_sentinel(&frame[..n], &mut dest, b'\n'), Ok(5));
+/// assert_eq!(dest[..5], *b"line\n");
+/// ```
+///
+/// # Errors
+///
+/// - [`DecodeError::EmptyFrame`]: `source` is empty.
+/// - [`DecodeError::InvalidFrame`]: the frame breaks off inside a block. The count is that of the output of the whole
+///   blocks, which stands at the front of `dest`.
+/// - [`DecodeError::TargetBufTooSmall`]: that output, or the message, is longer than `dest`, which holds as much of it as
+///   fits.
+pub fn decode_with_sentinel(
+    source: &[u8],
+    dest: &mut [u8],
+    sentinel: u8,
+) -> Result<usize, DecodeError> {
+    length_of(sys::decode_with_sentinel(source, dest, sentinel))
+}
+
+/// As [`decode_in_place`], for the given sentinel. Each byte of `buff`, those behind the frame too, is first changed by
+/// exclusive or with it.
+///
+/// ```
+/// let mut buff = [0; 3];
+/// jcobs::encode_with_sentinel(b"hi", &mut buff, 7);
+/// assert_eq!(jcobs::decode_in_place_with_sentinel(&mut buff, 7), Ok(2));
+/// assert_eq!(buff[..2], *b"hi");
+/// ```
+///
+/// # Errors
+///
+/// Those of [`decode_in_place`].
+pub fn decode_in_place_with_sentinel(buff: &mut [u8], sentinel: u8) -> Result<usize, DecodeError> {
+    length_of(sys::decode_in_place_with_sentinel(buff, sentinel))
+}
+
+/// The message of the first frame of `source`, found as [`decode`] finds it.
+///
+/// ```
+/// assert_eq!(jcobs::decode_vec(b"\x03hi\0"), Ok(b"hi".to_vec()));
+/// ```
+///
+/// # Errors
+///
+/// [`DecodeError::EmptyFrame`] and [`DecodeError::InvalidFrame`], where [`decode`] answers them.
+#[cfg(feature = "alloc")]
+pub fn decode_vec(source: &[u8]) -> Result<alloc::vec::Vec<u8>, DecodeError> {
+    let mut decoded = alloc::vec![0; source.len()];
+    let report = decode(source, &mut decoded)?;
+    decoded.truncate(report.frame_size());
+    Ok(decoded)
+}
+
+/// The message of the frame at the front of `source`, found as [`decode_with_sentinel`] finds it.
+///
+/// ```
+/// let frame = jcobs::encode_vec_with_sentinel(b"hi", 7);
+/// assert_eq!(jcobs::decode_vec_with_sentinel(&frame, 7), Ok(b"hi".to_vec()));
+/// ```
+///
+/// # Errors
+///
+/// [`DecodeError::EmptyFrame`] and [`DecodeError::InvalidFrame`], where [`decode_with_sentinel`] answers them.
+#[cfg(feature = "alloc")]
+pub fn decode_vec_with_sentinel(
+    source: &[u8],
+    sentinel: u8,
+) -> Result<alloc::vec::Vec<u8>, DecodeError> {
+    let mut decoded = alloc::vec![0; source.len()];
+    let length = decode_with_sentinel(source, &mut decoded, sentinel)?;
+    decoded.truncate(length);
+    Ok(decoded)
+}

@@ -1,0 +1,54 @@
+//! A message in pieces to a frame in a slice.
+
+use crate::enc::{length_of, DestBufTooSmallError};
+use crate::sys;
+
+/// Encodes a message that comes in pieces into a slice.
+///
+/// ```
+/// let mut frame = [0; 16];
+/// let mut encoder = jcobs::CobsEncoder::new(&mut frame);
+/// encoder.push(b"hel")?;
+/// encoder.push(b"lo")?;
+/// let n = encoder.finalize();
+/// assert_eq!(frame[..n], *b"\x06hello");
+/// # Ok::<(), jcobs::DestBufTooSmallError>(())
+/// ```
+#[derive(Debug)]
+pub struct CobsEncoder<'a> {
+    dest: &'a mut [u8],
+    encoder: sys::Encoder,
+}
+
+impl<'a> CobsEncoder<'a> {
+    /// An encoder that has taken nothing, and writes to `out_buf`.
+    ///
+    /// # Panics
+    ///
+    /// Where `out_buf` is empty: no frame fits it.
+    #[track_caller]
+    pub fn new(out_buf: &'a mut [u8]) -> CobsEncoder<'a> {
+        assert!(!out_buf.is_empty(), "no frame fits an empty slice");
+        CobsEncoder {
+            dest: out_buf,
+            encoder: sys::Encoder::START,
+        }
+    }
+
+    /// Takes the next bytes of the message.
+    ///
+    /// # Errors
+    ///
+    /// Where the frame of all that was taken and these bytes doesn't fit, and only there. Then nothing has changed, so
+    /// the frame of what was taken before can still be had, or fewer bytes be pushed.
+    pub fn push(&mut self, data: &[u8]) -> Result<(), DestBufTooSmallError> {
+        length_of(sys::encoder_push(&mut self.encoder, self.dest, data)).map(|_| ())
+    }
+
+    /// Ends the message: the slice begins with its frame, of the answered length, without a sentinel. It is the frame
+    /// that [`encode`](crate::encode) writes, and the bytes behind it are as they were at first.
+    pub fn finalize(mut self) -> usize {
+        length_of(sys::encoder_finish(&mut self.encoder, self.dest))
+            .expect("what push has taken fits the slice")
+    }
+}

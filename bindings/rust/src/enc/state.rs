@@ -1,0 +1,89 @@
+//! A message byte by byte to a frame in any container.
+
+use crate::sys;
+
+/// The code of a block, its 254 bytes, and the place of the next code.
+const ROOM: usize = 256;
+
+/// Where an encoder stands that writes into a container of the caller's own.
+///
+/// The container begins with one byte, the place of the first code. Each [`PushResult`] then says what to write. At the
+/// end [`finalize`](Self::finalize) says what the last code is, and where it belongs.
+///
+/// ```
+/// use jcobs::{EncoderState, PushResult};
+///
+/// let mut frame = vec![0];
+/// let mut state = EncoderState::default();
+/// for byte in *b"a\0b" {
+///     match state.push(byte) {
+///         PushResult::AddSingle(byte) => frame.push(byte),
+///         PushResult::ModifyFromStartAndSkip((at, code)) => {
+///             frame[at] = code;
+///             frame.push(0);
+///         }
+///         PushResult::ModifyFromStartAndPushAndSkip((at, code, byte)) => {
+///             frame[at] = code;
+///             frame.extend([byte, 0]);
+///         }
+///     }
+/// }
+/// let (at, code) = state.finalize();
+/// frame[at] = code;
+/// assert_eq!(frame, b"\x02a\x02b");
+/// ```
+///
+/// Where the message ends in a full block, the place behind that block is left over: it is the last byte, and the frame
+/// without it is the encoded one. Both stand for the same message.
+#[derive(Debug, Clone, Default)]
+pub struct EncoderState {
+    /// Where the code of the open block belongs.
+    index: usize,
+    /// How many bytes the open block has.
+    taken: u8,
+}
+
+/// What a byte that was pushed to an [`EncoderState`] writes.
+#[derive(Debug, Clone, Copy, PartialEq, Eq)]
+pub enum PushResult {
+    /// Write this byte at the end.
+    AddSingle(u8),
+
+    /// Write the code at the index, and a place for the next code at the end.
+    ModifyFromStartAndSkip((usize, u8)),
+
+    /// Write the code at the index, then the last byte at the end, and behind it a place for the next code, unless the
+    /// message ends here.
+    ModifyFromStartAndPushAndSkip((usize, u8, u8)),
+}
+
+impl EncoderState {
+    /// Takes the next byte of the message, and says what it writes.
+    pub fn push(&mut self, data: u8) -> PushResult {
+        // The open block in a buffer of its own, as if it were the first one.
+        let mut block = [0; ROOM];
+        let end = usize::from(self.taken) + 1;
+        let mut encoder = sys::Encoder::in_block(self.taken);
+        sys::encoder_push(&mut encoder, &mut block, &[data]);
+
+        let at = self.index;
+        self.index += encoder.code_index();
+        self.taken = encoder.taken();
+        if encoder.code_index() == 0 {
+            PushResult::AddSingle(block[end])
+        } else if encoder.is_behind_full() {
+            PushResult::ModifyFromStartAndPushAndSkip((at, block[0], block[end]))
+        } else {
+            PushResult::ModifyFromStartAndSkip((at, block[0]))
+        }
+    }
+
+    /// Ends the message: where its last code belongs, and that code. What follows the frame, as a sentinel, goes to the
+    /// end of the container.
+    pub fn finalize(self) -> (usize, u8) {
+        let mut block = [0; ROOM];
+        let mut encoder = sys::Encoder::in_block(self.taken);
+        sys::encoder_finish(&mut encoder, &mut block);
+        (self.index, block[0])
+    }
+}

@@ -1,0 +1,303 @@
+//! The calls of the library jcobs, over slices. All `unsafe` of this crate is here.
+//!
+//! What a caller of `jcobs.h` owes is that each pointer with a length is one to so many bytes, which can be written
+//! where the pointer isn't `const`, that no two buffers of a call overlap each other or the state, and that lengths are
+//! at most `isize::MAX`. A slice is all of this, and an exclusive reference overlaps nothing. Nothing is owed of what
+//! stands in a state: whatever that is, no call touches a byte outside its buffers. So each function here is safe.
+//!
+//! `jcobs.h` calls the members of a state the library's own. They are read and written here alone, by the methods of
+//! [`Decoder`] and [`Encoder`], as `crates/cobs_c` states them.
+#![allow(unsafe_code)]
+
+use core::ffi::c_uint;
+
+/// What became of a call.
+#[derive(Debug, Clone, Copy, PartialEq, Eq)]
+pub(crate) enum Status {
+    Ok,
+    More,
+    TooSmall,
+    Broken,
+    Empty,
+}
+
+/// What a call answers: the table in `jcobs.h` says what each number is with each status.
+#[derive(Debug, Clone, Copy)]
+pub(crate) struct Answer {
+    pub(crate) status: Status,
+    pub(crate) consumed: usize,
+    pub(crate) length: usize,
+}
+
+/// Where a streaming decoder stands.
+#[repr(C)]
+#[derive(Debug, Clone)]
+pub(crate) struct Decoder {
+    written: usize,
+    lacking: u8,
+    joint: u8,
+    too_long: u8,
+}
+
+impl Decoder {
+    /// No frame has begun.
+    pub(crate) const START: Self = Self {
+        written: 0,
+        lacking: 0,
+        joint: 0,
+        too_long: 0,
+    };
+
+    /// A decoder within a frame whose message has one byte so far. Its open block lacks `lacking` bytes, and a zero
+    /// joins the next block to it if `is_joint`.
+    pub(crate) const fn within(lacking: u8, is_joint: bool) -> Self {
+        Self {
+            written: 1,
+            lacking,
+            joint: is_joint as u8,
+            too_long: 0,
+        }
+    }
+
+    /// How many bytes the open block lacks, and whether a zero joins the next one to it.
+    pub(crate) fn block(&self) -> (u8, bool) {
+        (self.lacking, self.joint != 0)
+    }
+
+    /// Whether the message of the open frame was too long for the buffer.
+    pub(crate) fn is_too_long(&self) -> bool {
+        self.too_long != 0
+    }
+}
+
+/// Where a streaming encoder stands.
+#[repr(C)]
+#[derive(Debug, Clone)]
+pub(crate) struct Encoder {
+    index: usize,
+    taken: u8,
+    full: u8,
+}
+
+impl Encoder {
+    /// Nothing was taken.
+    pub(crate) const START: Self = Self::in_block(0);
+
+    /// An encoder whose first block is open and has `taken` bytes.
+    pub(crate) const fn in_block(taken: u8) -> Self {
+        Self {
+            index: 0,
+            taken,
+            full: 0,
+        }
+    }
+
+    /// Where the code of the open block belongs.
+    pub(crate) fn code_index(&self) -> usize {
+        self.index
+    }
+
+    /// How many bytes the open block has.
+    pub(crate) fn taken(&self) -> u8 {
+        self.taken
+    }
+
+    /// Whether the open block is only the place behind a full one.
+    pub(crate) fn is_behind_full(&self) -> bool {
+        self.full != 0
+    }
+}
+
+/// An answer as C passes it.
+#[repr(C)]
+struct RawAnswer {
+    status: c_uint,
+    consumed: usize,
+    length: usize,
+}
+
+impl From<RawAnswer> for Answer {
+    #[inline]
+    fn from(raw: RawAnswer) -> Self {
+        let status = match raw.status {
+            0 => Status::Ok,
+            1 => Status::More,
+            2 => Status::TooSmall,
+            3 => Status::Broken,
+            4 => Status::Empty,
+            other => unreachable!("jcobs has no status {other}"),
+        };
+        Self {
+            status,
+            consumed: raw.consumed,
+            length: raw.length,
+        }
+    }
+}
+
+#[rustfmt::skip]
+extern "C" {
+    #[cfg(test)]
+    fn jcobs_max_length(message_len: usize) -> usize;
+    #[cfg(test)]
+    fn jcobs_version() -> c_uint;
+    fn jcobs_encode(message: *const u8, message_len: usize, frame: *mut u8, frame_len: usize) -> RawAnswer;
+    fn jcobs_encode_terminated(message: *const u8, message_len: usize, frame: *mut u8, frame_len: usize) -> RawAnswer;
+    fn jcobs_encode_with_sentinel(message: *const u8, message_len: usize, frame: *mut u8, frame_len: usize, sentinel: u8) -> RawAnswer;
+    fn jcobs_decode(source: *const u8, source_len: usize, message: *mut u8, message_len: usize) -> RawAnswer;
+    fn jcobs_decode_with_sentinel(source: *const u8, source_len: usize, message: *mut u8, message_len: usize, sentinel: u8) -> RawAnswer;
+    fn jcobs_decode_in_place(buffer: *mut u8, buffer_len: usize) -> RawAnswer;
+    fn jcobs_decode_in_place_with_sentinel(buffer: *mut u8, buffer_len: usize, sentinel: u8) -> RawAnswer;
+    fn jcobs_frame_kind(bytes: *const u8, len: usize) -> c_uint;
+    fn jcobs_decoder_push(decoder: *mut Decoder, buffer: *mut u8, buffer_len: usize, bytes: *const u8, len: usize) -> RawAnswer;
+    fn jcobs_decoder_is_idle(decoder: *const Decoder) -> c_uint;
+    fn jcobs_encoder_push(encoder: *mut Encoder, buffer: *mut u8, buffer_len: usize, bytes: *const u8, len: usize) -> RawAnswer;
+    fn jcobs_encoder_finish(encoder: *mut Encoder, buffer: *mut u8, buffer_len: usize) -> RawAnswer;
+}
+
+#[cfg(test)]
+pub(crate) fn max_length(message_len: usize) -> usize {
+    // SAFETY: nothing is owed.
+    unsafe { jcobs_max_length(message_len) }
+}
+
+#[cfg(test)]
+pub(crate) fn version() -> u32 {
+    // SAFETY: nothing is owed.
+    unsafe { jcobs_version() }
+}
+
+#[inline]
+pub(crate) fn encode(message: &[u8], frame: &mut [u8]) -> Answer {
+    // SAFETY: each pointer comes with its slice's length, and `frame` overlaps nothing.
+    unsafe {
+        jcobs_encode(
+            message.as_ptr(),
+            message.len(),
+            frame.as_mut_ptr(),
+            frame.len(),
+        )
+    }
+    .into()
+}
+
+#[inline]
+pub(crate) fn encode_terminated(message: &[u8], frame: &mut [u8]) -> Answer {
+    // SAFETY: each pointer comes with its slice's length, and `frame` overlaps nothing.
+    unsafe {
+        jcobs_encode_terminated(
+            message.as_ptr(),
+            message.len(),
+            frame.as_mut_ptr(),
+            frame.len(),
+        )
+    }
+    .into()
+}
+
+#[inline]
+pub(crate) fn encode_with_sentinel(message: &[u8], frame: &mut [u8], sentinel: u8) -> Answer {
+    // SAFETY: each pointer comes with its slice's length, and `frame` overlaps nothing.
+    unsafe {
+        jcobs_encode_with_sentinel(
+            message.as_ptr(),
+            message.len(),
+            frame.as_mut_ptr(),
+            frame.len(),
+            sentinel,
+        )
+    }
+    .into()
+}
+
+#[inline]
+pub(crate) fn decode(source: &[u8], message: &mut [u8]) -> Answer {
+    // SAFETY: each pointer comes with its slice's length, and `message` overlaps nothing.
+    unsafe {
+        jcobs_decode(
+            source.as_ptr(),
+            source.len(),
+            message.as_mut_ptr(),
+            message.len(),
+        )
+    }
+    .into()
+}
+
+#[inline]
+pub(crate) fn decode_with_sentinel(source: &[u8], message: &mut [u8], sentinel: u8) -> Answer {
+    // SAFETY: each pointer comes with its slice's length, and `message` overlaps nothing.
+    unsafe {
+        jcobs_decode_with_sentinel(
+            source.as_ptr(),
+            source.len(),
+            message.as_mut_ptr(),
+            message.len(),
+            sentinel,
+        )
+    }
+    .into()
+}
+
+#[inline]
+pub(crate) fn decode_in_place(buffer: &mut [u8]) -> Answer {
+    // SAFETY: the pointer comes with its slice's length.
+    unsafe { jcobs_decode_in_place(buffer.as_mut_ptr(), buffer.len()) }.into()
+}
+
+#[inline]
+pub(crate) fn decode_in_place_with_sentinel(buffer: &mut [u8], sentinel: u8) -> Answer {
+    // SAFETY: the pointer comes with its slice's length.
+    unsafe { jcobs_decode_in_place_with_sentinel(buffer.as_mut_ptr(), buffer.len(), sentinel) }
+        .into()
+}
+
+#[inline]
+pub(crate) fn frame_kind(bytes: &[u8]) -> u32 {
+    // SAFETY: the pointer comes with its slice's length.
+    unsafe { jcobs_frame_kind(bytes.as_ptr(), bytes.len()) }
+}
+
+#[inline]
+pub(crate) fn decoder_push(decoder: &mut Decoder, buffer: &mut [u8], bytes: &[u8]) -> Answer {
+    // SAFETY: `decoder` is a state, each other pointer comes with its slice's length, and the exclusive references
+    // overlap nothing.
+    unsafe {
+        jcobs_decoder_push(
+            decoder,
+            buffer.as_mut_ptr(),
+            buffer.len(),
+            bytes.as_ptr(),
+            bytes.len(),
+        )
+    }
+    .into()
+}
+
+#[inline]
+pub(crate) fn decoder_is_idle(decoder: &Decoder) -> bool {
+    // SAFETY: `decoder` is a state.
+    unsafe { jcobs_decoder_is_idle(decoder) == 1 }
+}
+
+#[inline]
+pub(crate) fn encoder_push(encoder: &mut Encoder, buffer: &mut [u8], bytes: &[u8]) -> Answer {
+    // SAFETY: `encoder` is a state, each other pointer comes with its slice's length, and the exclusive references
+    // overlap nothing.
+    unsafe {
+        jcobs_encoder_push(
+            encoder,
+            buffer.as_mut_ptr(),
+            buffer.len(),
+            bytes.as_ptr(),
+            bytes.len(),
+        )
+    }
+    .into()
+}
+
+#[inline]
+pub(crate) fn encoder_finish(encoder: &mut Encoder, buffer: &mut [u8]) -> Answer {
+    // SAFETY: `encoder` is a state, and the pointer comes with its slice's length.
+    unsafe { jcobs_encoder_finish(encoder, buffer.as_mut_ptr(), buffer.len()) }.into()
+}

@@ -1,0 +1,232 @@
+//! Where the answers are those of this library, and not those of `cobs` 0.5.1: a test for each row of the repository's
+//! `docs/DIFFERENCES.md` that a caller of this crate can meet.
+#![cfg(feature = "alloc")]
+
+use std::error::Error;
+use std::panic;
+
+use jcobs::{
+    decode, decode_in_place, decode_in_place_report, decode_vec, decode_with_sentinel, encode,
+    encode_including_sentinels, encode_vec, encode_vec_including_sentinels, encode_with_sentinel,
+    max_encoding_length, try_encode, try_encode_including_sentinels, CobsDecoder,
+    CobsDecoderHeapless, CobsDecoderOwned, CobsEncoder, DecodeError, DestBufTooSmallError,
+};
+
+/// A message that is one full block.
+const FULL: [u8; 254] = [7; 254];
+
+#[test]
+fn nothing_is_written_where_room_lacks() {
+    for room in 0..5 {
+        let mut dest = vec![0xAA; room];
+        assert_eq!(try_encode(b"a\0b\0", &mut dest), Err(DestBufTooSmallError));
+        assert_eq!(dest, vec![0xAA; room]);
+    }
+    for room in 0..7 {
+        let mut dest = vec![0xAA; room];
+        assert_eq!(
+            try_encode_including_sentinels(b"a\0b\0", &mut dest),
+            Err(DestBufTooSmallError)
+        );
+        assert_eq!(dest, vec![0xAA; room]);
+    }
+}
+
+#[test]
+fn last_code_alone_lacks_room() {
+    assert_eq!(try_encode(&[], &mut []), Err(DestBufTooSmallError));
+    assert_eq!(try_encode(&[0], &mut [0xAA]), Err(DestBufTooSmallError));
+
+    let mut dest = [0xAA];
+    let mut encoder = CobsEncoder::new(&mut dest);
+    assert_eq!(encoder.push(&[0]), Err(DestBufTooSmallError));
+    assert_eq!(encoder.finalize(), 1);
+    assert_eq!(dest, [1]);
+}
+
+#[test]
+fn calls_that_panic_where_room_lacks_write_nothing() {
+    let calls: [fn(&mut [u8]) -> usize; 3] = [
+        |dest| encode(b"hello", dest),
+        |dest| encode_including_sentinels(b"hello", dest),
+        |dest| encode_with_sentinel(b"hello", dest, 7),
+    ];
+    for call in calls {
+        let mut dest = [0xAA; 5];
+        let unwound = panic::catch_unwind(panic::AssertUnwindSafe(|| call(&mut dest)));
+        assert!(unwound.is_err());
+        assert_eq!(dest, [0xAA; 5]);
+    }
+}
+
+#[test]
+#[should_panic = "no frame fits an empty slice"]
+fn encoder_over_an_empty_slice() {
+    let _ = CobsEncoder::new(&mut []);
+}
+
+#[test]
+fn refused_push_changes_nothing() {
+    let mut dest = [0xAA; 4];
+    let mut encoder = CobsEncoder::new(&mut dest);
+    encoder.push(b"a").unwrap();
+    assert_eq!(encoder.push(b"bcd"), Err(DestBufTooSmallError));
+    encoder.push(b"bc").unwrap();
+    assert_eq!(encoder.finalize(), 4);
+    assert_eq!(dest, *b"\x04abc");
+}
+
+#[test]
+fn empty_push_behind_a_full_block() {
+    let mut dest = [0xAA; 300];
+    let mut encoder = CobsEncoder::new(&mut dest);
+    encoder.push(&FULL).unwrap();
+    encoder.push(&[]).unwrap();
+    assert_eq!(encoder.finalize(), 255);
+}
+
+#[test]
+fn byte_behind_a_full_last_block_stays() {
+    let mut dest = [0xAA; 256];
+    assert_eq!(encode(&FULL, &mut dest), 255);
+    assert_eq!(dest[255], 0xAA);
+
+    let mut dest = [0xAA; 256];
+    let mut encoder = CobsEncoder::new(&mut dest);
+    encoder.push(&FULL).unwrap();
+    assert_eq!(encoder.finalize(), 255);
+    assert_eq!(dest[255], 0xAA);
+}
+
+#[test]
+fn decoding_for_a_sentinel_reads_the_source_alone() {
+    let frame = [0x02, b'x'];
+    assert_eq!(
+        decode_with_sentinel(&[], &mut [2, 1], 0),
+        Err(DecodeError::EmptyFrame)
+    );
+    assert_eq!(
+        decode_with_sentinel(&frame, &mut [], 0),
+        Err(DecodeError::TargetBufTooSmall)
+    );
+    let mut dest = [0xAA; 3];
+    assert_eq!(decode_with_sentinel(&frame, &mut dest, 0), Ok(1));
+    assert_eq!(dest, [b'x', 0xAA, 0xAA]);
+}
+
+#[test]
+fn zeros_alone_and_zeros_in_front() {
+    let broken = Err(DecodeError::InvalidFrame { decoded_bytes: 0 });
+    assert_eq!(decode(&[0, 0], &mut [0; 4]), broken);
+    assert_eq!(decode_in_place(&mut [0, 2, 7]), Ok(0));
+
+    let report = decode(&[0, 0, 2, 7, 0, 1], &mut [0; 4]).unwrap();
+    assert_eq!((report.parsed_size(), report.frame_size()), (5, 1));
+}
+
+#[test]
+fn in_place_report_leaves_the_zero_out() {
+    for (frame, parsed) in [
+        (&b"\x03hi\0"[..], 3),
+        (b"\x03hi", 3),
+        (b"\0", 0),
+        (b"\x01", 1),
+        (b"\x01\0", 1),
+    ] {
+        let report = decode_in_place_report(&mut frame.to_vec()).unwrap();
+        assert_eq!(report.parsed_size(), parsed, "{frame:?}");
+    }
+}
+
+#[test]
+fn vector_with_sentinels_has_nothing_behind() {
+    assert_eq!(encode_vec_including_sentinels(b""), [0, 1, 0]);
+    assert_eq!(encode_vec_including_sentinels(&FULL).len(), 257);
+}
+
+#[test]
+fn heapless_default_has_its_room() {
+    let mut decoder = CobsDecoderHeapless::<8>::default();
+    assert_eq!(decoder.dest().len(), 8);
+    assert!(decoder.push(b"\x03hi\0").unwrap().is_some());
+}
+
+#[test]
+fn overflow_is_answered_through_the_zero_and_costs_no_other_frame() {
+    let mut decoder = CobsDecoderOwned::new(2);
+    for byte in *b"\x04ab" {
+        assert_eq!(decoder.feed(byte), Ok(None));
+    }
+    for byte in *b"c\x01\0" {
+        assert_eq!(decoder.feed(byte), Err(DecodeError::TargetBufTooSmall));
+    }
+    assert_eq!(decoder.push(b"\x02z\0").unwrap().unwrap().frame_size(), 1);
+
+    // By pushes: all of a piece that lies within the frame, and then through its zero.
+    for piece in [&b"\x09abc"[..], b"def"] {
+        assert_eq!(decoder.push(piece), Err(DecodeError::TargetBufTooSmall));
+        assert_eq!(decoder.parsed_size(), piece.len());
+    }
+    assert_eq!(decoder.push(b""), Ok(None));
+    let last = b"gh\0\x02z\0";
+    assert_eq!(decoder.push(last), Err(DecodeError::TargetBufTooSmall));
+    assert_eq!(decoder.parsed_size(), 3);
+    assert_eq!(decoder.push(&last[3..]).unwrap().unwrap().frame_size(), 1);
+}
+
+#[test]
+fn broken_frame_costs_no_other() {
+    let mut dest = [0; 8];
+    let mut decoder = CobsDecoder::new(&mut dest);
+    let stream = b"\x05ab\0\x02z\0";
+    let broken = DecodeError::InvalidFrame { decoded_bytes: 2 };
+    assert_eq!(decoder.push(stream), Err(broken));
+    assert_eq!(decoder.parsed_size(), 4);
+    let report = decoder.push(&stream[4..]).unwrap().unwrap();
+    assert_eq!((report.parsed_size(), report.frame_size()), (3, 1));
+}
+
+#[test]
+fn reset_forgets_the_open_frame() {
+    let mut decoder = CobsDecoderOwned::new(8);
+    assert_eq!(decoder.push(b"\x05a"), Ok(None));
+    decoder.reset();
+    assert_eq!(decoder.push(b"\x02z\0").unwrap().unwrap().frame_size(), 1);
+}
+
+#[test]
+fn round_trips_at_every_length_round_a_block() {
+    for length in (0_usize..260).chain(505..515) {
+        for zero_at in [None, Some(0), Some(length / 2), length.checked_sub(1)] {
+            let mut message = vec![9; length];
+            if let Some(byte) = zero_at.and_then(|at| message.get_mut(at)) {
+                *byte = 0;
+            }
+            let frame = encode_vec(&message);
+            assert!(!frame.contains(&0) && frame.len() <= max_encoding_length(length));
+            assert_eq!(decode_vec(&frame).as_ref(), Ok(&message));
+        }
+    }
+}
+
+#[test]
+fn texts_of_errors() {
+    let errors: [(Box<dyn Error + Send + Sync>, &str); 4] = [
+        (
+            DestBufTooSmallError.into(),
+            "out of bounds error during encoding",
+        ),
+        (DecodeError::EmptyFrame.into(), "empty input frame"),
+        (
+            DecodeError::InvalidFrame { decoded_bytes: 3 }.into(),
+            "frame with invalid format, written 3 to decoded buffer",
+        ),
+        (
+            DecodeError::TargetBufTooSmall.into(),
+            "target buffer too small",
+        ),
+    ];
+    for (error, text) in errors {
+        assert_eq!(error.to_string(), text);
+    }
+}

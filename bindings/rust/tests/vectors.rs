@@ -1,0 +1,512 @@
+//! The cases of the repository's `vectors/`, by the calls of this crate. `vectors/README.md` has the format.
+#![cfg(feature = "alloc")]
+
+use std::fmt::Write as _;
+use std::fs;
+use std::path::Path;
+
+use jcobs::{
+    CobsDecoder, CobsDecoderHeapless, CobsDecoderOwned, CobsEncoder, DecodeError, DecodeReport,
+    DecodeResult, DecoderState, DestBufTooSmallError, EncoderState, FrameKind, PushResult,
+};
+
+/// The words of an answer, as the files have them.
+type Words = Vec<String>;
+
+#[test]
+fn vectors() {
+    let folder = Path::new(env!("CARGO_MANIFEST_DIR")).join("../../vectors");
+    let mut files: Vec<_> = fs::read_dir(&folder)
+        .expect("the repository's vectors/")
+        .map(|entry| entry.expect("an entry").path())
+        .filter(|path| path.extension().is_some_and(|extension| extension == "txt"))
+        .collect();
+    files.sort();
+
+    let mut run = 0;
+    let mut lacking = 0;
+    let mut differing = Vec::new();
+    for file in files {
+        let text = fs::read_to_string(&file).expect("a file of text");
+        for line in text.lines() {
+            if line.is_empty() || line.starts_with('#') {
+                continue;
+            }
+            let (case, expected) = line.split_once(" ->").expect("an answer");
+            let expected: Vec<_> = expected.split_whitespace().collect();
+            let words: Vec<_> = case.split(' ').collect();
+            let [name, level, call, arguments @ ..] = words.as_slice() else {
+                panic!("no case: {line}");
+            };
+            let Some(answers) = answers(call, arguments) else {
+                lacking += 1;
+                continue;
+            };
+            run += 1;
+            for answer in answers {
+                let expected = if answer.by_pushes {
+                    expected_of_pushes(&expected, arguments)
+                } else {
+                    expected.clone()
+                };
+                if !agrees(&answer.words, &expected, *level == "owed") {
+                    differing.push(format!("{name}: {}", answer.words.join(" ")));
+                }
+            }
+        }
+    }
+    println!("{run} cases, {lacking} of calls that this crate lacks");
+    assert!(differing.is_empty(), "{}", differing.join("\n"));
+    // 27 cases are of next_frame.
+    assert!(run > 6000 && lacking == 27, "{run} run, {lacking} lacking");
+}
+
+/// What a call answered, by one of the ways to make it.
+struct Answer {
+    words: Words,
+    /// Whether a streaming decoder was given pieces, and not bytes.
+    by_pushes: bool,
+}
+
+fn agrees(found: &[String], expected: &[&str], owed: bool) -> bool {
+    let refusals = ["empty", "invalid", "too_small", "broken", "too_long"];
+    found.len() == expected.len()
+        && expected.iter().zip(found).all(|(expected, found)| {
+            *expected == "?"
+                || expected == found
+                || owed && *expected == "refused" && refusals.contains(&found.as_str())
+        })
+}
+
+/// What pushes answer, by what bytes one by one do: an overflow is answered once for each push, so only at the zero that
+/// ends the frame, and where a piece ends.
+fn expected_of_pushes<'a>(expected: &[&'a str], arguments: &[&str]) -> Vec<&'a str> {
+    let mut stream = Vec::new();
+    let mut ends = Vec::new();
+    for piece in arguments[1..].iter().filter(|piece| **piece != "reset") {
+        stream.extend(bytes(piece));
+        ends.push(stream.len());
+    }
+    let (buffer, answers) = expected.split_first().expect("the buffer");
+    let mut kept = vec![*buffer];
+    for answer in answers.chunks(3) {
+        let place = number(answer[0]);
+        if answer[1] != "too_small" || stream[place - 1] == 0 || ends.contains(&place) {
+            kept.extend_from_slice(answer);
+        }
+    }
+    kept
+}
+
+fn bytes(word: &str) -> Vec<u8> {
+    if word == "-" {
+        return Vec::new();
+    }
+    (0..word.len())
+        .step_by(2)
+        .map(|at| u8::from_str_radix(&word[at..at + 2], 16).expect("hexadecimal digits"))
+        .collect()
+}
+
+fn byte(word: &str) -> u8 {
+    bytes(word)[0]
+}
+
+fn number(word: &str) -> usize {
+    word.parse().expect("a number")
+}
+
+fn hex(bytes: &[u8]) -> String {
+    if bytes.is_empty() {
+        return "-".to_owned();
+    }
+    bytes.iter().fold(String::new(), |mut text, byte| {
+        write!(text, "{byte:02x}").expect("a string takes it");
+        text
+    })
+}
+
+/// What each way to make the call answers, or `None` where this crate lacks it.
+fn answers(call: &str, arguments: &[&str]) -> Option<Vec<Answer>> {
+    let all_bytes = |ways: Vec<Words>| {
+        ways.into_iter()
+            .map(|words| Answer {
+                words,
+                by_pushes: false,
+            })
+            .collect()
+    };
+    Some(match (call, arguments) {
+        ("decoder", [buffer, pieces @ ..]) => decoder(&bytes(buffer), pieces),
+        ("decode_stream", [room, pieces @ ..]) => {
+            all_bytes(vec![decode_stream(number(room), pieces)])
+        }
+        _ => all_bytes(vec![encoding(call, arguments)
+            .or_else(|| decoding(call, arguments))
+            .or_else(|| states(call, arguments))?]),
+    })
+}
+
+fn encoding(call: &str, arguments: &[&str]) -> Option<Words> {
+    Some(match (call, arguments) {
+        ("max_encoding_overhead", [len]) => {
+            vec![jcobs::max_encoding_overhead(number(len)).to_string()]
+        }
+        ("max_encoding_length", [len]) => {
+            vec![jcobs::max_encoding_length(number(len)).to_string()]
+        }
+        ("encode_vec", [message]) => vec![hex(&jcobs::encode_vec(&bytes(message)))],
+        ("encode_vec_including_sentinels", [message]) => {
+            vec![hex(&jcobs::encode_vec_including_sentinels(&bytes(message)))]
+        }
+        ("encode_vec_with_sentinel", [sentinel, message]) => {
+            let frame = jcobs::encode_vec_with_sentinel(&bytes(message), byte(sentinel));
+            vec![hex(&frame)]
+        }
+        ("encode_frames", messages) => {
+            let mut frames = Vec::new();
+            for message in messages {
+                frames.extend(jcobs::encode_vec(&bytes(message)));
+                frames.push(0);
+            }
+            vec![hex(&frames)]
+        }
+        ("encode", [message, buffer]) => {
+            written(buffer, |dest| jcobs::encode(&bytes(message), dest))
+        }
+        ("encode_including_sentinels", [message, buffer]) => written(buffer, |dest| {
+            jcobs::encode_including_sentinels(&bytes(message), dest)
+        }),
+        ("encode_with_sentinel", [sentinel, message, buffer]) => written(buffer, |dest| {
+            jcobs::encode_with_sentinel(&bytes(message), dest, byte(sentinel))
+        }),
+        ("try_encode", [message, buffer]) => {
+            tried(buffer, |dest| jcobs::try_encode(&bytes(message), dest))
+        }
+        ("try_encode_including_sentinels", [message, buffer]) => tried(buffer, |dest| {
+            jcobs::try_encode_including_sentinels(&bytes(message), dest)
+        }),
+        ("try_encode_with_sentinel", [sentinel, message, buffer]) => tried(buffer, |dest| {
+            jcobs::try_encode_with_sentinel(&bytes(message), dest, byte(sentinel))
+        }),
+        ("encoder", [buffer, pieces @ ..]) => encoder(buffer, pieces),
+        _ => return None,
+    })
+}
+
+fn written(buffer: &str, encode: impl FnOnce(&mut [u8]) -> usize) -> Words {
+    let mut dest = bytes(buffer);
+    let length = encode(&mut dest);
+    vec![length.to_string(), hex(&dest)]
+}
+
+fn tried(
+    buffer: &str,
+    encode: impl FnOnce(&mut [u8]) -> Result<usize, DestBufTooSmallError>,
+) -> Words {
+    let mut dest = bytes(buffer);
+    let (status, length) = match encode(&mut dest) {
+        Ok(length) => ("ok", length.to_string()),
+        Err(DestBufTooSmallError) => ("too_small", "-".to_owned()),
+    };
+    vec![status.to_owned(), length, hex(&dest)]
+}
+
+fn encoder(buffer: &str, pieces: &[&str]) -> Words {
+    let mut dest = bytes(buffer);
+    let mut encoder = CobsEncoder::new(&mut dest);
+    let told: Vec<_> = pieces
+        .iter()
+        .map(|piece| match encoder.push(&bytes(piece)) {
+            Ok(()) => "ok".to_owned(),
+            Err(DestBufTooSmallError) => "too_small".to_owned(),
+        })
+        .collect();
+    let length = encoder.finalize();
+    [vec![length.to_string(), hex(&dest)], told].concat()
+}
+
+fn decoding(call: &str, arguments: &[&str]) -> Option<Words> {
+    Some(match (call, arguments) {
+        ("decode_vec", [source]) => message(jcobs::decode_vec(&bytes(source))),
+        ("decode_vec_with_sentinel", [sentinel, source]) => message(
+            jcobs::decode_vec_with_sentinel(&bytes(source), byte(sentinel)),
+        ),
+        ("decode", [source, buffer]) => {
+            let mut dest = bytes(buffer);
+            let mut words = reported(jcobs::decode(&bytes(source), &mut dest));
+            words.push(hex(&dest));
+            words
+        }
+        ("decode_with_sentinel", [sentinel, source, buffer]) => {
+            let mut dest = bytes(buffer);
+            let size = jcobs::decode_with_sentinel(&bytes(source), &mut dest, byte(sentinel));
+            let mut words = sized(size);
+            words.push(hex(&dest));
+            words
+        }
+        ("decode_in_place", [buffer]) => {
+            let mut buff = bytes(buffer);
+            let mut words = sized(jcobs::decode_in_place(&mut buff));
+            words.push(hex(&buff));
+            words
+        }
+        ("decode_in_place_report", [buffer]) => {
+            let mut buff = bytes(buffer);
+            let mut words = reported(jcobs::decode_in_place_report(&mut buff));
+            words.push(hex(&buff));
+            words
+        }
+        ("decode_in_place_with_sentinel", [sentinel, buffer]) => {
+            let mut buff = bytes(buffer);
+            let size = jcobs::decode_in_place_with_sentinel(&mut buff, byte(sentinel));
+            let mut words = sized(size);
+            words.push(hex(&buff));
+            words
+        }
+        ("frame_kind", [bytes_word]) => {
+            let kind = match jcobs::frame_kind(&bytes(bytes_word)) {
+                FrameKind::NotAFrame => "not_a_frame",
+                FrameKind::Canonical => "canonical",
+                FrameKind::Longer => "longer",
+            };
+            vec![kind.to_owned()]
+        }
+        _ => return None,
+    })
+}
+
+/// The status and the length.
+fn sized(size: Result<usize, DecodeError>) -> Words {
+    let (status, length) = match size {
+        Ok(length) => ("ok", length.to_string()),
+        Err(DecodeError::EmptyFrame) => ("empty", "-".to_owned()),
+        Err(DecodeError::InvalidFrame { decoded_bytes }) => ("invalid", decoded_bytes.to_string()),
+        Err(DecodeError::TargetBufTooSmall) => ("too_small", "-".to_owned()),
+    };
+    vec![status.to_owned(), length]
+}
+
+/// The status, the bytes consumed and the length.
+fn reported(report: Result<DecodeReport, DecodeError>) -> Words {
+    let mut words = sized(report.map(|report| report.frame_size()));
+    let consumed = report.map_or("-".to_owned(), |report| report.parsed_size().to_string());
+    words.insert(1, consumed);
+    words
+}
+
+/// The status, the length and the message.
+fn message(decoded: Result<Vec<u8>, DecodeError>) -> Words {
+    let mut words = sized(decoded.as_ref().map(Vec::len).map_err(|error| *error));
+    words.push(decoded.map_or("-".to_owned(), |message| hex(&message)));
+    words
+}
+
+/// The three decoders, as the cases use them.
+trait Streaming {
+    fn push(&mut self, data: &[u8]) -> Result<Option<DecodeReport>, DecodeError>;
+    fn feed(&mut self, data: u8) -> Result<Option<usize>, DecodeError>;
+    fn parsed_size(&self) -> usize;
+    fn dest(&self) -> &[u8];
+    fn restart(&mut self);
+}
+
+macro_rules! streaming {
+    ($decoder:ty, [$($generics:tt)*], $restart:expr) => {
+        impl $($generics)* Streaming for $decoder {
+            fn push(&mut self, data: &[u8]) -> Result<Option<DecodeReport>, DecodeError> {
+                <$decoder>::push(self, data)
+            }
+            fn feed(&mut self, data: u8) -> Result<Option<usize>, DecodeError> {
+                <$decoder>::feed(self, data)
+            }
+            fn parsed_size(&self) -> usize {
+                <$decoder>::parsed_size(self)
+            }
+            fn dest(&self) -> &[u8] {
+                <$decoder>::dest(self)
+            }
+            fn restart(&mut self) {
+                let restart: fn(&mut Self) = $restart;
+                restart(self);
+            }
+        }
+    };
+}
+
+// This one has no `reset`. A zero leaves it idle too, and changes no byte.
+streaming!(CobsDecoder<'_>, [], |decoder| {
+    let _ = decoder.feed(0);
+});
+streaming!(CobsDecoderOwned, [], |decoder| decoder.reset());
+streaming!(CobsDecoderHeapless<N>, [<const N: usize>], |decoder| decoder.reset());
+
+fn decoder(buffer: &[u8], pieces: &[&str]) -> Vec<Answer> {
+    let mut answers = Vec::new();
+    for by_pushes in [false, true] {
+        let mut dest = buffer.to_vec();
+        let mut lent = CobsDecoder::new(&mut dest);
+        let mut owned = CobsDecoderOwned::new(buffer.len());
+        owned.dest_mut().copy_from_slice(buffer);
+        let mut within = CobsDecoderHeapless::<4>::new();
+        let mut decoders: Vec<&mut dyn Streaming> = vec![&mut lent, &mut owned];
+        if buffer.len() == 4 {
+            within.dest_mut().copy_from_slice(buffer);
+            decoders.push(&mut within);
+        }
+        for decoder in decoders {
+            answers.push(Answer {
+                words: told(decoder, pieces, by_pushes),
+                by_pushes,
+            });
+        }
+    }
+    answers
+}
+
+/// The buffer at the end, then three words for each answer but "nothing yet".
+fn told(decoder: &mut dyn Streaming, pieces: &[&str], by_pushes: bool) -> Words {
+    let mut words = Vec::new();
+    let mut taken = 0;
+    for piece in pieces {
+        if *piece == "reset" {
+            decoder.restart();
+            continue;
+        }
+        let piece = bytes(piece);
+        let mut rest = piece.as_slice();
+        while let Some(first) = rest.first() {
+            let answer = if by_pushes {
+                let report = decoder.push(rest);
+                report.map(|report| report.map(|report| report.frame_size()))
+            } else {
+                decoder.feed(*first)
+            };
+            taken += decoder.parsed_size();
+            rest = &rest[decoder.parsed_size()..];
+            let (status, length) = match answer {
+                Ok(None) => continue,
+                Ok(Some(length)) => ("message", length),
+                Err(DecodeError::InvalidFrame { decoded_bytes }) => ("broken", decoded_bytes),
+                Err(DecodeError::TargetBufTooSmall) => ("too_small", decoder.dest().len()),
+                Err(DecodeError::EmptyFrame) => panic!("no streaming decoder answers this"),
+            };
+            words.extend([
+                taken.to_string(),
+                status.to_owned(),
+                hex(&decoder.dest()[..length]),
+            ]);
+        }
+    }
+    words.insert(0, hex(decoder.dest()));
+    words
+}
+
+/// Two words for each piece of the stream. A piece that is too long is answered at its zero, where the bytes that were
+/// taken end with it.
+fn decode_stream(room: usize, pieces: &[&str]) -> Words {
+    let mut decoder = CobsDecoderOwned::new(room);
+    let mut words = Vec::new();
+    for piece in pieces {
+        let piece = bytes(piece);
+        let mut rest = piece.as_slice();
+        while !rest.is_empty() {
+            let answer = decoder.push(rest);
+            let (taken, behind) = rest.split_at(decoder.parsed_size());
+            rest = behind;
+            match answer {
+                Ok(Some(report)) => words.extend([
+                    "message".to_owned(),
+                    hex(&decoder.dest()[..report.frame_size()]),
+                ]),
+                Err(DecodeError::InvalidFrame { decoded_bytes }) => {
+                    words.extend(["broken".to_owned(), decoded_bytes.to_string()]);
+                }
+                Err(_) if taken.last() == Some(&0) => {
+                    words.extend(["too_long".to_owned(), "-".to_owned()]);
+                }
+                Ok(None) | Err(_) => {}
+            }
+        }
+    }
+    words
+}
+
+fn states(call: &str, arguments: &[&str]) -> Option<Words> {
+    match (call, arguments) {
+        ("encoder_state", [message, last]) => Some(encoder_state(&bytes(message), byte(last))),
+        ("decoder_state", [state, left, next]) => Some(decoder_state(state, left, byte(next))),
+        _ => None,
+    }
+}
+
+fn encoder_state(message: &[u8], last: u8) -> Words {
+    let mut state = EncoderState::default();
+    let mut frame = vec![0];
+    for byte in message {
+        carry_out(state.push(*byte), &mut frame);
+    }
+    let pushed = state.push(last);
+    carry_out(pushed, &mut frame);
+    let (at, code) = state.finalize();
+    frame[at] = code;
+
+    let none = || "-".to_owned();
+    let (result, index, written, byte) = match pushed {
+        PushResult::AddSingle(byte) => ("add_single", none(), none(), hex(&[byte])),
+        PushResult::ModifyFromStartAndSkip((at, code)) => {
+            ("modify_and_skip", at.to_string(), code.to_string(), none())
+        }
+        PushResult::ModifyFromStartAndPushAndSkip((at, code, byte)) => (
+            "modify_push_and_skip",
+            at.to_string(),
+            code.to_string(),
+            hex(&[byte]),
+        ),
+    };
+    vec![
+        result.to_owned(),
+        index,
+        written,
+        byte,
+        at.to_string(),
+        code.to_string(),
+        hex(&frame),
+    ]
+}
+
+fn carry_out(pushed: PushResult, frame: &mut Vec<u8>) {
+    match pushed {
+        PushResult::AddSingle(byte) => frame.push(byte),
+        PushResult::ModifyFromStartAndSkip((at, code)) => {
+            frame[at] = code;
+            frame.push(0);
+        }
+        PushResult::ModifyFromStartAndPushAndSkip((at, code, byte)) => {
+            frame[at] = code;
+            frame.extend([byte, 0]);
+        }
+    }
+}
+
+fn decoder_state(state: &str, left: &str, next: u8) -> Words {
+    let mut state = match state {
+        "grab" => DecoderState::Grab(left.parse().expect("at most 255")),
+        "grab_chain" => DecoderState::GrabChain(left.parse().expect("at most 255")),
+        _ => DecoderState::Idle,
+    };
+    let none = || "-".to_owned();
+    let (result, byte) = match state.feed(next) {
+        Ok(DecodeResult::NoData) => ("no_data", none()),
+        Ok(DecodeResult::DataStart) => ("data_start", none()),
+        Ok(DecodeResult::DataComplete) => ("data_complete", none()),
+        Ok(DecodeResult::DataContinue(byte)) => ("data_continue", byte.to_string()),
+        Err(_) => ("invalid", none()),
+    };
+    let (name, lacking) = match state {
+        DecoderState::Idle => ("idle", none()),
+        DecoderState::Grab(lacking) => ("grab", lacking.to_string()),
+        DecoderState::GrabChain(lacking) => ("grab_chain", lacking.to_string()),
+    };
+    vec![result.to_owned(), byte, name.to_owned(), lacking]
+}

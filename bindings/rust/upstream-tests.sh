@@ -1,0 +1,101 @@
+#!/bin/sh
+# Runs the tests of the crate `cobs` 0.5.1 over this crate: upstream-tests.sh FOLDER
+#
+# FOLDER has them as the crate does, in the test modules at the ends of src/*.rs, or in files where a line
+#
+#     // ===== src/enc.rs (test module) =====
+#
+# stands before each module. They are laid out in a folder of their own, in a project that depends on this crate under the
+# name `cobs`, and on Debian's librust-quickcheck-dev, so nothing is fetched. The names of the tests that don't pass are
+# compared with the table under "The tests of the crate" in README.md: both must be the same.
+set -eu
+if [ $# -ne 1 ] || [ ! -d "$1" ]; then
+    echo "usage: $0 FOLDER" >&2
+    exit 2
+fi
+tests=$(cd "$1" && pwd)
+here=$(cd "$(dirname "$0")" && pwd)
+registry=/usr/share/cargo/registry
+for tool in cargo awk; do
+    command -v "$tool" >/dev/null || { echo "skipped: lacks $tool"; exit 0; }
+done
+if ! ls -d "$registry"/quickcheck-1.* >/dev/null 2>&1; then
+    echo "skipped: lacks quickcheck (Debian package librust-quickcheck-dev)"
+    exit 0
+fi
+work=$(mktemp -d)
+trap 'rm -rf "$work"' EXIT
+mkdir "$work/src" "$work/.cargo"
+
+# Each module FILE of the crate: its names, then its tests.
+cut_modules() { # FILE..
+    awk -v folder="$work/src" '
+        FNR == 1 { name = FILENAME; sub(/.*\//, "", name); inside = 0 }
+        /^\/\/ ===== src\/[a-z]+\.rs \(test module\) =====/ { name = $3; sub(/.*\//, "", name); inside = 0; next }
+        /^#\[cfg\(test\)\]/ { inside = 1 }
+        inside { print > (folder "/" name ".tests") }
+    ' "$@"
+}
+cd "$tests"
+marked=$(grep -l '^// ===== src/[a-z]*\.rs (test module) =====' -- * 2>/dev/null || true)
+if [ -n "$marked" ]; then
+    # One name a line.
+    # shellcheck disable=SC2086
+    cut_modules $marked
+elif [ -d src ]; then
+    cut_modules src/*.rs
+fi
+for module in lib enc dec; do
+    if [ ! -s "$work/src/$module.rs.tests" ]; then
+        echo "no tests of $module.rs in $tests" >&2
+        exit 2
+    fi
+    {
+        echo '#![allow(unused)]'
+        [ "$module" != lib ] || printf 'extern crate alloc;\nmod dec;\nmod enc;\n'
+        echo 'pub use cobs::*;'
+        cat "$work/src/$module.rs.tests"
+    } >"$work/src/$module.rs"
+done
+
+cat >"$work/Cargo.toml" <<END
+[package]
+name = "upstream-tests"
+version = "0.0.0"
+edition = "2021"
+
+[features]
+default = ["alloc"]
+alloc = []
+
+[dependencies]
+cobs = { package = "jcobs", path = "$here" }
+
+[dev-dependencies]
+quickcheck = { version = "1", default-features = false }
+END
+cat >"$work/.cargo/config.toml" <<END
+[source.crates-io]
+replace-with = "debian"
+
+[source.debian]
+directory = "$registry"
+END
+
+cd "$work"
+cargo test --offline --lib --no-fail-fast >said 2>errors || true
+if ! grep -q '^test result: ' said; then
+    echo "FAILED: the tests don't compile" >&2
+    cat errors said >&2
+    exit 1
+fi
+sed -n 's/^test \([a-z0-9_:]*\).* \.\.\. FAILED$/\1/p' said | sort >found
+# shellcheck disable=SC2016
+sed -n '/^## The tests of the crate/,/^## /s/^| `\([a-z0-9_:]*\)` |.*/\1/p' "$here/README.md" | sort >told
+if ! diff told found >differ; then
+    echo "FAILED: the table (<) and the tests that don't pass (>) differ" >&2
+    cat differ said >&2
+    exit 1
+fi
+passed=$(grep -c '^test .* \.\.\. ok$' said || true)
+echo "$passed tests of the crate pass; $(wc -l <found) don't, as the table in README.md says"
