@@ -46,6 +46,11 @@ if ! command -v cargo >/dev/null; then
     skip 'bindings/rust' 'cargo (rustup, or Debian package cargo, from Rust 1.83 on)'
     finish
 fi
+version=$(rustc --version | sed -n 's/^rustc 1\.\([0-9]*\)\..*/\1/p')
+if [ "${version:-83}" -lt 83 ]; then
+    skip 'bindings/rust' "Rust 1.83: this is 1.$version"
+    finish
+fi
 if [ -z "${JCOBS_LIB_DIR:-}" ]; then
     if command -v rt >/dev/null && command -v make >/dev/null; then
         part 'build: the library' make -C ../c
@@ -73,7 +78,7 @@ installed() (
     PKG_CONFIG_PATH=$work/copy cargo test --offline --lib
 )
 
-part 'units, differences and vectors' units
+part 'units, signatures, differences and vectors' units
 part 'without a feature' units --no-default-features
 part 'examples of the documentation' cargo test --offline --doc
 part 'documentation' documentation

@@ -24,7 +24,6 @@ fn vectors() {
     files.sort();
 
     let mut run = 0;
-    let mut lacking = 0;
     let mut differing = Vec::new();
     for file in files {
         let text = fs::read_to_string(&file).expect("a file of text");
@@ -39,7 +38,7 @@ fn vectors() {
                 panic!("no case: {line}");
             };
             let Some(answers) = answers(call, arguments) else {
-                lacking += 1;
+                assert_eq!(*call, "next_frame", "the one call that the crate lacks");
                 continue;
             };
             run += 1;
@@ -55,10 +54,9 @@ fn vectors() {
             }
         }
     }
-    println!("{run} cases, {lacking} of calls that this crate lacks");
+    println!("{run} cases");
     assert!(differing.is_empty(), "{}", differing.join("\n"));
-    // 27 cases are of next_frame.
-    assert!(run > 6000 && lacking == 27, "{run} run, {lacking} lacking");
+    assert!(run > 6000, "{run} cases alone");
 }
 
 /// What a call answered, by one of the ways to make it.

@@ -1,0 +1,102 @@
+//! That each name of `cobs` 0.5.1 is here with its signature: this file compiles.
+#![cfg(feature = "alloc")]
+#![allow(deprecated, clippy::type_complexity)]
+
+use std::error::Error;
+use std::fmt::{Debug, Display};
+
+use jcobs::{
+    CobsDecoder, CobsDecoderHeapless, CobsDecoderOwned, CobsEncoder, DecodeError, DecodeReport,
+    DecodeResult, DecoderState, DecodingResult, DestBufTooSmallError, EncoderState, PushResult,
+};
+
+const LENGTHS: [fn(usize) -> usize; 2] = [jcobs::max_encoding_overhead, jcobs::max_encoding_length];
+const ROOM: [u8; jcobs::max_encoding_length(254)] = [0; jcobs::max_encoding_overhead(254) + 254];
+
+const fn lent(dest: &mut [u8]) -> CobsDecoder<'_> {
+    CobsDecoder::new(dest)
+}
+
+type Refusable = Result<usize, DestBufTooSmallError>;
+type Decoded = Result<usize, DecodeError>;
+type Reported = Result<DecodeReport, DecodeError>;
+type Fed = Result<Option<usize>, DecodeError>;
+type Pushed = Result<Option<DecodeReport>, DecodeError>;
+
+#[test]
+fn functions() {
+    let _: [fn(&[u8], &mut [u8]) -> usize; 2] = [jcobs::encode, jcobs::encode_including_sentinels];
+    let _: [fn(&[u8], &mut [u8]) -> Refusable; 2] =
+        [jcobs::try_encode, jcobs::try_encode_including_sentinels];
+    let _: fn(&[u8], &mut [u8], u8) -> usize = jcobs::encode_with_sentinel;
+    let _: [fn(&[u8]) -> Vec<u8>; 2] = [jcobs::encode_vec, jcobs::encode_vec_including_sentinels];
+    let _: fn(&[u8], u8) -> Vec<u8> = jcobs::encode_vec_with_sentinel;
+
+    let _: fn(&[u8], &mut [u8]) -> Reported = jcobs::decode;
+    let _: fn(&mut [u8]) -> Decoded = jcobs::decode_in_place;
+    let _: fn(&mut [u8]) -> Reported = jcobs::decode_in_place_report;
+    let _: fn(&[u8], &mut [u8], u8) -> Decoded = jcobs::decode_with_sentinel;
+    let _: fn(&mut [u8], u8) -> Decoded = jcobs::decode_in_place_with_sentinel;
+    let _: fn(&[u8]) -> Result<Vec<u8>, DecodeError> = jcobs::decode_vec;
+    let _: fn(&[u8], u8) -> Result<Vec<u8>, DecodeError> = jcobs::decode_vec_with_sentinel;
+
+    assert_eq!(LENGTHS.map(|of| of(254)), [1, ROOM.len()]);
+}
+
+#[test]
+fn encoders() {
+    fn new(out_buf: &mut [u8]) -> CobsEncoder<'_> {
+        CobsEncoder::new(out_buf)
+    }
+    let _ = new;
+    let _: fn(&mut CobsEncoder<'static>, &[u8]) -> Result<(), DestBufTooSmallError> =
+        CobsEncoder::push;
+    let _: fn(CobsEncoder<'static>) -> usize = CobsEncoder::finalize;
+    let _: fn(&mut EncoderState, u8) -> PushResult = EncoderState::push;
+    let _: fn(EncoderState) -> (usize, u8) = EncoderState::finalize;
+}
+
+/// The methods of a decoder's type.
+macro_rules! decoder {
+    ($decoder:ty) => {
+        let _: fn(&mut $decoder, u8) -> Fed = <$decoder>::feed;
+        let _: fn(&mut $decoder, &[u8]) -> Pushed = <$decoder>::push;
+        let _: for<'b> fn(&'b $decoder) -> &'b [u8] = <$decoder>::dest;
+        let _: for<'b> fn(&'b mut $decoder) -> &'b mut [u8] = <$decoder>::dest_mut;
+    };
+}
+
+#[test]
+fn decoders() {
+    let _ = lent;
+    decoder!(CobsDecoder<'static>);
+    decoder!(CobsDecoderHeapless<4>);
+    decoder!(CobsDecoderOwned);
+    let _: fn(usize) -> CobsDecoderOwned = CobsDecoderOwned::new;
+    let _: fn() -> CobsDecoderHeapless<4> = CobsDecoderHeapless::new;
+    let _: fn(&mut CobsDecoderOwned) = CobsDecoderOwned::reset;
+    let _: fn(&mut CobsDecoderHeapless<4>) = CobsDecoderHeapless::reset;
+    let _: fn(&mut DecoderState, u8) -> Result<DecodeResult, DecodeError> = DecoderState::feed;
+    let _: [fn(&DecodingResult) -> usize; 2] =
+        [DecodeReport::parsed_size, DecodeReport::frame_size];
+}
+
+#[test]
+fn traits() {
+    fn error<T: Error + Display + Debug + Eq + Send + Sync + 'static>() {}
+    fn debug<T: Debug + Send + Sync>() {}
+    fn copy<T: Debug + Copy + Eq>() {}
+    error::<DestBufTooSmallError>();
+    error::<DecodeError>();
+    copy::<DecodeReport>();
+    debug::<CobsEncoder<'_>>();
+    debug::<CobsDecoder<'_>>();
+    debug::<CobsDecoderOwned>();
+    debug::<CobsDecoderHeapless<4>>();
+    debug::<DecodeResult>();
+    let _ = (
+        EncoderState::default().clone(),
+        DecoderState::default(),
+        CobsDecoderHeapless::<4>::default(),
+    );
+}
