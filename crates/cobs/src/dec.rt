@@ -67,9 +67,9 @@ fn decode_first(source: &[u8], dest: &mut [u8]) -> Result<DecodeReport, DecodeEr
 /// Decodes the first frame of the source into `dest`, and answers how many bytes were consumed and how many the
 /// message has.
 ///
-/// Zeros in front of the frame are skipped. The frame ends at the next zero or with the source, and what stands behind
+/// Zeros in front of the frame are skipped. The frame ends at the next zero or with the source, and what stands after
 /// that zero isn't read. The first `frame_size` bytes of `dest` are the message, and the others are as they were.
-/// `parsed_size` counts the skipped zeros, the frame, and the zero behind it where there is one.
+/// `parsed_size` counts the skipped zeros, the frame, and the zero after it where there is one.
 ///
 /// # Errors
 ///
@@ -79,6 +79,19 @@ fn decode_first(source: &[u8], dest: &mut [u8]) -> Result<DecodeReport, DecodeEr
 ///   broken block included, `decoded_bytes` says how many these are, and the others are as they were.
 ///
 /// The format is that of Cheshire and Baker's paper; how a broken frame is answered is a choice of this library.
+///
+/// ```
+/// let mut dest = [170; 12];
+/// let report = decode(b"\0\x0chello world\0\x02a", &mut dest)?;
+/// assert_eq!(rt; report.parsed_size(), 14);
+/// assert_eq!(rt; report.frame_size(), 11);
+/// assert_eq!(rt; &dest, b"hello world\xaa");
+///
+/// let mut dest = [170; 3];
+/// let broken = DecodeError::InvalidFrame { decoded_bytes: 2 };
+/// assert_eq!(rt; decode(&[4, 1, 2, 0], &mut dest), Err(broken));
+/// assert_eq!(rt; dest, [1, 2, 170]);
+/// ```
 pub fn decode(source: &[u8], dest: &mut [u8]) -> Result<DecodeReport, DecodeError>
     ensures answer { result ≡ decode_answer source.now (length dest.old) }
     ensures buffer { dest.new ≡ overwritten dest.old (first_output source.now) }

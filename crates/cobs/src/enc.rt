@@ -28,13 +28,20 @@ pub use vector::{encode_vec, encode_vec_including_sentinels, encode_vec_with_sen
 
 /// Writes the encoded frame of `source` to the front of `dest`, and answers its length in bytes.
 ///
-/// A frame is made of blocks, as Cheshire and Baker's paper has them. Where the message's last run of nonzero bytes has
-/// a positive length divisible by 254, two frames stand for the message, one of them with a `1` more at its end: this
-/// writes the shorter one, which is a choice of ours. No byte of the frame is the sentinel 0, and no sentinel is written.
-/// The bytes of `dest` behind the frame stay as they were.
+/// A frame is made of blocks, as Cheshire and Baker's paper has them. Where the message's last run of nonzero bytes
+/// has a positive length divisible by 254, two frames stand for the message, one of them with a `1` more at its end:
+/// this writes the shorter one, which is a choice of ours. No byte of the frame is the sentinel 0, and no sentinel is
+/// written. The bytes of `dest` after the frame stay as they were.
 ///
-/// The caller owes room for the frame; [`max_encoding_length`](crate::max_encoding_length) of the message's length
-/// is room enough for each message of that length. [`try_encode`] tests the room itself.
+/// Precondition: the frame fits `dest`. It always fits [`max_encoding_length`](crate::max_encoding_length) of the
+/// message's length. [`try_encode`] tests the room itself.
+///
+/// ```
+/// let mut dest = [170; 6];
+/// let len = encode(&[10, 11, 0, 12], &mut dest);
+/// assert_eq!(rt; len, 5);
+/// assert_eq!(rt; dest, [3, 10, 11, 2, 12, 170]);
+/// ```
 pub fn encode(source: &[u8], dest: &mut [u8]) -> usize
     requires { encoded_len source.now ≤ length dest.old }
     ensures frame { IsEncodedFrame (take result dest.new) source.now }
@@ -49,7 +56,17 @@ pub fn encode(source: &[u8], dest: &mut [u8]) -> usize
 
 /// Does what [`encode`] does, where the frame fits `dest`.
 ///
-/// The frame is refused exactly where it is longer than `dest`, and then no byte of `dest` has changed.
+/// # Errors
+/// `DestBufTooSmallError` exactly where the frame is longer than `dest`. Then no byte of `dest` has changed, which is a
+/// choice of this library.
+///
+/// ```
+/// let mut dest = [170; 5];
+/// assert_eq!(rt; try_encode(b"hello", &mut dest), Err(DestBufTooSmallError));
+/// assert_eq!(rt; dest, [170; 5]);
+/// assert_eq!(rt; try_encode(b"hell", &mut dest), Ok(5));
+/// assert_eq!(rt; &dest, b"\x05hell");
+/// ```
 pub fn try_encode(source: &[u8], dest: &mut [u8]) -> Result<usize, DestBufTooSmallError>
     ensures fits { IsOk result ↔ (encoded_len source.now ≤ length dest.old) }
     ensures frame { IfOk result (λ n. IsEncodedFrame (take n dest.new) source.now) }

@@ -91,7 +91,8 @@ impl<R: Read> FrameSource for Recorded<R> {
     ghost use Rattle.cobs.specs.Reader.{reader_of};
     ghost use Rattle.cobs.specs.Reading.{IsReadOf};
 
-    ghost step = { λ from read to. IsReadOf (R.remaining (reader_of from)) read (R.remaining (reader_of to)) };
+    ghost step = { λ from read to. IsReadOf (R.remaining (reader_of from)) read
+        (R.remaining (reader_of to)) };
 
     fn read_some(&mut self, chunk: &mut [u8; 64]) -> Option<usize> {
         match self.reader.read(chunk) {
@@ -103,7 +104,8 @@ impl<R: Read> FrameSource for Recorded<R> {
 
 /// What a piece that ended so comes to.
 fn next_of(end: PieceEnd) -> Next
-    ensures { (buffer : List ℕ) → IsWithin (length buffer) end → IsOutcome result buffer (outcome_at end buffer) }
+    ensures { (buffer : List ℕ) → IsWithin (length buffer) end
+        → IsOutcome result buffer (outcome_at end buffer) }
 {
     match end {
         PieceEnd::Message(n) => Next::Message(n),
@@ -112,7 +114,7 @@ fn next_of(end: PieceEnd) -> Next
     }
 }
 
-/// Whether a piece is unfinished behind these bytes, given whether one was before them.
+/// Whether a piece is unfinished after these bytes, given whether one was before them.
 fn is_unfinished(before: bool, bytes: &[u8]) -> bool
     ensures { (p : List ℕ) → before ≡ is_nonempty p → HasNoZero p →
         result ≡ is_nonempty (unended (p ++ bytes.now)) }
@@ -130,6 +132,17 @@ const MOST_READS: usize = 65536;
 ///
 /// The source isn't part of it but given to each call, so a stream may go on in another source. Contracts see it as
 /// its decoder and the bytes that it has read and not yet fed to the decoder.
+///
+/// ```
+/// let mut source = Recorded::new(b"\x06hello\0\x03h".as_slice());
+/// let mut reader = FrameReader::new(CobsDecoderHeapless::<8>::new());
+/// assert_eq!(rt; reader.next_frame(&mut source), Ok(Next::Message(5)));
+/// assert!(rt; reader.decoder().dest().starts_with(b"hello"));
+/// assert_eq!(rt;
+///     reader.next_frame(&mut source),
+///     Ok(Next::End { unfinished: true })
+/// );
+/// ```
 #[derive(Drop)]
 pub struct FrameReader<D: FrameDecoder> {
     decoder: D,
@@ -139,7 +152,8 @@ pub struct FrameReader<D: FrameDecoder> {
     unfinished: bool,
     ghost ordered: { start ≤ end },
     ghost in_chunk: { end ≤ 64 },
-    ghost has_taken: { ∥ ((p : List ℕ) × HasTaken (D.bytes decoder) (D.phase decoder) unfinished p) ∥₁ },
+    ghost has_taken: { ∥ ((p : List ℕ) × HasTaken (D.bytes decoder)
+        (D.phase decoder) unfinished p) ∥₁ },
 }
 
 impl<D: FrameDecoder> FrameReader<D> {
@@ -149,8 +163,9 @@ impl<D: FrameDecoder> FrameReader<D> {
     ghost use Rattle.cobs.specs.Reading.{AtStreamEnd, IsBehind, ReadsNext, TellsFirst};
     ghost use Rattle.cobs.specs.Reader.{decoder_of, kept_of, reader_state};
 
-    /// A reader with this decoder, which has read nothing yet. The caller owes an idle decoder: one that is new, reset,
-    /// or behind a zero.
+    /// A reader with this decoder, which has read nothing yet.
+    ///
+    /// Precondition: the decoder is idle, as it is when new, after a reset, and after each zero.
     pub fn new(decoder: D) -> Self
         requires { DecoderAfter (D.bytes decoder) (D.phase decoder) [] }
         ensures decoder { decoder_of result ≡ decoder }
@@ -165,7 +180,7 @@ impl<D: FrameDecoder> FrameReader<D> {
         }
     }
 
-    /// The decoder. Behind a `Next::Message(n)` the message is the first n bytes of its buffer.
+    /// The decoder. After a `Next::Message(n)` the message is the first n bytes of its buffer.
     pub fn decoder(&self) -> &D
         ensures { result.now ≡ decoder_of self.now }
     {
@@ -174,13 +189,17 @@ impl<D: FrameDecoder> FrameReader<D> {
 
     /// Feeds the kept bytes until a piece ends.
     fn next_kept(&mut self) -> Option<Next>
-        ensures none { IfNone result ((p : List ℕ) → IsBehind (reader_state D.bytes D.phase self.old) p →
-            AtStreamEnd (p ++ kept_of self.old) (reader_state D.bytes D.phase self.new)
+        ensures none { IfNone result ((p : List ℕ)
+            → IsBehind (reader_state D.bytes D.phase self.old) p
+            → AtStreamEnd (p ++ kept_of self.old) (reader_state D.bytes D.phase self.new)
             × (self.new.unfinished ≡ is_nonempty (unended (p ++ kept_of self.old)))) }
-        ensures first { IfSome result (λ next. (p : List ℕ) → IsBehind (reader_state D.bytes D.phase self.old) p →
-            TellsFirst next p (kept_of self.old) (D.bytes (decoder_of self.new)) (kept_of self.new)) }
+        ensures first { IfSome result (λ next. (p : List ℕ)
+            → IsBehind (reader_state D.bytes D.phase self.old) p
+            → TellsFirst next p (kept_of self.old)
+            (D.bytes (decoder_of self.new)) (kept_of self.new)) }
         ensures idle { OnSome result (IsBehind (reader_state D.bytes D.phase self.new) []) }
-        ensures len { length (D.bytes (decoder_of self.new)) ≡ length (D.bytes (decoder_of self.old)) }
+        ensures len { length (D.bytes (decoder_of self.new))
+            ≡ length (D.bytes (decoder_of self.old)) }
         ensures same_loan { D.loan (decoder_of self.new) ≡ D.loan (decoder_of self.old) }
         ensures count { length (kept_of self.old) + self.old.start ≡ self.old.end }
     {
@@ -202,18 +221,20 @@ impl<D: FrameDecoder> FrameReader<D> {
 
     /// What the next piece of the stream comes to, once a zero has ended it, or that the source gives no more.
     ///
-    /// The bytes that are kept from earlier calls are used first, and what stands behind the zero of the piece that
+    /// The bytes that are kept from earlier calls are used first, and what stands after the zero of the piece that
     /// ends is kept for the next call. While no piece ends, the source is read, at most 65,536 times; nothing is read
-    /// behind a piece's end, behind a read that failed, or behind one that gave no bytes. Behind `Next::End` the
+    /// after a piece's end, after a read that failed, or after one that gave no bytes. After `Next::End` the
     /// stream may go on, in this source or in another one.
     ///
     /// # Errors
-    /// `Io`: the last read of this call failed. `TooManyReads`: this call made 65,536 reads that all gave bytes. In
-    /// both no piece ended, the decoder has taken all bytes that were read, and the next call goes on behind them.
+    /// `Io` where the last read of this call failed, and `TooManyReads` where this call made 65,536 reads that all gave
+    /// bytes. In both no piece ended, the decoder has taken all bytes that were read, and the next call goes on after
+    /// them.
     pub fn next_frame<S: FrameSource>(&mut self, source: &mut S) -> Result<Next, ReadFault>
         ensures next { ReadsNext S.step source.old source.new
             (reader_state D.bytes D.phase self.old) result (reader_state D.bytes D.phase self.new) }
-        ensures len { length (D.bytes (decoder_of self.new)) ≡ length (D.bytes (decoder_of self.old)) }
+        ensures len { length (D.bytes (decoder_of self.new))
+            ≡ length (D.bytes (decoder_of self.old)) }
         ensures same_loan { D.loan (decoder_of self.new) ≡ D.loan (decoder_of self.old) }
     {
         if let Some(kept) = self.next_kept() {

@@ -74,7 +74,8 @@ pub fn law_6()
 /// So a frame that was cut short, as by a lost link, is noticed unless the cut fell between two blocks, and then what
 /// is read is still the beginning of what was sent.
 pub fn law_7()
-    ensures frame { (p q m : List ℕ) (r : Reads (p ++ q) m) → p ≢ [] → (IsFrame p ↔ EndsAtBlock p r.blocks) }
+    ensures frame { (p q m : List ℕ) (r : Reads (p ++ q) m) → p ≢ []
+        → (IsFrame p ↔ EndsAtBlock p r.blocks) }
     ensures message { (p q k m : List ℕ) → Reads (p ++ q) m → Reads p k → IsFront k m }
 {}
 
@@ -88,7 +89,7 @@ pub fn law_8()
         → Reads (f ++ g) (m ++ joint (last_of r.blocks) ++ k) }
 {}
 
-/// A stream that is cut in two anywhere: the outcomes of its first part, and then those of the second part behind what
+/// A stream that is cut in two anywhere: the outcomes of its first part, and then those of the second part after what
 /// the first left unended.
 ///
 /// So a receiver may be given a stream in parts of any length, as reads happen to bring it, and gets what one call over
@@ -99,7 +100,7 @@ pub fn law_9()
 {}
 
 /// Damage between two sentinels stays between them: what is changed, lost or added there, sentinels too, leaves the
-/// outcomes in front of the first and behind the second as they are. Where no sentinel stands between them, one piece
+/// outcomes before the first and after the second as they are. Where no sentinel stands between them, one piece
 /// does, with one outcome.
 ///
 /// So a receiver of a noisy link, or a reader of a damaged file of records, loses no message but those that the damage
@@ -113,7 +114,7 @@ pub fn law_10()
 
 /// A frame in a stream comes to its message in each buffer that holds the message.
 ///
-/// So what was sent as frames with a sentinel behind each comes out as exactly the messages, and no frame, the longer
+/// So what was sent as frames with a sentinel after each comes out as exactly the messages, and no frame, the longer
 /// one of a message with two included, is taken for broken or for too long.
 pub fn law_11()
     ensures { (f m : List ℕ) (n : ℕ) → Reads f m → length m ≤ n → outcome_of f n ≡ Message m }
@@ -126,6 +127,7 @@ pub fn law_11()
 pub fn law_12()
     ensures piece { (byte : ℕ) (bytes : List ℕ) → byte ≢ 0
         → first_piece (byte ∷ bytes) ≡ Some (head (byte ∷ bytes)) }
-    ensures reads { (byte : ℕ) (bytes m : List ℕ) → let t = byte ∷ bytes in byte ≢ 0 → All (λ byte. byte < 256) t
+    ensures reads { (byte : ℕ) (bytes m : List ℕ) → let t = byte ∷ bytes in
+        byte ≢ 0 → All (λ byte. byte < 256) t
         → ((outcome_of (head t) (length t) ≡ Message m) ↔ Reads (head t) m) }
 {}

@@ -1,4 +1,59 @@
-//! Consistent Overhead Byte Stuffing.
+//! Consistent Overhead Byte Stuffing (COBS), after the crate `cobs` 0.5.1.
+//!
+//! COBS turns a message, any list of bytes, into a frame without zeros. A zero, the sentinel, then marks where frames
+//! end on a serial line, in a stream or in a file, and after damage a receiver finds the next frame at the next zero.
+//! A frame is a list of blocks: a code, which says how many bytes the block has with the code itself, and the nonzero
+//! bytes that it counts. Between two blocks stands a zero of the message, unless the first is a full block, with the
+//! code 255. So a frame is one byte longer than its message, and one more for each 254 bytes at most. The format is
+//! that of the paper "Consistent Overhead Byte Stuffing" by Stuart Cheshire and Mary Baker.
+//!
+//! A message, there and back:
+//!
+//! ```
+//! use cobs::{decode, encode};
+//!
+//! let mut frame = [0; 16];
+//! let len = encode(b"hello", &mut frame);
+//! assert_eq!(rt; &frame[..len], b"\x06hello".as_slice());
+//!
+//! let mut message = [0; 16];
+//! let report = decode(&frame[..len], &mut message)?;
+//! assert_eq!(rt; report.frame_size(), 5);
+//! assert!(rt; message.starts_with(b"hello"));
+//! ```
+//!
+//! A stream of two frames, byte by byte, as it comes from a line:
+//!
+//! ```
+//! use cobs::CobsDecoder;
+//!
+//! let mut buffer = [0; 64];
+//! let mut decoder = CobsDecoder::new(&mut buffer);
+//! for byte in b"\x06hello\0\x03hi\0" {
+//!     if let Ok(Some(len)) = decoder.feed(*byte) {
+//!         let message = decoder.dest().get(..len);
+//!         assert!(rt; message == Some(b"hello") || message == Some(b"hi"));
+//!     }
+//! }
+//! ```
+//!
+//! # Which call for what
+//!
+//! - A message at hand: [`encode`] into a slice with room, [`try_encode`] where it may lack, [`encode_vec`] into a
+//!   vector. The forms `.._with_sentinel` take another sentinel than 0, and the forms `.._including_sentinels` write one
+//!   on each side.
+//! - A message that comes in pieces: [`CobsEncoder`] over a slice, [`UnbufferedEncoder`] where the buffer is passed to
+//!   each call, [`EncoderState`] into a container of your own.
+//! - A frame at hand: [`decode`] into a slice, [`decode_vec`] into a vector, [`decode_in_place`] where it lies.
+//! - Frames that come from a line: [`CobsDecoder`] over a slice, [`CobsDecoderOwned`] over memory that is taken once,
+//!   [`CobsDecoderHeapless`] with its buffer inside, [`UnbufferedDecoder`] where the buffer is passed to each call,
+//!   [`DecoderState`] into a container of your own. [`FrameReader`] reads them from any reader.
+//! - A recorded stream: [`decode_stream`], and [`encode_frames`] to make one.
+//! - The size of a buffer: [`max_encoding_length`]. Whether bytes are a frame: [`frame_kind`].
+//! - A fact to cite in a proof of your own: [`laws`].
+//!
+//! A call that takes memory is passed an allocator first and answers a `Result`. Each call is proved to meet its
+//! contract, to be safe and to end. In the examples `rt` is the argument of `main`, and `alloc` is `rt.alloc()`.
 #![tactic(auto)]
 
 ghost use Rattle.std.specs.Prelude.{◌≡◌, ◌<◌, ◌^◌};
@@ -31,6 +86,13 @@ pub use stream::{FrameOutcome, decode_stream, encode_frames, encode_frames_room}
 ///
 /// This is `source_len / 254` rounded up, and 1 for the empty message: each block of 254 bytes has a code of its own,
 /// and a frame has at least one block. A message without zeros reaches it. Sentinels round the frame aren't counted.
+/// The bound is that of the paper by Cheshire and Baker.
+///
+/// ```
+/// assert_eq!(rt; max_encoding_overhead(0), 1);
+/// assert_eq!(rt; max_encoding_overhead(254), 1);
+/// assert_eq!(rt; max_encoding_overhead(255), 2);
+/// ```
 pub fn max_encoding_overhead(source_len: usize) -> usize
     ensures { result ≡ max_overhead source_len }
 {
@@ -43,7 +105,13 @@ pub fn max_encoding_overhead(source_len: usize) -> usize
 /// How many bytes the longest encoded frame of a message of `source_len` bytes has, sentinels not counted: a buffer of
 /// this length has room for each message of that length.
 ///
-/// The caller owes that this number fits a `usize`, as it does for each `source_len` up to `isize::MAX`.
+/// Precondition: this number fits a `usize`, as it does for each `source_len` up to `isize::MAX`.
+///
+/// ```
+/// assert_eq!(rt; max_encoding_length(0), 1);
+/// assert_eq!(rt; max_encoding_length(254), 255);
+/// assert_eq!(rt; max_encoding_length(255), 257);
+/// ```
 pub fn max_encoding_length(source_len: usize) -> usize
     requires { max_encoded_len source_len < 2 ^ 64 }
     ensures { result ≡ max_encoded_len source_len }

@@ -1,4 +1,4 @@
-//! Whole streams: the outcomes of all pieces that end in some bytes, and frames one behind another.
+//! Whole streams: the outcomes of all pieces that end in some bytes, and frames one after another.
 //!
 //! A stream is cut at its zeros. What stands between two of them is a piece, and each nonempty piece is judged by
 //! itself: it is a message, or it breaks off inside a block, or it decodes to more than the buffer holds. So what
@@ -29,7 +29,7 @@ pub enum FrameOutcome {
     TooLong,
 }
 
-/// The outcome of a piece that ended so, over the buffer behind it.
+/// The outcome of a piece that ended so, over the buffer that it left.
 fn outcome_of(alloc: Global, end: PieceEnd, buffer: &[u8]) -> Result<FrameOutcome, AllocError>
     requires { IsWithin (length buffer.now) end }
     ensures { IfOk result (λ outcome. outcome_in outcome ≡ outcome_at end buffer.now) }
@@ -47,37 +47,56 @@ fn outcome_of(alloc: Global, end: PieceEnd, buffer: &[u8]) -> Result<FrameOutcom
 /// one: the decoder goes on from where it stands. So a stream can be given in parts, cut anywhere, and the answers
 /// joined are those of the whole stream. Leading and doubled zeros make no piece.
 ///
-/// `Err` says that memory was wanting for an outcome. The outcomes are lost then, and the decoder is idle, so the
+/// Where the decoder's buffer was written to inside a piece, the bytes of that piece's message, the first that
+/// comes out, aren't determined; its length is, and so is everything after it.
+///
+/// # Errors
+/// `AllocError` where memory for an outcome is refused. The outcomes are lost then, and the decoder is idle, so the
 /// next byte begins a new piece. Memory is taken for messages and for the list of outcomes alone: where no piece
 /// ends, the answer is `Ok`.
 ///
-/// Where the decoder's buffer was written to inside a piece, the bytes of that piece's message, the first that
-/// comes out, aren't determined; its length is, and so is everything behind it.
+/// ```
+/// let mut buffer = [0; 4];
+/// let mut decoder = CobsDecoder::new(&mut buffer);
+/// let found = decode_stream(alloc, &mut decoder, b"\x03hi\0\x03a\0\x06hello\0\x02")?;
+/// assert_eq!(rt; found.len(), 3);
+/// assert_eq!(rt; found[0], FrameOutcome::Message(b"hi".to_vec(alloc)?));
+/// assert_eq!(rt; found[1], FrameOutcome::Broken(1));
+/// assert_eq!(rt; found[2], FrameOutcome::TooLong);
+/// ```
 pub fn decode_stream<D: FrameDecoder>(
     alloc: Global,
     decoder: &mut D,
     bytes: &[u8],
 ) -> Result<Vec<FrameOutcome>, AllocError>
-    // Behind each front p of a piece, the outcomes are those of the stream that p and the bytes make.
-    ensures outcomes { (p : List ℕ) → DecoderAfter (D.bytes decoder.old) (D.phase decoder.old) p → IfOk result
-        (λ found. outcomes_in found.items ≡ stream_outcomes (p ++ bytes.now) (length (D.bytes decoder.old))) }
-    ensures after { (p : List ℕ) → DecoderAfter (D.bytes decoder.old) (D.phase decoder.old) p →
-        OnOk result (DecoderAfter (D.bytes decoder.new) (D.phase decoder.new) (unended (p ++ bytes.now))) }
-    ensures succeeds { (p : List ℕ) → PhaseAfter (length (D.bytes decoder.old)) (D.phase decoder.old) p →
-        stream_outcomes (p ++ bytes.now) (length (D.bytes decoder.old)) ≡ [] → IsOk result }
+    // After each front p of a piece, the outcomes are those of the stream that p and the bytes make.
+    ensures outcomes { (p : List ℕ) → DecoderAfter (D.bytes decoder.old) (D.phase decoder.old) p
+        → IfOk result (λ found. outcomes_in found.items
+        ≡ stream_outcomes (p ++ bytes.now) (length (D.bytes decoder.old))) }
+    ensures after { (p : List ℕ) → DecoderAfter (D.bytes decoder.old) (D.phase decoder.old) p
+        → OnOk result
+        (DecoderAfter (D.bytes decoder.new) (D.phase decoder.new) (unended (p ++ bytes.now))) }
+    ensures succeeds { (p : List ℕ)
+        → PhaseAfter (length (D.bytes decoder.old)) (D.phase decoder.old) p
+        → stream_outcomes (p ++ bytes.now) (length (D.bytes decoder.old)) ≡ [] → IsOk result }
 
     // Where the buffer was written to inside p, the same but for the bytes of the first message.
-    ensures alike { (p : List ℕ) → PhaseAfter (length (D.bytes decoder.old)) (D.phase decoder.old) p → IfOk result
-        (λ found. AreAlikeAtFirst (outcomes_in found.items)
+    ensures alike { (p : List ℕ)
+        → PhaseAfter (length (D.bytes decoder.old)) (D.phase decoder.old) p
+        → IfOk result (λ found. AreAlikeAtFirst (outcomes_in found.items)
         (stream_outcomes (p ++ bytes.now) (length (D.bytes decoder.old)))) }
-    ensures phase_after { (p : List ℕ) → PhaseAfter (length (D.bytes decoder.old)) (D.phase decoder.old) p → OnOk result
-        (PhaseAfter (length (D.bytes decoder.new)) (D.phase decoder.new) (unended (p ++ bytes.now))) }
-    ensures after_zero { (p : List ℕ) → PhaseAfter (length (D.bytes decoder.old)) (D.phase decoder.old) p →
-        Contains bytes.now 0 →
-        OnOk result (DecoderAfter (D.bytes decoder.new) (D.phase decoder.new) (unended (p ++ bytes.now))) }
+    ensures phase_after { (p : List ℕ)
+        → PhaseAfter (length (D.bytes decoder.old)) (D.phase decoder.old) p
+        → OnOk result (PhaseAfter (length (D.bytes decoder.new)) (D.phase decoder.new)
+        (unended (p ++ bytes.now))) }
+    ensures after_zero { (p : List ℕ)
+        → PhaseAfter (length (D.bytes decoder.old)) (D.phase decoder.old) p
+        → Contains bytes.now 0 → OnOk result
+        (DecoderAfter (D.bytes decoder.new) (D.phase decoder.new) (unended (p ++ bytes.now))) }
 
     // In every phase.
-    ensures out_of_memory { OnErr result (DecoderAfter (D.bytes decoder.new) (D.phase decoder.new) []) }
+    ensures out_of_memory { OnErr result
+        (DecoderAfter (D.bytes decoder.new) (D.phase decoder.new) []) }
     ensures len { length (D.bytes decoder.new) ≡ length (D.bytes decoder.old) }
     ensures same_loan { D.loan decoder.new ≡ D.loan decoder.old }
 {
@@ -90,18 +109,30 @@ pub fn decode_stream<D: FrameDecoder>(
     Ok(outcomes)
 }
 
-/// The stream of some messages: the encoded frame of each one and a zero behind it, in order.
+/// The stream of some messages: the encoded frame of each one and a zero after it, in order.
 ///
 /// Whoever feeds these bytes to an idle decoder whose buffer holds each message gets exactly the messages back. For
 /// no messages the stream is empty.
 ///
-/// The caller owes that the sum of [`max_encoding_length`](crate::max_encoding_length) plus 1 over the messages fits
-/// a `usize`, as [`encode_frames_room`] tells. Memory is asked for once, for that many bytes, and `AllocError` says that it was refused.
+/// Precondition: the sum of [`max_encoding_length`](crate::max_encoding_length) plus 1 over the messages fits a
+/// `usize`, as [`encode_frames_room`] tells. Memory is asked for once, for that many bytes.
+///
+/// # Errors
+/// `AllocError` where that memory is refused.
+///
+/// ```
+/// let messages = [b"hi".to_vec(alloc)?, Vec::new(alloc)];
+/// if encode_frames_room(&messages).is_some() {
+///     let stream = encode_frames(alloc, &messages)?;
+///     assert_eq!(rt; stream.as_slice(), b"\x03hi\0\x01\0".as_slice());
+/// }
+/// ```
 pub fn encode_frames(alloc: Global, messages: &[Vec<u8>]) -> Result<Vec<u8>, AllocError>
     requires { room_for_frames (messages_in messages.now) < 2 ^ 64 }
     ensures frames { IfOk result (λ bytes. AreFrames (messages_in messages.now) bytes.items) }
     ensures comes_back { (n : ℕ) → All (λ message. length message ≤ n) (messages_in messages.now) →
-        IfOk result (λ bytes. stream_outcomes bytes.items n ≡ map Message (messages_in messages.now)) }
+        IfOk result (λ bytes. stream_outcomes bytes.items n
+        ≡ map Message (messages_in messages.now)) }
 {
     let mut frames = vec![in alloc; 0; room_for(messages)]?;
     let len = write_frames(messages, &mut frames);
@@ -109,11 +140,16 @@ pub fn encode_frames(alloc: Global, messages: &[Vec<u8>]) -> Result<Vec<u8>, All
     Ok(frames)
 }
 
-/// How many bytes have room for the frames of the messages and a zero behind each: the sum of
+/// How many bytes have room for the frames of the messages and a zero after each: the sum of
 /// [`max_encoding_length`](crate::max_encoding_length) plus 1 over the messages. `None` where that is no `usize`.
 ///
 /// This is the test for what [`encode_frames`] asks of its caller, and how many bytes that call then asks memory for.
 /// No memory is taken here.
+///
+/// ```
+/// let messages = [b"hi".to_vec(alloc)?, Vec::new(alloc)];
+/// assert_eq!(rt; encode_frames_room(&messages), Some(6));
+/// ```
 pub fn encode_frames_room(messages: &[Vec<u8>]) -> Option<usize>
     ensures fits { IsSome result ↔ (room_for_frames (messages_in messages.now) < 2 ^ 64) }
     ensures room { IfSome result (λ room. room ≡ room_for_frames (messages_in messages.now)) }

@@ -107,7 +107,8 @@ pub(crate) fn first_zero_of_few(bytes: &[u8]) -> usize
 pub(crate) fn copy_32(source: &[u8], read: usize, dest: &mut [u8], at: usize) -> u64
     requires source { read + 32 ≤ length source.now }
     requires room { at + 32 ≤ length dest.old }
-    ensures copied { dest.new ≡ take at dest.old ++ (take 32 (drop read source.now) ++ drop (at + 32) dest.old) }
+    ensures copied { dest.new ≡ take at dest.old
+        ++ (take 32 (drop read source.now) ++ drop (at + 32) dest.old) }
     ensures zeros { result ≡ zero_mask (take 32 (drop read source.now)) }
 {
     let bytes = u8x32::from_slice(&source[read..]);
@@ -120,7 +121,8 @@ pub(crate) fn copy_32(source: &[u8], read: usize, dest: &mut [u8], at: usize) ->
 fn copy_16(source: &[u8], read: usize, dest: &mut [u8], at: usize) -> u64
     requires source { read + 16 ≤ length source.now }
     requires room { at + 16 ≤ length dest.old }
-    ensures copied { dest.new ≡ take at dest.old ++ (take 16 (drop read source.now) ++ drop (at + 16) dest.old) }
+    ensures copied { dest.new ≡ take at dest.old
+        ++ (take 16 (drop read source.now) ++ drop (at + 16) dest.old) }
     ensures zeros { result ≡ zero_mask (take 16 (drop read source.now)) }
 {
     let bytes = u8x16::from_slice(&source[read..]);
@@ -133,7 +135,8 @@ fn copy_16(source: &[u8], read: usize, dest: &mut [u8], at: usize) -> u64
 fn copy_8(source: &[u8], read: usize, dest: &mut [u8], at: usize) -> u64
     requires source { read + 8 ≤ length source.now }
     requires room { at + 8 ≤ length dest.old }
-    ensures copied { dest.new ≡ take at dest.old ++ (take 8 (drop read source.now) ++ drop (at + 8) dest.old) }
+    ensures copied { dest.new ≡ take at dest.old
+        ++ (take 8 (drop read source.now) ++ drop (at + 8) dest.old) }
     ensures zeros { result ≡ zero_mask (take 8 (drop read source.now)) }
 {
     let bytes = u8x8::from_slice(&source[read..]);
@@ -146,7 +149,8 @@ fn copy_8(source: &[u8], read: usize, dest: &mut [u8], at: usize) -> u64
 fn copy_4(source: &[u8], read: usize, dest: &mut [u8], at: usize) -> u64
     requires source { read + 4 ≤ length source.now }
     requires room { at + 4 ≤ length dest.old }
-    ensures copied { dest.new ≡ take at dest.old ++ (take 4 (drop read source.now) ++ drop (at + 4) dest.old) }
+    ensures copied { dest.new ≡ take at dest.old
+        ++ (take 4 (drop read source.now) ++ drop (at + 4) dest.old) }
     ensures zeros { result ≡ zero_mask (take 4 (drop read source.now)) }
 {
     let bytes = u8x4::from_slice(&source[read..]);
@@ -162,7 +166,8 @@ fn copy_few(source: &[u8], read: usize, len: usize, dest: &mut [u8], at: usize) 
     requires some { 0 < len }
     requires few { len ≤ 3 }
     requires room { at + len ≤ length dest.old }
-    ensures copied { dest.new ≡ take at dest.old ++ (take len (drop read source.now) ++ drop (at + len) dest.old) }
+    ensures copied { dest.new ≡ take at dest.old
+        ++ (take len (drop read source.now) ++ drop (at + len) dest.old) }
     ensures zeros { result ≡ zero_mask (take len (drop read source.now)) }
 {
     let half = len / 2;
@@ -184,7 +189,8 @@ pub(crate) fn copy_window(source: &[u8], read: usize, len: usize, dest: &mut [u8
     requires some { 0 < len }
     requires few { len ≤ 32 }
     requires room { at + len ≤ length dest.old }
-    ensures copied { dest.new ≡ take at dest.old ++ (take len (drop read source.now) ++ drop (at + len) dest.old) }
+    ensures copied { dest.new ≡ take at dest.old
+        ++ (take len (drop read source.now) ++ drop (at + len) dest.old) }
     ensures zeros { result ≡ zero_mask (take len (drop read source.now)) }
 {
     if len == WINDOW {
@@ -213,7 +219,8 @@ pub(crate) fn copy_nonzero_32(source: &[u8], read: usize, dest: &mut [u8], at: u
     requires room { at + 32 ≤ length dest.old }
     ensures nonzero { IsTrue result ↔ HasNoZero (take 32 (drop read source.now)) }
     ensures copied { IsTrue result
-        → dest.new ≡ take at dest.old ++ (take 32 (drop read source.now) ++ drop (at + 32) dest.old) }
+        → dest.new ≡ take at dest.old
+        ++ (take 32 (drop read source.now) ++ drop (at + 32) dest.old) }
     ensures kept { result ≡ false → dest.new ≡ dest.old }
 {
     let bytes = u8x32::from_slice(&source[read..]);
@@ -240,7 +247,8 @@ pub(crate) fn copy_nonzero_32_to_64(
     requires room { at + len ≤ length dest.old }
     ensures nonzero { IsTrue result → HasNoZero (take len (drop read source.now)) }
     ensures copied { IsTrue result
-        → dest.new ≡ take at dest.old ++ (take len (drop read source.now) ++ drop (at + len) dest.old) }
+        → dest.new ≡ take at dest.old
+        ++ (take len (drop read source.now) ++ drop (at + len) dest.old) }
     ensures kept { result ≡ false → dest.new ≡ dest.old }
 {
     let front = u8x32::from_slice(&source[read..]);
@@ -264,7 +272,8 @@ fn copy_nonzero_16_to_32(source: &[u8], read: usize, len: usize, dest: &mut [u8]
     requires room { at + len ≤ length dest.old }
     ensures nonzero { IsTrue result → HasNoZero (take len (drop read source.now)) }
     ensures copied { IsTrue result
-        → dest.new ≡ take at dest.old ++ (take len (drop read source.now) ++ drop (at + len) dest.old) }
+        → dest.new ≡ take at dest.old
+        ++ (take len (drop read source.now) ++ drop (at + len) dest.old) }
     ensures kept { result ≡ false → dest.new ≡ dest.old }
 {
     let front = u8x16::from_slice(&source[read..]);
@@ -288,7 +297,8 @@ fn copy_nonzero_8_to_16(source: &[u8], read: usize, len: usize, dest: &mut [u8],
     requires room { at + len ≤ length dest.old }
     ensures nonzero { IsTrue result → HasNoZero (take len (drop read source.now)) }
     ensures copied { IsTrue result
-        → dest.new ≡ take at dest.old ++ (take len (drop read source.now) ++ drop (at + len) dest.old) }
+        → dest.new ≡ take at dest.old
+        ++ (take len (drop read source.now) ++ drop (at + len) dest.old) }
     ensures kept { result ≡ false → dest.new ≡ dest.old }
 {
     let front = u8x8::from_slice(&source[read..]);
@@ -312,7 +322,8 @@ fn copy_nonzero_4_to_8(source: &[u8], read: usize, len: usize, dest: &mut [u8], 
     requires room { at + len ≤ length dest.old }
     ensures nonzero { IsTrue result → HasNoZero (take len (drop read source.now)) }
     ensures copied { IsTrue result
-        → dest.new ≡ take at dest.old ++ (take len (drop read source.now) ++ drop (at + len) dest.old) }
+        → dest.new ≡ take at dest.old
+        ++ (take len (drop read source.now) ++ drop (at + len) dest.old) }
     ensures kept { result ≡ false → dest.new ≡ dest.old }
 {
     let front = u8x4::from_slice(&source[read..]);
@@ -337,7 +348,8 @@ fn copy_nonzero_few(source: &[u8], read: usize, len: usize, dest: &mut [u8], at:
     requires room { at + len ≤ length dest.old }
     ensures nonzero { IsTrue result → HasNoZero (take len (drop read source.now)) }
     ensures copied { IsTrue result
-        → dest.new ≡ take at dest.old ++ (take len (drop read source.now) ++ drop (at + len) dest.old) }
+        → dest.new ≡ take at dest.old
+        ++ (take len (drop read source.now) ++ drop (at + len) dest.old) }
     ensures kept { result ≡ false → dest.new ≡ dest.old }
 {
     let half = len / 2;
@@ -373,7 +385,8 @@ pub(crate) fn copy_nonzero_short(
     requires room { at + len ≤ length dest.old }
     ensures nonzero { IsTrue result → HasNoZero (take len (drop read source.now)) }
     ensures copied { IsTrue result
-        → dest.new ≡ take at dest.old ++ (take len (drop read source.now) ++ drop (at + len) dest.old) }
+        → dest.new ≡ take at dest.old
+        ++ (take len (drop read source.now) ++ drop (at + len) dest.old) }
     ensures kept { result ≡ false → dest.new ≡ dest.old }
 {
     if len >= 32 {
@@ -404,7 +417,8 @@ pub(crate) fn copy_nonzero(
     requires room { at + len ≤ length dest.old }
     ensures within { result ≤ len }
     ensures nonzero { HasNoZero (take result (drop read source.now)) }
-    ensures copied { dest.new ≡ take at dest.old ++ (take result (drop read source.now) ++ drop (at + result) dest.old) }
+    ensures copied { dest.new ≡ take at dest.old
+        ++ (take result (drop read source.now) ++ drop (at + result) dest.old) }
 {
     let mut done = 0;
     'by_window: while done < len {

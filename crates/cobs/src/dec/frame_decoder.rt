@@ -34,7 +34,18 @@ pub(crate) fn piece_end(answer: Result<Option<usize>, DecodeError>) -> Option<Pi
 
 /// A decoder that is fed one byte of a stream after another, and owns or borrows the buffer of its output.
 ///
-/// Contracts see it as the bytes of its buffer and the phase in which it stands.
+/// Contracts see it as the bytes of its buffer and the phase in which it stands. (The trait is this library's own.)
+///
+/// ```
+/// let mut decoder = CobsDecoderHeapless::<4>::new();
+/// let stream = [3, 7, 0, 2, 9, 0];
+/// assert_eq!(rt; decoder.feed_piece(&stream), Some((PieceEnd::Broken(1), 3)));
+/// assert_eq!(rt;
+///     decoder.feed_piece(&stream[3..]),
+///     Some((PieceEnd::Message(1), 3))
+/// );
+/// assert_eq!(rt; decoder.buffer(), [9, 0, 0, 0].as_slice());
+/// ```
 pub trait FrameDecoder {
     /// The bytes of its buffer.
     ghost bytes: { Self → List ℕ };
@@ -48,16 +59,20 @@ pub trait FrameDecoder {
     /// Takes the next byte of the stream.
     ///
     /// `Ok(None)` says that no piece ended, `Ok(Some(n))` that one did and its message is the first `n` bytes of
-    /// the buffer. `InvalidFrame` says that the piece broke off inside a block, and `TargetBufTooSmall` that its
-    /// output is longer than the buffer; that is then the answer to every byte through the sentinel.
+    /// the buffer.
+    ///
+    /// # Errors
+    /// `InvalidFrame` where the piece broke off inside a block, and `TargetBufTooSmall` where its output is longer than
+    /// the buffer; that is then the answer to every byte through the sentinel.
     fn feed_byte(&mut self, byte: u8) -> Result<Option<usize>, DecodeError>
-        ensures feeds { Feeds (bytes self.old) (phase self.old) byte result (bytes self.new) (phase self.new) }
+        ensures feeds { Feeds (bytes self.old) (phase self.old) byte result
+            (bytes self.new) (phase self.new) }
         ensures same_loan { loan self.new ≡ loan self.old };
 
     /// Takes bytes of the stream through the first zero that ends a piece.
     ///
     /// `None` says that no piece ended in these bytes, and that all were taken. `Some((end, count))` says that a piece
-    /// ended with the byte at index `count - 1`, and how; the bytes behind it were not looked at. A piece that is too
+    /// ended with the byte at index `count - 1`, and how; the bytes after it were not looked at. A piece that is too
     /// long for the buffer ends at its zero, as every other: so no byte has to be given one by one.
     ///
     /// An implementation has no need to write this method, which feeds one byte after another; the decoders of this

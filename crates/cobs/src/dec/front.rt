@@ -1,5 +1,5 @@
-//! The front of a source, decoded in one pass: each step looks for a zero in the bytes that it has loaded before it stores
-//! them.
+//! The front of a source, decoded in one pass: each step looks for a zero in the bytes that it has loaded before it
+//! stores them.
 ghost use Rattle.std.specs.Prelude.{◌≡◌, ◌<◌, ◌≤◌, length, take, slice_index};
 ghost use Rattle.cobs.specs.Grammar.{HasNoZero};
 ghost use Rattle.cobs.specs.Piece.{Decoded};
@@ -10,7 +10,7 @@ use crate::window::{
     WINDOW, copy_nonzero, copy_nonzero_32, copy_nonzero_32_to_64, is_ones, write_zeros,
 };
 
-/// No step reads or writes more bytes than a full block and the code behind it.
+/// No step reads or writes more bytes than a full block and the code after it.
 const LONGEST_STEP: usize = FULL_CODE + 1;
 
 /// So short a source is searched and copied as a whole.
@@ -63,7 +63,7 @@ pub(crate) fn decode_window(source: &[u8], dest: &mut [u8]) -> usize
     }
 }
 
-/// Decodes the full block at the front of a source, if neither it nor the code behind it has a zero.
+/// Decodes the full block at the front of a source, if neither it nor the code after it has a zero.
 #[inline(always)]
 fn decode_full(source: &[u8], dest: &mut [u8]) -> Reached
     requires begun { 0 < length (head source.now) }
@@ -87,7 +87,7 @@ fn decode_full(source: &[u8], dest: &mut [u8]) -> Reached
     }
 }
 
-/// Decodes the block of 32 bytes at the front of a source, if neither it nor the code behind it has a zero; answers how
+/// Decodes the block of 32 bytes at the front of a source, if neither it nor the code after it has a zero; answers how
 /// many bytes it has read and written.
 #[inline(always)]
 fn decode_33(source: &[u8], dest: &mut [u8]) -> usize
@@ -106,7 +106,7 @@ fn decode_33(source: &[u8], dest: &mut [u8]) -> usize
 }
 
 /// Decodes the block at the front of a source, one with 32 bytes or more that isn't full, if neither it nor the code
-/// behind it has a zero; answers how many bytes it has read and written.
+/// after it has a zero; answers how many bytes it has read and written.
 #[inline(always)]
 fn decode_long(source: &[u8], dest: &mut [u8]) -> usize
     requires begun { 0 < length (head source.now) }

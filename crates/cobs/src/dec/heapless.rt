@@ -16,6 +16,14 @@ use arrayvec::ArrayVec;
 /// Decodes a stream of frames, each ended by a zero, into a buffer of `N` bytes that lies in the value itself.
 ///
 /// It answers as `CobsDecoder` does, and takes no memory.
+///
+/// ```
+/// let mut decoder = CobsDecoderHeapless::<2>::new();
+/// assert_eq!(rt; decoder.feed(2), Ok(None));
+/// assert_eq!(rt; decoder.feed(7), Ok(None));
+/// assert_eq!(rt; decoder.feed(0), Ok(Some(1)));
+/// assert_eq!(rt; decoder.dest(), [7, 0].as_slice());
+/// ```
 #[derive(Debug, Drop)]
 pub struct CobsDecoderHeapless<const N: usize> {
     dest: ArrayVec<u8, N>,
@@ -37,7 +45,8 @@ impl<const N: usize> CobsDecoderHeapless<N> {
     /// An idle decoder over the vector, which keeps what stands in it and is filled with zeros to its capacity,
     /// `N` bytes.
     pub fn new_with_vec(vec: ArrayVec<u8, N>) -> Self
-        ensures buffer { heapless_buffer result ≡ vec.entry.items ++ replicate (N - array_vec_len vec.entry) 0 }
+        ensures buffer { heapless_buffer result
+            ≡ vec.entry.items ++ replicate (N - array_vec_len vec.entry) 0 }
         ensures idle { DecoderAfter (heapless_buffer result) (heapless_phase result) [] }
     {
         let mut dest = vec;
@@ -70,17 +79,17 @@ impl<const N: usize> CobsDecoderHeapless<N> {
     ///
     /// `Ok(None)`: all bytes were taken, and no piece has ended in them. `Ok(Some(report))`: a whole frame has ended;
     /// `frame_size` is the length of its message, which stands at the front of the buffer, and `parsed_size` counts
-    /// the bytes that were taken, the zero behind the frame included. The others are not looked at: push them next.
+    /// the bytes that were taken, the zero after the frame included. The others are not looked at: push them next.
     ///
     /// # Errors
     /// A `PushError` has the error of `feed` and how many bytes were taken, the one that raised it included.
-    /// Pushing the bytes behind these goes on with the stream: a piece whose zero raised the error is over, and
+    /// Pushing the bytes after these goes on with the stream: a piece whose zero raised the error is over, and
     /// while a piece is too long for the buffer, each push of its bytes takes one, through its zero.
     pub fn push(&mut self, bytes: &[u8]) -> Result<Option<DecodeReport>, PushError>
-        ensures pushes { PushesBytes (heapless_buffer self.old) (heapless_phase self.old) bytes.now result
-            (heapless_buffer self.new) (heapless_phase self.new) }
-        ensures reads { (f m : List ℕ) → heapless_phase self.old ≡ Idle → bytes.now ≡ f ++ 0 ∷ [] → IsPiece f
-            → (PushesMessage result (heapless_buffer self.new) m
+        ensures pushes { PushesBytes (heapless_buffer self.old) (heapless_phase self.old)
+            bytes.now result (heapless_buffer self.new) (heapless_phase self.new) }
+        ensures reads { (f m : List ℕ) → heapless_phase self.old ≡ Idle → bytes.now ≡ f ++ 0 ∷ []
+            → IsPiece f → (PushesMessage result (heapless_buffer self.new) m
             ↔ (Reads f m × (length m ≤ length (heapless_buffer self.old)))) }
     {
         self.inner.push(self.dest.as_mut_slice(), bytes)
@@ -158,7 +167,8 @@ impl<const N: usize> WriteBuffer for CobsDecoderHeapless<N> {
         CobsDecoderHeapless::dest_mut(self)
     }
 
-    ghost bytes_are_written = { λ decoder written same. take_at written (drop (length written) decoder.dest.items) (length decoder.dest.items) same };
+    ghost bytes_are_written = { λ decoder written same. take_at written
+        (drop (length written) decoder.dest.items) (length decoder.dest.items) same };
 
     ghost phase_stays = { λ _ _. refl };
 

@@ -13,18 +13,20 @@ use crate::dec::report::{DecodeError, DecodeReport};
 use crate::enc::{FULL_CODE, xor_bytes};
 use crate::window::{WINDOW, is_ones, write_zeros};
 
-/// How many bytes the first whole blocks of a piece have, through the first full one, and whether the last of them is full.
-/// 0 bytes: the first block is broken.
+/// How many bytes the first whole blocks of a piece have, through the first full one, and whether the last of them is
+/// full. 0 bytes: the first block is broken.
 ///
-/// Rows of empty blocks go by 32 at a time, and codes of one value in a row by a loop of their own, which needn't wait for
-/// each.
+/// Rows of empty blocks go by 32 at a time, and codes of one value in a row by a loop of their own, which needn't
+/// wait for each.
 #[inline(always)]
 fn flat_front(piece: &[u8]) -> (usize, bool)
     requires { HasNoZero piece.now }
     ensures within { result.0 ≤ length piece.now }
     ensures flat { 0 < result.0 → IsFlat (take result.0 piece.now) }
-    ensures full { 0 < result.0 → (IsTrue result.1 ↔ (code_of (last_part (take result.0 piece.now)) ≡ 255)) }
-    ensures broken { result.0 ≡ 0 → 0 < length piece.now → length piece.now < slice_index piece.now 0 }
+    ensures full { 0 < result.0
+        → (IsTrue result.1 ↔ (code_of (last_part (take result.0 piece.now)) ≡ 255)) }
+    ensures broken { result.0 ≡ 0 → 0 < length piece.now
+        → length piece.now < slice_index piece.now 0 }
 {
     let mut read = 0;
     if piece.is_empty() {
@@ -54,8 +56,8 @@ fn flat_front(piece: &[u8]) -> (usize, bool)
     }
 }
 
-/// Decodes `len` bytes of the buffer, which begin at `from`, to its front, where they are whole blocks of which none but
-/// the last is full: one move of all these bytes, and a zero at each code. Each byte behind what they give stays.
+/// Decodes `len` bytes of the buffer, which begin at `from`, to its front, where they are whole blocks of which none
+/// but the last is full: one move of all these bytes, and a zero at each code. Each byte after what they give stays.
 #[inline(always)]
 fn decode_flat(buffer: &mut [u8], from: usize, len: usize)
     requires within { from + len ≤ length buffer.old }
@@ -116,8 +118,8 @@ fn decode_blocks(buffer: &mut [u8], end: usize) -> Result<usize, DecodeError>
     Ok(written)
 }
 
-/// Decodes the piece in the first `end` bytes of the buffer, and answers how many bytes it gives. Most frames have no full
-/// block before their last, and are one move.
+/// Decodes the piece in the first `end` bytes of the buffer, and answers how many bytes it gives. Most frames have no
+/// full block before their last, and are one move.
 fn decode_front(buffer: &mut [u8], end: usize) -> Result<usize, DecodeError>
     requires within { end ≤ length buffer.old }
     requires nonzero { HasNoZero (take end buffer.old) }
@@ -174,11 +176,20 @@ fn decode_head_size(buf: &mut [u8]) -> Result<usize, DecodeError>
 /// - `InvalidFrame` where the frame breaks off inside a block: the buffer begins with what the whole blocks before it
 ///   gave, `decoded_bytes` says how many bytes these are, and every other byte is as it was.
 ///
-/// That the bytes behind the decoded ones are kept, refused or not, is a choice of this library.
+/// That the bytes after the decoded ones are kept, refused or not, is a choice of this library.
+///
+/// ```
+/// let mut buf = [3, 10, 11, 2, 12, 0];
+/// let report = decode_in_place_report(&mut buf)?;
+/// assert_eq!(rt; report.parsed_size(), 5);
+/// assert_eq!(rt; report.frame_size(), 4);
+/// assert_eq!(rt; buf, [10, 11, 0, 12, 12, 0]);
+/// ```
 pub fn decode_in_place_report(buf: &mut [u8]) -> Result<DecodeReport, DecodeError>
     ensures answer { result ≡ in_place_report buf.old }
     ensures buffer { buf.new ≡ in_place buf.old }
-    ensures reads { IsPiece buf.old → (m : List ℕ) → (ReportsMessage result buf.new m ↔ Reads buf.old m) }
+    ensures reads { IsPiece buf.old → (m : List ℕ)
+        → (ReportsMessage result buf.new m ↔ Reads buf.old m) }
     ensures room { IfErr result (λ error. error ≢ TargetBufTooSmall) }
 {
     bytes_known(buf);
@@ -188,12 +199,25 @@ pub fn decode_in_place_report(buf: &mut [u8]) -> Result<DecodeReport, DecodeErro
 /// Decodes the frame at the front of the buffer in its own place, up to the first zero or the buffer's end, and answers
 /// the message's length.
 ///
-/// The message then stands at the front of the buffer, and every byte behind it is as it was. Unlike `decode`, this
-/// reads a leading zero as an empty message. Errors are those of `decode_in_place_report`.
+/// The message then stands at the front of the buffer, and every byte after it is as it was. Unlike `decode`, this
+/// reads a leading zero as an empty message.
+///
+/// # Errors
+/// `EmptyFrame` and `InvalidFrame`, as of [`decode_in_place_report`]. `TargetBufTooSmall` never comes.
+///
+/// ```
+/// let mut buff = [3, 10, 11, 2, 12, 0];
+/// assert_eq!(rt; decode_in_place(&mut buff), Ok(4));
+/// assert_eq!(rt; buff, [10, 11, 0, 12, 12, 0]);
+///
+/// let broken = DecodeError::InvalidFrame { decoded_bytes: 2 };
+/// assert_eq!(rt; decode_in_place(&mut [2, 1, 3, 7]), Err(broken));
+/// ```
 pub fn decode_in_place(buff: &mut [u8]) -> Result<usize, DecodeError>
     ensures answer { result ≡ in_place_answer buff.old }
     ensures buffer { buff.new ≡ in_place buff.old }
-    ensures reads { IsPiece buff.old → (m : List ℕ) → (AnswersMessage result buff.new m ↔ Reads buff.old m) }
+    ensures reads { IsPiece buff.old → (m : List ℕ)
+        → (AnswersMessage result buff.new m ↔ Reads buff.old m) }
     ensures room { IfErr result (λ error. error ≢ TargetBufTooSmall) }
 {
     bytes_known(buff);
@@ -202,9 +226,18 @@ pub fn decode_in_place(buff: &mut [u8]) -> Result<usize, DecodeError>
 
 /// Decodes the frame at the front of the buffer in its own place, where the sentinel is another byte than 0.
 ///
-/// First every byte of the buffer is changed by exclusive or with the sentinel, those behind the frame too; then it is
-/// decoded as by `decode_in_place`, whose answer and errors these are. So the frame ends at the first sentinel or with
-/// the buffer, and a leading sentinel is read as an empty message.
+/// First every byte of the buffer is changed by exclusive or with the sentinel, those after the frame too; then it is
+/// decoded as by [`decode_in_place`]. So the frame ends at the first sentinel or with the buffer, and a leading
+/// sentinel is read as an empty message. Frames for another sentinel than 0 are Cheshire and Baker's.
+///
+/// # Errors
+/// `EmptyFrame` and `InvalidFrame`, as of [`decode_in_place_report`]. `TargetBufTooSmall` never comes.
+///
+/// ```
+/// let mut buff = [252, 245, 244, 253, 243];
+/// assert_eq!(rt; decode_in_place_with_sentinel(&mut buff, 255), Ok(4));
+/// assert_eq!(rt; buff, [10, 11, 0, 12, 12]);
+/// ```
 pub fn decode_in_place_with_sentinel(buff: &mut [u8], sentinel: u8) -> Result<usize, DecodeError>
     ensures answer { result ≡ in_place_answer (xor_each sentinel buff.old) }
     ensures buffer { buff.new ≡ in_place (xor_each sentinel buff.old) }

@@ -21,11 +21,22 @@ pub enum FrameKind {
 
 /// Whether the bytes are a frame, and whether they are the one that encoders give for its message.
 ///
-/// The bytes are taken without sentinels around them. A frame is longer than its message's encoded one exactly where its
-/// last two blocks are a full one and the block that has no bytes; decoders read the two alike. No memory is taken.
+/// The bytes are taken without sentinels around them. A frame is longer than its message's encoded one exactly where
+/// its last two blocks are a full one and the block that has no bytes; decoders read the two alike. No memory is
+/// taken.
 ///
 /// A frame is defined by its blocks, after Cheshire and Baker; which of two frames is the canonical one is said by
 /// their encoder, which gives the shorter.
+///
+/// ```
+/// assert_eq!(rt; frame_kind(b"\x06hello"), FrameKind::Canonical);
+/// assert_eq!(rt; frame_kind(b"\x07hello"), FrameKind::NotAFrame);
+///
+/// let mut longer = [1; 256];
+/// longer[0] = 255;
+/// assert_eq!(rt; frame_kind(&longer), FrameKind::Longer);
+/// assert_eq!(rt; frame_kind(&longer[..255]), FrameKind::Canonical);
+/// ```
 pub fn frame_kind(bytes: &[u8]) -> FrameKind
     ensures not_a_frame { (result ≡ FrameKind.NotAFrame) ↔ ¬ IsFrame bytes.now }
     ensures canonical { (result ≡ FrameKind.Canonical) ↔ IsCanonical bytes.now }

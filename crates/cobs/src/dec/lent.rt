@@ -17,7 +17,17 @@ use crate::dec::write_buffer::WriteBuffer;
 /// The decoder takes the stream byte by byte, in calls as they come. Where a frame ends, its message stands at the
 /// front of the slice, until the next frame begins. Each piece of the stream, that is what stands between two
 /// zeros, is judged by its own bytes and the slice's length alone: after every zero the decoder is idle, so a
-/// broken frame costs no other.
+/// broken frame costs no other. That a zero ends each frame is Cheshire and Baker's.
+///
+/// ```
+/// let mut buffer = [0; 8];
+/// let mut decoder = CobsDecoder::new(&mut buffer);
+/// assert_eq!(rt; decoder.push(b"\x06hel"), Ok(None));
+/// let report = decoder.push(b"lo\0\x03hi\0")?;
+/// let sizes = report.map(|report| (report.parsed_size(), report.frame_size()));
+/// assert_eq!(rt; sizes, Some((3, 5)));
+/// assert!(rt; decoder.dest().starts_with(b"hello"));
+/// ```
 #[derive(Debug, Drop)]
 pub struct CobsDecoder<'a> {
     dest: &'a mut [u8],
@@ -40,7 +50,7 @@ impl<'a> CobsDecoder<'a> {
     /// Takes the next byte of the stream.
     ///
     /// `Ok(None)`: no piece has ended, and the output of this piece so far fits the slice; the slice begins with
-    /// it. `Ok(Some(n))`: the byte was the zero behind a whole frame, and the message is the slice's first `n`
+    /// it. `Ok(Some(n))`: the byte was the zero after a whole frame, and the message is the slice's first `n`
     /// bytes. All other bytes of the slice are as they were.
     ///
     /// # Errors
@@ -48,6 +58,15 @@ impl<'a> CobsDecoder<'a> {
     /// at the front of the slice. `TargetBufTooSmall`: the output of the piece is longer than the slice, which
     /// holds its first bytes; that is the answer to each byte from the one that finds no room through the zero.
     /// After every zero the decoder is idle. (What is answered after an overflow is a choice of this library.)
+    ///
+    /// ```
+    /// let mut buffer = [0; 2];
+    /// let mut decoder = CobsDecoder::new(&mut buffer);
+    /// assert_eq!(rt; decoder.feed(2), Ok(None));
+    /// assert_eq!(rt; decoder.feed(7), Ok(None));
+    /// assert_eq!(rt; decoder.feed(0), Ok(Some(1)));
+    /// assert_eq!(rt; decoder.dest(), [7, 0].as_slice());
+    /// ```
     pub fn feed(&mut self, byte: u8) -> Result<Option<usize>, DecodeError>
         ensures feeds { Feeds (lent_buffer self.old) (lent_phase self.old) byte result
             (lent_buffer self.new) (lent_phase self.new) }
@@ -60,17 +79,17 @@ impl<'a> CobsDecoder<'a> {
     ///
     /// `Ok(None)`: all bytes were taken, and no piece has ended in them. `Ok(Some(report))`: a whole frame has ended;
     /// `frame_size` is the length of its message, which stands at the front of the slice, and `parsed_size` counts
-    /// the bytes that were taken, the zero behind the frame included. The others are not looked at: push them next.
+    /// the bytes that were taken, the zero after the frame included. The others are not looked at: push them next.
     ///
     /// # Errors
     /// A `PushError` has the error of `feed` and how many bytes were taken, the one that raised it included.
-    /// Pushing the bytes behind these goes on with the stream: a piece whose zero raised the error is over, and
+    /// Pushing the bytes after these goes on with the stream: a piece whose zero raised the error is over, and
     /// while a piece is too long for the slice, each push of its bytes takes one, through its zero.
     pub fn push(&mut self, bytes: &[u8]) -> Result<Option<DecodeReport>, PushError>
         ensures pushes { PushesBytes (lent_buffer self.old) (lent_phase self.old) bytes.now result
             (lent_buffer self.new) (lent_phase self.new) }
-        ensures reads { (f m : List ℕ) → lent_phase self.old ≡ Idle → bytes.now ≡ f ++ 0 ∷ [] → IsPiece f
-            → (PushesMessage result (lent_buffer self.new) m
+        ensures reads { (f m : List ℕ) → lent_phase self.old ≡ Idle → bytes.now ≡ f ++ 0 ∷ []
+            → IsPiece f → (PushesMessage result (lent_buffer self.new) m
             ↔ (Reads f m × (length m ≤ length (lent_buffer self.old)))) }
         ensures same_slice { lent_slice self.new ≡ lent_slice self.old }
     {
@@ -88,7 +107,7 @@ impl<'a> CobsDecoder<'a> {
     ///
     /// What is written inside a piece changes no answer that this piece gets: only the bytes of its message are
     /// then not known. A proof about its caller learns what stands in the slice while it is lent, and not what the
-    /// decoder is behind the write: [`write_dest`](crate::WriteBuffer::write_dest) tells that too.
+    /// decoder is after the write: [`write_dest`](crate::WriteBuffer::write_dest) tells that too.
     pub fn dest_mut(&mut self) -> &mut [u8]
         ensures* writes_back { sem 𝓛 (LendsSlice self.entry result) }
         ensures value { result.now ≡ lent_buffer self.old }

@@ -16,6 +16,14 @@ use std::alloc::{AllocError, Global};
 /// Decodes a stream of frames, each ended by a zero, into a buffer of its own.
 ///
 /// It answers as `CobsDecoder` does. Its memory is taken once, by `new`, and its buffer keeps its length.
+///
+/// ```
+/// let mut decoder = CobsDecoderOwned::new(alloc, 8)?;
+/// assert_eq!(rt; decoder.feed(2), Ok(None));
+/// assert_eq!(rt; decoder.feed(7), Ok(None));
+/// assert_eq!(rt; decoder.feed(0), Ok(Some(1)));
+/// assert!(rt; decoder.dest().starts_with(&[7]));
+/// ```
 #[derive(Debug, Drop)]
 pub struct CobsDecoderOwned {
     dest: Vec<u8>,
@@ -29,7 +37,8 @@ impl CobsDecoderOwned {
     /// `AllocError`: no memory was found for the buffer.
     pub fn new(alloc: Global, dest_buf_size: usize) -> Result<Self, AllocError>
         ensures buffer { IfOk result (λ decoder. owned_buffer decoder ≡ replicate dest_buf_size 0) }
-        ensures idle { IfOk result (λ decoder. DecoderAfter (owned_buffer decoder) (owned_phase decoder) []) }
+        ensures idle { IfOk result (λ decoder. DecoderAfter (owned_buffer decoder)
+            (owned_phase decoder) []) }
     {
         Ok(CobsDecoderOwned {
             dest: vec![in alloc; 0; dest_buf_size]?,
@@ -57,17 +66,17 @@ impl CobsDecoderOwned {
     ///
     /// `Ok(None)`: all bytes were taken, and no piece has ended in them. `Ok(Some(report))`: a whole frame has ended;
     /// `frame_size` is the length of its message, which stands at the front of the buffer, and `parsed_size` counts
-    /// the bytes that were taken, the zero behind the frame included. The others are not looked at: push them next.
+    /// the bytes that were taken, the zero after the frame included. The others are not looked at: push them next.
     ///
     /// # Errors
     /// A `PushError` has the error of `feed` and how many bytes were taken, the one that raised it included.
-    /// Pushing the bytes behind these goes on with the stream: a piece whose zero raised the error is over, and
+    /// Pushing the bytes after these goes on with the stream: a piece whose zero raised the error is over, and
     /// while a piece is too long for the buffer, each push of its bytes takes one, through its zero.
     pub fn push(&mut self, bytes: &[u8]) -> Result<Option<DecodeReport>, PushError>
         ensures pushes { PushesBytes (owned_buffer self.old) (owned_phase self.old) bytes.now result
             (owned_buffer self.new) (owned_phase self.new) }
-        ensures reads { (f m : List ℕ) → owned_phase self.old ≡ Idle → bytes.now ≡ f ++ 0 ∷ [] → IsPiece f
-            → (PushesMessage result (owned_buffer self.new) m
+        ensures reads { (f m : List ℕ) → owned_phase self.old ≡ Idle → bytes.now ≡ f ++ 0 ∷ []
+            → IsPiece f → (PushesMessage result (owned_buffer self.new) m
             ↔ (Reads f m × (length m ≤ length (owned_buffer self.old)))) }
     {
         self.inner.push(&mut self.dest, bytes)
@@ -132,7 +141,9 @@ impl WriteBuffer for CobsDecoderOwned {
         CobsDecoderOwned::dest_mut(self)
     }
 
-    ghost bytes_are_written = { λ decoder written same. take_at written (drop (length written) decoder.dest.items) decoder.dest.len (same ∙ sym decoder.dest.ok.0) };
+    ghost bytes_are_written = { λ decoder written same. take_at written
+        (drop (length written) decoder.dest.items) decoder.dest.len
+        (same ∙ sym decoder.dest.ok.0) };
 
     ghost phase_stays = { λ _ _. refl };
 

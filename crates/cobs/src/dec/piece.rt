@@ -64,7 +64,7 @@ pub(crate) fn leading_zeros(source: &[u8]) -> usize
     source.len()
 }
 
-/// Copies what stands behind the first code of a piece.
+/// Copies what stands after the first code of a piece.
 #[inline(always)]
 fn copy_behind_code(piece: &[u8], dest: &mut [u8])
     requires some { 0 < length piece.now }
@@ -79,7 +79,7 @@ fn copy_behind_code(piece: &[u8], dest: &mut [u8])
     }
 }
 
-/// Decodes a piece in which no code stands behind a full part: one copy, and a zero at each code. Codes of one value in
+/// Decodes a piece in which no code stands after a full part: one copy, and a zero at each code. Codes of one value in
 /// a row go by a loop of their own, as in a window.
 fn decode_end(piece: &[u8], dest: &mut [u8]) -> PieceEnd
     requires some { 0 < length piece.now }
@@ -114,7 +114,7 @@ fn decode_end(piece: &[u8], dest: &mut [u8]) -> PieceEnd
 
 /// Writes the output of a piece at the front of `dest`, and answers its length and what its last part is.
 ///
-/// The caller owes room for the output. No byte behind it is written.
+/// Precondition: the output fits. No byte after it is written.
 pub(crate) fn decode_piece(piece: &[u8], dest: &mut [u8]) -> PieceEnd
     requires some { 0 < length piece.now }
     requires nonzero { HasNoZero piece.now }
@@ -157,7 +157,7 @@ pub(crate) fn decode_piece(piece: &[u8], dest: &mut [u8]) -> PieceEnd
 /// `dest`, and answers its message's length.
 ///
 /// Where the output is longer than `dest`, its first bytes fill `dest`; else it stands at the front of `dest`, whole
-/// or broken off, and no byte behind it is written.
+/// or broken off, and no byte after it is written.
 #[inline(always)]
 pub(crate) fn decode_ended(
     piece: &[u8],
@@ -170,7 +170,8 @@ pub(crate) fn decode_ended(
     requires within { written ≤ length dest.old }
     ensures answer { (old : List ℕ) → Decoded piece.now old dest.old read written
         → result ≡ sized (outcome_of piece.now (length dest.old)) }
-    ensures buffer { (old : List ℕ) → length old ≡ length dest.old → Decoded piece.now old dest.old read written
+    ensures buffer { (old : List ℕ) → length old ≡ length dest.old
+        → Decoded piece.now old dest.old read written
         → dest.new ≡ overwritten old (output piece.now) }
 {
     let fit = fitting_len(&piece[read..], dest.len() - written);

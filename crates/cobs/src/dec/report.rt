@@ -6,6 +6,14 @@ use serde::{Deserialize, Serialize};
 use thiserror::Error;
 
 /// Why a frame is refused.
+///
+/// ```
+/// assert_eq!(rt; decode(&[], &mut [0; 4]), Err(DecodeError::EmptyFrame));
+/// assert_eq!(rt;
+///     decode(&[3, 1, 2], &mut [0; 1]),
+///     Err(DecodeError::TargetBufTooSmall)
+/// );
+/// ```
 #[derive(Debug, Drop, PartialEq, Eq, Error, Serialize, Deserialize)]
 pub enum DecodeError {
     /// There was no byte to decode.
@@ -25,6 +33,12 @@ pub enum DecodeError {
 }
 
 /// The sizes of a decoded message: how many bytes were consumed for it, and how many it has.
+///
+/// ```
+/// let report = decode(&[0, 3, 1, 2, 0, 1], &mut [0; 4])?;
+/// assert_eq!(rt; report.parsed_size(), 5);
+/// assert_eq!(rt; report.frame_size(), 2);
+/// ```
 #[derive(Clone, Copy, Debug, PartialEq, Eq, Serialize, Deserialize)]
 pub struct DecodeReport {
     pub(crate) parsed_size: usize,
@@ -43,7 +57,7 @@ impl DecodeReport {
     }
 
     /// How many bytes of the source were consumed. The call that made the report says whether leading sentinels
-    /// and the one behind the frame are among them.
+    /// and the one after the frame are among them.
     pub fn parsed_size(&self) -> usize
         ensures { result ≡ parsed_size_of self.now }
     {
@@ -61,9 +75,19 @@ impl DecodeReport {
 /// The name that [`DecodeReport`] had. It is deprecated since version 0.5.0: use `DecodeReport`.
 pub type DecodingResult = DecodeReport;
 
-/// Why a `push` of a streaming decoder found no message, and after how many bytes.
+/// Why a `push` of a streaming decoder found no message, and after how many bytes. (A choice of this library.)
 ///
-/// The decoder has taken these bytes and none behind them, so the caller goes on by pushing the others.
+/// The decoder has taken these bytes and none after them, so the caller goes on by pushing the others.
+///
+/// ```
+/// let mut buffer = [0; 4];
+/// let mut decoder = CobsDecoder::new(&mut buffer);
+/// let refused = PushError {
+///     error: DecodeError::InvalidFrame { decoded_bytes: 1 },
+///     parsed_size: 3,
+/// };
+/// assert_eq!(rt; decoder.push(&[3, 7, 0, 2, 9, 0]), Err(refused));
+/// ```
 #[derive(Debug, Drop, PartialEq, Eq, Error)]
 #[error("{error}")]
 pub struct PushError {

@@ -24,7 +24,8 @@ fn first_sentinel(source: &[u8], sentinel: u8) -> usize
 /// Writes the bytes of the source, each changed by exclusive or with the sentinel, to where `at` says.
 fn copy_xored(source: &[u8], dest: &mut [u8], at: usize, sentinel: u8)
     requires { at + length source.now ≤ length dest.old }
-    ensures { dest.new ≡ take at dest.old ++ xor_each sentinel source.now ++ drop (at + length source.now) dest.old }
+    ensures { dest.new ≡ take at dest.old ++ xor_each sentinel source.now
+        ++ drop (at + length source.now) dest.old }
 {
     'by_byte: for i in 0..source.len() {
         dest[at + i] = source[i] ^ sentinel;
@@ -68,7 +69,8 @@ fn decode_blocks(source: &[u8], dest: &mut [u8], sentinel: u8) -> Result<usize, 
 /// Decodes what stands before the first sentinel of the source.
 fn decode_source(source: &[u8], dest: &mut [u8], sentinel: u8) -> Result<usize, DecodeError>
     ensures answer { result ≡ source_answer (xor_each sentinel source.now) (length dest.old) }
-    ensures buffer { dest.new ≡ overwritten dest.old (kept_output (head (xor_each sentinel source.now))) }
+    ensures buffer { dest.new ≡ overwritten dest.old
+        (kept_output (head (xor_each sentinel source.now))) }
 {
     if source.is_empty() {
         return Err(DecodeError::EmptyFrame);
@@ -80,7 +82,7 @@ fn decode_source(source: &[u8], dest: &mut [u8], sentinel: u8) -> Result<usize, 
 /// Decodes the frame at the front of the source, where the sentinel may be any byte, and answers the message's length.
 ///
 /// The source alone is read, up to its first sentinel or its end; each byte is taken by exclusive or with the sentinel.
-/// The message then stands at the front of `dest`, and every byte behind it is as it was. Unlike `decode`, this reads a
+/// The message then stands at the front of `dest`, and every byte after it is as it was. Unlike `decode`, this reads a
 /// leading sentinel as an empty message, and answers 0.
 ///
 /// # Errors
@@ -89,16 +91,25 @@ fn decode_source(source: &[u8], dest: &mut [u8], sentinel: u8) -> Result<usize, 
 /// - `TargetBufTooSmall` where the message, or what the whole blocks of a frame give that breaks off inside a block, is
 ///   longer than `dest`, which then holds the first bytes of it.
 /// - `InvalidFrame` where the frame breaks off inside a block and that does fit: `dest` begins with what the whole blocks
-///   before it gave, `decoded_bytes` says how many bytes these are, and every byte behind them is as it was.
+///   before it gave, `decoded_bytes` says how many bytes these are, and every byte after them is as it was.
 ///
-/// Frames for another sentinel than 0 are Cheshire and Baker's; the answers to broken ones are a choice of this library.
+/// Frames for another sentinel than 0 are Cheshire and Baker's; the answers to broken ones are a choice of this
+/// library.
+///
+/// ```
+/// let mut dest = [170; 5];
+/// let len = decode_with_sentinel(&[252, 245, 244, 253, 243, 255], &mut dest, 255);
+/// assert_eq!(rt; len, Ok(4));
+/// assert_eq!(rt; dest, [10, 11, 0, 12, 170]);
+/// ```
 pub fn decode_with_sentinel(
     source: &[u8],
     dest: &mut [u8],
     sentinel: u8,
 ) -> Result<usize, DecodeError>
     ensures answer { result ≡ source_answer (xor_each sentinel source.now) (length dest.old) }
-    ensures buffer { dest.new ≡ overwritten dest.old (kept_output (head (xor_each sentinel source.now))) }
+    ensures buffer { dest.new ≡ overwritten dest.old
+        (kept_output (head (xor_each sentinel source.now))) }
     ensures reads { let f = xor_each sentinel source.now in IsPiece f → (m : List ℕ)
         → (AnswersMessage result dest.new m ↔ (Reads f m × (length m ≤ length dest.old))) }
 {

@@ -9,15 +9,16 @@ ghost use Rattle.cobs.specs.Stream.{outcome_of};
 use crate::dec::report::DecodeError;
 use crate::window::{WIDE_WINDOW, copy_nonzero_short};
 
-/// Copies what stands behind the first byte of a source, if that is some bytes, at most 64, they fit, and none is a zero;
-/// says whether it did.
+/// Copies what stands after the first byte of a source, if that is some bytes, at most 64, they fit, and none is a
+/// zero; says whether it did.
 #[inline(always)]
 pub(crate) fn copy_short(source: &[u8], dest: &mut [u8]) -> bool
     requires some { 0 < length source.now }
     ensures few { IsTrue result → length source.now ≤ 65 }
     ensures nonzero { IsTrue result → HasNoZero (drop 1 source.now) }
     ensures room { IsTrue result → length source.now ≤ length dest.old + 1 }
-    ensures copied { IsTrue result → dest.new ≡ drop 1 source.now ++ drop (length source.now - 1) dest.old }
+    ensures copied { IsTrue result
+        → dest.new ≡ drop 1 source.now ++ drop (length source.now - 1) dest.old }
     ensures kept { result ≡ false → dest.new ≡ dest.old }
 {
     let len = source.len() - 1;

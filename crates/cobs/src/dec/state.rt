@@ -9,6 +9,14 @@ use crate::dec::report::DecodeError;
 /// Where a decoder stands in a frame.
 ///
 /// The state holds no output, so a caller can stream the decoded bytes into a container of its own.
+///
+/// ```
+/// let mut state = DecoderState::default();
+/// assert!(rt; matches!(state.feed(2), Ok(DecodeResult::DataStart)));
+/// assert!(rt; matches!(state.feed(7), Ok(DecodeResult::DataContinue(7))));
+/// assert!(rt; matches!(state.feed(1), Ok(DecodeResult::DataContinue(0))));
+/// assert!(rt; matches!(state.feed(0), Ok(DecodeResult::DataComplete)));
+/// ```
 #[derive(Debug, Drop)]
 pub enum DecoderState {
     /// No nonzero byte has come since the last sentinel.
@@ -52,7 +60,7 @@ impl Default for DecoderState {
 }
 
 impl DecoderState {
-    /// The state behind a code, which lacks all the bytes that the code counts.
+    /// The state after a code, which lacks all the bytes that the code counts.
     fn opened(code: u8) -> DecoderState
         requires { code ≢ 0 }
         ensures { result ≡ opened_by code }
@@ -64,7 +72,7 @@ impl DecoderState {
         }
     }
 
-    /// What the table has for this state and this byte: the answer, and the state behind it.
+    /// What the table has for this state and this byte: the answer, and the state after it.
     fn row(&self, byte: u8) -> (Result<DecodeResult, DecodeError>, DecoderState)
         ensures answer { result.0 ≡ table_answer self.now byte }
         ensures state { result.1 ≡ table_state self.now byte }
@@ -108,21 +116,23 @@ impl DecoderState {
     /// Takes the next byte of a frame, and answers what it brought.
     ///
     /// A sentinel, the byte 0, is `DataComplete` where the last block has all the bytes that its code counts,
-    /// and `NoData` where no frame has begun. Inside a block it is the error `InvalidFrame`, whose
-    /// `decoded_bytes` is always 0 here, since the state counts no output. Behind each sentinel the state is
-    /// `Idle`.
+    /// and `NoData` where no frame has begun. After each sentinel the state is `Idle`.
     ///
-    /// Any other byte is a code where no block is open: `DataStart` for the first one, `NoData` behind a full
-    /// block, and behind any other block `DataContinue(0)`, the zero that joins the two blocks. Inside a block it
+    /// Any other byte is a code where no block is open: `DataStart` for the first one, `NoData` after a full
+    /// block, and after any other block `DataContinue(0)`, the zero that joins the two blocks. Inside a block it
     /// is `DataContinue` of the byte itself.
     ///
     /// Every state has an answer to every byte, also one that no frame leads to, such as `Grab(255)`. These are
     /// the block rules of the paper by Cheshire and Baker; the names of the answers are those of the crate `cobs`.
+    ///
+    /// # Errors
+    /// `InvalidFrame` for a sentinel inside a block. Its `decoded_bytes` is always 0 here, since the state counts no
+    /// output.
     pub fn feed(&mut self, byte: u8) -> Result<DecodeResult, DecodeError>
         ensures answer { result ≡ table_answer self.old byte }
         ensures state { self.new ≡ table_state self.old byte }
 
-        // Behind the front p of a piece, with the bytes that the answers gave so far.
+        // After the front p of a piece, with the bytes that the answers gave so far.
         ensures after { (p so_far : List ℕ) → StateAfter self.old p so_far → byte ≢ 0
             → StateAfter self.new (p ++ byte ∷ []) (so_far ++ data_of result) }
         ensures message { (p so_far m : List ℕ) → StateAfter self.old p so_far → byte ≡ 0

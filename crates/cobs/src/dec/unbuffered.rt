@@ -22,6 +22,19 @@ const FEW: usize = 16;
 const FULL: u8 = FULL_CODE as u8;
 
 /// Where an [`UnbufferedDecoder`] stands.
+///
+/// ```
+/// let mut buffer = [0; 8];
+/// let mut decoder = UnbufferedDecoder::new();
+/// assert_eq!(rt; decoder.phase(), DecoderPhase::Idle);
+/// assert_eq!(rt; decoder.push(&mut buffer, &[4, 7, 8]), Ok(None));
+/// let phase = DecoderPhase::Within {
+///     is_full: false,
+///     lacking: 1,
+///     written: 2,
+/// };
+/// assert_eq!(rt; decoder.phase(), phase);
+/// ```
 #[derive(Debug, Clone, Copy, PartialEq, Eq)]
 pub enum DecoderPhase {
     /// No piece has begun.
@@ -45,21 +58,22 @@ pub enum DecoderPhase {
 
 /// Decodes a stream of frames, each ended by a zero, into a buffer that the caller passes to each call.
 ///
-/// It answers as [`CobsDecoder`](crate::CobsDecoder) does, and has no buffer of its own: a few words say where it stands.
-/// So one buffer can serve what else a program does between two calls, and a decoder can lie in a struct beside its
-/// buffer, or cross to another language.
+/// It answers as [`CobsDecoder`](crate::CobsDecoder) does, and has no buffer of its own: a few words say where it
+/// stands. So one buffer can serve what else a program does between two calls, and a decoder can lie in a struct
+/// beside its buffer, or cross to another language.
 ///
-/// As long as a piece is open, that is from its first byte to the zero that ends it, the caller passes one buffer, as the
-/// call before left it. Any other buffer is safe too, of whatever length: no call panics, or answers a message that is
-/// longer than the buffer. But what the piece is answered then, and which bytes the buffer holds, isn't said.
+/// As long as a piece is open, that is from its first byte to the zero that ends it, the caller passes one buffer, as
+/// the call before left it. Any other buffer is safe too, of whatever length: no call panics, or answers a message
+/// that is longer than the buffer. But what the piece is answered then, and which bytes the buffer holds, isn't said.
 ///
 /// ```
 /// let mut decoder = UnbufferedDecoder::new();
 /// let mut buffer = [0; 64];
-/// let report = decoder.push(&mut buffer, b"\x06hello\0")?.unwrap();
-/// assert_eq!(rt; &buffer[..report.frame_size()], b"hello");
+/// let report = decoder.push(&mut buffer, b"\x06hello\0")?;
+/// assert_eq!(rt; report.map(|report| report.frame_size()), Some(5));
+/// assert!(rt; buffer.starts_with(b"hello"));
 /// ```
-// No field says whether a piece has begun: a code at its front is taken as one behind a full block is, which no zero
+// No field says whether a piece has begun: a code at its front is taken as one after a full block is, which no zero
 // joins to anything. So a byte that is no zero asks what its block lacks and, where it is a code, whether the block
 // before it was full, and nothing else.
 #[derive(Debug, Drop)]
@@ -160,8 +174,18 @@ impl UnbufferedDecoder {
         Ok(None)
     }
 
-    /// The decoder that stands there, whatever the numbers are. A full block that lacks nothing, with nothing written, is
-    /// where an idle decoder stands.
+    /// The decoder that stands there, whatever the numbers are. A full block that lacks nothing, with nothing
+    /// written, is where an idle decoder stands.
+    ///
+    /// ```
+    /// let mut buffer = [0; 8];
+    /// let mut first = UnbufferedDecoder::new();
+    /// assert_eq!(rt; first.push(&mut buffer, &[4, 7, 8]), Ok(None));
+    /// let mut second = UnbufferedDecoder::from_phase(first.phase());
+    /// assert_eq!(rt; second.feed(&mut buffer, 9), Ok(None));
+    /// assert_eq!(rt; second.feed(&mut buffer, 0), Ok(Some(3)));
+    /// assert!(rt; buffer.starts_with(&[7, 8, 9]));
+    /// ```
     pub fn from_phase(phase: DecoderPhase) -> Self
         ensures { phase_of result ≡ phase_at phase }
     {
@@ -214,7 +238,7 @@ impl UnbufferedDecoder {
     /// Takes the next byte of the stream, over this buffer.
     ///
     /// `Ok(None)`: no piece has ended, and the output of this piece so far fits the buffer, which begins with it.
-    /// `Ok(Some(n))`: the byte was the zero behind a whole frame, and the message is the buffer's first `n` bytes. All
+    /// `Ok(Some(n))`: the byte was the zero after a whole frame, and the message is the buffer's first `n` bytes. All
     /// other bytes of the buffer are as they were.
     ///
     /// # Errors
@@ -233,7 +257,8 @@ impl UnbufferedDecoder {
     fn take_open_block(&mut self, dest: &mut [u8], stretch: &[u8]) -> usize
         requires { HasNoZero stretch.now }
         ensures within { result ≤ length stretch.now }
-        ensures fed { FedInTurn dest.old (phase_of self.old) (take result stretch.now) dest.new (phase_of self.new) }
+        ensures fed { FedInTurn dest.old (phase_of self.old) (take result stretch.now)
+            dest.new (phase_of self.new) }
     {
         if self.over {
             return 0;
@@ -258,7 +283,8 @@ impl UnbufferedDecoder {
         requires boundary { self.old.left ≡ 0 }
         requires going { self.old.over ≡ false }
         ensures within { result ≤ length stretch.now }
-        ensures fed { FedInTurn dest.old (phase_of self.old) (take result stretch.now) dest.new (phase_of self.new) }
+        ensures fed { FedInTurn dest.old (phase_of self.old) (take result stretch.now)
+            dest.new (phase_of self.new) }
     {
         let at = if self.code == FULL {
             self.dest_idx
@@ -285,7 +311,8 @@ impl UnbufferedDecoder {
     fn take_stretch(&mut self, dest: &mut [u8], stretch: &[u8]) -> usize
         requires { HasNoZero stretch.now }
         ensures within { result ≤ length stretch.now }
-        ensures fed { FedInTurn dest.old (phase_of self.old) (take result stretch.now) dest.new (phase_of self.new) }
+        ensures fed { FedInTurn dest.old (phase_of self.old) (take result stretch.now)
+            dest.new (phase_of self.new) }
     {
         let run = self.take_open_block(dest, stretch);
         if self.over || run == stretch.len() || self.left != 0 {
@@ -299,7 +326,8 @@ impl UnbufferedDecoder {
     #[inline(always)]
     fn take_few(&mut self, dest: &mut [u8], bytes: &[u8]) -> usize
         ensures within { result ≤ length bytes.now }
-        ensures fed { FedInTurn dest.old (phase_of self.old) (take result bytes.now) dest.new (phase_of self.new) }
+        ensures fed { FedInTurn dest.old (phase_of self.old) (take result bytes.now)
+            dest.new (phase_of self.new) }
     {
         if self.over {
             return 0;
@@ -340,7 +368,8 @@ impl UnbufferedDecoder {
     #[inline(always)]
     fn take_run(&mut self, dest: &mut [u8], bytes: &[u8]) -> usize
         ensures within { result ≤ length bytes.now }
-        ensures fed { FedInTurn dest.old (phase_of self.old) (take result bytes.now) dest.new (phase_of self.new) }
+        ensures fed { FedInTurn dest.old (phase_of self.old) (take result bytes.now)
+            dest.new (phase_of self.new) }
     {
         // A piece that is too long is answered byte by byte, and no search for its end may run for each of them.
         if self.over || bytes.len() < FEW {
@@ -354,14 +383,15 @@ impl UnbufferedDecoder {
     ///
     /// `Ok(None)`: all bytes were taken, and no piece has ended in them. `Ok(Some(report))`: a whole frame has ended;
     /// `frame_size` is the length of its message, which stands at the front of the buffer, and `parsed_size` counts
-    /// the bytes that were taken, the zero behind the frame included. The others are not looked at: push them next.
+    /// the bytes that were taken, the zero after the frame included. The others are not looked at: push them next.
     ///
     /// # Errors
     /// A `PushError` has the error of `feed` and how many bytes were taken, the one that raised it included.
-    /// Pushing the bytes behind these goes on with the stream: a piece whose zero raised the error is over, and
+    /// Pushing the bytes after these goes on with the stream: a piece whose zero raised the error is over, and
     /// while a piece is too long for the buffer, each push of its bytes takes one, through its zero.
     pub fn push(&mut self, dest: &mut [u8], bytes: &[u8]) -> Result<Option<DecodeReport>, PushError>
-        ensures { PushesBytes dest.old (phase_of self.old) bytes.now result dest.new (phase_of self.new) }
+        ensures { PushesBytes dest.old (phase_of self.old) bytes.now result
+            dest.new (phase_of self.new) }
     {
         let mut at = 0;
         'by_run: while at < bytes.len() {
@@ -397,21 +427,28 @@ impl UnbufferedDecoder {
 
     /// Takes bytes of the stream, over this buffer, through the first zero that ends a piece.
     ///
-    /// `None`: no piece has ended in these bytes, and all were taken. `Some((end, count))`: a piece has ended with the
-    /// byte at index `count - 1`, and how; the bytes behind it were not looked at. All bytes of the buffer behind the
-    /// output of the piece are as they were. A piece that is too long for the buffer ends at its zero, as every other:
-    /// so, other than with [`push`](UnbufferedDecoder::push), its bytes need not be pushed one by one. (A choice of this
-    /// library.)
+    /// `None`: no piece has ended in these bytes, and all were taken. `Some((end, count))`: a piece has ended with
+    /// the byte at index `count - 1`, and how; the bytes after it were not looked at. All bytes of the buffer after
+    /// the output of the piece are as they were. A piece that is too long for the buffer ends at its zero, as every
+    /// other: so, other than with [`push`](UnbufferedDecoder::push), its bytes need not be pushed one by one. (A
+    /// choice of this library.)
     ///
     /// ```
     /// let mut decoder = UnbufferedDecoder::new();
     /// let mut buffer = [0; 4];
     /// let stream = b"\x06hello\0\x03hi\0";
-    /// assert_eq!(rt; decoder.feed_piece(&mut buffer, stream), Some((PieceEnd::TooLong, 7)));
-    /// assert_eq!(rt; decoder.feed_piece(&mut buffer, &stream[7..]), Some((PieceEnd::Message(2), 4)));
+    /// assert_eq!(rt;
+    ///     decoder.feed_piece(&mut buffer, stream),
+    ///     Some((PieceEnd::TooLong, 7))
+    /// );
+    /// assert_eq!(rt;
+    ///     decoder.feed_piece(&mut buffer, &stream[7..]),
+    ///     Some((PieceEnd::Message(2), 4))
+    /// );
     /// ```
     pub fn feed_piece(&mut self, dest: &mut [u8], bytes: &[u8]) -> Option<(PieceEnd, usize)>
-        ensures { TakesPiece dest.old (phase_of self.old) bytes.now result dest.new (phase_of self.new) }
+        ensures { TakesPiece dest.old (phase_of self.old) bytes.now result
+            dest.new (phase_of self.new) }
     {
         let mut taken = 0;
         'by_run: while taken < bytes.len() {

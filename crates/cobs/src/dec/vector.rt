@@ -13,6 +13,14 @@ use std::alloc::{AllocError, Global};
 use thiserror::Error;
 
 /// Why a source gave no vector.
+///
+/// ```
+/// let refused = decode_vec(alloc, &[]);
+/// assert_eq!(rt;
+///     refused,
+///     Err(DecodeVecError::Decode(DecodeError::EmptyFrame))
+/// );
+/// ```
 #[derive(Debug, Drop, PartialEq, Eq, Error)]
 pub enum DecodeVecError {
     /// The source has no message.
@@ -53,6 +61,11 @@ fn message_of_source(alloc: Global, source: &[u8]) -> Result<Vec<u8>, DecodeVecE
 ///
 /// `Decode(EmptyFrame)` where the source is empty, and then no memory is asked for; else `Memory` where memory was
 /// refused; else `Decode` with the refusal of [`decode`].
+///
+/// ```
+/// let message = decode_vec(alloc, b"\x06hello\0")?;
+/// assert_eq!(rt; message.as_slice(), b"hello".as_slice());
+/// ```
 pub fn decode_vec(alloc: Global, source: &[u8]) -> Result<Vec<u8>, DecodeVecError>
     ensures message { IfOk result (λ message. decoded source.now ≡ Ok message.items) }
     ensures refused { IfErr result (λ error. IsRefusal (decoded source.now) error) }
@@ -66,8 +79,10 @@ pub fn decode_vec(alloc: Global, source: &[u8]) -> Result<Vec<u8>, DecodeVecErro
 
 /// The message of what stands before the first sentinel of the source.
 fn message_of_front(alloc: Global, source: &[u8], sentinel: u8) -> Result<Vec<u8>, DecodeVecError>
-    ensures message { IfOk result (λ message. decoded_head (xor_each sentinel source.now) ≡ Ok message.items) }
-    ensures refused { IfErr result (λ error. IsRefusal (decoded_head (xor_each sentinel source.now)) error) }
+    ensures message { IfOk result
+        (λ message. decoded_head (xor_each sentinel source.now) ≡ Ok message.items) }
+    ensures refused { IfErr result
+        (λ error. IsRefusal (decoded_head (xor_each sentinel source.now)) error) }
     ensures empty { source.now ≡ [] → result ≡ Err (DecodeVecError.Decode EmptyFrame) }
     ensures room { IfErr result (λ error. error ≢ DecodeVecError.Decode TargetBufTooSmall) }
 {
@@ -95,16 +110,24 @@ fn message_of_front(alloc: Global, source: &[u8], sentinel: u8) -> Result<Vec<u8
 ///
 /// `Decode(EmptyFrame)` where the source is empty, and then no memory is asked for; else `Memory` where memory was
 /// refused; else `Decode` with the refusal of [`decode_with_sentinel`].
+///
+/// ```
+/// let message = decode_vec_with_sentinel(alloc, &[252, 245, 244, 253, 243], 255)?;
+/// assert_eq!(rt; message.as_slice(), [10, 11, 0, 12].as_slice());
+/// ```
 pub fn decode_vec_with_sentinel(
     alloc: Global,
     source: &[u8],
     sentinel: u8,
 ) -> Result<Vec<u8>, DecodeVecError>
-    ensures message { IfOk result (λ message. decoded_head (xor_each sentinel source.now) ≡ Ok message.items) }
-    ensures refused { IfErr result (λ error. IsRefusal (decoded_head (xor_each sentinel source.now)) error) }
+    ensures message { IfOk result
+        (λ message. decoded_head (xor_each sentinel source.now) ≡ Ok message.items) }
+    ensures refused { IfErr result
+        (λ error. IsRefusal (decoded_head (xor_each sentinel source.now)) error) }
     ensures empty { source.now ≡ [] → result ≡ Err (DecodeVecError.Decode EmptyFrame) }
     ensures room { IfErr result (λ error. error ≢ DecodeVecError.Decode TargetBufTooSmall) }
-    ensures reads { let f = xor_each sentinel source.now in IsPiece f → FoundMemory result → (m : List ℕ)
+    ensures reads { let f = xor_each sentinel source.now in
+        IsPiece f → FoundMemory result → (m : List ℕ)
         → (IsOkAnd result (λ message. message.items ≡ m) ↔ Reads f m) }
 {
     message_of_front(alloc, source, sentinel)

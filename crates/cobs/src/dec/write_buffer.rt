@@ -8,13 +8,24 @@ use crate::dec::frame_decoder::FrameDecoder;
 
 /// A decoder that lends its buffer to be written to.
 ///
-/// Writing changes the buffer's bytes to those that were written, and neither where the decoder stands nor which slice
-/// its buffer is. So a decoder that has taken the front of a piece (`PhaseAfter`) still has: each answer that this piece
-/// gets is the same, and only the bytes of its message are then not known.
+/// Writing changes the buffer's bytes to those that were written, and neither where the decoder stands nor which
+/// slice its buffer is. So a decoder that has taken the front of a piece (`PhaseAfter`) still has: each answer that
+/// this piece gets is the same, and only the bytes of its message are then not known.
 ///
 /// Each streaming decoder has a method `dest_mut` of its own too. Of a `CobsDecoder`, whose slice is itself a loan, a
 /// caller's proof learns through that method only what stands in the slice while it is lent. Such a caller writes by
-/// [`write_dest`](WriteBuffer::write_dest), or in code that is generic over this trait.
+/// [`write_dest`](WriteBuffer::write_dest), or in code that is generic over this trait. (The trait is this library's
+/// own.)
+///
+/// ```
+/// let mut buffer = [0; 3];
+/// let mut decoder = CobsDecoder::new(&mut buffer);
+/// assert_eq!(rt; decoder.push(&[3, 7]), Ok(None));
+/// decoder.write_dest(0, &[9]);
+/// assert_eq!(rt; decoder.feed(8), Ok(None));
+/// assert_eq!(rt; decoder.feed(0), Ok(Some(2)));
+/// assert_eq!(rt; decoder.dest(), [9, 8, 0].as_slice());
+/// ```
 pub trait WriteBuffer: FrameDecoder {
     /// The decoder with other bytes in its buffer.
     ghost with_bytes: { Self → List ℕ → Self };
@@ -26,7 +37,7 @@ pub trait WriteBuffer: FrameDecoder {
 
     /// Writes these bytes over those of the buffer, from index `at` on.
     ///
-    /// The caller owes that they fit: that `at` plus their number is at most the buffer's length.
+    /// Precondition: they fit, so `at` plus their number is at most the buffer's length.
     fn write_dest(&mut self, at: usize, source: &[u8])
         requires { at + length source.now ≤ length (Self.bytes self.old) }
         ensures buffer { Self.bytes self.new ≡ written_at (Self.bytes self.old) at source.now }
@@ -38,7 +49,8 @@ pub trait WriteBuffer: FrameDecoder {
     }
 
     /// The bytes are then those that were written.
-    ghost bytes_are_written: { (decoder : Self) (written : List ℕ) → length written ≡ length (Self.bytes decoder)
+    ghost bytes_are_written: { (decoder : Self) (written : List ℕ)
+        → length written ≡ length (Self.bytes decoder)
         → Self.bytes (with_bytes decoder written) ≡ written };
 
     /// The decoder stands where it stood.

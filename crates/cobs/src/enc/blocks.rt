@@ -14,7 +14,7 @@ pub(crate) const FULL_CODE: usize = 255;
 const ALL_ZEROS: u64 = 0xffff_ffff;
 
 /// How far the frame in a slice has come: where the code of its open block belongs, and where the next byte goes. Where
-/// the frame's last block is full, the open block is a placeholder behind it, and not yet part of the frame.
+/// the frame's last block is full, the open block is a placeholder after it, and not yet part of the frame.
 #[derive(Debug, Drop)]
 pub(crate) struct Progress {
     index: usize,
@@ -28,7 +28,8 @@ impl Model for Progress {
 
     ghost Value = { Reached };
 
-    ghost view = { λ p. record { block = record { index = p.index; code = p.next - p.index }; full = p.full } };
+    ghost view = { λ p.
+        record { block = record { index = p.index; code = p.next - p.index }; full = p.full } };
 
     ghost invariant = { λ p. (p.index < p.next) × (p.next < p.index + 255) };
 }
@@ -49,14 +50,15 @@ impl Progress {
     fn set(&mut self, index: usize, next: usize, full: bool)
         requires ordered { index < next }
         requires open_block { next < index + 255 }
-        ensures { self.new ≡ record { block = record { index = index; code = next - index }; full = full } }
+        ensures { self.new
+            ≡ record { block = record { index = index; code = next - index }; full = full } }
     {
         self.index = index;
         self.next = next;
         self.full = full;
     }
 
-    /// So far: an open block with this code at this index, which is only the place behind a full one, or not.
+    /// So far: an open block with this code at this index, which is only the place after a full one, or not.
     pub(crate) fn at(index: usize, code: usize, full: bool) -> Progress
         requires some { 0 < code }
         requires open_block { code < 255 }
@@ -94,9 +96,9 @@ impl Progress {
     }
 }
 
-/// Writes the code of the open block, which the mask's first zero closes, and answers where the next code belongs, and
-/// the mask without that zero. No branch asks whether there is a zero: with none the block stays open, and what stands in
-/// the place of its code then is of no matter.
+/// Writes the code of the open block, which the mask's first zero closes, and answers where the next code belongs,
+/// and the mask without that zero. No branch asks whether there is a zero: with none the block stays open, and what
+/// stands in the place of its code then is of no matter.
 #[inline(always)]
 fn mark_first(dest: &mut [u8], index: usize, next: usize, zeros: u64) -> (usize, u64)
     requires inside { index < length dest.old }
@@ -119,11 +121,13 @@ fn append_short(source: &[u8], dest: &mut [u8], progress: &mut Progress)
     requires some { 0 < length source.now }
     requires few { length source.now < 32 }
     requires open_block { progress.old.block.code + length source.now < 255 }
-    requires fits { progress.old.block.index + open_len progress.old.block.code source.now ≤ length dest.old }
+    requires fits { progress.old.block.index + open_len progress.old.block.code source.now
+        ≤ length dest.old }
     ensures after { (m : List ℕ) → CobsEncoderAfter dest.old progress.old m
         → CobsEncoderAfter dest.new progress.new (m ++ source.now) }
     ensures fits { end_of progress.new ≤ length dest.new }
-    ensures end { end_of progress.new ≡ progress.old.block.index + open_len progress.old.block.code source.now }
+    ensures end { end_of progress.new
+        ≡ progress.old.block.index + open_len progress.old.block.code source.now }
     ensures rest { drop (end_of progress.new) dest.new ≡ drop (end_of progress.new) dest.old }
 {
     let len = source.len();
@@ -145,12 +149,13 @@ fn append_short(source: &[u8], dest: &mut [u8], progress: &mut Progress)
 /// Takes a `source` of any length, by windows of up to 32 bytes: what the other two functions don't take.
 #[inline(always)]
 fn append_windows(source: &[u8], dest: &mut [u8], progress: &mut Progress)
-    requires { progress.old.block.index + open_len progress.old.block.code source.now ≤ length dest.old }
+    requires { progress.old.block.index + open_len progress.old.block.code source.now
+        ≤ length dest.old }
     ensures after { (m : List ℕ) → CobsEncoderAfter dest.old progress.old m
         → CobsEncoderAfter dest.new progress.new (m ++ source.now) }
     ensures fits { end_of progress.new ≤ length dest.new }
-    ensures end { 0 < length source.now
-        → end_of progress.new ≡ progress.old.block.index + open_len progress.old.block.code source.now }
+    ensures end { 0 < length source.now → end_of progress.new
+        ≡ progress.old.block.index + open_len progress.old.block.code source.now }
     ensures rest { drop (end_of progress.new) dest.new ≡ drop (end_of progress.new) dest.old }
 {
     if source.is_empty() {
@@ -198,12 +203,13 @@ fn append_windows(source: &[u8], dest: &mut [u8], progress: &mut Progress)
 /// Takes the last bytes of a source, which may be all of it.
 #[inline(always)]
 fn append_last(source: &[u8], dest: &mut [u8], progress: &mut Progress)
-    requires { progress.old.block.index + open_len progress.old.block.code source.now ≤ length dest.old }
+    requires { progress.old.block.index + open_len progress.old.block.code source.now
+        ≤ length dest.old }
     ensures after { (m : List ℕ) → CobsEncoderAfter dest.old progress.old m
         → CobsEncoderAfter dest.new progress.new (m ++ source.now) }
     ensures fits { end_of progress.new ≤ length dest.new }
-    ensures end { 0 < length source.now
-        → end_of progress.new ≡ progress.old.block.index + open_len progress.old.block.code source.now }
+    ensures end { 0 < length source.now → end_of progress.new
+        ≡ progress.old.block.index + open_len progress.old.block.code source.now }
     ensures rest { drop (end_of progress.new) dest.new ≡ drop (end_of progress.new) dest.old }
 {
     let len = source.len();
@@ -216,21 +222,24 @@ fn append_last(source: &[u8], dest: &mut [u8], progress: &mut Progress)
 
 /// Takes whole windows of 32 bytes while more than one is left, and answers how many bytes these are.
 ///
-/// Each window is copied to where the next byte goes. Where no zero is near enough to keep the open block from being full,
-/// that block is closed, and what doesn't belong to it is copied anew. Else each zero of the window gives its place to the
-/// code of the block that it begins, and the last block stays open for the next window. Nothing is written behind what
-/// the frame needs at the least, so a slice of exactly the frame's length is enough.
+/// Each window is copied to where the next byte goes. Where no zero is near enough to keep the open block from being
+/// full, that block is closed, and what doesn't belong to it is copied anew. Else each zero of the window gives its
+/// place to the code of the block that it begins, and the last block stays open for the next window. Nothing is
+/// written after what the frame needs at the least, so a slice of exactly the frame's length is enough.
 #[inline(always)]
 fn append_whole_windows(source: &[u8], dest: &mut [u8], progress: &mut Progress) -> usize
     requires some { 0 < length source.now }
-    requires fits { progress.old.block.index + open_len progress.old.block.code source.now ≤ length dest.old }
+    requires fits { progress.old.block.index + open_len progress.old.block.code source.now
+        ≤ length dest.old }
     ensures within { result < length source.now }
     ensures few { length source.now ≤ result + 32 }
     ensures after { (m : List ℕ) → CobsEncoderAfter dest.old progress.old m
         → CobsEncoderAfter dest.new progress.new (m ++ take result source.now) }
-    ensures end { progress.new.block.index + open_len progress.new.block.code (drop result source.now)
+    ensures end { progress.new.block.index + open_len progress.new.block.code
+        (drop result source.now)
         ≡ progress.old.block.index + open_len progress.old.block.code source.now }
-    ensures rest { let end = progress.old.block.index + open_len progress.old.block.code source.now in
+    ensures rest { let end = progress.old.block.index
+        + open_len progress.old.block.code source.now in
         drop end dest.new ≡ drop end dest.old }
 {
     let mut index = progress.index;
@@ -279,7 +288,8 @@ fn append_whole_windows(source: &[u8], dest: &mut [u8], progress: &mut Progress)
 /// [`close`] alone: what stands in its place before that is of no matter.
 #[inline(always)]
 pub(crate) fn append(source: &[u8], dest: &mut [u8], progress: &mut Progress)
-    requires { progress.old.block.index + open_len progress.old.block.code source.now ≤ length dest.old }
+    requires { progress.old.block.index + open_len progress.old.block.code source.now
+        ≤ length dest.old }
     ensures after { (m : List ℕ) → CobsEncoderAfter dest.old progress.old m
         → CobsEncoderAfter dest.new progress.new (m ++ source.now) }
     ensures fits { end_of progress.new ≤ length dest.new }
@@ -296,7 +306,8 @@ pub(crate) fn append(source: &[u8], dest: &mut [u8], progress: &mut Progress)
 /// Writes the code of the open block where that block is part of the frame, and answers where the frame ends.
 pub(crate) fn close(dest: &mut [u8], progress: Progress) -> usize
     requires { end_of progress ≤ length dest.old }
-    ensures frame { (m : List ℕ) → CobsEncoderAfter dest.old progress m → IsEncodedFrame (take result dest.new) m }
+    ensures frame { (m : List ℕ) → CobsEncoderAfter dest.old progress m
+        → IsEncodedFrame (take result dest.new) m }
     ensures end { result ≡ end_of progress }
     ensures rest { drop result dest.new ≡ drop result dest.old }
 {

@@ -11,6 +11,17 @@ use crate::enc::room::fits;
 /// However the message is cut into pieces, the frame is the one that [`encode`](crate::encode) writes. While bytes are
 /// taken, the slice begins with that frame of what was taken so far, but for the code of the block that is still open;
 /// [`finalize`](CobsEncoder::finalize) writes this last code. The encoder needs no room beyond the frame's.
+///
+/// The blocks are those of the paper by Cheshire and Baker; the calls are those of the crate `cobs`.
+///
+/// ```
+/// let mut dest = [170; 7];
+/// let mut encoder = CobsEncoder::new(&mut dest);
+/// encoder.push(b"hel")?;
+/// encoder.push(b"lo")?;
+/// assert_eq!(rt; encoder.finalize(), 6);
+/// assert_eq!(rt; &dest, b"\x06hello\xaa");
+/// ```
 #[derive(Debug, Drop)]
 pub struct CobsEncoder<'a> {
     dest: &'a mut [u8],
@@ -26,7 +37,7 @@ impl<'a> CobsEncoder<'a> {
 
     /// An encoder that has taken nothing yet, and writes to the front of `out_buf`. No byte of it is changed by this.
     ///
-    /// The caller owes a slice of one byte at least, since the frame of the empty message has one.
+    /// Precondition: the slice has one byte at least, since the frame of the empty message has one.
     pub fn new(out_buf: &'a mut [u8]) -> CobsEncoder<'a>
         requires { 0 < length out_buf.old }
         ensures same_slice { WritesTo result out_buf.entry }
@@ -41,18 +52,32 @@ impl<'a> CobsEncoder<'a> {
 
     /// Takes the next bytes of the message.
     ///
-    /// They are refused exactly where the encoded frame of all the bytes that were taken so far, followed by these, is
-    /// longer than the slice. Then neither the encoder nor the slice has changed, so the caller may end the frame, or
-    /// push fewer bytes. An empty push is never refused, and changes nothing. The bytes of the slice behind the frame
-    /// are never written.
+    /// An empty push is never refused, and changes nothing. The bytes of the slice after the frame are never written.
+    ///
+    /// # Errors
+    /// `DestBufTooSmallError` exactly where the encoded frame of all the bytes that were taken so far, followed by
+    /// these, is longer than the slice. Then neither the encoder nor the slice has changed, so the caller may end the
+    /// frame, or push fewer bytes. That a refusal changes nothing is a choice of this library.
+    ///
+    /// ```
+    /// let mut dest = [170; 4];
+    /// let mut encoder = CobsEncoder::new(&mut dest);
+    /// encoder.push(&[1, 2])?;
+    /// assert_eq!(rt; encoder.push(&[3, 4]), Err(DestBufTooSmallError));
+    /// assert_eq!(rt; encoder.push(&[3]), Ok(()));
+    /// assert_eq!(rt; encoder.finalize(), 4);
+    /// assert_eq!(rt; dest, [4, 1, 2, 3]);
+    /// ```
     pub fn push(&mut self, bytes: &[u8]) -> Result<(), DestBufTooSmallError>
         ensures same_slice { IsOverSameSlice self.old self.new }
         ensures len { length (slice_of self.new) ≡ length (slice_of self.old) }
         ensures fits { (m : List ℕ) → HasTaken self.old m
             → (IsOk result ↔ (encoded_len (m ++ bytes.now) ≤ length (slice_of self.old))) }
-        ensures taken { OnOk result ((m : List ℕ) → HasTaken self.old m → HasTaken self.new (m ++ bytes.now)) }
+        ensures taken { OnOk result ((m : List ℕ) → HasTaken self.old m
+            → HasTaken self.new (m ++ bytes.now)) }
         ensures rest { OnOk result ((m : List ℕ) → HasTaken self.old m
-            → (let end = encoded_len (m ++ bytes.now) in drop end (slice_of self.new) ≡ drop end (slice_of self.old))) }
+            → (let end = encoded_len (m ++ bytes.now)
+            in drop end (slice_of self.new) ≡ drop end (slice_of self.old))) }
         ensures refused { OnErr result (IsUnchanged self.old self.new) }
         ensures empty { bytes.now ≡ [] → IsOk result × IsUnchanged self.old self.new }
     {
@@ -68,12 +93,14 @@ impl<'a> CobsEncoder<'a> {
     }
 
     /// Ends the message, and answers the length of its encoded frame in bytes. The slice begins with that frame, and
-    /// every byte behind it is as it was before [`new`](CobsEncoder::new).
+    /// every byte after it is as it was before [`new`](CobsEncoder::new).
     pub fn finalize(self) -> usize
         // `self.exit.0.now` is what the slice, the first field, holds at the return.
         ensures len { (m : List ℕ) → HasTaken self.entry m → result ≡ encoded_len m }
-        ensures frame { (m : List ℕ) → HasTaken self.entry m → IsEncodedFrame (take result self.exit.0.now) m }
-        ensures no_sentinel { (m : List ℕ) → HasTaken self.entry m → HasNoZero (take result self.exit.0.now) }
+        ensures frame { (m : List ℕ) → HasTaken self.entry m
+            → IsEncodedFrame (take result self.exit.0.now) m }
+        ensures no_sentinel { (m : List ℕ) → HasTaken self.entry m
+            → HasNoZero (take result self.exit.0.now) }
         ensures rest { drop result self.exit.0.now ≡ drop result (slice_of self.entry) }
     {
         let CobsEncoder { dest, progress } = self;

@@ -7,11 +7,11 @@ use crate::enc::blocks::FULL_CODE;
 use crate::max_encoding_overhead;
 use crate::window::{WINDOW, zeros_32};
 
-/// How many bytes a full block has behind its code.
+/// How many bytes a full block has after its code.
 const FULL_BLOCK_BYTES: usize = 254;
 
 /// Whether `room` bytes, counted from the index of an open block with this code, are enough for the frame once the
-/// block has taken `source`. Where the source is too short for a full block with bytes behind it, its length alone
+/// block has taken `source`. Where the source is too short for a full block with bytes after it, its length alone
 /// answers that.
 #[inline(always)]
 pub(crate) fn fits(code: usize, source: &[u8], room: usize) -> bool
@@ -25,8 +25,8 @@ pub(crate) fn fits(code: usize, source: &[u8], room: usize) -> bool
     fits_any(code, source, room)
 }
 
-/// The same question, of a source of any length. Most of the time the lengths alone answer it: the frame is longest where
-/// no byte is a zero, and shortest where no block becomes full.
+/// The same question, of a source of any length. Most of the time the lengths alone answer it: the frame is longest
+/// where no byte is a zero, and shortest where no block becomes full.
 #[inline(never)]
 fn fits_any(code: usize, source: &[u8], room: usize) -> bool
     requires some { 0 < code }

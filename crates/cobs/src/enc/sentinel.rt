@@ -10,10 +10,17 @@ use crate::enc::{encode, try_encode};
 /// Writes the encoded frame of `source` for this sentinel to the front of `dest`, and answers its length in bytes.
 ///
 /// It is the frame that [`encode`] writes, each byte changed by exclusive or with `sentinel`, so no byte of it is the
-/// sentinel. No sentinel is written, and the bytes of `dest` behind the frame stay as they were.
+/// sentinel. No sentinel is written, and the bytes of `dest` after the frame stay as they were.
 ///
-/// The caller owes room for the frame; [`max_encoding_length`](crate::max_encoding_length) of the message's length
-/// is room enough.
+/// Precondition: the frame fits `dest`. It always fits [`max_encoding_length`](crate::max_encoding_length) of the
+/// message's length. Frames for another sentinel than 0 are Cheshire and Baker's.
+///
+/// ```
+/// let mut dest = [170; 6];
+/// let len = encode_with_sentinel(&[10, 11, 0, 12], &mut dest, 255);
+/// assert_eq!(rt; len, 5);
+/// assert_eq!(rt; dest, [252, 245, 244, 253, 243, 170]);
+/// ```
 pub fn encode_with_sentinel(source: &[u8], dest: &mut [u8], sentinel: u8) -> usize
     requires { encoded_len source.now ≤ length dest.old }
     ensures frame { IsEncodedFrameFor sentinel (take result dest.new) source.now }
@@ -28,10 +35,17 @@ pub fn encode_with_sentinel(source: &[u8], dest: &mut [u8], sentinel: u8) -> usi
 
 /// Does what [`encode_with_sentinel`] does, where the frame fits `dest`.
 ///
-/// The frame is refused exactly where it is longer than `dest`, and then no byte of `dest` has changed.
-///
 /// # Errors
-/// `DestBufTooSmallError` where the frame is refused.
+/// `DestBufTooSmallError` exactly where the frame is longer than `dest`. Then no byte of `dest` has changed, which is a
+/// choice of this library.
+///
+/// ```
+/// let mut dest = [170; 3];
+/// let refused = try_encode_with_sentinel(&[1, 0, 2], &mut dest, 1);
+/// assert_eq!(rt; refused, Err(DestBufTooSmallError));
+/// assert_eq!(rt; try_encode_with_sentinel(&[1, 0], &mut dest, 1), Ok(3));
+/// assert_eq!(rt; dest, [3, 0, 0]);
+/// ```
 pub fn try_encode_with_sentinel(
     source: &[u8],
     dest: &mut [u8],
@@ -60,9 +74,18 @@ pub(crate) fn xor_bytes(bytes: &mut [u8], sentinel: u8)
 
 /// Writes 0, the encoded frame of `source` and 0 to the front of `dest`, and answers the length of the three in bytes.
 ///
-/// The bytes of `dest` behind them stay as they were. The caller owes room for the frame and 2 bytes;
-/// [`max_encoding_length`](crate::max_encoding_length) of the message's length, plus 2, is room enough.
+/// The bytes of `dest` after them stay as they were. A sentinel on both sides of a frame is as in the crate `cobs`.
+///
+/// Precondition: the frame and 2 bytes fit `dest`. They always fit
+/// [`max_encoding_length`](crate::max_encoding_length) of the message's length, plus 2.
 /// [`try_encode_including_sentinels`] tests the room itself.
+///
+/// ```
+/// let mut dest = [170; 8];
+/// let len = encode_including_sentinels(&[10, 11, 0, 12], &mut dest);
+/// assert_eq!(rt; len, 7);
+/// assert_eq!(rt; dest, [0, 3, 10, 11, 2, 12, 0, 170]);
+/// ```
 pub fn encode_including_sentinels(source: &[u8], dest: &mut [u8]) -> usize
     requires { encoded_len source.now + 2 ≤ length dest.old }
     ensures frame { IsDelimitedFrame (take result dest.new) source.now }
@@ -78,7 +101,17 @@ pub fn encode_including_sentinels(source: &[u8], dest: &mut [u8]) -> usize
 
 /// Does what [`encode_including_sentinels`] does, where the frame and both sentinels fit `dest`.
 ///
-/// They are refused exactly where the three together are longer than `dest`, and then no byte of `dest` has changed.
+/// # Errors
+/// `DestBufTooSmallError` exactly where the three together are longer than `dest`. Then no byte of `dest` has changed,
+/// which is a choice of this library.
+///
+/// ```
+/// let mut dest = [170; 4];
+/// let refused = try_encode_including_sentinels(&[1, 2], &mut dest);
+/// assert_eq!(rt; refused, Err(DestBufTooSmallError));
+/// assert_eq!(rt; try_encode_including_sentinels(&[1], &mut dest), Ok(4));
+/// assert_eq!(rt; dest, [0, 2, 1, 0]);
+/// ```
 #[tactic(auto, using(crate::proofs::SentinelLemmas::behind_sentinels))]
 pub fn try_encode_including_sentinels(
     source: &[u8],

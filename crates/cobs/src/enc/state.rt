@@ -26,7 +26,21 @@ pub enum PushResult {
 /// changes in it, and [`finalize`](EncoderState::finalize) gives the last change. A caller who carries out all of them
 /// has the frame of the message whose last block isn't full. That is the frame that [`encode`](crate::encode) writes,
 /// but where the message's last run of nonzero bytes has a positive length divisible by 254: then it is the longer
-/// frame, the encoded one with a `1` behind it.
+/// frame, the encoded one with a `1` after it.
+///
+/// ```
+/// let mut output = [0; 3];
+/// let mut state = EncoderState::default();
+/// if let PushResult::AddSingle(byte) = state.push(7) {
+///     output[1] = byte;
+/// }
+/// if let PushResult::ModifyFromStartAndSkip((0, code)) = state.push(0) {
+///     output[0] = code;
+/// }
+/// assert_eq!(rt; state.finalize(), (2, 1));
+/// output[2] = 1;
+/// assert_eq!(rt; output, [2, 7, 1]);
+/// ```
 #[derive(Debug, Drop)]
 pub struct EncoderState {
     code_index: usize,
@@ -78,6 +92,11 @@ impl Clone for EncoderState {
 
 impl EncoderState {
     /// Whether a byte more can be pushed: whether the index of the next block fits a `usize`, whatever the byte.
+    /// (This call is this library's own.)
+    ///
+    /// ```
+    /// assert!(rt; EncoderState::default().can_push());
+    /// ```
     pub fn can_push(&self) -> bool
         ensures { IsTrue result ↔ (self.now.index + self.now.code < usize.MAX) }
     {
@@ -86,12 +105,13 @@ impl EncoderState {
 
     /// Takes the next byte of the message, and answers what it changes in the output.
     ///
-    /// The caller owes that [`can_push`](EncoderState::can_push) is true. Indices count from the start of the output.
+    /// Precondition: [`can_push`](EncoderState::can_push) is true. Indices count bytes from the start of the output.
     pub fn push(&mut self, byte: u8) -> PushResult
         requires { self.old.index + self.old.code < usize.MAX }
         ensures answer { result ≡ push_answer self.old byte }
         ensures open { self.new ≡ next_open self.old byte }
-        ensures after { (m : List ℕ) → EncoderAfter self.old m → EncoderAfter self.new (m ++ byte ∷ []) }
+        ensures after { (m : List ℕ) → EncoderAfter self.old m
+            → EncoderAfter self.new (m ++ byte ∷ []) }
         ensures carried { (m g : List ℕ) (placeholder : ℕ) → IsOpenOutput g self.old m
             → IsOpenOutput (applied g result placeholder) self.new (m ++ byte ∷ []) }
     {

@@ -10,6 +10,18 @@ use crate::enc::blocks::{FULL_CODE, Progress, append, close};
 use crate::enc::room::fits;
 
 /// How far the frame in a buffer has come, in plain numbers: where an [`UnbufferedEncoder`] stands.
+///
+/// ```
+/// let mut buffer = [0; 64];
+/// let mut encoder = UnbufferedEncoder::new();
+/// encoder.push(&mut buffer, b"hello")?;
+/// let progress = EncoderProgress {
+///     index: 0,
+///     code: 6,
+///     is_full: false,
+/// };
+/// assert_eq!(rt; encoder.progress(), progress);
+/// ```
 #[derive(Debug, Clone, Copy, PartialEq, Eq)]
 pub struct EncoderProgress {
     /// The index in the buffer at which the code of the open block belongs.
@@ -18,26 +30,26 @@ pub struct EncoderProgress {
     /// The code that the open block has so far, which is one more than it has bytes: from 1 to 254.
     pub code: u8,
 
-    /// Whether the frame's last block is full, so that the open one is only the place behind it.
+    /// Whether the frame's last block is full, so that the open one is only the place after it.
     pub is_full: bool,
 }
 
 /// Encodes a message that comes in pieces, straight into a buffer that the caller passes to each call.
 ///
-/// It writes the frame that [`CobsEncoder`](crate::CobsEncoder) writes, and has no buffer of its own: a few words say how
-/// far the frame has come. So an encoder can lie in a struct beside its buffer, or cross to another language.
+/// It writes the frame that [`CobsEncoder`](crate::CobsEncoder) writes, and has no buffer of its own: a few words say
+/// how far the frame has come. So an encoder can lie in a struct beside its buffer, or cross to another language.
 ///
 /// From the first push to the end of the message the caller passes one buffer, as the call before left it. Any other
-/// buffer is safe too, of whatever length, and so is any [`EncoderProgress`]: no call panics, or answers a length that is
-/// greater than the buffer's. But what the buffer holds then isn't said.
+/// buffer is safe too, of whatever length, and so is any [`EncoderProgress`]: no call panics, or answers a length
+/// that is greater than the buffer's. But what the buffer holds then isn't said.
 ///
 /// ```
 /// let mut encoder = UnbufferedEncoder::new();
 /// let mut buffer = [0; 64];
 /// encoder.push(&mut buffer, b"hel")?;
 /// encoder.push(&mut buffer, b"lo")?;
-/// let len = encoder.finalize(&mut buffer)?;
-/// assert_eq!(rt; &buffer[..len], b"\x06hello");
+/// assert_eq!(rt; encoder.finalize(&mut buffer), Ok(6));
+/// assert!(rt; buffer.starts_with(b"\x06hello"));
 /// ```
 #[derive(Debug, Drop)]
 pub struct UnbufferedEncoder {
@@ -45,10 +57,13 @@ pub struct UnbufferedEncoder {
 }
 
 impl UnbufferedEncoder {
-    /// An encoder that has taken nothing yet, for a buffer of one byte at least: the frame of the empty message has one.
+    /// An encoder that has taken nothing yet, for a buffer of one byte at least: the frame of the empty message has
+    /// one.
     pub fn new() -> Self
-        ensures start { reached_by result ≡ record { block = record { index = 0; code = 1 }; full = false } }
-        ensures taken { (buffer : List ℕ) → 0 < length buffer → CobsEncoderAfter buffer (reached_by result) [] }
+        ensures start { reached_by result
+            ≡ record { block = record { index = 0; code = 1 }; full = false } }
+        ensures taken { (buffer : List ℕ) → 0 < length buffer
+            → CobsEncoderAfter buffer (reached_by result) [] }
     {
         UnbufferedEncoder {
             progress: EncoderProgress {
@@ -60,6 +75,16 @@ impl UnbufferedEncoder {
     }
 
     /// The encoder that stands there, whatever the numbers are.
+    ///
+    /// ```
+    /// let mut buffer = [0; 64];
+    /// let mut first = UnbufferedEncoder::new();
+    /// first.push(&mut buffer, b"hel")?;
+    /// let mut second = UnbufferedEncoder::from_progress(first.progress());
+    /// second.push(&mut buffer, b"lo")?;
+    /// assert_eq!(rt; second.finalize(&mut buffer), Ok(6));
+    /// assert!(rt; buffer.starts_with(b"\x06hello"));
+    /// ```
     pub fn from_progress(progress: EncoderProgress) -> Self
         ensures { reached_by result ≡ reached_at progress }
     {
@@ -75,8 +100,10 @@ impl UnbufferedEncoder {
 
     /// Makes the encoder one that has taken nothing.
     pub fn reset(&mut self)
-        ensures start { reached_by self.new ≡ record { block = record { index = 0; code = 1 }; full = false } }
-        ensures taken { (buffer : List ℕ) → 0 < length buffer → CobsEncoderAfter buffer (reached_by self.new) [] }
+        ensures start { reached_by self.new
+            ≡ record { block = record { index = 0; code = 1 }; full = false } }
+        ensures taken { (buffer : List ℕ) → 0 < length buffer
+            → CobsEncoderAfter buffer (reached_by self.new) [] }
     {
         *self = UnbufferedEncoder::new();
     }
@@ -119,20 +146,24 @@ impl UnbufferedEncoder {
     /// They are refused exactly where the encoded frame of all the bytes that were taken so far, followed by these, is
     /// longer than the buffer, or where no frame can have come so far in a buffer of this length. Then neither the
     /// encoder nor the buffer has changed, so the caller may end the frame, or push fewer bytes. An empty push changes
-    /// nothing. The bytes of the buffer behind the frame are never written.
+    /// nothing. The bytes of the buffer after the frame are never written.
     ///
     /// # Errors
     /// `DestBufTooSmallError` where the bytes are refused.
     pub fn push(&mut self, dest: &mut [u8], bytes: &[u8]) -> Result<(), DestBufTooSmallError>
         ensures fits { (m : List ℕ) → CobsEncoderAfter dest.old (reached_by self.old) m
             → (IsOk result ↔ (encoded_len (m ++ bytes.now) ≤ length dest.old)) }
-        ensures taken { OnOk result ((m : List ℕ) → CobsEncoderAfter dest.old (reached_by self.old) m
+        ensures taken { OnOk result ((m : List ℕ)
+            → CobsEncoderAfter dest.old (reached_by self.old) m
             → CobsEncoderAfter dest.new (reached_by self.new) (m ++ bytes.now)) }
-        ensures rest { OnOk result (let end = end_of (reached_by self.new) in drop end dest.new ≡ drop end dest.old) }
+        ensures rest { OnOk result (let end = end_of (reached_by self.new) in
+            drop end dest.new ≡ drop end dest.old) }
         ensures within { OnOk result (IsPlaceIn (length dest.new) (reached_by self.new)) }
         ensures len { length dest.new ≡ length dest.old }
-        ensures refused { OnErr result ((dest.new ≡ dest.old) × (reached_by self.new ≡ reached_by self.old)) }
-        ensures empty { bytes.now ≡ [] → (dest.new ≡ dest.old) × (reached_by self.new ≡ reached_by self.old) }
+        ensures refused { OnErr result
+            ((dest.new ≡ dest.old) × (reached_by self.new ≡ reached_by self.old)) }
+        ensures empty { bytes.now ≡ []
+            → (dest.new ≡ dest.old) × (reached_by self.new ≡ reached_by self.old) }
     {
         let Some(mut progress) = self.place_in(dest) else {
             return Err(DestBufTooSmallError);
@@ -149,26 +180,32 @@ impl UnbufferedEncoder {
         Ok(())
     }
 
-    /// Ends the message, and answers the length of its encoded frame in bytes. The buffer begins with that frame, and the
-    /// encoder has taken nothing. Every byte behind the frame is as it was.
+    /// Ends the message, and answers the length of its encoded frame in bytes. The buffer begins with that frame, and
+    /// the encoder has taken nothing. Every byte after the frame is as it was.
     ///
     /// # Errors
-    /// `DestBufTooSmallError` where no frame can have come so far in a buffer of this length. Then neither the encoder nor
-    /// the buffer has changed.
+    /// `DestBufTooSmallError` where no frame can have come so far in a buffer of this length. Then neither the
+    /// encoder nor the buffer has changed.
     pub fn finalize(&mut self, dest: &mut [u8]) -> Result<usize, DestBufTooSmallError>
-        ensures fits { (m : List ℕ) → CobsEncoderAfter dest.old (reached_by self.old) m → IsOk result }
-        ensures len { IfOk result (λ n. (m : List ℕ) → CobsEncoderAfter dest.old (reached_by self.old) m
+        ensures fits { (m : List ℕ) → CobsEncoderAfter dest.old (reached_by self.old) m
+            → IsOk result }
+        ensures len { IfOk result (λ n. (m : List ℕ)
+            → CobsEncoderAfter dest.old (reached_by self.old) m
             → n ≡ encoded_len m) }
-        ensures frame { IfOk result (λ n. (m : List ℕ) → CobsEncoderAfter dest.old (reached_by self.old) m
+        ensures frame { IfOk result (λ n. (m : List ℕ)
+            → CobsEncoderAfter dest.old (reached_by self.old) m
             → IsEncodedFrame (take n dest.new) m) }
-        ensures no_sentinel { IfOk result (λ n. (m : List ℕ) → CobsEncoderAfter dest.old (reached_by self.old) m
+        ensures no_sentinel { IfOk result
+            (λ n. (m : List ℕ) → CobsEncoderAfter dest.old (reached_by self.old) m
             → HasNoZero (take n dest.new)) }
         ensures end { IfOk result (λ n. n ≡ end_of (reached_by self.old)) }
         ensures within { IfOk result (λ n. n ≤ length dest.old) }
         ensures rest { IfOk result (λ n. drop n dest.new ≡ drop n dest.old) }
         ensures buffer_len { length dest.new ≡ length dest.old }
-        ensures start { OnOk result (reached_by self.new ≡ record { block = record { index = 0; code = 1 }; full = false }) }
-        ensures refused { OnErr result ((dest.new ≡ dest.old) × (reached_by self.new ≡ reached_by self.old)) }
+        ensures start { OnOk result (reached_by self.new
+            ≡ record { block = record { index = 0; code = 1 }; full = false }) }
+        ensures refused { OnErr result
+            ((dest.new ≡ dest.old) × (reached_by self.new ≡ reached_by self.old)) }
     {
         let Some(progress) = self.place_in(dest) else {
             return Err(DestBufTooSmallError);

@@ -9,10 +9,18 @@ use crate::enc::sentinel::{encode_including_sentinels, encode_with_sentinel};
 use crate::max_encoding_length;
 use std::alloc::{AllocError, Global};
 
-/// The encoded frame of `source`, in a vector of exactly its bytes. No sentinel stands before or behind it.
+/// The encoded frame of `source`, in a vector of exactly its bytes. No sentinel stands before or after it.
 ///
-/// The caller owes that [`max_encoding_length`](crate::max_encoding_length) of the message's length fits a `usize`.
-/// Memory is asked for once, for that many bytes, and `AllocError` says that it was refused.
+/// Precondition: [`max_encoding_length`](crate::max_encoding_length) of the message's length fits a `usize`. Memory is
+/// asked for once, for that many bytes.
+///
+/// # Errors
+/// `AllocError` where that memory is refused.
+///
+/// ```
+/// let frame = encode_vec(alloc, b"hello")?;
+/// assert_eq!(rt; frame.as_slice(), b"\x06hello".as_slice());
+/// ```
 #[tactic(auto, using(crate::proofs::LengthLemmas::bounds))]
 pub fn encode_vec(alloc: Global, source: &[u8]) -> Result<Vec<u8>, AllocError>
     requires { max_encoded_len (length source.now) < 2 ^ 64 }
@@ -27,8 +35,17 @@ pub fn encode_vec(alloc: Global, source: &[u8]) -> Result<Vec<u8>, AllocError>
 
 /// 0, the encoded frame of `source` and 0, in a vector of exactly these bytes.
 ///
-/// The caller owes that [`max_encoding_length`](crate::max_encoding_length) of the message's length, plus 2, fits a
-/// `usize`. Memory is asked for once, for that many bytes, and `AllocError` says that it was refused.
+/// Precondition: [`max_encoding_length`](crate::max_encoding_length) of the message's length, plus 2, fits a `usize`.
+/// Memory is asked for once, for that many bytes. That the vector has both sentinels and no byte more is a choice of
+/// this library.
+///
+/// # Errors
+/// `AllocError` where that memory is refused.
+///
+/// ```
+/// let delimited = encode_vec_including_sentinels(alloc, b"hello")?;
+/// assert_eq!(rt; delimited.as_slice(), b"\0\x06hello\0".as_slice());
+/// ```
 #[tactic(auto, using(crate::proofs::LengthLemmas::bounds))]
 pub fn encode_vec_including_sentinels(alloc: Global, source: &[u8]) -> Result<Vec<u8>, AllocError>
     requires { max_encoded_len (length source.now) + 2 < 2 ^ 64 }
@@ -44,8 +61,16 @@ pub fn encode_vec_including_sentinels(alloc: Global, source: &[u8]) -> Result<Ve
 /// The encoded frame of `source` for this sentinel, in a vector of exactly its bytes: each byte of the frame of
 /// [`encode_vec`], changed by exclusive or with `sentinel`.
 ///
-/// The caller owes that [`max_encoding_length`](crate::max_encoding_length) of the message's length fits a `usize`.
-/// Memory is asked for once, for that many bytes, and `AllocError` says that it was refused.
+/// Precondition: [`max_encoding_length`](crate::max_encoding_length) of the message's length fits a `usize`. Memory is
+/// asked for once, for that many bytes.
+///
+/// # Errors
+/// `AllocError` where that memory is refused.
+///
+/// ```
+/// let frame = encode_vec_with_sentinel(alloc, &[10, 11, 0, 12], 255)?;
+/// assert_eq!(rt; frame.as_slice(), [252, 245, 244, 253, 243].as_slice());
+/// ```
 #[tactic(auto, using(crate::proofs::LengthLemmas::bounds))]
 pub fn encode_vec_with_sentinel(
     alloc: Global,

@@ -1,0 +1,512 @@
+//! The examples that stand in the documentation of `cobs`, run.
+//!
+//! Each block has the lines of the example of the item that its comment names.
+
+use cobs::{
+    CobsDecoder, CobsDecoderHeapless, CobsDecoderOwned, CobsEncoder, DecodeError, DecodeResult,
+    DecodeVecError, DecoderPhase, DecoderState, DestBufTooSmallError, EncoderProgress,
+    EncoderState, FrameDecoder, FrameKind, FrameOutcome, FrameReader, Next, PieceEnd, PushError,
+    PushResult, Recorded, UnbufferedDecoder, UnbufferedEncoder, WriteBuffer, decode,
+    decode_in_place, decode_in_place_report, decode_in_place_with_sentinel, decode_stream,
+    decode_vec, decode_vec_with_sentinel, decode_with_sentinel, encode, encode_frames,
+    encode_frames_room, encode_including_sentinels, encode_vec, encode_vec_including_sentinels,
+    encode_vec_with_sentinel, encode_with_sentinel, frame_kind, max_encoding_length,
+    max_encoding_overhead, try_encode, try_encode_including_sentinels, try_encode_with_sentinel,
+};
+use std::test::Fail;
+
+#[test]
+fn a_message_there_and_back(rt: HostRuntime) -> Result<(), Fail> {
+    // the page of the crate: a message
+    {
+        let mut frame = [0; 16];
+        let len = encode(b"hello", &mut frame);
+        assert_eq!(rt; &frame[..len], b"\x06hello".as_slice());
+
+        let mut message = [0; 16];
+        let report = decode(&frame[..len], &mut message)?;
+        assert_eq!(rt; report.frame_size(), 5);
+        assert!(rt; message.starts_with(b"hello"));
+    }
+
+    // the page of the crate: a stream
+    {
+        let mut buffer = [0; 64];
+        let mut decoder = CobsDecoder::new(&mut buffer);
+        for byte in b"\x06hello\0\x03hi\0" {
+            if let Ok(Some(len)) = decoder.feed(*byte) {
+                let message = decoder.dest().get(..len);
+                assert!(rt; message == Some(b"hello") || message == Some(b"hi"));
+            }
+        }
+    }
+    Ok(())
+}
+
+#[test]
+fn the_lengths(rt: HostRuntime) {
+    // max_encoding_overhead
+    {
+        assert_eq!(rt; max_encoding_overhead(0), 1);
+        assert_eq!(rt; max_encoding_overhead(254), 1);
+        assert_eq!(rt; max_encoding_overhead(255), 2);
+    }
+
+    // max_encoding_length
+    {
+        assert_eq!(rt; max_encoding_length(0), 1);
+        assert_eq!(rt; max_encoding_length(254), 255);
+        assert_eq!(rt; max_encoding_length(255), 257);
+    }
+}
+
+#[test]
+fn frames_in_slices(rt: HostRuntime) -> Result<(), Fail> {
+    let alloc = rt.alloc();
+    // encode
+    {
+        let mut dest = [170; 6];
+        let len = encode(&[10, 11, 0, 12], &mut dest);
+        assert_eq!(rt; len, 5);
+        assert_eq!(rt; dest, [3, 10, 11, 2, 12, 170]);
+    }
+
+    // try_encode
+    {
+        let mut dest = [170; 5];
+        assert_eq!(rt; try_encode(b"hello", &mut dest), Err(DestBufTooSmallError));
+        assert_eq!(rt; dest, [170; 5]);
+        assert_eq!(rt; try_encode(b"hell", &mut dest), Ok(5));
+        assert_eq!(rt; &dest, b"\x05hell");
+    }
+
+    // encode_with_sentinel
+    {
+        let mut dest = [170; 6];
+        let len = encode_with_sentinel(&[10, 11, 0, 12], &mut dest, 255);
+        assert_eq!(rt; len, 5);
+        assert_eq!(rt; dest, [252, 245, 244, 253, 243, 170]);
+    }
+
+    // try_encode_with_sentinel
+    {
+        let mut dest = [170; 3];
+        let refused = try_encode_with_sentinel(&[1, 0, 2], &mut dest, 1);
+        assert_eq!(rt; refused, Err(DestBufTooSmallError));
+        assert_eq!(rt; try_encode_with_sentinel(&[1, 0], &mut dest, 1), Ok(3));
+        assert_eq!(rt; dest, [3, 0, 0]);
+    }
+
+    // encode_including_sentinels
+    {
+        let mut dest = [170; 8];
+        let len = encode_including_sentinels(&[10, 11, 0, 12], &mut dest);
+        assert_eq!(rt; len, 7);
+        assert_eq!(rt; dest, [0, 3, 10, 11, 2, 12, 0, 170]);
+    }
+
+    // try_encode_including_sentinels
+    {
+        let mut dest = [170; 4];
+        let refused = try_encode_including_sentinels(&[1, 2], &mut dest);
+        assert_eq!(rt; refused, Err(DestBufTooSmallError));
+        assert_eq!(rt; try_encode_including_sentinels(&[1], &mut dest), Ok(4));
+        assert_eq!(rt; dest, [0, 2, 1, 0]);
+    }
+
+    // DestBufTooSmallError
+    {
+        let text = DestBufTooSmallError.to_string(alloc)?;
+        assert_eq!(rt; text.as_str(), "out of bounds error during encoding");
+    }
+    Ok(())
+}
+
+#[test]
+fn frames_and_messages_in_vectors(rt: HostRuntime) -> Result<(), Fail> {
+    let alloc = rt.alloc();
+    // encode_vec
+    {
+        let frame = encode_vec(alloc, b"hello")?;
+        assert_eq!(rt; frame.as_slice(), b"\x06hello".as_slice());
+    }
+
+    // encode_vec_including_sentinels
+    {
+        let delimited = encode_vec_including_sentinels(alloc, b"hello")?;
+        assert_eq!(rt; delimited.as_slice(), b"\0\x06hello\0".as_slice());
+    }
+
+    // encode_vec_with_sentinel
+    {
+        let frame = encode_vec_with_sentinel(alloc, &[10, 11, 0, 12], 255)?;
+        assert_eq!(rt; frame.as_slice(), [252, 245, 244, 253, 243].as_slice());
+    }
+
+    // DecodeVecError
+    {
+        let refused = decode_vec(alloc, &[]);
+        assert_eq!(rt;
+            refused,
+            Err(DecodeVecError::Decode(DecodeError::EmptyFrame))
+        );
+    }
+
+    // decode_vec
+    {
+        let message = decode_vec(alloc, b"\x06hello\0")?;
+        assert_eq!(rt; message.as_slice(), b"hello".as_slice());
+    }
+
+    // decode_vec_with_sentinel
+    {
+        let message = decode_vec_with_sentinel(alloc, &[252, 245, 244, 253, 243], 255)?;
+        assert_eq!(rt; message.as_slice(), [10, 11, 0, 12].as_slice());
+    }
+    Ok(())
+}
+
+#[test]
+fn messages_that_come_in_pieces(rt: HostRuntime) -> Result<(), Fail> {
+    // CobsEncoder
+    {
+        let mut dest = [170; 7];
+        let mut encoder = CobsEncoder::new(&mut dest);
+        encoder.push(b"hel")?;
+        encoder.push(b"lo")?;
+        assert_eq!(rt; encoder.finalize(), 6);
+        assert_eq!(rt; &dest, b"\x06hello\xaa");
+    }
+
+    // push
+    {
+        let mut dest = [170; 4];
+        let mut encoder = CobsEncoder::new(&mut dest);
+        encoder.push(&[1, 2])?;
+        assert_eq!(rt; encoder.push(&[3, 4]), Err(DestBufTooSmallError));
+        assert_eq!(rt; encoder.push(&[3]), Ok(()));
+        assert_eq!(rt; encoder.finalize(), 4);
+        assert_eq!(rt; dest, [4, 1, 2, 3]);
+    }
+
+    // EncoderState
+    {
+        let mut output = [0; 3];
+        let mut state = EncoderState::default();
+        if let PushResult::AddSingle(byte) = state.push(7) {
+            output[1] = byte;
+        }
+        if let PushResult::ModifyFromStartAndSkip((0, code)) = state.push(0) {
+            output[0] = code;
+        }
+        assert_eq!(rt; state.finalize(), (2, 1));
+        output[2] = 1;
+        assert_eq!(rt; output, [2, 7, 1]);
+    }
+
+    // can_push
+    {
+        assert!(rt; EncoderState::default().can_push());
+    }
+
+    // EncoderProgress
+    {
+        let mut buffer = [0; 64];
+        let mut encoder = UnbufferedEncoder::new();
+        encoder.push(&mut buffer, b"hello")?;
+        let progress = EncoderProgress {
+            index: 0,
+            code: 6,
+            is_full: false,
+        };
+        assert_eq!(rt; encoder.progress(), progress);
+    }
+
+    // UnbufferedEncoder
+    {
+        let mut encoder = UnbufferedEncoder::new();
+        let mut buffer = [0; 64];
+        encoder.push(&mut buffer, b"hel")?;
+        encoder.push(&mut buffer, b"lo")?;
+        assert_eq!(rt; encoder.finalize(&mut buffer), Ok(6));
+        assert!(rt; buffer.starts_with(b"\x06hello"));
+    }
+
+    // from_progress
+    {
+        let mut buffer = [0; 64];
+        let mut first = UnbufferedEncoder::new();
+        first.push(&mut buffer, b"hel")?;
+        let mut second = UnbufferedEncoder::from_progress(first.progress());
+        second.push(&mut buffer, b"lo")?;
+        assert_eq!(rt; second.finalize(&mut buffer), Ok(6));
+        assert!(rt; buffer.starts_with(b"\x06hello"));
+    }
+    Ok(())
+}
+
+#[test]
+fn messages_in_slices(rt: HostRuntime) -> Result<(), Fail> {
+    // decode
+    {
+        let mut dest = [170; 12];
+        let report = decode(b"\0\x0chello world\0\x02a", &mut dest)?;
+        assert_eq!(rt; report.parsed_size(), 14);
+        assert_eq!(rt; report.frame_size(), 11);
+        assert_eq!(rt; &dest, b"hello world\xaa");
+
+        let mut dest = [170; 3];
+        let broken = DecodeError::InvalidFrame { decoded_bytes: 2 };
+        assert_eq!(rt; decode(&[4, 1, 2, 0], &mut dest), Err(broken));
+        assert_eq!(rt; dest, [1, 2, 170]);
+    }
+
+    // decode_with_sentinel
+    {
+        let mut dest = [170; 5];
+        let len = decode_with_sentinel(&[252, 245, 244, 253, 243, 255], &mut dest, 255);
+        assert_eq!(rt; len, Ok(4));
+        assert_eq!(rt; dest, [10, 11, 0, 12, 170]);
+    }
+
+    // DecodeError
+    {
+        assert_eq!(rt; decode(&[], &mut [0; 4]), Err(DecodeError::EmptyFrame));
+        assert_eq!(rt;
+            decode(&[3, 1, 2], &mut [0; 1]),
+            Err(DecodeError::TargetBufTooSmall)
+        );
+    }
+
+    // DecodeReport
+    {
+        let report = decode(&[0, 3, 1, 2, 0, 1], &mut [0; 4])?;
+        assert_eq!(rt; report.parsed_size(), 5);
+        assert_eq!(rt; report.frame_size(), 2);
+    }
+    Ok(())
+}
+
+#[test]
+fn messages_in_place_and_kinds_of_frames(rt: HostRuntime) -> Result<(), Fail> {
+    // decode_in_place_report
+    {
+        let mut buf = [3, 10, 11, 2, 12, 0];
+        let report = decode_in_place_report(&mut buf)?;
+        assert_eq!(rt; report.parsed_size(), 5);
+        assert_eq!(rt; report.frame_size(), 4);
+        assert_eq!(rt; buf, [10, 11, 0, 12, 12, 0]);
+    }
+
+    // decode_in_place
+    {
+        let mut buff = [3, 10, 11, 2, 12, 0];
+        assert_eq!(rt; decode_in_place(&mut buff), Ok(4));
+        assert_eq!(rt; buff, [10, 11, 0, 12, 12, 0]);
+
+        let broken = DecodeError::InvalidFrame { decoded_bytes: 2 };
+        assert_eq!(rt; decode_in_place(&mut [2, 1, 3, 7]), Err(broken));
+    }
+
+    // decode_in_place_with_sentinel
+    {
+        let mut buff = [252, 245, 244, 253, 243];
+        assert_eq!(rt; decode_in_place_with_sentinel(&mut buff, 255), Ok(4));
+        assert_eq!(rt; buff, [10, 11, 0, 12, 12]);
+    }
+
+    // frame_kind
+    {
+        assert_eq!(rt; frame_kind(b"\x06hello"), FrameKind::Canonical);
+        assert_eq!(rt; frame_kind(b"\x07hello"), FrameKind::NotAFrame);
+
+        let mut longer = [1; 256];
+        longer[0] = 255;
+        assert_eq!(rt; frame_kind(&longer), FrameKind::Longer);
+        assert_eq!(rt; frame_kind(&longer[..255]), FrameKind::Canonical);
+    }
+    Ok(())
+}
+
+#[test]
+fn streams_fed_to_decoders(rt: HostRuntime) -> Result<(), Fail> {
+    let alloc = rt.alloc();
+    // PushError
+    {
+        let mut buffer = [0; 4];
+        let mut decoder = CobsDecoder::new(&mut buffer);
+        let refused = PushError {
+            error: DecodeError::InvalidFrame { decoded_bytes: 1 },
+            parsed_size: 3,
+        };
+        assert_eq!(rt; decoder.push(&[3, 7, 0, 2, 9, 0]), Err(refused));
+    }
+
+    // CobsDecoder
+    {
+        let mut buffer = [0; 8];
+        let mut decoder = CobsDecoder::new(&mut buffer);
+        assert_eq!(rt; decoder.push(b"\x06hel"), Ok(None));
+        let report = decoder.push(b"lo\0\x03hi\0")?;
+        let sizes = report.map(|report| (report.parsed_size(), report.frame_size()));
+        assert_eq!(rt; sizes, Some((3, 5)));
+        assert!(rt; decoder.dest().starts_with(b"hello"));
+    }
+
+    // feed
+    {
+        let mut buffer = [0; 2];
+        let mut decoder = CobsDecoder::new(&mut buffer);
+        assert_eq!(rt; decoder.feed(2), Ok(None));
+        assert_eq!(rt; decoder.feed(7), Ok(None));
+        assert_eq!(rt; decoder.feed(0), Ok(Some(1)));
+        assert_eq!(rt; decoder.dest(), [7, 0].as_slice());
+    }
+
+    // CobsDecoderOwned
+    {
+        let mut decoder = CobsDecoderOwned::new(alloc, 8)?;
+        assert_eq!(rt; decoder.feed(2), Ok(None));
+        assert_eq!(rt; decoder.feed(7), Ok(None));
+        assert_eq!(rt; decoder.feed(0), Ok(Some(1)));
+        assert!(rt; decoder.dest().starts_with(&[7]));
+    }
+
+    // CobsDecoderHeapless
+    {
+        let mut decoder = CobsDecoderHeapless::<2>::new();
+        assert_eq!(rt; decoder.feed(2), Ok(None));
+        assert_eq!(rt; decoder.feed(7), Ok(None));
+        assert_eq!(rt; decoder.feed(0), Ok(Some(1)));
+        assert_eq!(rt; decoder.dest(), [7, 0].as_slice());
+    }
+
+    // FrameDecoder
+    {
+        let mut decoder = CobsDecoderHeapless::<4>::new();
+        let stream = [3, 7, 0, 2, 9, 0];
+        assert_eq!(rt; decoder.feed_piece(&stream), Some((PieceEnd::Broken(1), 3)));
+        assert_eq!(rt;
+            decoder.feed_piece(&stream[3..]),
+            Some((PieceEnd::Message(1), 3))
+        );
+        assert_eq!(rt; decoder.buffer(), [9, 0, 0, 0].as_slice());
+    }
+
+    // WriteBuffer
+    {
+        let mut buffer = [0; 3];
+        let mut decoder = CobsDecoder::new(&mut buffer);
+        assert_eq!(rt; decoder.push(&[3, 7]), Ok(None));
+        decoder.write_dest(0, &[9]);
+        assert_eq!(rt; decoder.feed(8), Ok(None));
+        assert_eq!(rt; decoder.feed(0), Ok(Some(2)));
+        assert_eq!(rt; decoder.dest(), [9, 8, 0].as_slice());
+    }
+    Ok(())
+}
+
+#[test]
+fn decoders_whose_buffer_is_passed_to_each_call(rt: HostRuntime) -> Result<(), Fail> {
+    // DecoderState
+    {
+        let mut state = DecoderState::default();
+        assert!(rt; matches!(state.feed(2), Ok(DecodeResult::DataStart)));
+        assert!(rt; matches!(state.feed(7), Ok(DecodeResult::DataContinue(7))));
+        assert!(rt; matches!(state.feed(1), Ok(DecodeResult::DataContinue(0))));
+        assert!(rt; matches!(state.feed(0), Ok(DecodeResult::DataComplete)));
+    }
+
+    // DecoderPhase
+    {
+        let mut buffer = [0; 8];
+        let mut decoder = UnbufferedDecoder::new();
+        assert_eq!(rt; decoder.phase(), DecoderPhase::Idle);
+        assert_eq!(rt; decoder.push(&mut buffer, &[4, 7, 8]), Ok(None));
+        let phase = DecoderPhase::Within {
+            is_full: false,
+            lacking: 1,
+            written: 2,
+        };
+        assert_eq!(rt; decoder.phase(), phase);
+    }
+
+    // UnbufferedDecoder
+    {
+        let mut decoder = UnbufferedDecoder::new();
+        let mut buffer = [0; 64];
+        let report = decoder.push(&mut buffer, b"\x06hello\0")?;
+        assert_eq!(rt; report.map(|report| report.frame_size()), Some(5));
+        assert!(rt; buffer.starts_with(b"hello"));
+    }
+
+    // from_phase
+    {
+        let mut buffer = [0; 8];
+        let mut first = UnbufferedDecoder::new();
+        assert_eq!(rt; first.push(&mut buffer, &[4, 7, 8]), Ok(None));
+        let mut second = UnbufferedDecoder::from_phase(first.phase());
+        assert_eq!(rt; second.feed(&mut buffer, 9), Ok(None));
+        assert_eq!(rt; second.feed(&mut buffer, 0), Ok(Some(3)));
+        assert!(rt; buffer.starts_with(&[7, 8, 9]));
+    }
+
+    // feed_piece
+    {
+        let mut decoder = UnbufferedDecoder::new();
+        let mut buffer = [0; 4];
+        let stream = b"\x06hello\0\x03hi\0";
+        assert_eq!(rt;
+            decoder.feed_piece(&mut buffer, stream),
+            Some((PieceEnd::TooLong, 7))
+        );
+        assert_eq!(rt;
+            decoder.feed_piece(&mut buffer, &stream[7..]),
+            Some((PieceEnd::Message(2), 4))
+        );
+    }
+    Ok(())
+}
+
+#[test]
+fn whole_streams_and_readers(rt: HostRuntime) -> Result<(), Fail> {
+    let alloc = rt.alloc();
+    // decode_stream
+    {
+        let mut buffer = [0; 4];
+        let mut decoder = CobsDecoder::new(&mut buffer);
+        let found = decode_stream(alloc, &mut decoder, b"\x03hi\0\x03a\0\x06hello\0\x02")?;
+        assert_eq!(rt; found.len(), 3);
+        assert_eq!(rt; found[0], FrameOutcome::Message(b"hi".to_vec(alloc)?));
+        assert_eq!(rt; found[1], FrameOutcome::Broken(1));
+        assert_eq!(rt; found[2], FrameOutcome::TooLong);
+    }
+
+    // encode_frames
+    {
+        let messages = [b"hi".to_vec(alloc)?, Vec::new(alloc)];
+        if encode_frames_room(&messages).is_some() {
+            let stream = encode_frames(alloc, &messages)?;
+            assert_eq!(rt; stream.as_slice(), b"\x03hi\0\x01\0".as_slice());
+        }
+    }
+
+    // encode_frames_room
+    {
+        let messages = [b"hi".to_vec(alloc)?, Vec::new(alloc)];
+        assert_eq!(rt; encode_frames_room(&messages), Some(6));
+    }
+
+    // FrameReader
+    {
+        let mut source = Recorded::new(b"\x06hello\0\x03h".as_slice());
+        let mut reader = FrameReader::new(CobsDecoderHeapless::<8>::new());
+        assert_eq!(rt; reader.next_frame(&mut source), Ok(Next::Message(5)));
+        assert!(rt; reader.decoder().dest().starts_with(b"hello"));
+        assert_eq!(rt;
+            reader.next_frame(&mut source),
+            Ok(Next::End { unfinished: true })
+        );
+    }
+    Ok(())
+}
