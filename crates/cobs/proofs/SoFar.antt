@@ -1,18 +1,21 @@
 -- A stream so far: what a loop that feeds one byte after another keeps.
-use Rattle.std.proofs.Common.{◌≡◌, ◌≢◌, ℕ, zero, suc, ◌+◌, ◌-◌, ◌<◌, ◌≤◌, Bool, true, false, cond, leb, List, [], ◌∷◌, ◌++◌, length, take, drop, get_or, refl, sym, ap, ◌∙◌, subst, arith, append_assoc, length-append, length-take, length-drop, inl, inr, ◌⊎◌, Option, Some, None, Result}
+use Rattle.std.proofs.Common.{◌≡◌, ◌≢◌, ℕ, zero, suc, ◌+◌, ◌-◌, ◌<◌, ◌≤◌, Bool, true, false, cond, leb, List, [], ◌∷◌, ◌++◌, length, take, drop, get_or, refl, sym, ap, ◌∙◌, subst, arith, append_assoc, length-append, length-take, length-drop, map, inl, inr, ◌⊎◌, Option, Some, None, Result}
 use Rattle.std.specs.List.{Contains}
-use Rattle.std.proofs.lemmas.List.{append-nil, take_all, take_more, take-append-drop}
+use Rattle.std.proofs.lemmas.List.{append-nil, drop-drop, take_all, take_more, take-append-drop}
 use Rattle.std.proofs.lemmas.List.Elements.{All-nil, All-cons, All-append, Contains-push_cases, Contains-append_cases}
 use Rattle.std.proofs.lemmas.Bool.{leb-true}
 use Rattle.std.proofs.Math.Seq.{take-add}
 use Rattle.cobs.specs.Grammar.{HasNoZero}
 use Rattle.cobs.specs.Piece.{output, is_whole, parts, parts_behind}
-use Rattle.cobs.specs.Stream.{unended, Outcome, Message, Broken, TooLong, outcome_of, stream_outcomes}
+use Rattle.cobs.specs.Stream.{ended_pieces, unended, Outcome, Message, Broken, TooLong, outcome_of, stream_outcomes}
 use Rattle.cobs.specs.Decoder.{Phase, Idle, PhaseAfter, DecoderAfter, Feeds, fed, told, answer_to, answer_at_end, phase_after}
-use Rattle.cobs.specs.Streaming.{outcome_told, AreAlike, AreAlikeAtFirst, TakesBytes, TakesPiece, outcome_at, IsWithin}
+use Rattle.cobs.specs.Push.{last_piece}
+use Rattle.cobs.specs.Streaming.{LeavesRest, outcome_told, AreAlike, AreAlikeAtFirst, TakesBytes, TakesPiece, outcome_at, IsWithin}
 use Rattle.cobs.specs.declared.dec.frame_decoder.PieceEnd.{PieceEnd}
 use Rattle.cobs.specs.declared.dec.report.DecodeError.{DecodeError}
-use Rattle.cobs.proofs.StreamLemmas.{stream_outcomes-no_zero, unended-no_zero, stream_outcomes-push, unended-push, outcomes_at, outcomes_at-nonzero, stream_outcomes-append, unended-append}
+use Rattle.cobs.proofs.PieceLemmas.{output-push}
+use Rattle.cobs.proofs.PushLemmas.{last_piece-unended, last_piece-zero}
+use Rattle.cobs.proofs.StreamLemmas.{fed-nonzero, stream_outcomes-no_zero, unended-no_zero, stream_outcomes-push, unended-push, outcomes_at, outcomes_at-nonzero, stream_outcomes-append, unended-append}
 
 -- from a buffer and a phase before, these bytes led to a buffer, a phase and these outcomes
 abbrev pub SoFar : List ℕ → Phase → List ℕ → Phase → List ℕ → List Outcome → Type 0
@@ -239,13 +242,75 @@ module _ {buffer₀ buffer buffer' : List ℕ} {phase₀ phase phase' : Phase} {
       → SoFar buffer₀ phase₀ buffer' phase' (take (i + 1) bytes) found
   step_none z none s f = rw append-nil at (rw none at (step_zero z s f))
 
+-- WHAT IS LEFT UNTOUCHED
+
+drop_later : (a b : ℕ) (xs ys : List ℕ) → a ≤ b → drop a xs ≡ drop a ys → drop b xs ≡ drop b ys
+drop_later a b xs ys h e =
+    let k : b ≡ a + (b - a) = omega arith in
+    ap (λ (n : ℕ). drop n xs) k ∙ sym (drop-drop (b - a) a xs) ∙ ap (drop (b - a)) e ∙ drop-drop (b - a) a ys ∙ ap (λ (n : ℕ). drop n ys) (sym k)
+
+output_longer : (q : List ℕ) (b : ℕ) → length (output q) ≤ length (output (q ++ b ∷ []))
+output_longer [] b = omega (arith, ap length output-nil)
+output_longer (c ∷ q) b = omega (arith, ap length (output-push c q b).1, length-append (output (c ∷ q)) (output-push c q b).0)
+
+right_nothing : (xs ys : List Outcome) → xs ++ ys ≡ [] → ys ≡ []
+right_nothing [] ys e = e
+right_nothing (x ∷ xs) ys e = cc
+
+-- a zero that ends no piece stands where none has begun
+nothing_at : (q : List ℕ) (n : ℕ) → outcomes_at q 0 n ≡ [] → q ≡ []
+nothing_at [] n e = refl
+nothing_at (c ∷ q) n e = cc
+
+nothing_before : (p done : List ℕ) (b n : ℕ) → stream_outcomes (p ++ (done ++ b ∷ [])) n ≡ [] → stream_outcomes (p ++ done) n ≡ []
+nothing_before p done b n none = left_nothing _ _ (sym (outcomes_on p done b n) ∙ none)
+
+pub LeavesRest-start : (buffer : List ℕ) (phase : Phase) → LeavesRest buffer phase [] buffer
+LeavesRest-start buffer phase = λ p h none. refl
+
+module _ {buffer₀ buffer buffer' : List ℕ} {phase₀ phase phase' : Phase} {done : List ℕ} {found : List Outcome} {result : Result (Option ℕ) DecodeError} where
+  LeavesRest-nonzero : (b : ℕ) → b ≢ 0 → SoFar buffer₀ phase₀ buffer phase done found → LeavesRest buffer₀ phase₀ done buffer → Feeds buffer phase b result buffer' phase' → LeavesRest buffer₀ phase₀ (done ++ b ∷ []) buffer'
+  LeavesRest-nonzero b nz s l f = λ p h none.
+      let q = unended (p ++ done) in
+      let behind : unended (p ++ (done ++ b ∷ [])) ≡ q ++ b ∷ [] = unended_on p done b ∙ fed-nonzero q b nz in
+      rw behind (f.untouched q (here s p h) nz ∙ drop_later _ _ _ _ (output_longer q b) (l p h (nothing_before p done b _ none)))
+
+  LeavesRest-zero : SoFar buffer₀ phase₀ buffer phase done found → LeavesRest buffer₀ phase₀ done buffer → Feeds buffer phase 0 result buffer' phase' → LeavesRest buffer₀ phase₀ (done ++ 0 ∷ []) buffer'
+  LeavesRest-zero s l f = λ p h none.
+      let q : unended (p ++ done) ≡ [] = nothing_at _ _ (right_nothing _ _ (sym (outcomes_on p done 0 (length buffer₀)) ∙ none)) in
+      let behind : unended (p ++ (done ++ 0 ∷ [])) ≡ unended (p ++ done) = unended_on p done 0 ∙ sym q in
+      rw (behind, f.zero_unchanged refl) (l p h (nothing_before p done 0 _ none))
+
+  pub LeavesRest-byte : (b : ℕ) → SoFar buffer₀ phase₀ buffer phase done found → LeavesRest buffer₀ phase₀ done buffer → Feeds buffer phase b result buffer' phase' → LeavesRest buffer₀ phase₀ (done ++ b ∷ []) buffer'
+  LeavesRest-byte zero s l f = LeavesRest-zero s l f
+  LeavesRest-byte (suc b) s l f = LeavesRest-nonzero (suc b) (λ e. omega arith) s l f
+
+-- at a place in the bytes
+pub LeavesRest-step : {buffer₀ buffer buffer' : List ℕ} {phase₀ phase phase' : Phase} {found : List Outcome} {result : Result (Option ℕ) DecodeError} (bytes : List ℕ) (i : ℕ) → i < length bytes
+    → SoFar buffer₀ phase₀ buffer phase (take i bytes) found → LeavesRest buffer₀ phase₀ (take i bytes) buffer → Feeds buffer phase (get_or bytes i 0) result buffer' phase' → LeavesRest buffer₀ phase₀ (take (i + 1) bytes) buffer'
+LeavesRest-step bytes i within s l f = rw (take_more bytes i 0 within) (LeavesRest-byte (get_or bytes i 0) s l f)
+
+no_outcomes : (t : List ℕ) (n : ℕ) → stream_outcomes t n ≡ [] → ended_pieces t ≡ []
+unfolding stream_outcomes
+no_outcomes t n e = map_nothing (ended_pieces t) e
+  where
+    map_nothing : (xs : List (List ℕ)) → map (λ p. outcome_of p n) xs ≡ [] → xs ≡ []
+    map_nothing [] e = refl
+    map_nothing (x ∷ xs) e = cc
+
 -- A PIECE IS TAKEN
 
 pub TakesPiece-at_zero : {buffer₀ buffer buffer' : List ℕ} {phase₀ phase phase' : Phase} {result : Result (Option ℕ) DecodeError} (bytes : List ℕ) (i : ℕ) → i < length bytes → get_or bytes i 0 ≡ 0
-    → SoFar buffer₀ phase₀ buffer phase (take i bytes) [] → Feeds buffer phase (get_or bytes i 0) result buffer' phase'
+    → SoFar buffer₀ phase₀ buffer phase (take i bytes) [] → LeavesRest buffer₀ phase₀ (take i bytes) buffer → Feeds buffer phase (get_or bytes i 0) result buffer' phase'
     → (end : PieceEnd) → outcome_told result buffer' ≡ outcome_at end buffer' ∷ [] → IsWithin (length buffer') end
     → TakesPiece buffer₀ phase₀ bytes (Some (end, i + 1)) buffer' phase'
-TakesPiece-at_zero {buffer₀} {buffer} {buffer'} bytes i within z s f end e fits = record {
+TakesPiece-at_zero {buffer₀} {buffer} {buffer'} bytes i within z s l f end e fits = record {
+  untouched = λ p h.
+      let none : stream_outcomes (p ++ take i bytes) (length buffer₀) ≡ [] = nil-alike (stream_outcomes (p ++ take i bytes) (length buffer₀)) (s.alike p h) in
+      let whole : p ++ take (i + 1) bytes ≡ (p ++ take i bytes) ++ 0 ∷ []
+      = ap (λ (x : List ℕ). p ++ x) (take_more bytes i 0 within ∙ ap (λ (x : ℕ). take i bytes ++ x ∷ []) z) ∙ sym (append_assoc p (take i bytes) (0 ∷ [])) in
+      let last : last_piece (p ++ take (i + 1) bytes) ≡ unended (p ++ take i bytes) = ap last_piece whole ∙ last_piece-zero (p ++ take i bytes) (no_outcomes _ _ none) in
+      rw (last, f.zero_unchanged z) (l p h none);
   takes = rw e at (step_zero bytes i within z s f);
   ends = record {
     front = take i bytes;
@@ -254,6 +319,18 @@ TakesPiece-at_zero {buffer₀} {buffer} {buffer'} bytes i within z s f end e fit
   };
   idle = f.zero_idle z;
   within = (omega (arith, within), subst (λ n. IsWithin n end) (f.len ∙ s.len) fits);
+}
+
+-- no piece ends in all of the bytes
+pub TakesPiece-none : {buffer₀ buffer : List ℕ} {phase₀ phase : Phase} (bytes : List ℕ) → SoFar buffer₀ phase₀ buffer phase bytes [] → LeavesRest buffer₀ phase₀ bytes buffer → TakesPiece buffer₀ phase₀ bytes None buffer phase
+TakesPiece-none {buffer₀} bytes s l = record {
+  takes = s;
+  ends = tt;
+  untouched = λ p h.
+      let none : stream_outcomes (p ++ bytes) (length buffer₀) ≡ [] = nil-alike (stream_outcomes (p ++ bytes) (length buffer₀)) (s.alike p h) in
+      rw (last_piece-unended (p ++ bytes) (no_outcomes _ _ none)) (l p h none);
+  idle = tt;
+  within = tt;
 }
 
 -- THE BYTES FROM A PLACE ON
@@ -297,3 +374,7 @@ pub SoFar-run : {buffer₀ buffer buffer' : List ℕ} {phase₀ phase phase' : P
 SoFar-run {buffer₀} {buffer} {buffer'} {phase₀} {phase} {phase'} {found} bytes i count s t =
     subst (λ (x : List Outcome). SoFar buffer₀ phase₀ buffer' phase' (take (i + count) bytes) x) (append-nil found)
     (rw (take-add i count bytes) (SoFar-more s (rw (from_place bytes i) at t)))
+
+pub LeavesRest-run : (buffer₀ : List ℕ) (phase₀ : Phase) (bytes : List ℕ) (i count : ℕ) (buffer : List ℕ) → LeavesRest buffer₀ phase₀ (take i bytes ++ take count (take (length bytes - i) (drop i bytes))) buffer
+    → LeavesRest buffer₀ phase₀ (take (i + count) bytes) buffer
+LeavesRest-run buffer₀ phase₀ bytes i count buffer l = rw (take-add i count bytes) (rw (from_place bytes i) at l)

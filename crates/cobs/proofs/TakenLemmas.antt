@@ -1,14 +1,15 @@
 -- Bytes that end no piece, taken at once.
-use Rattle.std.proofs.Common.{◌≡◌, ◌≢◌, ℕ, zero, suc, Bool, false, cond, eqb, List, [], ◌∷◌, length, refl, ap, subst, arith, Option, None, Result, Ok}
+use Rattle.std.proofs.Common.{◌≡◌, ◌≢◌, ℕ, zero, suc, Bool, false, cond, eqb, List, [], ◌∷◌, ◌++◌, append_assoc, length, refl, ap, subst, arith, Option, None, Result, Ok}
 use Rattle.std.proofs.lemmas.List.Elements.{All-head, All-tail}
 use Rattle.std.proofs.lemmas.Bool.{ne_eqb}
 use Rattle.cobs.specs.Grammar.{HasNoZero}
 use Rattle.cobs.specs.Decoder.{Phase, Idle, Over}
-use Rattle.cobs.specs.Streaming.{TakesBytes, outcome_told}
+use Rattle.cobs.specs.Streaming.{LeavesRest, TakesBytes, outcome_told}
 use Rattle.cobs.specs.Machine.{next_phase, next_buffer, next_answer, FedInTurn}
 use Rattle.cobs.specs.declared.dec.report.DecodeError.{DecodeError}
 use Rattle.cobs.proofs.FeedLemmas.{Feeds-step}
-use Rattle.cobs.proofs.SoFar.{SoFar-start, SoFar-more, TakesBytes-zero, TakesBytes-nonzero}
+use Rattle.std.proofs.lemmas.List.{append-nil}
+use Rattle.cobs.proofs.SoFar.{LeavesRest-byte, SoFar-start, SoFar-more, TakesBytes-zero, TakesBytes-nonzero}
 
 -- a byte whose answer is `Ok(None)`
 one_quiet : (buffer : List ℕ) (phase : Phase) (byte : ℕ) → next_answer (length buffer) phase byte ≡ Ok None → TakesBytes buffer phase (byte ∷ []) [] (next_buffer buffer phase byte) (next_phase (length buffer) phase byte)
@@ -34,3 +35,24 @@ TakesBytes-over buffer [] h = SoFar-start buffer Over
 TakesBytes-over buffer (zero ∷ bytes) h = absurd (All-head (λ b. b ≢ 0) 0 bytes h refl)
 TakesBytes-over buffer (suc b ∷ bytes) h =
     SoFar-more (one_over buffer b) (TakesBytes-over buffer bytes (All-tail (λ b. b ≢ 0) (suc b) bytes h))
+
+-- what such bytes leave untouched, behind others in which no piece ended
+
+pub LeavesRest-fed : (buffer₀ : List ℕ) (phase₀ : Phase) (done buffer : List ℕ) (phase : Phase) (bytes buffer' : List ℕ) (phase' : Phase) → FedInTurn buffer phase bytes buffer' phase'
+    → TakesBytes buffer₀ phase₀ done [] buffer phase → LeavesRest buffer₀ phase₀ done buffer → LeavesRest buffer₀ phase₀ (done ++ bytes) buffer'
+LeavesRest-fed buffer₀ phase₀ done buffer phase [] buffer' phase' f s l = rw (append-nil done, f.0) l
+LeavesRest-fed buffer₀ phase₀ done buffer phase (byte ∷ bytes) buffer' phase' f s l =
+    let quiet = one_quiet buffer phase byte f.0 in
+    let step = Feeds-step buffer phase byte (rw f.0 tt) in
+    subst (λ (x : List ℕ). LeavesRest buffer₀ phase₀ x buffer') (append_assoc done (byte ∷ []) bytes)
+    (LeavesRest-fed buffer₀ phase₀ (done ++ byte ∷ []) (next_buffer buffer phase byte) (next_phase (length buffer) phase byte) bytes buffer' phase' f.1 (SoFar-more s quiet) (LeavesRest-byte byte s l step))
+
+pub LeavesRest-over : (buffer₀ : List ℕ) (phase₀ : Phase) (done buffer bytes : List ℕ) → HasNoZero bytes → TakesBytes buffer₀ phase₀ done [] buffer Over → LeavesRest buffer₀ phase₀ done buffer
+    → LeavesRest buffer₀ phase₀ (done ++ bytes) buffer
+LeavesRest-over buffer₀ phase₀ done buffer [] h s l = rw (append-nil done) l
+LeavesRest-over buffer₀ phase₀ done buffer (zero ∷ bytes) h s l = absurd (All-head (λ b. b ≢ 0) 0 bytes h refl)
+LeavesRest-over buffer₀ phase₀ done buffer (suc b ∷ bytes) h s l =
+    let nonzero : eqb (suc b) 0 ≡ false = ne_eqb (suc b) 0 (λ z. omega arith) in
+    subst (λ (x : List ℕ). LeavesRest buffer₀ phase₀ x buffer) (append_assoc done (suc b ∷ []) bytes)
+    (LeavesRest-over buffer₀ phase₀ (done ++ suc b ∷ []) buffer bytes (All-tail (λ b. b ≢ 0) (suc b) bytes h) (SoFar-more s (one_over buffer b))
+    (LeavesRest-byte (suc b) s l (Feeds-step buffer Over (suc b) (rw nonzero tt))))

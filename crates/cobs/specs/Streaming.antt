@@ -1,11 +1,13 @@
 -- Whole streams: what contracts see of their outcomes, and of the frames of several messages.
-use Rattle.std.specs.Prelude.{ℕ, ◌≡◌, ◌+◌, ◌≤◌, List, [], ◌∷◌, ◌++◌, length, take, map, sum_by, Option, Some, None, IfSome, Result, Ok, Err}
+use Rattle.std.specs.Prelude.{ℕ, ◌≡◌, ◌+◌, ◌≤◌, List, [], ◌∷◌, ◌++◌, length, take, drop, map, sum_by, Option, Some, None, IfSome, Result, Ok, Err}
 use Rattle.std.specs.List.{AllZip, Contains, flat_map}
 use Rattle.std.specs.Global.{Vec}
 use Rattle.cobs.specs.Grammar.{IsEncodedFrame}
 use Rattle.cobs.specs.Length.{max_encoded_len}
 use Rattle.cobs.specs.Stream.{Outcome, Message, Broken, TooLong, stream_outcomes, unended}
 use Rattle.cobs.specs.Decoder.{Phase, Idle, PhaseAfter, DecoderAfter}
+use Rattle.cobs.specs.Piece.{output}
+use Rattle.cobs.specs.Push.{last_piece}
 use Rattle.cobs.specs.declared.dec.frame_decoder.PieceEnd.{PieceEnd}
 use Rattle.cobs.specs.declared.dec.frame_decoder.PieceEnd.TheVariants as ends
 use Rattle.cobs.specs.declared.dec.report.DecodeError.{DecodeError}
@@ -85,10 +87,20 @@ pub record EndsPiece (n : ℕ) (phase : Phase) (bytes : List ℕ) (count : ℕ) 
   pub taken : take count bytes ≡ front ++ 0 ∷ []
   pub none_before : (p : List ℕ) → PhaseAfter n phase p → stream_outcomes (p ++ front) n ≡ []
 
+-- where no piece ends in these bytes, the buffer's bytes behind the output of the piece that they leave unended are as
+-- they were
+abbrev pub LeavesRest : List ℕ → Phase → List ℕ → List ℕ → Type 0
+LeavesRest buffer phase bytes buffer' =
+    (p : List ℕ) → PhaseAfter (length buffer) phase p → stream_outcomes (p ++ bytes) (length buffer) ≡ []
+    → let written = length (output (unended (p ++ bytes))) in drop written buffer' ≡ drop written buffer
+
 -- a decoder takes the bytes through the first zero that ends a piece, or all of them, and this is its answer
 pub record TakesPiece (buffer : List ℕ) (phase : Phase) (bytes : List ℕ) (result : Option (PieceEnd × ℕ)) (buffer' : List ℕ) (phase' : Phase) : Type 0 where
   pub takes : TakesBytes buffer phase (bytes_taken bytes result) (outcomes_taken result buffer') buffer' phase'
   pub ends : IfSome result (λ found. EndsPiece (length buffer) phase bytes found.1)
+  -- the bytes behind the output of the piece that was read last
+  pub untouched : (p : List ℕ) → PhaseAfter (length buffer) phase p
+      → let written = length (output (last_piece (p ++ bytes_taken bytes result))) in drop written buffer' ≡ drop written buffer
   -- in every phase
   pub idle : IfSome result (λ found. phase' ≡ Idle)
   pub within : IfSome result (λ found. (found.1 ≤ length bytes) × IsWithin (length buffer) found.0)

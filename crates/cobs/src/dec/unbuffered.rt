@@ -1,12 +1,12 @@
 //! The streaming decoder whose buffer is passed to each call. The three others stand on it.
-ghost use Rattle.std.specs.Prelude.{◌≡◌, ◌<◌, ◌≤◌, ℕ, false, List, [], length, take, Err, IfOk, IfSome};
+ghost use Rattle.std.specs.Prelude.{◌≡◌, ◌<◌, ◌≤◌, ℕ, false, List, [], length, take, Err, IfOk, IfSome, ◌++◌};
 ghost use Rattle.cobs.specs.Grammar.{HasNoZero};
-ghost use Rattle.cobs.specs.Decoder.{DecoderAfter, Feeds, Idle, Over};
+ghost use Rattle.cobs.specs.Decoder.{DecoderAfter, Feeds, Idle, Over, Phase};
 ghost use Rattle.cobs.specs.declared.dec.report.DecodeError.TheVariants.{TargetBufTooSmall};
 ghost use Rattle.cobs.specs.Buffers.{phase_at, phase_of};
 ghost use Rattle.cobs.specs.Machine.{next_phase, next_buffer, next_answer, end_answer, FedInTurn};
 ghost use Rattle.cobs.specs.Push.{PushesBytes};
-ghost use Rattle.cobs.specs.Streaming.{TakesBytes, TakesPiece};
+ghost use Rattle.cobs.specs.Streaming.{LeavesRest, TakesBytes, TakesPiece};
 
 use crate::dec::fit::fitting_len;
 use crate::dec::frame_decoder::{PieceEnd, piece_end};
@@ -418,6 +418,9 @@ impl UnbufferedDecoder {
         ensures within { result ≤ length bytes.now }
         ensures takes { TakesBytes dest.old (phase_of self.old) (take result bytes.now) []
             dest.new (phase_of self.new) }
+        ensures rest { (buffer : List ℕ) (phase : Phase) (done : List ℕ)
+            → TakesBytes buffer phase done [] dest.old (phase_of self.old) → LeavesRest buffer phase done dest.old
+            → LeavesRest buffer phase (done ++ take result bytes.now) dest.new }
     {
         if self.over {
             return piece_len(bytes);

@@ -1,4 +1,5 @@
 use Rattle.std.proofs.Common.{◌≡◌, take, []}
+use Rattle.cobs.specs.Streaming.{LeavesRest}
 use Rattle.cobs.proofs.SoFar.{SoFar}
 use Rattle.cobs.proofs.dec.frame_decoder.FrameDecoder.feed_piece.Given as goal
 
@@ -9,5 +10,6 @@ invariant-by_byte g l =
     let loan = g.Self.FrameDecoder.loan in
     record {
       so_far : SoFar (bytes l.fn.self) (phase l.fn.self) (bytes l.self) (phase l.self) (take l.i l.stream) [];
+      rest : LeavesRest (bytes l.fn.self) (phase l.fn.self) (take l.i l.stream) (bytes l.self);
       same_loan : loan l.self ≡ loan l.fn.self;
     }
