@@ -64,6 +64,7 @@ broken-within {buffer} count consumed h =
         after_zero = h.takes.after_zero;
       };
       ends = h.ends;
+      untouched = h.untouched;
       idle = h.idle;
       within = h.within;
     }

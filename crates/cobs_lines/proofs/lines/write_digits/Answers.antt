@@ -25,7 +25,15 @@ by_chunk-preserved g c =
     ap (λ (n : ℕ). encode_lower (take n bytes)) is ∙ ap encode_lower (take-add at (end - at) bytes) ∙ encode_with-append lower_digits (take at bytes) chunk ∙ ap (λ (l : List ℕ). encode_lower (take at bytes) ++ l) (sym digits) in
     record {
       within = omega (arith, c.min-end.ensures);
-      room = omega (arith, length-append c.encode_to_slice.new.output (drop (2 * (end - at)) c.by_chunk.digits), length-drop (2 * (end - at)) c.by_chunk.digits,
-      ap length digits, length-encode_with lower_digits chunk, count, c.by_chunk.invariant.room, c.min-end.ensures);
+      room = omega (
+        arith,
+        length-append c.encode_to_slice.new.output (drop (2 * (end - at)) c.by_chunk.digits),
+        length-drop (2 * (end - at)) c.by_chunk.digits,
+        ap length digits,
+        length-encode_with lower_digits chunk,
+        count,
+        c.by_chunk.invariant.room,
+        c.min-end.ensures,
+      );
       written = rw whole (Appends-trans _ _ _ _ _ c.by_chunk.invariant.written c.in_ok-write_all.ensures.bytes);
     }
