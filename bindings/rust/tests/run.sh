@@ -82,7 +82,9 @@ part 'units, signatures, differences and vectors' units
 part 'without a feature' units --no-default-features
 part 'examples of the documentation' cargo test --offline --doc
 part 'documentation' documentation
-if command -v pkg-config >/dev/null && command -v rt >/dev/null && command -v make >/dev/null; then
+if [ -n "${JCOBS_LIB_DIR:-}" ]; then
+    skip 'over an installed library' 'a free choice: JCOBS_LIB_DIR names the library'
+elif command -v pkg-config >/dev/null && command -v rt >/dev/null && command -v make >/dev/null; then
     part 'over an installed library' installed
 else
     skip 'over an installed library' 'pkg-config, rt or make'
