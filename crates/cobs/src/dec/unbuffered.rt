@@ -118,7 +118,7 @@ impl UnbufferedDecoder {
                 decoded_bytes: ended.dest_idx,
             });
         }
-        // Never so, since no more is counted than was written.
+        // Only so in another buffer than the one that the piece began in, since no more is counted than was written.
         if len < ended.dest_idx {
             return Err(DecodeError::TargetBufTooSmall);
         }
