@@ -3,8 +3,9 @@
 
 usage: tests/docs.py [--write]
 
-- Each example of a doc comment in crates/cobs/src stands, with the same lines, in a test of
-  crates/cobs_vectors/src/doc_examples.rt, so it is run. Lines that begin with 'use ' are left out.
+- Each example of a doc comment in crates/cobs/src stands, with the same lines, in doc_examples.rt of
+  crates/cobs_vectors/src, whose tests run it, or as a caller in worked_callers.rt. Lines that begin with 'use ' are
+  left out.
 - The contracts in crates/cobs/CALLING.md are those of the public calls in src. With --write they are written.
 
 It prints what differs, and the status is then 1.
@@ -15,7 +16,7 @@ from pathlib import Path
 
 TOP = Path(__file__).resolve().parent.parent
 SRC = TOP / "crates/cobs/src"
-TESTS = TOP / "crates/cobs_vectors/src/doc_examples.rt"
+TESTS = [TOP / "crates/cobs_vectors/src" / name for name in ("doc_examples.rt", "worked_callers.rt")]
 CALLING = TOP / "crates/cobs/CALLING.md"
 FILES = """lib enc enc/sentinel enc/vector enc/encoder enc/state enc/unbuffered dec dec/sentinel dec/vector dec/in_place
     dec/kind dec/report dec/state dec/frame_decoder dec/write_buffer dec/lent dec/owned dec/heapless dec/unbuffered
@@ -39,11 +40,11 @@ def examples(path):
 
 def unrun_examples():
     """A line for each example that isn't in the tests."""
-    run = "\n".join(line.strip() for line in TESTS.read_text().splitlines() if line.strip())
+    run = "\n".join(line.strip() for path in TESTS for line in path.read_text().splitlines() if line.strip())
     for path in sorted(SRC.rglob("*.rt")):
         for number, lines in examples(path):
             if "\n".join(lines) not in run:
-                yield f"{path.relative_to(TOP)}:{number}: {TESTS.name} lacks this example"
+                yield f"{path.relative_to(TOP)}:{number}: {TESTS[0].name} lacks this example"
 
 
 def contract(lines):

@@ -14,7 +14,17 @@ ghost use Rattle.cobs.specs.Reading.{HasTaken, IsOutcome, TellsFirst};
 use crate::dec::{FrameDecoder, PieceEnd};
 use std::io::Read;
 
-/// What a call of `next_frame` found.
+/// What a call of [`next_frame`](FrameReader::next_frame) found.
+///
+/// ```
+/// let mut source = Recorded::new([3, 7, 0].as_slice());
+/// let mut reader = FrameReader::new(CobsDecoderHeapless::<8>::new());
+/// assert_eq!(rt; reader.next_frame(&mut source), Ok(Next::Broken(1)));
+/// assert_eq!(rt;
+///     reader.next_frame(&mut source),
+///     Ok(Next::End { unfinished: false })
+/// );
+/// ```
 #[derive(Debug, PartialEq, Eq, Drop)]
 pub enum Next {
     /// A piece ended that is a frame. Its message is the first so many bytes of the decoder's buffer.
@@ -48,6 +58,14 @@ pub enum ReadFault {
 ///
 /// Contracts see a source by its own relation of steps: a read, that is a failure or the bytes that it gave, takes
 /// it from one state to the next.
+///
+/// ```
+/// let mut source = Recorded::new([2, 7].as_slice());
+/// let mut chunk = [0; 64];
+/// assert_eq!(rt; source.read_some(&mut chunk), Some(2));
+/// assert!(rt; chunk.starts_with(&[2, 7]));
+/// assert_eq!(rt; source.read_some(&mut chunk), Some(0));
+/// ```
 pub trait FrameSource {
     /// Whether this read may take the source from the one state to the other.
     ghost step: { Self → Option (List ℕ) → Self → Type 0 };
@@ -62,6 +80,16 @@ pub trait FrameSource {
 }
 
 /// Any reader as a source of bytes: one `read` a call, and each error of it is a failed read.
+///
+/// ```
+/// let mut source = Recorded::new([1, 0, 2].as_slice());
+/// let mut reader = FrameReader::new(CobsDecoderHeapless::<8>::new());
+/// assert_eq!(rt; reader.next_frame(&mut source), Ok(Next::Message(0)));
+/// assert_eq!(rt;
+///     reader.next_frame(&mut source),
+///     Ok(Next::End { unfinished: true })
+/// );
+/// ```
 #[derive(Drop)]
 pub struct Recorded<R> {
     reader: R,
@@ -79,6 +107,11 @@ impl<R: Read> Recorded<R> {
     }
 
     /// The reader, as the reads so far have left it.
+    ///
+    /// ```
+    /// let source = Recorded::new([1, 0].as_slice());
+    /// assert_eq!(rt; source.into_inner(), [1, 0].as_slice());
+    /// ```
     pub fn into_inner(self) -> R
         ensures { result ≡ reader_of self }
     {
@@ -230,6 +263,17 @@ impl<D: FrameDecoder> FrameReader<D> {
     /// `Io` where the last read of this call failed, and `TooManyReads` where this call made 65,536 reads that all gave
     /// bytes. In both no piece ended, the decoder has taken all bytes that were read, and the next call goes on after
     /// them.
+    ///
+    /// ```
+    /// let mut reader = FrameReader::new(CobsDecoderHeapless::<8>::new());
+    /// let mut first = Recorded::new([2].as_slice());
+    /// assert_eq!(rt;
+    ///     reader.next_frame(&mut first),
+    ///     Ok(Next::End { unfinished: true })
+    /// );
+    /// let mut second = Recorded::new([7, 0].as_slice());
+    /// assert_eq!(rt; reader.next_frame(&mut second), Ok(Next::Message(1)));
+    /// ```
     pub fn next_frame<S: FrameSource>(&mut self, source: &mut S) -> Result<Next, ReadFault>
         ensures next { ReadsNext S.step source.old source.new
             (reader_state D.bytes D.phase self.old) result (reader_state D.bytes D.phase self.new) }

@@ -1,5 +1,15 @@
 //! What holds of messages, frames, pieces and streams. These functions do nothing when they run: their contracts are
 //! the laws, and a caller who calls one may use it in its own proof.
+//!
+//! ```
+//! fn encode_by_longest(source: &[u8], dest: &mut [u8]) -> usize
+//!     requires { max_encoded_len (length source.now) ≤ length dest.old }
+//!     ensures { result ≡ encoded_len source.now }
+//! {
+//!     law_4();
+//!     encode(source, dest)
+//! }
+//! ```
 ghost use Rattle.std.specs.Prelude.{◌≡◌, ◌≢◌, ◌↔◌, ◌<◌, ◌≤◌, ◌+◌, ℕ, List, [], ◌∷◌, ◌++◌, length, All};
 ghost use Rattle.cobs.specs.Grammar.{HasNoZero, IsEncodedFrame, IsFrame, Reads, joint, last_of, lone_block};
 ghost use Rattle.cobs.specs.Laws.{EndsAtBlock, IsAtSentinel, IsFrameFor, IsFront};

@@ -40,8 +40,8 @@
 //! # Which call for what
 //!
 //! - A message at hand: [`encode`] into a slice with room, [`try_encode`] where it may lack, [`encode_vec`] into a
-//!   vector. The forms `.._with_sentinel` take another sentinel than 0, and the forms `.._including_sentinels` write one
-//!   on each side.
+//!   vector. The forms `.._with_sentinel` take another sentinel than 0, and the forms `.._including_sentinels` write
+//!   one on each side.
 //! - A message that comes in pieces: [`CobsEncoder`] over a slice, [`UnbufferedEncoder`] where the buffer is passed to
 //!   each call, [`EncoderState`] into a container of your own.
 //! - A frame at hand: [`decode`] into a slice, [`decode_vec`] into a vector, [`decode_in_place`] where it lies.

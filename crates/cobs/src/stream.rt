@@ -17,6 +17,13 @@ use crate::{max_encoding_length, max_encoding_overhead};
 use std::alloc::{AllocError, Global};
 
 /// What became of a piece of a stream: a nonempty stretch of bytes that a zero ended.
+///
+/// ```
+/// let mut decoder = CobsDecoderHeapless::<4>::new();
+/// let found = decode_stream(alloc, &mut decoder, &[2, 7, 0])?;
+/// let message = FrameOutcome::Message([7].to_vec(alloc)?);
+/// assert_eq!(rt; found.first(), Some(&message));
+/// ```
 #[derive(Debug, PartialEq, Eq, Drop)]
 pub enum FrameOutcome {
     /// The piece is a frame, and these are the bytes of its message.

@@ -2,11 +2,12 @@
 //!
 //! Each block has the lines of the example of the item that its comment names.
 
+use arrayvec::ArrayVec;
 use cobs::{
     CobsDecoder, CobsDecoderHeapless, CobsDecoderOwned, CobsEncoder, DecodeError, DecodeResult,
     DecodeVecError, DecoderPhase, DecoderState, DestBufTooSmallError, EncoderProgress,
-    EncoderState, FrameDecoder, FrameKind, FrameOutcome, FrameReader, Next, PieceEnd, PushError,
-    PushResult, Recorded, UnbufferedDecoder, UnbufferedEncoder, WriteBuffer, decode,
+    EncoderState, FrameDecoder, FrameKind, FrameOutcome, FrameReader, FrameSource, Next, PieceEnd,
+    PushError, PushResult, Recorded, UnbufferedDecoder, UnbufferedEncoder, WriteBuffer, decode,
     decode_in_place, decode_in_place_report, decode_in_place_with_sentinel, decode_stream,
     decode_vec, decode_vec_with_sentinel, decode_with_sentinel, encode, encode_frames,
     encode_frames_room, encode_including_sentinels, encode_vec, encode_vec_including_sentinels,
@@ -17,7 +18,7 @@ use std::test::Fail;
 
 #[test]
 fn a_message_there_and_back(rt: HostRuntime) -> Result<(), Fail> {
-    // the page of the crate: a message
+    // the crate: a message
     {
         let mut frame = [0; 16];
         let len = encode(b"hello", &mut frame);
@@ -29,7 +30,7 @@ fn a_message_there_and_back(rt: HostRuntime) -> Result<(), Fail> {
         assert!(rt; message.starts_with(b"hello"));
     }
 
-    // the page of the crate: a stream
+    // the crate: a stream
     {
         let mut buffer = [0; 64];
         let mut decoder = CobsDecoder::new(&mut buffer);
@@ -44,7 +45,7 @@ fn a_message_there_and_back(rt: HostRuntime) -> Result<(), Fail> {
 }
 
 #[test]
-fn the_lengths(rt: HostRuntime) {
+fn lengths(rt: HostRuntime) {
     // max_encoding_overhead
     {
         assert_eq!(rt; max_encoding_overhead(0), 1);
@@ -61,7 +62,7 @@ fn the_lengths(rt: HostRuntime) {
 }
 
 #[test]
-fn frames_in_slices(rt: HostRuntime) -> Result<(), Fail> {
+fn encode_into_a_slice(rt: HostRuntime) -> Result<(), Fail> {
     let alloc = rt.alloc();
     // encode
     {
@@ -80,6 +81,16 @@ fn frames_in_slices(rt: HostRuntime) -> Result<(), Fail> {
         assert_eq!(rt; &dest, b"\x05hell");
     }
 
+    // DestBufTooSmallError
+    {
+        let text = DestBufTooSmallError.to_string(alloc)?;
+        assert_eq!(rt; text.as_str(), "out of bounds error during encoding");
+    }
+    Ok(())
+}
+
+#[test]
+fn encode_for_a_sentinel(rt: HostRuntime) {
     // encode_with_sentinel
     {
         let mut dest = [170; 6];
@@ -104,7 +115,10 @@ fn frames_in_slices(rt: HostRuntime) -> Result<(), Fail> {
         assert_eq!(rt; len, 7);
         assert_eq!(rt; dest, [0, 3, 10, 11, 2, 12, 0, 170]);
     }
+}
 
+#[test]
+fn encode_for_a_sentinel_further(rt: HostRuntime) {
     // try_encode_including_sentinels
     {
         let mut dest = [170; 4];
@@ -113,17 +127,10 @@ fn frames_in_slices(rt: HostRuntime) -> Result<(), Fail> {
         assert_eq!(rt; try_encode_including_sentinels(&[1], &mut dest), Ok(4));
         assert_eq!(rt; dest, [0, 2, 1, 0]);
     }
-
-    // DestBufTooSmallError
-    {
-        let text = DestBufTooSmallError.to_string(alloc)?;
-        assert_eq!(rt; text.as_str(), "out of bounds error during encoding");
-    }
-    Ok(())
 }
 
 #[test]
-fn frames_and_messages_in_vectors(rt: HostRuntime) -> Result<(), Fail> {
+fn vectors(rt: HostRuntime) -> Result<(), Fail> {
     let alloc = rt.alloc();
     // encode_vec
     {
@@ -157,7 +164,12 @@ fn frames_and_messages_in_vectors(rt: HostRuntime) -> Result<(), Fail> {
         let message = decode_vec(alloc, b"\x06hello\0")?;
         assert_eq!(rt; message.as_slice(), b"hello".as_slice());
     }
+    Ok(())
+}
 
+#[test]
+fn vectors_further(rt: HostRuntime) -> Result<(), Fail> {
+    let alloc = rt.alloc();
     // decode_vec_with_sentinel
     {
         let message = decode_vec_with_sentinel(alloc, &[252, 245, 244, 253, 243], 255)?;
@@ -167,7 +179,7 @@ fn frames_and_messages_in_vectors(rt: HostRuntime) -> Result<(), Fail> {
 }
 
 #[test]
-fn messages_that_come_in_pieces(rt: HostRuntime) -> Result<(), Fail> {
+fn the_encoder_over_a_slice(rt: HostRuntime) -> Result<(), Fail> {
     // CobsEncoder
     {
         let mut dest = [170; 7];
@@ -178,7 +190,7 @@ fn messages_that_come_in_pieces(rt: HostRuntime) -> Result<(), Fail> {
         assert_eq!(rt; &dest, b"\x06hello\xaa");
     }
 
-    // push
+    // CobsEncoder::push
     {
         let mut dest = [170; 4];
         let mut encoder = CobsEncoder::new(&mut dest);
@@ -189,6 +201,30 @@ fn messages_that_come_in_pieces(rt: HostRuntime) -> Result<(), Fail> {
         assert_eq!(rt; dest, [4, 1, 2, 3]);
     }
 
+    // CobsEncoder::new
+    {
+        let mut dest = [170; 1];
+        assert_eq!(rt; CobsEncoder::new(&mut dest).finalize(), 1);
+        assert_eq!(rt; dest, [1]);
+    }
+    Ok(())
+}
+
+#[test]
+fn the_encoder_over_a_slice_further(rt: HostRuntime) -> Result<(), Fail> {
+    // CobsEncoder::finalize
+    {
+        let mut dest = [170; 3];
+        let mut encoder = CobsEncoder::new(&mut dest);
+        encoder.push(&[0])?;
+        assert_eq!(rt; encoder.finalize(), 2);
+        assert_eq!(rt; dest, [1, 1, 170]);
+    }
+    Ok(())
+}
+
+#[test]
+fn the_state_of_an_encoder(rt: HostRuntime) {
     // EncoderState
     {
         let mut output = [0; 3];
@@ -204,11 +240,36 @@ fn messages_that_come_in_pieces(rt: HostRuntime) -> Result<(), Fail> {
         assert_eq!(rt; output, [2, 7, 1]);
     }
 
-    // can_push
+    // EncoderState::can_push
     {
         assert!(rt; EncoderState::default().can_push());
     }
 
+    // PushResult
+    {
+        let mut state = EncoderState::default();
+        assert!(rt; matches!(state.push(7), PushResult::AddSingle(7)));
+        assert!(rt; matches!(state.push(0), PushResult::ModifyFromStartAndSkip((0, 2))));
+    }
+}
+
+#[test]
+fn the_state_of_an_encoder_further(rt: HostRuntime) {
+    // EncoderState::push
+    {
+        let mut state = EncoderState::default();
+        assert!(rt; matches!(state.push(0), PushResult::ModifyFromStartAndSkip((0, 1))));
+        assert!(rt; matches!(state.push(9), PushResult::AddSingle(9)));
+    }
+
+    // EncoderState::finalize
+    {
+        assert_eq!(rt; EncoderState::default().finalize(), (0, 1));
+    }
+}
+
+#[test]
+fn the_encoder_without_a_buffer(rt: HostRuntime) -> Result<(), Fail> {
     // EncoderProgress
     {
         let mut buffer = [0; 64];
@@ -231,8 +292,12 @@ fn messages_that_come_in_pieces(rt: HostRuntime) -> Result<(), Fail> {
         assert_eq!(rt; encoder.finalize(&mut buffer), Ok(6));
         assert!(rt; buffer.starts_with(b"\x06hello"));
     }
+    Ok(())
+}
 
-    // from_progress
+#[test]
+fn the_encoder_without_a_buffer_further(rt: HostRuntime) -> Result<(), Fail> {
+    // UnbufferedEncoder::from_progress
     {
         let mut buffer = [0; 64];
         let mut first = UnbufferedEncoder::new();
@@ -242,11 +307,60 @@ fn messages_that_come_in_pieces(rt: HostRuntime) -> Result<(), Fail> {
         assert_eq!(rt; second.finalize(&mut buffer), Ok(6));
         assert!(rt; buffer.starts_with(b"\x06hello"));
     }
+
+    // UnbufferedEncoder::new
+    {
+        let mut buffer = [170; 2];
+        assert_eq!(rt; UnbufferedEncoder::new().finalize(&mut buffer), Ok(1));
+        assert_eq!(rt; buffer, [1, 170]);
+    }
+
+    // UnbufferedEncoder::progress
+    {
+        let progress = UnbufferedEncoder::new().progress();
+        assert_eq!(rt;
+            (progress.index, progress.code, progress.is_full),
+            (0, 1, false)
+        );
+    }
     Ok(())
 }
 
 #[test]
-fn messages_in_slices(rt: HostRuntime) -> Result<(), Fail> {
+fn the_encoder_without_a_buffer_also(rt: HostRuntime) -> Result<(), Fail> {
+    // UnbufferedEncoder::reset
+    {
+        let mut buffer = [170; 2];
+        let mut encoder = UnbufferedEncoder::new();
+        encoder.push(&mut buffer, &[7])?;
+        encoder.reset();
+        assert_eq!(rt; encoder.finalize(&mut buffer), Ok(1));
+        assert_eq!(rt; buffer, [1, 7]);
+    }
+
+    // UnbufferedEncoder::push
+    {
+        let mut buffer = [170; 3];
+        let mut encoder = UnbufferedEncoder::new();
+        assert_eq!(rt;
+            encoder.push(&mut buffer, &[7, 8, 9]),
+            Err(DestBufTooSmallError)
+        );
+        assert_eq!(rt; encoder.push(&mut buffer, &[7, 8]), Ok(()));
+        assert_eq!(rt; encoder.finalize(&mut buffer), Ok(3));
+        assert_eq!(rt; buffer, [3, 7, 8]);
+    }
+
+    // UnbufferedEncoder::finalize
+    {
+        let refused = UnbufferedEncoder::new().finalize(&mut []);
+        assert_eq!(rt; refused, Err(DestBufTooSmallError));
+    }
+    Ok(())
+}
+
+#[test]
+fn decode_into_a_slice(rt: HostRuntime) -> Result<(), Fail> {
     // decode
     {
         let mut dest = [170; 12];
@@ -277,18 +391,32 @@ fn messages_in_slices(rt: HostRuntime) -> Result<(), Fail> {
             Err(DecodeError::TargetBufTooSmall)
         );
     }
+    Ok(())
+}
 
+#[test]
+fn decode_into_a_slice_further(rt: HostRuntime) -> Result<(), Fail> {
     // DecodeReport
     {
         let report = decode(&[0, 3, 1, 2, 0, 1], &mut [0; 4])?;
         assert_eq!(rt; report.parsed_size(), 5);
         assert_eq!(rt; report.frame_size(), 2);
     }
+
+    // DecodeReport::parsed_size
+    {
+        assert_eq!(rt; decode(&[0, 1, 0], &mut [])?.parsed_size(), 3);
+    }
+
+    // DecodeReport::frame_size
+    {
+        assert_eq!(rt; decode(&[0, 2, 7], &mut [0; 4])?.frame_size(), 1);
+    }
     Ok(())
 }
 
 #[test]
-fn messages_in_place_and_kinds_of_frames(rt: HostRuntime) -> Result<(), Fail> {
+fn decode_in_place_and_its_forms(rt: HostRuntime) -> Result<(), Fail> {
     // decode_in_place_report
     {
         let mut buf = [3, 10, 11, 2, 12, 0];
@@ -314,7 +442,11 @@ fn messages_in_place_and_kinds_of_frames(rt: HostRuntime) -> Result<(), Fail> {
         assert_eq!(rt; decode_in_place_with_sentinel(&mut buff, 255), Ok(4));
         assert_eq!(rt; buff, [10, 11, 0, 12, 12]);
     }
+    Ok(())
+}
 
+#[test]
+fn kinds_of_frames(rt: HostRuntime) {
     // frame_kind
     {
         assert_eq!(rt; frame_kind(b"\x06hello"), FrameKind::Canonical);
@@ -325,12 +457,16 @@ fn messages_in_place_and_kinds_of_frames(rt: HostRuntime) -> Result<(), Fail> {
         assert_eq!(rt; frame_kind(&longer), FrameKind::Longer);
         assert_eq!(rt; frame_kind(&longer[..255]), FrameKind::Canonical);
     }
-    Ok(())
+
+    // FrameKind
+    {
+        assert_eq!(rt; frame_kind(&[]), FrameKind::NotAFrame);
+        assert_eq!(rt; frame_kind(&[1]), FrameKind::Canonical);
+    }
 }
 
 #[test]
-fn streams_fed_to_decoders(rt: HostRuntime) -> Result<(), Fail> {
-    let alloc = rt.alloc();
+fn the_decoder_over_a_slice(rt: HostRuntime) -> Result<(), Fail> {
     // PushError
     {
         let mut buffer = [0; 4];
@@ -353,7 +489,7 @@ fn streams_fed_to_decoders(rt: HostRuntime) -> Result<(), Fail> {
         assert!(rt; decoder.dest().starts_with(b"hello"));
     }
 
-    // feed
+    // CobsDecoder::feed
     {
         let mut buffer = [0; 2];
         let mut decoder = CobsDecoder::new(&mut buffer);
@@ -362,7 +498,57 @@ fn streams_fed_to_decoders(rt: HostRuntime) -> Result<(), Fail> {
         assert_eq!(rt; decoder.feed(0), Ok(Some(1)));
         assert_eq!(rt; decoder.dest(), [7, 0].as_slice());
     }
+    Ok(())
+}
 
+#[test]
+fn the_decoder_over_a_slice_further(rt: HostRuntime) -> Result<(), Fail> {
+    // CobsDecoder::new
+    {
+        let mut decoder = CobsDecoder::new(&mut []);
+        assert_eq!(rt;
+            decoder.push(&[1, 0])?.map(|report| report.frame_size()),
+            Some(0)
+        );
+    }
+
+    // CobsDecoder::push
+    {
+        let mut buffer = [0; 2];
+        let mut decoder = CobsDecoder::new(&mut buffer);
+        let bytes = [2, 7, 0, 2, 8, 0];
+        assert_eq!(rt;
+            decoder.push(&bytes)?.map(|report| report.parsed_size()),
+            Some(3)
+        );
+        assert_eq!(rt;
+            decoder
+                .push(&bytes[3..])?
+                .map(|report| report.parsed_size()),
+            Some(3)
+        );
+        assert_eq!(rt; decoder.push(&bytes[6..]), Ok(None));
+    }
+
+    // CobsDecoder::dest
+    {
+        let mut buffer = [7; 2];
+        assert_eq!(rt; CobsDecoder::new(&mut buffer).dest(), [7, 7].as_slice());
+    }
+
+    // CobsDecoder::dest_mut
+    {
+        let mut buffer = [7; 2];
+        let mut decoder = CobsDecoder::new(&mut buffer);
+        decoder.dest_mut().fill(9);
+        assert_eq!(rt; decoder.dest(), [9, 9].as_slice());
+    }
+    Ok(())
+}
+
+#[test]
+fn the_decoder_over_its_own_memory(rt: HostRuntime) -> Result<(), Fail> {
+    let alloc = rt.alloc();
     // CobsDecoderOwned
     {
         let mut decoder = CobsDecoderOwned::new(alloc, 8)?;
@@ -372,6 +558,63 @@ fn streams_fed_to_decoders(rt: HostRuntime) -> Result<(), Fail> {
         assert!(rt; decoder.dest().starts_with(&[7]));
     }
 
+    // CobsDecoderOwned::new
+    {
+        assert_eq!(rt; CobsDecoderOwned::new(alloc, 2)?.dest(), [0, 0].as_slice());
+    }
+
+    // CobsDecoderOwned::feed
+    {
+        let mut decoder = CobsDecoderOwned::new(alloc, 0)?;
+        assert_eq!(rt; decoder.feed(2), Ok(None));
+        assert_eq!(rt; decoder.feed(7), Err(DecodeError::TargetBufTooSmall));
+        assert_eq!(rt; decoder.feed(0), Err(DecodeError::TargetBufTooSmall));
+    }
+
+    // CobsDecoderOwned::push
+    {
+        let mut decoder = CobsDecoderOwned::new(alloc, 8)?;
+        assert_eq!(rt; decoder.push(b"\x06hel"), Ok(None));
+        assert_eq!(rt;
+            decoder.push(b"lo\0")?.map(|report| report.frame_size()),
+            Some(5)
+        );
+        assert!(rt; decoder.dest().starts_with(b"hello"));
+    }
+    Ok(())
+}
+
+#[test]
+fn the_decoder_over_its_own_memory_further(rt: HostRuntime) -> Result<(), Fail> {
+    let alloc = rt.alloc();
+    // CobsDecoderOwned::reset
+    {
+        let mut decoder = CobsDecoderOwned::new(alloc, 8)?;
+        assert_eq!(rt; decoder.push(&[9, 9]), Ok(None));
+        decoder.reset();
+        assert_eq!(rt;
+            decoder.push(&[1, 0])?.map(|report| report.frame_size()),
+            Some(0)
+        );
+    }
+
+    // CobsDecoderOwned::dest
+    {
+        let decoder = CobsDecoderOwned::new(alloc, 3)?;
+        assert_eq!(rt; decoder.dest().len(), 3);
+    }
+
+    // CobsDecoderOwned::dest_mut
+    {
+        let mut decoder = CobsDecoderOwned::new(alloc, 2)?;
+        decoder.dest_mut().fill(9);
+        assert_eq!(rt; decoder.dest(), [9, 9].as_slice());
+    }
+    Ok(())
+}
+
+#[test]
+fn the_decoder_with_its_buffer_inside(rt: HostRuntime) -> Result<(), Fail> {
     // CobsDecoderHeapless
     {
         let mut decoder = CobsDecoderHeapless::<2>::new();
@@ -381,6 +624,70 @@ fn streams_fed_to_decoders(rt: HostRuntime) -> Result<(), Fail> {
         assert_eq!(rt; decoder.dest(), [7, 0].as_slice());
     }
 
+    // CobsDecoderHeapless::new
+    {
+        assert_eq!(rt; CobsDecoderHeapless::<2>::new().dest(), [0, 0].as_slice());
+    }
+
+    // CobsDecoderHeapless::feed
+    {
+        let mut decoder = CobsDecoderHeapless::<4>::new();
+        assert_eq!(rt; decoder.feed(3), Ok(None));
+        assert_eq!(rt; decoder.feed(7), Ok(None));
+        let broken = DecodeError::InvalidFrame { decoded_bytes: 1 };
+        assert_eq!(rt; decoder.feed(0), Err(broken));
+    }
+
+    // CobsDecoderHeapless::push
+    {
+        let mut decoder = CobsDecoderHeapless::<8>::new();
+        assert_eq!(rt; decoder.push(b"\x06hel"), Ok(None));
+        assert_eq!(rt;
+            decoder.push(b"lo\0")?.map(|report| report.frame_size()),
+            Some(5)
+        );
+        assert!(rt; decoder.dest().starts_with(b"hello"));
+    }
+    Ok(())
+}
+
+#[test]
+fn the_decoder_with_its_buffer_inside_further(rt: HostRuntime) -> Result<(), Fail> {
+    // CobsDecoderHeapless::reset
+    {
+        let mut decoder = CobsDecoderHeapless::<8>::new();
+        assert_eq!(rt; decoder.push(&[9, 9]), Ok(None));
+        decoder.reset();
+        assert_eq!(rt;
+            decoder.push(&[1, 0])?.map(|report| report.frame_size()),
+            Some(0)
+        );
+    }
+
+    // CobsDecoderHeapless::dest
+    {
+        assert_eq!(rt; CobsDecoderHeapless::<3>::new().dest().len(), 3);
+    }
+
+    // CobsDecoderHeapless::dest_mut
+    {
+        let mut decoder = CobsDecoderHeapless::<2>::new();
+        decoder.dest_mut().fill(9);
+        assert_eq!(rt; decoder.dest(), [9, 9].as_slice());
+    }
+
+    // CobsDecoderHeapless::new_with_vec
+    {
+        let mut vec = ArrayVec::<u8, 3>::new();
+        vec.push(7);
+        let decoder = CobsDecoderHeapless::new_with_vec(vec);
+        assert_eq!(rt; decoder.dest(), [7, 0, 0].as_slice());
+    }
+    Ok(())
+}
+
+#[test]
+fn what_all_decoders_have(rt: HostRuntime) {
     // FrameDecoder
     {
         let mut decoder = CobsDecoderHeapless::<4>::new();
@@ -403,11 +710,66 @@ fn streams_fed_to_decoders(rt: HostRuntime) -> Result<(), Fail> {
         assert_eq!(rt; decoder.feed(0), Ok(Some(2)));
         assert_eq!(rt; decoder.dest(), [9, 8, 0].as_slice());
     }
-    Ok(())
+
+    // PieceEnd
+    {
+        let mut decoder = CobsDecoderHeapless::<1>::new();
+        assert_eq!(rt;
+            decoder.feed_piece(&[2, 7, 0]),
+            Some((PieceEnd::Message(1), 3))
+        );
+        assert_eq!(rt;
+            decoder.feed_piece(&[3, 7, 0]),
+            Some((PieceEnd::Broken(1), 3))
+        );
+        assert_eq!(rt;
+            decoder.feed_piece(&[3, 7, 8, 0]),
+            Some((PieceEnd::TooLong, 4))
+        );
+    }
 }
 
 #[test]
-fn decoders_whose_buffer_is_passed_to_each_call(rt: HostRuntime) -> Result<(), Fail> {
+fn what_all_decoders_have_further(rt: HostRuntime) {
+    // FrameDecoder::feed_byte
+    {
+        let mut decoder = CobsDecoderHeapless::<1>::new();
+        assert_eq!(rt; decoder.feed_byte(1), Ok(None));
+        assert_eq!(rt; decoder.feed_byte(0), Ok(Some(0)));
+    }
+
+    // FrameDecoder::feed_piece
+    {
+        let mut decoder = CobsDecoderHeapless::<1>::new();
+        assert_eq!(rt; decoder.feed_piece(&[2]), None);
+        assert_eq!(rt;
+            decoder.feed_piece(&[7, 0, 1]),
+            Some((PieceEnd::Message(1), 2))
+        );
+    }
+
+    // FrameDecoder::buffer
+    {
+        assert_eq!(rt; CobsDecoderHeapless::<2>::new().buffer(), [0, 0].as_slice());
+    }
+
+    // WriteBuffer::dest_mut
+    {
+        let mut decoder = CobsDecoderHeapless::<2>::new();
+        WriteBuffer::dest_mut(&mut decoder).fill(9);
+        assert_eq!(rt; decoder.buffer(), [9, 9].as_slice());
+    }
+
+    // WriteBuffer::write_dest
+    {
+        let mut decoder = CobsDecoderHeapless::<3>::new();
+        decoder.write_dest(1, &[8, 9]);
+        assert_eq!(rt; decoder.buffer(), [0, 8, 9].as_slice());
+    }
+}
+
+#[test]
+fn the_state_of_a_decoder(rt: HostRuntime) {
     // DecoderState
     {
         let mut state = DecoderState::default();
@@ -417,6 +779,30 @@ fn decoders_whose_buffer_is_passed_to_each_call(rt: HostRuntime) -> Result<(), F
         assert!(rt; matches!(state.feed(0), Ok(DecodeResult::DataComplete)));
     }
 
+    // DecodeResult
+    {
+        let mut state = DecoderState::default();
+        assert!(rt; matches!(state.feed(0), Ok(DecodeResult::NoData)));
+        assert!(rt; matches!(state.feed(1), Ok(DecodeResult::DataStart)));
+        assert!(rt; matches!(state.feed(0), Ok(DecodeResult::DataComplete)));
+    }
+
+    // DecoderState::feed
+    {
+        let mut state = DecoderState::GrabChain(1);
+        assert!(rt; matches!(state.feed(7), Ok(DecodeResult::DataContinue(7))));
+        assert!(rt; matches!(state.feed(9), Ok(DecodeResult::NoData)));
+        assert!(rt;
+            matches!(
+                state.feed(0),
+                Err(DecodeError::InvalidFrame { decoded_bytes: 0 })
+            )
+        );
+    }
+}
+
+#[test]
+fn the_decoder_without_a_buffer(rt: HostRuntime) -> Result<(), Fail> {
     // DecoderPhase
     {
         let mut buffer = [0; 8];
@@ -439,8 +825,12 @@ fn decoders_whose_buffer_is_passed_to_each_call(rt: HostRuntime) -> Result<(), F
         assert_eq!(rt; report.map(|report| report.frame_size()), Some(5));
         assert!(rt; buffer.starts_with(b"hello"));
     }
+    Ok(())
+}
 
-    // from_phase
+#[test]
+fn the_decoder_without_a_buffer_further(rt: HostRuntime) -> Result<(), Fail> {
+    // UnbufferedDecoder::from_phase
     {
         let mut buffer = [0; 8];
         let mut first = UnbufferedDecoder::new();
@@ -451,7 +841,7 @@ fn decoders_whose_buffer_is_passed_to_each_call(rt: HostRuntime) -> Result<(), F
         assert!(rt; buffer.starts_with(&[7, 8, 9]));
     }
 
-    // feed_piece
+    // UnbufferedDecoder::feed_piece
     {
         let mut decoder = UnbufferedDecoder::new();
         let mut buffer = [0; 4];
@@ -465,11 +855,60 @@ fn decoders_whose_buffer_is_passed_to_each_call(rt: HostRuntime) -> Result<(), F
             Some((PieceEnd::Message(2), 4))
         );
     }
+
+    // UnbufferedDecoder::new
+    {
+        let mut decoder = UnbufferedDecoder::new();
+        assert_eq!(rt;
+            decoder
+                .push(&mut [], &[1, 0])?
+                .map(|report| report.frame_size()),
+            Some(0)
+        );
+    }
+
+    // UnbufferedDecoder::phase
+    {
+        assert_eq!(rt; UnbufferedDecoder::new().phase(), DecoderPhase::Idle);
+    }
     Ok(())
 }
 
 #[test]
-fn whole_streams_and_readers(rt: HostRuntime) -> Result<(), Fail> {
+fn the_decoder_without_a_buffer_also(rt: HostRuntime) {
+    // UnbufferedDecoder::reset
+    {
+        let mut decoder = UnbufferedDecoder::new();
+        assert_eq!(rt; decoder.push(&mut [0; 4], &[9, 9]), Ok(None));
+        decoder.reset();
+        assert_eq!(rt; decoder.phase(), DecoderPhase::Idle);
+    }
+
+    // UnbufferedDecoder::feed
+    {
+        let mut buffer = [0; 2];
+        let mut decoder = UnbufferedDecoder::new();
+        assert_eq!(rt; decoder.feed(&mut buffer, 2), Ok(None));
+        assert_eq!(rt; decoder.feed(&mut buffer, 7), Ok(None));
+        assert_eq!(rt; decoder.feed(&mut buffer, 0), Ok(Some(1)));
+        assert_eq!(rt; buffer, [7, 0]);
+    }
+
+    // UnbufferedDecoder::push
+    {
+        let mut buffer = [0; 2];
+        let mut decoder = UnbufferedDecoder::new();
+        let refused = PushError {
+            error: DecodeError::TargetBufTooSmall,
+            parsed_size: 4,
+        };
+        assert_eq!(rt; decoder.push(&mut buffer, &[4, 7, 8, 9, 0]), Err(refused));
+        assert_eq!(rt; buffer, [7, 8]);
+    }
+}
+
+#[test]
+fn whole_streams(rt: HostRuntime) -> Result<(), Fail> {
     let alloc = rt.alloc();
     // decode_stream
     {
@@ -496,7 +935,24 @@ fn whole_streams_and_readers(rt: HostRuntime) -> Result<(), Fail> {
         let messages = [b"hi".to_vec(alloc)?, Vec::new(alloc)];
         assert_eq!(rt; encode_frames_room(&messages), Some(6));
     }
+    Ok(())
+}
 
+#[test]
+fn whole_streams_further(rt: HostRuntime) -> Result<(), Fail> {
+    let alloc = rt.alloc();
+    // FrameOutcome
+    {
+        let mut decoder = CobsDecoderHeapless::<4>::new();
+        let found = decode_stream(alloc, &mut decoder, &[2, 7, 0])?;
+        let message = FrameOutcome::Message([7].to_vec(alloc)?);
+        assert_eq!(rt; found.first(), Some(&message));
+    }
+    Ok(())
+}
+
+#[test]
+fn frames_from_a_reader(rt: HostRuntime) {
     // FrameReader
     {
         let mut source = Recorded::new(b"\x06hello\0\x03h".as_slice());
@@ -508,5 +964,56 @@ fn whole_streams_and_readers(rt: HostRuntime) -> Result<(), Fail> {
             Ok(Next::End { unfinished: true })
         );
     }
-    Ok(())
+
+    // Next
+    {
+        let mut source = Recorded::new([3, 7, 0].as_slice());
+        let mut reader = FrameReader::new(CobsDecoderHeapless::<8>::new());
+        assert_eq!(rt; reader.next_frame(&mut source), Ok(Next::Broken(1)));
+        assert_eq!(rt;
+            reader.next_frame(&mut source),
+            Ok(Next::End { unfinished: false })
+        );
+    }
+
+    // FrameSource
+    {
+        let mut source = Recorded::new([2, 7].as_slice());
+        let mut chunk = [0; 64];
+        assert_eq!(rt; source.read_some(&mut chunk), Some(2));
+        assert!(rt; chunk.starts_with(&[2, 7]));
+        assert_eq!(rt; source.read_some(&mut chunk), Some(0));
+    }
+}
+
+#[test]
+fn frames_from_a_reader_further(rt: HostRuntime) {
+    // Recorded
+    {
+        let mut source = Recorded::new([1, 0, 2].as_slice());
+        let mut reader = FrameReader::new(CobsDecoderHeapless::<8>::new());
+        assert_eq!(rt; reader.next_frame(&mut source), Ok(Next::Message(0)));
+        assert_eq!(rt;
+            reader.next_frame(&mut source),
+            Ok(Next::End { unfinished: true })
+        );
+    }
+
+    // Recorded::into_inner
+    {
+        let source = Recorded::new([1, 0].as_slice());
+        assert_eq!(rt; source.into_inner(), [1, 0].as_slice());
+    }
+
+    // FrameReader::next_frame
+    {
+        let mut reader = FrameReader::new(CobsDecoderHeapless::<8>::new());
+        let mut first = Recorded::new([2].as_slice());
+        assert_eq!(rt;
+            reader.next_frame(&mut first),
+            Ok(Next::End { unfinished: true })
+        );
+        let mut second = Recorded::new([7, 0].as_slice());
+        assert_eq!(rt; reader.next_frame(&mut second), Ok(Next::Message(1)));
+    }
 }

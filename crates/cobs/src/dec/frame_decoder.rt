@@ -5,7 +5,23 @@ ghost use Rattle.cobs.specs.Streaming.{outcome_at, outcome_told, IsWithin, Takes
 
 use crate::dec::report::DecodeError;
 
-/// How a piece of a stream ended.
+/// How a piece of a stream ended. (The names are this library's own.)
+///
+/// ```
+/// let mut decoder = CobsDecoderHeapless::<1>::new();
+/// assert_eq!(rt;
+///     decoder.feed_piece(&[2, 7, 0]),
+///     Some((PieceEnd::Message(1), 3))
+/// );
+/// assert_eq!(rt;
+///     decoder.feed_piece(&[3, 7, 0]),
+///     Some((PieceEnd::Broken(1), 3))
+/// );
+/// assert_eq!(rt;
+///     decoder.feed_piece(&[3, 7, 8, 0]),
+///     Some((PieceEnd::TooLong, 4))
+/// );
+/// ```
 #[derive(Debug, Clone, Copy, PartialEq, Eq)]
 pub enum PieceEnd {
     /// The piece is a frame. Its message is the first so many bytes of the decoder's buffer.
@@ -64,6 +80,12 @@ pub trait FrameDecoder {
     /// # Errors
     /// `InvalidFrame` where the piece broke off inside a block, and `TargetBufTooSmall` where its output is longer than
     /// the buffer; that is then the answer to every byte through the sentinel.
+    ///
+    /// ```
+    /// let mut decoder = CobsDecoderHeapless::<1>::new();
+    /// assert_eq!(rt; decoder.feed_byte(1), Ok(None));
+    /// assert_eq!(rt; decoder.feed_byte(0), Ok(Some(0)));
+    /// ```
     fn feed_byte(&mut self, byte: u8) -> Result<Option<usize>, DecodeError>
         ensures feeds { Feeds (bytes self.old) (phase self.old) byte result
             (bytes self.new) (phase self.new) }
@@ -77,6 +99,15 @@ pub trait FrameDecoder {
     ///
     /// An implementation has no need to write this method, which feeds one byte after another; the decoders of this
     /// library copy whole blocks instead.
+    ///
+    /// ```
+    /// let mut decoder = CobsDecoderHeapless::<1>::new();
+    /// assert_eq!(rt; decoder.feed_piece(&[2]), None);
+    /// assert_eq!(rt;
+    ///     decoder.feed_piece(&[7, 0, 1]),
+    ///     Some((PieceEnd::Message(1), 2))
+    /// );
+    /// ```
     fn feed_piece(&mut self, stream: &[u8]) -> Option<(PieceEnd, usize)>
         ensures takes { TakesPiece (bytes self.old) (phase self.old) stream.now result
             (bytes self.new) (phase self.new) }
@@ -94,6 +125,10 @@ pub trait FrameDecoder {
     }
 
     /// The whole buffer.
+    ///
+    /// ```
+    /// assert_eq!(rt; CobsDecoderHeapless::<2>::new().buffer(), [0, 0].as_slice());
+    /// ```
     fn buffer(&self) -> &[u8]
         ensures { result.now ≡ bytes self.now };
 }

@@ -15,7 +15,8 @@ use arrayvec::ArrayVec;
 
 /// Decodes a stream of frames, each ended by a zero, into a buffer of `N` bytes that lies in the value itself.
 ///
-/// It answers as `CobsDecoder` does, and takes no memory.
+/// It answers as [`CobsDecoder`](crate::CobsDecoder) does, and takes no memory. That a zero ends each frame is Cheshire
+/// and Baker's; the calls are those of the crate `cobs`.
 ///
 /// ```
 /// let mut decoder = CobsDecoderHeapless::<2>::new();
@@ -35,6 +36,10 @@ impl<const N: usize> CobsDecoderHeapless<N> {
     ghost use Rattle.cobs.specs.Buffers.{heapless_buffer, heapless_phase, LendsHeapless};
 
     /// An idle decoder over `N` zeros.
+    ///
+    /// ```
+    /// assert_eq!(rt; CobsDecoderHeapless::<2>::new().dest(), [0, 0].as_slice());
+    /// ```
     pub fn new() -> Self
         ensures buffer { heapless_buffer result ≡ replicate N 0 }
         ensures idle { DecoderAfter (heapless_buffer result) (heapless_phase result) [] }
@@ -44,6 +49,13 @@ impl<const N: usize> CobsDecoderHeapless<N> {
 
     /// An idle decoder over the vector, which keeps what stands in it and is filled with zeros to its capacity,
     /// `N` bytes.
+    ///
+    /// ```
+    /// let mut vec = ArrayVec::<u8, 3>::new();
+    /// vec.push(7);
+    /// let decoder = CobsDecoderHeapless::new_with_vec(vec);
+    /// assert_eq!(rt; decoder.dest(), [7, 0, 0].as_slice());
+    /// ```
     pub fn new_with_vec(vec: ArrayVec<u8, N>) -> Self
         ensures buffer { heapless_buffer result
             ≡ vec.entry.items ++ replicate (N - array_vec_len vec.entry) 0 }
@@ -68,6 +80,14 @@ impl<const N: usize> CobsDecoderHeapless<N> {
     /// `InvalidFrame`: a zero came inside a block; `decoded_bytes` counts the piece's output, which stands at the
     /// front of the buffer. `TargetBufTooSmall`: the piece's output is longer than the buffer; so is each further
     /// byte answered, through the zero.
+    ///
+    /// ```
+    /// let mut decoder = CobsDecoderHeapless::<4>::new();
+    /// assert_eq!(rt; decoder.feed(3), Ok(None));
+    /// assert_eq!(rt; decoder.feed(7), Ok(None));
+    /// let broken = DecodeError::InvalidFrame { decoded_bytes: 1 };
+    /// assert_eq!(rt; decoder.feed(0), Err(broken));
+    /// ```
     pub fn feed(&mut self, byte: u8) -> Result<Option<usize>, DecodeError>
         ensures feeds { Feeds (heapless_buffer self.old) (heapless_phase self.old) byte result
             (heapless_buffer self.new) (heapless_phase self.new) }
@@ -85,6 +105,16 @@ impl<const N: usize> CobsDecoderHeapless<N> {
     /// A `PushError` has the error of `feed` and how many bytes were taken, the one that raised it included.
     /// Pushing the bytes after these goes on with the stream: a piece whose zero raised the error is over, and
     /// while a piece is too long for the buffer, each push of its bytes takes one, through its zero.
+    ///
+    /// ```
+    /// let mut decoder = CobsDecoderHeapless::<8>::new();
+    /// assert_eq!(rt; decoder.push(b"\x06hel"), Ok(None));
+    /// assert_eq!(rt;
+    ///     decoder.push(b"lo\0")?.map(|report| report.frame_size()),
+    ///     Some(5)
+    /// );
+    /// assert!(rt; decoder.dest().starts_with(b"hello"));
+    /// ```
     pub fn push(&mut self, bytes: &[u8]) -> Result<Option<DecodeReport>, PushError>
         ensures pushes { PushesBytes (heapless_buffer self.old) (heapless_phase self.old)
             bytes.now result (heapless_buffer self.new) (heapless_phase self.new) }
@@ -96,6 +126,16 @@ impl<const N: usize> CobsDecoderHeapless<N> {
     }
 
     /// Makes the decoder idle, so that the next byte begins a new piece. The buffer is as it was.
+    ///
+    /// ```
+    /// let mut decoder = CobsDecoderHeapless::<8>::new();
+    /// assert_eq!(rt; decoder.push(&[9, 9]), Ok(None));
+    /// decoder.reset();
+    /// assert_eq!(rt;
+    ///     decoder.push(&[1, 0])?.map(|report| report.frame_size()),
+    ///     Some(0)
+    /// );
+    /// ```
     pub fn reset(&mut self)
         ensures buffer { heapless_buffer self.new ≡ heapless_buffer self.old }
         ensures idle { DecoderAfter (heapless_buffer self.new) (heapless_phase self.new) [] }
@@ -104,6 +144,10 @@ impl<const N: usize> CobsDecoderHeapless<N> {
     }
 
     /// The whole buffer, `N` bytes.
+    ///
+    /// ```
+    /// assert_eq!(rt; CobsDecoderHeapless::<3>::new().dest().len(), 3);
+    /// ```
     pub fn dest(&self) -> &[u8]
         ensures value { result.now ≡ heapless_buffer self.now }
         ensures len { length result.now ≡ N }
@@ -115,6 +159,12 @@ impl<const N: usize> CobsDecoderHeapless<N> {
     ///
     /// What is written inside a piece changes no answer that this piece gets: only the bytes of its message are
     /// then not known.
+    ///
+    /// ```
+    /// let mut decoder = CobsDecoderHeapless::<2>::new();
+    /// decoder.dest_mut().fill(9);
+    /// assert_eq!(rt; decoder.dest(), [9, 9].as_slice());
+    /// ```
     pub fn dest_mut(&mut self) -> &mut [u8]
         ensures* writes_back { sem 𝓛 (LendsHeapless N.row self.entry result) }
         ensures value { result.now ≡ heapless_buffer self.old }

@@ -5,7 +5,12 @@ ghost use Rattle.cobs.specs.Grammar.{IsCanonical, IsFrame};
 use crate::dec::piece::piece_len;
 use crate::enc::FULL_CODE;
 
-/// What a list of bytes is to a decoder.
+/// What a list of bytes is to a decoder. (The names are this library's own.)
+///
+/// ```
+/// assert_eq!(rt; frame_kind(&[]), FrameKind::NotAFrame);
+/// assert_eq!(rt; frame_kind(&[1]), FrameKind::Canonical);
+/// ```
 #[derive(Debug, Drop, PartialEq, Eq)]
 pub enum FrameKind {
     /// No message: the list is empty, has a zero, or breaks off inside a block.

@@ -36,6 +36,14 @@ pub struct CobsDecoder<'a> {
 
 impl<'a> CobsDecoder<'a> {
     /// An idle decoder over the slice, which may be of any length, also empty. No byte of it is changed.
+    ///
+    /// ```
+    /// let mut decoder = CobsDecoder::new(&mut []);
+    /// assert_eq!(rt;
+    ///     decoder.push(&[1, 0])?.map(|report| report.frame_size()),
+    ///     Some(0)
+    /// );
+    /// ```
     pub fn new(dest: &'a mut [u8]) -> CobsDecoder<'a>
         ensures same_slice { lent_slice result ≡ dest.entry.ghost_name }
         ensures buffer { lent_buffer result ≡ dest.old }
@@ -85,6 +93,23 @@ impl<'a> CobsDecoder<'a> {
     /// A `PushError` has the error of `feed` and how many bytes were taken, the one that raised it included.
     /// Pushing the bytes after these goes on with the stream: a piece whose zero raised the error is over, and
     /// while a piece is too long for the slice, each push of its bytes takes one, through its zero.
+    ///
+    /// ```
+    /// let mut buffer = [0; 2];
+    /// let mut decoder = CobsDecoder::new(&mut buffer);
+    /// let bytes = [2, 7, 0, 2, 8, 0];
+    /// assert_eq!(rt;
+    ///     decoder.push(&bytes)?.map(|report| report.parsed_size()),
+    ///     Some(3)
+    /// );
+    /// assert_eq!(rt;
+    ///     decoder
+    ///         .push(&bytes[3..])?
+    ///         .map(|report| report.parsed_size()),
+    ///     Some(3)
+    /// );
+    /// assert_eq!(rt; decoder.push(&bytes[6..]), Ok(None));
+    /// ```
     pub fn push(&mut self, bytes: &[u8]) -> Result<Option<DecodeReport>, PushError>
         ensures pushes { PushesBytes (lent_buffer self.old) (lent_phase self.old) bytes.now result
             (lent_buffer self.new) (lent_phase self.new) }
@@ -97,6 +122,11 @@ impl<'a> CobsDecoder<'a> {
     }
 
     /// The whole slice.
+    ///
+    /// ```
+    /// let mut buffer = [7; 2];
+    /// assert_eq!(rt; CobsDecoder::new(&mut buffer).dest(), [7, 7].as_slice());
+    /// ```
     pub fn dest(&self) -> &[u8]
         ensures { result.now ≡ lent_buffer self.now }
     {
@@ -108,6 +138,13 @@ impl<'a> CobsDecoder<'a> {
     /// What is written inside a piece changes no answer that this piece gets: only the bytes of its message are
     /// then not known. A proof about its caller learns what stands in the slice while it is lent, and not what the
     /// decoder is after the write: [`write_dest`](crate::WriteBuffer::write_dest) tells that too.
+    ///
+    /// ```
+    /// let mut buffer = [7; 2];
+    /// let mut decoder = CobsDecoder::new(&mut buffer);
+    /// decoder.dest_mut().fill(9);
+    /// assert_eq!(rt; decoder.dest(), [9, 9].as_slice());
+    /// ```
     pub fn dest_mut(&mut self) -> &mut [u8]
         ensures* writes_back { sem 𝓛 (LendsSlice self.entry result) }
         ensures value { result.now ≡ lent_buffer self.old }

@@ -15,7 +15,8 @@ use std::alloc::{AllocError, Global};
 
 /// Decodes a stream of frames, each ended by a zero, into a buffer of its own.
 ///
-/// It answers as `CobsDecoder` does. Its memory is taken once, by `new`, and its buffer keeps its length.
+/// It answers as [`CobsDecoder`](crate::CobsDecoder) does. Its memory is taken once, by `new`, and its buffer keeps its
+/// length. That a zero ends each frame is Cheshire and Baker's; the calls are those of the crate `cobs`.
 ///
 /// ```
 /// let mut decoder = CobsDecoderOwned::new(alloc, 8)?;
@@ -35,6 +36,10 @@ impl CobsDecoderOwned {
     ///
     /// # Errors
     /// `AllocError`: no memory was found for the buffer.
+    ///
+    /// ```
+    /// assert_eq!(rt; CobsDecoderOwned::new(alloc, 2)?.dest(), [0, 0].as_slice());
+    /// ```
     pub fn new(alloc: Global, dest_buf_size: usize) -> Result<Self, AllocError>
         ensures buffer { IfOk result (λ decoder. owned_buffer decoder ≡ replicate dest_buf_size 0) }
         ensures idle { IfOk result (λ decoder. DecoderAfter (owned_buffer decoder)
@@ -55,6 +60,13 @@ impl CobsDecoderOwned {
     /// `InvalidFrame`: a zero came inside a block; `decoded_bytes` counts the piece's output, which stands at the
     /// front of the buffer. `TargetBufTooSmall`: the piece's output is longer than the buffer; so is each further
     /// byte answered, through the zero.
+    ///
+    /// ```
+    /// let mut decoder = CobsDecoderOwned::new(alloc, 0)?;
+    /// assert_eq!(rt; decoder.feed(2), Ok(None));
+    /// assert_eq!(rt; decoder.feed(7), Err(DecodeError::TargetBufTooSmall));
+    /// assert_eq!(rt; decoder.feed(0), Err(DecodeError::TargetBufTooSmall));
+    /// ```
     pub fn feed(&mut self, byte: u8) -> Result<Option<usize>, DecodeError>
         ensures feeds { Feeds (owned_buffer self.old) (owned_phase self.old) byte result
             (owned_buffer self.new) (owned_phase self.new) }
@@ -72,6 +84,16 @@ impl CobsDecoderOwned {
     /// A `PushError` has the error of `feed` and how many bytes were taken, the one that raised it included.
     /// Pushing the bytes after these goes on with the stream: a piece whose zero raised the error is over, and
     /// while a piece is too long for the buffer, each push of its bytes takes one, through its zero.
+    ///
+    /// ```
+    /// let mut decoder = CobsDecoderOwned::new(alloc, 8)?;
+    /// assert_eq!(rt; decoder.push(b"\x06hel"), Ok(None));
+    /// assert_eq!(rt;
+    ///     decoder.push(b"lo\0")?.map(|report| report.frame_size()),
+    ///     Some(5)
+    /// );
+    /// assert!(rt; decoder.dest().starts_with(b"hello"));
+    /// ```
     pub fn push(&mut self, bytes: &[u8]) -> Result<Option<DecodeReport>, PushError>
         ensures pushes { PushesBytes (owned_buffer self.old) (owned_phase self.old) bytes.now result
             (owned_buffer self.new) (owned_phase self.new) }
@@ -83,6 +105,16 @@ impl CobsDecoderOwned {
     }
 
     /// Makes the decoder idle, so that the next byte begins a new piece. The buffer is as it was.
+    ///
+    /// ```
+    /// let mut decoder = CobsDecoderOwned::new(alloc, 8)?;
+    /// assert_eq!(rt; decoder.push(&[9, 9]), Ok(None));
+    /// decoder.reset();
+    /// assert_eq!(rt;
+    ///     decoder.push(&[1, 0])?.map(|report| report.frame_size()),
+    ///     Some(0)
+    /// );
+    /// ```
     pub fn reset(&mut self)
         ensures buffer { owned_buffer self.new ≡ owned_buffer self.old }
         ensures idle { DecoderAfter (owned_buffer self.new) (owned_phase self.new) [] }
@@ -91,6 +123,11 @@ impl CobsDecoderOwned {
     }
 
     /// The whole buffer.
+    ///
+    /// ```
+    /// let decoder = CobsDecoderOwned::new(alloc, 3)?;
+    /// assert_eq!(rt; decoder.dest().len(), 3);
+    /// ```
     pub fn dest(&self) -> &[u8]
         ensures { result.now ≡ owned_buffer self.now }
     {
@@ -101,6 +138,12 @@ impl CobsDecoderOwned {
     ///
     /// What is written inside a piece changes no answer that this piece gets: only the bytes of its message are
     /// then not known.
+    ///
+    /// ```
+    /// let mut decoder = CobsDecoderOwned::new(alloc, 2)?;
+    /// decoder.dest_mut().fill(9);
+    /// assert_eq!(rt; decoder.dest(), [9, 9].as_slice());
+    /// ```
     pub fn dest_mut(&mut self) -> &mut [u8]
         ensures* writes_back { sem 𝓛 (LendsOwned self.entry result) }
         ensures value { result.now ≡ owned_buffer self.old }

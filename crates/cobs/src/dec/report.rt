@@ -5,7 +5,7 @@ ghost use Rattle.cobs.specs.Report.{frame_size_of, parsed_size_of, report_of};
 use serde::{Deserialize, Serialize};
 use thiserror::Error;
 
-/// Why a frame is refused.
+/// Why a frame is refused. The names are those of the crate `cobs`.
 ///
 /// ```
 /// assert_eq!(rt; decode(&[], &mut [0; 4]), Err(DecodeError::EmptyFrame));
@@ -32,7 +32,8 @@ pub enum DecodeError {
     TargetBufTooSmall,
 }
 
-/// The sizes of a decoded message: how many bytes were consumed for it, and how many it has.
+/// The sizes of a decoded message: how many bytes were consumed for it, and how many it has. The names are those of the
+/// crate `cobs`.
 ///
 /// ```
 /// let report = decode(&[0, 3, 1, 2, 0, 1], &mut [0; 4])?;
@@ -58,6 +59,10 @@ impl DecodeReport {
 
     /// How many bytes of the source were consumed. The call that made the report says whether leading sentinels
     /// and the one after the frame are among them.
+    ///
+    /// ```
+    /// assert_eq!(rt; decode(&[0, 1, 0], &mut [])?.parsed_size(), 3);
+    /// ```
     pub fn parsed_size(&self) -> usize
         ensures { result ≡ parsed_size_of self.now }
     {
@@ -65,6 +70,10 @@ impl DecodeReport {
     }
 
     /// How many bytes the message has; they stand at the front of the buffer.
+    ///
+    /// ```
+    /// assert_eq!(rt; decode(&[0, 2, 7], &mut [0; 4])?.frame_size(), 1);
+    /// ```
     pub fn frame_size(&self) -> usize
         ensures { result ≡ frame_size_of self.now }
     {

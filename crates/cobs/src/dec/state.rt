@@ -30,6 +30,13 @@ pub enum DecoderState {
 }
 
 /// What a byte brought that is no error.
+///
+/// ```
+/// let mut state = DecoderState::default();
+/// assert!(rt; matches!(state.feed(0), Ok(DecodeResult::NoData)));
+/// assert!(rt; matches!(state.feed(1), Ok(DecodeResult::DataStart)));
+/// assert!(rt; matches!(state.feed(0), Ok(DecodeResult::DataComplete)));
+/// ```
 #[derive(Debug, Drop)]
 pub enum DecodeResult {
     /// No byte of the message.
@@ -128,6 +135,18 @@ impl DecoderState {
     /// # Errors
     /// `InvalidFrame` for a sentinel inside a block. Its `decoded_bytes` is always 0 here, since the state counts no
     /// output.
+    ///
+    /// ```
+    /// let mut state = DecoderState::GrabChain(1);
+    /// assert!(rt; matches!(state.feed(7), Ok(DecodeResult::DataContinue(7))));
+    /// assert!(rt; matches!(state.feed(9), Ok(DecodeResult::NoData)));
+    /// assert!(rt;
+    ///     matches!(
+    ///         state.feed(0),
+    ///         Err(DecodeError::InvalidFrame { decoded_bytes: 0 })
+    ///     )
+    /// );
+    /// ```
     pub fn feed(&mut self, byte: u8) -> Result<DecodeResult, DecodeError>
         ensures answer { result ≡ table_answer self.old byte }
         ensures state { self.new ≡ table_state self.old byte }

@@ -21,7 +21,7 @@ const FEW: usize = 16;
 /// The code of a full block, as a byte.
 const FULL: u8 = FULL_CODE as u8;
 
-/// Where an [`UnbufferedDecoder`] stands.
+/// Where an [`UnbufferedDecoder`] stands. (A choice of this library.)
 ///
 /// ```
 /// let mut buffer = [0; 8];
@@ -90,6 +90,16 @@ pub struct UnbufferedDecoder {
 
 impl UnbufferedDecoder {
     /// An idle decoder, for a buffer of any length, also an empty one.
+    ///
+    /// ```
+    /// let mut decoder = UnbufferedDecoder::new();
+    /// assert_eq!(rt;
+    ///     decoder
+    ///         .push(&mut [], &[1, 0])?
+    ///         .map(|report| report.frame_size()),
+    ///     Some(0)
+    /// );
+    /// ```
     pub fn new() -> Self
         ensures idle { phase_of result ≡ Idle }
         ensures after { (buffer : List ℕ) → DecoderAfter buffer (phase_of result) [] }
@@ -211,6 +221,10 @@ impl UnbufferedDecoder {
     }
 
     /// Where the decoder stands.
+    ///
+    /// ```
+    /// assert_eq!(rt; UnbufferedDecoder::new().phase(), DecoderPhase::Idle);
+    /// ```
     pub fn phase(&self) -> DecoderPhase
         ensures { phase_at result ≡ phase_of self.now }
     {
@@ -228,6 +242,13 @@ impl UnbufferedDecoder {
     }
 
     /// Makes the decoder idle, so that the next byte begins a new piece.
+    ///
+    /// ```
+    /// let mut decoder = UnbufferedDecoder::new();
+    /// assert_eq!(rt; decoder.push(&mut [0; 4], &[9, 9]), Ok(None));
+    /// decoder.reset();
+    /// assert_eq!(rt; decoder.phase(), DecoderPhase::Idle);
+    /// ```
     pub fn reset(&mut self)
         ensures idle { phase_of self.new ≡ Idle }
         ensures after { (buffer : List ℕ) → DecoderAfter buffer (phase_of self.new) [] }
@@ -246,6 +267,15 @@ impl UnbufferedDecoder {
     /// the front of the buffer. `TargetBufTooSmall`: the output of the piece is longer than the buffer, which holds its
     /// first bytes; that is the answer to each byte from the one that finds no room through the zero. After every zero
     /// the decoder is idle. (What is answered after an overflow is a choice of this library.)
+    ///
+    /// ```
+    /// let mut buffer = [0; 2];
+    /// let mut decoder = UnbufferedDecoder::new();
+    /// assert_eq!(rt; decoder.feed(&mut buffer, 2), Ok(None));
+    /// assert_eq!(rt; decoder.feed(&mut buffer, 7), Ok(None));
+    /// assert_eq!(rt; decoder.feed(&mut buffer, 0), Ok(Some(1)));
+    /// assert_eq!(rt; buffer, [7, 0]);
+    /// ```
     pub fn feed(&mut self, dest: &mut [u8], byte: u8) -> Result<Option<usize>, DecodeError>
         ensures { Feeds dest.old (phase_of self.old) byte result dest.new (phase_of self.new) }
     {
@@ -389,6 +419,17 @@ impl UnbufferedDecoder {
     /// A `PushError` has the error of `feed` and how many bytes were taken, the one that raised it included.
     /// Pushing the bytes after these goes on with the stream: a piece whose zero raised the error is over, and
     /// while a piece is too long for the buffer, each push of its bytes takes one, through its zero.
+    ///
+    /// ```
+    /// let mut buffer = [0; 2];
+    /// let mut decoder = UnbufferedDecoder::new();
+    /// let refused = PushError {
+    ///     error: DecodeError::TargetBufTooSmall,
+    ///     parsed_size: 4,
+    /// };
+    /// assert_eq!(rt; decoder.push(&mut buffer, &[4, 7, 8, 9, 0]), Err(refused));
+    /// assert_eq!(rt; buffer, [7, 8]);
+    /// ```
     pub fn push(&mut self, dest: &mut [u8], bytes: &[u8]) -> Result<Option<DecodeReport>, PushError>
         ensures { PushesBytes dest.old (phase_of self.old) bytes.now result
             dest.new (phase_of self.new) }

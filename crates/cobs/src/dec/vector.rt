@@ -12,7 +12,7 @@ use crate::dec::sentinel::decode_with_sentinel;
 use std::alloc::{AllocError, Global};
 use thiserror::Error;
 
-/// Why a source gave no vector.
+/// Why a source gave no vector. (A choice of this library: memory may be refused, and nothing aborts.)
 ///
 /// ```
 /// let refused = decode_vec(alloc, &[]);

@@ -31,6 +31,12 @@ pub trait WriteBuffer: FrameDecoder {
     ghost with_bytes: { Self → List ℕ → Self };
 
     /// The whole buffer, to be written to: the decoder ends with the bytes that are left there.
+    ///
+    /// ```
+    /// let mut decoder = CobsDecoderHeapless::<2>::new();
+    /// WriteBuffer::dest_mut(&mut decoder).fill(9);
+    /// assert_eq!(rt; decoder.buffer(), [9, 9].as_slice());
+    /// ```
     fn dest_mut(&mut self) -> &mut [u8]
         ensures* writes_back { sem 𝓛 (LendsBytes Self.row self.entry result with_bytes) }
         ensures value { result.now ≡ Self.bytes self.old };
@@ -38,6 +44,12 @@ pub trait WriteBuffer: FrameDecoder {
     /// Writes these bytes over those of the buffer, from index `at` on.
     ///
     /// Precondition: they fit, so `at` plus their number is at most the buffer's length.
+    ///
+    /// ```
+    /// let mut decoder = CobsDecoderHeapless::<3>::new();
+    /// decoder.write_dest(1, &[8, 9]);
+    /// assert_eq!(rt; decoder.buffer(), [0, 8, 9].as_slice());
+    /// ```
     fn write_dest(&mut self, at: usize, source: &[u8])
         requires { at + length source.now ≤ length (Self.bytes self.old) }
         ensures buffer { Self.bytes self.new ≡ written_at (Self.bytes self.old) at source.now }

@@ -38,6 +38,12 @@ impl<'a> CobsEncoder<'a> {
     /// An encoder that has taken nothing yet, and writes to the front of `out_buf`. No byte of it is changed by this.
     ///
     /// Precondition: the slice has one byte at least, since the frame of the empty message has one.
+    ///
+    /// ```
+    /// let mut dest = [170; 1];
+    /// assert_eq!(rt; CobsEncoder::new(&mut dest).finalize(), 1);
+    /// assert_eq!(rt; dest, [1]);
+    /// ```
     pub fn new(out_buf: &'a mut [u8]) -> CobsEncoder<'a>
         requires { 0 < length out_buf.old }
         ensures same_slice { WritesTo result out_buf.entry }
@@ -94,6 +100,14 @@ impl<'a> CobsEncoder<'a> {
 
     /// Ends the message, and answers the length of its encoded frame in bytes. The slice begins with that frame, and
     /// every byte after it is as it was before [`new`](CobsEncoder::new).
+    ///
+    /// ```
+    /// let mut dest = [170; 3];
+    /// let mut encoder = CobsEncoder::new(&mut dest);
+    /// encoder.push(&[0])?;
+    /// assert_eq!(rt; encoder.finalize(), 2);
+    /// assert_eq!(rt; dest, [1, 1, 170]);
+    /// ```
     pub fn finalize(self) -> usize
         // `self.exit.0.now` is what the slice, the first field, holds at the return.
         ensures len { (m : List ℕ) → HasTaken self.entry m → result ≡ encoded_len m }

@@ -6,7 +6,14 @@ ghost use Rattle.cobs.specs.Encoder.{EncoderAfter, IsOpenOutput, push_answer, ne
 use std::alloc::AllocError;
 use std::marker::Model;
 
-/// What a byte of the message changes in the encoded output.
+/// What a byte of the message changes in the encoded output. Indices count bytes from its start. The names are those of
+/// the crate `cobs`.
+///
+/// ```
+/// let mut state = EncoderState::default();
+/// assert!(rt; matches!(state.push(7), PushResult::AddSingle(7)));
+/// assert!(rt; matches!(state.push(0), PushResult::ModifyFromStartAndSkip((0, 2))));
+/// ```
 #[derive(Drop)]
 pub enum PushResult {
     /// The byte goes to the end.
@@ -106,6 +113,12 @@ impl EncoderState {
     /// Takes the next byte of the message, and answers what it changes in the output.
     ///
     /// Precondition: [`can_push`](EncoderState::can_push) is true. Indices count bytes from the start of the output.
+    ///
+    /// ```
+    /// let mut state = EncoderState::default();
+    /// assert!(rt; matches!(state.push(0), PushResult::ModifyFromStartAndSkip((0, 1))));
+    /// assert!(rt; matches!(state.push(9), PushResult::AddSingle(9)));
+    /// ```
     pub fn push(&mut self, byte: u8) -> PushResult
         requires { self.old.index + self.old.code < usize.MAX }
         ensures answer { result ≡ push_answer self.old byte }
@@ -132,6 +145,10 @@ impl EncoderState {
     }
 
     /// Ends the message: the index at which the last code belongs in the output, and that code.
+    ///
+    /// ```
+    /// assert_eq!(rt; EncoderState::default().finalize(), (0, 1));
+    /// ```
     pub fn finalize(self) -> (usize, u8)
         ensures index { result.0 ≡ self.index }
         ensures code { result.1 ≡ self.code }

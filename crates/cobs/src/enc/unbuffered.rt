@@ -9,7 +9,8 @@ use crate::enc::DestBufTooSmallError;
 use crate::enc::blocks::{FULL_CODE, Progress, append, close};
 use crate::enc::room::fits;
 
-/// How far the frame in a buffer has come, in plain numbers: where an [`UnbufferedEncoder`] stands.
+/// How far the frame in a buffer has come, in plain numbers: where an [`UnbufferedEncoder`] stands. (A choice of this
+/// library.)
 ///
 /// ```
 /// let mut buffer = [0; 64];
@@ -59,6 +60,12 @@ pub struct UnbufferedEncoder {
 impl UnbufferedEncoder {
     /// An encoder that has taken nothing yet, for a buffer of one byte at least: the frame of the empty message has
     /// one.
+    ///
+    /// ```
+    /// let mut buffer = [170; 2];
+    /// assert_eq!(rt; UnbufferedEncoder::new().finalize(&mut buffer), Ok(1));
+    /// assert_eq!(rt; buffer, [1, 170]);
+    /// ```
     pub fn new() -> Self
         ensures start { reached_by result
             ≡ record { block = record { index = 0; code = 1 }; full = false } }
@@ -92,6 +99,14 @@ impl UnbufferedEncoder {
     }
 
     /// Where the encoder stands.
+    ///
+    /// ```
+    /// let progress = UnbufferedEncoder::new().progress();
+    /// assert_eq!(rt;
+    ///     (progress.index, progress.code, progress.is_full),
+    ///     (0, 1, false)
+    /// );
+    /// ```
     pub fn progress(&self) -> EncoderProgress
         ensures { reached_at result ≡ reached_by self.now }
     {
@@ -99,6 +114,15 @@ impl UnbufferedEncoder {
     }
 
     /// Makes the encoder one that has taken nothing.
+    ///
+    /// ```
+    /// let mut buffer = [170; 2];
+    /// let mut encoder = UnbufferedEncoder::new();
+    /// encoder.push(&mut buffer, &[7])?;
+    /// encoder.reset();
+    /// assert_eq!(rt; encoder.finalize(&mut buffer), Ok(1));
+    /// assert_eq!(rt; buffer, [1, 7]);
+    /// ```
     pub fn reset(&mut self)
         ensures start { reached_by self.new
             ≡ record { block = record { index = 0; code = 1 }; full = false } }
@@ -150,6 +174,18 @@ impl UnbufferedEncoder {
     ///
     /// # Errors
     /// `DestBufTooSmallError` where the bytes are refused.
+    ///
+    /// ```
+    /// let mut buffer = [170; 3];
+    /// let mut encoder = UnbufferedEncoder::new();
+    /// assert_eq!(rt;
+    ///     encoder.push(&mut buffer, &[7, 8, 9]),
+    ///     Err(DestBufTooSmallError)
+    /// );
+    /// assert_eq!(rt; encoder.push(&mut buffer, &[7, 8]), Ok(()));
+    /// assert_eq!(rt; encoder.finalize(&mut buffer), Ok(3));
+    /// assert_eq!(rt; buffer, [3, 7, 8]);
+    /// ```
     pub fn push(&mut self, dest: &mut [u8], bytes: &[u8]) -> Result<(), DestBufTooSmallError>
         ensures fits { (m : List ℕ) → CobsEncoderAfter dest.old (reached_by self.old) m
             → (IsOk result ↔ (encoded_len (m ++ bytes.now) ≤ length dest.old)) }
@@ -186,6 +222,11 @@ impl UnbufferedEncoder {
     /// # Errors
     /// `DestBufTooSmallError` where no frame can have come so far in a buffer of this length. Then neither the
     /// encoder nor the buffer has changed.
+    ///
+    /// ```
+    /// let refused = UnbufferedEncoder::new().finalize(&mut []);
+    /// assert_eq!(rt; refused, Err(DestBufTooSmallError));
+    /// ```
     pub fn finalize(&mut self, dest: &mut [u8]) -> Result<usize, DestBufTooSmallError>
         ensures fits { (m : List ℕ) → CobsEncoderAfter dest.old (reached_by self.old) m
             → IsOk result }
