@@ -3,9 +3,9 @@
 
 usage: tests/docs.py [--write]
 
-- Each example of a doc comment in crates/cobs/src stands, with the same lines, in doc_examples.rt of
-  crates/cobs_vectors/src, whose tests run it, or as a caller in worked_callers.rt. Lines that begin with 'use ' are
-  left out.
+- Each example of a doc comment in crates/cobs/src stands, with the same lines, in doc_examples.rt or
+  doc_decoders.rt of crates/cobs_vectors/src, whose tests run it, or as a caller in worked_callers.rt. Lines that begin
+  with 'use ' are left out.
 - The contracts in crates/cobs/CALLING.md are those of the public calls in src. With --write they are written.
 
 It prints what differs, and the status is then 1.
@@ -16,7 +16,7 @@ from pathlib import Path
 
 TOP = Path(__file__).resolve().parent.parent
 SRC = TOP / "crates/cobs/src"
-TESTS = [TOP / "crates/cobs_vectors/src" / name for name in ("doc_examples.rt", "worked_callers.rt")]
+TESTS = [TOP / "crates/cobs_vectors/src" / name for name in ("doc_examples.rt", "doc_decoders.rt", "worked_callers.rt")]
 CALLING = TOP / "crates/cobs/CALLING.md"
 FILES = """lib enc enc/sentinel enc/vector enc/encoder enc/state enc/unbuffered dec dec/sentinel dec/vector dec/in_place
     dec/kind dec/report dec/state dec/frame_decoder dec/write_buffer dec/lent dec/owned dec/heapless dec/unbuffered
@@ -44,7 +44,7 @@ def unrun_examples():
     for path in sorted(SRC.rglob("*.rt")):
         for number, lines in examples(path):
             if "\n".join(lines) not in run:
-                yield f"{path.relative_to(TOP)}:{number}: {TESTS[0].name} lacks this example"
+                yield f"{path.relative_to(TOP)}:{number}: cobs_vectors lacks this example"
 
 
 def contract(lines):

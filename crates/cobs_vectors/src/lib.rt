@@ -12,6 +12,8 @@ pub mod callers;
 #[cfg(test)]
 mod decoding;
 #[cfg(test)]
+mod doc_decoders;
+#[cfg(test)]
 mod doc_examples;
 #[cfg(test)]
 mod encoders;
