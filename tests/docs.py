@@ -1,25 +1,33 @@
 #!/usr/bin/env python3
-"""Compares the documentation of crates/cobs with what it documents.
+"""Compares the documentation with what it documents: that of crates/cobs, README.md and docs/MAP.md.
 
 usage: tests/docs.py [--write]
 
-- Each example of a doc comment in crates/cobs/src stands, with the same lines, in doc_examples.rt or
-  doc_decoders.rt of crates/cobs_vectors/src, whose tests run it, or as a caller in worked_callers.rt. Lines that begin
-  with 'use ' are left out.
+- Each public item of crates/cobs/src has an example in its doc comment: types, traits, functions, methods, the methods
+  of public traits, the methods of impls of other traits that have a doc comment of their own, and modules.
+- Each example stands, with the same lines, in doc_examples.rt, doc_decoders.rt or doc_laws.rt of
+  crates/cobs_vectors/src, whose tests run it, or as a caller in worked_callers.rt. Lines that begin with 'use ' are
+  left out.
+- So do the functions that README.md and crates/cobs/CALLING.md show, or in callers.rt; of a test, its statements.
 - The contracts in crates/cobs/CALLING.md are those of the public calls in src. With --write they are written.
+- docs/MAP.md names each file of the repository, or a folder that it is in.
 
 It prints what differs, and the status is then 1.
 """
 import re
+import subprocess
 import sys
-from pathlib import Path
+from pathlib import Path, PurePosixPath
 
 TOP = Path(__file__).resolve().parent.parent
 SRC = TOP / "crates/cobs/src"
-TESTS = [TOP / "crates/cobs_vectors/src" / name for name in ("doc_examples.rt", "doc_decoders.rt", "worked_callers.rt")]
+RUN = "doc_examples doc_decoders doc_laws worked_callers callers".split()
+TESTS = [TOP / f"crates/cobs_vectors/src/{name}.rt" for name in RUN]
 CALLING = TOP / "crates/cobs/CALLING.md"
+PAGES = [TOP / "README.md", CALLING]
+MAP = TOP / "docs/MAP.md"
 FILES = """lib enc enc/sentinel enc/vector enc/encoder enc/state enc/unbuffered dec dec/sentinel dec/vector dec/in_place
-    dec/kind dec/report dec/state dec/frame_decoder dec/write_buffer dec/lent dec/owned dec/heapless dec/unbuffered
+    dec/kind dec/error dec/report dec/state dec/frame_decoder dec/write_buffer dec/borrowed dec/owned dec/heapless dec/unbuffered
     stream framed laws""".split()
 HEADING = "## Contracts\n"
 
@@ -38,13 +46,59 @@ def examples(path):
     return found
 
 
+def shown(path):
+    """The functions in the blocks of Rust of a page: the line of each block, and its lines."""
+    found, inside = [], False
+    for number, line in enumerate(path.read_text().splitlines(), 1):
+        text = re.sub(r"\s+// .*", "", line).strip()
+        if text.startswith("```"):
+            inside = text == "```rust"
+            if inside:
+                found.append((number, []))
+        elif inside and text and not re.match(r"(ghost )?use |//|#!?\[", text):
+            found[-1][1].append(text)
+    # of a test the statements, without its name and its last line
+    return [(number, lines[1:-2] if "rt: HostRuntime" in lines[0] else lines) for number, lines in found]
+
+
 def unrun_examples():
     """A line for each example that isn't in the tests."""
     run = "\n".join(line.strip() for path in TESTS for line in path.read_text().splitlines() if line.strip())
+    found = [(path, *example) for path in sorted(SRC.rglob("*.rt")) for example in examples(path)]
+    for path, number, lines in found + [(path, *example) for path in PAGES for example in shown(path)]:
+        if "\n".join(lines) not in run:
+            yield f"{path.relative_to(TOP)}:{number}: cobs_vectors lacks this example"
+
+
+def public_items(path):
+    """The public items of a file: the line of each, its name, and the lines of its doc comment."""
+    lines, owner = path.read_text().splitlines(), ""
+    for at, line in enumerate(lines):
+        if re.match(r"(pub )?(impl|trait)\b.*\{$", line):
+            owner = line
+        elif line == "}":
+            owner = ""
+        item = re.match(r"( *)(pub )?(fn|struct|enum|trait|type|const|mod) (\w+)", line)
+        if not item:
+            continue
+        first = at
+        while first > 0 and re.match(r"\s*(#\[|//)", lines[first - 1]):
+            first -= 1
+        comment = [text for text in lines[first:at] if text.strip().startswith("///")]
+        if item[3] == "mod" and item[2]:
+            module = path.parent / f"{item[4]}.rt"
+            comment = [text for text in module.read_text().splitlines() if text.startswith("//!")]
+        of_trait = item[1] and (owner.startswith("pub trait") or " for " in owner and comment)
+        if item[2] or of_trait:
+            yield at + 1, item[4], comment
+
+
+def items_without_example():
+    """A line for each public item whose documentation has no example."""
     for path in sorted(SRC.rglob("*.rt")):
-        for number, lines in examples(path):
-            if "\n".join(lines) not in run:
-                yield f"{path.relative_to(TOP)}:{number}: cobs_vectors lacks this example"
+        for number, name, comment in public_items(path):
+            if not any(text.strip().endswith("```") for text in comment):
+                yield f"{path.relative_to(TOP)}:{number}: {name} has no example"
 
 
 def contract(lines):
@@ -80,8 +134,39 @@ def all_contracts():
     return "```text\n" + "\n".join(line for name in FILES for line in contracts(SRC / f"{name}.rt")) + "\n```\n"
 
 
+def names_on_map():
+    """The names that the map gives, by the folder that the table is about; None for what stands outside tables."""
+    names, base, section = {}, None, ""
+    for line in MAP.read_text().splitlines():
+        if line.startswith("## "):
+            section = line.removeprefix("## ")
+        if not line.startswith("|"):
+            base = None
+        elif re.match(r"\| (file|definitions)\b", line):
+            named = re.search(r"`([^`]+?)/?`", line)
+            base = named[1] if named else section if (TOP / section).is_dir() else ""
+            base = f"{section}/{base}" if (TOP / section / base).is_dir() else base
+        names.setdefault(base, set()).update(re.findall(r"`([^`]+)`", line))
+    return names
+
+
+def files_off_map():
+    """A line for each file that the map doesn't name, nor a folder that it is in."""
+    names = names_on_map()
+    bases = sorted((base for base in names if base is not None), key=len, reverse=True)
+    command = ["git", "-C", str(TOP), "ls-files", "-co", "--exclude-standard"]
+    for file in subprocess.run(command, capture_output=True, text=True, check=True).stdout.splitlines():
+        base = next(base for base in bases if not base or file.startswith(base + "/"))
+        path = PurePosixPath(file.removeprefix(base + "/"))
+        places = [path, path.with_suffix(""), PurePosixPath(file)]
+        ends = {"/".join(place.parts[-count:]) for place in places for count in (1, 2, 3)}
+        folders = {f"{parent}/" for place in places for parent in place.parents}
+        if not (ends | folders | {str(path)}) & (names[base] | names[None]):
+            yield f"docs/MAP.md: it doesn't name {file}"
+
+
 def main():
-    said = list(unrun_examples())
+    said = [*items_without_example(), *unrun_examples(), *files_off_map()]
     head, heading, tail = CALLING.read_text().partition(HEADING)
     prose = tail.partition("```text\n")[0]
     wanted = head + heading + prose + all_contracts()
@@ -89,7 +174,7 @@ def main():
         CALLING.write_text(wanted)
     elif CALLING.read_text() != wanted:
         said.append(f"{CALLING.relative_to(TOP)}: its contracts are not those of src; tests/docs.py --write writes them")
-    print("\n".join(said) if said else "the examples are run, and CALLING.md has the contracts of src")
+    print("\n".join(said) if said else "each public item has an example that is run, and CALLING.md has the contracts of src")
     return 1 if said else 0
 
 

@@ -1,31 +1,48 @@
 #!/bin/sh
-# Tries wrong definitions and wrong bodies on a copy of the library, one at a time, and sees the prover refuse each.
+# Tries wrong definitions and wrong bodies on copies of the library, one at a time, and sees the prover refuse each.
 #
-# usage: tests/wrong-definitions.sh [WORD..]
+# usage: tests/wrong-definitions.sh [--jobs N] [WORD..]
 #
 # Each file of tests/wrong-definitions/ changes a line or two of crates/cobs, a definition of specs/ or a body of src/. It
 # has the format of a must-fail edit, and in front of it a line 'only: FUNCTION' with the function that has to refuse it.
 # Only that function and what its proof cites are checked, over the work that an earlier `rt check` of crates/cobs kept.
-# With words, only the files are tried whose names hold one of them.
+# With words, only the files are tried whose names hold one of them. With --jobs, so many files are tried at once, each on
+# a copy of its own; a copy takes a gigabyte or two, and a check as much memory.
 #
-# For each file a line is printed: its name, the function that was refused, and which of its clauses, where they have names.
+# For each file a line is printed, in the order of their names: its name, the function that was refused, and which of its
+# clauses; where what a loop keeps is left without a proof, the loop's name stands there behind the word 'loop'.
 # A file takes from five seconds to a minute, all of them about half an hour, so this is no part of the gate. The status is
 # 0 where each was refused.
 set -u
 
 PATH=/opt/rattle/bin:$PATH
 top=$(cd "$(dirname "$0")/.." && pwd)
+jobs=1
+if [ "${1-}" = --jobs ]; then
+    jobs=${2-}
+    case $jobs in
+        '' | *[!0-9]* | 0)
+            echo 'usage: tests/wrong-definitions.sh [--jobs N] [WORD..]' >&2
+            exit 2
+            ;;
+    esac
+    shift 2
+fi
 work=$(mktemp -d)
-trap 'rm -rf "$work"' EXIT
+workers=
+trap 'kill $workers 2> /dev/null; wait; rm -rf "$work"' EXIT
 trap 'exit 2' HUP INT TERM
+mkdir "$work/taken" "$work/said" "$work/ended"
 
-git init -q "$work"
-mkdir -p "$work/crates"
-cp -r "$top/crates/cobs" "$work/crates/cobs"
-mkdir "$work/unchanged"
-cp -r "$work/crates/cobs/src" "$work/crates/cobs/specs" "$work/unchanged"
-grep '^cobs:' "$top/crates.txt" > "$work/crates.txt"
-crate=$work/crates/cobs
+# copy: a repository of its own, with the library and what an earlier check kept
+copy() {
+    git init -q "$copy"
+    mkdir -p "$copy/crates"
+    cp -r "$top/crates/cobs" "$crate"
+    mkdir "$copy/unchanged"
+    cp -r "$crate/src" "$crate/specs" "$copy/unchanged"
+    grep '^cobs:' "$top/crates.txt" > "$copy/crates.txt"
+}
 
 # change EDIT: applies each pair of lines 'old:' and 'new:', whose old text has to stand once in the file before them
 change() {
@@ -55,24 +72,97 @@ change() {
 # restore EDIT: the files that it changed, as they were
 restore() {
     sed -n 's/^file: //p' "$1" | while read -r path; do
-        cp "$work/unchanged/$path" "$crate/$path"
+        cp "$copy/unchanged/$path" "$crate/$path"
     done
 }
 
-# tell NAME: what the last check said of it
+# clauses_of FUNCTION: the names of its clauses, one a line
+clauses_of() {
+    path=src/$(echo "$1" | sed 's#::#/#g')
+    while [ ! -f "$crate/$path.rt" ]; do
+        case $path in
+            */*) path=${path%/*} ;;
+            *) return ;;
+        esac
+    done
+    awk -v head="fn ${1##*::}[<(]" '
+        $0 ~ head { inside = 1 }
+        inside && $1 ~ /^ensures/ && $3 == "{" { print $2 }
+        inside && (/^ *\{$/ || /\) .*\{$/ && !/ensures|requires/ || /;$/) { exit }
+    ' "$crate/$path.rt"
+}
+
+# open_goals: the names of what the last check left without a proof, one a line
+open_goals() {
+    grep -E '^(note: )?(\./)?(src|proofs)/' "$copy/log" |
+        sed -n -E 's/.*Answers\.antt:[0-9:]* error: `([^`]+)`:.*/\1/p; s/.*it is not proved .*\(`([^`]+)`\).*/\1/p; s/.*was not checked: (.*)/\1/p' |
+        tr -d ' `' | tr ',' '\n' | sort -u
+}
+
+# in_line: the words, one a line, side by side
+in_line() {
+    sort -u | paste -s -d , - | sed 's/,/, /g'
+}
+
+# left_open FUNCTION: which of its clauses, or which loops with the clauses that rest on them, or else which goals
+left_open() {
+    open_goals > "$copy/goals"
+    all=$(clauses_of "$1" | in_line)
+    case $all in
+        *,* | '') lone= ;;
+        *) lone=$all ;;
+    esac
+    clauses=$(sed -n -E "s/^returns.*clause-([a-z_0-9]+).*/\\1/p; s/^returns.*/$lone/p" "$copy/goals" | sed '/^$/d' | in_line)
+    loops=$(sed -n -E 's/-(init|preserved|smaller)(-.*)?$//p' "$copy/goals" | in_line)
+    if [ -n "$clauses" ]; then
+        echo "$clauses"
+    elif [ -n "$loops" ]; then
+        echo "loop $loops${all:+ ($all)}"
+    else
+        in_line < "$copy/goals"
+    fi
+}
+
+# tell NAME STATUS: what the last check said of it
 tell() {
-    if grep -q -E '^(\./)?(specs|src)/[^ ]*: error' "$work/log"; then
-        echo "$1: CANNOT BE READ: $(grep -m 1 -E '^(\./)?(specs|src)/[^ ]*: error' "$work/log")"
+    if grep -q -E '^(\./)?(specs|src)/[^ ]*: error' "$copy/log"; then
+        echo "$1: CANNOT BE READ: $(grep -m 1 -E '^(\./)?(specs|src)/[^ ]*: error' "$copy/log")"
         return 1
     fi
-    refused=$(sed -n -E '/it calls/d; s/^fn cobs::([^ ]*): (not proved|no proof).*/\1/p' "$work/log" | sort -u | paste -s -d ' ' -)
+    refused=$(sed -n -E '/it calls/d; s/^fn cobs::([^ ]*): (not proved|no proof).*/\1/p' "$copy/log" | sort -u)
     if [ "$2" -ne 1 ] || [ -z "$refused" ]; then
-        echo "$1: NOT REFUSED (rt check ended with $2): $(tail -n 1 "$work/log")"
+        echo "$1: NOT REFUSED (rt check ended with $2): $(tail -n 1 "$copy/log")"
         return 1
     fi
-    clauses=$(grep -E '^(note: )?(\./)?(src|proofs)/' "$work/log" | grep -o -E '[` ,]returns[^` ,]*clause-[a-z_0-9]+' | sed 's/.*clause-//' |
-        sort -u | paste -s -d ' ' -)
-    echo "$1: $refused${clauses:+: $clauses}"
+    open=$(left_open "$(echo "$refused" | head -n 1)")
+    echo "$1: $(echo "$refused" | in_line)${open:+: $open}"
+}
+
+# try NAME: tells of the file of this name
+try() {
+    edit=$top/tests/wrong-definitions/$1.edit
+    function=$(sed -n 's/^only: //p' "$edit")
+    if change "$edit"; then
+        (cd "$crate" && rt check --jobs 1 --only "$function") < /dev/null > "$copy/log" 2>&1
+        tell "$1" $? || touch "$work/failed"
+    else
+        echo "$1: CANNOT BE APPLIED"
+        touch "$work/failed"
+    fi
+    restore "$edit"
+}
+
+# worker NUMBER: tries each file that no other worker has taken
+worker() {
+    copy=$work/$1
+    crate=$copy/crates/cobs
+    copy
+    while read -r name; do
+        mkdir "$work/taken/$name" 2> /dev/null || continue
+        try "$name" > "$work/$1.line"
+        mv "$work/$1.line" "$work/said/$name"
+    done < "$work/names"
+    touch "$work/ended/$1"
 }
 
 wanted() {
@@ -85,18 +175,22 @@ wanted() {
     return 1
 }
 
-failed=0
 for edit in "$top"/tests/wrong-definitions/*.edit; do
     name=$(basename "$edit" .edit)
-    wanted "$name" "$@" || continue
-    function=$(sed -n 's/^only: //p' "$edit")
-    if change "$edit"; then
-        (cd "$crate" && rt check --jobs 1 --only "$function") > "$work/log" 2>&1
-        tell "$name" $? || failed=1
-    else
-        echo "$name: CANNOT BE APPLIED"
-        failed=1
-    fi
-    restore "$edit"
+    wanted "$name" "$@" && echo "$name"
+done > "$work/names"
+
+number=1
+while [ "$number" -le "$jobs" ]; do
+    worker "$number" &
+    workers="$workers $!"
+    number=$((number + 1))
 done
-exit $failed
+
+while read -r name; do
+    until [ -e "$work/said/$name" ] || [ "$(ls "$work/ended" | wc -l)" -eq "$jobs" ]; do
+        sleep 1
+    done
+    cat "$work/said/$name" || touch "$work/failed"
+done < "$work/names"
+[ ! -e "$work/failed" ]

@@ -57,6 +57,10 @@ fn check_decoders(dice: &mut Dice, source: &[u8], room: usize) {
     let mut a = xored(source, 0x7E);
     let x = ours::decode_in_place_with_sentinel(&mut a, 0x7E);
     same("decode_in_place_with_sentinel", ((x.status, x.len), &a), ((y.status, y.len), &b));
+    let sentinel = dice.next() as u8;
+    let (mut a, mut b) = (vec![170; room], vec![170; room]);
+    let (x, y) = (ours::decode_with_sentinel(&xored(source, sentinel), &mut a, sentinel), machine::decode_head(source, &mut b));
+    same("decode_with_sentinel", (x, &a), (y, &b));
     let (mut a, mut b) = (vec![170; room], vec![170; room]);
     let chunk = 1 + dice.below(300) as usize;
     let (x, y) = (ours::push_in_chunks(source, chunk, &mut a), machine::push_in_chunks(source, chunk, &mut b));

@@ -264,6 +264,18 @@ pub fn decode_in_place(buf: &mut [u8]) -> Answer {
     answer(OK, end, written)
 }
 
+/// From a source that stays as it is, up to its first zero, and no byte of a broken block.
+pub fn decode_head(source: &[u8], dest: &mut [u8]) -> Answer {
+    let mut copy = source.to_vec();
+    let found = decode_in_place(&mut copy);
+    let fitting = found.len.min(dest.len());
+    dest[..fitting].copy_from_slice(&copy[..fitting]);
+    if found.len > dest.len() {
+        return answer(TOO_SMALL, 0, 0);
+    }
+    answer(found.status, 0, found.len)
+}
+
 /// Each message of a stream, pushed in chunks; the sum of the messages' lengths, and how many there were.
 #[inline(never)]
 pub fn push_in_chunks(stream: &[u8], chunk: usize, dest: &mut [u8]) -> Answer {

@@ -24,7 +24,7 @@ use std::hint::black_box;
 use std::time::Instant;
 use workload::WORKLOADS;
 
-// All code behind this lies so many bytes further on in memory.
+// All code after this lies so many bytes further on in memory.
 global_asm!(".pushsection .text.place, \"axR\"", concat!(".skip ", env!("PLACE")), ".popsection");
 
 /// Seconds a call, over so many calls. In place, each call has fresh frames, which are laid out before the clock runs.

@@ -35,12 +35,13 @@ pub unsafe fn encode(source: &[u8], dest: *mut u8) -> usize {
 }
 
 /// # Safety
-/// The source is a frame without its sentinel, and the destination has room for its message and one byte.
-#[inline(never)]
-pub unsafe fn decode(source: &[u8], dest: *mut u8) -> usize {
+/// The source is a frame of so many bytes without its sentinel, and the destination has room for its message and one
+/// byte. It may be the source.
+#[inline(always)]
+unsafe fn decode_to(source: *const u8, len: usize, dest: *mut u8) -> usize {
     unsafe {
-        let mut from = source.as_ptr();
-        let end = from.add(source.len());
+        let mut from = source;
+        let end = from.add(len);
         let mut to = dest;
         while from < end {
             let code = *from;
@@ -60,29 +61,19 @@ pub unsafe fn decode(source: &[u8], dest: *mut u8) -> usize {
 }
 
 /// # Safety
+/// The source is a frame without its sentinel, and the destination has room for its message and one byte.
+#[inline(never)]
+pub unsafe fn decode(source: &[u8], dest: *mut u8) -> usize {
+    unsafe { decode_to(source.as_ptr(), source.len(), dest) }
+}
+
+/// # Safety
 /// The buffer is a frame without its sentinel.
 #[inline(never)]
 pub unsafe fn decode_in_place(buffer: &mut [u8]) -> usize {
-    unsafe {
-        let mut from = buffer.as_ptr();
-        let end = from.add(buffer.len());
-        let mut to = buffer.as_mut_ptr();
-        let start = to;
-        while from < end {
-            let code = *from;
-            from = from.add(1);
-            for _ in 1..code {
-                *to = *from;
-                to = to.add(1);
-                from = from.add(1);
-            }
-            if code != 255 && from < end {
-                *to = 0;
-                to = to.add(1);
-            }
-        }
-        to.offset_from(start) as usize
-    }
+    let len = buffer.len();
+    let start = buffer.as_mut_ptr();
+    unsafe { decode_to(start, len, start) }
 }
 
 /// A frame that is being written, a byte at a time.

@@ -221,7 +221,7 @@ pub fn decode(source: &[u8], dest: &mut [u8]) -> Option<usize> {
     decode_rest(&source[read..end], dest, written)
 }
 
-/// The blocks that are left, with no byte written behind what they give.
+/// The blocks that are left, with no byte written after what they give.
 #[inline(always)]
 fn decode_rest(rest: &[u8], dest: &mut [u8], written: usize) -> Option<usize> {
     let (mut rest, mut written) = (rest, written);

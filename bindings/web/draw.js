@@ -2,7 +2,7 @@
 //
 // A picture is a row of cells, one for each byte of the frame. Over each byte stands what it is in the
 // message: a data byte is itself, and a code stands where a zero of the message was, but the first one
-// and the one behind a full block. Under the cells an arc leads from each code to the next.
+// and the one after a full block. Under the cells an arc leads from each code to the next.
 
 export const CELL = 32;          // width of a cell, in pixels
 export const ROW_HEIGHT = 100;   // height of a row with its arcs and a margin
@@ -36,7 +36,7 @@ ${root} .end{fill:none;stroke:var(--line);stroke-dasharray:2 3}`;
 /** A byte as two hexadecimal digits. */
 export const hex = (byte) => byte.toString(16).padStart(2, "0");
 
-/** Where the codes of a piece stand: the first byte, and each byte right behind a part. */
+/** Where the codes of a piece stand: the first byte, and each byte right after a part. */
 export function codePlaces(piece, sentinel = 0) {
   const places = new Uint32Array(piece.length);
   let count = 0;
@@ -68,7 +68,7 @@ function partAt(piece, places, number, sentinel) {
   return { at, code, end: at + code, full: code === 255, bad: at + code > piece.length };
 }
 
-/** What stands over a code: the zero of the message, nothing at the front, and a note behind a full block. */
+/** What stands over a code: the zero of the message, nothing at the front, and a note after a full block. */
 function overCode(piece, places, number, sentinel) {
   if (number === 0) return { text: "", kind: "over" };
   const before = partAt(piece, places, number - 1, sentinel);
@@ -185,14 +185,14 @@ export function rowPicture(piece, places, from, to, options = {}) {
   const margin = options.margin ?? 58;
   const { cells, arcs } = cellsOf(piece, places, from, to, options);
   const label = words(cells, from);
-  // the last arc leads to the place behind the frame, where the sentinel will stand
+  // the last arc leads to the place after the frame, where the sentinel will stand
   if (to === piece.length) cells.push(sentinelCell((options.show ?? hex)(options.sentinel ?? 0)));
   const width = margin + cells.length * CELL;
   return `<svg width="${width}" height="${ROW_HEIGHT - 4}" viewBox="0 0 ${width} ${ROW_HEIGHT - 4}" role="img" aria-label="${escaped(label)}">`
     + `<text class="at" x="${margin / 2}" y="${TOP + 19}">${from}</text>${row(cells, arcs, margin)}</svg>`;
 }
 
-/** The place of the sentinel behind a frame. */
+/** The place of the sentinel after a frame. */
 const sentinelCell = (text) => ({ text, first: true, last: true, ending: true, over: { text: "", kind: "over" } });
 
 /** A row in words. */

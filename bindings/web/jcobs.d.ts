@@ -61,7 +61,7 @@ export function encode(message: Bytes, options?: EncodeOptions): Uint8Array;
 
 /**
  * The message of the first frame: sentinels in front are skipped, and it ends at the next sentinel or with the
- * bytes. What stands behind it isn't read.
+ * bytes. What stands after it isn't read.
  * @throws CobsError "empty" or "broken"
  */
 export function decode(frame: Bytes, options?: SentinelOptions): Uint8Array;
@@ -72,7 +72,7 @@ export function frameKind(frame: Bytes, options?: SentinelOptions): "canonical" 
 /** Takes a stream in chunks of any size. */
 export class FrameDecoder {
   constructor(options?: DecoderOptions);
-  /** Calls `visit` for each piece that the chunk ends; `end` is the place in the chunk behind its sentinel. */
+  /** Calls `visit` for each piece that the chunk ends; `end` is the place in the chunk after its sentinel. */
   push(chunk: Bytes, visit: (outcome: Outcome, end: number) => void): void;
   /** Whether a frame has begun that no sentinel has ended yet. */
   get unfinished(): boolean;
@@ -87,7 +87,7 @@ export class FrameDecoderStream extends TransformStream<Bytes, Outcome> {
   get unfinished(): boolean;
 }
 
-/** Messages in, their frames out, each with a sentinel behind it. */
+/** Messages in, their frames out, each with a sentinel after it. */
 export class FrameEncoderStream extends TransformStream<Bytes, Uint8Array> {
   constructor(options?: SentinelOptions);
 }

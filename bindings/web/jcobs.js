@@ -104,7 +104,7 @@ class Machine {
     };
   }
 
-  /** The jcobs_answer of the call just made: a 32-bit number, and two of 64 bits behind it, low half first. */
+  /** The jcobs_answer of the call just made: a 32-bit number, and two of 64 bits after it, low half first. */
   #answer() {
     const words = this.#words;
     return { status: words[0], consumed: words[2] + words[3] * 0x100000000, length: words[4] + words[5] * 0x100000000 };
@@ -240,7 +240,7 @@ export function maxEncodedLength(length) {
   return loaded().machine.maxLength(length);
 }
 
-/** The frame of a message, with a sentinel behind it where `terminated` is true. */
+/** The frame of a message, with a sentinel after it where `terminated` is true. */
 export function encode(message, { sentinel = 0, terminated = false } = {}) {
   const bytes = bytesOf(message);
   sentinelOf(sentinel);
@@ -301,7 +301,7 @@ export class FrameDecoder {
     return this.#place ? !this.#decoder.isIdle() : this.#wasUnfinished;
   }
 
-  /** Calls `visit(outcome, end)` for each piece that `chunk` ends; `end` is the place in the chunk behind its sentinel. */
+  /** Calls `visit(outcome, end)` for each piece that `chunk` ends; `end` is the place in the chunk after its sentinel. */
   push(chunk, visit) {
     if (!this.#place) throw new Error("the decoder is closed");
     if (this.#isPushing) throw new Error("a push is under way");
@@ -360,7 +360,7 @@ export class FrameDecoderStream extends TransformStream {
   }
 }
 
-/** Messages in, their frames out, each with a sentinel behind it. */
+/** Messages in, their frames out, each with a sentinel after it. */
 export class FrameEncoderStream extends TransformStream {
   constructor({ sentinel = 0 } = {}) {
     loaded();

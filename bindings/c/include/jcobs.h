@@ -32,13 +32,13 @@
  *     if (answer.status == JCOBS_OK)
  *         write(fd, frame, answer.length);
  *
- * What a caller owes
+ * Preconditions
  *
  * Of each pointer with a length: that so many bytes can be read there, and written where the pointer isn't
  * const. Where the length is 0 the pointer isn't used, and may be NULL. Lengths count bytes, and are at most
  * PTRDIFF_MAX. No two buffers of a call overlap each other or the state.
  *
- * Of a state: a pointer to one, and nothing of what stands in it. Whatever that is, no call reads or writes a
+ * Of a state: the pointer is to one. What stands in it may be anything: no call reads or writes a
  * byte outside the buffers that it is passed, each call ends, and consumed and length stay within them.
  *
  * No function takes memory, locks, or keeps a pointer or anything else from call to call: what a call does
@@ -49,7 +49,7 @@
  *
  * consumed counts the bytes that were taken of the message, the source or the bytes pushed. length counts the
  * bytes that the call leaves at the front of the buffer that it writes to: the frame, the message, or the first
- * bytes of one. Bytes behind these are as they were before the call, or for a streaming call as they were before
+ * bytes of one. Bytes after these are as they were before the call, or for a streaming call as they were before
  * the frame or message began, but where a row says otherwise.
  *
  * call                      status     consumed              length
@@ -58,17 +58,17 @@
  *                           TOO_SMALL  0                     0; the buffer is as it was
  * decode                    OK         zeros in front, the   the message
  *                                      frame, and the zero
- *                                      behind it
+ *                                      after it
  *                           BROKEN     the same              the output of the frame, up to where it ends
  *                           TOO_SMALL  the same              the whole buffer: the output's first bytes
  *                           EMPTY      the whole source      0: there are no bytes, or zeros alone
  * decode_with_sentinel      OK         the frame, and the    the message
- *                                      sentinel behind it
+ *                                      sentinel after it
  *                           BROKEN     the same              the output of the whole blocks
  *                           TOO_SMALL  the same              the whole buffer: the first bytes of these
  *                           EMPTY      0                     0: there are no bytes
  * decode_in_place           OK         the frame, and the    the message
- *   and .._with_sentinel               sentinel behind it
+ *   and .._with_sentinel               sentinel after it
  *                           BROKEN     the same              the output of the whole blocks
  *                           EMPTY      0                     0: there are no bytes
  * decoder_push              OK         through the zero      the message
@@ -85,7 +85,7 @@
  * The source of decode, decode_with_sentinel and decode_in_place needs no sentinel at its end: then the frame
  * ends with it, and consumed is the source's length. A frame that was cut off between two of its blocks is a
  * frame too, and is answered OK: where the sentinel has to be there, test source[consumed - 1]. (In place, a
- * call changes no byte behind the message, so this test works there too; but with a sentinel that isn't 0
+ * call changes no byte after the message, so this test works there too; but with a sentinel that isn't 0
  * each byte is changed first, and a sentinel becomes 0.) The streaming decoder answers a frame only at its
  * zero. COBS has no checksum: damage that makes another frame of a frame isn't noticed.
  *
@@ -127,7 +127,7 @@ typedef struct jcobs_answer {
 enum jcobs_kind {
     JCOBS_NOT_A_FRAME = 0, /* it is empty, has a zero, or breaks off inside a block */
     JCOBS_CANONICAL = 1,   /* the frame that encoders write for its message */
-    JCOBS_LONGER = 2       /* that frame with a 1 behind it, which decoders read alike */
+    JCOBS_LONGER = 2       /* that frame with a 1 after it, which decoders read alike */
 };
 
 /* Where a streaming decoder stands. The members are the library's own. */
@@ -147,7 +147,7 @@ typedef struct jcobs_decoder {
 typedef struct jcobs_encoder {
     size_t index;        /* where the code of the open block belongs */
     unsigned char taken; /* bytes that the open block has */
-    unsigned char full;  /* whether the open block is only the place behind a full one */
+    unsigned char full;  /* whether the open block is only the place after a full one */
 } jcobs_encoder;
 
 /* The start, when nothing was taken, which is all zeros. jcobs_encoder_reset makes the same. */
@@ -166,7 +166,7 @@ size_t jcobs_max_length(size_t message_len);
  * bytes always suffices; it is refused exactly where the frame itself doesn't fit. */
 jcobs_answer jcobs_encode(const unsigned char *message, size_t message_len, unsigned char *frame, size_t frame_len);
 
-/* The same with a zero behind the frame, which needs one byte more. */
+/* The same with a zero after the frame, which needs one byte more. */
 jcobs_answer jcobs_encode_terminated(const unsigned char *message, size_t message_len, unsigned char *frame,
                                      size_t frame_len);
 
@@ -190,7 +190,7 @@ jcobs_answer jcobs_decode_with_sentinel(const unsigned char *source, size_t sour
  * No zero is skipped: one in front is an empty message. There is always room. */
 jcobs_answer jcobs_decode_in_place(unsigned char *buffer, size_t buffer_len);
 
-/* The same for this sentinel. Each byte of the buffer, those behind the frame too, is first changed by
+/* The same for this sentinel. Each byte of the buffer, those after the frame too, is first changed by
  * exclusive or with the sentinel. */
 jcobs_answer jcobs_decode_in_place_with_sentinel(unsigned char *buffer, size_t buffer_len, unsigned char sentinel);
 
@@ -201,7 +201,7 @@ unsigned int jcobs_frame_kind(const unsigned char *bytes, size_t len);
 void jcobs_decoder_reset(jcobs_decoder *decoder);
 
 /* Takes bytes of a stream of frames, each ended by a zero, through the zero that ends the first one. The
- * message then stands at the front of the buffer until the next push; bytes behind that zero aren't looked at:
+ * message then stands at the front of the buffer until the next push; bytes after that zero aren't looked at:
  * push them next. Every frame is answered once, at its zero: OK, BROKEN, or TOO_SMALL where its output is
  * longer than the buffer. Zeros where no frame has begun are skipped. A refused frame costs no other.
  *
@@ -230,7 +230,7 @@ jcobs_answer jcobs_encoder_push(jcobs_encoder *encoder, unsigned char *buffer, s
  * isn't the one that was pushed to. */
 jcobs_answer jcobs_encoder_finish(jcobs_encoder *encoder, unsigned char *buffer, size_t buffer_len);
 
-/* Writes what a status means in a few English words to `text`, with a '\0' behind, as far as they fit, and
+/* Writes what a status means in a few English words to `text`, with a '\0' after it, as far as they fit, and
  * answers the length of all the words; with JCOBS_TEXT_LENGTH bytes they fit. Nothing is written where
  * text_len is 0. A number that is no status is "unknown status". */
 #define JCOBS_TEXT_LENGTH 48

@@ -29,9 +29,9 @@ fn length_of(answer: Answer) -> Result<usize, DecodeError> {
 }
 
 /// Decodes the first frame of `source` to the front of `dest`. Zeros in front of the frame are skipped, and it ends at
-/// the next zero, or with the source. The bytes of `dest` behind the message stay as they are.
+/// the next zero, or with the source. The bytes of `dest` after the message stay as they are.
 ///
-/// The report counts what was parsed with the zeros in front, and the one behind where there is one.
+/// The report counts what was parsed with the zeros in front, and the one after it where there is one.
 ///
 /// A frame that was cut off between two of its blocks is a frame too. Where the zero has to be there, test the last byte
 /// that was parsed.
@@ -60,7 +60,7 @@ pub fn decode(source: &[u8], dest: &mut [u8]) -> Result<DecodeReport, DecodeErro
 }
 
 /// Decodes the frame at the front of `buff` in its own place, and answers the message's length. It ends at the first
-/// zero, or with the buffer. No zero is skipped: one in front is an empty message. The bytes behind the message stay as
+/// zero, or with the buffer. No zero is skipped: one in front is an empty message. The bytes after the message stay as
 /// they are.
 ///
 /// ```
@@ -78,7 +78,7 @@ pub fn decode_in_place(buff: &mut [u8]) -> Result<usize, DecodeError> {
     length_of(sys::decode_in_place(buff))
 }
 
-/// As [`decode_in_place`], with a report that also says how long the frame is. A zero behind it isn't counted.
+/// As [`decode_in_place`], with a report that also says how long the frame is. A zero after it isn't counted.
 ///
 /// ```
 /// let mut buf = *b"\x03hi\0\x02x";
@@ -93,7 +93,7 @@ pub fn decode_in_place(buff: &mut [u8]) -> Result<usize, DecodeError> {
 pub fn decode_in_place_report(buf: &mut [u8]) -> Result<DecodeReport, DecodeError> {
     let answer = sys::decode_in_place(buf);
     let frame_size = length_of(answer)?;
-    // The library counts a zero behind the frame. The last byte that it took is as it was: no frame's byte is 0, and a
+    // The library counts a zero after the frame. The last byte that it took is as it was: no frame's byte is 0, and a
     // message is shorter than its frame.
     let has_zero = buf[answer.consumed - 1] == 0;
     Ok(DecodeReport::new(
@@ -104,7 +104,7 @@ pub fn decode_in_place_report(buf: &mut [u8]) -> Result<DecodeReport, DecodeErro
 
 /// Decodes the frame at the front of `source`, for the given sentinel, to the front of `dest`, and answers the message's
 /// length. It ends at the first sentinel, or with the source. No sentinel is skipped: one in front is an empty message.
-/// The bytes of `dest` behind the message stay as they are.
+/// The bytes of `dest` after the message stay as they are.
 ///
 /// ```
 /// let mut frame = [0; 8];
@@ -129,7 +129,7 @@ pub fn decode_with_sentinel(
     length_of(sys::decode_with_sentinel(source, dest, sentinel))
 }
 
-/// As [`decode_in_place`], for the given sentinel. Each byte of `buff`, those behind the frame too, is first changed by
+/// As [`decode_in_place`], for the given sentinel. Each byte of `buff`, those after the frame too, is first changed by
 /// exclusive or with it.
 ///
 /// ```

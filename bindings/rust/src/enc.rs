@@ -33,7 +33,7 @@ fn length_of(answer: Answer) -> Result<usize, DestBufTooSmallError> {
     }
 }
 
-/// Writes the frame of `source`, without sentinels, to the front of `dest`, and answers its length. The bytes behind it
+/// Writes the frame of `source`, without sentinels, to the front of `dest`, and answers its length. The bytes after it
 /// stay as they are.
 ///
 /// ```
@@ -50,7 +50,7 @@ pub fn encode(source: &[u8], dest: &mut [u8]) -> usize {
     try_encode(source, dest).expect("room for the frame")
 }
 
-/// Writes the frame of `source`, without sentinels, to the front of `dest`, and answers its length. The bytes behind it
+/// Writes the frame of `source`, without sentinels, to the front of `dest`, and answers its length. The bytes after it
 /// stay as they are.
 ///
 /// ```
@@ -69,7 +69,7 @@ pub fn try_encode(source: &[u8], dest: &mut [u8]) -> Result<usize, DestBufTooSma
     length_of(sys::encode(source, dest))
 }
 
-/// Writes 0, the frame of `source`, and 0 to the front of `dest`, and answers the length of all three. The bytes behind
+/// Writes 0, the frame of `source`, and 0 to the front of `dest`, and answers the length of all three. The bytes after
 /// it stay as they are.
 ///
 /// ```
@@ -86,7 +86,7 @@ pub fn encode_including_sentinels(source: &[u8], dest: &mut [u8]) -> usize {
     try_encode_including_sentinels(source, dest).expect("room for the frame and its sentinels")
 }
 
-/// Writes 0, the frame of `source`, and 0 to the front of `dest`, and answers the length of all three. The bytes behind
+/// Writes 0, the frame of `source`, and 0 to the front of `dest`, and answers the length of all three. The bytes after
 /// it stay as they are.
 ///
 /// ```
@@ -111,7 +111,7 @@ pub fn try_encode_including_sentinels(
 }
 
 /// Writes the frame of `source` for the given sentinel to the front of `dest`, and answers its length: the frame for 0,
-/// each byte changed by exclusive or with `sentinel`. The bytes behind it stay as they are.
+/// each byte changed by exclusive or with `sentinel`. The bytes after it stay as they are.
 ///
 /// ```
 /// let mut dest = [0; 4];
@@ -167,7 +167,7 @@ pub fn encode_vec(source: &[u8]) -> alloc::vec::Vec<u8> {
     encoded
 }
 
-/// 0, the frame of `source`, and 0; nothing behind it.
+/// 0, the frame of `source`, and 0; nothing after it.
 ///
 /// ```
 /// assert_eq!(jcobs::encode_vec_including_sentinels(b"hi"), b"\0\x03hi\0");

@@ -1,9 +1,9 @@
 //! The calls of the library jcobs, over slices. All `unsafe` of this crate is here.
 //!
-//! What a caller of `jcobs.h` owes is that each pointer with a length is one to so many bytes, which can be written
+//! The preconditions of `jcobs.h` are that each pointer with a length is one to so many bytes, which can be written
 //! where the pointer isn't `const`, that no two buffers of a call overlap each other or the state, and that lengths are
-//! at most `isize::MAX`. A slice is all of this, and an exclusive reference overlaps nothing. Nothing is owed of what
-//! stands in a state: whatever that is, no call touches a byte outside its buffers. So each function here is safe.
+//! at most `isize::MAX`. A slice is all of this, and an exclusive reference overlaps nothing. What stands in a state
+//! may be anything: no call touches a byte outside its buffers. So each function here is safe.
 //!
 //! `jcobs.h` calls the members of a state the library's own. They are read and written here alone, by the methods of
 //! [`Decoder`] and [`Encoder`], as `crates/cobs_c` states them.
@@ -102,7 +102,7 @@ impl Encoder {
         self.taken
     }
 
-    /// Whether the open block is only the place behind a full one.
+    /// Whether the open block is only the place after a full one.
     pub(crate) fn is_behind_full(&self) -> bool {
         self.full != 0
     }
@@ -157,86 +157,77 @@ extern "C" {
 
 #[cfg(test)]
 pub(crate) fn max_length(message_len: usize) -> usize {
-    // SAFETY: nothing is owed.
+    // SAFETY: this call has no precondition.
     unsafe { jcobs_max_length(message_len) }
 }
 
 #[cfg(test)]
 pub(crate) fn version() -> u32 {
-    // SAFETY: nothing is owed.
+    // SAFETY: this call has no precondition.
     unsafe { jcobs_version() }
+}
+
+/// A call of the library that reads the first slice and writes to the second.
+type Transcode = unsafe extern "C" fn(*const u8, usize, *mut u8, usize) -> RawAnswer;
+
+/// The same for a given sentinel.
+type TranscodeFor = unsafe extern "C" fn(*const u8, usize, *mut u8, usize, u8) -> RawAnswer;
+
+/// # Safety
+///
+/// The call is one of the library's.
+#[inline(always)]
+unsafe fn transcode(call: Transcode, from: &[u8], to: &mut [u8]) -> Answer {
+    // SAFETY: each pointer comes with its slice's length, and `to` overlaps nothing.
+    unsafe { call(from.as_ptr(), from.len(), to.as_mut_ptr(), to.len()) }.into()
+}
+
+/// # Safety
+///
+/// The call is one of the library's.
+#[inline(always)]
+unsafe fn transcode_for(call: TranscodeFor, from: &[u8], to: &mut [u8], sentinel: u8) -> Answer {
+    // SAFETY: each pointer comes with its slice's length, and `to` overlaps nothing.
+    unsafe {
+        call(
+            from.as_ptr(),
+            from.len(),
+            to.as_mut_ptr(),
+            to.len(),
+            sentinel,
+        )
+    }
+    .into()
 }
 
 #[inline]
 pub(crate) fn encode(message: &[u8], frame: &mut [u8]) -> Answer {
-    // SAFETY: each pointer comes with its slice's length, and `frame` overlaps nothing.
-    unsafe {
-        jcobs_encode(
-            message.as_ptr(),
-            message.len(),
-            frame.as_mut_ptr(),
-            frame.len(),
-        )
-    }
-    .into()
+    // SAFETY: the call is the library's.
+    unsafe { transcode(jcobs_encode, message, frame) }
 }
 
 #[inline]
 pub(crate) fn encode_terminated(message: &[u8], frame: &mut [u8]) -> Answer {
-    // SAFETY: each pointer comes with its slice's length, and `frame` overlaps nothing.
-    unsafe {
-        jcobs_encode_terminated(
-            message.as_ptr(),
-            message.len(),
-            frame.as_mut_ptr(),
-            frame.len(),
-        )
-    }
-    .into()
+    // SAFETY: the call is the library's.
+    unsafe { transcode(jcobs_encode_terminated, message, frame) }
 }
 
 #[inline]
 pub(crate) fn encode_with_sentinel(message: &[u8], frame: &mut [u8], sentinel: u8) -> Answer {
-    // SAFETY: each pointer comes with its slice's length, and `frame` overlaps nothing.
-    unsafe {
-        jcobs_encode_with_sentinel(
-            message.as_ptr(),
-            message.len(),
-            frame.as_mut_ptr(),
-            frame.len(),
-            sentinel,
-        )
-    }
-    .into()
+    // SAFETY: the call is the library's.
+    unsafe { transcode_for(jcobs_encode_with_sentinel, message, frame, sentinel) }
 }
 
 #[inline]
 pub(crate) fn decode(source: &[u8], message: &mut [u8]) -> Answer {
-    // SAFETY: each pointer comes with its slice's length, and `message` overlaps nothing.
-    unsafe {
-        jcobs_decode(
-            source.as_ptr(),
-            source.len(),
-            message.as_mut_ptr(),
-            message.len(),
-        )
-    }
-    .into()
+    // SAFETY: the call is the library's.
+    unsafe { transcode(jcobs_decode, source, message) }
 }
 
 #[inline]
 pub(crate) fn decode_with_sentinel(source: &[u8], message: &mut [u8], sentinel: u8) -> Answer {
-    // SAFETY: each pointer comes with its slice's length, and `message` overlaps nothing.
-    unsafe {
-        jcobs_decode_with_sentinel(
-            source.as_ptr(),
-            source.len(),
-            message.as_mut_ptr(),
-            message.len(),
-            sentinel,
-        )
-    }
-    .into()
+    // SAFETY: the call is the library's.
+    unsafe { transcode_for(jcobs_decode_with_sentinel, source, message, sentinel) }
 }
 
 #[inline]

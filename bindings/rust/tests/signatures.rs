@@ -13,7 +13,7 @@ use jcobs::{
 const LENGTHS: [fn(usize) -> usize; 2] = [jcobs::max_encoding_overhead, jcobs::max_encoding_length];
 const ROOM: [u8; jcobs::max_encoding_length(254)] = [0; jcobs::max_encoding_overhead(254) + 254];
 
-const fn lent(dest: &mut [u8]) -> CobsDecoder<'_> {
+const fn borrowed(dest: &mut [u8]) -> CobsDecoder<'_> {
     CobsDecoder::new(dest)
 }
 
@@ -68,7 +68,7 @@ macro_rules! decoder {
 
 #[test]
 fn decoders() {
-    let _ = lent;
+    let _ = borrowed;
     decoder!(CobsDecoder<'static>);
     decoder!(CobsDecoderHeapless<4>);
     decoder!(CobsDecoderOwned);

@@ -343,11 +343,11 @@ fn decoder(buffer: &[u8], pieces: &[&str]) -> Vec<Answer> {
     let mut answers = Vec::new();
     for by_pushes in [false, true] {
         let mut dest = buffer.to_vec();
-        let mut lent = CobsDecoder::new(&mut dest);
+        let mut borrowed = CobsDecoder::new(&mut dest);
         let mut owned = CobsDecoderOwned::new(buffer.len());
         owned.dest_mut().copy_from_slice(buffer);
         let mut within = CobsDecoderHeapless::<4>::new();
-        let mut decoders: Vec<&mut dyn Streaming> = vec![&mut lent, &mut owned];
+        let mut decoders: Vec<&mut dyn Streaming> = vec![&mut borrowed, &mut owned];
         if buffer.len() == 4 {
             within.dest_mut().copy_from_slice(buffer);
             decoders.push(&mut within);

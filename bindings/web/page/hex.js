@@ -24,7 +24,7 @@ for (let i = 0; i < 16; i++) {
 }
 for (const sign of " \t\r\n\f\v,;:-_") value[sign.charCodeAt(0)] = SEPARATOR;
 
-/** What the sign at a place is: a digit's value, SEPARATOR, or -1 for all else and behind the end. */
+/** What the sign at a place is: a digit's value, SEPARATOR, or -1 for all else and after the end. */
 function signAt(text, at) {
   const code = text.charCodeAt(at);
   return code < 128 ? value[code] : code === 0xa0 ? SEPARATOR : -1;

@@ -207,7 +207,7 @@ const calls = {
   },
 };
 
-/** Whether an answer is the one that a line wants. `refused` is any refusal, and what stands behind it isn't owed. */
+/** Whether an answer is the one that a line wants. `refused` is any refusal, and what stands after it is free. */
 function agrees(found, wanted) {
   if (found.length !== wanted.length) return false;
   return wanted.every((word, i) => word === "?" || word === found[i] || (word === "refused" && found[i] !== "ok" && found[i] !== "message"));

@@ -7,7 +7,7 @@ use Rattle.std.proofs.lemmas.List.{take-take, take-append-drop, drop_more, drop_
 use Rattle.std.proofs.lemmas.List.Elements.{All-cons, All-nil, All-push}
 use Rattle.cobs.specs.Grammar.{IsBlock, IsFull, is_full, joint, lone_block, last_of, message_of, IsFrameOf, IsEncodedFrame, IsOpenFrame}
 use Rattle.cobs.specs.Length.{encoded_len}
-use Rattle.cobs.specs.Encoder.{Reached, end_of, next_of, CobsEncoderAfter}
+use Rattle.cobs.specs.OpenBlock.{Reached, end_of, next_of, CobsEncoderAfter}
 use Rattle.cobs.proofs.GrammarLemmas.{lone_block-is_block, one_frame}
 use Rattle.cobs.proofs.UniqueLemmas.{one_encoded, length-encoded}
 use Rattle.cobs.proofs.OpenLemmas.{All-front, concat-append, message_of-append, frame_of, append-some}

@@ -2,10 +2,12 @@
 use Rattle.std.proofs.Common.{◌≡◌, ◌≢◌, ℕ, ◌+◌, ◌-◌, ◌<◌, ◌≤◌, Bool, true, false, cond, List, [], ◌∷◌, ◌++◌, length, take, drop, get_or, Ok, Err, refl, sym, ap, ◌∙◌, arith, append_assoc, length-drop, append-nil, take_all, length-take-le, take-append-drop}
 use Rattle.std.proofs.lemmas.Bool.{ne_eqb, eq-eqb}
 use Rattle.std.proofs.lemmas.List.{drop-drop, drop_all, drop_more}
-use Rattle.cobs.specs.Buffer.{overwritten}
+use Rattle.std.specs.Result.{result_map_both}
+use Rattle.cobs.specs.Overwritten.{overwritten}
 use Rattle.cobs.specs.Piece.{output, kept_output}
-use Rattle.cobs.specs.Decoding.{head_answer}
-use Rattle.cobs.specs.declared.dec.report.DecodeError.TheVariants.{InvalidFrame}
+use Rattle.cobs.specs.Decode.{head_answer}
+use Rattle.cobs.specs.declared.dec.error.DecodeError.{DecodeError}
+use Rattle.cobs.specs.declared.dec.error.DecodeError.TheVariants.{InvalidFrame}
 use Rattle.cobs.proofs.PieceCuts.{output-empty}
 use Rattle.cobs.proofs.KeptLemmas.{joins, whole_left, kept_output-empty, output-part, whole-part, broken-part, kept-part, kept-broken}
 
@@ -32,7 +34,7 @@ module _ (h done : List ℕ) (read : ℕ) (b : BlocksRead h done read) where
       where
         answer : (p : List ℕ) → whole_left p ≡ true → head_answer p ≡ Ok (length (output p))
         answer [] w = ap (λ (x : List ℕ). Ok (length x)) (sym (output-empty [] refl))
-        answer (x ∷ p) w = ap (λ (v : Bool). cond v (Ok (length (output (x ∷ p)))) (Err (InvalidFrame (length (kept_output (x ∷ p)))))) w
+        answer (x ∷ p) w = ap (λ (v : Bool). result_map_both length (λ (e : DecodeError). e) (cond v (Ok (output (x ∷ p))) (Err (InvalidFrame (length (kept_output (x ∷ p))))))) w
 
   module _ (code : ℕ) (more : read < length h) (is : code ≡ get_or h read 0) where
     abbrev pub bytes : List ℕ
@@ -57,7 +59,7 @@ module _ (h done : List ℕ) (read : ℕ) (b : BlocksRead h done read) where
         where
           answer : (p : List ℕ) → 0 < length p → whole_left p ≡ false → head_answer p ≡ Err (InvalidFrame (length (kept_output p)))
           answer [] some w = absurd (omega arith)
-          answer (x ∷ p) some w = ap (λ (v : Bool). cond v (Ok (length (output (x ∷ p)))) (Err (InvalidFrame (length (kept_output (x ∷ p)))))) w
+          answer (x ∷ p) some w = ap (λ (v : Bool). result_map_both length (λ (e : DecodeError). e) (cond v (Ok (output (x ∷ p))) (Err (InvalidFrame (length (kept_output (x ∷ p))))))) w
 
     -- a whole block, and what joins it to the next one
     module _ (some : 0 < code) (fits : code ≤ length h - read) where

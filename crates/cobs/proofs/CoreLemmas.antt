@@ -6,7 +6,8 @@ use Rattle.std.proofs.Math.Seq.{take-set-lt}
 use Rattle.std.proofs.lemmas.List.{length-set, length-take, drop_all, set-set, set_at, set_past}
 use Rattle.std.proofs.lemmas.List.Elements.{All-nil}
 use Rattle.cobs.specs.Grammar.{IsBlock, IsEncodedFrame, lone_block}
-use Rattle.cobs.specs.Encoder.{Reached, CobsEncoderAfter, next_of, end_of, open_len}
+use Rattle.cobs.specs.OpenBlock.{Reached, CobsEncoderAfter, next_of, end_of}
+use Rattle.cobs.specs.Internal.OpenLen.{open_len}
 use Rattle.cobs.specs.Length.{encoded_len}
 use Rattle.cobs.proofs.OpenedLemmas.{Opened}
 use Rattle.cobs.proofs.OpenLenLemmas.{Opened-len}

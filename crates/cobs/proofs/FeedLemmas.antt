@@ -4,11 +4,11 @@ use Rattle.std.proofs.lemmas.List.{take_all, take-append-le, append-nil, length_
 use Rattle.std.proofs.lemmas.List.Elements.{All-push, All-nil}
 use Rattle.std.proofs.lemmas.Bool.{cases_lt, cond-true, cond-false, ne_eqb, le-leb, lt-leb}
 use Rattle.cobs.specs.Grammar.{HasNoZero, is_full}
-use Rattle.cobs.specs.Piece.{lacks, output, last_part, is_whole, parts, parts_behind}
+use Rattle.cobs.specs.Piece.{lacks, output, last_part, is_whole, parts, parts_after}
 use Rattle.cobs.specs.Stream.{outcome_of, Message, Broken, TooLong}
-use Rattle.cobs.specs.Decoder.{Phase, Idle, Within, Over, phase_after, PhaseAfter, DecoderAfter, fed, told, answer_at_end, answer_to, Feeds}
-use Rattle.cobs.specs.Machine.{grows, next_phase, next_buffer, if_over, end_answer, next_answer}
-use Rattle.cobs.specs.declared.dec.report.DecodeError.TheVariants.{TargetBufTooSmall}
+use Rattle.cobs.specs.Feed.{Phase, Idle, Within, Over, phase_after, PhaseAfter, DecoderAfter, fed, told, answer_at_end, answer_to, Feeds}
+use Rattle.cobs.specs.Internal.Step.{grows, next_phase, next_buffer, if_over, end_answer, next_answer}
+use Rattle.cobs.specs.declared.dec.error.DecodeError.TheVariants.{TargetBufTooSmall}
 use Rattle.std.specs.Prelude.{IfOk, IfSome}
 use Rattle.cobs.proofs.TableLemmas.{phase_by_table}
 use Rattle.cobs.proofs.PieceLemmas.{output-one, last_part-one, output-push_more, output-push_next, last_part-push_next, lacks-push_more, is_full-push_more, output-push}
@@ -182,7 +182,7 @@ begins-nonzero buffer (c ∷ q) b h e = elim (cases_lt (length buffer) (length (
 ]
 
 output-nil : output [] ≡ []
-unfolding output parts parts_behind
+unfolding output parts parts_after
 output-nil = refl
 
 begins-step : (buffer p : List ℕ) (b : ℕ) → Begins buffer (output p) → Begins (next_buffer buffer (phase_after p (length buffer)) b) (output (fed p b))

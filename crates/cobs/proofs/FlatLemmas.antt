@@ -1,13 +1,15 @@
 -- Frames in which no block but the last is full, decoded in their own place.
-use Rattle.std.proofs.Common.{append-nil, length-append, zero, suc, ◌≤◌, ◌++◌, replicate, subst, append_assoc, take-append-drop, length-take-le, set, ◌≡◌, ◌≢◌, ℕ, ◌+◌, ◌-◌, ◌<◌, true, List, [], ◌∷◌, length, take, drop, get_or, Ok, refl, sym, ap, ◌∙◌, arith, length-drop, inl, inr}
+use Rattle.std.proofs.Common.{take_at, drop_at, bit_xor, append-nil, length-append, zero, suc, ◌≤◌, ◌++◌, replicate, subst, append_assoc, take-append-drop, length-take-le, set, ◌≡◌, ◌≢◌, ℕ, ◌+◌, ◌-◌, ◌<◌, true, List, [], ◌∷◌, length, take, drop, get_or, Ok, refl, sym, ap, ◌∙◌, arith, length-drop, inl, inr}
 use Rattle.std.proofs.lemmas.Bool.{eq-eqb}
-use Rattle.std.proofs.lemmas.List.Edits.{drop-paste, take-paste}
-use Rattle.std.proofs.Math.Seq.{paste}
-use Rattle.std.proofs.lemmas.List.{take-take, drop_all, take_rest, length-set, drop-set-lt, take_more_set, drop-drop, drop_more, drop-take, get_or-take, get_or-drop}
+use Rattle.std.proofs.lemmas.List.{take-map, drop-map, take-take, drop_all, take_rest, length-set, drop-set-lt, take_more_set, drop-drop, drop_more, drop-take, get_or-take, get_or-drop}
 use borrow.Rule.Slice.PartMut.{put_mid}
-use Rattle.cobs.specs.Grammar.{code_of}
-use Rattle.cobs.specs.Piece.{output, kept_output, last_part, lacks, is_whole, IsFlat}
-use Rattle.cobs.specs.Decoding.{head_answer}
+use Rattle.std.proofs.lemmas.List.Elements.{All-cons}
+use Rattle.cobs.specs.Grammar.{code_of, HasNoZero}
+use Rattle.cobs.specs.Piece.{output, kept_output, last_part, lacks, is_whole}
+use Rattle.cobs.specs.Internal.Decoded.{IsFlat}
+use Rattle.cobs.specs.Decode.{head_answer}
+use Rattle.cobs.specs.Sentinel.{xor_each}
+use Rattle.cobs.proofs.SentinelLemmas.{xor_twice}
 use Rattle.cobs.proofs.PieceCuts.{output-le, last_part-more, last_part-last, is_whole-of, length-output-last, length-output-more, joint_of, joint-length}
 use Rattle.cobs.proofs.WindowSteps.{CopiedTo, Decoded, code-decoded, code-copied}
 
@@ -112,6 +114,12 @@ front-ones-by (suc n) piece read f ones lt =
 pub front-ones : (piece : List ℕ) (read : ℕ) → FrontSoFar piece read → take 32 (drop read piece) ≡ replicate 32 1 → read + 32 < length piece → FrontSoFar piece (read + 32)
 front-ones piece read f ones lt = front-ones-by 32 piece read f ones lt
 
+-- bytes that exclusive or with the sentinel makes empty blocks
+pub xored-ones : (piece : List ℕ) (sentinel read : ℕ) → take 32 (drop read piece) ≡ replicate 32 (bit_xor 1 sentinel) → take 32 (drop read (xor_each sentinel piece)) ≡ replicate 32 1
+xored-ones piece sentinel read alike =
+    ap (take 32) (drop-map (λ b. bit_xor b sentinel) read piece) ∙ take-map (λ b. bit_xor b sentinel) 32 (drop read piece)
+    ∙ ap (xor_each sentinel) alike ∙ ap (replicate 32) (xor_twice 1 sentinel)
+
 -- what stands behind the front of a copy is the next code
 pub next-code : (piece dest : List ℕ) (read code : ℕ) → CopiedTo piece dest read (length piece) read → 0 < code → read + code < length piece → get_or dest (read + (code - 1)) 0 ≡ get_or piece (read + code) 0
 next-code piece dest read code k some more =
@@ -144,7 +152,7 @@ pub record FlatCopied (piece old dest : List ℕ) (read code : ℕ) : Type 0 whe
   pub copied : CopiedTo piece dest read (length piece) read
   pub at-read : code ≡ get_or piece read 0
 
-copied-ones-by : (n : ℕ) (piece old dest : List ℕ) (read : ℕ) → FlatCopied piece old dest read 1 → take n (drop read dest) ≡ replicate n 1 → read + n < length piece → length piece ≤ length dest
+copied-ones-by : (n : ℕ) (piece old dest : List ℕ) (read : ℕ) → FlatCopied piece old dest read 1 → take n (drop read dest) ≡ replicate n 1 → read + n < length piece → length piece ≤ length dest + 1
     → FlatCopied piece old (zeroed n read dest) (read + n) 1
 unfolding zeroed
 copied-ones-by zero piece old dest read f ones lt room = let at : read ≡ read + 0 = omega arith in subst (λ (k : ℕ). FlatCopied piece old dest k 1) at f
@@ -168,7 +176,7 @@ copied-ones-by (suc n) piece old dest read f ones lt room =
     subst (λ (m : ℕ). FlatCopied piece old (zeroed n (read + 1) (set dest read 0)) m 1) at
     (copied-ones-by n piece old (set dest read 0) (read + 1) one (ap (take n) (drop-set-lt (read + 1) dest read 0 (omega arith)) ∙ others) (omega arith) (omega arith))
 
-pub copied-ones : (piece old dest after : List ℕ) (read : ℕ) → FlatCopied piece old dest read 1 → take 32 (drop read dest) ≡ replicate 32 1 → read + 32 < length piece → length piece ≤ length dest
+pub copied-ones : (piece old dest after : List ℕ) (read : ℕ) → FlatCopied piece old dest read 1 → take 32 (drop read dest) ≡ replicate 32 1 → read + 32 < length piece → length piece ≤ length dest + 1
     → after ≡ take read dest ++ (replicate 32 0 ++ drop (read + 32) dest) → FlatCopied piece old after (read + 32) 1
 copied-ones piece old dest after read f ones lt room is =
     subst (λ (x : List ℕ). FlatCopied piece old x (read + 32) 1) (zeroed-is 32 read dest (omega arith) ∙ sym is) (copied-ones-by 32 piece old dest read f ones lt room)
@@ -177,31 +185,44 @@ copied-ones piece old dest after read f ones lt room is =
 pub front-rest : (xs : List ℕ) (end : ℕ) → 0 < end → drop 1 (take end xs) ≡ take (end - 1) (drop 1 xs)
 front-rest xs end some = let sum : end ≡ 1 + (end - 1) = omega arith in ap (λ (k : ℕ). drop 1 (take k xs)) sum ∙ drop-take 1 (end - 1) xs
 
--- what stands behind the first code, moved to the front
-pub copied-start : (old after part : List ℕ) (from len n : ℕ) → from + len ≤ length old → IsFlat (take len (drop from old)) → after ≡ paste old 0 part n → n ≡ len - 1 → part ≡ drop (from + 1) old
-    → FlatCopied (take len (drop from old)) old after 0 (get_or old from 0)
-copied-start old after part from len n inside flat is n-is part-is =
-    let piece : List ℕ = take len (drop from old) in
-    let d = length-drop from old in
-    let long : length piece ≡ len = length-take-le len (drop from old) (omega arith) in
-    let some = flat.some in
-    let count = flat.len in
-    let e : length part ≡ length old - (from + 1) = ap length part-is ∙ length-drop (from + 1) old in
-    let out : length (output piece) ≡ 0 + n = omega arith in
-    let rest : drop (length (output piece)) after ≡ drop (length (output piece)) old =
-    ap (λ (k : ℕ). drop k after) out ∙ ap (drop (0 + n)) is ∙ drop-paste old 0 part n (omega arith) (omega arith) ∙ ap (λ (k : ℕ). drop k old) (sym out) in
-    let m : length piece - (0 + 1) ≡ 0 + n = omega arith in
-    let front : take (0 + n) after ≡ take n (drop (from + 1) old) = ap (take (0 + n)) is ∙ take-paste old 0 part n (omega arith) (omega arith) ∙ ap (take n) part-is in
-    let behind : drop (0 + 1) piece ≡ take (len - 1) (drop (from + 1) old) =
-    front-rest (drop from old) len (omega arith) ∙ ap (take (len - 1)) (drop-drop 1 from old) in
-    let whole : take (length piece - (0 + 1)) (drop (0 + 1) piece) ≡ take n (drop (from + 1) old) =
-    ap (take (length piece - (0 + 1))) behind ∙ take-take (length piece - (0 + 1)) (len - 1) (drop (from + 1) old) (omega arith) ∙ ap (λ (k : ℕ). take k (drop (from + 1) old)) (omega arith) in
-    let at : from + 0 ≡ from = omega arith in
+-- a buffer that begins with what stands behind the first code
+pub joints-start : (dest : List ℕ) (first len : ℕ) → 0 < len → len ≤ length dest + 1 → IsFlat (first ∷ take (len - 1) dest)
+    → FlatCopied (first ∷ take (len - 1) dest) dest dest 0 first
+joints-start dest first len some room flat =
+    let piece : List ℕ = first ∷ take (len - 1) dest in
+    let few = length-take-le (len - 1) dest (omega arith) in
+    let long : length piece - (0 + 1) ≡ len - 1 = omega arith in
     record {
-      decoded = record { within = some; left = omega arith; front = refl; rest = rest; last = refl };
-      copied = record { within = omega arith; bytes = ap (λ (k : ℕ). take k after) m ∙ front ∙ sym whole };
-      at-read = sym (get_or-take len (drop from old) 0 0 (omega arith) ∙ get_or-drop from old 0 0 ∙ ap (λ (k : ℕ). get_or old k 0) at);
+      decoded = record { within = omega arith; left = omega arith; front = refl; rest = refl; last = refl };
+      copied = record { within = omega arith; bytes = ap (λ (k : ℕ). take k dest) long ∙ sym (ap (λ (k : ℕ). take k (take (len - 1) dest)) long ∙ take-take (len - 1) (len - 1) dest (omega arith)) };
+      at-read = refl;
     }
+
+-- such a stretch has some bytes
+pub flat-some : (old : List ℕ) (from len : ℕ) → IsFlat (take len (drop from old)) → 0 < len
+flat-some old from zero flat = let some = flat.some in absurd (omega arith)
+flat-some old from (suc len) flat = omega arith
+
+-- what stands after the first code, moved to the front
+module _ (old after : List ℕ) (from len : ℕ) (inside : from + len ≤ length old) (some : 0 < len) (is : after ≡ take (len - 1) (drop (from + 1) old) ++ drop (len - 1) old) where
+  moved-long : length (take (len - 1) (drop (from + 1) old)) ≡ len - 1
+  moved-long = let d = length-drop (from + 1) old in length-take-le (len - 1) (drop (from + 1) old) (omega arith)
+
+  pub moved-piece : get_or old from 0 ∷ take (len - 1) after ≡ take len (drop from old)
+  moved-piece =
+      let l : len ≡ suc (len - 1) = omega arith in
+      ap (λ (x : List ℕ). get_or old from 0 ∷ x) (ap (take (len - 1)) is ∙ take_at (take (len - 1) (drop (from + 1) old)) (drop (len - 1) old) (len - 1) moved-long)
+      ∙ ap (take (suc (len - 1))) (sym (drop_more old from 0 (omega arith))) ∙ ap (λ (k : ℕ). take k (drop from old)) (sym l)
+
+  pub moved-rest : drop (len - 1) after ≡ drop (len - 1) old
+  moved-rest = ap (drop (len - 1)) is ∙ drop_at (take (len - 1) (drop (from + 1) old)) (drop (len - 1) old) (len - 1) moved-long
+
+-- the first byte and those after it
+pub piece-nonzero : (old : List ℕ) (len : ℕ) → 0 < len → len ≤ length old → get_or old 0 0 ≢ 0 → HasNoZero (take (len - 1) (drop 1 old)) → HasNoZero (take len old)
+piece-nonzero [] len some le first others = absurd (omega arith)
+piece-nonzero (x ∷ old) len some le first others =
+    let l : suc (len - 1) ≡ len = omega arith in
+    subst (λ (k : ℕ). HasNoZero (take k (x ∷ old))) l (All-cons (λ byte. byte ≢ 0) x (take (len - 1) old) first others)
 
 -- a slice from some place on, put back
 put-back : (read : ℕ) (buffer new : List ℕ) → put_mid read (length buffer - read) buffer new ≡ take read buffer ++ new

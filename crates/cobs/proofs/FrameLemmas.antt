@@ -4,48 +4,48 @@ use Rattle.std.specs.List.{concat}
 use Rattle.std.proofs.lemmas.Bool.{cases_lt, eq-eqb, eqb-true, true≢false}
 use Rattle.std.proofs.lemmas.List.Elements.{All-head, All-tail, All-cons, All-nil, All-append, All-take}
 use Rattle.cobs.specs.Grammar.{HasNoZero, IsBlock, bytes_of, joint, message_of, last_of, IsFrameOf, Reads}
-use Rattle.cobs.specs.Piece.{parts_behind, parts, last_part, lacks, is_whole, IsWhole, output}
+use Rattle.cobs.specs.Piece.{parts_after, parts, last_part, lacks, is_whole, IsWhole, output}
 
 -- THE PARTS OF A LIST
 
 -- n bytes are skipped
-parts_behind-skip : (n : ℕ) (xs rest : List ℕ) → length xs ≡ n → parts_behind n (xs ++ rest) ≡ parts_behind 0 rest
-unfolding parts_behind
-parts_behind-skip zero [] rest h = refl
-parts_behind-skip zero (x ∷ xs) rest h = absurd (omega arith)
-parts_behind-skip (suc n) [] rest h = absurd (omega arith)
-parts_behind-skip (suc n) (x ∷ xs) rest h = parts_behind-skip n xs rest (omega arith)
+parts_after-skip : (n : ℕ) (xs rest : List ℕ) → length xs ≡ n → parts_after n (xs ++ rest) ≡ parts_after 0 rest
+unfolding parts_after
+parts_after-skip zero [] rest h = refl
+parts_after-skip zero (x ∷ xs) rest h = absurd (omega arith)
+parts_after-skip (suc n) [] rest h = absurd (omega arith)
+parts_after-skip (suc n) (x ∷ xs) rest h = parts_after-skip n xs rest (omega arith)
 
 -- nothing is left behind all the bytes
-pub parts_behind-past : (n : ℕ) (p : List ℕ) → length p ≤ n → parts_behind n p ≡ []
-unfolding parts_behind
-parts_behind-past n [] h = refl
-parts_behind-past zero (x ∷ p) h = absurd (omega arith)
-parts_behind-past (suc n) (x ∷ p) h = parts_behind-past n p (omega arith)
+pub parts_after-past : (n : ℕ) (p : List ℕ) → length p ≤ n → parts_after n p ≡ []
+unfolding parts_after
+parts_after-past n [] h = refl
+parts_after-past zero (x ∷ p) h = absurd (omega arith)
+parts_after-past (suc n) (x ∷ p) h = parts_after-past n p (omega arith)
 
 -- and something behind fewer
-pub parts_behind-some : (n : ℕ) (p : List ℕ) → n < length p → parts_behind n p ≢ []
-unfolding parts_behind
-parts_behind-some n [] h = absurd (omega arith)
-parts_behind-some zero (c ∷ p) h = λ e. cc
-parts_behind-some (suc n) (x ∷ p) h = parts_behind-some n p (omega arith)
+pub parts_after-some : (n : ℕ) (p : List ℕ) → n < length p → parts_after n p ≢ []
+unfolding parts_after
+parts_after-some n [] h = absurd (omega arith)
+parts_after-some zero (c ∷ p) h = λ e. cc
+parts_after-some (suc n) (x ∷ p) h = parts_after-some n p (omega arith)
 
 -- parts end to end are the list
-concat-parts_behind : (n : ℕ) (p : List ℕ) → concat (parts_behind n p) ≡ drop n p
-unfolding parts_behind
-concat-parts_behind zero [] = refl
-concat-parts_behind (suc n) [] = refl
-concat-parts_behind (suc n) (x ∷ p) = concat-parts_behind n p
-concat-parts_behind zero (c ∷ p) = ap (λ (x : List ℕ). c ∷ take (c - 1) p ++ x) (concat-parts_behind (c - 1) p) ∙ ap (λ (x : List ℕ). c ∷ x) (take-append-drop (c - 1) p)
+concat-parts_after : (n : ℕ) (p : List ℕ) → concat (parts_after n p) ≡ drop n p
+unfolding parts_after
+concat-parts_after zero [] = refl
+concat-parts_after (suc n) [] = refl
+concat-parts_after (suc n) (x ∷ p) = concat-parts_after n p
+concat-parts_after zero (c ∷ p) = ap (λ (x : List ℕ). c ∷ take (c - 1) p ++ x) (concat-parts_after (c - 1) p) ∙ ap (λ (x : List ℕ). c ∷ x) (take-append-drop (c - 1) p)
 
 pub concat-parts : (p : List ℕ) → concat (parts p) ≡ p
 unfolding parts
-concat-parts p = concat-parts_behind 0 p
+concat-parts p = concat-parts_after 0 p
 
 pub parts-some : (p : List ℕ) → p ≢ [] → parts p ≢ []
 unfolding parts
 parts-some [] some = absurd (some refl)
-parts-some (c ∷ p) some = parts_behind-some 0 (c ∷ p) (omega arith)
+parts-some (c ∷ p) some = parts_after-some 0 (c ∷ p) (omega arith)
 
 pub last_of-cons : (xs : List ℕ) (more : List (List ℕ)) → more ≢ [] → last_of (xs ∷ more) ≡ last_of more
 last_of-cons xs [] some = absurd (some refl)
@@ -55,15 +55,15 @@ last_of-cons xs (next ∷ more) some = refl
 
 -- a block in front is the first part
 pub parts-block : (block rest : List ℕ) → IsBlock block → parts (block ++ rest) ≡ block ∷ parts rest
-unfolding parts parts_behind
+unfolding parts parts_after
 parts-block [] rest h = absurd h
 parts-block (c ∷ bytes) rest h =
     let code : length bytes ≡ c - 1 = (let e = h.0 in omega arith) in
-    ap (λ (x : List ℕ). (c ∷ x) ∷ parts_behind (c - 1) (bytes ++ rest)) (take_at bytes rest (c - 1) code)
-    ∙ ap (λ (x : List (List ℕ)). (c ∷ bytes) ∷ x) (parts_behind-skip (c - 1) bytes rest code)
+    ap (λ (x : List ℕ). (c ∷ x) ∷ parts_after (c - 1) (bytes ++ rest)) (take_at bytes rest (c - 1) code)
+    ∙ ap (λ (x : List (List ℕ)). (c ∷ bytes) ∷ x) (parts_after-skip (c - 1) bytes rest code)
 
 pub parts-blocks : (blocks : List (List ℕ)) → All IsBlock blocks → parts (concat blocks) ≡ blocks
-unfolding parts parts_behind
+unfolding parts parts_after
 parts-blocks [] h = refl
 parts-blocks (block ∷ blocks) h =
     parts-block block (concat blocks) (All-head IsBlock block blocks h)
@@ -101,8 +101,8 @@ block_from c q h below all =
     (omega arith, below, All-take (λ b. b ≢ 0) (c - 1) q (All-tail (λ b. b ≢ 0) c q h))
 
 -- parts of which the last lacks nothing are blocks
-blocks_behind : (n : ℕ) (p : List ℕ) → HasNoZero p → All (λ b. b < 256) p → lacks (last_of (parts_behind n p)) ≡ 0 → All IsBlock (parts_behind n p)
-unfolding parts_behind
+blocks_behind : (n : ℕ) (p : List ℕ) → HasNoZero p → All (λ b. b < 256) p → lacks (last_of (parts_after n p)) ≡ 0 → All IsBlock (parts_after n p)
+unfolding parts_after
 blocks_behind n [] h below whole = All-nil IsBlock
 blocks_behind (suc n) (x ∷ p) h below whole = blocks_behind n p (All-tail (λ b. b ≢ 0) x p h) (All-tail (λ b. b < 256) x p below) whole
 blocks_behind zero (c ∷ p) h below whole =
@@ -110,12 +110,12 @@ blocks_behind zero (c ∷ p) h below whole =
     let fits : c < 256 = All-head (λ b. b < 256) c p below in
     ⊎_elim
     (λ (long : c - 1 < length p).
-    let same = last_of-cons (c ∷ take (c - 1) p) (parts_behind (c - 1) p) (parts_behind-some (c - 1) p long) in
-    All-cons IsBlock (c ∷ take (c - 1) p) (parts_behind (c - 1) p)
+    let same = last_of-cons (c ∷ take (c - 1) p) (parts_after (c - 1) p) (parts_after-some (c - 1) p long) in
+    All-cons IsBlock (c ∷ take (c - 1) p) (parts_after (c - 1) p)
     (block_from c p h fits (length-take-le (c - 1) p (omega arith)))
     (blocks_behind (c - 1) p (All-tail (λ b. b ≢ 0) c p h) (All-tail (λ b. b < 256) c p below) (ap lacks (sym same) ∙ whole)))
     (λ (short : length p ≤ c - 1).
-    let none = parts_behind-past (c - 1) p short in
+    let none = parts_after-past (c - 1) p short in
     let alone : lacks (c ∷ take (c - 1) p) ≡ 0 = sym (ap (λ (x : List (List ℕ)). lacks (last_of ((c ∷ take (c - 1) p) ∷ x))) none) ∙ whole in
     subst (λ (x : List (List ℕ)). All IsBlock ((c ∷ take (c - 1) p) ∷ x)) (sym none)
     (All-cons IsBlock (c ∷ take (c - 1) p) [] (block_from c p h fits (let l = length-take (c - 1) p in omega arith)) (All-nil IsBlock)))

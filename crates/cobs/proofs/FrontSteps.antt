@@ -6,9 +6,10 @@ use Rattle.std.proofs.lemmas.Bool.{cases_lt}
 use Rattle.std.proofs.lemmas.Slice.{drop-append-drop}
 use Rattle.std.proofs.Math.ListN.{set}
 use borrow.Rule.Slice.PartMut.{put_mid}
-use Rattle.cobs.specs.Buffer.{overwritten}
+use Rattle.cobs.specs.Overwritten.{overwritten}
 use Rattle.cobs.specs.Grammar.{HasNoZero}
-use Rattle.cobs.specs.Piece.{Decoded, output, last_part}
+use Rattle.cobs.specs.Internal.Decoded.{Decoded}
+use Rattle.cobs.specs.Piece.{output, last_part}
 use Rattle.cobs.specs.Stream.{head}
 use Rattle.cobs.proofs.OutcomeLemmas.{head-zero, head-cons, head_nonzero, head_alone, length-head}
 use Rattle.cobs.proofs.HeadLemmas.{front_is_head}

@@ -4,7 +4,7 @@ use Rattle.std.proofs.lemmas.Bool.{ne_eqb}
 use Rattle.std.proofs.lemmas.List.Elements.{All-head, All-tail, All-get_or}
 use Rattle.cobs.specs.Grammar.{HasNoZero}
 use Rattle.cobs.specs.Stream.{first_piece, head}
-use Rattle.cobs.specs.Decoding.{leading_zeros}
+use Rattle.cobs.specs.Decode.{leading_zeros}
 use Rattle.cobs.proofs.OutcomeLemmas.{head-zero, head-cons, first_piece_head}
 
 -- the front up to the first zero, or the whole list

@@ -3,16 +3,17 @@ use Rattle.std.proofs.Common.{◌≡◌, ◌≢◌, ℕ, ◌<◌, ◌≤◌, ◌
 use Rattle.std.proofs.lemmas.Bool.{cases_Bool, cases_lt, le-leb, lt-leb}
 use Rattle.std.proofs.lemmas.List.Elements.{All-from_get_or, All-map, All-weaker}
 use Rattle.std.specs.Int.Bits.{bit_xor, xor_lt}
+use Rattle.std.specs.Result.{result_map_both}
 use Rattle.cobs.specs.Sentinel.{xor_each}
-use Rattle.cobs.specs.Buffer.{overwritten}
+use Rattle.cobs.specs.Overwritten.{overwritten}
 use Rattle.cobs.specs.Grammar.{Reads}
 use Rattle.cobs.specs.Piece.{output, kept_output, is_whole, IsWhole}
 use Rattle.cobs.specs.Stream.{Message, Broken, TooLong, outcome_of, head}
-use Rattle.cobs.specs.Decoding.{sized, reported, consumed, decode_answer, first_output, head_answer, head_answer_within, in_place, in_place_answer, in_place_report, source_answer, output_of, answer_by_piece}
+use Rattle.cobs.specs.Decode.{sized, reported, len_through_piece, decode_answer, first_output, head_answer, head_answer_within, in_place, in_place_answer, in_place_report, source_answer, output_of, answer_by_piece}
 use Rattle.cobs.specs.Headline.{IsPiece, BeginsWith, AnswersMessage, ReportsMessage}
 use Rattle.cobs.specs.declared.dec.report.DecodeReport.{DecodeReport}
-use Rattle.cobs.specs.declared.dec.report.DecodeError.{DecodeError}
-use Rattle.cobs.specs.declared.dec.report.DecodeError.TheVariants.{InvalidFrame, TargetBufTooSmall}
+use Rattle.cobs.specs.declared.dec.error.DecodeError.{DecodeError}
+use Rattle.cobs.specs.declared.dec.error.DecodeError.TheVariants.{InvalidFrame, TargetBufTooSmall}
 use Rattle.cobs.proofs.FrameLemmas.{frame_whole, frame_output, reads_output}
 use Rattle.cobs.proofs.OutcomeLemmas.{outcome_of_whole, first_piece_alone, head_alone, output_within}
 
@@ -77,7 +78,7 @@ unfolding outcome_of
 outcome_of_long p n more =
     ap (λ (t : Bool). cond t (cond (is_whole p) (Message (output p)) (Broken (length (output p)))) TooLong) (lt-leb (length (output p)) n more)
 
-decode_answer_alone : (f : List ℕ) (n : ℕ) → IsPiece f → decode_answer f n ≡ reported (consumed f f) (sized (outcome_of f n))
+decode_answer_alone : (f : List ℕ) (n : ℕ) → IsPiece f → decode_answer f n ≡ reported (len_through_piece f f) (sized (outcome_of f n))
 decode_answer_alone [] n piece = absurd (piece.0 refl)
 decode_answer_alone (byte ∷ bytes) n piece = ap (λ p. answer_by_piece (byte ∷ bytes) p n) (first_piece_alone (byte ∷ bytes) piece.0 piece.1)
 
@@ -85,7 +86,7 @@ decode_reads-fits : (f buffer : List ℕ) (result : Result DecodeReport DecodeEr
     → All (λ b. b < 256) f → IsPiece f → length (output f) ≤ length buffer → (m : List ℕ) → ReportsMessage result buffer' m ↔ Reads f m
 decode_reads-fits f buffer result buffer' answer after below piece fits m =
     let n = length buffer in
-    let given : result ≡ reported (consumed f f) (sized (outcome_of f n)) = answer ∙ decode_answer_alone f n piece in
+    let given : result ≡ reported (len_through_piece f f) (sized (outcome_of f n)) = answer ∙ decode_answer_alone f n piece in
     let written : buffer' ≡ overwritten buffer (output f) = after ∙ ap (λ p. overwritten buffer (output_of p)) (first_piece_alone f piece.0 piece.1) in
     let decodes : Decodes f (sized (outcome_of f n)) buffer' = record {
       whole = λ whole. ap sized (outcome_of_whole f n fits whole);
@@ -93,7 +94,7 @@ decode_reads-fits f buffer result buffer' answer after below piece fits m =
       broken = λ broken. (InvalidFrame (length (output f)), ap sized (outcome_of_broken f n fits broken));
     } in
     subst (λ r. ReportsMessage r buffer' m ↔ Reads f m) (sym given)
-    (reports (consumed f f) (sized (outcome_of f n)) buffer' m (Reads f m) (decodes-reads f m (sized (outcome_of f n)) buffer' piece below decodes))
+    (reports (len_through_piece f f) (sized (outcome_of f n)) buffer' m (Reads f m) (decodes-reads f m (sized (outcome_of f n)) buffer' piece below decodes))
 
 pub decode_reads : (f buffer : List ℕ) (result : Result DecodeReport DecodeError) (buffer' : List ℕ) → result ≡ decode_answer f (length buffer) → buffer' ≡ overwritten buffer (first_output f)
     → All (λ b. b < 256) f → IsPiece f → (m : List ℕ) → ReportsMessage result buffer' m ↔ (Reads f m × (length m ≤ length buffer))
@@ -101,7 +102,7 @@ decode_reads f buffer result buffer' answer after below piece m =
     let n = length buffer in
     reads_where_fits f m n (ReportsMessage result buffer' m) (λ fits. decode_reads-fits f buffer result buffer' answer after below piece fits m)
     (λ more told. absurd (subst (λ r. ReportsMessage r buffer' m)
-    (answer ∙ decode_answer_alone f n piece ∙ ap (λ o. reported (consumed f f) (sized o)) (outcome_of_long f n more)) told))
+    (answer ∙ decode_answer_alone f n piece ∙ ap (λ o. reported (len_through_piece f f) (sized o)) (outcome_of_long f n more)) told))
 
 -- DECODING IN PLACE
 
@@ -111,11 +112,11 @@ kept_output_whole p whole = cc
 
 head_answer_whole : (f : List ℕ) → f ≢ [] → IsWhole f → head_answer f ≡ Ok (length (output f))
 head_answer_whole [] some whole = absurd (some refl)
-head_answer_whole (byte ∷ bytes) some whole = ap (λ (t : Bool). cond t (Ok (length (output (byte ∷ bytes)))) (Err (InvalidFrame (length (kept_output (byte ∷ bytes)))))) whole
+head_answer_whole (byte ∷ bytes) some whole = ap (λ (t : Bool). result_map_both length (λ (e : DecodeError). e) (cond t (Ok (output (byte ∷ bytes))) (Err (InvalidFrame (length (kept_output (byte ∷ bytes))))))) whole
 
 head_answer_broken : (f : List ℕ) → f ≢ [] → is_whole f ≡ false → head_answer f ≡ Err (InvalidFrame (length (kept_output f)))
 head_answer_broken [] some broken = absurd (some refl)
-head_answer_broken (byte ∷ bytes) some broken = ap (λ (t : Bool). cond t (Ok (length (output (byte ∷ bytes)))) (Err (InvalidFrame (length (kept_output (byte ∷ bytes)))))) broken
+head_answer_broken (byte ∷ bytes) some broken = ap (λ (t : Bool). result_map_both length (λ (e : DecodeError). e) (cond t (Ok (output (byte ∷ bytes))) (Err (InvalidFrame (length (kept_output (byte ∷ bytes))))))) broken
 
 in_place_answer_alone : (f : List ℕ) → IsPiece f → in_place_answer f ≡ head_answer f
 in_place_answer_alone [] piece = absurd (piece.0 refl)

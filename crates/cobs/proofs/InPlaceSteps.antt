@@ -3,11 +3,11 @@ use Rattle.std.proofs.Common.{◌≡◌, ◌≢◌, ℕ, ◌+◌, ◌-◌, ◌<�
 use Rattle.std.proofs.lemmas.List.{drop-drop, drop-take, drop_all, get_or-take, get_or-drop, length-set, take_more_set, drop-set-lt}
 use Rattle.std.proofs.lemmas.List.Elements.{All-take, All-drop}
 use borrow.Rule.Slice.PartMut.{put_mid}
-use Rattle.cobs.specs.Buffer.{overwritten}
+use Rattle.cobs.specs.Overwritten.{overwritten}
 use Rattle.cobs.specs.Grammar.{HasNoZero, code_of, is_full}
 use Rattle.cobs.specs.Piece.{output, last_part, lacks, kept_output}
-use Rattle.cobs.specs.Decoding.{head_answer}
-use Rattle.cobs.specs.declared.dec.report.DecodeError.TheVariants.{InvalidFrame}
+use Rattle.cobs.specs.Decode.{head_answer}
+use Rattle.cobs.specs.declared.dec.error.DecodeError.TheVariants.{InvalidFrame}
 use Rattle.cobs.proofs.PieceCuts.{output-le}
 use Rattle.cobs.proofs.KeptLemmas.{joins, whole_left}
 use Rattle.cobs.proofs.WholeLemmas.{in_front}
@@ -31,11 +31,11 @@ drop-later n m xs ys h e =
     sym (ap (λ (j : ℕ). drop j xs) k) ∙ sym (drop-drop (m - n) n xs) ∙ ap (drop (m - n)) e ∙ drop-drop (m - n) n ys ∙ ap (λ (j : ℕ). drop j ys) k
 
 -- what joins a full part, and another one, to what follows
-joins-full : (code : ℕ) (q : List ℕ) → code == 255 ≡ true → [] ≡ joins code q
+pub joins-full : (code : ℕ) (q : List ℕ) → code == 255 ≡ true → [] ≡ joins code q
 joins-full code [] full = refl
 joins-full code (x ∷ q) full = sym (ap (λ (v : Bool). cond v [] (0 ∷ [])) full)
 
-joins-zero-due : (code : ℕ) (q : List ℕ) → code == 255 ≡ false → 0 < length q → 0 ∷ [] ≡ joins code q
+pub joins-zero-due : (code : ℕ) (q : List ℕ) → code == 255 ≡ false → 0 < length q → 0 ∷ [] ≡ joins code q
 joins-zero-due code [] other some = absurd (omega arith)
 joins-zero-due code (x ∷ q) other some = sym (ap (λ (v : Bool). cond v [] (0 ∷ [])) other)
 

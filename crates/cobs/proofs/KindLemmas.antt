@@ -4,7 +4,7 @@ use Rattle.std.specs.List.{concat}
 use Rattle.std.proofs.lemmas.List.{drop-drop, drop_all, drop_more}
 use Rattle.std.proofs.lemmas.List.Elements.{All-push, All-head, All-tail, All-take, All-drop, All-get_or}
 use Rattle.cobs.specs.Grammar.{HasNoZero, IsBlock, IsFull, IsFrame, IsFrameOf, IsCanonical, code_of, is_full, last_of, lone_block, message_of}
-use Rattle.cobs.specs.Piece.{parts, parts_behind}
+use Rattle.cobs.specs.Piece.{parts, parts_after}
 use Rattle.cobs.specs.declared.dec.kind.FrameKind.{FrameKind}
 use Rattle.cobs.specs.declared.dec.kind.FrameKind.TheVariants.{NotAFrame, Canonical, Longer}
 use Rattle.cobs.proofs.FrameLemmas.{parts-frame, frame_some, frame_nonzero}
@@ -103,14 +103,14 @@ module _ (bytes : List ℕ) (read : ℕ) (behind_full : Bool) (b : BlocksBehind 
 
   -- the block here is broken
   pub broken-kind : length bytes - read < code → IsKindOf NotAFrame bytes
-  unfolding parts parts_behind
+  unfolding parts parts_after
   broken-kind short =
       λ frame.
       let cs : List (List ℕ) = frame.1.blocks in
       let same : cs ≡ b.front ++ parts (code ∷ drop (read + 1) bytes) =
       sym (parts-frame bytes cs frame.1.frame) ∙ ap parts b.joined ∙ parts-append b.front (drop read bytes) b.each ∙ ap (λ (x : List ℕ). b.front ++ parts x) cons in
       let blocks : All IsBlock (parts (code ∷ drop (read + 1) bytes)) = All-right b.front (parts (code ∷ drop (read + 1) bytes)) (subst (All IsBlock) same frame.1.frame.each) in
-      let first = All-head IsBlock (code ∷ take (code - 1) (drop (read + 1) bytes)) (parts_behind (code - 1) (drop (read + 1) bytes)) blocks in
+      let first = All-head IsBlock (code ∷ take (code - 1) (drop (read + 1) bytes)) (parts_after (code - 1) (drop (read + 1) bytes)) blocks in
       let count = first.0 in
       let l = length-take (code - 1) (drop (read + 1) bytes) in
       let d = length-drop (read + 1) bytes in

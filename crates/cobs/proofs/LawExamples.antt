@@ -5,7 +5,7 @@ use Rattle.std.proofs.lemmas.List.Elements.{All-cons, All-nil, All-head, All-rep
 use Rattle.cobs.specs.Grammar.{HasNoZero, bytes_of, IsBlock, Reads, IsFrame, IsCanonical, IsEncodedFrame, lone_block}
 use Rattle.cobs.specs.Length.{EndsInFullRun, last_run}
 use Rattle.cobs.specs.Sentinel.{xor_each}
-use Rattle.cobs.specs.Piece.{parts, parts_behind, last_part, is_whole, output, kept_output}
+use Rattle.cobs.specs.Piece.{parts, parts_after, last_part, is_whole, output, kept_output}
 use Rattle.cobs.specs.Stream.{Message, Broken, TooLong, outcome_of, first_piece, head}
 use Rattle.cobs.proofs.GrammarLemmas.{one_frame, lone_block-frame, frame-cons, IsEncodedFrame-last, IsEncodedFrame-zero}
 use Rattle.cobs.proofs.FrameLemmas.{frame_whole, parts-frame}
@@ -17,17 +17,17 @@ use Rattle.cobs.proofs.JoinLemmas.{Reads-append, front_frame}
 
 -- a piece that breaks off: its parts, its output, and what is kept of it
 broken_piece : (parts (2 ∷ 5 ∷ 3 ∷ 1 ∷ []) ≡ (2 ∷ 5 ∷ []) ∷ (3 ∷ 1 ∷ []) ∷ []) × (output (2 ∷ 5 ∷ 3 ∷ 1 ∷ []) ≡ 5 ∷ 0 ∷ 1 ∷ []) × (kept_output (2 ∷ 5 ∷ 3 ∷ 1 ∷ []) ≡ 5 ∷ 0 ∷ [])
-unfolding parts parts_behind output kept_output is_whole last_part
+unfolding parts parts_after output kept_output is_whole last_part
 broken_piece = (refl, refl, refl)
 
 -- it comes to no message
 broken_outcome : (outcome_of (2 ∷ 5 ∷ 3 ∷ 1 ∷ []) 3 ≡ Broken 3) × (outcome_of (2 ∷ 5 ∷ 3 ∷ 1 ∷ []) 2 ≡ TooLong)
-unfolding parts parts_behind output is_whole last_part outcome_of
+unfolding parts parts_after output is_whole last_part outcome_of
 broken_outcome = (refl, refl)
 
 -- a whole one comes to a message exactly where there is room
 whole_outcome : (outcome_of (3 ∷ 10 ∷ 11 ∷ 2 ∷ 12 ∷ []) 4 ≡ Message (10 ∷ 11 ∷ 0 ∷ 12 ∷ [])) × (outcome_of (3 ∷ 10 ∷ 11 ∷ 2 ∷ 12 ∷ []) 3 ≡ TooLong)
-unfolding parts parts_behind output is_whole last_part outcome_of
+unfolding parts parts_after output is_whole last_part outcome_of
 whole_outcome = (refl, refl)
 
 -- 255 bytes behind the number 256 would be whole, but 256 is no code
@@ -35,11 +35,11 @@ abbrev beyond_bytes : List ℕ
 beyond_bytes = 256 ∷ replicate 255 1
 
 beyond_whole : is_whole beyond_bytes ≡ true
-unfolding parts parts_behind is_whole last_part
+unfolding parts parts_after is_whole last_part
 beyond_whole = refl
 
 beyond_no_frame : IsFrame beyond_bytes → ⊥
-unfolding parts parts_behind
+unfolding parts parts_after
 beyond_no_frame (m, r) =
     let same : parts beyond_bytes ≡ r.blocks = parts-frame beyond_bytes r.blocks r.frame in
     let each : All IsBlock (beyond_bytes ∷ []) = subst (All IsBlock) (sym same) r.frame.each in
@@ -103,7 +103,7 @@ sentinel_255 = refl
 -- FRONTS
 
 parts_between : parts (3 ∷ 10 ∷ 11 ∷ 2 ∷ 12 ∷ []) ≡ (3 ∷ 10 ∷ 11 ∷ []) ∷ (2 ∷ 12 ∷ []) ∷ []
-unfolding parts parts_behind
+unfolding parts parts_after
 parts_between = refl
 
 -- a front that ends between two blocks
@@ -115,7 +115,7 @@ front_is_frame =
 
 -- and fronts that end inside one
 fronts_no_frames : (IsFrame (3 ∷ 10 ∷ []) → ⊥) × (IsFrame (3 ∷ 10 ∷ 11 ∷ 2 ∷ []) → ⊥)
-unfolding parts parts_behind is_whole last_part
+unfolding parts parts_after is_whole last_part
 fronts_no_frames = (λ (m, r). true≢false (sym (frame_whole (3 ∷ 10 ∷ []) m r)), λ (m, r). true≢false (sym (frame_whole (3 ∷ 10 ∷ 11 ∷ 2 ∷ []) m r)))
 
 -- JOINED

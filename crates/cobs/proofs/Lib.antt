@@ -11,8 +11,10 @@ pub mod ShortLemmas
 pub mod PartMasks
 pub mod ReachLemmas
 pub mod MarkLemmas
+pub mod RowLemmas
 pub mod AfterLemmas
-pub mod CoreLemmas
+pub mod ChunkLemmas
+mod CoreLemmas
 pub mod PlaceLemmas
 pub mod ShortSteps
 pub mod RoomLemmas
@@ -42,10 +44,13 @@ pub mod StretchLemmas
 pub mod KindLemmas
 pub mod MessagesLemmas
 pub mod SourceSteps
+pub mod SourceFronts
+pub mod XoredLemmas
+pub mod MoveLemmas
 pub mod VectorSteps
 pub mod HeadlineLemmas
 pub mod WholeLemmas
-mod LentSlice
+mod BorrowedSlice
 pub mod StepLemmas
 pub mod PushHeadline
 pub mod FlatLemmas

@@ -1,14 +1,14 @@
 -- A window of a message that was copied behind the open block, and whose zeros give way to codes one by one.
-use Rattle.std.proofs.Common.{◌≡◌, ◌≢◌, ℕ, ◌+◌, ◌-◌, ◌^◌, ◌<◌, ◌≤◌, false, List, ◌++◌, length, drop, take, get_or, replicate, min, refl, sym, ap, ◌∙◌, subst, arith, append_assoc, take_at, drop_at, length-append, length-take-le, length-drop}
+use Rattle.std.proofs.Common.{◌≡◌, ◌≢◌, ℕ, ◌+◌, ◌-◌, ◌^◌, ◌<◌, ◌≤◌, false, List, ◌++◌, length, drop, take, get_or, replicate, min, suc, refl, sym, ap, ◌∙◌, subst, arith, append_assoc, take_at, drop_at, length-append, length-take-le, length-drop}
 use Rattle.std.proofs.Math.ListN.{set}
 use Rattle.std.proofs.Math.Seq.{take-append-add}
 use Rattle.std.proofs.Math.Nat.{pow-le-pow_right}
-use Rattle.std.proofs.lemmas.List.{drop-drop, drop-take, take-take, get_or-take, get_or-drop, drop-set-lt, length-set}
+use Rattle.std.proofs.lemmas.List.{drop-drop, drop-take, take-take, get_or-take, get_or-drop, drop-set-lt, length-set, length-replicate, take-append-le, take-replicate}
 use lib.Count.{count_trailing_zeros}
 use Rattle.std.specs.Int.Bits.{bit_and}
 use Rattle.std.specs.Int.Count.{trailing_of_zero}
 use Rattle.cobs.specs.Grammar.{HasNoZero}
-use Rattle.cobs.specs.Mask.{zero_mask}
+use Rattle.cobs.specs.Internal.Mask.{zero_mask}
 use Rattle.cobs.proofs.MaskLemmas.{mask_behind, mask_behind-none, mask_behind-less, mask_behind-and, some_left, lowest_left, nonzero_len, nonzero_len-lt, nonzero_len-before, nonzero_len-at, clear_front, window_all}
 use Rattle.cobs.proofs.ReachLemmas.{Reaches, Reaches-at, Reaches-same, Reaches-join, Reaches-zero, Reaches-zeros, IsNotFull, least}
 
@@ -225,6 +225,33 @@ marks-end H source old slice end read len index next zeros d s none fits =
       reaches = Reaches-at H source old slice end (read + d + (len - d)) index (next + d + (len - d)) IsNotFull IsNotFull slice (read + len) index (next + len) refl sum refl sum' (λ full p. p) joined;
     }
 
+-- n zeros, in whose place ones stand
+pub row-taken : (H : List ℕ → Type 0) (source old slice after : List ℕ) (end read n index next : ℕ) → Reaches H source old slice end read index next (λ _. Unit {0}) → end ≤ length slice → 0 < n → read + n ≤ length source
+    → take n (drop read source) ≡ replicate n 0 → next < index + 255 → after ≡ take next (set slice index (next - index)) ++ (replicate n 1 ++ drop (next + n) (set slice index (next - index)))
+    → WindowTaken H source old after end read n (next + n - 1) next
+row-taken H source old slice after end read n index next r fits some inside zeros short is =
+    let o = r.ordered in
+    let room = least source end read index next r.ordered r.within r.room in
+    let m : ℕ = n - 1 in
+    let sum : suc m ≡ n = omega arith in
+    let coded : List ℕ = set slice index (next - index) in
+    let l = length-set slice index (next - index) in
+    let ones : length {A = ℕ} (replicate n 1) ≡ n = length-replicate n 1 in
+    let long : length (take next coded) ≡ next = length-take-le next coded (omega arith) in
+    let front : take (next + m) after ≡ take next coded ++ replicate m 1 =
+    ap (take (next + m)) is ∙ ap (λ (k : ℕ). take (k + m) (take next coded ++ (replicate n 1 ++ drop (next + n) coded))) (sym long)
+    ∙ take-append-add (take next coded) (replicate n 1 ++ drop (next + n) coded) m
+    ∙ ap (λ (x : List ℕ). take next coded ++ x) (take-append-le m (replicate n 1) (drop (next + n) coded) (omega arith) ∙ take-replicate m n 1 (omega arith)) in
+    let back : drop end after ≡ drop end old =
+    ap (drop end) is ∙ behind-three coded (replicate n 1) next n ones (omega arith) end (omega arith) ∙ drop-set-lt end slice index (next - index) (omega arith) ∙ r.rest in
+    let w : take (suc m) (drop read source) ≡ replicate (suc m) 0 = ap (λ (k : ℕ). take k (drop read source)) sum ∙ zeros ∙ ap (λ (k : ℕ). replicate k 0) (sym sum) in
+    let z = Reaches-zeros m H source old slice after end read index next (λ _. Unit {0}) (omega arith) w fits short front back r in
+    record {
+      ordered = omega arith;
+      open' = omega arith;
+      reaches = Reaches-at H source old after end (read + suc m) (next + m) (next + m + 1) IsNotFull IsNotFull after (read + n) (next + n - 1) (next + n) refl (omega arith) (omega arith) (omega arith) (λ full p. p) z;
+    }
+
 -- a window of zeros alone
 module _ (H : List ℕ → Type 0) (source old slice : List ℕ) (end read len index next zeros : ℕ) (r : Reaches H source old slice end read index next (λ _. Unit {0})) (fits : end ≤ length slice)
     (inside : read + len ≤ length source) (few : len ≤ 32) (bits : zeros ≡ zero_mask (take len (drop read source))) (all : zeros ≡ 4294967295) where
@@ -241,21 +268,5 @@ module _ (H : List ℕ → Type 0) (source old slice : List ℕ) (end read len i
   pub ones-taken : (after : List ℕ) → next < index + 255 → after ≡ take next (set slice index (next - index)) ++ (replicate 32 1 ++ drop (next + 32) (set slice index (next - index)))
       → WindowTaken H source old after end read len (next + 32 - 1) next
   ones-taken after short is =
-      let o = r.ordered in
       let e : len ≡ 32 = whole.0 in
-      let room = ones-room in
-      let coded : List ℕ = set slice index (next - index) in
-      let l = length-set slice index (next - index) in
-      let ones : length {A = ℕ} (replicate 32 1) ≡ 32 = refl in
-      let n : length (take next coded) ≡ next = length-take-le next coded (omega arith) in
-      let front : take (next + 31) after ≡ take next coded ++ replicate 31 1 =
-      ap (take (next + 31)) is ∙ ap (λ (m : ℕ). take (m + 31) (take next coded ++ (replicate 32 1 ++ drop (next + 32) coded))) (sym n)
-      ∙ take-append-add (take next coded) (replicate 32 1 ++ drop (next + 32) coded) 31 in
-      let back : drop end after ≡ drop end old =
-      ap (drop end) is ∙ behind-three coded (replicate 32 1) next 32 ones (omega arith) end (omega arith) ∙ drop-set-lt end slice index (next - index) (omega arith) ∙ r.rest in
-      let z = Reaches-zeros 31 H source old slice after end read index next (λ _. Unit {0}) (omega arith) whole.1 fits short front back r in
-      record {
-        ordered = omega arith;
-        open' = omega arith;
-        reaches = Reaches-at H source old after end (read + 32) (next + 31) (next + 31 + 1) IsNotFull IsNotFull after (read + len) (next + 32 - 1) (next + len) refl (omega arith) (omega arith) (omega arith) (λ full p. p) z;
-      }
+      subst (λ (n : ℕ). WindowTaken H source old after end read n (next + 32 - 1) next) (sym e) (row-taken H source old slice after end read 32 index next r fits (omega arith) (omega arith) whole.1 short is)

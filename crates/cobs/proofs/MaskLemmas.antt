@@ -16,7 +16,7 @@ use Rattle.std.specs.Int.Bits.{bit_and, and_self}
 use Rattle.std.specs.Int.{bit_at}
 use Rattle.std.proofs.lemmas.Nat.Bits.{same_from_bits, bit_at_lowest, bit_at-suc, bit_at_and}
 use Rattle.cobs.specs.Grammar.{HasNoZero}
-use Rattle.cobs.specs.Mask.{zero_mask}
+use Rattle.cobs.specs.Internal.Mask.{zero_mask}
 
 pub zero_mask-lanes : (bytes : List ℕ) → mask_l (map (λ b. eqb b 0) bytes) ≡ zero_mask bytes
 zero_mask-lanes [] = refl

@@ -10,7 +10,7 @@ use borrow.Rule.Slice.PartMut.{put_mid, post_of}
 use Rattle.cobs.specs.Grammar.{Reads, IsEncodedFrame}
 use Rattle.cobs.specs.Length.{encoded_len, max_encoded_len}
 use Rattle.cobs.specs.Stream.{Outcome, Message, outcome_of, stream_outcomes, unended}
-use Rattle.cobs.specs.Streaming.{AreFrames, messages_in, room_for_frames}
+use Rattle.cobs.specs.Messages.{AreFrames, messages_in, room_for_frames}
 use Rattle.cobs.proofs.FrameLemmas.{frame_some, frame_nonzero}
 use Rattle.cobs.proofs.LengthLemmas.{encoded_len-le}
 use Rattle.cobs.proofs.OutcomeLemmas.{outcome_frame}

@@ -9,7 +9,7 @@ use Rattle.std.proofs.lemmas.Nat.{le_or_l, le_or_r}
 use Rattle.std.specs.Int.Bits.{bit_or}
 use lib.Lanes.{put_chunk}
 use Rattle.cobs.specs.Grammar.{HasNoZero}
-use Rattle.cobs.specs.Mask.{zero_mask}
+use Rattle.cobs.specs.Internal.Mask.{zero_mask}
 use Rattle.cobs.proofs.MaskLemmas.{put_is}
 use Rattle.cobs.proofs.WindowSteps.{take_parts}
 

@@ -5,7 +5,7 @@ use Rattle.std.proofs.lemmas.Bool.{ne_eqb}
 use Rattle.std.proofs.lemmas.List.{set_at, length_push}
 use Rattle.std.proofs.lemmas.List.Elements.{All-head, All-tail, All-cons, All-nil, All-append, All-push}
 use Rattle.cobs.specs.Grammar.{IsBlock, is_full, bytes_of, joint, lone_block, message_of, IsFrameOf, IsOpenFrame}
-use Rattle.cobs.specs.Encoder.{OpenBlock, AgreeOutside, IsOpenOutput}
+use Rattle.cobs.specs.OpenBlock.{OpenBlock, AgreeOutside, IsOpenOutput}
 use Rattle.cobs.proofs.GrammarLemmas.{lone_block-is_block}
 
 pub concat-append : (a b : List (List ℕ)) → concat (a ++ b) ≡ concat a ++ concat b

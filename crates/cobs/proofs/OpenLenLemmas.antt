@@ -7,7 +7,7 @@ use Rattle.std.proofs.lemmas.List.Elements.{All-append, All-replicate, All-head,
 use Rattle.cobs.specs.Grammar.{HasNoZero, IsBlock, is_full, bytes_of, joint, last_of, message_of}
 use Rattle.cobs.specs.Stream.{stretches}
 use Rattle.cobs.specs.Length.{runs, full_blocks, encoded_len, max_encoded_len}
-use Rattle.cobs.specs.Encoder.{open_len}
+use Rattle.cobs.specs.Internal.OpenLen.{open_len}
 use Rattle.cobs.proofs.LengthLemmas.{onto_parts, stretches-append, encoded_len-last, encoded_len-zero, encoded_len-full, encoded_len-le}
 use Rattle.cobs.proofs.OpenLemmas.{append-some}
 use Rattle.cobs.proofs.OpenedLemmas.{Opened, ends_in_full}

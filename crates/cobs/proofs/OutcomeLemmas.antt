@@ -5,7 +5,7 @@ use Rattle.std.proofs.lemmas.Bool.{cases_Bool, cases_eq, ne_eqb, le-leb}
 use Rattle.std.proofs.lemmas.List.Elements.{All-head, All-tail, All-cons, All-nil, All-weaker}
 use Rattle.std.proofs.lemmas.List.Splits.{slice_split-cons_no, slice_split_none}
 use Rattle.cobs.specs.Grammar.{HasNoZero, is_full, joint, message_of, Reads}
-use Rattle.cobs.specs.Piece.{parts_behind, parts, is_whole, IsWhole, output}
+use Rattle.cobs.specs.Piece.{parts_after, parts, is_whole, IsWhole, output}
 use Rattle.cobs.specs.Stream.{stretches, is_nonempty, first_of, first_found, first_piece, head, Message, Broken, TooLong, outcome_of}
 use Rattle.cobs.proofs.FrameLemmas.{concat-parts, frame_some, frame_nonzero, frame_whole, frame_output, reads_output}
 
@@ -30,8 +30,8 @@ length-message_of ((c ∷ bytes) ∷ next ∷ blocks) h =
     let again = length-message_of (next ∷ blocks) (All-tail (λ block. block ≢ []) (c ∷ bytes) (next ∷ blocks) h) in
     omega (arith, length-joint (c ∷ bytes), length-append (bytes ++ joint (c ∷ bytes)) (message_of (next ∷ blocks)), length-append bytes (joint (c ∷ bytes)), length-append bytes (concat (next ∷ blocks)))
 
-parts_nonempty : (n : ℕ) (p : List ℕ) → All (λ part. part ≢ []) (parts_behind n p)
-unfolding parts_behind
+parts_nonempty : (n : ℕ) (p : List ℕ) → All (λ part. part ≢ []) (parts_after n p)
+unfolding parts_after
 parts_nonempty n [] = All-nil (λ part. part ≢ [])
 parts_nonempty (suc n) (x ∷ p) = parts_nonempty n p
 parts_nonempty zero (c ∷ p) = All-cons (λ part. part ≢ []) _ _ (λ e. cc) (parts_nonempty (c - 1) p)

@@ -3,12 +3,12 @@ use Rattle.std.proofs.Common.{◌≡◌, ◌≢◌, ℕ, ◌<◌, ◌≤◌, Boo
 use Rattle.std.proofs.lemmas.Bool.{le-leb, lt-leb, ne_eqb, eq-eqb}
 use Rattle.cobs.specs.Piece.{output, last_part, lacks, is_whole}
 use Rattle.cobs.specs.Stream.{Message, Broken, TooLong, outcome_of, first_piece, head}
-use Rattle.cobs.specs.Buffer.{overwritten}
-use Rattle.cobs.specs.Report.{report_of}
-use Rattle.cobs.specs.Decoding.{sized, reported, consumed, decode_answer, answer_by_piece, head_answer, in_place_answer, in_place_report}
+use Rattle.cobs.specs.Overwritten.{overwritten}
+use Rattle.cobs.specs.Fields.Report.{report_of}
+use Rattle.cobs.specs.Decode.{sized, reported, len_through_piece, decode_answer, answer_by_piece, head_answer, in_place_answer, in_place_report}
 use Rattle.cobs.specs.declared.dec.report.DecodeReport.{DecodeReport}
-use Rattle.cobs.specs.declared.dec.report.DecodeError.{DecodeError}
-use Rattle.cobs.specs.declared.dec.report.DecodeError.TheVariants.{InvalidFrame, TargetBufTooSmall}
+use Rattle.cobs.specs.declared.dec.error.DecodeError.{DecodeError}
+use Rattle.cobs.specs.declared.dec.error.DecodeError.TheVariants.{InvalidFrame, TargetBufTooSmall}
 use Rattle.cobs.proofs.PieceCuts.{is_whole-of}
 
 module _ (p : List ℕ) (n : ℕ) where
@@ -38,18 +38,18 @@ pub decode_answer-none : (source : List ℕ) (n : ℕ) → 0 < length source →
 decode_answer-none [] n some is = absurd (omega arith)
 decode_answer-none (byte ∷ bytes) n some is = sym (ap (λ (p : Option (List ℕ)). answer_by_piece (byte ∷ bytes) p n) is)
 
-pub decode_answer-some : (source p : List ℕ) (n : ℕ) → 0 < length source → first_piece source ≡ Some p → reported (consumed source p) (sized (outcome_of p n)) ≡ decode_answer source n
+pub decode_answer-some : (source p : List ℕ) (n : ℕ) → 0 < length source → first_piece source ≡ Some p → reported (len_through_piece source p) (sized (outcome_of p n)) ≡ decode_answer source n
 decode_answer-some [] p n some is = absurd (omega arith)
 decode_answer-some (byte ∷ bytes) p n some is = sym (ap (λ (q : Option (List ℕ)). answer_by_piece (byte ∷ bytes) q n) is)
 
 -- and by what came of that piece
 module _ (source p : List ℕ) (n : ℕ) (some : 0 < length source) (is : first_piece source ≡ Some p) (result : Result ℕ DecodeError) (result-is : result ≡ sized (outcome_of p n)) where
   pub decode_answer-refused : (error : DecodeError) → result ≡ Err error → Err error ≡ decode_answer source n
-  decode_answer-refused error e = ap (reported (consumed source p)) (sym e ∙ result-is) ∙ decode_answer-some source p n some is
+  decode_answer-refused error e = ap (reported (len_through_piece source p)) (sym e ∙ result-is) ∙ decode_answer-some source p n some is
 
-  pub decode_answer-decoded : (size parsed : ℕ) → result ≡ Ok size → parsed ≡ consumed source p → (report : DecodeReport) → report ≡ report_of parsed size → Ok report ≡ decode_answer source n
+  pub decode_answer-decoded : (size parsed : ℕ) → result ≡ Ok size → parsed ≡ len_through_piece source p → (report : DecodeReport) → report ≡ report_of parsed size → Ok report ≡ decode_answer source n
   decode_answer-decoded size parsed e count report r =
-      ap Ok (r ∙ ap (λ (k : ℕ). report_of k size) count) ∙ ap (reported (consumed source p)) (sym e ∙ result-is) ∙ decode_answer-some source p n some is
+      ap Ok (r ∙ ap (λ (k : ℕ). report_of k size) count) ∙ ap (reported (len_through_piece source p)) (sym e ∙ result-is) ∙ decode_answer-some source p n some is
 
 -- a buffer over which nothing is written
 pub overwritten-none : (buffer : List ℕ) → overwritten buffer [] ≡ buffer

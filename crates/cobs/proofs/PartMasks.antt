@@ -6,7 +6,7 @@ use Rattle.std.proofs.lemmas.List.{length-replicate}
 use Rattle.std.specs.Int.Bits.{bit_or, or_zero_l}
 use Rattle.std.specs.Int.{bit_at}
 use Rattle.std.proofs.lemmas.Nat.Bits.{same_from_bits, bit_at_lowest, bit_at-suc, bit_at_or}
-use Rattle.cobs.specs.Mask.{zero_mask}
+use Rattle.cobs.specs.Internal.Mask.{zero_mask}
 use Rattle.cobs.proofs.MaskLemmas.{mask_behind, zero_mask-lt}
 
 -- the lowest bits, and the others

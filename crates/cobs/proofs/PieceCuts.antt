@@ -3,18 +3,18 @@ use Rattle.std.proofs.Common.{◌≡◌, ◌≢◌, ℕ, zero, suc, ◌+◌, ◌
 use Rattle.std.proofs.lemmas.List.{drop-drop, drop_more}
 use Rattle.std.proofs.lemmas.Bool.{cases_lt, cases_eq, ne_eqb, eq-eqb}
 use Rattle.cobs.specs.Grammar.{bytes_of, joint, message_of, last_of}
-use Rattle.cobs.specs.Piece.{last_part, is_whole, lacks, parts, parts_behind, output}
+use Rattle.cobs.specs.Piece.{last_part, is_whole, lacks, parts, parts_after, output}
 
-parts_behind-drop : (n : ℕ) (p : List ℕ) → parts_behind n p ≡ parts_behind 0 (drop n p)
-unfolding parts_behind
-parts_behind-drop zero p = refl
-parts_behind-drop (suc n) [] = refl
-parts_behind-drop (suc n) (x ∷ p) = parts_behind-drop n p
+parts_after-drop : (n : ℕ) (p : List ℕ) → parts_after n p ≡ parts_after 0 (drop n p)
+unfolding parts_after
+parts_after-drop zero p = refl
+parts_after-drop (suc n) [] = refl
+parts_after-drop (suc n) (x ∷ p) = parts_after-drop n p
 
-parts_behind-some : (p : List ℕ) → 0 < length p → 0 < length (parts_behind 0 p)
-unfolding parts_behind
-parts_behind-some [] h = absurd (omega arith)
-parts_behind-some (x ∷ p) h = omega arith
+parts_after-some : (p : List ℕ) → 0 < length p → 0 < length (parts_after 0 p)
+unfolding parts_after
+parts_after-some [] h = absurd (omega arith)
+parts_after-some (x ∷ p) h = omega arith
 
 message_of-cons : (part : List ℕ) (parts : List (List ℕ)) → 0 < length parts → message_of (part ∷ parts) ≡ (bytes_of part ++ joint part) ++ message_of parts
 message_of-cons part [] h = absurd (omega arith)
@@ -22,11 +22,11 @@ message_of-cons part (next ∷ parts) h = refl
 
 -- the last part
 pub output-last : (code : ℕ) (bytes : List ℕ) → length bytes ≤ code - 1 → output (code ∷ bytes) ≡ bytes
-unfolding output parts parts_behind
+unfolding output parts parts_after
 output-last code bytes short =
     ap (λ (x : List (List ℕ)). message_of ((code ∷ take (code - 1) bytes) ∷ x)) (none (code - 1) bytes short) ∙ take_all (code - 1) bytes short
   where
-    none : (n : ℕ) (p : List ℕ) → length p ≤ n → parts_behind n p ≡ []
+    none : (n : ℕ) (p : List ℕ) → length p ≤ n → parts_after n p ≡ []
     none n [] h = refl
     none zero (x ∷ p) h = absurd (omega arith)
     none (suc n) (x ∷ p) h = none n p (omega arith)
@@ -36,12 +36,12 @@ joint_of code = if code == 255 then [] else 0 ∷ []
 
 -- a part before others
 pub output-more : (code : ℕ) (bytes : List ℕ) → code - 1 < length bytes → output (code ∷ bytes) ≡ (take (code - 1) bytes ++ joint_of code) ++ output (drop (code - 1) bytes)
-unfolding output parts parts_behind
+unfolding output parts parts_after
 output-more code bytes more =
-    let next : parts_behind (code - 1) bytes ≡ parts_behind 0 (drop (code - 1) bytes) = parts_behind-drop (code - 1) bytes in
+    let next : parts_after (code - 1) bytes ≡ parts_after 0 (drop (code - 1) bytes) = parts_after-drop (code - 1) bytes in
     let l = length-drop (code - 1) bytes in
     ap (λ (x : List (List ℕ)). message_of ((code ∷ take (code - 1) bytes) ∷ x)) next
-    ∙ message_of-cons (code ∷ take (code - 1) bytes) (parts_behind 0 (drop (code - 1) bytes)) (parts_behind-some (drop (code - 1) bytes) (omega arith))
+    ∙ message_of-cons (code ∷ take (code - 1) bytes) (parts_after 0 (drop (code - 1) bytes)) (parts_after-some (drop (code - 1) bytes) (omega arith))
 
 pub joint-length : (code : ℕ) → (code ≡ 255) × (length (joint_of code) ≡ 0) ⊎ (code ≢ 255) × (length (joint_of code) ≡ 1)
 joint-length code = elim (cases_eq code 255) [
@@ -50,7 +50,7 @@ joint-length code = elim (cases_eq code 255) [
 ]
 
 pub output-empty : (p : List ℕ) → length p ≡ 0 → output p ≡ []
-unfolding output parts parts_behind
+unfolding output parts parts_after
 output-empty [] e = refl
 output-empty (x ∷ p) e = absurd (omega arith)
 
@@ -59,22 +59,22 @@ last_of-cons part [] h = absurd (omega arith)
 last_of-cons part (next ∷ parts) h = refl
 
 pub last_part-more : (code : ℕ) (bytes : List ℕ) → code - 1 < length bytes → last_part (code ∷ bytes) ≡ last_part (drop (code - 1) bytes)
-unfolding last_part parts parts_behind
+unfolding last_part parts parts_after
 last_part-more code bytes more =
     let l = length-drop (code - 1) bytes in
-    ap (λ (x : List (List ℕ)). last_of ((code ∷ take (code - 1) bytes) ∷ x)) (parts_behind-drop (code - 1) bytes)
-    ∙ last_of-cons (code ∷ take (code - 1) bytes) (parts_behind 0 (drop (code - 1) bytes)) (parts_behind-some (drop (code - 1) bytes) (omega arith))
+    ap (λ (x : List (List ℕ)). last_of ((code ∷ take (code - 1) bytes) ∷ x)) (parts_after-drop (code - 1) bytes)
+    ∙ last_of-cons (code ∷ take (code - 1) bytes) (parts_after 0 (drop (code - 1) bytes)) (parts_after-some (drop (code - 1) bytes) (omega arith))
 
-parts_behind-none : (n : ℕ) (p : List ℕ) → length p ≤ n → parts_behind n p ≡ []
-unfolding parts_behind
-parts_behind-none n [] h = refl
-parts_behind-none zero (x ∷ p) h = absurd (omega arith)
-parts_behind-none (suc n) (x ∷ p) h = parts_behind-none n p (omega arith)
+parts_after-none : (n : ℕ) (p : List ℕ) → length p ≤ n → parts_after n p ≡ []
+unfolding parts_after
+parts_after-none n [] h = refl
+parts_after-none zero (x ∷ p) h = absurd (omega arith)
+parts_after-none (suc n) (x ∷ p) h = parts_after-none n p (omega arith)
 
 pub last_part-last : (code : ℕ) (bytes : List ℕ) → length bytes ≤ code - 1 → last_part (code ∷ bytes) ≡ code ∷ bytes
-unfolding last_part parts parts_behind
+unfolding last_part parts parts_after
 last_part-last code bytes short =
-    ap (λ (x : List (List ℕ)). last_of ((code ∷ take (code - 1) bytes) ∷ x)) (parts_behind-none (code - 1) bytes short) ∙ ap (λ (x : List ℕ). code ∷ x) (take_all (code - 1) bytes short)
+    ap (λ (x : List (List ℕ)). last_of ((code ∷ take (code - 1) bytes) ∷ x)) (parts_after-none (code - 1) bytes short) ∙ ap (λ (x : List ℕ). code ∷ x) (take_all (code - 1) bytes short)
 
 pub is_whole-of : (p : List ℕ) → 0 < length p → is_whole p ≡ eqb (lacks (last_part p)) 0
 unfolding is_whole

@@ -4,7 +4,7 @@ use Rattle.std.proofs.lemmas.List.{take_all, take-append-le, append-nil, length_
 use Rattle.std.proofs.lemmas.Bool.{cases_lt}
 use Rattle.std.proofs.lemmas.Grind.{common_steps}
 use Rattle.cobs.specs.Grammar.{bytes_of, joint, is_full, message_of, last_of}
-use Rattle.cobs.specs.Piece.{parts, parts_behind, lacks, output, last_part}
+use Rattle.cobs.specs.Piece.{parts, parts_after, lacks, output, last_part}
 
 -- the parts, with one more byte behind them
 abbrev pub grown : List (List ℕ) → ℕ → List (List ℕ)
@@ -12,11 +12,11 @@ grown [] b = (b ∷ []) ∷ []
 grown (part ∷ []) b = cond (ltb 0 (lacks part)) ((part ++ b ∷ []) ∷ []) (part ∷ (b ∷ []) ∷ [])
 grown (part ∷ next ∷ more) b = part ∷ grown (next ∷ more) b
 
-pub parts_behind_past : (n : ℕ) (p : List ℕ) → length p ≤ n → parts_behind n p ≡ []
-unfolding parts_behind
-parts_behind_past n [] h = refl
-parts_behind_past zero (x ∷ p) h = absurd (omega arith)
-parts_behind_past (suc n) (x ∷ p) h = parts_behind_past n p (omega arith)
+pub parts_after_past : (n : ℕ) (p : List ℕ) → length p ≤ n → parts_after n p ≡ []
+unfolding parts_after
+parts_after_past n [] h = refl
+parts_after_past zero (x ∷ p) h = absurd (omega arith)
+parts_after_past (suc n) (x ∷ p) h = parts_after_past n p (omega arith)
 
 lt_true : (m n : ℕ) → m < n → ltb m n ≡ true
 lt_true m n h = grind (arith, common_steps)
@@ -33,32 +33,32 @@ grown-cons part (next ∷ more) b h = refl
 grown-last : (part : List ℕ) (b : ℕ) → 0 < lacks part → grown (part ∷ []) b ≡ (part ++ b ∷ []) ∷ []
 grown-last part b h = rw (lt_true 0 (lacks part) h) refl
 
-push_short : (c : ℕ) (p : List ℕ) (b : ℕ) → length p < c - 1 → parts_behind zero (c ∷ p ++ b ∷ []) ≡ grown (parts_behind zero (c ∷ p)) b
-unfolding parts_behind
+push_short : (c : ℕ) (p : List ℕ) (b : ℕ) → length p < c - 1 → parts_after zero (c ∷ p ++ b ∷ []) ≡ grown (parts_after zero (c ∷ p)) b
+unfolding parts_after
 push_short c p b short =
     let one : length (p ++ b ∷ []) ≡ length p + 1 = length_push p b in
-    ap (λ (x : List ℕ). (c ∷ x) ∷ parts_behind (c - 1) (p ++ b ∷ [])) (take_all (c - 1) (p ++ b ∷ []) (omega arith))
-    ∙ ap (λ (x : List (List ℕ)). (c ∷ p ++ b ∷ []) ∷ x) (parts_behind_past (c - 1) (p ++ b ∷ []) (omega arith))
+    ap (λ (x : List ℕ). (c ∷ x) ∷ parts_after (c - 1) (p ++ b ∷ [])) (take_all (c - 1) (p ++ b ∷ []) (omega arith))
+    ∙ ap (λ (x : List (List ℕ)). (c ∷ p ++ b ∷ []) ∷ x) (parts_after_past (c - 1) (p ++ b ∷ []) (omega arith))
     ∙ sym (grown-last (c ∷ p) b (omega arith))
     ∙ sym (ap (λ (x : List ℕ). grown ((c ∷ x) ∷ []) b) (take_all (c - 1) p (omega arith)))
-    ∙ sym (ap (λ (x : List (List ℕ)). grown ((c ∷ take (c - 1) p) ∷ x) b) (parts_behind_past (c - 1) p (omega arith)))
+    ∙ sym (ap (λ (x : List (List ℕ)). grown ((c ∷ take (c - 1) p) ∷ x) b) (parts_after_past (c - 1) p (omega arith)))
 
-push_long : (c : ℕ) (p : List ℕ) (b : ℕ) → c - 1 ≤ length p → parts_behind (c - 1) (p ++ b ∷ []) ≡ grown (parts_behind (c - 1) p) b → parts_behind zero (c ∷ p ++ b ∷ []) ≡ grown (parts_behind zero (c ∷ p)) b
-unfolding parts_behind
+push_long : (c : ℕ) (p : List ℕ) (b : ℕ) → c - 1 ≤ length p → parts_after (c - 1) (p ++ b ∷ []) ≡ grown (parts_after (c - 1) p) b → parts_after zero (c ∷ p ++ b ∷ []) ≡ grown (parts_after zero (c ∷ p)) b
+unfolding parts_after
 push_long c p b long again =
     rw (take-append-le (c - 1) p (b ∷ []) long, again)
-    (sym (grown-cons (c ∷ take (c - 1) p) (parts_behind (c - 1) p) b (omega (arith, length-take-le (c - 1) p long))))
+    (sym (grown-cons (c ∷ take (c - 1) p) (parts_after (c - 1) p) b (omega (arith, length-take-le (c - 1) p long))))
 
-pub parts_behind-push : (n : ℕ) (p : List ℕ) (b : ℕ) → n ≤ length p → parts_behind n (p ++ b ∷ []) ≡ grown (parts_behind n p) b
-unfolding parts_behind
-parts_behind-push zero [] b h = ap (λ (x : List ℕ). (b ∷ x) ∷ []) (take_all (b - 1) [] (omega arith))
-parts_behind-push (suc n) [] b h = absurd (omega arith)
-parts_behind-push (suc n) (x ∷ p) b h = parts_behind-push n p b (omega arith)
-parts_behind-push zero (c ∷ p) b h = elim (cases_lt (length p) (c - 1)) [ inl short ↦ push_short c p b short | inr long ↦ push_long c p b long (parts_behind-push (c - 1) p b long) ]
+pub parts_after-push : (n : ℕ) (p : List ℕ) (b : ℕ) → n ≤ length p → parts_after n (p ++ b ∷ []) ≡ grown (parts_after n p) b
+unfolding parts_after
+parts_after-push zero [] b h = ap (λ (x : List ℕ). (b ∷ x) ∷ []) (take_all (b - 1) [] (omega arith))
+parts_after-push (suc n) [] b h = absurd (omega arith)
+parts_after-push (suc n) (x ∷ p) b h = parts_after-push n p b (omega arith)
+parts_after-push zero (c ∷ p) b h = elim (cases_lt (length p) (c - 1)) [ inl short ↦ push_short c p b short | inr long ↦ push_long c p b long (parts_after-push (c - 1) p b long) ]
 
 pub parts-push : (p : List ℕ) (b : ℕ) → parts (p ++ b ∷ []) ≡ grown (parts p) b
 unfolding parts
-parts-push p b = parts_behind-push 0 p b (omega arith)
+parts-push p b = parts_after-push 0 p b (omega arith)
 
 length-grown : (more : List (List ℕ)) (b : ℕ) → 0 < length (grown more b)
 length-grown [] b = omega arith
@@ -109,11 +109,11 @@ last_of-grown_next part (next ∷ more) b h =
 
 -- the first byte of a piece is a code, and gives nothing
 pub output-one : (b : ℕ) → output (b ∷ []) ≡ []
-unfolding output parts parts_behind
+unfolding output parts parts_after
 output-one b = take_all (b - 1) [] (omega arith)
 
 pub last_part-one : (b : ℕ) → last_part (b ∷ []) ≡ b ∷ []
-unfolding last_part parts parts_behind
+unfolding last_part parts parts_after
 last_part-one b = ap (λ (x : List ℕ). b ∷ x) (take_all (b - 1) [] (omega arith))
 
 pub output-push_more : (p : List ℕ) (b : ℕ) → 0 < lacks (last_part p) → output (p ++ b ∷ []) ≡ output p ++ b ∷ []
@@ -125,12 +125,12 @@ unfolding last_part
 last_part-push_more p b h = ap last_of (parts-push p b) ∙ last_of-grown_more (parts p) b h
 
 pub output-push_next : (c : ℕ) (p : List ℕ) (b : ℕ) → lacks (last_part (c ∷ p)) ≡ 0 → output (c ∷ p ++ b ∷ []) ≡ output (c ∷ p) ++ joint (last_part (c ∷ p))
-unfolding output last_part parts parts_behind
-output-push_next c p b h = ap message_of (parts-push (c ∷ p) b) ∙ message_of-grown_next (c ∷ take (c - 1) p) (parts_behind (c - 1) p) b h
+unfolding output last_part parts parts_after
+output-push_next c p b h = ap message_of (parts-push (c ∷ p) b) ∙ message_of-grown_next (c ∷ take (c - 1) p) (parts_after (c - 1) p) b h
 
 pub last_part-push_next : (c : ℕ) (p : List ℕ) (b : ℕ) → lacks (last_part (c ∷ p)) ≡ 0 → last_part (c ∷ p ++ b ∷ []) ≡ b ∷ []
-unfolding last_part parts parts_behind
-last_part-push_next c p b h = ap last_of (parts-push (c ∷ p) b) ∙ last_of-grown_next (c ∷ take (c - 1) p) (parts_behind (c - 1) p) b h
+unfolding last_part parts parts_after
+last_part-push_next c p b h = ap last_of (parts-push (c ∷ p) b) ∙ last_of-grown_next (c ∷ take (c - 1) p) (parts_after (c - 1) p) b h
 
 lacks-push : (part : List ℕ) (b : ℕ) → 0 < lacks part → lacks (part ++ b ∷ []) + 1 ≡ lacks part
 lacks-push [] b h = absurd (omega arith)

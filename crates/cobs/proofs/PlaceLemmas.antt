@@ -1,7 +1,7 @@
 -- Where an encoder can stand whose buffer is passed to each call.
 use Rattle.std.proofs.Common.{ℕ, List, ◌∷◌, length, arith}
-use Rattle.cobs.specs.Encoder.{Reached, CobsEncoderAfter}
-use Rattle.cobs.specs.UnbufferedEncoder.{IsPlaceIn}
+use Rattle.cobs.specs.OpenBlock.{Reached, CobsEncoderAfter}
+use Rattle.cobs.specs.Fields.Encoders.{IsPlaceIn}
 use Rattle.cobs.proofs.OpenLemmas.{All-front}
 use Rattle.cobs.proofs.AfterLemmas.{end-is}
 use Rattle.cobs.proofs.CoreLemmas.{after-fits}

@@ -6,14 +6,14 @@ use Rattle.std.proofs.lemmas.List.Elements.{All-take, All-get_or}
 use Rattle.cobs.specs.Grammar.{Reads}
 use Rattle.cobs.specs.Piece.{output}
 use Rattle.cobs.specs.Stream.{Outcome, Message, outcome_of, stream_outcomes, unended}
-use Rattle.cobs.specs.Decoder.{Phase, Idle, answer_to}
-use Rattle.cobs.specs.Report.{parsed_size_of, frame_size_of}
+use Rattle.cobs.specs.Feed.{Phase, Idle, answer_to}
+use Rattle.cobs.specs.Fields.Report.{parsed_size_of, frame_size_of}
 use Rattle.cobs.specs.Push.{answer_at, PushesBytes, pushed_outcomes, refused_outcomes}
 use Rattle.cobs.specs.Headline.{IsPiece, PushesMessage}
 use Rattle.cobs.specs.declared.dec.report.DecodeReport.{DecodeReport}
-use Rattle.cobs.specs.declared.dec.report.PushError.{PushError}
-use Rattle.cobs.specs.declared.dec.report.DecodeError.{DecodeError}
-use Rattle.cobs.specs.declared.dec.report.DecodeError.TheVariants as errors
+use Rattle.cobs.specs.declared.dec.error.PushError.{PushError}
+use Rattle.cobs.specs.declared.dec.error.DecodeError.{DecodeError}
+use Rattle.cobs.specs.declared.dec.error.DecodeError.TheVariants as errors
 use Rattle.cobs.proofs.FeedLemmas.{DecoderAfter-start}
 use Rattle.cobs.proofs.PushLemmas.{output-longer}
 use Rattle.cobs.proofs.StreamLemmas.{stream_outcomes-no_zero, stream_outcomes-one, unended-no_zero}

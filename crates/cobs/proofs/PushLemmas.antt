@@ -5,14 +5,14 @@ use Rattle.std.proofs.lemmas.List.Elements.{filter-append}
 use Rattle.std.proofs.lemmas.Bool.{cases_eq, ne_eqb, eq-eqb, leb-true}
 use borrow.Author.Count.{below_more}
 use Rattle.cobs.specs.Grammar.{HasNoZero, last_of}
-use Rattle.cobs.specs.Piece.{output, is_whole, parts, parts_behind}
+use Rattle.cobs.specs.Piece.{output, is_whole, parts, parts_after}
 use Rattle.cobs.specs.Stream.{stretches, is_nonempty, but_last, ended_pieces, unended, Outcome, Message, Broken, TooLong, outcome_of, stream_outcomes}
-use Rattle.cobs.specs.Buffer.{overwritten}
-use Rattle.cobs.specs.Decoder.{Phase, Idle, PhaseAfter, DecoderAfter, fed, told, answer_at_end, answer_to, Feeds}
+use Rattle.cobs.specs.Overwritten.{overwritten}
+use Rattle.cobs.specs.Feed.{Phase, Idle, PhaseAfter, DecoderAfter, fed, told, answer_at_end, answer_to, Feeds}
 use Rattle.cobs.specs.Push.{FeedsInTurn, last_piece, answer_at, IsQuiet, StopsAfter, refused_outcomes, PushesBytes}
-use Rattle.cobs.specs.Report.{report_of}
-use Rattle.cobs.specs.declared.dec.report.DecodeError.{DecodeError}
-use Rattle.cobs.specs.declared.dec.report.DecodeError.TheVariants.{InvalidFrame, TargetBufTooSmall}
+use Rattle.cobs.specs.Fields.Report.{report_of}
+use Rattle.cobs.specs.declared.dec.error.DecodeError.{DecodeError}
+use Rattle.cobs.specs.declared.dec.error.DecodeError.TheVariants.{InvalidFrame, TargetBufTooSmall}
 use Rattle.cobs.proofs.PieceLemmas.{output-push}
 use Rattle.cobs.proofs.StreamLemmas.{fed-nonzero, length-stretches, ended_pieces-append, stretches-piece, ended_pieces-no_zero, unended-no_zero, unended-push, unended_no_zero, unended-zero, outcomes_at, outcomes_at-nonzero, stream_outcomes-push}
 
@@ -155,7 +155,7 @@ drop-later to n xs ys h e =
 
 -- an output grows by each byte of its piece
 pub output-longer : (q : List ℕ) (b : ℕ) → length (output q) ≤ length (output (q ++ b ∷ []))
-unfolding output parts parts_behind
+unfolding output parts parts_after
 output-longer [] b = omega arith
 output-longer (c ∷ q) b = omega (arith, ap length (output-push c q b).1, length-append (output (c ∷ q)) (output-push c q b).0)
 

@@ -5,7 +5,7 @@ use Rattle.std.proofs.Math.Seq.{take-add}
 use Rattle.std.proofs.lemmas.Bool.{cases_eq, ne_eqb}
 use Rattle.std.proofs.lemmas.List.{drop-drop, drop_more, drop_all, drop-set-lt, take_more, take_more_set, length-set}
 use Rattle.cobs.specs.Grammar.{HasNoZero, joint}
-use Rattle.cobs.specs.Encoder.{open_len}
+use Rattle.cobs.specs.Internal.OpenLen.{open_len}
 use Rattle.cobs.proofs.OpenedLemmas.{Opened, Opened-same, Opened-same-empty, Opened-join, Opened-close}
 use Rattle.cobs.proofs.OpenLenLemmas.{open_len-join, open_len-zero, open_len-full, open_len-end, open_len-least}
 

@@ -9,9 +9,10 @@ use Rattle.std.proofs.Math.Bool.{Bool-set}
 use Rattle.cobs.specs.Grammar.{is_full}
 use Rattle.cobs.specs.Piece.{output, lacks, last_part}
 use Rattle.cobs.specs.Stream.{Outcome, stream_outcomes, unended, is_nonempty}
-use Rattle.cobs.specs.Decoder.{Phase, Idle, Within, Over, DecoderAfter, phase_after}
-use Rattle.cobs.specs.Streaming.{outcome_at, TakesPiece}
-use Rattle.cobs.specs.Reading.{Read, bytes_given, GaveBytes, all_given, EndsIn, Runs, CallsForMore, EachCalledFor, EndsFirst, EndsFirstIn, ReaderState, IsBehind, AtStreamEnd, Tells, ReadsNext, HasTaken, IsOutcome, TellsFirst}
+use Rattle.cobs.specs.Feed.{Phase, Idle, Within, Over, DecoderAfter, phase_after}
+use Rattle.cobs.specs.FeedPiece.{outcome_at, TakesPiece}
+use Rattle.cobs.specs.NextFrame.{Read, bytes_given, GaveBytes, all_given, EndsIn, Runs, CallsForMore, EachCalledFor, EndsFirst, ReaderState, IsBehind, AtStreamEnd, Tells, ReadsNext}
+use Rattle.cobs.specs.Internal.KeptBytes.{EndsFirstIn, DecoderHasTaken, IsOutcome, TellsFirst}
 use Rattle.cobs.specs.declared.framed.Next.{Next}
 use Rattle.cobs.specs.declared.framed.Next.TheVariants as nexts
 use Rattle.cobs.specs.declared.framed.ReadFault.TheVariants as faults
@@ -60,7 +61,7 @@ nonempty_phase [] n = refl
 nonempty_phase (c ∷ q) n = elim (leb (length (output (c ∷ q))) n) as (λ v. true ≡ not_idle (cond v (Within (is_full (last_part (c ∷ q))) (lacks (last_part (c ∷ q))) (length (output (c ∷ q)))) Over)) [ true ↦ refl | false ↦ refl ]
 
 -- a flag that is right behind some front is right behind each front that the decoder has taken
-pub HasTaken-any : (buffer : List ℕ) (phase : Phase) (flag : Bool) (q : List ℕ) → ∥ ((p : List ℕ) × HasTaken buffer phase flag p) ∥₁ → DecoderAfter buffer phase q → HasTaken buffer phase flag q
+pub HasTaken-any : (buffer : List ℕ) (phase : Phase) (flag : Bool) (q : List ℕ) → ∥ ((p : List ℕ) × DecoderHasTaken buffer phase flag p) ∥₁ → DecoderAfter buffer phase q → DecoderHasTaken buffer phase flag q
 HasTaken-any buffer phase flag q some h = record {
   after = h;
   flag = ∥∥₁_elim some (Bool-set flag (is_nonempty q)) (λ w.

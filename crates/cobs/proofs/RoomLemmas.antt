@@ -10,7 +10,7 @@ use Rattle.std.specs.Int.Count.{count_leading_zeros, leading_unique}
 use Rattle.cobs.specs.Grammar.{HasNoZero}
 use Rattle.cobs.specs.Stream.{stretches}
 use Rattle.cobs.specs.Length.{runs, full_blocks, encoded_len}
-use Rattle.cobs.specs.Mask.{zero_mask}
+use Rattle.cobs.specs.Internal.Mask.{zero_mask}
 use Rattle.cobs.proofs.LengthLemmas.{no_zero, some_stretch, stretches-append, encoded_len-le}
 use Rattle.cobs.proofs.OpenLenLemmas.{same_lengths, ones, length-ones}
 use Rattle.cobs.proofs.MaskLemmas.{nonzero_len, nonzero_len-lt, nonzero_len-before, nonzero_len-at, lowest_bit, zero_mask-none}

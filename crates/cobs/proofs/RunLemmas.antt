@@ -8,9 +8,9 @@ use Rattle.cobs.specs.declared.dec.unbuffered.UnbufferedDecoder.{UnbufferedDecod
 use Rattle.std.proofs.lemmas.List.Elements.{All-head, All-tail}
 use Rattle.std.proofs.lemmas.Bool.{ne_eqb, lt-ltb}
 use Rattle.cobs.specs.Grammar.{HasNoZero}
-use Rattle.cobs.specs.Decoder.{Phase, Idle, Within, Over, Feeds}
-use Rattle.cobs.specs.Buffers.{phase_of, phase_with}
-use Rattle.cobs.specs.Machine.{grows, next_phase, next_buffer, next_answer, end_answer, if_over, FedInTurn}
+use Rattle.cobs.specs.Feed.{Phase, Idle, Within, Over, Feeds}
+use Rattle.cobs.specs.Fields.Decoders.{phase_of, phase_with}
+use Rattle.cobs.specs.Internal.Step.{grows, next_phase, next_buffer, next_answer, end_answer, if_over, FedInTurn}
 use Rattle.cobs.proofs.FeedLemmas.{Feeds-step}
 use Rattle.cobs.proofs.PushLemmas.{Pushed, Pushed-more}
 

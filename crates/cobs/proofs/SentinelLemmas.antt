@@ -16,6 +16,11 @@ pub xor_each-twice : (s : ℕ) (f : List ℕ) → xor_each s (xor_each s f) ≡ 
 xor_each-twice s [] = refl
 xor_each-twice s (b ∷ f) = ap (λ (x : ℕ). x ∷ xor_each s (xor_each s f)) (xor_twice b s) ∙ ap (λ (l : List ℕ). b ∷ l) (xor_each-twice s f)
 
+-- exclusive or with 0 changes nothing
+pub xor_each-zero : (f : List ℕ) → xor_each 0 f ≡ f
+xor_each-zero [] = refl
+xor_each-zero (b ∷ f) = ap (λ (x : ℕ). x ∷ xor_each 0 f) (xor_zero_r b) ∙ ap (λ (l : List ℕ). b ∷ l) (xor_each-zero f)
+
 -- a slice whose front is an encoded frame, changed for another sentinel
 pub changed_frame : (s n : ℕ) (dest changed rest m : List ℕ) → IsEncodedFrame (take n dest) m → changed ≡ xor_each s (take n dest) → n ≤ length dest
     → IsEncodedFrame (xor_each s (take n (changed ++ rest))) m

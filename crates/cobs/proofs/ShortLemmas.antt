@@ -5,7 +5,7 @@ use Rattle.std.proofs.lemmas.Bool.{cases_eq}
 use Rattle.std.proofs.lemmas.List.{set-set, take-replicate, drop-replicate, length-replicate}
 use Rattle.std.specs.Int.Bits.{bit_or}
 use mir.Val.{bool_byte}
-use Rattle.cobs.specs.Mask.{zero_mask}
+use Rattle.cobs.specs.Internal.Mask.{zero_mask}
 use Rattle.cobs.proofs.MaskLemmas.{copied-more, mask-grown, parts-copied}
 
 -- a bit in its place

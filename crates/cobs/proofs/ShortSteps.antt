@@ -1,20 +1,20 @@
 -- The steps of the encoder through a source that can't fill the open block: zeros marked without asking whether there are any.
 use Rattle.std.proofs.Common.{◌≡◌, ◌≢◌, ℕ, ◌+◌, ◌-◌, ◌%◌, ◌^◌, ◌<◌, ◌≤◌, Bool, false, List, ◌++◌, length, drop, take, replicate, suc, refl, sym, ap, ◌∙◌, subst, inl, inr, arith, length-take-le, length-drop}
 use Rattle.std.proofs.Math.ListN.{set}
-use Rattle.std.proofs.Math.Seq.{take-set-lt, take-append-add}
+use Rattle.std.proofs.Math.Seq.{take-set-lt}
 use Rattle.std.proofs.lemmas.Bool.{cases_eq}
-use Rattle.std.proofs.lemmas.List.{drop-set-lt, take-set, take-append-le, take-replicate, length-set, length-replicate}
+use Rattle.std.proofs.lemmas.List.{drop-set-lt, take-set, length-replicate}
 use Rattle.std.proofs.Math.Nat.{pow-le-pow_right}
 use Rattle.std.specs.Int.Count.{count_trailing_zeros, trailing_of_zero}
 use Rattle.std.specs.Int.Bits.{bit_and}
-use Rattle.cobs.specs.Mask.{zero_mask}
+use Rattle.cobs.specs.Internal.Mask.{zero_mask}
 use Rattle.cobs.proofs.OpenedLemmas.{Opened}
 use Rattle.cobs.proofs.MaskLemmas.{zero_mask-all, lowest_bit, nonzero_len}
-use Rattle.cobs.proofs.ReachLemmas.{Reaches, Reaches-at, Reaches-zeros, IsNotFull, least}
-use Rattle.cobs.proofs.MarkLemmas.{Marks, copied-reaches, length-after, marks-start, marks-step, place-le, place-lt, WindowTaken, behind-three}
+use Rattle.cobs.proofs.ReachLemmas.{Reaches, least}
+use Rattle.cobs.proofs.MarkLemmas.{Marks, copied-reaches, length-after, marks-start, marks-step, place-le, place-lt, WindowTaken, row-taken}
 use Rattle.cobs.proofs.AfterLemmas.{at}
 use Rattle.cobs.proofs.CoreLemmas.{end_with, core-start}
-use Rattle.cobs.specs.Encoder.{Reached, CobsEncoderAfter}
+use Rattle.cobs.specs.OpenBlock.{Reached, CobsEncoderAfter}
 
 -- what stands in the place of the open block's code is no matter
 Opened-set : (slice m : List ℕ) (index next byte : ℕ) (full : Bool) → Opened slice m index next full → Opened (set slice index byte) m index next full
@@ -128,28 +128,7 @@ module _ (H : List ℕ → Type 0) (source old slice : List ℕ) (end read len i
   -- ones in the place of its zeros
   zeros-taken : (after : List ℕ) → next < index + 255 → after ≡ take next (set slice index (next - index)) ++ (replicate len 1 ++ drop (next + len) (set slice index (next - index)))
       → WindowTaken H source old after end read len (next + len - 1) next
-  zeros-taken after short is =
-      let o = r.ordered in
-      let room = window-room in
-      let n : ℕ = len - 1 in
-      let sum : suc n ≡ len = omega arith in
-      let coded : List ℕ = set slice index (next - index) in
-      let l = length-set slice index (next - index) in
-      let ones : length {A = ℕ} (replicate len 1) ≡ len = length-replicate len 1 in
-      let long : length (take next coded) ≡ next = length-take-le next coded (omega arith) in
-      let front : take (next + n) after ≡ take next coded ++ replicate n 1 =
-      ap (take (next + n)) is ∙ ap (λ (m : ℕ). take (m + n) (take next coded ++ (replicate len 1 ++ drop (next + len) coded))) (sym long)
-      ∙ take-append-add (take next coded) (replicate len 1 ++ drop (next + len) coded) n
-      ∙ ap (λ (x : List ℕ). take next coded ++ x) (take-append-le n (replicate len 1) (drop (next + len) coded) (omega arith) ∙ take-replicate n len 1 (omega arith)) in
-      let back : drop end after ≡ drop end old =
-      ap (drop end) is ∙ behind-three coded (replicate len 1) next len ones (omega arith) end (omega arith) ∙ drop-set-lt end slice index (next - index) (omega arith) ∙ r.rest in
-      let w : take (suc n) (drop read source) ≡ replicate (suc n) 0 = ap (λ (k : ℕ). take k (drop read source)) sum ∙ window-is ∙ ap (λ (k : ℕ). replicate k 0) (sym sum) in
-      let z = Reaches-zeros n H source old slice after end read index next (λ _. Unit {0}) (omega arith) w fits short front back r in
-      record {
-        ordered = omega arith;
-        open' = omega arith;
-        reaches = Reaches-at H source old after end (read + suc n) (next + n) (next + n + 1) IsNotFull IsNotFull after (read + len) (next + len - 1) (next + len) refl (omega arith) (omega arith) (omega arith) (λ full p. p) z;
-      }
+  zeros-taken after short is = row-taken H source old slice after end read len index next r fits some inside window-is short is
 
   -- what the first two zeros left is no matter
   pub all-taken : (one two after : List ℕ) (p : ℕ × ℕ) (byte : ℕ) → next < index + 255 → one ≡ set slice index ((next + count_trailing_zeros 64 zeros - index) % 256)

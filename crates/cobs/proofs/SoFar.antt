@@ -6,13 +6,14 @@ use Rattle.std.proofs.lemmas.List.Elements.{All-nil, All-cons, All-append, Conta
 use Rattle.std.proofs.lemmas.Bool.{leb-true}
 use Rattle.std.proofs.Math.Seq.{take-add}
 use Rattle.cobs.specs.Grammar.{HasNoZero}
-use Rattle.cobs.specs.Piece.{output, is_whole, parts, parts_behind}
+use Rattle.cobs.specs.Piece.{output, is_whole, parts, parts_after}
 use Rattle.cobs.specs.Stream.{ended_pieces, unended, Outcome, Message, Broken, TooLong, outcome_of, stream_outcomes}
-use Rattle.cobs.specs.Decoder.{Phase, Idle, PhaseAfter, DecoderAfter, Feeds, fed, told, answer_to, answer_at_end, phase_after}
+use Rattle.cobs.specs.Feed.{Phase, Idle, PhaseAfter, DecoderAfter, Feeds, fed, told, answer_to, answer_at_end, phase_after}
 use Rattle.cobs.specs.Push.{last_piece}
-use Rattle.cobs.specs.Streaming.{LeavesRest, outcome_told, AreAlike, AreAlikeAtFirst, TakesBytes, TakesPiece, outcome_at, IsWithin}
+use Rattle.cobs.specs.Internal.PieceEnds.{LeavesRest, outcome_told}
+use Rattle.cobs.specs.FeedPiece.{AreAlike, AreAlikeAtFirst, TakesBytes, TakesPiece, outcome_at, IsWithin}
 use Rattle.cobs.specs.declared.dec.frame_decoder.PieceEnd.{PieceEnd}
-use Rattle.cobs.specs.declared.dec.report.DecodeError.{DecodeError}
+use Rattle.cobs.specs.declared.dec.error.DecodeError.{DecodeError}
 use Rattle.cobs.proofs.PieceLemmas.{output-push}
 use Rattle.cobs.proofs.PushLemmas.{last_piece-unended, last_piece-zero}
 use Rattle.cobs.proofs.StreamLemmas.{fed-nonzero, stream_outcomes-no_zero, unended-no_zero, stream_outcomes-push, unended-push, outcomes_at, outcomes_at-nonzero, stream_outcomes-append, unended-append}
@@ -24,7 +25,7 @@ SoFar buffer₀ phase₀ buffer phase done found = TakesBytes buffer₀ phase₀
 -- AN IDLE DECODER
 
 output-nil : output [] ≡ []
-unfolding output parts parts_behind
+unfolding output parts parts_after
 output-nil = refl
 
 -- an idle decoder has taken nothing of a piece, whatever its buffer holds

@@ -4,13 +4,13 @@ use Rattle.std.specs.Int.Bits.{xor_self}
 use Rattle.std.proofs.lemmas.Bool.{le-leb, lt-leb}
 use Rattle.std.proofs.lemmas.List.{take-take, drop_all, get_or-map, length-map, take-map, drop-map, length-set, take_more_set, drop-set-lt}
 use Rattle.std.proofs.lemmas.List.Elements.{All-get_or, All-map, All-weaker}
-use Rattle.cobs.specs.Buffer.{overwritten}
+use Rattle.cobs.specs.Overwritten.{overwritten}
 use Rattle.cobs.specs.Grammar.{HasNoZero}
 use Rattle.cobs.specs.Piece.{kept_output}
 use Rattle.cobs.specs.Sentinel.{xor_each}
 use Rattle.cobs.specs.Stream.{head}
-use Rattle.cobs.specs.Decoding.{head_answer, head_answer_within, source_answer}
-use Rattle.cobs.specs.declared.dec.report.DecodeError.TheVariants.{InvalidFrame, TargetBufTooSmall}
+use Rattle.cobs.specs.Decode.{head_answer, head_answer_within, source_answer}
+use Rattle.cobs.specs.declared.dec.error.DecodeError.TheVariants.{InvalidFrame, TargetBufTooSmall}
 use Rattle.cobs.proofs.SentinelLemmas.{xor_twice}
 use Rattle.cobs.proofs.HeadLemmas.{front_is_head}
 use Rattle.cobs.proofs.InPlaceSteps.{drop-later}

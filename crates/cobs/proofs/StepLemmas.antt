@@ -1,10 +1,10 @@
 -- One byte that is no zero, by the fields in which a streaming decoder keeps its phase.
 use Rattle.std.proofs.Common.{◌≡◌, ◌≢◌, ℕ, zero, suc, ◌+◌, ◌-◌, ◌<◌, Bool, true, false, cond, eqb, List, [], ◌∷◌, ◌++◌, length, set, refl, sym, ap, ◌∙◌, subst, arith, None, Ok, Result, Option}
 use Rattle.std.proofs.lemmas.Bool.{ne_eqb, eqb-true, lt-ltb}
-use Rattle.cobs.specs.Decoder.{Phase, Idle, Within, Over}
-use Rattle.cobs.specs.Buffers.{phase_with}
-use Rattle.cobs.specs.Machine.{grows, next_phase, next_buffer, next_answer, end_answer, if_over, FedInTurn}
-use Rattle.cobs.specs.declared.dec.report.DecodeError.{DecodeError}
+use Rattle.cobs.specs.Feed.{Phase, Idle, Within, Over}
+use Rattle.cobs.specs.Fields.Decoders.{phase_with}
+use Rattle.cobs.specs.Internal.Step.{grows, next_phase, next_buffer, next_answer, end_answer, if_over, FedInTurn}
+use Rattle.cobs.specs.declared.dec.error.DecodeError.{DecodeError}
 use Rattle.cobs.proofs.RunLemmas.{begun}
 use Rattle.cobs.proofs.StretchLemmas.{FedInTurn-append}
 

@@ -7,7 +7,7 @@ use Rattle.std.proofs.lemmas.Bool.{ne_eqb}
 use Rattle.std.specs.List.{onto_first}
 use Rattle.cobs.specs.Grammar.{HasNoZero, last_of}
 use Rattle.cobs.specs.Stream.{stretches, is_nonempty, but_last, ended_pieces, unended, Outcome, outcome_of, stream_outcomes}
-use Rattle.cobs.specs.Decoder.{fed}
+use Rattle.cobs.specs.Feed.{fed}
 use Rattle.cobs.specs.Laws.{IsAtSentinel}
 
 -- whether a byte ends a piece

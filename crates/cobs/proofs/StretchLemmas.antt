@@ -6,11 +6,11 @@ use Rattle.std.proofs.lemmas.Bool.{ne_eqb, eqb-true, lt-ltb, cases_lt}
 use Rattle.std.specs.List.{All}
 use borrow.Rule.Slice.PartMut.{put_mid}
 use Rattle.cobs.specs.Grammar.{HasNoZero, code_of, is_full}
-use Rattle.cobs.specs.Piece.{output, last_part, lacks, parts, parts_behind}
-use Rattle.cobs.specs.Decoder.{Phase, Idle, Within, Over}
+use Rattle.cobs.specs.Piece.{output, last_part, lacks, parts, parts_after}
+use Rattle.cobs.specs.Feed.{Phase, Idle, Within, Over}
 use Rattle.cobs.specs.declared.dec.unbuffered.UnbufferedDecoder.{UnbufferedDecoder}
-use Rattle.cobs.specs.Buffers.{phase_of, phase_with}
-use Rattle.cobs.specs.Machine.{grows, next_phase, next_buffer, next_answer, end_answer, if_over, FedInTurn}
+use Rattle.cobs.specs.Fields.Decoders.{phase_of, phase_with}
+use Rattle.cobs.specs.Internal.Step.{grows, next_phase, next_buffer, next_answer, end_answer, if_over, FedInTurn}
 use Rattle.cobs.proofs.PieceLemmas.{output-one, last_part-one, output-push_more, output-push_next, last_part-push_next, lacks-push_more, is_full-push_more}
 use Rattle.cobs.proofs.PieceCuts.{last_part-more, last_part-last, output-last, output-more, joint_of}
 use Rattle.cobs.proofs.PushLemmas.{output-longer}
@@ -214,7 +214,7 @@ blocks_fed inner code left dest dest₁ piece ys at written going boundary nz so
 
 -- the last part of a piece of bytes has a code below 256, and lacks less
 last_by : (n : ℕ) (p : List ℕ) → length p ≤ n → All (λ b. b < 256) p → code_of (last_part p) < 256
-unfolding last_part parts parts_behind
+unfolding last_part parts parts_after
 last_by n [] h small = omega arith
 last_by zero (code ∷ bytes) h small = absurd (omega arith)
 last_by (suc n) (code ∷ bytes) h small = elim (cases_lt (code - 1) (length bytes)) [

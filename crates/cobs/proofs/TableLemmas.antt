@@ -4,15 +4,15 @@ use Rattle.std.proofs.lemmas.Bool.{eqb-true, ne_eqb}
 use Rattle.std.proofs.lemmas.List.{append-nil}
 use Rattle.std.proofs.lemmas.List.Elements.{All-nil, All-push}
 use Rattle.cobs.specs.Grammar.{HasNoZero, is_full, Reads}
-use Rattle.cobs.specs.Piece.{parts, parts_behind, last_part, lacks, is_whole, output}
+use Rattle.cobs.specs.Piece.{parts, parts_after, last_part, lacks, is_whole, output}
 use Rattle.cobs.specs.Table.{opened_by, table_answer, table_state, data_of, state_after, StateAfter}
 use Rattle.cobs.specs.declared.dec.state.DecoderState.{DecoderState}
 use Rattle.cobs.specs.declared.dec.state.DecoderState.TheVariants.{Idle, Grab, GrabChain}
-use Rattle.cobs.specs.Decoder.{Phase, Within, Over, state_in}
-use Rattle.cobs.specs.Decoder as phases
-use Rattle.cobs.specs.Machine.{next_phase}
+use Rattle.cobs.specs.Feed.{Phase, Within, Over, state_in}
+use Rattle.cobs.specs.Feed as phases
+use Rattle.cobs.specs.Internal.Step.{next_phase}
 use Rattle.cobs.specs.declared.dec.state.DecodeResult.TheVariants.{NoData, DataStart, DataComplete, DataContinue}
-use Rattle.cobs.specs.declared.dec.report.DecodeError.TheVariants.{InvalidFrame}
+use Rattle.cobs.specs.declared.dec.error.DecodeError.TheVariants.{InvalidFrame}
 use Rattle.cobs.proofs.OutcomeLemmas.{reads_iff}
 use Rattle.cobs.proofs.PieceLemmas.{output-one, last_part-one, output-push_more, output-push_next, last_part-push_next, lacks-push_more, is_full-push_more}
 
@@ -64,7 +64,7 @@ next_state [] b some = ap (λ (t : Bool). cond t Idle (opened_by b)) (ne_eqb b 0
 next_state (c ∷ q) b some = state_step c q b some _ _ refl refl
 
 output-nil : output [] ≡ []
-unfolding output parts parts_behind
+unfolding output parts parts_after
 output-nil = refl
 
 next_data : (p : List ℕ) (b : ℕ) → b ≢ 0 → output p ++ data_of (table_answer (state_after p) b) ≡ output (p ++ b ∷ [])

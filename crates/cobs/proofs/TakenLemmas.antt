@@ -3,10 +3,11 @@ use Rattle.std.proofs.Common.{◌≡◌, ◌≢◌, ℕ, zero, suc, Bool, false,
 use Rattle.std.proofs.lemmas.List.Elements.{All-head, All-tail}
 use Rattle.std.proofs.lemmas.Bool.{ne_eqb}
 use Rattle.cobs.specs.Grammar.{HasNoZero}
-use Rattle.cobs.specs.Decoder.{Phase, Idle, Over}
-use Rattle.cobs.specs.Streaming.{LeavesRest, TakesBytes, outcome_told}
-use Rattle.cobs.specs.Machine.{next_phase, next_buffer, next_answer, FedInTurn}
-use Rattle.cobs.specs.declared.dec.report.DecodeError.{DecodeError}
+use Rattle.cobs.specs.Feed.{Phase, Idle, Over}
+use Rattle.cobs.specs.Internal.PieceEnds.{LeavesRest, outcome_told}
+use Rattle.cobs.specs.FeedPiece.{TakesBytes}
+use Rattle.cobs.specs.Internal.Step.{next_phase, next_buffer, next_answer, FedInTurn}
+use Rattle.cobs.specs.declared.dec.error.DecodeError.{DecodeError}
 use Rattle.cobs.proofs.FeedLemmas.{Feeds-step}
 use Rattle.std.proofs.lemmas.List.{append-nil}
 use Rattle.cobs.proofs.SoFar.{LeavesRest-byte, SoFar-start, SoFar-more, TakesBytes-zero, TakesBytes-nonzero}

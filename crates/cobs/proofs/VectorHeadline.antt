@@ -3,12 +3,12 @@ use Rattle.std.proofs.Common.{◌≡◌, ℕ, ◌<◌, ◌↔◌, Bool, true, fa
 use Rattle.std.proofs.lemmas.Bool.{cases_Bool}
 use Rattle.cobs.specs.Grammar.{Reads}
 use Rattle.cobs.specs.Piece.{output, kept_output, is_whole}
-use Rattle.cobs.specs.Decoding.{decoded, decoded_head, message_of_piece, message_of_head, IsRefusal}
+use Rattle.cobs.specs.Decode.{decoded, decoded_head, message_of_piece, message_of_head, IsRefusal}
 use Rattle.cobs.specs.Headline.{IsPiece, FoundMemory}
-use Rattle.cobs.specs.declared.dec.report.DecodeError.{DecodeError}
-use Rattle.cobs.specs.declared.dec.report.DecodeError.TheVariants.{InvalidFrame}
-use Rattle.cobs.specs.declared.dec.vector.DecodeVecError.{DecodeVecError}
-use Rattle.cobs.specs.declared.dec.vector.DecodeVecError.TheVariants.{Decode, Memory}
+use Rattle.cobs.specs.declared.dec.error.DecodeError.{DecodeError}
+use Rattle.cobs.specs.declared.dec.error.DecodeError.TheVariants.{InvalidFrame}
+use Rattle.cobs.specs.declared.dec.error.DecodeVecError.{DecodeVecError}
+use Rattle.cobs.specs.declared.dec.error.DecodeVecError.TheVariants.{Decode, Memory}
 use Rattle.cobs.proofs.FrameLemmas.{frame_whole, frame_output, reads_output}
 use Rattle.cobs.proofs.OutcomeLemmas.{first_piece_alone, head_alone}
 

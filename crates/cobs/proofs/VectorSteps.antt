@@ -1,15 +1,16 @@
 -- What a buffer as long as the source holds once the source is decoded into it.
 use Rattle.std.proofs.Common.{◌≡◌, ◌≢◌, ℕ, zero, suc, ◌<◌, ◌≤◌, Bool, true, false, List, [], ◌∷◌, length, take, drop, Option, Some, None, Result, Ok, Err, if◌then◌else◌, refl, sym, ap, ◌∙◌, subst, arith, take_at, take_all, length-take, ◌-◌}
 use Rattle.std.proofs.lemmas.Bool.{le-leb}
-use Rattle.cobs.specs.Buffer.{overwritten}
+use Rattle.std.specs.Result.{result_map_both}
+use Rattle.cobs.specs.Overwritten.{overwritten}
 use Rattle.cobs.specs.Grammar.{bytes_of}
 use Rattle.cobs.specs.Piece.{output, last_part, is_whole, kept_output}
 use Rattle.cobs.specs.Stream.{Message, Broken, TooLong, outcome_of, first_piece, head}
-use Rattle.cobs.specs.Report.{report_of, frame_size_of}
-use Rattle.cobs.specs.Decoding.{sized, reported, consumed, decode_answer, answer_by_piece, output_of, first_output, message_of_piece, decoded, head_answer, head_answer_within, source_answer, message_of_head, decoded_head}
+use Rattle.cobs.specs.Fields.Report.{report_of, frame_size_of}
+use Rattle.cobs.specs.Decode.{sized, reported, len_through_piece, decode_answer, answer_by_piece, output_of, first_output, message_of_piece, decoded, head_answer, head_answer_within, source_answer, message_of_head, decoded_head}
 use Rattle.cobs.specs.declared.dec.report.DecodeReport.{DecodeReport}
-use Rattle.cobs.specs.declared.dec.report.DecodeError.{DecodeError}
-use Rattle.cobs.specs.declared.dec.report.DecodeError.TheVariants.{InvalidFrame, TargetBufTooSmall}
+use Rattle.cobs.specs.declared.dec.error.DecodeError.{DecodeError}
+use Rattle.cobs.specs.declared.dec.error.DecodeError.TheVariants.{InvalidFrame, TargetBufTooSmall}
 use Rattle.cobs.proofs.OutcomeLemmas.{output_within, first_piece_head, length-head}
 use Rattle.cobs.proofs.SourceSteps.{answer-fits}
 
@@ -54,9 +55,9 @@ module _ (source : List ℕ) (n : ℕ) (room : n ≡ length source) where
   piece-refused error (Some p) is e =
       let l = first_piece_within source p is in
       let o = output_within p in
-      whole (is_whole p) (e ∙ ap (reported (consumed source p)) (sized-fits p n (omega arith)))
+      whole (is_whole p) (e ∙ ap (reported (len_through_piece source p)) (sized-fits p n (omega arith)))
     where
-      whole : (w : Bool) → Err error ≡ reported (consumed source p) (if w then Ok (length (output p)) else Err (InvalidFrame (length (output p))))
+      whole : (w : Bool) → Err error ≡ reported (len_through_piece source p) (if w then Ok (length (output p)) else Err (InvalidFrame (length (output p))))
           → Refused (if w then Ok (output p) else Err (InvalidFrame (length (output p)))) error
       whole true e' = absurd (cc)
       whole false e' = (cc, λ z. cc)
@@ -68,14 +69,14 @@ module _ (source : List ℕ) (n : ℕ) (room : n ≡ length source) where
       let l = first_piece_within source p is in
       let o = output_within p in
       let f : length (output p) ≤ length old = omega arith in
-      whole (is_whole p) (e ∙ ap (reported (consumed source p)) (sized-fits p n (omega arith))) (overwritten-begins old (output p) f)
+      whole (is_whole p) (e ∙ ap (reported (len_through_piece source p)) (sized-fits p n (omega arith))) (overwritten-begins old (output p) f)
     where
-      whole : (w : Bool) → Ok report ≡ reported (consumed source p) (if w then Ok (length (output p)) else Err (InvalidFrame (length (output p))))
+      whole : (w : Bool) → Ok report ≡ reported (len_through_piece source p) (if w then Ok (length (output p)) else Err (InvalidFrame (length (output p))))
           → take (length (output p)) (overwritten old (output p)) ≡ output p
           → (if w then Ok (output p) else Err (InvalidFrame (length (output p)))) ≡ Ok (take (frame_size_of report) (overwritten old (output p)))
       whole false e' begins = absurd (cc)
       whole true e' begins =
-          let same : report ≡ report_of (consumed source p) (length (output p)) = cc in
+          let same : report ≡ report_of (len_through_piece source p) (length (output p)) = cc in
           ap Ok (sym begins) ∙ ap (λ (r : DecodeReport). Ok (take (frame_size_of r) (overwritten old (output p)))) (sym same)
 
   answer-is : 0 < length source → decode_answer source n ≡ answer_by_piece source (first_piece source) n
@@ -134,7 +135,7 @@ module _ (source : List ℕ) (n : ℕ) (room : n ≡ length source) where
   refused error [] e = absurd (cc)
   refused error (x ∷ h) e = cases (is_whole (x ∷ h)) e
     where
-      cases : (w : Bool) → Err error ≡ (if w then Ok (length (output (x ∷ h))) else Err (InvalidFrame (length (kept_output (x ∷ h)))))
+      cases : (w : Bool) → Err error ≡ result_map_both length (λ (e : DecodeError). e) (if w then Ok (output (x ∷ h)) else Err (InvalidFrame (length (kept_output (x ∷ h)))))
           → ((if w then Ok (output (x ∷ h)) else Err (InvalidFrame (length (kept_output (x ∷ h))))) ≡ Err error) × (error ≢ TargetBufTooSmall)
       cases true e' = absurd (cc)
       cases false e' = (cc, λ z. cc)
@@ -153,7 +154,7 @@ module _ (source : List ℕ) (n : ℕ) (room : n ≡ length source) where
       cut : List ℕ
       cut = take (length (output p) - length (bytes_of (last_part p))) (output p)
 
-      cases : (w : Bool) → Ok size ≡ (if w then Ok (length (output p)) else Err (InvalidFrame (length (if w then output p else cut))))
+      cases : (w : Bool) → Ok size ≡ result_map_both length (λ (e : DecodeError). e) (if w then Ok (output p) else Err (InvalidFrame (length (if w then output p else cut))))
           → (if w then Ok (output p) else Err (InvalidFrame (length (if w then output p else cut)))) ≡ Ok (take size (overwritten old (if w then output p else cut)))
       cases false e' = absurd (cc)
       cases true e' =

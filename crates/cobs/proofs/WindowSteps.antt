@@ -9,7 +9,7 @@ use Rattle.std.specs.Prelude.{if◌then◌else◌}
 use borrow.Rule.Slice.PartMut.{put_mid, same_len_mid}
 use Rattle.cobs.specs.Grammar.{HasNoZero, code_of}
 use Rattle.cobs.specs.Piece.{output, last_part, lacks}
-pub use Rattle.cobs.specs.Piece.{Decoded}
+pub use Rattle.cobs.specs.Internal.Decoded.{Decoded}
 use Rattle.cobs.proofs.PieceCuts.{last_part-more, last_part-last, last_part-ones, output-last, output-more, output-long, output-le, output-short, output-ones, length-output-last, joint_of, joint-length}
 
 -- Behind the front stand the bytes from the code's on up to end.

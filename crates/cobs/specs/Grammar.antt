@@ -7,7 +7,7 @@ use Rattle.std.specs.List.{concat}
 abbrev pub HasNoZero : List ℕ → Type 0
 HasNoZero bytes = All (λ byte. byte ≢ 0) bytes
 
--- a block is a code, from 1 to 255, and nonzero bytes behind it; the code counts them and itself
+-- a block is a code, from 1 to 255, and nonzero bytes after it; the code counts them and itself
 abbrev pub IsBlock : List ℕ → Type 0
 IsBlock [] = ⊥
 IsBlock (code ∷ bytes) = (code ≡ length bytes + 1) × (code < 256) × HasNoZero bytes

@@ -1,12 +1,12 @@
 -- The words of the headline: a decoder that is given all of a list answers a message.
 use Rattle.std.specs.Prelude.{◌≡◌, ◌≢◌, ℕ, List, [], length, take, Option, Result, IsOkAnd, IsSomeAnd, IfErr, ⊤}
 use Rattle.cobs.specs.Grammar.{HasNoZero}
-use Rattle.cobs.specs.Report.{frame_size_of}
+use Rattle.cobs.specs.Fields.Report.{frame_size_of}
 use Rattle.cobs.specs.declared.dec.report.DecodeReport.{DecodeReport}
-use Rattle.cobs.specs.declared.dec.report.DecodeError.{DecodeError}
-use Rattle.cobs.specs.declared.dec.report.PushError.{PushError}
-use Rattle.cobs.specs.declared.dec.vector.DecodeVecError.{DecodeVecError}
-use Rattle.cobs.specs.declared.dec.vector.DecodeVecError.TheVariants.{Decode, Memory}
+use Rattle.cobs.specs.declared.dec.error.DecodeError.{DecodeError}
+use Rattle.cobs.specs.declared.dec.error.PushError.{PushError}
+use Rattle.cobs.specs.declared.dec.error.DecodeVecError.{DecodeVecError}
+use Rattle.cobs.specs.declared.dec.error.DecodeVecError.TheVariants.{Decode, Memory}
 
 -- a list that may be a frame: it isn't empty, and the sentinel 0 isn't in it
 abbrev pub IsPiece : List ℕ → Type 0
@@ -29,9 +29,9 @@ abbrev pub PushesMessage : Result (Option DecodeReport) PushError → List ℕ �
 PushesMessage result buffer m = IsOkAnd result (λ found. IsSomeAnd found (λ report. BeginsWith buffer (frame_size_of report) m))
 
 -- a vector form that gave no vector was refused no memory
-abbrev pub IsNoWant : DecodeVecError → Type 0
-IsNoWant (Decode error) = ⊤
-IsNoWant (Memory error) = ⊥
+abbrev pub IsNotOutOfMemory : DecodeVecError → Type 0
+IsNotOutOfMemory (Decode error) = ⊤
+IsNotOutOfMemory (Memory error) = ⊥
 
 abbrev pub FoundMemory : {V : Type 0} → Result V DecodeVecError → Type 0
-FoundMemory result = IfErr result IsNoWant
+FoundMemory result = IfErr result IsNotOutOfMemory

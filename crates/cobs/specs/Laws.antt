@@ -4,7 +4,7 @@ use Rattle.std.specs.List.{concat}
 use Rattle.cobs.specs.Grammar.{lone_block, IsEncodedFrame}
 use Rattle.cobs.specs.Length.{EndsInFullRun}
 
--- f is the encoded frame of m or, where m ends in a full run, that frame and the lone block behind it
+-- f is the encoded frame of m or, where m ends in a full run, that frame and the lone block after it
 abbrev pub IsFrameFor : List ℕ → List ℕ → Type 0
 IsFrameFor f m = IsEncodedFrame f m ⊎ (EndsInFullRun m × ((g : List ℕ) × IsEncodedFrame g m × (f ≡ g ++ lone_block)))
 

@@ -7,7 +7,7 @@ abbrev pub runs : List ℕ → List ℕ
 runs m = map length (stretches m)
 
 -- how many blocks more than zeros a message's encoded frame has, but for the last: a run fills a block with each 254
--- bytes, and the last run closes its last block without one more behind it
+-- bytes, and the last run closes its last block without one more after it
 abbrev pub full_blocks : List ℕ → ℕ
 full_blocks [] = 0
 full_blocks (run ∷ []) = (run - 1) / 254

@@ -1,16 +1,16 @@
 -- A piece is a nonempty stretch of a stream without a zero. It is read in parts: blocks, of which the last may be cut short.
-use Rattle.std.specs.Prelude.{◌≡◌, ℕ, zero, suc, ◌+◌, ◌-◌, ◌<◌, ◌==◌, Bool, false, List, [], ◌∷◌, ◌++◌, length, take, drop, if◌then◌else◌, IsTrue}
+use Rattle.std.specs.Prelude.{ℕ, zero, suc, ◌-◌, ◌==◌, Bool, false, List, [], ◌∷◌, length, take, if◌then◌else◌, IsTrue}
 use Rattle.cobs.specs.Grammar.{code_of, bytes_of, message_of, last_of}
 
--- the parts of what stands behind the first n bytes: a part is as many bytes as its code says, or what is left
-unfoldable pub parts_behind : ℕ → List ℕ → List (List ℕ)
-parts_behind n [] = []
-parts_behind (suc n) (byte ∷ bytes) = parts_behind n bytes
-parts_behind zero (code ∷ bytes) = (code ∷ take (code - 1) bytes) ∷ parts_behind (code - 1) bytes
+-- the parts of what stands after the first n bytes: a part is as many bytes as its code says, or what is left
+unfoldable pub parts_after : ℕ → List ℕ → List (List ℕ)
+parts_after n [] = []
+parts_after (suc n) (byte ∷ bytes) = parts_after n bytes
+parts_after zero (code ∷ bytes) = (code ∷ take (code - 1) bytes) ∷ parts_after (code - 1) bytes
 
 -- a piece cut by its codes
 unfoldable pub parts : List ℕ → List (List ℕ)
-parts p = parts_behind 0 p
+parts p = parts_after 0 p
 
 -- the last part of a piece
 unfoldable pub last_part : List ℕ → List ℕ
@@ -35,18 +35,3 @@ output p = message_of (parts p)
 -- the output without the bytes of a last part that is cut short; the zero in front of that part stays
 unfoldable pub kept_output : List ℕ → List ℕ
 kept_output p = if is_whole p then output p else take (length (output p) - length (bytes_of (last_part p))) (output p)
-
--- a whole piece whose parts but the last aren't full, so that each byte behind the first gives one byte of the output
-pub record IsFlat (p : List ℕ) : Type 0 where
-  pub some : 0 < length p
-  pub len : length (output p) + 1 ≡ length p
-  pub whole : lacks (last_part p) ≡ 0
-
--- How far a piece is decoded into a buffer: read bytes of it, up to a code, have become the first written bytes of the
--- buffer, which lacks the output of what is left. Behind the output the buffer is as it was.
-pub record Decoded (piece old new : List ℕ) (read written : ℕ) : Type 0 where
-  pub within : read < length piece
-  pub left : written + length (output (drop read piece)) ≡ length (output piece)
-  pub front : take written new ++ output (drop read piece) ≡ output piece
-  pub rest : drop (length (output piece)) new ≡ drop (length (output piece)) old
-  pub last : last_part (drop read piece) ≡ last_part piece

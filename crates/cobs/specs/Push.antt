@@ -3,19 +3,19 @@ use Rattle.std.specs.Prelude.{ℕ, ◌≡◌, ◌+◌, ◌-◌, ◌<◌, ◌≤�
 use Rattle.cobs.specs.Grammar.{last_of}
 use Rattle.cobs.specs.Piece.{output}
 use Rattle.cobs.specs.Stream.{stretches, is_nonempty, unended, Outcome, Message, Broken, TooLong, stream_outcomes}
-use Rattle.cobs.specs.Decoder.{Phase, Idle, PhaseAfter, DecoderAfter, Feeds, answer_to}
-use Rattle.cobs.specs.Buffer.{overwritten}
-use Rattle.cobs.specs.Report.{parsed_size_of, frame_size_of}
+use Rattle.cobs.specs.Feed.{Phase, Idle, PhaseAfter, DecoderAfter, Feeds, answer_to}
+use Rattle.cobs.specs.Overwritten.{overwritten}
+use Rattle.cobs.specs.Fields.Report.{parsed_size_of, frame_size_of}
 use Rattle.cobs.specs.declared.dec.report.DecodeReport.{DecodeReport}
-use Rattle.cobs.specs.declared.dec.report.PushError.{PushError}
-use Rattle.cobs.specs.declared.dec.report.DecodeError.{DecodeError}
-use Rattle.cobs.specs.declared.dec.report.DecodeError.TheVariants.{EmptyFrame, InvalidFrame, TargetBufTooSmall}
+use Rattle.cobs.specs.declared.dec.error.PushError.{PushError}
+use Rattle.cobs.specs.declared.dec.error.DecodeError.{DecodeError}
+use Rattle.cobs.specs.declared.dec.error.DecodeError.TheVariants.{EmptyFrame, InvalidFrame, TargetBufTooSmall}
 
 -- the last piece of a stream, whether a zero ends it or the stream does; the empty list where there is none
 unfoldable pub last_piece : List ℕ → List ℕ
 last_piece t = last_of (filter is_nonempty (stretches t))
 
--- the answer to the byte at this place, where a decoder over n bytes behind the front p is fed the bytes one by one
+-- the answer to the byte at this place, where a decoder over n bytes after the front p is fed the bytes one by one
 abbrev pub answer_at : List ℕ → List ℕ → ℕ → ℕ → Result (Option ℕ) DecodeError
 answer_at p bytes n place = answer_to (unended (p ++ take place bytes)) (slice_index bytes place) n
 
@@ -31,7 +31,7 @@ pub record StopsAfter (p bytes : List ℕ) (n count : ℕ) (answer : Result (Opt
   pub quiet : IsQuiet p bytes n place
   pub answered : answer_at p bytes n place ≡ answer
 
--- a push behind the front p answers what the first byte is answered that isn't answered by `Ok(None)`, with the
+-- a push after the front p answers what the first byte is answered that isn't answered by `Ok(None)`, with the
 -- count of bytes through that one
 abbrev pub Answers : List ℕ → List ℕ → ℕ → Result (Option DecodeReport) PushError → Type 0
 Answers p bytes n (Ok None) = IsQuiet p bytes n (length bytes)

@@ -1,4 +1,4 @@
--- The table of `DecoderState`: what each state answers to a byte, and the state behind it; and what that means of a piece.
+-- The table of `DecoderState`: what each state answers to a byte, and the state after it; and what that means of a piece.
 use Rattle.std.specs.Prelude.{ℕ, zero, suc, ◌≡◌, ◌<◌, ◌-◌, ◌==◌, List, [], ◌∷◌, All, Result, Ok, Err, if◌then◌else◌}
 use Rattle.cobs.specs.Grammar.{HasNoZero, is_full}
 use Rattle.cobs.specs.Piece.{last_part, lacks, output}
@@ -6,10 +6,10 @@ use Rattle.cobs.specs.declared.dec.state.DecoderState.{DecoderState}
 use Rattle.cobs.specs.declared.dec.state.DecoderState.TheVariants.{Idle, Grab, GrabChain}
 use Rattle.cobs.specs.declared.dec.state.DecodeResult.{DecodeResult}
 use Rattle.cobs.specs.declared.dec.state.DecodeResult.TheVariants.{NoData, DataStart, DataComplete, DataContinue}
-use Rattle.cobs.specs.declared.dec.report.DecodeError.{DecodeError}
-use Rattle.cobs.specs.declared.dec.report.DecodeError.TheVariants.{InvalidFrame}
+use Rattle.cobs.specs.declared.dec.error.DecodeError.{DecodeError}
+use Rattle.cobs.specs.declared.dec.error.DecodeError.TheVariants.{InvalidFrame}
 
--- the state behind a code: in a block that lacks all the bytes that the code counts
+-- the state after a code: in a block that lacks all the bytes that the code counts
 abbrev pub opened_by : ℕ → DecoderState
 opened_by code = if code == 255 then GrabChain 254 else Grab (code - 1)
 
@@ -21,7 +21,7 @@ table_answer (GrabChain (suc left)) byte = if byte == 0 then Err (InvalidFrame 0
 table_answer (Grab zero) byte = if byte == 0 then Ok DataComplete else Ok (DataContinue 0)
 table_answer (GrabChain zero) byte = if byte == 0 then Ok DataComplete else Ok NoData
 
--- the state behind it
+-- the state after it
 abbrev pub table_state : DecoderState → ℕ → DecoderState
 table_state Idle byte = if byte == 0 then Idle else opened_by byte
 table_state (Grab (suc left)) byte = if byte == 0 then Idle else Grab left
@@ -37,7 +37,7 @@ data_of (Ok DataComplete) = []
 data_of (Ok (DataContinue byte)) = byte ∷ []
 data_of (Err error) = []
 
--- the state behind the front p of a piece: in its last part, full or not, which lacks so many bytes
+-- the state after the front p of a piece: in its last part, full or not, which lacks so many bytes
 abbrev pub state_after : List ℕ → DecoderState
 state_after [] = Idle
 state_after (byte ∷ bytes) =

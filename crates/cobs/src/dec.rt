@@ -1,17 +1,21 @@
 //! Decoding: from frames to messages.
 ghost use Rattle.std.specs.Prelude.{◌≡◌, ◌↔◌, ◌≤◌, List, length, ℕ};
-ghost use Rattle.cobs.specs.Buffer.{overwritten};
-ghost use Rattle.cobs.specs.Decoding.{decode_answer, first_output};
+ghost use Rattle.cobs.specs.Overwritten.{overwritten};
+ghost use Rattle.cobs.specs.Decode.{decode_answer, first_output};
 ghost use Rattle.cobs.specs.Grammar.{Reads};
 ghost use Rattle.cobs.specs.Headline.{IsPiece, ReportsMessage};
 
+mod borrowed;
+mod chunk;
+mod error;
 mod fit;
+mod flat;
 mod frame_decoder;
 mod front;
 mod heapless;
 mod in_place;
 mod kind;
-mod lent;
+mod moves;
 mod owned;
 mod piece;
 mod report;
@@ -21,22 +25,24 @@ mod state;
 mod unbuffered;
 mod vector;
 mod write_buffer;
+mod xored;
 
+pub use borrowed::CobsDecoder;
+pub use error::{DecodeError, DecodeVecError, PushError};
 pub(crate) use frame_decoder::piece_end;
 pub use frame_decoder::{FrameDecoder, PieceEnd};
 use front::decode_front;
 pub use heapless::CobsDecoderHeapless;
 pub use in_place::{decode_in_place, decode_in_place_report, decode_in_place_with_sentinel};
 pub use kind::{FrameKind, frame_kind};
-pub use lent::CobsDecoder;
 pub use owned::CobsDecoderOwned;
-use piece::{decode_ended, leading_zeros, piece_len};
-pub use report::{DecodeError, DecodeReport, DecodingResult, PushError};
+use piece::{finish_piece, leading_zeros, piece_len};
+pub use report::{DecodeReport, DecodingResult};
 pub use sentinel::decode_with_sentinel;
 use short::{copy_short, decode_copied};
 pub use state::{DecodeResult, DecoderState};
 pub use unbuffered::{DecoderPhase, UnbufferedDecoder};
-pub use vector::{DecodeVecError, decode_vec, decode_vec_with_sentinel};
+pub use vector::{decode_vec, decode_vec_with_sentinel};
 pub use write_buffer::WriteBuffer;
 
 /// Decodes the first piece of the source.
@@ -58,7 +64,7 @@ fn decode_first(source: &[u8], dest: &mut [u8]) -> Result<DecodeReport, DecodeEr
     }
     let front = decode_front(rest, dest);
     let len = front.read + piece_len(&rest[front.read..]);
-    let frame_size = decode_ended(&rest[..len], dest, front.read, front.written)?;
+    let frame_size = finish_piece(&rest[..len], dest, front.read, front.written)?;
     let end = start + len;
     let parsed_size = if end < source.len() { end + 1 } else { end };
     Ok(DecodeReport::new(parsed_size, frame_size))

@@ -12,8 +12,9 @@ mod state;
 mod unbuffered;
 mod vector;
 
+use crate::window::WINDOW;
 pub(crate) use blocks::FULL_CODE;
-use blocks::{Progress, append, close};
+use blocks::{Progress, append, append_last, close};
 pub use encoder::CobsEncoder;
 pub use error::DestBufTooSmallError;
 use room::fits;
@@ -46,6 +47,23 @@ pub fn encode(source: &[u8], dest: &mut [u8]) -> usize
     requires { encoded_len source.now ≤ length dest.old }
     ensures frame { IsEncodedFrame (take result dest.new) source.now }
     ensures no_sentinel { HasNoZero (take result dest.new) }
+    ensures len { result ≡ encoded_len source.now }
+    ensures rest { drop result dest.new ≡ drop result dest.old }
+{
+    if source.len() > WINDOW {
+        return encode_long(source, dest);
+    }
+    let mut progress = Progress::new();
+    append_last(source, dest, &mut progress);
+    close(dest, progress)
+}
+
+/// Does what [`encode`] does, for messages of more than one window: a function of its own, so that a short message
+/// doesn't pay for the registers that the loop over windows takes.
+#[inline(never)]
+fn encode_long(source: &[u8], dest: &mut [u8]) -> usize
+    requires { encoded_len source.now ≤ length dest.old }
+    ensures frame { IsEncodedFrame (take result dest.new) source.now }
     ensures len { result ≡ encoded_len source.now }
     ensures rest { drop result dest.new ≡ drop result dest.old }
 {

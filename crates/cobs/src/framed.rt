@@ -7,9 +7,9 @@
 ghost use Rattle.std.specs.Prelude.{◌≡◌, ℕ, ◌≤◌, List, [], ◌∷◌, ◌++◌, length, take, drop, Option, option_map, IfOk, IfNone, IfSome, OnSome, MatchOption};
 ghost use Rattle.cobs.specs.Grammar.{HasNoZero};
 ghost use Rattle.cobs.specs.Stream.{Outcome, stream_outcomes, unended, is_nonempty};
-ghost use Rattle.cobs.specs.Decoder.{DecoderAfter};
-ghost use Rattle.cobs.specs.Streaming.{outcome_at, IsWithin};
-ghost use Rattle.cobs.specs.Reading.{HasTaken, IsOutcome, TellsFirst};
+ghost use Rattle.cobs.specs.Feed.{DecoderAfter};
+ghost use Rattle.cobs.specs.FeedPiece.{outcome_at, IsWithin};
+ghost use Rattle.cobs.specs.Internal.KeptBytes.{DecoderHasTaken, IsOutcome, TellsFirst};
 
 use crate::dec::{FrameDecoder, PieceEnd};
 use std::io::Read;
@@ -45,6 +45,19 @@ pub enum Next {
 }
 
 /// Why a call of `next_frame` found nothing. No byte is lost by it: a later call goes on from there.
+///
+/// ```
+/// fn next_or_more<D: FrameDecoder, S: FrameSource>(
+///     reader: &mut FrameReader<D>,
+///     source: &mut S,
+/// ) -> Option<Next> {
+///     match reader.next_frame(source) {
+///         Ok(next) => Some(next),
+///         Err(ReadFault::TooManyReads) => reader.next_frame(source).ok(),
+///         Err(ReadFault::Io) => None,
+///     }
+/// }
+/// ```
 #[derive(Debug, PartialEq, Eq, Drop)]
 pub enum ReadFault {
     /// A read failed; an interrupted read is a failed one.
@@ -74,6 +87,13 @@ pub trait FrameSource {
     ///
     /// `Some(n)` says that the read gave the first n bytes of the chunk, none where the source has come to its end,
     /// and `None` that it failed.
+    ///
+    /// ```
+    /// let mut source = Recorded::new([7; 100].as_slice());
+    /// let mut chunk = [0; 64];
+    /// assert_eq!(rt; source.read_some(&mut chunk), Some(64));
+    /// assert_eq!(rt; source.read_some(&mut chunk), Some(36));
+    /// ```
     fn read_some(&mut self, chunk: &mut [u8; 64]) -> Option<usize>
         ensures bound { IfSome result (λ n. n ≤ 64) }
         ensures step { step self.old (option_map (λ n. take n chunk.new) result) self.new };
@@ -97,11 +117,17 @@ pub struct Recorded<R> {
 
 impl<R: Read> Recorded<R> {
     ghost use Rattle.std.specs.Prelude.{◌≡◌};
-    ghost use Rattle.cobs.specs.Reader.{reader_of};
+    ghost use Rattle.cobs.specs.Fields.Reader.{reader_of};
 
     /// A source that reads from this reader.
+    ///
+    /// ```
+    /// let mut source = Recorded::new([2, 7, 0].as_slice());
+    /// let mut reader = FrameReader::new(CobsDecoderHeapless::<8>::new());
+    /// assert_eq!(rt; reader.next_frame(&mut source), Ok(Next::Message(1)));
+    /// ```
     pub fn new(reader: R) -> Self
-        ensures { reader_of result ≡ reader }
+        ensures reader { reader_of result ≡ reader }
     {
         Self { reader }
     }
@@ -113,7 +139,7 @@ impl<R: Read> Recorded<R> {
     /// assert_eq!(rt; source.into_inner(), [1, 0].as_slice());
     /// ```
     pub fn into_inner(self) -> R
-        ensures { result ≡ reader_of self }
+        ensures reader { result ≡ reader_of self }
     {
         let Recorded { reader } = self;
         reader
@@ -121,8 +147,8 @@ impl<R: Read> Recorded<R> {
 }
 
 impl<R: Read> FrameSource for Recorded<R> {
-    ghost use Rattle.cobs.specs.Reader.{reader_of};
-    ghost use Rattle.cobs.specs.Reading.{IsReadOf};
+    ghost use Rattle.cobs.specs.Fields.Reader.{reader_of};
+    ghost use Rattle.cobs.specs.NextFrame.{IsReadOf};
 
     ghost step = { λ from read to. IsReadOf (R.remaining (reader_of from)) read
         (R.remaining (reader_of to)) };
@@ -136,7 +162,7 @@ impl<R: Read> FrameSource for Recorded<R> {
 }
 
 /// What a piece that ended so comes to.
-fn next_of(end: PieceEnd) -> Next
+fn next_at(end: PieceEnd) -> Next
     ensures { (buffer : List ℕ) → IsWithin (length buffer) end
         → IsOutcome result buffer (outcome_at end buffer) }
 {
@@ -149,7 +175,7 @@ fn next_of(end: PieceEnd) -> Next
 
 /// Whether a piece is unfinished after these bytes, given whether one was before them.
 fn is_unfinished(before: bool, bytes: &[u8]) -> bool
-    ensures { (p : List ℕ) → before ≡ is_nonempty p → HasNoZero p →
+    ensures unfinished { (p : List ℕ) → before ≡ is_nonempty p → HasNoZero p →
         result ≡ is_nonempty (unended (p ++ bytes.now)) }
 {
     match bytes {
@@ -185,20 +211,28 @@ pub struct FrameReader<D: FrameDecoder> {
     unfinished: bool,
     ghost ordered: { start ≤ end },
     ghost in_chunk: { end ≤ 64 },
-    ghost has_taken: { ∥ ((p : List ℕ) × HasTaken (D.bytes decoder)
+    ghost has_taken: { ∥ ((p : List ℕ) × DecoderHasTaken (D.bytes decoder)
         (D.phase decoder) unfinished p) ∥₁ },
 }
 
 impl<D: FrameDecoder> FrameReader<D> {
     ghost use Rattle.std.specs.Prelude.{◌≡◌, ℕ, ◌+◌, List, [], ◌++◌, length, IfNone, IfSome, OnSome};
     ghost use Rattle.cobs.specs.Stream.{is_nonempty, unended};
-    ghost use Rattle.cobs.specs.Decoder.{DecoderAfter};
-    ghost use Rattle.cobs.specs.Reading.{AtStreamEnd, IsBehind, ReadsNext, TellsFirst};
-    ghost use Rattle.cobs.specs.Reader.{decoder_of, kept_of, reader_state};
+    ghost use Rattle.cobs.specs.Feed.{DecoderAfter};
+    ghost use Rattle.cobs.specs.NextFrame.{AtStreamEnd, IsBehind, ReadsNext};
+    ghost use Rattle.cobs.specs.Internal.KeptBytes.{TellsFirst};
+    ghost use Rattle.cobs.specs.Fields.Reader.{decoder_of, kept_of, reader_state};
 
     /// A reader with this decoder, which has read nothing yet.
     ///
     /// Precondition: the decoder is idle, as it is when new, after a reset, and after each zero.
+    ///
+    /// ```
+    /// let mut source = Recorded::new(b"".as_slice());
+    /// let mut reader = FrameReader::new(CobsDecoderHeapless::<8>::new());
+    /// let end = Next::End { unfinished: false };
+    /// assert_eq!(rt; reader.next_frame(&mut source), Ok(end));
+    /// ```
     pub fn new(decoder: D) -> Self
         requires { DecoderAfter (D.bytes decoder) (D.phase decoder) [] }
         ensures decoder { decoder_of result ≡ decoder }
@@ -214,8 +248,13 @@ impl<D: FrameDecoder> FrameReader<D> {
     }
 
     /// The decoder. After a `Next::Message(n)` the message is the first n bytes of its buffer.
+    ///
+    /// ```
+    /// let reader = FrameReader::new(CobsDecoderHeapless::<2>::new());
+    /// assert_eq!(rt; reader.decoder().dest(), [0, 0].as_slice());
+    /// ```
     pub fn decoder(&self) -> &D
-        ensures { result.now ≡ decoder_of self.now }
+        ensures value { result.now ≡ decoder_of self.now }
     {
         &self.decoder
     }
@@ -247,7 +286,7 @@ impl<D: FrameDecoder> FrameReader<D> {
             Some((end, count)) => {
                 self.unfinished = false;
                 self.start += count;
-                Some(next_of(end))
+                Some(next_at(end))
             }
         }
     }

@@ -1,5 +1,6 @@
 //! What holds of messages, frames, pieces and streams. These functions do nothing when they run: their contracts are
-//! the laws, and a caller who calls one may use it in its own proof.
+//! the laws, and a caller who calls one may use it in its own proof. Each has such a caller as its example; `reads_as` in
+//! some of them is the one of CALLING.md.
 //!
 //! ```
 //! fn encode_by_longest(source: &[u8], dest: &mut [u8]) -> usize
@@ -23,8 +24,18 @@ ghost use Rattle.cobs.specs.Stream.{Message, first_piece, head, outcome_of, stre
 ///
 /// So whether a list is a frame, and of what, can be told by cutting it at its codes. Each decoder does so, and its
 /// users know by this law that what it accepts are the frames and nothing else.
+///
+/// ```
+/// fn is_output(piece: &[u8], message: &[u8], buffer: &mut [u8]) -> bool
+///     requires { IsPiece piece.now }
+///     ensures { IsTrue result → message.now ≡ output piece.now }
+/// {
+///     law_1();
+///     reads_as(piece, message, buffer)
+/// }
+/// ```
 pub fn law_1()
-    ensures { (f m : List ℕ) → All (λ byte. byte < 256) f
+    ensures reads { (f m : List ℕ) → All (λ byte. byte < 256) f
         → (Reads f m ↔ ((f ≢ []) × HasNoZero f × IsWhole f × (m ≡ output f))) }
 {}
 
@@ -33,6 +44,17 @@ pub fn law_1()
 /// So what encoders give may be compared byte by byte, be it to find a message in a store or to check a signature, and
 /// two encoders that keep to the definition agree. Its length is that by which `try_encode` and `CobsEncoder` accept
 /// and refuse. Where the message is one of bytes, so is its frame.
+///
+/// ```
+/// fn encode_again(message: &[u8], frame: &[u8], dest: &mut [u8]) -> usize
+///     requires frame { IsEncodedFrame frame.now message.now }
+///     requires room { length frame.now ≤ length dest.old }
+///     ensures { take result dest.new ≡ frame.now }
+/// {
+///     law_2();
+///     encode(message, dest)
+/// }
+/// ```
 pub fn law_2()
     ensures one { (m : List ℕ) → (f : List ℕ) × IsEncodedFrame f m }
     ensures only { (f g m : List ℕ) → IsEncodedFrame f m → IsEncodedFrame g m → f ≡ g }
@@ -45,6 +67,16 @@ pub fn law_2()
 ///
 /// The second is one byte longer. A receiver that wants one frame a message, as a request protocol that compares
 /// frames, refuses just this second one; [`frame_kind`](crate::frame_kind) tells them apart.
+///
+/// ```
+/// fn is_frame_for(piece: &[u8], message: &[u8], buffer: &mut [u8]) -> bool
+///     requires { IsPiece piece.now }
+///     ensures { IsTrue result → IsFrameFor piece.now message.now }
+/// {
+///     law_3();
+///     reads_as(piece, message, buffer)
+/// }
+/// ```
 pub fn law_3()
     ensures frames { (f m : List ℕ) → Reads f m ↔ IsFrameFor f m }
     ensures longer { (f m : List ℕ) → IsEncodedFrame f m → EndsInFullRun m
@@ -54,6 +86,17 @@ pub fn law_3()
 /// The bounds of an encoded frame's length: it is longer than its message, and at most as long as
 /// [`max_encoding_length`](crate::max_encoding_length) says. A message without zeros reaches that bound, so each
 /// length of a message does.
+///
+/// ```
+/// fn encode_nonzero(source: &[u8], dest: &mut [u8]) -> usize
+///     requires nonzero { HasNoZero source.now }
+///     requires room { max_encoded_len (length source.now) ≤ length dest.old }
+///     ensures { result ≡ max_encoded_len (length source.now) }
+/// {
+///     law_4();
+///     encode(source, dest)
+/// }
+/// ```
 pub fn law_4()
     ensures lower { (m : List ℕ) → length m + 1 ≤ encoded_len m }
     ensures upper { (m : List ℕ) → encoded_len m ≤ max_encoded_len (length m) }
@@ -66,6 +109,17 @@ pub fn law_4()
 ///
 /// So nothing of a message is lost in its frame, and a receiver can't read another message out of it than the sender
 /// put in.
+///
+/// ```
+/// fn are_equal(alloc: Global, first: &[u8], second: &[u8]) -> Result<bool, AllocError>
+///     requires first { max_encoded_len (length first.now) < 2 ^ 64 }
+///     requires second { max_encoded_len (length second.now) < 2 ^ 64 }
+///     ensures { IfOk result (λ equal. IsTrue equal → first.now ≡ second.now) }
+/// {
+///     law_5();
+///     Ok(encode_vec(alloc, first)? == encode_vec(alloc, second)?)
+/// }
+/// ```
 pub fn law_5()
     ensures message { (f m k : List ℕ) → Reads f m → Reads f k → m ≡ k }
     ensures encoded { (f g m k : List ℕ) → IsEncodedFrame f m → IsEncodedFrame g k → f ≡ g → m ≡ k }
@@ -74,8 +128,20 @@ pub fn law_5()
 /// No byte of a frame for a sentinel is that sentinel.
 ///
 /// This is what COBS is for: whoever puts the sentinel between frames can find their ends by it alone.
+///
+/// ```
+/// fn change_sentinel(frame: &mut [u8], sentinel: u8)
+///     ensures changed { frame.new ≡ xor_each sentinel frame.old }
+///     ensures free { IsFrame frame.old → IsFreeOf sentinel frame.new }
+/// {
+///     law_6();
+///     for byte in frame.iter_mut() {
+///         *byte ^= sentinel;
+///     }
+/// }
+/// ```
 pub fn law_6()
-    ensures { (f : List ℕ) (s : ℕ) → IsFrame f → All (λ byte. byte ≢ s) (xor_each s f) }
+    ensures free { (f : List ℕ) (s : ℕ) → IsFrame f → All (λ byte. byte ≢ s) (xor_each s f) }
 {}
 
 /// A front of a frame, unless it is empty, is a frame exactly where it ends at a block's end, and its message is then a
@@ -83,6 +149,17 @@ pub fn law_6()
 ///
 /// So a frame that was cut short, as by a lost link, is noticed unless the cut fell between two blocks, and then what
 /// is read is still the beginning of what was sent.
+///
+/// ```
+/// fn is_begun(received: &[u8], message: &[u8], buffer: &mut [u8]) -> bool
+///     requires { IsPiece received.now }
+///     ensures { (lost m : List ℕ) → IsTrue result
+///         → Reads (received.now ++ lost) m → IsFront message.now m }
+/// {
+///     law_7();
+///     reads_as(received, message, buffer)
+/// }
+/// ```
 pub fn law_7()
     ensures frame { (p q m : List ℕ) (r : Reads (p ++ q) m) → p ≢ []
         → (IsFrame p ↔ EndsAtBlock p r.blocks) }
@@ -94,8 +171,20 @@ pub fn law_7()
 ///
 /// So a sentinel that was lost between two frames makes them one message, which a receiver can't tell from one that
 /// was sent so: what must be told apart needs a check of its own in the message.
+///
+/// ```
+/// fn join(alloc: Global, first: &[u8], second: &[u8]) -> Result<Vec<u8>, AllocError>
+///     ensures { (m k : List ℕ) → Reads first.now m → Reads second.now k
+///         → IfOk result (λ both. IsFrame both.items) }
+/// {
+///     law_8();
+///     let mut both = first.to_vec(alloc)?;
+///     both.extend_from_slice(second)?;
+///     Ok(both)
+/// }
+/// ```
 pub fn law_8()
-    ensures { (f m g k : List ℕ) (r : Reads f m) → Reads g k
+    ensures joined { (f m g k : List ℕ) (r : Reads f m) → Reads g k
         → Reads (f ++ g) (m ++ joint (last_of r.blocks) ++ k) }
 {}
 
@@ -104,8 +193,25 @@ pub fn law_8()
 ///
 /// So a receiver may be given a stream in parts of any length, as reads happen to bring it, and gets what one call over
 /// the whole stream would give: `decode_stream`, `push` and `FrameReader` rest on this.
+///
+/// ```
+/// fn decode_in_two<D: FrameDecoder>(
+///     alloc: Global,
+///     decoder: &mut D,
+///     first: &[u8],
+///     second: &[u8],
+/// ) -> Result<(Vec<FrameOutcome>, Vec<FrameOutcome>), AllocError>
+///     requires { DecoderAfter (D.bytes decoder.old) (D.phase decoder.old) [] }
+///     ensures { IfOk result (λ found. outcomes_in found.0.items ++ outcomes_in found.1.items
+///         ≡ stream_outcomes (first.now ++ second.now) (length (D.bytes decoder.old))) }
+/// {
+///     law_9();
+///     let found = decode_stream(alloc, decoder, first)?;
+///     Ok((found, decode_stream(alloc, decoder, second)?))
+/// }
+/// ```
 pub fn law_9()
-    ensures { (x y : List ℕ) (n : ℕ) →
+    ensures cut { (x y : List ℕ) (n : ℕ) →
         stream_outcomes (x ++ y) n ≡ stream_outcomes x n ++ stream_outcomes (unended x ++ y) n }
 {}
 
@@ -115,6 +221,24 @@ pub fn law_9()
 ///
 /// So a receiver of a noisy link, or a reader of a damaged file of records, loses no message but those that the damage
 /// touches.
+///
+/// ```
+/// fn one_outcome<D: FrameDecoder>(
+///     alloc: Global,
+///     decoder: &mut D,
+///     damaged: &[u8],
+/// ) -> Result<Vec<FrameOutcome>, AllocError>
+///     requires idle { DecoderAfter (D.bytes decoder.old) (D.phase decoder.old) [] }
+///     requires piece { IsPiece damaged.now }
+///     ensures { IfOk result (λ found. outcomes_in found.items
+///         ≡ outcome_of damaged.now (length (D.bytes decoder.old)) ∷ []) }
+/// {
+///     law_10();
+///     let mut ended = damaged.to_vec(alloc)?;
+///     ended.push(0)?;
+///     decode_stream(alloc, decoder, &ended)
+/// }
+/// ```
 pub fn law_10()
     ensures apart { (a d z : List ℕ) (n : ℕ) → IsAtSentinel a → stream_outcomes (a ++ d ++ 0 ∷ z) n
         ≡ stream_outcomes a n ++ stream_outcomes (d ++ 0 ∷ []) n ++ stream_outcomes z n }
@@ -126,14 +250,38 @@ pub fn law_10()
 ///
 /// So what was sent as frames with a sentinel after each comes out as exactly the messages, and no frame, the longer
 /// one of a message with two included, is taken for broken or for too long.
+///
+/// ```
+/// fn encode_for_stream(message: &[u8], dest: &mut [u8]) -> usize
+///     requires { encoded_len message.now ≤ length dest.old }
+///     ensures { (n : ℕ) → length message.now ≤ n
+///         → outcome_of (take result dest.new) n ≡ Message message.now }
+/// {
+///     law_11();
+///     encode(message, dest)
+/// }
+/// ```
 pub fn law_11()
-    ensures { (f m : List ℕ) (n : ℕ) → Reads f m → length m ≤ n → outcome_of f n ≡ Message m }
+    ensures message { (f m : List ℕ) (n : ℕ) → Reads f m → length m ≤ n
+        → outcome_of f n ≡ Message m }
 {}
 
 /// In a stream that begins with a nonzero byte the first piece is what stands before the first zero, and, in a buffer
 /// of the stream's length, it comes to a message exactly where it reads as that message.
 ///
 /// So `decode`, into a buffer as long as its source, and `decode_in_place` both refuse, or both give the same message.
+///
+/// ```
+/// fn begins_with_piece(stream: &[u8]) -> bool
+///     ensures { IsTrue result → first_piece stream.now ≡ Some (head stream.now) }
+/// {
+///     law_12();
+///     match stream {
+///         [] | [0, ..] => false,
+///         _ => true,
+///     }
+/// }
+/// ```
 pub fn law_12()
     ensures piece { (byte : ℕ) (bytes : List ℕ) → byte ≢ 0
         → first_piece (byte ∷ bytes) ≡ Some (head (byte ∷ bytes)) }

@@ -94,7 +94,7 @@ pub use stream::{FrameOutcome, decode_stream, encode_frames, encode_frames_room}
 /// assert_eq!(rt; max_encoding_overhead(255), 2);
 /// ```
 pub fn max_encoding_overhead(source_len: usize) -> usize
-    ensures { result ≡ max_overhead source_len }
+    ensures overhead { result ≡ max_overhead source_len }
 {
     if source_len == 0 {
         return 1;
@@ -114,7 +114,7 @@ pub fn max_encoding_overhead(source_len: usize) -> usize
 /// ```
 pub fn max_encoding_length(source_len: usize) -> usize
     requires { max_encoded_len source_len < 2 ^ 64 }
-    ensures { result ≡ max_encoded_len source_len }
+    ensures len { result ≡ max_encoded_len source_len }
 {
     source_len + max_encoding_overhead(source_len)
 }

@@ -6,10 +6,11 @@
 //! and too long pieces are told is a choice of this library.)
 ghost use Rattle.std.specs.Prelude.{◌≡◌, ℕ, ◌+◌, ◌<◌, ◌≤◌, ◌^◌, List, [], ◌++◌, All, length, map, take, option_to_list, IfOk, IfSome, IsOk, IsSome, ◌↔◌, OnOk, OnErr, Contains};
 ghost use Rattle.std.specs.Option.{SomeIff};
-ghost use Rattle.cobs.specs.Decoder.{DecoderAfter, PhaseAfter};
+ghost use Rattle.cobs.specs.Feed.{DecoderAfter, PhaseAfter};
 ghost use Rattle.cobs.specs.Length.{max_encoded_len};
 ghost use Rattle.cobs.specs.Stream.{Message, stream_outcomes, unended};
-ghost use Rattle.cobs.specs.Streaming.{outcome_at, outcome_in, outcomes_in, IsWithin, AreAlikeAtFirst, AreFrames, messages_in, room_for_frames};
+ghost use Rattle.cobs.specs.FeedPiece.{outcome_at, IsWithin, AreAlikeAtFirst};
+ghost use Rattle.cobs.specs.Messages.{outcome_in, outcomes_in, AreFrames, messages_in, room_for_frames};
 
 use crate::dec::{FrameDecoder, PieceEnd};
 use crate::enc::encode;
@@ -37,7 +38,7 @@ pub enum FrameOutcome {
 }
 
 /// The outcome of a piece that ended so, over the buffer that it left.
-fn outcome_of(alloc: Global, end: PieceEnd, buffer: &[u8]) -> Result<FrameOutcome, AllocError>
+fn frame_outcome(alloc: Global, end: PieceEnd, buffer: &[u8]) -> Result<FrameOutcome, AllocError>
     requires { IsWithin (length buffer.now) end }
     ensures { IfOk result (λ outcome. outcome_in outcome ≡ outcome_at end buffer.now) }
 {
@@ -110,7 +111,7 @@ pub fn decode_stream<D: FrameDecoder>(
     let mut outcomes = Vec::new(alloc);
     let mut at = 0;
     'by_piece: while let Some((end, count)) = decoder.feed_piece(&bytes[at..]) {
-        outcomes.push(outcome_of(alloc, end, decoder.buffer())?)?;
+        outcomes.push(frame_outcome(alloc, end, decoder.buffer())?)?;
         at += count;
     }
     Ok(outcomes)
@@ -170,7 +171,7 @@ pub fn encode_frames_room(messages: &[Vec<u8>]) -> Option<usize>
 
 /// This room and that for the frame of a message of `len` bytes and a zero.
 fn room_with(room: usize, len: usize) -> Option<usize>
-    ensures { let sum = room + (max_encoded_len len + 1) in SomeIff result (sum < 2 ^ 64) sum }
+    ensures sum { let sum = room + (max_encoded_len len + 1) in SomeIff result (sum < 2 ^ 64) sum }
 {
     room.checked_add(len)?
         .checked_add(max_encoding_overhead(len))?

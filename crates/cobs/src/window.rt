@@ -1,7 +1,7 @@
 //! Windows of up to 32 bytes, in vectors: where their zeros are, copied, and written.
 ghost use Rattle.std.specs.Prelude.{◌≡◌, ◌<◌, ◌≤◌, ◌+◌, ◌^◌, ◌++◌, ◌↔◌, IsTrue, false, length, take, drop, replicate, slice_index};
 ghost use Rattle.cobs.specs.Grammar.{HasNoZero};
-ghost use Rattle.cobs.specs.Mask.{zero_mask};
+ghost use Rattle.cobs.specs.Internal.Mask.{zero_mask};
 
 use std::simd::prelude::*;
 
@@ -433,16 +433,25 @@ pub(crate) fn copy_nonzero(
     done
 }
 
+/// Whether the first 32 bytes are all this one.
+#[inline(always)]
+pub(crate) fn is_all(bytes: &[u8], byte: u8) -> bool
+    requires { 32 ≤ length bytes.now }
+    ensures { IsTrue result → take 32 bytes.now ≡ replicate 32 byte }
+{
+    u8x32::from_slice(bytes)
+        .simd_ne(u8x32::splat(byte))
+        .to_bitmask()
+        == 0
+}
+
 /// Whether the first 32 bytes are all 1.
 #[inline(always)]
 pub(crate) fn is_ones(bytes: &[u8]) -> bool
     requires { 32 ≤ length bytes.now }
     ensures { IsTrue result → take 32 bytes.now ≡ replicate 32 1 }
 {
-    u8x32::from_slice(bytes)
-        .simd_ne(u8x32::splat(1))
-        .to_bitmask()
-        == 0
+    is_all(bytes, 1)
 }
 
 /// Writes 32 zeros.

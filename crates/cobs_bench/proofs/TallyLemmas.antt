@@ -6,13 +6,13 @@ use Rattle.std.proofs.lemmas.List.Elements.{All-push, All-nil}
 use Rattle.cobs.specs.Grammar.{HasNoZero}
 use Rattle.cobs.specs.Piece.{output, is_whole}
 use Rattle.cobs.specs.Stream.{Outcome, Message, Broken, TooLong, outcome_of, stream_outcomes, unended}
-use Rattle.cobs.specs.Decoder.{Phase, DecoderAfter, Feeds, fed, told, answer_to, answer_at_end}
+use Rattle.cobs.specs.Feed.{Phase, DecoderAfter, Feeds, fed, told, answer_to, answer_at_end}
 use Rattle.cobs.specs.Push.{PushesBytes, answer_at, StopsAfter, IsQuiet, Answers, consumed}
-use Rattle.cobs.specs.Report.{parsed_size_of, frame_size_of}
+use Rattle.cobs.specs.Fields.Report.{parsed_size_of, frame_size_of}
 use Rattle.cobs.specs.declared.dec.report.DecodeReport.{DecodeReport}
-use Rattle.cobs.specs.declared.dec.report.PushError.{PushError}
-use Rattle.cobs.specs.declared.dec.report.DecodeError.{DecodeError}
-use Rattle.cobs.specs.declared.dec.report.DecodeError.TheVariants.{InvalidFrame, TargetBufTooSmall}
+use Rattle.cobs.specs.declared.dec.error.PushError.{PushError}
+use Rattle.cobs.specs.declared.dec.error.DecodeError.{DecodeError}
+use Rattle.cobs.specs.declared.dec.error.DecodeError.TheVariants.{InvalidFrame, TargetBufTooSmall}
 use Rattle.cobs.proofs.StreamLemmas.{stream_outcomes-append, unended-append, unended-no_zero, unended-zero, unended-push, fed-nonzero, unended_no_zero, stream_outcomes-no_zero, stream_outcomes-piece, stream_outcomes-push, outcomes_at, outcomes_at-nonzero}
 use Rattle.cobs.proofs.PieceCuts.{output-empty}
 use Rattle.cobs.proofs.OutcomeLemmas.{output_within}

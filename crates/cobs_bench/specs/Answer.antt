@@ -1,9 +1,9 @@
 -- The answers of the library's calls, as C sees them.
 use Rattle.std.specs.Prelude.{ℕ, Result, Ok, Err}
-use Rattle.cobs.specs.Report.{parsed_size_of, frame_size_of}
+use Rattle.cobs.specs.Fields.Report.{parsed_size_of, frame_size_of}
 use Rattle.cobs.specs.declared.dec.report.DecodeReport.{DecodeReport}
-use Rattle.cobs.specs.declared.dec.report.DecodeError.{DecodeError}
-use Rattle.cobs.specs.declared.dec.report.DecodeError.TheVariants.{EmptyFrame, InvalidFrame, TargetBufTooSmall}
+use Rattle.cobs.specs.declared.dec.error.DecodeError.{DecodeError}
+use Rattle.cobs.specs.declared.dec.error.DecodeError.TheVariants.{EmptyFrame, InvalidFrame, TargetBufTooSmall}
 use Rattle.cobs_bench.specs.declared.answer.Answer.{Answer}
 use Rattle.cobs_bench.specs.declared.answer.TheConstants.{OK, TOO_SMALL, BROKEN, EMPTY}
 

@@ -5,8 +5,8 @@
 ghost use Rattle.std.specs.Prelude.{◌≡◌, ◌≤◌, ◌<◌, ◌⊎◌, length, take, drop};
 ghost use Rattle.cobs.specs.Grammar.{IsEncodedFrame};
 ghost use Rattle.cobs.specs.Length.{encoded_len};
-ghost use Rattle.cobs.specs.Buffer.{overwritten};
-ghost use Rattle.cobs.specs.Decoding.{decode_answer, first_output, in_place, in_place_answer, in_place_report, source_answer};
+ghost use Rattle.cobs.specs.Overwritten.{overwritten};
+ghost use Rattle.cobs.specs.Decode.{decode_answer, first_output, in_place, in_place_answer, in_place_report, source_answer};
 ghost use Rattle.cobs.specs.Sentinel.{xor_each, IsEncodedFrameFor};
 ghost use Rattle.cobs.specs.Piece.{kept_output};
 ghost use Rattle.cobs.specs.Stream.{head, stream_outcomes};
@@ -35,7 +35,11 @@ pub extern "C" fn bench_encode(source: &[u8], dest: &mut [u8]) -> usize
 #[unsafe(no_mangle)]
 pub extern "C" fn bench_try_encode(source: &[u8], dest: &mut [u8]) -> Answer
     ensures fits { encoded_len source.now ≤ length dest.old
-        → result ≡ record { status = OK; parsed = length source.now; len = encoded_len source.now } }
+        → result ≡ record {
+          status = OK;
+          parsed = length source.now;
+          len = encoded_len source.now;
+        } }
     ensures frame { encoded_len source.now ≤ length dest.old
         → IsEncodedFrame (take result.len dest.new) source.now }
     ensures too_small { length dest.old < encoded_len source.now
@@ -88,8 +92,10 @@ pub extern "C" fn bench_decode_in_place(buffer: &mut [u8]) -> Answer
 /// As `cobs::decode_with_sentinel`.
 #[unsafe(no_mangle)]
 pub extern "C" fn bench_decode_with_sentinel(source: &[u8], dest: &mut [u8], sentinel: u8) -> Answer
-    ensures answer { result ≡ answer_of_size (source_answer (xor_each sentinel source.now) (length dest.old)) }
-    ensures buffer { dest.new ≡ overwritten dest.old (kept_output (head (xor_each sentinel source.now))) }
+    ensures answer { result
+        ≡ answer_of_size (source_answer (xor_each sentinel source.now) (length dest.old)) }
+    ensures buffer { dest.new
+        ≡ overwritten dest.old (kept_output (head (xor_each sentinel source.now))) }
 {
     answer_of_size(cobs::decode_with_sentinel(source, dest, sentinel))
 }

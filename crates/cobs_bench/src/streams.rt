@@ -23,15 +23,22 @@ fn next_len(chunk: usize, left: usize) -> usize
 #[unsafe(no_mangle)]
 pub extern "C" fn bench_encoder_push(source: &[u8], chunk: usize, dest: &mut [u8]) -> Answer
     ensures fits { encoded_len source.now ≤ length dest.old
-        → result ≡ record { status = OK; parsed = length source.now; len = encoded_len source.now } }
+        → result ≡ record {
+          status = OK;
+          parsed = length source.now;
+          len = encoded_len source.now;
+        } }
     ensures too_small { length dest.old < encoded_len source.now → result.status ≡ TOO_SMALL }
     ensures next { length dest.old < encoded_len source.now
-        → length dest.old < encoded_len (take (result.parsed + chunk_len chunk source.now) source.now) }
+        → length dest.old
+        < encoded_len (take (result.parsed + chunk_len chunk source.now) source.now) }
     ensures within { result.parsed ≤ length source.now }
-    ensures frame { 0 < length dest.old → IsEncodedFrame (take result.len dest.new) (take result.parsed source.now) }
+    ensures frame { 0 < length dest.old
+        → IsEncodedFrame (take result.len dest.new) (take result.parsed source.now) }
     ensures len { 0 < length dest.old → result.len ≡ encoded_len (take result.parsed source.now) }
     ensures rest { drop result.len dest.new ≡ drop result.len dest.old }
-    ensures empty { length dest.old ≡ 0 → result ≡ record { status = TOO_SMALL; parsed = 0; len = 0 } }
+    ensures empty { length dest.old ≡ 0
+        → result ≡ record { status = TOO_SMALL; parsed = 0; len = 0 } }
 {
     let mut parsed = 0;
     if dest.is_empty() {
@@ -66,7 +73,7 @@ pub extern "C" fn bench_encoder_push(source: &[u8], chunk: usize, dest: &mut [u8
 /// refusal.
 #[unsafe(no_mangle)]
 pub extern "C" fn bench_push(stream: &[u8], chunk: usize, dest: &mut [u8]) -> Answer
-    ensures { result ≡ tallied 0 0 (outcomes_to_end stream.now (length dest.old)) }
+    ensures tallied { result ≡ tallied 0 0 (outcomes_to_end stream.now (length dest.old)) }
 {
     let mut decoder = CobsDecoder::new(dest);
     let mut messages = 0;
@@ -103,7 +110,7 @@ pub extern "C" fn bench_push(stream: &[u8], chunk: usize, dest: &mut [u8]) -> An
 /// Feeds the stream to a `CobsDecoder` one byte after another, up to the first refusal.
 #[unsafe(no_mangle)]
 pub extern "C" fn bench_feed_each(stream: &[u8], dest: &mut [u8]) -> Answer
-    ensures { result ≡ tallied 0 0 (outcomes_to_end stream.now (length dest.old)) }
+    ensures tallied { result ≡ tallied 0 0 (outcomes_to_end stream.now (length dest.old)) }
 {
     let mut decoder = CobsDecoder::new(dest);
     let mut messages = 0;

@@ -4,8 +4,8 @@ use Rattle.std.proofs.lemmas.Bool.{leb-true, cases_Bool}
 use Rattle.std.proofs.Math.Nat.{min-eq_left}
 use Rattle.cobs.specs.Piece.{output, is_whole}
 use Rattle.cobs.specs.Stream.{Outcome, Message, Broken, TooLong, outcome_of, stream_outcomes, ended_pieces}
-use Rattle.cobs.specs.Decoder.{Phase}
-use Rattle.cobs.specs.Streaming.{AreAlikeAtFirst, TakesPiece}
+use Rattle.cobs.specs.Feed.{Phase}
+use Rattle.cobs.specs.FeedPiece.{AreAlikeAtFirst, TakesPiece}
 use Rattle.cobs.specs.declared.dec.frame_decoder.PieceEnd.{PieceEnd}
 use Rattle.cobs.specs.declared.dec.frame_decoder.PieceEnd.TheVariants as ends
 

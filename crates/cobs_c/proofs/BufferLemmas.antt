@@ -2,7 +2,7 @@
 use Rattle.std.proofs.Common.{◌≡◌, ℕ, ◌+◌, ◌-◌, ◌<◌, ◌≤◌, min, List, [], ◌∷◌, ◌++◌, length, take, drop, set, get_or, sym, ap, ◌∙◌, arith, length-append, length-take-le, take-append-drop, take_all, append_assoc, nat_le, true, false, ⊎_elim}
 use Rattle.std.proofs.lemmas.List.{drop-append-le, drop-drop, drop-set-lt, drop_more, set_at, take_more_set, take-append-le}
 use Rattle.std.proofs.lemmas.Bool.{leb-true, leb-false, cases_Bool}
-use Rattle.cobs.specs.Buffer.{overwritten}
+use Rattle.cobs.specs.Overwritten.{overwritten}
 
 -- behind a frame and its terminator a buffer is as it was, where its part in front of the last byte is behind the frame
 pub behind_terminator : (buffer part : List ℕ) (last end s : ℕ) → length part ≡ last → last < length buffer → end ≤ last → drop end part ≡ drop end (take last buffer)

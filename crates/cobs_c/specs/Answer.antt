@@ -3,8 +3,8 @@ use Rattle.std.specs.Prelude.{ℕ, ◌+◌, ◌==◌, min, List, length, Option,
 use Rattle.cobs.specs.Stream.{head}
 use Rattle.cobs.specs.declared.dec.frame_decoder.PieceEnd.{PieceEnd}
 use Rattle.cobs.specs.declared.dec.frame_decoder.PieceEnd.TheVariants.{Message, Broken, TooLong}
-use Rattle.cobs.specs.declared.dec.report.DecodeError.{DecodeError}
-use Rattle.cobs.specs.declared.dec.report.DecodeError.TheVariants.{EmptyFrame, InvalidFrame, TargetBufTooSmall}
+use Rattle.cobs.specs.declared.dec.error.DecodeError.{DecodeError}
+use Rattle.cobs.specs.declared.dec.error.DecodeError.TheVariants.{EmptyFrame, InvalidFrame, TargetBufTooSmall}
 use Rattle.cobs_c.specs.declared.answer.Answer.{Answer}
 use Rattle.cobs_c.specs.declared.answer.TheConstants.{OK, TOO_SMALL, BROKEN, EMPTY}
 

@@ -1,8 +1,8 @@
 -- Where the coders stand whose state is C's.
 use Rattle.std.specs.Prelude.{ℕ, ◌+◌, ◌==◌, not, min, if◌then◌else◌}
-use Rattle.cobs.specs.Buffers.{phase_with}
-use Rattle.cobs.specs.Decoder.{Phase, Idle, Within, Over}
-use Rattle.cobs.specs.Encoder.{Reached}
+use Rattle.cobs.specs.Fields.Decoders.{phase_with}
+use Rattle.cobs.specs.Feed.{Phase, Idle, Within, Over}
+use Rattle.cobs.specs.OpenBlock.{Reached}
 use Rattle.cobs_c.specs.declared.stream.Decoder.{Decoder}
 use Rattle.cobs_c.specs.declared.stream.Encoder.{Encoder}
 

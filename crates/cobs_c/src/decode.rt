@@ -1,8 +1,8 @@
 //! Whole frames to messages.
 ghost use Rattle.std.specs.Prelude.{◌≡◌, ◌≢◌, ◌≤◌, ◌<◌, ◌↔◌, ℕ, List, length, take, slice_index, IfSome, Some, None};
 ghost use Rattle.std.specs.List.{All};
-ghost use Rattle.cobs.specs.Buffer.{overwritten};
-ghost use Rattle.cobs.specs.Decoding.{consumed, first_output, in_place, in_place_answer, leading_zeros, sized, source_answer};
+ghost use Rattle.cobs.specs.Overwritten.{overwritten};
+ghost use Rattle.cobs.specs.Decode.{len_through_piece, first_output, in_place, in_place_answer, leading_zeros, sized, source_answer};
 ghost use Rattle.cobs.specs.Grammar.{IsCanonical, IsFrame};
 ghost use Rattle.cobs.specs.Piece.{kept_output};
 ghost use Rattle.cobs.specs.Sentinel.{xor_each};
@@ -19,7 +19,7 @@ pub const NOT_A_FRAME: u32 = 0;
 /// The bytes are the frame that encoders write for its message.
 pub const CANONICAL: u32 = 1;
 
-/// The bytes are that frame with a 1 behind it.
+/// The bytes are that frame with a 1 after it.
 pub const LONGER: u32 = 2;
 
 /// Where the first sentinel stands, or how many bytes there are where none does.
@@ -33,7 +33,7 @@ fn first_sentinel(bytes: &[u8], sentinel: u8) -> usize
 
 /// How many bytes stand up to the first sentinel, with that sentinel where there is one.
 fn head_end(bytes: &[u8], sentinel: u8) -> usize
-    ensures { result ≡ head_end (xor_each sentinel bytes.now) }
+    ensures end { result ≡ head_end (xor_each sentinel bytes.now) }
 {
     let end = first_sentinel(bytes, sentinel);
     if end < bytes.len() { end + 1 } else { end }
@@ -52,11 +52,13 @@ fn leading_zeros(source: &[u8]) -> usize
     source.len()
 }
 
-/// How many bytes of the source stand up to the end of its first piece, with the zero behind it where there is one, or
+/// How many bytes of the source stand up to the end of its first piece, with the zero after it where there is one, or
 /// `None` where it has no piece.
 fn first_piece_end(source: &[u8]) -> Option<usize>
     ensures none { result ≡ None → first_piece source.now ≡ None }
-    ensures some { IfSome result (λ end. (p : List ℕ) × (first_piece source.now ≡ Some p) × (end ≡ consumed source.now p)) }
+    ensures some { IfSome result
+        (λ end. (p : List ℕ) × (first_piece source.now ≡ Some p)
+        × (end ≡ len_through_piece source.now p)) }
 {
     let start = leading_zeros(source);
     let rest = &source[start..];
@@ -74,7 +76,8 @@ pub extern "C" fn jcobs_decode(source: &[u8], message: &mut [u8]) -> Answer
     ensures none { first_piece source.now ≡ None
         → result ≡ record { status = EMPTY; consumed = length source.now; length = 0 } }
     ensures some { (p : List ℕ) → first_piece source.now ≡ Some p
-        → result ≡ answer_by (consumed source.now p) (length message.old) (sized (outcome_of p (length message.old))) }
+        → result ≡ answer_by (len_through_piece source.now p) (length message.old)
+        (sized (outcome_of p (length message.old))) }
     ensures buffer { message.new ≡ overwritten message.old (first_output source.now) }
 {
     let room = message.len();
@@ -99,8 +102,10 @@ pub extern "C" fn jcobs_decode_with_sentinel(
     sentinel: u8,
 ) -> Answer
     ensures answer { let s = xor_each sentinel source.now in
-        result ≡ answer_by (head_end s) (length message.old) (source_answer s (length message.old)) }
-    ensures buffer { message.new ≡ overwritten message.old (kept_output (head (xor_each sentinel source.now))) }
+        result ≡ answer_by (head_end s) (length message.old)
+        (source_answer s (length message.old)) }
+    ensures buffer { message.new
+        ≡ overwritten message.old (kept_output (head (xor_each sentinel source.now))) }
 {
     let room = message.len();
     let consumed = head_end(source, sentinel);
@@ -114,7 +119,8 @@ pub extern "C" fn jcobs_decode_with_sentinel(
 /// The frame at the front of the buffer, decoded in its own place.
 #[unsafe(no_mangle)]
 pub extern "C" fn jcobs_decode_in_place(buffer: &mut [u8]) -> Answer
-    ensures answer { result ≡ answer_by (head_end buffer.old) (length buffer.old) (in_place_answer buffer.old) }
+    ensures answer { result
+        ≡ answer_by (head_end buffer.old) (length buffer.old) (in_place_answer buffer.old) }
     ensures buffer { buffer.new ≡ in_place buffer.old }
 {
     let room = buffer.len();

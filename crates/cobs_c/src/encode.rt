@@ -23,7 +23,11 @@ pub extern "C" fn jcobs_max_length(message_len: usize) -> usize
 #[unsafe(no_mangle)]
 pub extern "C" fn jcobs_encode(message: &[u8], frame: &mut [u8]) -> Answer
     ensures fits { encoded_len message.now ≤ length frame.old
-        → result ≡ record { status = OK; consumed = length message.now; length = encoded_len message.now } }
+        → result ≡ record {
+          status = OK;
+          consumed = length message.now;
+          length = encoded_len message.now;
+        } }
     ensures frame { encoded_len message.now ≤ length frame.old
         → IsEncodedFrame (take result.length frame.new) message.now }
     ensures too_small { length frame.old < encoded_len message.now
@@ -49,7 +53,11 @@ pub extern "C" fn jcobs_encode_with_sentinel(
     sentinel: u8,
 ) -> Answer
     ensures fits { encoded_len message.now ≤ length frame.old
-        → result ≡ record { status = OK; consumed = length message.now; length = encoded_len message.now } }
+        → result ≡ record {
+          status = OK;
+          consumed = length message.now;
+          length = encoded_len message.now;
+        } }
     ensures frame { encoded_len message.now ≤ length frame.old
         → IsEncodedFrameFor sentinel (take result.length frame.new) message.now }
     ensures too_small { length frame.old < encoded_len message.now
@@ -66,12 +74,16 @@ pub extern "C" fn jcobs_encode_with_sentinel(
     }
 }
 
-/// The frame of the message and a zero behind it at the front of the buffer `frame`, where both fit. Else nothing is
+/// The frame of the message and a zero after it at the front of the buffer `frame`, where both fit. Else nothing is
 /// written.
 #[unsafe(no_mangle)]
 pub extern "C" fn jcobs_encode_terminated(message: &[u8], frame: &mut [u8]) -> Answer
     ensures fits { encoded_len message.now < length frame.old
-        → result ≡ record { status = OK; consumed = length message.now; length = encoded_len message.now + 1 } }
+        → result ≡ record {
+          status = OK;
+          consumed = length message.now;
+          length = encoded_len message.now + 1;
+        } }
     ensures frame { encoded_len message.now < length frame.old
         → IsTerminatedFrame 0 (take result.length frame.new) message.now }
     ensures too_small { length frame.old ≤ encoded_len message.now
@@ -95,7 +107,7 @@ pub extern "C" fn jcobs_encode_terminated(message: &[u8], frame: &mut [u8]) -> A
     }
 }
 
-/// The frame of the message for this sentinel and the sentinel behind it at the front of the buffer `frame`, where both
+/// The frame of the message for this sentinel and the sentinel after it at the front of the buffer `frame`, where both
 /// fit. Else nothing is written.
 #[unsafe(no_mangle)]
 pub extern "C" fn jcobs_encode_terminated_with_sentinel(
@@ -104,7 +116,11 @@ pub extern "C" fn jcobs_encode_terminated_with_sentinel(
     sentinel: u8,
 ) -> Answer
     ensures fits { encoded_len message.now < length frame.old
-        → result ≡ record { status = OK; consumed = length message.now; length = encoded_len message.now + 1 } }
+        → result ≡ record {
+          status = OK;
+          consumed = length message.now;
+          length = encoded_len message.now + 1;
+        } }
     ensures frame { encoded_len message.now < length frame.old
         → IsTerminatedFrame sentinel (take result.length frame.new) message.now }
     ensures too_small { length frame.old ≤ encoded_len message.now

@@ -1,12 +1,12 @@
 //! Streams of frames to messages, and messages in pieces to frames: coders whose state and buffer are C's.
 ghost use Rattle.std.specs.Prelude.{◌≡◌, ◌≢◌, ◌≤◌, ◌<◌, ◌^◌, ◌↔◌, ◌++◌, [], ℕ, List, length, take, drop, false};
-ghost use Rattle.cobs.specs.Buffers.{phase_at};
-ghost use Rattle.cobs.specs.Decoder.{DecoderAfter, Idle};
-ghost use Rattle.cobs.specs.Encoder.{CobsEncoderAfter, end_of};
+ghost use Rattle.cobs.specs.Fields.Decoders.{phase_at};
+ghost use Rattle.cobs.specs.Feed.{DecoderAfter, Idle};
+ghost use Rattle.cobs.specs.OpenBlock.{CobsEncoderAfter, end_of};
 ghost use Rattle.cobs.specs.Grammar.{IsEncodedFrame};
 ghost use Rattle.cobs.specs.Length.{encoded_len};
-ghost use Rattle.cobs.specs.Streaming.{TakesPiece};
-ghost use Rattle.cobs.specs.UnbufferedEncoder.{reached_at};
+ghost use Rattle.cobs.specs.FeedPiece.{TakesPiece};
+ghost use Rattle.cobs.specs.Fields.Encoders.{reached_at};
 ghost use Rattle.cobs_c.specs.Answer.{told};
 ghost use Rattle.cobs_c.specs.State.{held, phase_in, reached_in};
 
@@ -109,8 +109,11 @@ pub extern "C" fn jcobs_decoder_push(
 ) -> Answer
     ensures takes { TakesPiece buffer.old (phase_in decoder.old) bytes.now (told result)
         buffer.new (phase_in decoder.new) }
-    ensures more { result.status ≡ MORE → result ≡
-        record { status = MORE; consumed = length bytes.now; length = held (length buffer.old) (phase_in decoder.new) } }
+    ensures more { result.status ≡ MORE → result ≡ record {
+      status = MORE;
+      consumed = length bytes.now;
+      length = held (length buffer.old) (phase_in decoder.new);
+    } }
     ensures too_small { result.status ≡ TOO_SMALL → result.length ≡ length buffer.old }
     ensures status { result.status ≤ BROKEN }
     ensures consumed { result.consumed ≤ length bytes.now }
@@ -197,8 +200,10 @@ fn end_of(progress: EncoderProgress) -> usize
 /// Makes the encoder one that has taken nothing, whatever stood in it.
 #[unsafe(no_mangle)]
 pub extern "C" fn jcobs_encoder_reset(encoder: &mut Encoder)
-    ensures start { reached_in encoder.new ≡ record { block = record { index = 0; code = 1 }; full = false } }
-    ensures taken { (buffer : List ℕ) → 0 < length buffer → CobsEncoderAfter buffer (reached_in encoder.new) [] }
+    ensures start { reached_in encoder.new
+        ≡ record { block = record { index = 0; code = 1 }; full = false } }
+    ensures taken { (buffer : List ℕ) → 0 < length buffer
+        → CobsEncoderAfter buffer (reached_in encoder.new) [] }
 {
     *encoder = Encoder::at(UnbufferedEncoder::new().progress());
 }
@@ -213,11 +218,17 @@ pub extern "C" fn jcobs_encoder_push(
 ) -> Answer
     ensures fits { (m : List ℕ) → CobsEncoderAfter buffer.old (reached_in encoder.old) m
         → ((result.status ≡ OK) ↔ (encoded_len (m ++ bytes.now) ≤ length buffer.old)) }
-    ensures taken { result.status ≡ OK → (m : List ℕ) → CobsEncoderAfter buffer.old (reached_in encoder.old) m
+    ensures taken { result.status ≡ OK → (m : List ℕ)
+        → CobsEncoderAfter buffer.old (reached_in encoder.old) m
         → CobsEncoderAfter buffer.new (reached_in encoder.new) (m ++ bytes.now) }
     ensures answer { result.status ≡ OK → result
-        ≡ record { status = OK; consumed = length bytes.now; length = end_of (reached_in encoder.new) } }
-    ensures too_small { result.status ≢ OK → result ≡ record { status = TOO_SMALL; consumed = 0; length = 0 } }
+        ≡ record {
+          status = OK;
+          consumed = length bytes.now;
+          length = end_of (reached_in encoder.new);
+        } }
+    ensures too_small { result.status ≢ OK → result
+        ≡ record { status = TOO_SMALL; consumed = 0; length = 0 } }
     ensures refused { result.status ≢ OK → encoder.new ≡ encoder.old }
     ensures rest { drop result.length buffer.new ≡ drop result.length buffer.old }
     ensures bound { result.length ≤ length buffer.old }
@@ -242,11 +253,13 @@ pub extern "C" fn jcobs_encoder_push(
 pub extern "C" fn jcobs_encoder_finish(encoder: &mut Encoder, buffer: &mut [u8]) -> Answer
     ensures fits { (m : List ℕ) → CobsEncoderAfter buffer.old (reached_in encoder.old) m
         → result ≡ record { status = OK; consumed = 0; length = encoded_len m } }
-    ensures frame { result.status ≡ OK → (m : List ℕ) → CobsEncoderAfter buffer.old (reached_in encoder.old) m
+    ensures frame { result.status ≡ OK → (m : List ℕ)
+        → CobsEncoderAfter buffer.old (reached_in encoder.old) m
         → IsEncodedFrame (take result.length buffer.new) m }
     ensures start { result.status ≡ OK
         → reached_in encoder.new ≡ record { block = record { index = 0; code = 1 }; full = false } }
-    ensures too_small { result.status ≢ OK → result ≡ record { status = TOO_SMALL; consumed = 0; length = 0 } }
+    ensures too_small { result.status ≢ OK → result
+        ≡ record { status = TOO_SMALL; consumed = 0; length = 0 } }
     ensures refused { result.status ≢ OK → encoder.new ≡ encoder.old }
     ensures rest { drop result.length buffer.new ≡ drop result.length buffer.old }
     ensures bound { result.length ≤ length buffer.old }

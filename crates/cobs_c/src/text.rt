@@ -1,6 +1,6 @@
 //! What a status means in words, and the library's version.
 ghost use Rattle.std.specs.Prelude.{◌≡◌, ◌-◌, ◌∷◌, ◌++◌, [], length, take};
-ghost use Rattle.cobs.specs.Buffer.{overwritten};
+ghost use Rattle.cobs.specs.Overwritten.{overwritten};
 ghost use Rattle.cobs_c.specs.Text.{words};
 
 use crate::answer::{BROKEN, EMPTY, MORE, OK, TOO_SMALL};
@@ -22,12 +22,13 @@ fn words(status: u32) -> &'static str
     }
 }
 
-/// What a status means, written to the front of `text` as far as it fits, with a zero behind. The answer is the length of
+/// What a status means, written to the front of `text` as far as it fits, with a zero after it. The answer is the length of
 /// all the words.
 #[unsafe(no_mangle)]
 pub extern "C" fn jcobs_strerror(status: u32, text: &mut [u8]) -> usize
     ensures len { result ≡ length (words status) }
-    ensures text { text.new ≡ overwritten text.old (take (length text.old - 1) (words status) ++ 0 ∷ []) }
+    ensures text { text.new
+        ≡ overwritten text.old (take (length text.old - 1) (words status) ++ 0 ∷ []) }
 {
     let words = words(status).as_bytes();
     if text.is_empty() {

@@ -5,7 +5,8 @@ ghost use Rattle.cobs_conformance.specs.Agree.{Agrees, IsRefusal};
 
 /// Whether the words agree in turn, and there are as many.
 pub fn agree(wanted: &[&str], came: &[String]) -> bool
-    ensures { IsTrue result ↔ AllZip (λ one other. Agrees one.now (string_bytes other)) wanted.now came.now }
+    ensures same { IsTrue result
+        ↔ AllZip (λ one other. Agrees one.now (string_bytes other)) wanted.now came.now }
 {
     match wanted {
         [] => came.is_empty(),
@@ -18,13 +19,13 @@ pub fn agree(wanted: &[&str], came: &[String]) -> bool
 
 /// Whether a word is what is wanted: the same one, any where `?` is wanted, any refusal where `refused` is.
 fn agrees(wanted: &str, came: &str) -> bool
-    ensures { IsTrue result ↔ Agrees wanted.now came.now }
+    ensures agrees { IsTrue result ↔ Agrees wanted.now came.now }
 {
     wanted == "?" || wanted == came || wanted == "refused" && is_refusal(came)
 }
 
 fn is_refusal(word: &str) -> bool
-    ensures { IsTrue result ↔ IsRefusal word.now }
+    ensures refusal { IsTrue result ↔ IsRefusal word.now }
 {
     match word {
         "empty" | "invalid" | "too_small" | "broken" | "too_long" => true,

@@ -3,7 +3,7 @@ use crate::arguments::NONE;
 use cobs::{DecodeError, DecodeReport, DestBufTooSmallError, FrameOutcome};
 use std::alloc::{AllocError, Global};
 
-/// The words behind the `->` of a case, as a call gave them.
+/// The words after the `->` of a case, as a call gave them.
 #[derive(Debug, Drop)]
 pub struct Answer {
     alloc: Global,
@@ -17,7 +17,7 @@ impl Answer {
 
     /// No word yet.
     pub fn new(alloc: Global) -> Answer
-        ensures { words_of result ≡ [] }
+        ensures none { words_of result ≡ [] }
     {
         Answer {
             alloc,
@@ -27,7 +27,7 @@ impl Answer {
 
     /// The words so far.
     pub fn words(&self) -> &[String]
-        ensures { map string_bytes result.now ≡ words_of self.now }
+        ensures words { map string_bytes result.now ≡ words_of self.now }
     {
         self.words.as_slice()
     }
@@ -46,14 +46,14 @@ impl Answer {
 
     /// Adds the words of another answer.
     pub fn append(&mut self, mut other: Answer) -> Result<(), AllocError>
-        ensures { OnOk result (words_of self.new ≡ words_of self.old ++ words_of other) }
+        ensures words { OnOk result (words_of self.new ≡ words_of self.old ++ words_of other) }
     {
         self.words.append(&mut other.words)
     }
 
     /// Adds the words of another answer where they aren't the same.
     pub fn append_other(&mut self, other: Answer) -> Result<(), AllocError>
-        ensures { OnOk result ((words_of self.new ≡ words_of self.old)
+        ensures words { OnOk result ((words_of self.new ≡ words_of self.old)
             ⊎ (words_of self.new ≡ words_of self.old ++ words_of other)) }
     {
         if self.words == other.words {
@@ -64,7 +64,7 @@ impl Answer {
 
     /// Adds a word.
     pub fn say(&mut self, word: &str) -> Result<(), AllocError>
-        ensures { OnOk result (words_of self.new ≡ words_of self.old ++ word.now ∷ []) }
+        ensures words { OnOk result (words_of self.new ≡ words_of self.old ++ word.now ∷ []) }
     {
         let word = String::from_str(self.alloc, word)?;
         self.words.push(word)?;
@@ -73,7 +73,7 @@ impl Answer {
 
     /// Adds a decimal number.
     pub fn say_number(&mut self, number: usize) -> Result<(), AllocError>
-        ensures { OnOk result (words_of self.new ≡ words_of self.old ++ decimal number ∷ []) }
+        ensures words { OnOk result (words_of self.new ≡ words_of self.old ++ decimal number ∷ []) }
     {
         let word = number.to_string(self.alloc)?;
         self.words.push(word)?;
@@ -82,7 +82,7 @@ impl Answer {
 
     /// Adds hexadecimal digits, or `-` where there is no byte.
     pub fn say_bytes(&mut self, bytes: &[u8]) -> Result<(), AllocError>
-        ensures { OnOk result (words_of self.new ≡ words_of self.old ++ bytes_word bytes.now ∷ []) }
+        ensures words { OnOk result (words_of self.new ≡ words_of self.old ++ bytes_word bytes.now ∷ []) }
     {
         if bytes.is_empty() {
             return self.say(NONE);

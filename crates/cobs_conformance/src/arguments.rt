@@ -18,7 +18,8 @@ pub const NONE: &str = "-";
 /// `Malformed` for anything else, and for more than [`MAX_BYTES`] bytes. `OutOfMemory` where memory was refused.
 pub fn bytes_of(alloc: Global, word: &str) -> Result<Vec<u8>, CaseFault>
     ensures none { word.now ≡ codes "-" → IfOk result (λ bytes. bytes.items ≡ []) }
-    ensures digits { word.now ≢ codes "-" → IfOk result (λ bytes. decode_of word.now ≡ Ok bytes.items) }
+    ensures digits { word.now ≢ codes "-"
+        → IfOk result (λ bytes. decode_of word.now ≡ Ok bytes.items) }
     ensures limit { IfOk result (λ bytes. length bytes.items ≤ MAX_BYTES) }
 {
     if word == NONE {

@@ -31,7 +31,7 @@ struct Case<'a> {
 
 /// Makes the call of a line, and holds its answer against the line's.
 pub fn verdict_of(alloc: Global, line: &str) -> Result<Verdict, AllocError>
-    ensures { (result ≡ Ok Verdict.NoCase) ↔ IsNoCase line.now }
+    ensures no_case { (result ≡ Ok Verdict.NoCase) ↔ IsNoCase line.now }
 {
     if line.is_empty() || line.starts_with('#') {
         return Ok(Verdict::NoCase);

@@ -187,7 +187,7 @@ fn push_pieces(
     Ok(encoder.finalize())
 }
 
-/// A stream of frames, each with a zero behind it.
+/// A stream of frames, each with a zero after it.
 pub fn encode_frames(alloc: Global, arguments: &[&str]) -> Result<Answer, CaseFault> {
     let mut messages = Vec::new(alloc);
     for message in arguments {
@@ -207,7 +207,7 @@ fn said(alloc: Global, bytes: &[u8]) -> Result<Answer, CaseFault> {
     Ok(answer)
 }
 
-/// A length and the buffer behind the call.
+/// A length and the buffer after the call.
 fn said_in(alloc: Global, len: usize, buffer: &[u8]) -> Result<Answer, CaseFault> {
     let mut answer = Answer::new(alloc);
     answer.say_number(len)?;

@@ -5,7 +5,7 @@ use crate::fault::CaseFault;
 use cobs::{DecodeResult, DecoderState, EncoderState, PushResult};
 use std::alloc::Global;
 
-/// The encoding state machine behind a message: its answer to one more byte, where it then stands, and the frame that
+/// The encoding state machine after a message: its answer to one more byte, where it then stands, and the frame that
 /// a caller has who carries out each answer.
 pub fn encoder_state(alloc: Global, arguments: &[&str]) -> Result<Answer, CaseFault> {
     let [message, byte] = arguments else {

@@ -11,7 +11,7 @@ enum Reading {
     Gives(Vec<u8>),
 }
 
-/// The reads in turn; behind the last one each read gives 0 bytes.
+/// The reads in turn; after the last one each read gives 0 bytes.
 #[derive(Debug, Drop)]
 pub struct Reads {
     reads: Vec<Reading>,

@@ -68,8 +68,8 @@ pub fn decoder(alloc: Global, arguments: &[&str]) -> Result<Answer, CaseFault> {
     let buffer = bytes_of(alloc, buffer)?;
     let mut answer = owned(alloc, &buffer, pieces, &Feeding::Pushes)?;
     answer.append_other(owned(alloc, &buffer, pieces, &Feeding::Bytes)?)?;
-    answer.append_other(lent(alloc, &buffer, pieces, &Feeding::Pushes)?)?;
-    answer.append_other(lent(alloc, &buffer, pieces, &Feeding::Bytes)?)?;
+    answer.append_other(borrowed(alloc, &buffer, pieces, &Feeding::Pushes)?)?;
+    answer.append_other(borrowed(alloc, &buffer, pieces, &Feeding::Bytes)?)?;
     if buffer.len() == 4 {
         answer.append_other(heapless(alloc, &buffer, pieces, &Feeding::Pushes)?)?;
         answer.append_other(heapless(alloc, &buffer, pieces, &Feeding::Bytes)?)?;
@@ -88,7 +88,7 @@ fn owned(
     given(alloc, &mut decoder, pieces, feeding)
 }
 
-fn lent(
+fn borrowed(
     alloc: Global,
     buffer: &[u8],
     pieces: &[&str],
@@ -117,7 +117,7 @@ fn write_over(dest: &mut [u8], bytes: &[u8]) {
     }
 }
 
-/// Gives a decoder the pieces: its buffer behind them, and each answer but "nothing yet".
+/// Gives a decoder the pieces: its buffer after them, and each answer but "nothing yet".
 fn given<D: Streaming>(
     alloc: Global,
     decoder: &mut D,

@@ -37,15 +37,16 @@ impl Tally {
 
     /// Whether no case differs.
     pub fn agrees(&self) -> bool
-        ensures { IsTrue result ↔ (self.now.differing ≡ 0) }
+        ensures none_differ { IsTrue result ↔ (self.now.differing ≡ 0) }
     {
         self.differing == 0
     }
 
     /// The last line of what is printed, without the newline.
     pub fn last_line(&self, alloc: Global) -> Result<String, AllocError>
-        ensures { IfOk result (λ line. string_bytes line
-            ≡ decimal self.now.cases ++ codes " cases, " ++ decimal self.now.differing ++ codes " differ") }
+        ensures line { IfOk result (λ line. string_bytes line
+            ≡ decimal self.now.cases ++ codes " cases, " ++ decimal self.now.differing
+            ++ codes " differ") }
     {
         let cases = self.cases;
         let differing = self.differing;

@@ -6,7 +6,7 @@ use Rattle.std.proofs.lemmas.List.{drop_all}
 use Rattle.std.proofs.lemmas.List.Elements.{All-head, All-tail}
 use Rattle.std.specs.Option.{option_map}
 use Rattle.std.specs.Result.{result_ok, IfOk}
-use Rattle.cobs.specs.Reading.{Read, bytes_given, GaveBytes, all_given, Runs}
+use Rattle.cobs.specs.NextFrame.{Read, bytes_given, GaveBytes, all_given, Runs}
 use Rattle.cobs_lines.specs.Memory.{TakesChunk, bytes_left}
 use Rattle.cobs_lines.specs.declared.memory.InMemory.{InMemory}
 

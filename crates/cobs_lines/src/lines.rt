@@ -16,7 +16,7 @@ const AT_ONCE: usize = 256;
 /// # Errors
 /// The error of the write that failed. How much of the line went out is not known then.
 pub fn write_message<W: Write>(output: &mut W, message: &[u8]) -> io::Result<()>
-    ensures { OnOk result (Appends (W.contents output.old) (W.contents output.new)
+    ensures written { OnOk result (Appends (W.contents output.old) (W.contents output.new)
         (outcome_line (Message message.now))) }
 {
     let len = message.len();
@@ -30,7 +30,8 @@ pub fn write_message<W: Write>(output: &mut W, message: &[u8]) -> io::Result<()>
 
 /// Writes the bytes as lower-case hexadecimal digits.
 fn write_digits<W: Write>(output: &mut W, bytes: &[u8]) -> io::Result<()>
-    ensures { OnOk result (Appends (W.contents output.old) (W.contents output.new) (encode_lower bytes.now)) }
+    ensures { OnOk result
+        (Appends (W.contents output.old) (W.contents output.new) (encode_lower bytes.now)) }
 {
     let mut digits = [0; 2 * AT_ONCE];
     let mut at = 0;
@@ -51,7 +52,7 @@ fn write_digits<W: Write>(output: &mut W, bytes: &[u8]) -> io::Result<()>
 /// # Errors
 /// The error of the write that failed. How much of the line went out is not known then.
 pub fn write_broken<W: Write>(output: &mut W, count: usize) -> io::Result<()>
-    ensures { OnOk result (Appends (W.contents output.old) (W.contents output.new)
+    ensures written { OnOk result (Appends (W.contents output.old) (W.contents output.new)
         (outcome_line (Broken count))) }
 {
     writeln!(output, "broken {count}")
@@ -62,7 +63,7 @@ pub fn write_broken<W: Write>(output: &mut W, count: usize) -> io::Result<()>
 /// # Errors
 /// The error of the write that failed. How much of the line went out is not known then.
 pub fn write_too_long<W: Write>(output: &mut W) -> io::Result<()>
-    ensures { OnOk result (Appends (W.contents output.old) (W.contents output.new)
+    ensures written { OnOk result (Appends (W.contents output.old) (W.contents output.new)
         (outcome_line TooLong)) }
 {
     output.write_all(b"too long\n")

@@ -14,7 +14,7 @@ impl<'a> InMemory<'a> {
 
     /// A source of all these bytes.
     pub fn new(bytes: &'a [u8]) -> Self
-        ensures { bytes_left result ≡ bytes.now }
+        ensures bytes { bytes_left result ≡ bytes.now }
     {
         InMemory { left: bytes }
     }

@@ -3,7 +3,7 @@ use Rattle.std.proofs.Common.{◌≡◌, ◌+◌, ◌<◌, ◌≤◌, ℕ, Bool,
 use Rattle.std.proofs.lemmas.Fmt.{decimal_digit}
 use Rattle.std.specs.List.{flat_map}
 use Rattle.cobs.proofs.StreamLemmas.{stream_outcomes-append, unended-append, unended-zero}
-use Rattle.cobs.specs.Reading.{Read, Runs, EndsFirst, ReaderState, IsBehind, ReadsNext, AtPieceEnd, all_given}
+use Rattle.cobs.specs.NextFrame.{Read, Runs, EndsFirst, ReaderState, IsBehind, ReadsNext, AtPieceEnd, all_given}
 use Rattle.cobs.specs.Stream.{Outcome, Message, Broken, TooLong, is_nonempty, stream_outcomes, unended}
 use Rattle.cobs.specs.declared.framed.Next.TheVariants as nexts
 use Rattle.cobs.specs.declared.framed.ReadFault.{ReadFault}

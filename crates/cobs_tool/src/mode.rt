@@ -5,10 +5,10 @@ ghost use Rattle.cobs_tool.specs.Words.{texts};
 /// What the program does with its input.
 #[derive(Debug, PartialEq, Eq, Drop)]
 pub enum Mode {
-    /// Print a message's frame and the zero behind it in hexadecimal digits.
+    /// Print a message's frame and the zero after it in hexadecimal digits.
     Show,
 
-    /// Write a message's frame and the zero behind it.
+    /// Write a message's frame and the zero after it.
     Encode,
 
     /// Print what becomes of each piece of a stream.

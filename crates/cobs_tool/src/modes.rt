@@ -34,7 +34,7 @@ pub fn run_mode<R: Read, W: Write>(
     }
 }
 
-/// Prints the encoded frame of the input and the zero behind it, as two hexadecimal digits a byte.
+/// Prints the encoded frame of the input and the zero after it, as two hexadecimal digits a byte.
 ///
 /// The whole input is one message. It is read to its end first, and the whole line is made before any of it is written.
 /// So every fault but `WriteFailed` has written nothing. How much went out before a `WriteFailed`, and whether an
@@ -62,7 +62,7 @@ pub fn run_show<R: Read, W: Write>(
     write_output(output, line.as_bytes())
 }
 
-/// Writes the encoded frame of the input and a zero behind it.
+/// Writes the encoded frame of the input and a zero after it.
 ///
 /// The whole input is one message. It is read, and its faults are told, as [`run_show`] does it.
 pub fn run_encode<R: Read, W: Write>(
@@ -102,7 +102,7 @@ pub fn run_decode<R: Read, W: Write>(
     write_output(output, report.as_bytes())
 }
 
-/// The encoded frame of a message and a zero behind it, the sentinel that ends the frame in a stream.
+/// The encoded frame of a message and a zero after it, the sentinel that ends the frame in a stream.
 fn terminated_frame(alloc: Global, message: &[u8]) -> Result<Vec<u8>, AllocError>
     requires { length message.now ≤ MAX_INPUT }
     ensures { IfOk result (λ bytes. IsTerminatedFrame bytes.items message.now) }

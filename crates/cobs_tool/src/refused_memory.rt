@@ -1,4 +1,4 @@
-//! Want of memory in each mode.
+//! Out of memory in each mode.
 //!
 //! Each test here but the last passes whichever growth is refused: a mode writes its whole output, or answers want of
 //! memory and writes nothing. The last one passes only where no growth is refused. `tests/fail-alloc.sh` refuses the

@@ -13,14 +13,14 @@ use std::alloc::{AllocError, Global};
 pub const DECODE_BUFFER_LEN: usize = 65_536;
 
 /// One line for each piece of the stream that a zero ends, in order, and then the line `unfinished` where a piece has
-/// begun behind the last zero.
+/// begun after the last zero.
 ///
 /// - `message N HEX`: a message of N bytes, as lower-case hexadecimal digits; `message 0` for the empty message.
 /// - `broken N`: the piece breaks off inside a block, and decodes to N bytes.
 /// - `too long`: the piece decodes to more than [`DECODE_BUFFER_LEN`] bytes.
 pub fn report_of(alloc: Global, stream: &[u8]) -> Result<String, AllocError>
     requires { length stream.now ≤ MAX_INPUT }
-    ensures { IfOk result (λ text. string_bytes text ≡ report stream.now) }
+    ensures report { IfOk result (λ text. string_bytes text ≡ report stream.now) }
 {
     let decoder = CobsDecoderOwned::new(alloc, DECODE_BUFFER_LEN)?;
     let mut frames = FrameReader::new(decoder);

@@ -7,7 +7,7 @@ use std::alloc::{AllocError, Global};
 
 /// The line that the program prints on standard error for a fault, without the newline.
 pub fn fault_line(fault: &ToolFault) -> &'static str
-    ensures { result.now ≡ fault_text fault.now }
+    ensures text { result.now ≡ fault_text fault.now }
 {
     match fault {
         ToolFault::ReadFailed => "cobs_tool: read failed",
@@ -20,7 +20,7 @@ pub fn fault_line(fault: &ToolFault) -> &'static str
 /// The bytes on one line: two lower-case hexadecimal digits a byte, one space between two bytes, then a newline. The
 /// line is the newline alone where there is no byte.
 pub fn hex_line(alloc: Global, bytes: &[u8]) -> Result<String, AllocError>
-    ensures { IfOk result (λ line. string_bytes line ≡ hex_line bytes.now) }
+    ensures digits { IfOk result (λ line. string_bytes line ≡ hex_line bytes.now) }
 {
     let mut line = String::new(alloc);
     for (at, byte) in bytes.iter().enumerate() {
@@ -34,7 +34,7 @@ pub fn hex_line(alloc: Global, bytes: &[u8]) -> Result<String, AllocError>
 }
 
 fn push_hex(line: &mut String, byte: u8) -> Result<(), AllocError>
-    ensures { OnOk result (string_bytes line.new ≡ string_bytes line.old ++ hex_of byte) }
+    ensures digits { OnOk result (string_bytes line.new ≡ string_bytes line.old ++ hex_of byte) }
 {
     write!(line, "{byte:02x}")
 }

@@ -2,7 +2,7 @@
 use std::alloc::{AllocError, Global};
 use std::process::Abort;
 
-/// A list of bytes in a table: the parts of which it consists, one behind the other.
+/// A list of bytes in a table: the parts of which it consists, one after the other.
 pub type Parts = &'static [&'static [u8]];
 
 /// The bytes of a full block of ones.
@@ -48,7 +48,7 @@ pub const LONG_FRAME: Parts = &[
     &[1; 238],
 ];
 
-/// The lists one behind the other.
+/// The lists one after the other.
 pub fn joined(alloc: Global, lists: &[&[u8]]) -> Result<Vec<u8>, AllocError> {
     let mut whole = Vec::new(alloc);
     for list in lists {

@@ -2,20 +2,23 @@
 //!
 //! No test stands here: each function has a contract, and the prover derives it from the clauses of the calls that it
 //! makes. So a clause that said too little for its users would be noticed here.
-ghost use Rattle.std.specs.Prelude.{◌≡◌, ◌≢◌, ◌≤◌, ◌<◌, ◌+◌, ◌↔◌, All, length, take, slice_index, slice_set, List, ℕ, Ok, Some, option_to_list, IfOk, IfSome, IsSomeAnd, IsTrue};
-ghost use Rattle.cobs.specs.Buffer.{written_at};
-ghost use Rattle.cobs.specs.Buffers.{lent_buffer, lent_phase, lent_slice, owned_buffer, owned_phase};
-ghost use Rattle.cobs.specs.Decoder.{state_in, Over, PhaseAfter};
+ghost use Rattle.std.specs.Prelude.{◌≡◌, ◌≢◌, ◌≤◌, ◌<◌, ◌+◌, ◌^◌, ◌↔◌, ◌∷◌, ◌++◌, [], All, length, take, slice_index, slice_set, List, ℕ, Ok, Some, option_to_list, IfOk, IfSome, IsSomeAnd, IsTrue};
+ghost use Rattle.cobs.specs.Overwritten.{written_at};
+ghost use Rattle.cobs.specs.Fields.Decoders.{borrowed_buffer, borrowed_phase, borrowed_slice, heapless_buffer, heapless_phase, owned_buffer, owned_phase};
+ghost use Rattle.cobs.specs.Feed.{state_in, Idle, Over, PhaseAfter};
 ghost use Rattle.cobs.specs.Grammar.{HasNoZero, IsEncodedFrame, Reads};
 ghost use Rattle.cobs.specs.Headline.{IsPiece};
 ghost use Rattle.cobs.specs.Length.{encoded_len, max_encoded_len};
-ghost use Rattle.cobs.specs.Streaming.{AreFrames, messages_in};
+ghost use Rattle.cobs.specs.Sentinel.{IsFreeOf, xor_each};
+ghost use Rattle.cobs.specs.Messages.{AreFrames, messages_in};
 ghost use Rattle.cobs.specs.Table.{data_of};
 
 use cobs::laws::{law_2, law_4};
 use cobs::{
     CobsDecoder, CobsDecoderHeapless, CobsDecoderOwned, DecodeError, DecodeResult, DecoderState,
-    WriteBuffer, decode, encode_frames, encode_frames_room, encode_with_sentinel,
+    DestBufTooSmallError, WriteBuffer, decode, decode_with_sentinel, encode_frames,
+    encode_frames_room, encode_including_sentinels, encode_vec, encode_vec_including_sentinels,
+    encode_vec_with_sentinel, encode_with_sentinel, try_encode_including_sentinels,
 };
 use std::alloc::{AllocError, Global};
 
@@ -30,6 +33,18 @@ pub fn reads_as(piece: &[u8], message: &[u8], buffer: &mut [u8]) -> bool
     }
 }
 
+/// Whether the piece, for another sentinel than 0, reads as the message, and the message fits the buffer.
+pub fn reads_for(sentinel: u8, piece: &[u8], message: &[u8], buffer: &mut [u8]) -> bool
+    requires { IsPiece (xor_each sentinel piece.now) }
+    ensures { IsTrue result ↔ (Reads (xor_each sentinel piece.now) message.now
+        × (length message.now ≤ length buffer.old)) }
+{
+    match decode_with_sentinel(piece, buffer, sentinel) {
+        Ok(len) => len == message.len() && buffer.starts_with(message),
+        Err(_) => false,
+    }
+}
+
 /// Writes the frame of the message for the sentinel, and the sentinel behind it, and answers where that stands: it is
 /// the first one in the buffer.
 pub fn write_ended(message: &[u8], dest: &mut [u8], sentinel: u8) -> usize
@@ -40,6 +55,58 @@ pub fn write_ended(message: &[u8], dest: &mut [u8], sentinel: u8) -> usize
     let len = encode_with_sentinel(message, dest, sentinel);
     dest[len] = sentinel;
     len
+}
+
+/// Writes the frame of the message between two zeros, and gives what stands between them: there is no other.
+pub fn write_between<'a>(message: &[u8], dest: &'a mut [u8]) -> &'a [u8]
+    requires { encoded_len message.now + 2 ≤ length dest.old }
+    ensures { HasNoZero result.now }
+{
+    let len = encode_including_sentinels(message, dest);
+    let written = &dest[..len];
+    &written[1..len - 1]
+}
+
+/// The same, where it fits.
+pub fn try_write_between<'a>(
+    message: &[u8],
+    dest: &'a mut [u8],
+) -> Result<&'a [u8], DestBufTooSmallError>
+    ensures { IfOk result (λ between. HasNoZero between.now) }
+{
+    let len = try_encode_including_sentinels(message, dest)?;
+    let written = &dest[..len];
+    Ok(&written[1..len - 1])
+}
+
+/// What stands between the two zeros of a vector: there is no other.
+pub fn frame_between(alloc: Global, message: &[u8]) -> Result<Vec<u8>, AllocError>
+    requires { max_encoded_len (length message.now) + 2 < 2 ^ 64 }
+    ensures { IfOk result (λ frame. HasNoZero frame.items) }
+{
+    let delimited = encode_vec_including_sentinels(alloc, message)?;
+    Vec::from_slice(alloc, &delimited[1..delimited.len() - 1])
+}
+
+/// The frame of the message and a zero behind it, which is the only one.
+pub fn ended_frame(alloc: Global, message: &[u8]) -> Result<Vec<u8>, AllocError>
+    requires { max_encoded_len (length message.now) < 2 ^ 64 }
+    ensures { IfOk result (λ ended. (f : List ℕ) × HasNoZero f × (ended.items ≡ f ++ 0 ∷ [])) }
+{
+    let mut frame = encode_vec(alloc, message)?;
+    frame.push(0)?;
+    Ok(frame)
+}
+
+/// The frame of the message for the sentinel, and the sentinel behind it, which stands nowhere else.
+pub fn ended_frame_for(alloc: Global, sentinel: u8, message: &[u8]) -> Result<Vec<u8>, AllocError>
+    requires { max_encoded_len (length message.now) < 2 ^ 64 }
+    ensures { IfOk result (λ ended. (f : List ℕ) × IsFreeOf sentinel f
+        × (ended.items ≡ f ++ sentinel ∷ [])) }
+{
+    let mut frame = encode_vec_with_sentinel(alloc, message, sentinel)?;
+    frame.push(sentinel)?;
+    Ok(frame)
 }
 
 /// The frames of the messages, or `None` where they are too many for a vector.
@@ -61,11 +128,72 @@ pub fn push_zero(decoder: &mut CobsDecoderOwned)
 
 /// Pushes no bytes, which changes nothing in any phase.
 pub fn push_nothing(decoder: &mut CobsDecoder<'_>)
-    ensures same_bytes { lent_buffer decoder.new ≡ lent_buffer decoder.old }
-    ensures same_phase { lent_phase decoder.new ≡ lent_phase decoder.old }
-    ensures same_slice { lent_slice decoder.new ≡ lent_slice decoder.old }
+    ensures same_bytes { borrowed_buffer decoder.new ≡ borrowed_buffer decoder.old }
+    ensures same_phase { borrowed_phase decoder.new ≡ borrowed_phase decoder.old }
+    ensures same_slice { borrowed_slice decoder.new ≡ borrowed_slice decoder.old }
 {
     let _answer = decoder.push(&[]);
+}
+
+/// Whether a push of the piece and its zero reads the message: it does where the message fits the slice.
+pub fn push_reads(decoder: &mut CobsDecoder<'_>, ended: &[u8], piece: &[u8], message: &[u8]) -> bool
+    requires idle { borrowed_phase decoder.old ≡ Idle }
+    requires piece { IsPiece piece.now }
+    requires ended { ended.now ≡ piece.now ++ 0 ∷ [] }
+    ensures { IsTrue result ↔ (Reads piece.now message.now
+        × (length message.now ≤ length (borrowed_buffer decoder.old))) }
+{
+    match decoder.push(ended) {
+        Ok(Some(report)) => {
+            report.frame_size() == message.len() && decoder.dest().starts_with(message)
+        }
+        Ok(None) => false,
+        Err(_) => false,
+    }
+}
+
+/// The same with a buffer of the decoder's own.
+pub fn push_reads_owned(
+    decoder: &mut CobsDecoderOwned,
+    ended: &[u8],
+    piece: &[u8],
+    message: &[u8],
+) -> bool
+    requires idle { owned_phase decoder.old ≡ Idle }
+    requires piece { IsPiece piece.now }
+    requires ended { ended.now ≡ piece.now ++ 0 ∷ [] }
+    ensures { IsTrue result ↔ (Reads piece.now message.now
+        × (length message.now ≤ length (owned_buffer decoder.old))) }
+{
+    match decoder.push(ended) {
+        Ok(Some(report)) => {
+            report.frame_size() == message.len() && decoder.dest().starts_with(message)
+        }
+        Ok(None) => false,
+        Err(_) => false,
+    }
+}
+
+/// The same with a buffer that lies in the decoder.
+pub fn push_reads_heapless<const N: usize>(
+    decoder: &mut CobsDecoderHeapless<N>,
+    ended: &[u8],
+    piece: &[u8],
+    message: &[u8],
+) -> bool
+    requires idle { heapless_phase decoder.old ≡ Idle }
+    requires piece { IsPiece piece.now }
+    requires ended { ended.now ≡ piece.now ++ 0 ∷ [] }
+    ensures { IsTrue result ↔ (Reads piece.now message.now
+        × (length message.now ≤ length (heapless_buffer decoder.old))) }
+{
+    match decoder.push(ended) {
+        Ok(Some(report)) => {
+            report.frame_size() == message.len() && decoder.dest().starts_with(message)
+        }
+        Ok(None) => false,
+        Err(_) => false,
+    }
 }
 
 /// The byte of the message that an answer gives.
@@ -125,12 +253,12 @@ pub fn write_first<D: WriteBuffer>(decoder: &mut D, byte: u8)
     decoder.dest_mut()[0] = byte;
 }
 
-/// Writes to the slice that was lent to a decoder, inside a piece: the piece that it has taken is the same.
-pub fn write_lent(decoder: &mut CobsDecoder<'_>, at: usize, source: &[u8])
-    requires { at + length source.now ≤ length (lent_buffer decoder.old) }
-    ensures bytes { lent_buffer decoder.new ≡ written_at (lent_buffer decoder.old) at source.now }
-    ensures phase { (n : ℕ) (p : List ℕ) → PhaseAfter n (lent_phase decoder.old) p → PhaseAfter n (lent_phase decoder.new) p }
-    ensures same_slice { lent_slice decoder.new ≡ lent_slice decoder.old }
+/// Writes to the slice that a decoder borrows, inside a piece: the piece that it has taken is the same.
+pub fn write_borrowed(decoder: &mut CobsDecoder<'_>, at: usize, source: &[u8])
+    requires { at + length source.now ≤ length (borrowed_buffer decoder.old) }
+    ensures bytes { borrowed_buffer decoder.new ≡ written_at (borrowed_buffer decoder.old) at source.now }
+    ensures phase { (n : ℕ) (p : List ℕ) → PhaseAfter n (borrowed_phase decoder.old) p → PhaseAfter n (borrowed_phase decoder.new) p }
+    ensures same_slice { borrowed_slice decoder.new ≡ borrowed_slice decoder.old }
 {
     decoder.write_dest(at, source);
 }

@@ -206,7 +206,7 @@ const IN_PLACE: [DecoderRow; 14] = [
     ),
     DecoderRow(InPlaceReport, &[], &[], EmptyFrame, &[]),
     DecoderRow(InPlace, &[], &[], EmptyFrame, &[]),
-    // for another sentinel every byte changes, also behind the sentinel
+    // for another sentinel every byte changes, also after the sentinel
     DecoderRow(
         InPlaceWithSentinel(10),
         &[],

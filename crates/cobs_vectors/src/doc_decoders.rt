@@ -5,8 +5,8 @@
 use arrayvec::ArrayVec;
 use cobs::{
     CobsDecoder, CobsDecoderHeapless, CobsDecoderOwned, DecodeError, DecodeResult, DecoderPhase,
-    DecoderState, FrameDecoder, FrameKind, PieceEnd, PushError, UnbufferedDecoder, WriteBuffer,
-    decode, decode_in_place, decode_in_place_report, decode_in_place_with_sentinel,
+    DecoderState, DecodingResult, FrameDecoder, FrameKind, PieceEnd, PushError, UnbufferedDecoder,
+    WriteBuffer, decode, decode_in_place, decode_in_place_report, decode_in_place_with_sentinel,
     decode_with_sentinel, frame_kind,
 };
 use std::test::Fail;
@@ -557,4 +557,25 @@ fn the_decoder_without_a_buffer_also(rt: HostRuntime) {
         assert_eq!(rt; decoder.push(&mut buffer, &[4, 7, 8, 9, 0]), Err(refused));
         assert_eq!(rt; buffer, [7, 8]);
     }
+}
+
+#[test]
+fn starts_of_decoders(rt: HostRuntime) -> Result<(), Fail> {
+    // DecoderState::default
+    {
+        assert!(rt; matches!(DecoderState::default(), DecoderState::Idle));
+    }
+
+    // CobsDecoderHeapless::default
+    {
+        let decoder = CobsDecoderHeapless::<2>::default();
+        assert_eq!(rt; decoder.dest(), [0, 0].as_slice());
+    }
+
+    // DecodingResult
+    {
+        let report: DecodingResult = decode(&[2, 7, 0], &mut [0; 4])?;
+        assert_eq!(rt; report.parsed_size(), 3);
+    }
+    Ok(())
 }

@@ -4,9 +4,9 @@
 
 use cobs::{
     CobsDecoder, CobsDecoderHeapless, CobsEncoder, DecodeError, DecodeVecError,
-    DestBufTooSmallError, EncoderProgress, EncoderState, FrameOutcome, FrameReader, FrameSource,
-    Next, PushResult, Recorded, UnbufferedEncoder, decode, decode_stream, decode_vec,
-    decode_vec_with_sentinel, encode, encode_frames, encode_frames_room,
+    DestBufTooSmallError, EncoderProgress, EncoderState, FrameDecoder, FrameOutcome, FrameReader,
+    FrameSource, Next, PushResult, ReadFault, Recorded, UnbufferedEncoder, decode, decode_stream,
+    decode_vec, decode_vec_with_sentinel, encode, encode_frames, encode_frames_room,
     encode_including_sentinels, encode_vec, encode_vec_including_sentinels,
     encode_vec_with_sentinel, encode_with_sentinel, max_encoding_length, max_encoding_overhead,
     try_encode, try_encode_including_sentinels, try_encode_with_sentinel,
@@ -464,5 +464,75 @@ fn frames_from_a_reader_further(rt: HostRuntime) {
         );
         let mut second = Recorded::new([7, 0].as_slice());
         assert_eq!(rt; reader.next_frame(&mut second), Ok(Next::Message(1)));
+    }
+}
+
+#[test]
+fn starts_and_copies_of_encoders(rt: HostRuntime) -> Result<(), Fail> {
+    // EncoderState::default
+    {
+        let state = EncoderState::default();
+        assert_eq!(rt; state.finalize(), (0, 1));
+    }
+
+    // EncoderState::clone
+    {
+        let mut state = EncoderState::default();
+        let copy = state.clone()?;
+        let _answer = state.push(7);
+        assert_eq!(rt; state.finalize(), (0, 2));
+        assert_eq!(rt; copy.finalize(), (0, 1));
+    }
+    Ok(())
+}
+
+/// ReadFault
+fn next_or_more<D: FrameDecoder, S: FrameSource>(
+    reader: &mut FrameReader<D>,
+    source: &mut S,
+) -> Option<Next> {
+    match reader.next_frame(source) {
+        Ok(next) => Some(next),
+        Err(ReadFault::TooManyReads) => reader.next_frame(source).ok(),
+        Err(ReadFault::Io) => None,
+    }
+}
+
+#[test]
+fn parts_of_a_reader(rt: HostRuntime) {
+    let mut source = Recorded::new([2, 7, 0].as_slice());
+    let mut reader = FrameReader::new(CobsDecoderHeapless::<8>::new());
+    assert_eq!(rt;
+        next_or_more(&mut reader, &mut source),
+        Some(Next::Message(1))
+    );
+
+    // FrameSource::read_some
+    {
+        let mut source = Recorded::new([7; 100].as_slice());
+        let mut chunk = [0; 64];
+        assert_eq!(rt; source.read_some(&mut chunk), Some(64));
+        assert_eq!(rt; source.read_some(&mut chunk), Some(36));
+    }
+
+    // Recorded::new
+    {
+        let mut source = Recorded::new([2, 7, 0].as_slice());
+        let mut reader = FrameReader::new(CobsDecoderHeapless::<8>::new());
+        assert_eq!(rt; reader.next_frame(&mut source), Ok(Next::Message(1)));
+    }
+
+    // FrameReader::new
+    {
+        let mut source = Recorded::new(b"".as_slice());
+        let mut reader = FrameReader::new(CobsDecoderHeapless::<8>::new());
+        let end = Next::End { unfinished: false };
+        assert_eq!(rt; reader.next_frame(&mut source), Ok(end));
+    }
+
+    // FrameReader::decoder
+    {
+        let reader = FrameReader::new(CobsDecoderHeapless::<2>::new());
+        assert_eq!(rt; reader.decoder().dest(), [0, 0].as_slice());
     }
 }

@@ -211,7 +211,7 @@ const STATES: [StateRow; 4] = [
         ],
         (2, 2),
     ),
-    // the 254th byte closes the block, and the placeholder stands behind it
+    // the 254th byte closes the block, and the placeholder stands after it
     (
         &[
             (253, 1, Change::Add(1)),

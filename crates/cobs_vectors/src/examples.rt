@@ -89,7 +89,7 @@ fn check_back(rt: &impl Abort, alloc: Global, message: &[u8], frame: &[u8]) -> R
     check_vector(rt, alloc, (VectorCall::Decode, &stream), Ok(message))
 }
 
-/// The frame in place: the message, and what the frame has behind it.
+/// The frame in place: the message, and what the frame has after it.
 fn check_in_place(
     rt: &impl Abort,
     alloc: Global,

@@ -8,7 +8,7 @@ use std::test::Fail;
 
 /// Over a buffer of so many bytes: bytes that lead from idle to each phase.
 const FRONTS: [(usize, Parts); 10] = [
-    // idle, at the start and behind a frame
+    // idle, at the start and after a frame
     (4, &[]),
     (4, &[&[0]]),
     (4, &[&[2, 5, 0]]),
@@ -24,10 +24,10 @@ const FRONTS: [(usize, Parts); 10] = [
     (4, &[&[6, 1, 2, 3, 4, 5]]),
 ];
 
-/// What comes behind the write.
+/// What comes after the write.
 const BEHIND: [&[u8]; 5] = [&[], &[1], &[3], &[2, 9], &[7, 8, 9, 1, 1, 1]];
 
-/// A buffer that is written to inside a piece: whatever comes of it, the decoder is idle behind the next zero.
+/// A buffer that is written to inside a piece: whatever comes of it, the decoder is idle after the next zero.
 #[derive(Drop)]
 struct Written<'a> {
     front: &'a [u8],
@@ -96,7 +96,7 @@ impl Check for Resets<'_> {
     }
 }
 
-/// Writes to the buffer, and resets the decoder, behind each front.
+/// Writes to the buffer, and resets the decoder, after each front.
 fn check_fronts(
     rt: &impl Abort,
     alloc: Global,

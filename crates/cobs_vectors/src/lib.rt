@@ -16,6 +16,8 @@ mod doc_decoders;
 #[cfg(test)]
 mod doc_examples;
 #[cfg(test)]
+mod doc_laws;
+#[cfg(test)]
 mod encoders;
 #[cfg(test)]
 mod encoding;

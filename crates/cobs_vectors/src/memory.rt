@@ -1,8 +1,8 @@
-//! Want of memory.
+//! Out of memory.
 //!
-//! Each test here but the last passes whichever growth is refused: a call answers its value or want of memory, and
-//! nothing else. The last one passes only where no growth is refused. `tests/fail-alloc.sh` refuses the growths one
-//! after another until that test passes.
+//! Each test here but the last passes whichever growth is refused: a call answers its value or that it is out of
+//! memory, and nothing else. The last one passes only where no growth is refused. `tests/fail-alloc.sh` refuses the
+//! growths one after another until that test passes.
 use crate::messages::{encode_few, three_messages};
 use crate::slices::{Answer, VectorCall, refused, vector};
 use cobs::{
@@ -63,7 +63,7 @@ const TAKING_NONE: [Row; 2] = [
     ),
 ];
 
-/// Each call gives its vector or its refusal, or want of memory where that may be.
+/// Each call gives its vector or its refusal, or is out of memory where that may be.
 fn check_vectors(rt: &impl Abort, alloc: Global, rows: &[Row], may_want: bool) {
     for (call, source, wanted) in rows {
         match vector(rt, alloc, *call, source) {
@@ -102,7 +102,7 @@ fn are_its_outcomes(outcomes: &[FrameOutcome]) -> bool {
     }
 }
 
-/// The outcomes of the stream, or want of memory and then an idle decoder: one refusal at most.
+/// The outcomes of the stream, or out of memory and then an idle decoder: one refusal at most.
 fn check_outcomes<D: FrameDecoder + Drop>(
     rt: &impl Abort,
     alloc: Global,

@@ -1,4 +1,4 @@
-//! Lists of messages, and their frames one behind the other.
+//! Lists of messages, and their frames one after the other.
 use cobs::{encode_frames, max_encoding_length};
 use std::alloc::{AllocError, Global};
 use std::process::Abort;

@@ -125,7 +125,7 @@ fn find_in_each<D: FrameDecoder + Drop>(
     }
 }
 
-/// The end of a reader, behind the end of a piece.
+/// The end of a reader, after the end of a piece.
 const END: Found = Found::End { unfinished: false };
 
 /// A stream with a message, a broken piece, one that is too long for four bytes, and a message.

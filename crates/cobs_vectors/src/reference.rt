@@ -2,7 +2,7 @@
 use std::alloc::{AllocError, Global};
 
 /// The encoded frame of a message: each run of nonzero bytes in blocks of up to 254 bytes, where the first block that
-/// is shorter carries the zero behind the run. The last run carries none, and needs no such block behind a full one.
+/// is shorter carries the zero after the run. The last run carries none, and needs no such block after a full one.
 pub fn frame_of(alloc: Global, message: &[u8]) -> Result<Vec<u8>, AllocError> {
     let mut frame = Vec::new(alloc);
     let mut block = Vec::new(alloc);
@@ -82,7 +82,7 @@ pub fn reading_of(alloc: Global, piece: &[u8]) -> Result<Reading, AllocError> {
     })
 }
 
-/// What stands before the first zero, and what stands behind it where there is one.
+/// What stands before the first zero, and what stands after it where there is one.
 pub fn split_at_zero(bytes: &[u8]) -> (&[u8], Option<&[u8]>) {
     for (at, byte) in bytes.iter().enumerate() {
         if *byte == 0 {

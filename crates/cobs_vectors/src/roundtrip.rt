@@ -8,7 +8,7 @@ use std::alloc::Global;
 use std::process::Abort;
 use std::test::Fail;
 
-/// The vector forms, with a sentinel behind the frame.
+/// The vector forms, with a sentinel after the frame.
 fn check_vectors(rt: &impl Abort, alloc: Global, message: &[u8]) -> Result<(), Fail> {
     let mut frame = vector(rt, alloc, VectorCall::Encode, message)?;
     frame.push(0)?;
@@ -57,7 +57,7 @@ fn check_sentinel(rt: &impl Abort, alloc: Global, sentinel: u8) -> Result<(), Fa
         [0; 4].as_slice(),
     );
     check_decoder(rt, alloc, back, (Answer::Length(4), &MESSAGE))?;
-    // The frame has a byte more than its message, and in place that last one stays behind it.
+    // The frame has a byte more than its message, and in place that last one stays after it.
     let back = (
         Decoder::InPlaceWithSentinel(sentinel),
         [].as_slice(),
@@ -121,7 +121,7 @@ struct Pieces<'a> {
 
 impl Check for Pieces<'_> {
     /// Each piece finds nothing or is refused, and the sentinel gets the answer. Once a piece was refused, so is each
-    /// one behind it. The buffer then holds what of the message fits.
+    /// one after it. The buffer then holds what of the message fits.
     fn check<D: StreamingDecoder + Drop>(
         &self,
         rt: &impl Abort,

@@ -48,7 +48,7 @@ const FED: [(usize, &[Step]); 14] = [
             Holds(&[]),
         ],
     ),
-    // frames one behind the other, and with a sentinel on each side
+    // frames one after the other, and with a sentinel on each side
     (16, &[FeedMessage(10, FRAME, HELLO)]),
     (32, &[FeedMessage(10, FRAME, HELLO)]),
     (16, &[FeedMessage(10, DELIMITED, HELLO)]),

@@ -102,7 +102,8 @@ fn written(answer: Result<usize, DestBufTooSmallError>) -> Answer {
 /// The call, what it encodes, the buffer before it, its answer, and the buffer after it.
 pub struct EncoderRow(pub Encoder, pub Parts, pub Parts, pub Answer, pub Parts);
 
-/// Makes the call. One that is owed room is made where the call that looks for room finds it in a copy of the buffer.
+/// Makes the call. One whose precondition is room is made where the call that looks for room finds it in a copy of the
+/// buffer.
 fn encoded(
     rt: &impl Abort,
     call: Encoder,

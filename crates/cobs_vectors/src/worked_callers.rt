@@ -1,11 +1,11 @@
 //! Callers whose contracts are proved from the public clauses of `cobs` alone, on worked examples.
 ghost use Rattle.std.specs.Prelude.{◌≡◌, ◌<◌, ◌≤◌, ◌^◌, ◌++◌, ◌↔◌, [], ℕ, All, IsOk, IfOk, length, map, slice_set, take};
-ghost use Rattle.cobs.specs.Buffers.{lent_buffer, lent_phase, lent_slice};
-ghost use Rattle.cobs.specs.Decoder.{DecoderAfter};
+ghost use Rattle.cobs.specs.Fields.Decoders.{borrowed_buffer, borrowed_phase, borrowed_slice};
+ghost use Rattle.cobs.specs.Feed.{DecoderAfter};
 ghost use Rattle.cobs.specs.Grammar.{IsEncodedFrame, IsOpenFrame};
 ghost use Rattle.cobs.specs.Length.{encoded_len, max_encoded_len};
 ghost use Rattle.cobs.specs.Stream.{Message};
-ghost use Rattle.cobs.specs.Streaming.{messages_in, outcomes_in, room_for_frames};
+ghost use Rattle.cobs.specs.Messages.{messages_in, outcomes_in, room_for_frames};
 
 use crate::bytes::ONES;
 use crate::slices::Answer;
@@ -29,7 +29,8 @@ fn encode_by_longest(source: &[u8], dest: &mut [u8]) -> usize
 
 /// A caller who carries out each answer of an `EncoderState` in a vector has the open frame of the message.
 fn encode_by_state(alloc: Global, source: &[u8]) -> Result<Vec<u8>, AllocError>
-    ensures { IfOk result (λ bytes. (index code : ℕ) × IsOpenFrame bytes.items source.now index code) }
+    ensures { IfOk result
+        (λ bytes. (index code : ℕ) × IsOpenFrame bytes.items source.now index code) }
 {
     let mut output = vec![in alloc; 0]?;
     let mut state = EncoderState::default();
@@ -74,11 +75,11 @@ fn write_first<D: WriteBuffer>(decoder: &mut D, byte: u8)
 }
 
 /// A write leaves the phase, and which slice it is.
-fn write_first_lent(decoder: &mut CobsDecoder<'_>, byte: u8)
-    requires { 0 < length (lent_buffer decoder.old) }
-    ensures phase { lent_phase decoder.new ≡ lent_phase decoder.old }
-    ensures buffer { lent_buffer decoder.new ≡ slice_set (lent_buffer decoder.old) 0 byte }
-    ensures same_slice { lent_slice decoder.new ≡ lent_slice decoder.old }
+fn write_first_borrowed(decoder: &mut CobsDecoder<'_>, byte: u8)
+    requires { 0 < length (borrowed_buffer decoder.old) }
+    ensures phase { borrowed_phase decoder.new ≡ borrowed_phase decoder.old }
+    ensures buffer { borrowed_buffer decoder.new ≡ slice_set (borrowed_buffer decoder.old) 0 byte }
+    ensures same_slice { borrowed_slice decoder.new ≡ borrowed_slice decoder.old }
 {
     write_first(decoder, byte);
 }
@@ -91,8 +92,10 @@ fn send_and_receive<D: FrameDecoder>(
 ) -> Result<Vec<FrameOutcome>, AllocError>
     requires room { room_for_frames (messages_in messages.now) < 2 ^ 64 }
     requires idle { DecoderAfter (D.bytes decoder.old) (D.phase decoder.old) [] }
-    requires held { All (λ message. length message ≤ length (D.bytes decoder.old)) (messages_in messages.now) }
-    ensures { IfOk result (λ found. outcomes_in found.items ≡ map Message (messages_in messages.now)) }
+    requires held { All (λ message. length message ≤ length (D.bytes decoder.old))
+        (messages_in messages.now) }
+    ensures { IfOk result
+        (λ found. outcomes_in found.items ≡ map Message (messages_in messages.now)) }
 {
     let bytes = encode_frames(alloc, messages)?;
     decode_stream(alloc, decoder, &bytes)
@@ -132,7 +135,7 @@ fn a_caller_that_writes_to_the_buffer_inside_a_piece(rt: HostRuntime) {
     let mut buffer = [0; 2];
     let mut decoder = CobsDecoder::new(&mut buffer);
     assert_eq!(rt; decoder.push(&[3, 7]), Ok(None));
-    write_first_lent(&mut decoder, 8);
+    write_first_borrowed(&mut decoder, 8);
     assert_eq!(rt; pushed(decoder.push(&[9, 0]), 2), (Answer::Length(2), 2));
     assert_eq!(rt; decoder.dest(), [8, 9].as_slice());
 }

@@ -10,7 +10,7 @@ use Rattle.std.specs.List.{flat_map}
 use Rattle.std.specs.Int.Bits.{bit_xor}
 use Rattle.cobs.specs.Sentinel.{xor_each}
 use Rattle.cobs.specs.Stream.{is_nonempty, stream_outcomes, unended}
-use Rattle.cobs.specs.Reading.{ReaderState, IsBehind}
+use Rattle.cobs.specs.NextFrame.{ReaderState, IsBehind}
 use Rattle.cobs.proofs.StreamLemmas.{stream_outcomes-append, stream_outcomes-no_zero, unended-append, unended-no_zero}
 use Rattle.cobs_watch.specs.Shown.{shown, shown_pieces, shown_end, shown_stream}
 use Rattle.cobs_watch.specs.declared.shown.Style.{Style}

@@ -19,10 +19,6 @@ zip_push R [] (b ∷ ys) x y z r = absurd z
 zip_push R (a ∷ xs) [] x y z r = absurd z
 zip_push R (a ∷ xs) (b ∷ ys) x y z r = (z.0, zip_push R xs ys x y z.1 r)
 
--- a text without digits of bytes
-pub SendsAs-no_digits : (sentinel : ℕ) (text : List ℕ) (error : FromHexError) → decode_of text ≡ Err error → SendsAs true sentinel text []
-SendsAs-no_digits sentinel text error e = rw e refl
-
 -- no line yet
 pub HasSentLines-start : (settings : Settings) (from before : Option (List ℕ)) → HasSentLines settings [] from from before before
 HasSentLines-start settings from before =
@@ -45,22 +41,6 @@ pub all_lines : (settings : Settings) (from to before after : Option (List ℕ))
 all_lines settings None to before after s end = tt
 all_lines settings (Some xs) None before after s end = absurd s.read
 all_lines settings (Some xs) (Some ys) before after s end = s.read ∙ ap (λ (l : List ℕ). concat s.lines ++ [] ++ l) end ∙ append-nil _ ∙ append-nil _
-
--- a read that failed
-pub HasSentLines-cut : (settings : Settings) (from to to' before after : Option (List ℕ)) (rest : List ℕ) → HasSentLines settings [] from to before after → Consumes to to' rest → HasSentLines settings rest from to' before after
-HasSentLines-cut settings from to to' before after rest s r = record {
-  lines = s.lines;
-  each_stops = s.each_stops;
-  sent = s.sent;
-  each = s.each;
-  read = Consumes-trans from to to' _ rest (rw append-nil at s.read) r;
-  written = s.written;
-}
-
--- what a decoding error says, where it isn't one of memory
-pub said_so : (text : List ℕ) (error : FromHexError) → (error ≡ OutOfMemory) ⊎ (decode_of text ≡ Err error) → error ≢ OutOfMemory → decode_of text ≡ Err error
-said_so text error (inl e) n = absurd (n e)
-said_so text error (inr e) n = e
 
 -- the last read gave nothing, at the end of the input
 pub sent_all : (settings : Settings) (from to to' before after : Option (List ℕ)) (given : List ℕ) → HasSentLines settings [] from to before after → Consumes to to' given → given ≡ [] → IsAtEnd to

@@ -6,7 +6,7 @@ use Rattle.std.proofs.KnownBytes.{Appends-nil, Appends-trans}
 use Rattle.std.specs.Io.KnownBytes.{Appends}
 use Rattle.cobs.specs.Grammar.{HasNoZero}
 use Rattle.cobs.specs.Stream.{Outcome, Message, Broken, TooLong, is_nonempty, stream_outcomes, unended}
-use Rattle.cobs.specs.Reading.{Read, Runs, EndsFirst, ReaderState, IsBehind, ReadsNext, AtPieceEnd, all_given}
+use Rattle.cobs.specs.NextFrame.{Read, Runs, EndsFirst, ReaderState, IsBehind, ReadsNext, AtPieceEnd, all_given}
 use Rattle.cobs.specs.declared.framed.Next.TheVariants as nexts
 use Rattle.cobs.specs.declared.framed.ReadFault.{ReadFault}
 use Rattle.cobs.specs.declared.framed.ReadFault.TheVariants as faults

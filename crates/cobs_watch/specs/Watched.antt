@@ -3,7 +3,7 @@ use Rattle.std.specs.Prelude.{ℕ, ◌≡◌, ◌≤◌, Bool, List, [], ◌++�
 use Rattle.std.specs.Io.KnownBytes.{Appends, Consumes, IsAtEnd, Keeps}
 use Rattle.cobs.specs.Sentinel.{xor_each}
 use Rattle.cobs.specs.Stream.{is_nonempty, unended}
-use Rattle.cobs.specs.Reading.{ReaderState, IsBehind}
+use Rattle.cobs.specs.NextFrame.{ReaderState, IsBehind}
 use Rattle.cobs_watch.specs.declared.shown.Style.{Style}
 use Rattle.cobs_watch.specs.Shown.{shown_pieces, shown_stream}
 use Rattle.cobs_watch.specs.declared.fault.WatchFault.{WatchFault}

@@ -27,7 +27,7 @@ pub enum Task {
 ///
 /// An error is also how help and the version are asked for: it has the text to print and the status to end with.
 pub fn task_of(alloc: Global, words: &[String]) -> Result<Task, Error>
-    ensures { IfOk result IsOffered }
+    ensures offered { IfOk result IsOffered }
 {
     let show = with_show_options(
         alloc,
@@ -110,7 +110,7 @@ fn with_show_options<'a>(alloc: Global, command: Command<'a>) -> Result<Command<
 
 /// The task of showing a stream, by its options.
 fn show_task(matches: &ArgMatches<'_>) -> Task
-    ensures { IsOffered result }
+    ensures offered { IsOffered result }
 {
     let style = if matches.get_flag("raw") {
         Style::Raw

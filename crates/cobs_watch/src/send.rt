@@ -19,7 +19,7 @@ pub struct Settings {
     pub sentinel: u8,
 }
 
-/// Sends each line of the input, without its newline, as a frame and its sentinel, and flushes the output behind it.
+/// Sends each line of the input, without its newline, as a frame and its sentinel, and flushes the output after it.
 ///
 /// The answer is whether each line was sent: one that isn't hexadecimal digits, where these are wanted, is named on
 /// `errors` with its number, counted from 1, and skipped. An interrupted read is tried again. Memory is taken for one
@@ -36,7 +36,7 @@ pub fn run_send<B: BufRead, W: Write, E: Write>(
     output: &mut W,
     errors: &mut E,
 ) -> Result<bool, WatchFault>
-    ensures { HasSent settings.now result (B.remaining input.old) (B.remaining input.new)
+    ensures sent { HasSent settings.now result (B.remaining input.old) (B.remaining input.new)
         (W.contents output.old) (W.contents output.new) }
 {
     let mut line = Vec::new(alloc);
@@ -59,7 +59,7 @@ pub fn run_send<B: BufRead, W: Write, E: Write>(
 
 /// The line without the newline at its end.
 fn without_newline(line: &[u8]) -> &[u8]
-    ensures { result.now ≡ text_of line.now }
+    ensures text { result.now ≡ text_of line.now }
 {
     if line.len() > 0 && line[line.len() - 1] == b'\n' {
         &line[..line.len() - 1]
@@ -131,7 +131,7 @@ fn send_message<W: Write>(
 
 /// The frame of a message and its sentinel.
 fn ended_frame(alloc: Global, sentinel: u8, message: &[u8]) -> Result<Vec<u8>, AllocError>
-    ensures { IfOk result (λ bytes. IsSent sentinel message.now bytes.items) }
+    ensures frame { IfOk result (λ bytes. IsSent sentinel message.now bytes.items) }
 {
     if usize::MAX / 2 < message.len() {
         return Err(AllocError);

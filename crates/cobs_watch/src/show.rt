@@ -1,9 +1,9 @@
 //! Showing a stream as it comes.
 ghost use Rattle.std.specs.Prelude.{◌≡◌, ◌≢◌, ◌≤◌, ◌<◌, ℕ, List, [], length, take, OnOk, IfOk, IfErr, OnErr, Ok, Err};
 ghost use Rattle.std.specs.Io.KnownBytes.{Consumes, IsAtEnd, Keeps};
-ghost use Rattle.cobs.specs.Buffers.{owned_buffer, owned_phase};
-ghost use Rattle.cobs.specs.Reader.{decoder_of, kept_of, reader_state};
-ghost use Rattle.cobs.specs.Reading.{IsBehind};
+ghost use Rattle.cobs.specs.Fields.Decoders.{owned_buffer, owned_phase};
+ghost use Rattle.cobs.specs.Fields.Reader.{decoder_of, kept_of, reader_state};
+ghost use Rattle.cobs.specs.NextFrame.{IsBehind};
 ghost use Rattle.cobs.specs.Sentinel.{xor_each};
 ghost use Rattle.cobs_watch.specs.Watched.{HasShown, ShowsBytes};
 
@@ -34,7 +34,7 @@ pub fn run_show<R: Read, W: Write>(
     input: &mut R,
     output: &mut W,
 ) -> Result<Tally, WatchFault>
-    ensures { HasShown settings.now result (R.remaining input.old) (R.remaining input.new)
+    ensures shown { HasShown settings.now result (R.remaining input.old) (R.remaining input.new)
         (W.contents output.old) (W.contents output.new) }
 {
     let mut frames = FrameReader::new(CobsDecoderOwned::new(alloc, settings.length)?);
@@ -60,8 +60,10 @@ pub fn run_show<R: Read, W: Write>(
 /// Reads once into the chunk, and again where the read was interrupted: so many bytes came, none at the end of the input.
 fn read_chunk<R: Read>(input: &mut R, chunk: &mut [u8]) -> Result<usize, WatchFault>
     ensures within { IfOk result (λ n. n ≤ length chunk.new) }
-    ensures read { IfOk result (λ n. Consumes (R.remaining input.old) (R.remaining input.new) (take n chunk.new)) }
-    ensures end { IfOk result (λ n. n ≡ 0 → 0 < length chunk.old → IsAtEnd (R.remaining input.new)) }
+    ensures read { IfOk result
+        (λ n. Consumes (R.remaining input.old) (R.remaining input.new) (take n chunk.new)) }
+    ensures end { IfOk result
+        (λ n. n ≡ 0 → 0 < length chunk.old → IsAtEnd (R.remaining input.new)) }
     ensures failed { IfErr result (λ fault. (fault ≡ WatchFault.ReadFailed)
         × Keeps (R.remaining input.old) (R.remaining input.new)) }
     ensures len { length chunk.new ≡ length chunk.old }
@@ -88,7 +90,7 @@ fn change_each(bytes: &mut [u8], sentinel: u8)
     }
 }
 
-/// Shows the pieces that end in the bytes, and answers whether a piece has begun behind them.
+/// Shows the pieces that end in the bytes, and answers whether a piece has begun after them.
 fn show_bytes<W: Write>(
     frames: &mut FrameReader<CobsDecoderOwned>,
     bytes: &[u8],
@@ -101,11 +103,14 @@ fn show_bytes<W: Write>(
     requires behind { (p : List ℕ) × IsBehind (reader_state owned_buffer owned_phase frames.old) p }
     ensures shows { IfOk result (λ unfinished. (p : List ℕ) →
         IsBehind (reader_state owned_buffer owned_phase frames.old) p → ShowsBytes style
-        (reader_state owned_buffer owned_phase frames.old) (reader_state owned_buffer owned_phase frames.new)
+        (reader_state owned_buffer owned_phase frames.old)
+        (reader_state owned_buffer owned_phase frames.new)
         bytes.now (W.contents output.old) (W.contents output.new) unfinished p) }
     ensures kept { OnOk result (kept_of frames.new ≡ []) }
-    ensures len { length (owned_buffer (decoder_of frames.new)) ≡ length (owned_buffer (decoder_of frames.old)) }
-    ensures written { IfErr result (λ fault. (fault ≢ WatchFault.ReadFailed) × (fault ≢ WatchFault.OutOfMemory)) }
+    ensures len { length (owned_buffer (decoder_of frames.new))
+        ≡ length (owned_buffer (decoder_of frames.old)) }
+    ensures written { IfErr result
+        (λ fault. (fault ≢ WatchFault.ReadFailed) × (fault ≢ WatchFault.OutOfMemory)) }
 {
     let mut source = InMemory::new(bytes);
     'by_piece: loop {

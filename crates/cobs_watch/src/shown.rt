@@ -50,7 +50,7 @@ fn plain_text(message: &[u8]) -> Option<&str>
 
 /// Shows a message.
 pub fn show_message<W: Write>(output: &mut W, style: Style, message: &[u8]) -> io::Result<()>
-    ensures { OnOk result (Appends (W.contents output.old) (W.contents output.new)
+    ensures shown { OnOk result (Appends (W.contents output.old) (W.contents output.new)
         (shown style (Message message.now))) }
 {
     match style {
@@ -68,7 +68,8 @@ pub fn show_message<W: Write>(output: &mut W, style: Style, message: &[u8]) -> i
 
 /// Writes the line of a message as text.
 fn write_text<W: Write>(output: &mut W, text: &str) -> io::Result<()>
-    ensures { OnOk result (Appends (W.contents output.old) (W.contents output.new) (text_line text.now)) }
+    ensures { OnOk result
+        (Appends (W.contents output.old) (W.contents output.new) (text_line text.now)) }
 {
     let len = text.len();
     write!(output, "message {len}")?;
@@ -81,7 +82,7 @@ fn write_text<W: Write>(output: &mut W, text: &str) -> io::Result<()>
 
 /// Shows a piece that breaks off inside a block and decodes to so many bytes.
 pub fn show_broken<W: Write>(output: &mut W, style: Style, count: usize) -> io::Result<()>
-    ensures { OnOk result (Appends (W.contents output.old) (W.contents output.new)
+    ensures shown { OnOk result (Appends (W.contents output.old) (W.contents output.new)
         (shown style (Broken count))) }
 {
     match style {
@@ -92,7 +93,8 @@ pub fn show_broken<W: Write>(output: &mut W, style: Style, count: usize) -> io::
 
 /// Shows a piece that is too long.
 pub fn show_too_long<W: Write>(output: &mut W, style: Style) -> io::Result<()>
-    ensures { OnOk result (Appends (W.contents output.old) (W.contents output.new) (shown style TooLong)) }
+    ensures shown { OnOk result
+        (Appends (W.contents output.old) (W.contents output.new) (shown style TooLong)) }
 {
     match style {
         Style::Hex | Style::Text => write_too_long(output),
@@ -102,7 +104,7 @@ pub fn show_too_long<W: Write>(output: &mut W, style: Style) -> io::Result<()>
 
 /// Shows the end of a stream, given whether a piece has begun that no zero ended.
 pub fn show_end<W: Write>(output: &mut W, style: Style, unfinished: bool) -> io::Result<()>
-    ensures { OnOk result (Appends (W.contents output.old) (W.contents output.new)
+    ensures shown { OnOk result (Appends (W.contents output.old) (W.contents output.new)
         (shown_end style unfinished)) }
 {
     match style {

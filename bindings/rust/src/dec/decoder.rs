@@ -59,7 +59,7 @@ macro_rules! decoder_methods {
             self.progress.feed(&mut self.dest[..], data)
         }
 
-        /// Takes bytes of a stream of frames, through the zero that ends the first frame, or all of them. Bytes behind
+        /// Takes bytes of a stream of frames, through the zero that ends the first frame, or all of them. Bytes after
         /// that zero aren't looked at: push them next.
         ///
         /// - `Ok(None)`: all were taken, and no frame has ended.
@@ -70,7 +70,7 @@ macro_rules! decoder_methods {
         ///
         /// - [`DecodeError::InvalidFrame`]: the frame breaks off inside a block. The bytes were taken through its zero.
         /// - [`DecodeError::TargetBufTooSmall`]: the message is longer than the buffer. It is answered to each push that
-        ///   has bytes of what no longer fits, or the zero behind it. The bytes were taken through that zero, or all.
+        ///   has bytes of what no longer fits, or the zero after it. The bytes were taken through that zero, or all.
         ///
         /// Behind an error, go on with the bytes from [`parsed_size`](Self::parsed_size) on: then a refused frame costs
         /// no other.

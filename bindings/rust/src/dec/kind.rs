@@ -9,7 +9,7 @@ pub enum FrameKind {
     NotAFrame,
     /// The frame that encoders write for its message.
     Canonical,
-    /// That frame with a 1 behind it, which decoders read alike.
+    /// That frame with a 1 after it, which decoders read alike.
     Longer,
 }
 

@@ -46,7 +46,7 @@ impl<'a> CobsEncoder<'a> {
     }
 
     /// Ends the message: the slice begins with its frame, of the answered length, without a sentinel. It is the frame
-    /// that [`encode`](crate::encode) writes, and the bytes behind it are as they were at first.
+    /// that [`encode`](crate::encode) writes, and the bytes after it are as they were at first.
     pub fn finalize(mut self) -> usize {
         length_of(sys::encoder_finish(&mut self.encoder, self.dest))
             .expect("what push has taken fits the slice")

@@ -33,7 +33,7 @@ const ROOM: usize = 256;
 /// assert_eq!(frame, b"\x02a\x02b");
 /// ```
 ///
-/// Where the message ends in a full block, the place behind that block is left over: it is the last byte, and the frame
+/// Where the message ends in a full block, the place after that block is left over: it is the last byte, and the frame
 /// without it is the encoded one. Both stand for the same message.
 #[derive(Debug, Clone, Default)]
 pub struct EncoderState {
@@ -52,7 +52,7 @@ pub enum PushResult {
     /// Write the code at the index, and a place for the next code at the end.
     ModifyFromStartAndSkip((usize, u8)),
 
-    /// Write the code at the index, then the last byte at the end, and behind it a place for the next code, unless the
+    /// Write the code at the index, then the last byte at the end, and after it a place for the next code, unless the
     /// message ends here.
     ModifyFromStartAndPushAndSkip((usize, u8, u8)),
 }

@@ -1,9 +1,10 @@
 //! What the streaming decoders have in common.
 ghost use Rattle.std.specs.Prelude.{◌≡◌, ◌≤◌, ◌∷◌, ℕ, List, [], length, IfOk, IfSome, MatchOption};
-ghost use Rattle.cobs.specs.Decoder.{Feeds, Phase};
-ghost use Rattle.cobs.specs.Streaming.{outcome_at, outcome_told, IsWithin, TakesPiece};
+ghost use Rattle.cobs.specs.Feed.{Feeds, Phase};
+ghost use Rattle.cobs.specs.FeedPiece.{outcome_at, IsWithin, TakesPiece};
+ghost use Rattle.cobs.specs.Internal.PieceEnds.{outcome_told};
 
-use crate::dec::report::DecodeError;
+use crate::dec::error::DecodeError;
 
 /// How a piece of a stream ended. (The names are this library's own.)
 ///
@@ -69,7 +70,7 @@ pub trait FrameDecoder {
     /// Where it stands.
     ghost phase: { Self → Phase };
 
-    /// Which slice its buffer is, where it is one that was lent to it.
+    /// Which slice its buffer is, where it borrows one.
     ghost loan: { Self → ℕ };
 
     /// Takes the next byte of the stream.
@@ -130,5 +131,5 @@ pub trait FrameDecoder {
     /// assert_eq!(rt; CobsDecoderHeapless::<2>::new().buffer(), [0, 0].as_slice());
     /// ```
     fn buffer(&self) -> &[u8]
-        ensures { result.now ≡ bytes self.now };
+        ensures value { result.now ≡ bytes self.now };
 }

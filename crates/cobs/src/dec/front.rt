@@ -2,7 +2,7 @@
 //! stores them.
 ghost use Rattle.std.specs.Prelude.{◌≡◌, ◌<◌, ◌≤◌, length, take, slice_index};
 ghost use Rattle.cobs.specs.Grammar.{HasNoZero};
-ghost use Rattle.cobs.specs.Piece.{Decoded};
+ghost use Rattle.cobs.specs.Internal.Decoded.{Decoded};
 ghost use Rattle.cobs.specs.Stream.{head};
 
 use crate::enc::FULL_CODE;
@@ -18,7 +18,7 @@ const SHORT: usize = 96;
 
 /// How far a source is decoded: up to a code of it, and how many bytes of the output are written.
 #[derive(Clone, Copy)]
-pub(crate) struct Reached {
+pub(crate) struct Cursor {
     /// How many bytes of the source are read.
     pub(crate) read: usize,
     /// How many bytes of the output are written.
@@ -65,7 +65,7 @@ pub(crate) fn decode_window(source: &[u8], dest: &mut [u8]) -> usize
 
 /// Decodes the full block at the front of a source, if neither it nor the code after it has a zero.
 #[inline(always)]
-fn decode_full(source: &[u8], dest: &mut [u8]) -> Reached
+fn decode_full(source: &[u8], dest: &mut [u8]) -> Cursor
     requires begun { 0 < length (head source.now) }
     requires code { slice_index source.now 0 ≡ 255 }
     requires long { 256 ≤ length source.now }
@@ -76,12 +76,12 @@ fn decode_full(source: &[u8], dest: &mut [u8]) -> Reached
 {
     let copied = copy_nonzero(source, 1, FULL_CODE - 1, dest, 0);
     if copied < FULL_CODE - 1 || source[FULL_CODE] == 0 {
-        return Reached {
+        return Cursor {
             read: 0,
             written: 0,
         };
     }
-    Reached {
+    Cursor {
         read: FULL_CODE,
         written: FULL_CODE - 1,
     }
@@ -133,7 +133,7 @@ fn decode_long(source: &[u8], dest: &mut [u8]) -> usize
 /// Decodes what stands at the front of a source up to a code: a block, or those of a window. It has read nothing where
 /// a zero is near.
 #[inline(always)]
-fn decode_step(source: &[u8], dest: &mut [u8]) -> Reached
+fn decode_step(source: &[u8], dest: &mut [u8]) -> Cursor
     requires begun { 0 < length (head source.now) }
     requires long { 256 ≤ length source.now }
     requires room { 256 ≤ length dest.old }
@@ -152,7 +152,7 @@ fn decode_step(source: &[u8], dest: &mut [u8]) -> Reached
     } else {
         decode_long(source, dest)
     };
-    Reached {
+    Cursor {
         read: step,
         written: step,
     }
@@ -162,7 +162,7 @@ fn decode_step(source: &[u8], dest: &mut [u8]) -> Reached
 /// near.
 ///
 /// One bound covers both, since no step writes more than it reads.
-fn decode_blocks(source: &[u8], dest: &mut [u8]) -> Reached
+fn decode_blocks(source: &[u8], dest: &mut [u8]) -> Cursor
     requires begun { 0 < length (head source.now) }
     ensures decoded { Decoded (head source.now) dest.old dest.new result.read result.written }
     ensures within { result.written ≤ length dest.old }
@@ -174,7 +174,7 @@ fn decode_blocks(source: &[u8], dest: &mut [u8]) -> Reached
         if end <= read {
             let left = (source.len() - read).min(dest.len() - written);
             if left < 2 * LONGEST_STEP {
-                return Reached { read, written };
+                return Cursor { read, written };
             }
             end = read + (left - LONGEST_STEP);
         }
@@ -182,7 +182,7 @@ fn decode_blocks(source: &[u8], dest: &mut [u8]) -> Reached
         read += step.read;
         written += step.written;
         if step.read == 0 {
-            return Reached { read, written };
+            return Cursor { read, written };
         }
     }
 }
@@ -211,14 +211,14 @@ fn decode_windows(source: &[u8], dest: &mut [u8]) -> usize
 
 /// Decodes the front of a long source by steps.
 #[inline(never)]
-fn decode_steps(source: &[u8], dest: &mut [u8]) -> Reached
+fn decode_steps(source: &[u8], dest: &mut [u8]) -> Cursor
     requires begun { 0 < length (head source.now) }
     ensures decoded { Decoded (head source.now) dest.old dest.new result.read result.written }
     ensures within { result.written ≤ length dest.old }
 {
     let front = decode_blocks(source, dest);
     let step = decode_windows(&source[front.read..], &mut dest[front.written..]);
-    Reached {
+    Cursor {
         read: front.read + step,
         written: front.written + step,
     }
@@ -227,13 +227,13 @@ fn decode_steps(source: &[u8], dest: &mut [u8]) -> Reached
 /// Decodes the front of a source, which begins with a code, and answers how far it has come: to the last bytes of the
 /// source or of the room, or near to the first zero. A short source has no such front.
 #[inline(always)]
-pub(crate) fn decode_front(source: &[u8], dest: &mut [u8]) -> Reached
+pub(crate) fn decode_front(source: &[u8], dest: &mut [u8]) -> Cursor
     requires begun { 0 < length (head source.now) }
     ensures decoded { Decoded (head source.now) dest.old dest.new result.read result.written }
     ensures within { result.written ≤ length dest.old }
 {
     if source.len() <= SHORT {
-        return Reached {
+        return Cursor {
             read: 0,
             written: 0,
         };

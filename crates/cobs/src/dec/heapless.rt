@@ -2,13 +2,14 @@
 ghost use Rattle.std.specs.Prelude.{◌≡◌, ◌-◌, ◌++◌, [], replicate, ◌↔◌, ◌≤◌, ◌∷◌, List, length, ℕ};
 ghost use Rattle.std.specs.Borrow.{sem};
 ghost use Rattle.arrayvec.specs.ArrayVec.{array_vec_len};
-ghost use Rattle.cobs.specs.Decoder.{DecoderAfter, Feeds, Idle};
+ghost use Rattle.cobs.specs.Feed.{DecoderAfter, Feeds, Idle};
 ghost use Rattle.cobs.specs.Grammar.{Reads};
 ghost use Rattle.cobs.specs.Headline.{IsPiece, PushesMessage};
 ghost use Rattle.cobs.specs.Push.{PushesBytes};
 
+use crate::dec::error::{DecodeError, PushError};
 use crate::dec::frame_decoder::{FrameDecoder, PieceEnd};
-use crate::dec::report::{DecodeError, DecodeReport, PushError};
+use crate::dec::report::DecodeReport;
 use crate::dec::unbuffered::UnbufferedDecoder;
 use crate::dec::write_buffer::WriteBuffer;
 use arrayvec::ArrayVec;
@@ -33,7 +34,7 @@ pub struct CobsDecoderHeapless<const N: usize> {
 }
 
 impl<const N: usize> CobsDecoderHeapless<N> {
-    ghost use Rattle.cobs.specs.Buffers.{heapless_buffer, heapless_phase, LendsHeapless};
+    ghost use Rattle.cobs.specs.Fields.Decoders.{heapless_buffer, heapless_phase, LendsHeapless};
 
     /// An idle decoder over `N` zeros.
     ///
@@ -174,9 +175,14 @@ impl<const N: usize> CobsDecoderHeapless<N> {
 }
 
 impl<const N: usize> Default for CobsDecoderHeapless<N> {
-    ghost use Rattle.cobs.specs.Buffers.{heapless_buffer, heapless_phase};
+    ghost use Rattle.cobs.specs.Fields.Decoders.{heapless_buffer, heapless_phase};
 
     /// An idle decoder over `N` zeros, as `new` makes it.
+    ///
+    /// ```
+    /// let decoder = CobsDecoderHeapless::<2>::default();
+    /// assert_eq!(rt; decoder.dest(), [0, 0].as_slice());
+    /// ```
     fn default() -> Self
         ensures buffer { heapless_buffer result ≡ replicate N 0 }
         ensures idle { DecoderAfter (heapless_buffer result) (heapless_phase result) [] }
@@ -186,7 +192,7 @@ impl<const N: usize> Default for CobsDecoderHeapless<N> {
 }
 
 impl<const N: usize> FrameDecoder for CobsDecoderHeapless<N> {
-    ghost use Rattle.cobs.specs.Buffers.{heapless_buffer, heapless_phase};
+    ghost use Rattle.cobs.specs.Fields.Decoders.{heapless_buffer, heapless_phase};
 
     ghost bytes = { heapless_buffer };
 
@@ -208,7 +214,7 @@ impl<const N: usize> FrameDecoder for CobsDecoderHeapless<N> {
 }
 
 impl<const N: usize> WriteBuffer for CobsDecoderHeapless<N> {
-    ghost use Rattle.cobs.specs.Buffers.{with_heapless_buffer};
+    ghost use Rattle.cobs.specs.Fields.Decoders.{with_heapless_buffer};
     ghost use Rattle.std.proofs.Common.{refl, take_at, drop, length};
 
     ghost with_bytes = { with_heapless_buffer };

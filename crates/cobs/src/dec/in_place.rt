@@ -1,25 +1,26 @@
 //! Decoding a frame in the buffer in which it stands.
-ghost use Rattle.std.specs.Prelude.{◌≡◌, ◌≢◌, ◌↔◌, ◌+◌, ◌-◌, ◌<◌, ◌≤◌, ℕ, List, All, length, take, drop, slice_index, IfErr, IsTrue};
-ghost use Rattle.cobs.specs.Buffer.{overwritten};
-ghost use Rattle.cobs.specs.Decoding.{head_answer, in_place, in_place_answer, in_place_report};
+ghost use Rattle.std.specs.Prelude.{◌≡◌, false, ◌≢◌, ◌↔◌, ◌+◌, ◌-◌, ◌<◌, ◌≤◌, ℕ, List, All, length, take, drop, slice_index, IfErr, IsTrue};
+ghost use Rattle.cobs.specs.Overwritten.{overwritten};
+ghost use Rattle.cobs.specs.Decode.{head_answer, in_place, in_place_answer, in_place_report};
 ghost use Rattle.cobs.specs.Grammar.{HasNoZero, Reads, code_of};
 ghost use Rattle.cobs.specs.Headline.{AnswersMessage, IsPiece, ReportsMessage};
-ghost use Rattle.cobs.specs.Piece.{kept_output, lacks, last_part, output, IsFlat};
+ghost use Rattle.cobs.specs.Piece.{kept_output, lacks, last_part, output};
+ghost use Rattle.cobs.specs.Internal.Decoded.{IsFlat};
 ghost use Rattle.cobs.specs.Sentinel.{xor_each};
-ghost use Rattle.cobs.specs.declared.dec.report.DecodeError.TheVariants.{TargetBufTooSmall};
+ghost use Rattle.cobs.specs.declared.dec.error.DecodeError.TheVariants.{TargetBufTooSmall};
 
+use crate::dec::error::DecodeError;
+use crate::dec::flat::{flat_front, is_flat, write_joints};
+use crate::dec::moves::{move_nonzero_short, move_to_front};
 use crate::dec::piece::piece_len;
-use crate::dec::report::{DecodeError, DecodeReport};
-use crate::enc::{FULL_CODE, xor_bytes};
-use crate::window::{WINDOW, is_ones, write_zeros};
+use crate::dec::report::DecodeReport;
+use crate::enc::xor_bytes;
+use crate::window::WINDOW;
 
 /// How many bytes the first whole blocks of a piece have, through the first full one, and whether the last of them is
 /// full. 0 bytes: the first block is broken.
-///
-/// Rows of empty blocks go by 32 at a time, and codes of one value in a row by a loop of their own, which needn't
-/// wait for each.
 #[inline(always)]
-fn flat_front(piece: &[u8]) -> (usize, bool)
+fn front_of(piece: &[u8]) -> (usize, bool)
     requires { HasNoZero piece.now }
     ensures within { result.0 ≤ length piece.now }
     ensures flat { 0 < result.0 → IsFlat (take result.0 piece.now) }
@@ -28,37 +29,12 @@ fn flat_front(piece: &[u8]) -> (usize, bool)
     ensures broken { result.0 ≡ 0 → 0 < length piece.now
         → length piece.now < slice_index piece.now 0 }
 {
-    let mut read = 0;
-    if piece.is_empty() {
-        return (read, false);
-    }
-    'by_code: loop {
-        let code = piece[read] as usize;
-        if code == 1 && piece.len() - read > WINDOW && is_ones(&piece[read..]) {
-            read += WINDOW;
-        } else {
-            'alike: loop {
-                if piece.len() - read <= code {
-                    if piece.len() - read < code {
-                        return (read, false);
-                    }
-                    return (read + code, code == FULL_CODE);
-                }
-                if code == FULL_CODE {
-                    return (read + code, true);
-                }
-                read += code;
-                if piece[read] as usize != code {
-                    break;
-                }
-            }
-        }
-    }
+    flat_front(piece, 0)
 }
 
 /// Decodes `len` bytes of the buffer, which begin at `from`, to its front, where they are whole blocks of which none
 /// but the last is full: one move of all these bytes, and a zero at each code. Each byte after what they give stays.
-#[inline(always)]
+#[inline(never)]
 fn decode_flat(buffer: &mut [u8], from: usize, len: usize)
     requires within { from + len ≤ length buffer.old }
     requires nonzero { HasNoZero (take len (drop from buffer.old)) }
@@ -66,26 +42,45 @@ fn decode_flat(buffer: &mut [u8], from: usize, len: usize)
     ensures begins { take (len - 1) buffer.new ≡ output (take len (drop from buffer.old)) }
     ensures rest { drop (len - 1) buffer.new ≡ drop (len - 1) buffer.old }
 {
-    let mut code = buffer[from] as usize;
-    buffer.copy_within(from + 1..from + len, 0);
-    let mut read = 0;
-    'by_code: while code < len - read {
-        if code == 1 && len - read > WINDOW && is_ones(&buffer[read..]) {
-            write_zeros(&mut buffer[read..]);
-            read += WINDOW;
-        } else {
-            'alike: loop {
-                let at = read + (code - 1);
-                let next = buffer[at] as usize;
-                buffer[at] = 0;
-                read += code;
-                if next != code || len - read <= code {
-                    code = next;
-                    break;
-                }
-            }
-        }
+    let first = buffer[from] as usize;
+    move_to_front(buffer, from + 1, len - 1);
+    write_joints(buffer, first, len);
+}
+
+/// Decodes the first `len` bytes of the buffer, 2 to 33, to its front, if these are whole blocks without a zero; says
+/// whether it did. Each byte after what they give stays, or where it did not every byte.
+#[inline(always)]
+fn decode_short(buffer: &mut [u8], len: usize) -> bool
+    requires { len ≤ length buffer.old }
+    ensures some { IsTrue result → 1 < len }
+    ensures nonzero { IsTrue result → HasNoZero (take len buffer.old) }
+    ensures flat { IsTrue result → IsFlat (take len buffer.old) }
+    ensures begins { IsTrue result → take (len - 1) buffer.new ≡ output (take len buffer.old) }
+    ensures rest { drop (len - 1) buffer.new ≡ drop (len - 1) buffer.old }
+    ensures kept { result ≡ false → buffer.new ≡ buffer.old }
+{
+    if len < 2 || WINDOW + 1 < len || buffer[0] == 0 || !is_flat(&buffer[..len], 0) {
+        return false;
     }
+    let first = buffer[0] as usize;
+    if !move_nonzero_short(buffer, 1, len - 1) {
+        return false;
+    }
+    write_joints(buffer, first, len);
+    true
+}
+
+/// How many bytes of a buffer stand before a zero that is its last byte, or all of them.
+#[inline(always)]
+fn len_without_end(buffer: &[u8]) -> usize
+    ensures within { result ≤ length buffer.now }
+    ensures stop { result < length buffer.now → slice_index buffer.now result ≡ 0 }
+{
+    let len = buffer.len();
+    if len > 0 && buffer[len - 1] == 0 {
+        return len - 1;
+    }
+    len
 }
 
 /// Decodes the blocks in the first `end` bytes of the buffer, and answers how many bytes they give.
@@ -101,7 +96,7 @@ fn decode_blocks(buffer: &mut [u8], end: usize) -> Result<usize, DecodeError>
     let mut read = 0;
     let mut written = 0;
     'by_front: while read < end {
-        let (len, full) = flat_front(&buffer[read..end]);
+        let (len, full) = front_of(&buffer[read..end]);
         if len == 0 {
             return Err(DecodeError::InvalidFrame {
                 decoded_bytes: written,
@@ -126,7 +121,7 @@ fn decode_front(buffer: &mut [u8], end: usize) -> Result<usize, DecodeError>
     ensures answer { result ≡ head_answer (take end buffer.old) }
     ensures buffer { buffer.new ≡ overwritten buffer.old (kept_output (take end buffer.old)) }
 {
-    let (len, _) = flat_front(&buffer[..end]);
+    let (len, _) = front_of(&buffer[..end]);
     if len == 0 || len < end {
         return decode_blocks(buffer, end);
     }
@@ -153,13 +148,27 @@ fn decode_head(buf: &mut [u8]) -> Result<DecodeReport, DecodeError>
     Ok(DecodeReport::new(end, frame_size))
 }
 
+/// Decodes what stands before the first zero, a short frame by a way of its own, and answers how many bytes it and the
+/// message have.
+fn decode_buffer(buf: &mut [u8]) -> Result<DecodeReport, DecodeError>
+    ensures answer { result ≡ in_place_report buf.old }
+    ensures buffer { buf.new ≡ in_place buf.old }
+    ensures room { IfErr result (λ error. error ≢ TargetBufTooSmall) }
+{
+    let len = len_without_end(buf);
+    if decode_short(buf, len) {
+        return Ok(DecodeReport::new(len, len - 1));
+    }
+    decode_head(buf)
+}
+
 /// Decodes what stands before the first zero, and answers how many bytes the message has.
 fn decode_head_size(buf: &mut [u8]) -> Result<usize, DecodeError>
     ensures answer { result ≡ in_place_answer buf.old }
     ensures buffer { buf.new ≡ in_place buf.old }
     ensures room { IfErr result (λ error. error ≢ TargetBufTooSmall) }
 {
-    Ok(decode_head(buf)?.frame_size())
+    Ok(decode_buffer(buf)?.frame_size())
 }
 
 /// Decodes the frame at the front of the buffer in its own place, up to the first zero or the buffer's end, and answers
@@ -193,7 +202,7 @@ pub fn decode_in_place_report(buf: &mut [u8]) -> Result<DecodeReport, DecodeErro
     ensures room { IfErr result (λ error. error ≢ TargetBufTooSmall) }
 {
     bytes_known(buf);
-    decode_head(buf)
+    decode_buffer(buf)
 }
 
 /// Decodes the frame at the front of the buffer in its own place, up to the first zero or the buffer's end, and answers

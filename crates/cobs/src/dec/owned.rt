@@ -1,14 +1,15 @@
 //! The streaming decoder over a buffer of its own, in memory that it takes once.
 ghost use Rattle.std.specs.Prelude.{◌≡◌, [], replicate, IfOk, ◌↔◌, ◌≤◌, ◌∷◌, ◌++◌, List, length, ℕ};
 ghost use Rattle.std.specs.Borrow.{sem};
-ghost use Rattle.cobs.specs.Decoder.{DecoderAfter, Feeds, Idle};
+ghost use Rattle.cobs.specs.Feed.{DecoderAfter, Feeds, Idle};
 ghost use Rattle.cobs.specs.Grammar.{Reads};
 ghost use Rattle.cobs.specs.Headline.{IsPiece, PushesMessage};
 ghost use Rattle.cobs.specs.Push.{PushesBytes};
-ghost use Rattle.cobs.specs.Buffers.{owned_buffer, owned_phase, LendsOwned};
+ghost use Rattle.cobs.specs.Fields.Decoders.{owned_buffer, owned_phase, LendsOwned};
 
+use crate::dec::error::{DecodeError, PushError};
 use crate::dec::frame_decoder::{FrameDecoder, PieceEnd};
-use crate::dec::report::{DecodeError, DecodeReport, PushError};
+use crate::dec::report::DecodeReport;
 use crate::dec::unbuffered::UnbufferedDecoder;
 use crate::dec::write_buffer::WriteBuffer;
 use std::alloc::{AllocError, Global};
@@ -129,7 +130,7 @@ impl CobsDecoderOwned {
     /// assert_eq!(rt; decoder.dest().len(), 3);
     /// ```
     pub fn dest(&self) -> &[u8]
-        ensures { result.now ≡ owned_buffer self.now }
+        ensures value { result.now ≡ owned_buffer self.now }
     {
         self.dest.as_slice()
     }
@@ -153,7 +154,7 @@ impl CobsDecoderOwned {
 }
 
 impl FrameDecoder for CobsDecoderOwned {
-    ghost use Rattle.cobs.specs.Buffers.{owned_buffer, owned_phase};
+    ghost use Rattle.cobs.specs.Fields.Decoders.{owned_buffer, owned_phase};
 
     ghost bytes = { owned_buffer };
 
@@ -175,7 +176,7 @@ impl FrameDecoder for CobsDecoderOwned {
 }
 
 impl WriteBuffer for CobsDecoderOwned {
-    ghost use Rattle.cobs.specs.Buffers.{with_owned_buffer};
+    ghost use Rattle.cobs.specs.Fields.Decoders.{with_owned_buffer};
     ghost use Rattle.std.proofs.Common.{refl, sym, take_at, drop, length, ◌∙◌};
 
     ghost with_bytes = { with_owned_buffer };

@@ -1,14 +1,15 @@
 //! Pieces that are at hand as a whole: where they end, how long their outputs are, and the outputs.
 ghost use Rattle.std.specs.Prelude.{◌≡◌, ◌+◌, ◌-◌, ◌++◌, ◌<◌, ◌≤◌, ℕ, List, length, take, drop, slice_index};
 ghost use Rattle.cobs.specs.Grammar.{HasNoZero, code_of};
-ghost use Rattle.cobs.specs.Buffer.{overwritten};
-ghost use Rattle.cobs.specs.Decoding.{leading_zeros, sized};
-ghost use Rattle.cobs.specs.Piece.{Decoded, output, last_part, lacks};
+ghost use Rattle.cobs.specs.Overwritten.{overwritten};
+ghost use Rattle.cobs.specs.Decode.{leading_zeros, sized};
+ghost use Rattle.cobs.specs.Internal.Decoded.{Decoded};
+ghost use Rattle.cobs.specs.Piece.{output, last_part, lacks};
 ghost use Rattle.cobs.specs.Stream.{outcome_of};
 
+use crate::dec::error::DecodeError;
 use crate::dec::fit::fitting_len;
 use crate::dec::front::decode_window;
-use crate::dec::report::DecodeError;
 use crate::enc::FULL_CODE;
 use crate::window::{WINDOW, copy_window, first_zero_of_few};
 use memchr::memchr;
@@ -18,7 +19,7 @@ const MANY: usize = 128;
 
 /// What is to be known of a piece once its output is written.
 #[derive(Clone, Copy)]
-pub(crate) struct PieceEnd {
+pub(crate) struct PieceOutput {
     /// The length of the output.
     pub(crate) written: usize,
     /// The code of the last part.
@@ -66,10 +67,10 @@ pub(crate) fn leading_zeros(source: &[u8]) -> usize
 
 /// Copies what stands after the first code of a piece.
 #[inline(always)]
-fn copy_behind_code(piece: &[u8], dest: &mut [u8])
+fn copy_after_code(piece: &[u8], dest: &mut [u8])
     requires some { 0 < length piece.now }
     requires room { length piece.now ≤ length dest.old + 1 }
-    ensures { dest.new ≡ drop 1 piece.now ++ drop (length piece.now - 1) dest.old }
+    ensures copied { dest.new ≡ drop 1 piece.now ++ drop (length piece.now - 1) dest.old }
 {
     let len = piece.len() - 1;
     if len > WINDOW {
@@ -81,7 +82,7 @@ fn copy_behind_code(piece: &[u8], dest: &mut [u8])
 
 /// Decodes a piece in which no code stands after a full part: one copy, and a zero at each code. Codes of one value in
 /// a row go by a loop of their own, as in a window.
-fn decode_end(piece: &[u8], dest: &mut [u8]) -> PieceEnd
+fn decode_flat_piece(piece: &[u8], dest: &mut [u8]) -> PieceOutput
     requires some { 0 < length piece.now }
     requires nonzero { HasNoZero piece.now }
     requires flat { length (output piece.now) + 1 ≡ length piece.now }
@@ -92,7 +93,7 @@ fn decode_end(piece: &[u8], dest: &mut [u8]) -> PieceEnd
     ensures code { result.code ≡ code_of (last_part piece.now) }
     ensures left { result.left ≡ lacks (last_part piece.now) }
 {
-    copy_behind_code(piece, dest);
+    copy_after_code(piece, dest);
     let mut read = 0;
     let mut code = piece[0] as usize;
     'by_code: while code < piece.len() - read {
@@ -105,7 +106,7 @@ fn decode_end(piece: &[u8], dest: &mut [u8]) -> PieceEnd
         }
         code = piece[read] as usize;
     }
-    PieceEnd {
+    PieceOutput {
         written: piece.len() - 1,
         code,
         left: code - (piece.len() - read),
@@ -115,7 +116,7 @@ fn decode_end(piece: &[u8], dest: &mut [u8]) -> PieceEnd
 /// Writes the output of a piece at the front of `dest`, and answers its length and what its last part is.
 ///
 /// Precondition: the output fits. No byte after it is written.
-pub(crate) fn decode_piece(piece: &[u8], dest: &mut [u8]) -> PieceEnd
+pub(crate) fn decode_piece(piece: &[u8], dest: &mut [u8]) -> PieceOutput
     requires some { 0 < length piece.now }
     requires nonzero { HasNoZero piece.now }
     requires room { length (output piece.now) ≤ length dest.old }
@@ -145,8 +146,8 @@ pub(crate) fn decode_piece(piece: &[u8], dest: &mut [u8]) -> PieceEnd
             }
         }
     }
-    let end = decode_end(&piece[read..], &mut dest[written..]);
-    PieceEnd {
+    let end = decode_flat_piece(&piece[read..], &mut dest[written..]);
+    PieceOutput {
         written: written + end.written,
         code: end.code,
         left: end.left,
@@ -159,7 +160,7 @@ pub(crate) fn decode_piece(piece: &[u8], dest: &mut [u8]) -> PieceEnd
 /// Where the output is longer than `dest`, its first bytes fill `dest`; else it stands at the front of `dest`, whole
 /// or broken off, and no byte after it is written.
 #[inline(always)]
-pub(crate) fn decode_ended(
+pub(crate) fn finish_piece(
     piece: &[u8],
     dest: &mut [u8],
     read: usize,

@@ -1,36 +1,8 @@
-//! What the decoders answer.
+//! What the decoders answer of a message: its sizes.
 ghost use Rattle.std.specs.Prelude.{◌≡◌};
-ghost use Rattle.cobs.specs.Report.{frame_size_of, parsed_size_of, report_of};
+ghost use Rattle.cobs.specs.Fields.Report.{frame_size_of, parsed_size_of, report_of};
 
 use serde::{Deserialize, Serialize};
-use thiserror::Error;
-
-/// Why a frame is refused. The names are those of the crate `cobs`.
-///
-/// ```
-/// assert_eq!(rt; decode(&[], &mut [0; 4]), Err(DecodeError::EmptyFrame));
-/// assert_eq!(rt;
-///     decode(&[3, 1, 2], &mut [0; 1]),
-///     Err(DecodeError::TargetBufTooSmall)
-/// );
-/// ```
-#[derive(Debug, Drop, PartialEq, Eq, Error, Serialize, Deserialize)]
-pub enum DecodeError {
-    /// There was no byte to decode.
-    #[error("empty input frame")]
-    EmptyFrame,
-
-    /// The frame breaks off inside a block, or no frame is there.
-    #[error("frame with invalid format, written {decoded_bytes} to decoded buffer")]
-    InvalidFrame {
-        /// How many bytes stand decoded at the front of the buffer.
-        decoded_bytes: usize,
-    },
-
-    /// The buffer is shorter than what the frame decodes to.
-    #[error("target buffer too small")]
-    TargetBufTooSmall,
-}
 
 /// The sizes of a decoded message: how many bytes were consumed for it, and how many it has. The names are those of the
 /// crate `cobs`.
@@ -64,7 +36,7 @@ impl DecodeReport {
     /// assert_eq!(rt; decode(&[0, 1, 0], &mut [])?.parsed_size(), 3);
     /// ```
     pub fn parsed_size(&self) -> usize
-        ensures { result ≡ parsed_size_of self.now }
+        ensures size { result ≡ parsed_size_of self.now }
     {
         self.parsed_size
     }
@@ -75,34 +47,16 @@ impl DecodeReport {
     /// assert_eq!(rt; decode(&[0, 2, 7], &mut [0; 4])?.frame_size(), 1);
     /// ```
     pub fn frame_size(&self) -> usize
-        ensures { result ≡ frame_size_of self.now }
+        ensures size { result ≡ frame_size_of self.now }
     {
         self.frame_size
     }
 }
 
 /// The name that [`DecodeReport`] had. It is deprecated since version 0.5.0: use `DecodeReport`.
+///
+/// ```
+/// let report: DecodingResult = decode(&[2, 7, 0], &mut [0; 4])?;
+/// assert_eq!(rt; report.parsed_size(), 3);
+/// ```
 pub type DecodingResult = DecodeReport;
-
-/// Why a `push` of a streaming decoder found no message, and after how many bytes. (A choice of this library.)
-///
-/// The decoder has taken these bytes and none after them, so the caller goes on by pushing the others.
-///
-/// ```
-/// let mut buffer = [0; 4];
-/// let mut decoder = CobsDecoder::new(&mut buffer);
-/// let refused = PushError {
-///     error: DecodeError::InvalidFrame { decoded_bytes: 1 },
-///     parsed_size: 3,
-/// };
-/// assert_eq!(rt; decoder.push(&[3, 7, 0, 2, 9, 0]), Err(refused));
-/// ```
-#[derive(Debug, Drop, PartialEq, Eq, Error)]
-#[error("{error}")]
-pub struct PushError {
-    /// The answer to the last byte that was consumed.
-    pub error: DecodeError,
-
-    /// How many bytes were consumed, the one that raised the error included.
-    pub parsed_size: usize,
-}

@@ -1,15 +1,19 @@
 //! Decoding a frame for any sentinel, from a source that stays as it is.
-ghost use Rattle.std.specs.Prelude.{◌≡◌, ◌≢◌, ◌+◌, ◌++◌, ◌<◌, ◌≤◌, All, length, take, drop, slice_index, ◌↔◌, List, ℕ};
-ghost use Rattle.cobs.specs.Buffer.{overwritten};
-ghost use Rattle.cobs.specs.Decoding.{head_answer_within, source_answer};
+ghost use Rattle.std.specs.Prelude.{◌≡◌, IsTrue, false, ◌≢◌, ◌+◌, ◌-◌, if◌then◌else◌, ◌++◌, ◌<◌, ◌≤◌, All, length, take, drop, slice_index, ◌↔◌, List, ℕ};
+ghost use Rattle.cobs.specs.Overwritten.{overwritten};
+ghost use Rattle.cobs.specs.Decode.{head_answer_within, source_answer};
 ghost use Rattle.cobs.specs.Grammar.{HasNoZero, Reads};
 ghost use Rattle.cobs.specs.Headline.{AnswersMessage, IsPiece};
-ghost use Rattle.cobs.specs.Piece.{kept_output};
+ghost use Rattle.cobs.specs.Piece.{kept_output, output};
+ghost use Rattle.cobs.specs.Internal.Decoded.{IsFlat};
 ghost use Rattle.cobs.specs.Sentinel.{xor_each};
 ghost use Rattle.cobs.specs.Stream.{head};
 
-use crate::dec::report::DecodeError;
+use crate::dec::error::DecodeError;
+use crate::dec::flat::{flat_front, is_flat, write_joints};
+use crate::dec::xored::copy_xored_short;
 use crate::enc::FULL_CODE;
+use crate::window::WINDOW;
 use memchr::memchr;
 
 /// Where the first sentinel of the source stands, or the source's length where it has none.
@@ -22,6 +26,7 @@ fn first_sentinel(source: &[u8], sentinel: u8) -> usize
 }
 
 /// Writes the bytes of the source, each changed by exclusive or with the sentinel, to where `at` says.
+#[inline(never)]
 fn copy_xored(source: &[u8], dest: &mut [u8], at: usize, sentinel: u8)
     requires { at + length source.now ≤ length dest.old }
     ensures { dest.new ≡ take at dest.old ++ xor_each sentinel source.now
@@ -33,6 +38,7 @@ fn copy_xored(source: &[u8], dest: &mut [u8], at: usize, sentinel: u8)
 }
 
 /// Decodes the blocks of a source that has no sentinel, and answers how many bytes they give.
+#[inline(never)]
 fn decode_blocks(source: &[u8], dest: &mut [u8], sentinel: u8) -> Result<usize, DecodeError>
     requires { HasNoZero (xor_each sentinel source.now) }
     ensures answer { result ≡ head_answer_within (xor_each sentinel source.now) (length dest.old) }
@@ -66,6 +72,96 @@ fn decode_blocks(source: &[u8], dest: &mut [u8], sentinel: u8) -> Result<usize, 
     Ok(written)
 }
 
+/// Decodes whole blocks of which none but the last is full to the front of `dest`: one copy, and a zero at each code.
+/// Each byte after what they give stays.
+fn decode_flat(source: &[u8], dest: &mut [u8], sentinel: u8)
+    requires nonzero { HasNoZero (xor_each sentinel source.now) }
+    requires flat { IsFlat (xor_each sentinel source.now) }
+    requires room { length source.now ≤ length dest.old + 1 }
+    ensures begins { take (length source.now - 1) dest.new
+        ≡ output (xor_each sentinel source.now) }
+    ensures rest { drop (length source.now - 1) dest.new ≡ drop (length source.now - 1) dest.old }
+{
+    let first = (source[0] ^ sentinel) as usize;
+    copy_xored(&source[1..], dest, 0, sentinel);
+    write_joints(dest, first, source.len());
+}
+
+/// How many zeros are due after blocks: one, unless the last of them is full, or is the last of all.
+fn joint_len(full: bool, last: bool) -> usize
+    ensures { result ≡ (if full then 0 else (if last then 0 else 1)) }
+{
+    if full || last { 0 } else { 1 }
+}
+
+/// Decodes the blocks of a source that has no sentinel, and answers how many bytes they give.
+///
+/// The whole blocks through each full one are decoded by one copy; where their bytes don't fit, it begins again, and
+/// goes by blocks.
+fn decode_fronts(source: &[u8], dest: &mut [u8], sentinel: u8) -> Result<usize, DecodeError>
+    requires { HasNoZero (xor_each sentinel source.now) }
+    ensures answer { result ≡ head_answer_within (xor_each sentinel source.now) (length dest.old) }
+    ensures buffer { dest.new ≡ overwritten dest.old (kept_output (xor_each sentinel source.now)) }
+{
+    let mut read = 0;
+    let mut written = 0;
+    'by_front: while read < source.len() {
+        let (len, full) = flat_front(&source[read..], sentinel);
+        if len == 0 {
+            return Err(DecodeError::InvalidFrame {
+                decoded_bytes: written,
+            });
+        }
+        if dest.len() - written < len - 1 + joint_len(full, read + len == source.len()) {
+            return decode_blocks(source, dest, sentinel);
+        }
+        decode_flat(&source[read..read + len], &mut dest[written..], sentinel);
+        read += len;
+        written += len - 1;
+        if !full && read < source.len() {
+            dest[written] = 0;
+            written += 1;
+        }
+    }
+    Ok(written)
+}
+
+/// Decodes a source of 2 to 33 bytes, if these are whole blocks without a sentinel that fit; says whether it did. Each
+/// byte after what they give stays, or where it did not every byte.
+fn decode_short(source: &[u8], dest: &mut [u8], sentinel: u8) -> bool
+    ensures nonzero { IsTrue result → HasNoZero (xor_each sentinel source.now) }
+    ensures flat { IsTrue result → IsFlat (xor_each sentinel source.now) }
+    ensures room { IsTrue result → length source.now ≤ length dest.old + 1 }
+    ensures begins { IsTrue result → take (length source.now - 1) dest.new
+        ≡ output (xor_each sentinel source.now) }
+    ensures rest { drop (length source.now - 1) dest.new ≡ drop (length source.now - 1) dest.old }
+    ensures kept { result ≡ false → dest.new ≡ dest.old }
+{
+    let len = source.len();
+    if len < 2 || WINDOW + 1 < len || dest.len() < len - 1 || source[0] == sentinel {
+        return false;
+    }
+    if !is_flat(source, sentinel) || !copy_xored_short(&source[1..], dest, sentinel) {
+        return false;
+    }
+    write_joints(dest, (source[0] ^ sentinel) as usize, len);
+    true
+}
+
+/// How many bytes of the source stand before a sentinel that is its last byte, or all of them.
+fn len_without_end(source: &[u8], sentinel: u8) -> usize
+    requires { 0 < length source.now }
+    ensures within { result ≤ length source.now }
+    ensures stop { result < length source.now → slice_index source.now result ≡ sentinel }
+{
+    let last = source.len() - 1;
+    if source[last] == sentinel {
+        last
+    } else {
+        source.len()
+    }
+}
+
 /// Decodes what stands before the first sentinel of the source.
 fn decode_source(source: &[u8], dest: &mut [u8], sentinel: u8) -> Result<usize, DecodeError>
     ensures answer { result ≡ source_answer (xor_each sentinel source.now) (length dest.old) }
@@ -75,8 +171,12 @@ fn decode_source(source: &[u8], dest: &mut [u8], sentinel: u8) -> Result<usize, 
     if source.is_empty() {
         return Err(DecodeError::EmptyFrame);
     }
+    let len = len_without_end(source, sentinel);
+    if decode_short(&source[..len], dest, sentinel) {
+        return Ok(len - 1);
+    }
     let end = first_sentinel(source, sentinel);
-    decode_blocks(&source[..end], dest, sentinel)
+    decode_fronts(&source[..end], dest, sentinel)
 }
 
 /// Decodes the frame at the front of the source, where the sentinel may be any byte, and answers the message's length.

@@ -1,12 +1,12 @@
 //! Short sources: by one class of their length, they are searched for a zero and copied at once.
 ghost use Rattle.std.specs.Prelude.{◌≡◌, ◌+◌, ◌-◌, ◌<◌, ◌≤◌, ◌++◌, IsTrue, false, length, take, drop};
-ghost use Rattle.cobs.specs.Buffer.{overwritten};
-ghost use Rattle.cobs.specs.Decoding.{sized};
+ghost use Rattle.cobs.specs.Overwritten.{overwritten};
+ghost use Rattle.cobs.specs.Decode.{sized};
 ghost use Rattle.cobs.specs.Grammar.{HasNoZero};
 ghost use Rattle.cobs.specs.Piece.{output};
 ghost use Rattle.cobs.specs.Stream.{outcome_of};
 
-use crate::dec::report::DecodeError;
+use crate::dec::error::DecodeError;
 use crate::window::{WIDE_WINDOW, copy_nonzero_short};
 
 /// Copies what stands after the first byte of a source, if that is some bytes, at most 64, they fit, and none is a

@@ -4,7 +4,7 @@ ghost use Rattle.cobs.specs.Grammar.{Reads};
 ghost use Rattle.cobs.specs.Table.{data_of, opened_by, table_answer, table_state, StateAfter};
 ghost use Rattle.cobs.specs.declared.dec.state.DecodeResult.TheVariants.{DataComplete};
 
-use crate::dec::report::DecodeError;
+use crate::dec::error::DecodeError;
 
 /// Where a decoder stands in a frame.
 ///
@@ -58,6 +58,10 @@ impl Default for DecoderState {
     ghost is_default = { λ state. state ≡ Idle };
 
     /// The start: no byte has come.
+    ///
+    /// ```
+    /// assert!(rt; matches!(DecoderState::default(), DecoderState::Idle));
+    /// ```
     fn default() -> Self
         ensures start { result ≡ Idle }
         ensures after_nothing { StateAfter result [] [] }
@@ -70,7 +74,7 @@ impl DecoderState {
     /// The state after a code, which lacks all the bytes that the code counts.
     fn opened(code: u8) -> DecoderState
         requires { code ≢ 0 }
-        ensures { result ≡ opened_by code }
+        ensures opened { result ≡ opened_by code }
     {
         if code == 255 {
             DecoderState::GrabChain(254)

@@ -1,22 +1,26 @@
 //! The streaming decoder whose buffer is passed to each call. The three others stand on it.
-ghost use Rattle.std.specs.Prelude.{◌≡◌, ◌<◌, ◌≤◌, ℕ, false, List, [], length, take, Err, IfOk, IfSome, ◌++◌};
+ghost use Rattle.std.specs.Prelude.{◌≡◌, ◌<◌, ◌≤◌, ◌+◌, ℕ, false, List, [], length, take, drop, Err, IfOk, IfSome, ◌++◌};
 ghost use Rattle.cobs.specs.Grammar.{HasNoZero};
-ghost use Rattle.cobs.specs.Decoder.{DecoderAfter, Feeds, Idle, Over, Phase};
-ghost use Rattle.cobs.specs.declared.dec.report.DecodeError.TheVariants.{TargetBufTooSmall};
-ghost use Rattle.cobs.specs.Buffers.{phase_at, phase_of};
-ghost use Rattle.cobs.specs.Machine.{next_phase, next_buffer, next_answer, end_answer, FedInTurn};
+ghost use Rattle.cobs.specs.Feed.{DecoderAfter, Feeds, Idle, Over, Phase};
+ghost use Rattle.cobs.specs.declared.dec.error.DecodeError.TheVariants.{TargetBufTooSmall};
+ghost use Rattle.cobs.specs.Fields.Decoders.{phase_at, phase_of};
+ghost use Rattle.cobs.specs.Internal.Step.{next_phase, next_buffer, next_answer, end_answer, FedInTurn};
 ghost use Rattle.cobs.specs.Push.{PushesBytes};
-ghost use Rattle.cobs.specs.Streaming.{LeavesRest, TakesBytes, TakesPiece};
+ghost use Rattle.cobs.specs.Internal.PieceEnds.{LeavesRest};
+ghost use Rattle.cobs.specs.FeedPiece.{TakesBytes, TakesPiece};
 
+use crate::dec::chunk::copy_to_zero;
+use crate::dec::error::{DecodeError, PushError};
 use crate::dec::fit::fitting_len;
 use crate::dec::frame_decoder::{PieceEnd, piece_end};
 use crate::dec::piece::{decode_piece, piece_len};
-use crate::dec::report::{DecodeError, DecodeReport, PushError};
+use crate::dec::report::DecodeReport;
 use crate::enc::FULL_CODE;
+use crate::window::{WIDE_WINDOW, WINDOW};
 use std::mem;
 
-/// So many bytes are worth a search for a zero and a copy.
-const FEW: usize = 16;
+/// So many bytes after the first ones are worth a search for the end of their piece.
+const MANY: usize = 128;
 
 /// The code of a full block, as a byte.
 const FULL: u8 = FULL_CODE as u8;
@@ -197,7 +201,7 @@ impl UnbufferedDecoder {
     /// assert!(rt; buffer.starts_with(&[7, 8, 9]));
     /// ```
     pub fn from_phase(phase: DecoderPhase) -> Self
-        ensures { phase_of result ≡ phase_at phase }
+        ensures phase { phase_of result ≡ phase_at phase }
     {
         match phase {
             DecoderPhase::Idle => UnbufferedDecoder::new(),
@@ -226,7 +230,7 @@ impl UnbufferedDecoder {
     /// assert_eq!(rt; UnbufferedDecoder::new().phase(), DecoderPhase::Idle);
     /// ```
     pub fn phase(&self) -> DecoderPhase
-        ensures { phase_at result ≡ phase_of self.now }
+        ensures phase { phase_at result ≡ phase_of self.now }
     {
         if self.over {
             return DecoderPhase::TooLong;
@@ -277,7 +281,8 @@ impl UnbufferedDecoder {
     /// assert_eq!(rt; buffer, [7, 0]);
     /// ```
     pub fn feed(&mut self, dest: &mut [u8], byte: u8) -> Result<Option<usize>, DecodeError>
-        ensures { Feeds dest.old (phase_of self.old) byte result dest.new (phase_of self.new) }
+        ensures feeds { Feeds dest.old (phase_of self.old) byte result
+            dest.new (phase_of self.new) }
     {
         self.step(dest, byte)
     }
@@ -351,62 +356,120 @@ impl UnbufferedDecoder {
         run + self.take_blocks(dest, &stretch[run..])
     }
 
-    /// Takes the first bytes up to a zero, as far as their output fits the buffer, one by one, and answers how many:
-    /// for bytes so few that a search and copies cost more.
+    /// Writes a zero at each code of a stretch that was copied after the output so far, and goes on after it. `alike`
+    /// says that codes of one value in a row are worth a loop of their own, which needn't wait for each code to know
+    /// where the next is.
     #[inline(always)]
-    fn take_few(&mut self, dest: &mut [u8], bytes: &[u8]) -> usize
+    fn mark_codes(&mut self, dest: &mut [u8], stretch: &[u8], alike: bool)
+        requires nonzero { HasNoZero stretch.now }
+        requires few { length stretch.now ≤ 64 }
+        requires going { self.old.over ≡ false }
+        requires flat { self.old.code ≡ 255 → length stretch.now ≤ self.old.left }
+        requires room { self.old.dest_idx + length stretch.now ≤ length dest.old }
+        ensures fed { (before : List ℕ) → let behind = self.old.dest_idx + length stretch.now in
+            length before ≡ length dest.old
+            → dest.old ≡ take self.old.dest_idx before ++ (stretch.now ++ drop behind before)
+            → FedInTurn before (phase_of self.old) stretch.now dest.new (phase_of self.new) }
+        ensures going { self.new.over ≡ false }
+    {
+        let at = self.dest_idx;
+        let mut next = self.left as usize;
+        let mut code = self.code;
+        'by_code: while next < stretch.len() {
+            code = stretch[next];
+            'in_row: loop {
+                dest[at + next] = 0;
+                next += code as usize;
+                if !alike || stretch.len() <= next || stretch[next] != code {
+                    break;
+                }
+            }
+        }
+        self.code = code;
+        self.left = (next - stretch.len()) as u8;
+        self.dest_idx = at + stretch.len();
+    }
+
+    /// Takes the code at the front where no zero joins it to anything, and answers how many bytes that is.
+    #[inline(always)]
+    fn take_code(&mut self, bytes: &[u8]) -> usize
+        requires going { self.old.over ≡ false }
+        ensures within { result ≤ length bytes.now }
+        ensures fed { (buffer : List ℕ) → FedInTurn buffer (phase_of self.old)
+            (take result bytes.now) buffer (phase_of self.new) }
+        ensures going { self.new.over ≡ false }
+    {
+        if self.left != 0 || self.code != FULL || bytes.is_empty() || bytes[0] == 0 {
+            return 0;
+        }
+        self.code = bytes[0];
+        self.left = bytes[0] - 1;
+        1
+    }
+
+    /// Takes first bytes up to a zero, as many as one step can take, and answers how many: a code that nothing is
+    /// joined to, or up to 64 bytes in which no full block ends.
+    #[inline(always)]
+    fn take_part(&mut self, dest: &mut [u8], bytes: &[u8]) -> usize
+        requires going { self.old.over ≡ false }
         ensures within { result ≤ length bytes.now }
         ensures fed { FedInTurn dest.old (phase_of self.old) (take result bytes.now)
             dest.new (phase_of self.new) }
+        ensures going { self.new.over ≡ false }
     {
-        if self.over {
+        if self.left == 0 && self.code == FULL {
+            return self.take_code(bytes);
+        }
+        let mut most = bytes.len().min(dest.len().saturating_sub(self.dest_idx));
+        if self.code == FULL {
+            most = most.min(self.left as usize);
+        }
+        if most == 0 {
             return 0;
         }
-        let mut code = self.code;
-        let mut left = self.left;
-        let mut at = self.dest_idx;
-        let mut run = 0;
-        'by_byte: while run < bytes.len() && bytes[run] != 0 {
-            let byte = bytes[run];
-            if left != 0 {
-                if dest.len() <= at {
-                    break;
-                }
-                dest[at] = byte;
-                at += 1;
-                left -= 1;
-            } else {
-                if code != FULL {
-                    if dest.len() <= at {
-                        break;
-                    }
-                    dest[at] = 0;
-                    at += 1;
-                }
-                code = byte;
-                left = byte - 1;
-            }
-            run += 1;
-        }
-        self.code = code;
-        self.left = left;
-        self.dest_idx = at;
-        run
+        let len = copy_to_zero(&bytes[..most], dest, self.dest_idx);
+        self.mark_codes(dest, &bytes[..len], WINDOW <= len);
+        len
     }
 
-    /// Takes first bytes that are each answered by `Ok(None)`, as many as can be taken at once, and answers how many.
+    /// Takes first bytes that are each answered by `Ok(None)`, up to a zero, as many as can be taken at once, and
+    /// answers how many: by steps, and where much is left, by one search and whole blocks.
     #[inline(always)]
     fn take_run(&mut self, dest: &mut [u8], bytes: &[u8]) -> usize
         ensures within { result ≤ length bytes.now }
         ensures fed { FedInTurn dest.old (phase_of self.old) (take result bytes.now)
             dest.new (phase_of self.new) }
     {
-        // A piece that is too long is answered byte by byte, and no search for its end may run for each of them.
-        if self.over || bytes.len() < FEW {
-            return self.take_few(dest, bytes);
+        // A piece that is too long is answered byte by byte.
+        if self.over {
+            return 0;
         }
-        let end = piece_len(bytes);
-        self.take_stretch(dest, &bytes[..end])
+        // A copy, so that it stays in registers.
+        let mut here = UnbufferedDecoder {
+            dest_idx: self.dest_idx,
+            left: self.left,
+            code: self.code,
+            over: false,
+        };
+        let mut run = here.take_code(bytes);
+        'by_part: while run < bytes.len()
+            && bytes[run] != 0
+            && (run < WIDE_WINDOW || bytes.len() - run < MANY)
+        {
+            let part = here.take_part(dest, &bytes[run..]);
+            run += part;
+            if part == 0 {
+                break;
+            }
+        }
+        self.dest_idx = here.dest_idx;
+        self.left = here.left;
+        self.code = here.code;
+        if run < WIDE_WINDOW || bytes.len() - run < MANY {
+            return run;
+        }
+        let end = run + piece_len(&bytes[run..]);
+        run + self.take_stretch(dest, &bytes[run..end])
     }
 
     /// Takes bytes of the stream, over this buffer, up to the first one whose answer by `feed` isn't `Ok(None)`.
@@ -431,7 +494,7 @@ impl UnbufferedDecoder {
     /// assert_eq!(rt; buffer, [7, 8]);
     /// ```
     pub fn push(&mut self, dest: &mut [u8], bytes: &[u8]) -> Result<Option<DecodeReport>, PushError>
-        ensures { PushesBytes dest.old (phase_of self.old) bytes.now result
+        ensures pushes { PushesBytes dest.old (phase_of self.old) bytes.now result
             dest.new (phase_of self.new) }
     {
         let mut at = 0;
@@ -460,7 +523,8 @@ impl UnbufferedDecoder {
         ensures takes { TakesBytes dest.old (phase_of self.old) (take result bytes.now) []
             dest.new (phase_of self.new) }
         ensures rest { (buffer : List ℕ) (phase : Phase) (done : List ℕ)
-            → TakesBytes buffer phase done [] dest.old (phase_of self.old) → LeavesRest buffer phase done dest.old
+            → TakesBytes buffer phase done [] dest.old (phase_of self.old)
+            → LeavesRest buffer phase done dest.old
             → LeavesRest buffer phase (done ++ take result bytes.now) dest.new }
     {
         if self.over {
@@ -491,7 +555,7 @@ impl UnbufferedDecoder {
     /// );
     /// ```
     pub fn feed_piece(&mut self, dest: &mut [u8], bytes: &[u8]) -> Option<(PieceEnd, usize)>
-        ensures { TakesPiece dest.old (phase_of self.old) bytes.now result
+        ensures takes { TakesPiece dest.old (phase_of self.old) bytes.now result
             dest.new (phase_of self.new) }
     {
         let mut taken = 0;

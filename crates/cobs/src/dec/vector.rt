@@ -1,56 +1,15 @@
 //! Messages in vectors of their own.
 ghost use Rattle.std.specs.Prelude.{◌≡◌, ◌≢◌, [], IfOk, IfErr, ◌↔◌, IsOkAnd, List, ℕ};
-ghost use Rattle.cobs.specs.Decoding.{decoded, decoded_head, IsRefusal};
+ghost use Rattle.cobs.specs.Decode.{decoded, decoded_head, IsRefusal};
 ghost use Rattle.cobs.specs.Grammar.{Reads};
 ghost use Rattle.cobs.specs.Headline.{FoundMemory, IsPiece};
 ghost use Rattle.cobs.specs.Sentinel.{xor_each};
-ghost use Rattle.cobs.specs.declared.dec.report.DecodeError.TheVariants.{EmptyFrame, TargetBufTooSmall};
+ghost use Rattle.cobs.specs.declared.dec.error.DecodeError.TheVariants.{EmptyFrame, TargetBufTooSmall};
 
 use crate::dec::decode;
-use crate::dec::report::DecodeError;
+use crate::dec::error::{DecodeError, DecodeVecError};
 use crate::dec::sentinel::decode_with_sentinel;
-use std::alloc::{AllocError, Global};
-use thiserror::Error;
-
-/// Why a source gave no vector. (A choice of this library: memory may be refused, and nothing aborts.)
-///
-/// ```
-/// let refused = decode_vec(alloc, &[]);
-/// assert_eq!(rt;
-///     refused,
-///     Err(DecodeVecError::Decode(DecodeError::EmptyFrame))
-/// );
-/// ```
-#[derive(Debug, Drop, PartialEq, Eq, Error)]
-pub enum DecodeVecError {
-    /// The source has no message.
-    #[error("{0}")]
-    Decode(DecodeError),
-
-    /// There was no memory for the vector.
-    #[error("out of memory")]
-    Memory(AllocError),
-}
-
-/// The message of the first piece of the source.
-fn message_of_source(alloc: Global, source: &[u8]) -> Result<Vec<u8>, DecodeVecError>
-    ensures message { IfOk result (λ message. decoded source.now ≡ Ok message.items) }
-    ensures refused { IfErr result (λ error. IsRefusal (decoded source.now) error) }
-    ensures empty { source.now ≡ [] → result ≡ Err (DecodeVecError.Decode EmptyFrame) }
-    ensures room { IfErr result (λ error. error ≢ DecodeVecError.Decode TargetBufTooSmall) }
-{
-    if source.is_empty() {
-        return Err(DecodeVecError::Decode(DecodeError::EmptyFrame));
-    }
-    let mut message = vec![in alloc; 0; source.len()].map_err(DecodeVecError::Memory)?;
-    match decode(source, &mut message) {
-        Ok(report) => {
-            message.truncate(report.frame_size());
-            Ok(message)
-        }
-        Err(error) => Err(DecodeVecError::Decode(error)),
-    }
-}
+use std::alloc::Global;
 
 /// The message of the first frame of the source, in a vector of exactly its bytes.
 ///
@@ -74,25 +33,13 @@ pub fn decode_vec(alloc: Global, source: &[u8]) -> Result<Vec<u8>, DecodeVecErro
     ensures reads { IsPiece source.now → FoundMemory result → (m : List ℕ)
         → (IsOkAnd result (λ message. message.items ≡ m) ↔ Reads source.now m) }
 {
-    message_of_source(alloc, source)
-}
-
-/// The message of what stands before the first sentinel of the source.
-fn message_of_front(alloc: Global, source: &[u8], sentinel: u8) -> Result<Vec<u8>, DecodeVecError>
-    ensures message { IfOk result
-        (λ message. decoded_head (xor_each sentinel source.now) ≡ Ok message.items) }
-    ensures refused { IfErr result
-        (λ error. IsRefusal (decoded_head (xor_each sentinel source.now)) error) }
-    ensures empty { source.now ≡ [] → result ≡ Err (DecodeVecError.Decode EmptyFrame) }
-    ensures room { IfErr result (λ error. error ≢ DecodeVecError.Decode TargetBufTooSmall) }
-{
     if source.is_empty() {
         return Err(DecodeVecError::Decode(DecodeError::EmptyFrame));
     }
     let mut message = vec![in alloc; 0; source.len()].map_err(DecodeVecError::Memory)?;
-    match decode_with_sentinel(source, &mut message, sentinel) {
-        Ok(len) => {
-            message.truncate(len);
+    match decode(source, &mut message) {
+        Ok(report) => {
+            message.truncate(report.frame_size());
             Ok(message)
         }
         Err(error) => Err(DecodeVecError::Decode(error)),
@@ -130,5 +77,15 @@ pub fn decode_vec_with_sentinel(
         IsPiece f → FoundMemory result → (m : List ℕ)
         → (IsOkAnd result (λ message. message.items ≡ m) ↔ Reads f m) }
 {
-    message_of_front(alloc, source, sentinel)
+    if source.is_empty() {
+        return Err(DecodeVecError::Decode(DecodeError::EmptyFrame));
+    }
+    let mut message = vec![in alloc; 0; source.len()].map_err(DecodeVecError::Memory)?;
+    match decode_with_sentinel(source, &mut message, sentinel) {
+        Ok(len) => {
+            message.truncate(len);
+            Ok(message)
+        }
+        Err(error) => Err(DecodeVecError::Decode(error)),
+    }
 }

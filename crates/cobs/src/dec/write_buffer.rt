@@ -1,19 +1,19 @@
 //! Writing to a decoder's buffer, so that callers know what the decoder then is.
 ghost use Rattle.std.specs.Prelude.{◌≡◌, ◌+◌, ◌≤◌, ℕ, List, length};
 ghost use Rattle.std.specs.Borrow.{sem};
-ghost use Rattle.cobs.specs.Buffer.{written_at};
-ghost use Rattle.cobs.specs.Buffers.{LendsBytes};
+ghost use Rattle.cobs.specs.Overwritten.{written_at};
+ghost use Rattle.cobs.specs.Fields.Decoders.{LendsBytes};
 
 use crate::dec::frame_decoder::FrameDecoder;
 
-/// A decoder that lends its buffer to be written to.
+/// A decoder whose buffer can be borrowed to be written to.
 ///
 /// Writing changes the buffer's bytes to those that were written, and neither where the decoder stands nor which
 /// slice its buffer is. So a decoder that has taken the front of a piece (`PhaseAfter`) still has: each answer that
 /// this piece gets is the same, and only the bytes of its message are then not known.
 ///
-/// Each streaming decoder has a method `dest_mut` of its own too. Of a `CobsDecoder`, whose slice is itself a loan, a
-/// caller's proof learns through that method only what stands in the slice while it is lent. Such a caller writes by
+/// Each streaming decoder has a method `dest_mut` of its own too. Of a `CobsDecoder`, whose slice is itself borrowed, a
+/// caller's proof learns through that method only what stands in the slice meanwhile. Such a caller writes by
 /// [`write_dest`](WriteBuffer::write_dest), or in code that is generic over this trait. (The trait is this library's
 /// own.)
 ///

@@ -1,10 +1,13 @@
 //! How a message is cut into blocks: the core that every encoder into a slice stands on.
-ghost use Rattle.std.specs.Prelude.{◌≡◌, ◌≢◌, ◌<◌, ◌≤◌, ◌+◌, ◌-◌, ◌%◌, ◌^◌, ◌++◌, [], ℕ, List, false, length, take, drop, slice_set};
+ghost use Rattle.std.specs.Prelude.{◌≡◌, ◌≢◌, ◌<◌, ◌≤◌, ◌+◌, ◌-◌, ◌%◌, ◌^◌, ◌++◌, [], ℕ, IsTrue, List, false, length, take, drop, replicate, slice_set};
 ghost use Rattle.cobs.specs.Grammar.{IsEncodedFrame};
-ghost use Rattle.cobs.specs.Encoder.{CobsEncoderAfter, end_of, open_len};
-ghost use Rattle.cobs.specs.Mask.{lowest, without_lowest};
+ghost use Rattle.cobs.specs.OpenBlock.{CobsEncoderAfter, end_of};
+ghost use Rattle.cobs.specs.Internal.OpenLen.{open_len};
+ghost use Rattle.cobs.specs.Internal.Mask.{lowest, without_lowest};
 
-use crate::window::{WINDOW, copy_32, copy_window, is_all_zeros, write_ones, write_some_ones};
+use crate::window::{
+    WINDOW, copy_32, copy_window, is_all_zeros, write_ones, write_some_ones, zeros_32,
+};
 use std::marker::Model;
 
 /// The code of a full block, which is how many bytes the block has with its code.
@@ -24,7 +27,7 @@ pub(crate) struct Progress {
 
 impl Model for Progress {
     ghost use Rattle.std.specs.Prelude.{◌<◌, ◌+◌, ◌-◌};
-    ghost use Rattle.cobs.specs.Encoder.{Reached};
+    ghost use Rattle.cobs.specs.OpenBlock.{Reached};
 
     ghost Value = { Reached };
 
@@ -79,6 +82,20 @@ impl Progress {
         self.full
     }
 
+    /// Whether `len` more bytes are fewer than a window, can't fill the open block, and end at `end` at the latest.
+    #[inline(always)]
+    pub(crate) fn has_room(&self, len: usize, end: usize) -> bool
+        requires { self.now.block.index ≤ end }
+        ensures some { 0 < self.now.block.code }
+        ensures few { IsTrue result → len < 32 }
+        ensures open_block { IsTrue result → self.now.block.code + len < 255 }
+        ensures fits { IsTrue result → self.now.block.index + self.now.block.code + len ≤ end }
+    {
+        len < WINDOW
+            && self.next - self.index + len < FULL_CODE
+            && self.next - self.index + len <= end - self.index
+    }
+
     /// Where the code of the open block belongs.
     pub(crate) fn index(&self) -> usize
         ensures { result ≡ self.now.block.index }
@@ -115,9 +132,10 @@ fn mark_first(dest: &mut [u8], index: usize, next: usize, zeros: u64) -> (usize,
 }
 
 /// Takes a `source` of fewer than 32 bytes that can't fill the open block, by few branches that could be guessed wrong:
-/// two zeros are marked before the first question is how many there are.
+/// two zeros are marked before the first question is how many there are. With `few_zeros` a source without zeros is
+/// asked for before that.
 #[inline(always)]
-fn append_short(source: &[u8], dest: &mut [u8], progress: &mut Progress)
+pub(crate) fn append_short(source: &[u8], dest: &mut [u8], progress: &mut Progress, few_zeros: bool)
     requires some { 0 < length source.now }
     requires few { length source.now < 32 }
     requires open_block { progress.old.block.code + length source.now < 255 }
@@ -131,9 +149,14 @@ fn append_short(source: &[u8], dest: &mut [u8], progress: &mut Progress)
     ensures rest { drop (end_of progress.new) dest.new ≡ drop (end_of progress.new) dest.old }
 {
     let len = source.len();
+    let start = progress.index;
     let next = progress.next;
     let mask = copy_window(source, 0, len, dest, next);
-    let (first, left) = mark_first(dest, progress.index, next, mask);
+    if few_zeros && mask == 0 {
+        progress.set(start, next + len, false);
+        return;
+    }
+    let (first, left) = mark_first(dest, start, next, mask);
     let (mut index, mut zeros) = mark_first(dest, first, next, left);
     if zeros != 0 && is_all_zeros(mask, len) {
         write_some_ones(dest, next, len);
@@ -202,7 +225,7 @@ fn append_windows(source: &[u8], dest: &mut [u8], progress: &mut Progress)
 
 /// Takes the last bytes of a source, which may be all of it.
 #[inline(always)]
-fn append_last(source: &[u8], dest: &mut [u8], progress: &mut Progress)
+pub(crate) fn append_last(source: &[u8], dest: &mut [u8], progress: &mut Progress)
     requires { progress.old.block.index + open_len progress.old.block.code source.now
         ≤ length dest.old }
     ensures after { (m : List ℕ) → CobsEncoderAfter dest.old progress.old m
@@ -214,10 +237,36 @@ fn append_last(source: &[u8], dest: &mut [u8], progress: &mut Progress)
 {
     let len = source.len();
     if len > 0 && len < WINDOW && progress.code() + len < FULL_CODE {
-        append_short(source, dest, progress);
+        append_short(source, dest, progress, false);
     } else {
         append_windows(source, dest, progress);
     }
+}
+
+/// Writes blocks with no bytes in the place of the 32 zeros from `read` on, and of those after them, 32 at a time, while
+/// more than 32 bytes are left. Answers how many zeros these are.
+#[inline(always)]
+fn write_rows(source: &[u8], read: usize, dest: &mut [u8], at: usize) -> usize
+    requires source { read + 32 < length source.now }
+    requires zeros { take 32 (drop read source.now) ≡ replicate 32 0 }
+    requires room { at + (length source.now - read) ≤ length dest.old }
+    ensures some { 32 ≤ result }
+    ensures within { read + result < length source.now }
+    ensures zeros { take result (drop read source.now) ≡ replicate result 0 }
+    ensures ones { dest.new ≡ take at dest.old
+        ++ (replicate result 1 ++ drop (at + result) dest.old) }
+{
+    write_ones(dest, at);
+    let last = source.len() - read - WINDOW;
+    let mut count = WINDOW;
+    'by_row: while count < last {
+        if zeros_32(source, read + count) != ALL_ZEROS {
+            return count;
+        }
+        write_ones(dest, at + count);
+        count += WINDOW;
+    }
+    count
 }
 
 /// Takes whole windows of 32 bytes while more than one is left, and answers how many bytes these are.
@@ -228,7 +277,7 @@ fn append_last(source: &[u8], dest: &mut [u8], progress: &mut Progress)
 /// written after what the frame needs at the least, so a slice of exactly the frame's length is enough.
 #[inline(always)]
 fn append_whole_windows(source: &[u8], dest: &mut [u8], progress: &mut Progress) -> usize
-    requires some { 0 < length source.now }
+    requires some { 32 < length source.now }
     requires fits { progress.old.block.index + open_len progress.old.block.code source.now
         ≤ length dest.old }
     ensures within { result < length source.now }
@@ -246,34 +295,43 @@ fn append_whole_windows(source: &[u8], dest: &mut [u8], progress: &mut Progress)
     let mut next = progress.next;
     let mut full = progress.full;
     let mut read = 0;
-    'by_window: while source.len() - read > WINDOW {
-        let mut zeros = copy_32(source, read, dest, next);
-        let lacking = index + FULL_CODE - next;
-        if zeros == 0 {
-            if lacking > WINDOW {
+    let last = source.len() - WINDOW;
+    'by_window: while read < last {
+        let window = copy_32(source, read, dest, next);
+        if window == 0 {
+            if next - index < FULL_CODE - WINDOW {
                 read += WINDOW;
                 next += WINDOW;
                 full = false;
                 continue;
             }
-        } else if (zeros.trailing_zeros() as usize) < lacking {
-            if zeros == ALL_ZEROS {
-                dest[index] = (next - index) as u8;
-                write_ones(dest, next);
-                index = next + WINDOW - 1;
-            } else {
+        } else {
+            let place = next + window.trailing_zeros() as usize;
+            if place - index < FULL_CODE {
+                dest[index] = (place - index) as u8;
+                index = place;
+                if window == ALL_ZEROS {
+                    let count = write_rows(source, read, dest, next);
+                    index = next + count - 1;
+                    read += count;
+                    next += count;
+                    full = false;
+                    continue;
+                }
+                let mut zeros = window & (window - 1);
                 'by_zero: while zeros != 0 {
                     (index, zeros) = mark_first(dest, index, next, zeros);
                     if zeros != 0 {
                         (index, zeros) = mark_first(dest, index, next, zeros);
                     }
                 }
+                read += WINDOW;
+                next += WINDOW;
+                full = false;
+                continue;
             }
-            read += WINDOW;
-            next += WINDOW;
-            full = false;
-            continue;
         }
+        let lacking = index + FULL_CODE - next;
         dest[index] = FULL_CODE as u8;
         read += lacking;
         index += FULL_CODE;

@@ -1,9 +1,10 @@
 //! An encoder into a slice, of a message that comes in pieces.
-ghost use Rattle.std.specs.Prelude.{◌≤◌, length};
-ghost use Rattle.cobs.specs.Encoder.{end_of};
+ghost use Rattle.std.specs.Prelude.{◌≡◌, ◌<◌, ◌≤◌, ◌+◌, ◌++◌, ◌↔◌, ℕ, IsTrue, List, false, length, drop};
+ghost use Rattle.cobs.specs.OpenBlock.{CobsEncoderAfter, end_of};
+ghost use Rattle.cobs.specs.Internal.OpenLen.{open_len};
 
 use crate::enc::DestBufTooSmallError;
-use crate::enc::blocks::{Progress, append, close};
+use crate::enc::blocks::{Progress, append, append_short, close};
 use crate::enc::room::fits;
 
 /// Encodes a message that comes in pieces, straight into a slice of the caller's.
@@ -33,7 +34,7 @@ impl<'a> CobsEncoder<'a> {
     ghost use Rattle.std.specs.Prelude.{◌≡◌, ◌<◌, ◌≤◌, ◌++◌, ◌↔◌, [], ℕ, List, length, take, drop, IsOk, OnOk, OnErr};
     ghost use Rattle.cobs.specs.Grammar.{HasNoZero, IsEncodedFrame};
     ghost use Rattle.cobs.specs.Length.{encoded_len};
-    ghost use Rattle.cobs.specs.CobsEncoder.{slice_of, HasTaken, WritesTo, IsOverSameSlice, IsUnchanged};
+    ghost use Rattle.cobs.specs.Fields.Encoders.{slice_of, HasTaken, WritesTo, IsOverSameSlice, IsUnchanged};
 
     /// An encoder that has taken nothing yet, and writes to the front of `out_buf`. No byte of it is changed by this.
     ///
@@ -90,12 +91,14 @@ impl<'a> CobsEncoder<'a> {
         if bytes.is_empty() {
             return Ok(());
         }
-        let room = self.dest.len() - self.progress.index();
-        if !fits(self.progress.code(), bytes, room) {
-            return Err(DestBufTooSmallError);
+        if self.progress.has_room(bytes.len(), self.dest.len()) {
+            append_short(bytes, self.dest, &mut self.progress, true);
+            Ok(())
+        } else if append_fitting(bytes, self.dest, &mut self.progress) {
+            Ok(())
+        } else {
+            Err(DestBufTooSmallError)
         }
-        append(bytes, self.dest, &mut self.progress);
-        Ok(())
     }
 
     /// Ends the message, and answers the length of its encoded frame in bytes. The slice begins with that frame, and
@@ -120,4 +123,28 @@ impl<'a> CobsEncoder<'a> {
         let CobsEncoder { dest, progress } = self;
         close(dest, progress)
     }
+}
+
+/// Takes `bytes`, of which there is one at least, where the frame fits `dest`, and says whether it does: of any number of
+/// bytes, and kept apart from those few that need no such question.
+#[inline(never)]
+fn append_fitting(bytes: &[u8], dest: &mut [u8], progress: &mut Progress) -> bool
+    requires some { 0 < length bytes.now }
+    requires room { end_of progress.old ≤ length dest.old }
+    ensures fits { IsTrue result ↔ (progress.old.block.index
+        + open_len progress.old.block.code bytes.now ≤ length dest.old) }
+    ensures after { IsTrue result → ((m : List ℕ) → CobsEncoderAfter dest.old progress.old m
+        → CobsEncoderAfter dest.new progress.new (m ++ bytes.now)) }
+    ensures room { end_of progress.new ≤ length dest.new }
+    ensures rest { IsTrue result
+        → drop (end_of progress.new) dest.new ≡ drop (end_of progress.new) dest.old }
+    ensures refused { result ≡ false
+        → (dest.new ≡ dest.old) × (progress.new ≡ progress.old) }
+{
+    let room = dest.len() - progress.index();
+    if !fits(progress.code(), bytes, room) {
+        return false;
+    }
+    append(bytes, dest, progress);
+    true
 }

@@ -1,6 +1,6 @@
 //! Whether a frame fits, before a byte of it is written.
 ghost use Rattle.std.specs.Prelude.{◌≡◌, ◌<◌, ◌≤◌, ◌+◌, ◌-◌, ◌++◌, ◌↔◌, IsTrue, length, replicate};
-ghost use Rattle.cobs.specs.Encoder.{open_len};
+ghost use Rattle.cobs.specs.Internal.OpenLen.{open_len};
 ghost use Rattle.cobs.specs.Length.{full_blocks, runs};
 
 use crate::enc::blocks::FULL_CODE;
@@ -17,7 +17,7 @@ const FULL_BLOCK_BYTES: usize = 254;
 pub(crate) fn fits(code: usize, source: &[u8], room: usize) -> bool
     requires some { 0 < code }
     requires open_block { code < 255 }
-    ensures { IsTrue result ↔ (open_len code source.now ≤ room) }
+    ensures fits { IsTrue result ↔ (open_len code source.now ≤ room) }
 {
     if code + source.len() <= room.min(FULL_CODE) {
         return true;
@@ -31,7 +31,7 @@ pub(crate) fn fits(code: usize, source: &[u8], room: usize) -> bool
 fn fits_any(code: usize, source: &[u8], room: usize) -> bool
     requires some { 0 < code }
     requires open_block { code < 255 }
-    ensures { IsTrue result ↔ (open_len code source.now ≤ room) }
+    ensures fits { IsTrue result ↔ (open_len code source.now ≤ room) }
 {
     if room < source.len() {
         return false;
@@ -51,7 +51,7 @@ fn fits_any(code: usize, source: &[u8], room: usize) -> bool
 /// nonzero bytes fills a block with each 254 of them. Whole windows are counted by the mask of their zeros.
 fn count_full_blocks(run: usize, source: &[u8]) -> usize
     requires { run < 255 }
-    ensures { result ≡ full_blocks (runs (replicate run 1 ++ source.now)) }
+    ensures count { result ≡ full_blocks (runs (replicate run 1 ++ source.now)) }
 {
     let mut run = run;
     let mut counted = 0;

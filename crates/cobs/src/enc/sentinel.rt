@@ -65,7 +65,7 @@ pub fn try_encode_with_sentinel(
 
 /// Changes each byte by exclusive or with `sentinel`.
 pub(crate) fn xor_bytes(bytes: &mut [u8], sentinel: u8)
-    ensures { bytes.new ≡ xor_each sentinel bytes.old }
+    ensures changed { bytes.new ≡ xor_each sentinel bytes.old }
 {
     for byte in bytes.iter_mut() {
         *byte ^= sentinel;

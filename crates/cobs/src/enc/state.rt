@@ -1,7 +1,7 @@
 //! The state machine of an encoder, without a buffer.
 ghost use Rattle.std.specs.Prelude.{◌≡◌, ◌<◌, ◌+◌, ◌↔◌, ◌∷◌, ◌++◌, [], ℕ, List, IsTrue, slice_set};
 ghost use Rattle.cobs.specs.Grammar.{IsOpenFrame};
-ghost use Rattle.cobs.specs.Encoder.{EncoderAfter, IsOpenOutput, push_answer, next_open, applied};
+ghost use Rattle.cobs.specs.OpenBlock.{EncoderAfter, IsOpenOutput, push_answer, next_open, applied};
 
 use std::alloc::AllocError;
 use std::marker::Model;
@@ -56,7 +56,7 @@ pub struct EncoderState {
 
 impl Model for EncoderState {
     ghost use Rattle.std.specs.Prelude.{◌<◌};
-    ghost use Rattle.cobs.specs.Encoder.{OpenBlock};
+    ghost use Rattle.cobs.specs.OpenBlock.{OpenBlock};
 
     ghost Value = { OpenBlock };
 
@@ -69,6 +69,11 @@ impl Default for EncoderState {
     ghost is_default = { λ state. state ≡ record { index = 0; code = 1 } };
 
     /// The start: the open block is the placeholder at index 0, and has no bytes yet.
+    ///
+    /// ```
+    /// let state = EncoderState::default();
+    /// assert_eq!(rt; state.finalize(), (0, 1));
+    /// ```
     fn default() -> Self
         ensures start { result ≡ record { index = 0; code = 1 } }
         ensures after_nothing { EncoderAfter result [] }
@@ -89,6 +94,14 @@ impl Clone for EncoderState {
     ghost is_infallible = { λ _. ⊤ };
 
     /// An equal state. This takes no memory, so the answer is always Ok.
+    ///
+    /// ```
+    /// let mut state = EncoderState::default();
+    /// let copy = state.clone()?;
+    /// let _answer = state.push(7);
+    /// assert_eq!(rt; state.finalize(), (0, 2));
+    /// assert_eq!(rt; copy.finalize(), (0, 1));
+    /// ```
     fn clone(&self) -> Result<EncoderState, AllocError> {
         Ok(EncoderState {
             code_index: self.code_index,
@@ -105,7 +118,7 @@ impl EncoderState {
     /// assert!(rt; EncoderState::default().can_push());
     /// ```
     pub fn can_push(&self) -> bool
-        ensures { IsTrue result ↔ (self.now.index + self.now.code < usize.MAX) }
+        ensures room { IsTrue result ↔ (self.now.index + self.now.code < usize.MAX) }
     {
         self.code_index < usize::MAX - self.code as usize
     }

@@ -2,8 +2,8 @@
 ghost use Rattle.std.specs.Prelude.{◌≡◌, ◌<◌, ◌≤◌, ◌++◌, ◌↔◌, [], ℕ, List, length, take, drop, IsOk, IsSome, IfOk, IfSome, OnOk, OnErr, false};
 ghost use Rattle.cobs.specs.Grammar.{HasNoZero, IsEncodedFrame};
 ghost use Rattle.cobs.specs.Length.{encoded_len};
-ghost use Rattle.cobs.specs.Encoder.{CobsEncoderAfter, end_of};
-ghost use Rattle.cobs.specs.UnbufferedEncoder.{reached_at, reached_by, IsPlaceIn};
+ghost use Rattle.cobs.specs.OpenBlock.{CobsEncoderAfter, end_of};
+ghost use Rattle.cobs.specs.Fields.Encoders.{reached_at, reached_by, IsPlaceIn};
 
 use crate::enc::DestBufTooSmallError;
 use crate::enc::blocks::{FULL_CODE, Progress, append, close};
@@ -93,7 +93,7 @@ impl UnbufferedEncoder {
     /// assert!(rt; buffer.starts_with(b"\x06hello"));
     /// ```
     pub fn from_progress(progress: EncoderProgress) -> Self
-        ensures { reached_by result ≡ reached_at progress }
+        ensures progress { reached_by result ≡ reached_at progress }
     {
         UnbufferedEncoder { progress }
     }
@@ -108,7 +108,7 @@ impl UnbufferedEncoder {
     /// );
     /// ```
     pub fn progress(&self) -> EncoderProgress
-        ensures { reached_at result ≡ reached_by self.now }
+        ensures progress { reached_at result ≡ reached_by self.now }
     {
         self.progress
     }

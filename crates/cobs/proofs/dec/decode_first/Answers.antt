@@ -2,11 +2,11 @@ use Rattle.std.proofs.Common.{◌≡◌, ◌≢◌, ◌<◌, ◌++◌, [], ◌�
 use Rattle.cobs.specs.Grammar.{HasNoZero}
 use Rattle.std.proofs.lemmas.List.{take_rest, take_all, drop_at}
 use Rattle.std.proofs.lemmas.Bool.{eqb-true, eqb-false}
-use Rattle.cobs.specs.Buffer.{overwritten}
-use Rattle.cobs.specs.Decoding.{output_of, consumed, sized}
+use Rattle.cobs.specs.Overwritten.{overwritten}
+use Rattle.cobs.specs.Decode.{output_of, len_through_piece, sized, leading_zeros}
 use Rattle.std.proofs.lemmas.List.Elements.{All-nil, All-cons}
-use Rattle.cobs.specs.Decoding.{leading_zeros}
-use Rattle.cobs.specs.Piece.{Decoded, output}
+use Rattle.cobs.specs.Internal.Decoded.{Decoded}
+use Rattle.cobs.specs.Piece.{output}
 use Rattle.cobs.proofs.PieceCuts.{output-short}
 use Rattle.cobs.specs.Stream.{first_piece, head, outcome_of}
 use Rattle.cobs.proofs.FrontSteps.{head-one_more, piece-within, piece-nonzero, piece-stop, piece-is}
@@ -124,7 +124,7 @@ returns-then-copy_short-clause-answer c =
     let answer = c.decode_copied.ensures.answer ∙ ap (λ (k : ℕ). sized (outcome_of rest k)) same in
     let r = ap length (take_rest source start) ∙ length-drop start source in
     let count = c.leading_zeros-start.ensures.count in
-    let parsed : length source ≡ consumed source rest = omega arith in
+    let parsed : length source ≡ len_through_piece source rest = omega arith in
     decode_answer-decoded source rest _ (omega arith) found c.decode_copied.result answer _ _ c.in_ok-frame_size.was parsed _ c.new.ensures
 
 pub returns-then-copy_short-clause-buffer : goal.returns-then-copy_short-clause-buffer
@@ -168,8 +168,8 @@ slice_bounds-piece_len-start c =
     let l = length-head rest in
     omega (arith, c.decode_front-front.ensures.decoded.within)
 
-pub slice_bounds-decode_ended-end : goal.slice_bounds-decode_ended-end
-slice_bounds-decode_ended-end c =
+pub slice_bounds-finish_piece-end : goal.slice_bounds-finish_piece-end
+slice_bounds-finish_piece-end c =
     let source : List ℕ = c.args.source.now in
     let start : ℕ = c.leading_zeros-start.result in
     let rest : List ℕ = take (length source - start) (drop start source) in
@@ -181,8 +181,8 @@ slice_bounds-decode_ended-end c =
     let tail-is = take_rest rest read in
     sym (length-take-le (read + n) rest (piece-within rest _ read n tail-is f.decoded.within e.within e.nonzero e.stop))
 
-pub decode_ended-requires-clause-some : goal.decode_ended-requires-clause-some
-decode_ended-requires-clause-some c =
+pub finish_piece-requires-clause-some : goal.finish_piece-requires-clause-some
+finish_piece-requires-clause-some c =
     let source : List ℕ = c.args.source.now in
     let start : ℕ = c.leading_zeros-start.result in
     let rest : List ℕ = take (length source - start) (drop start source) in
@@ -195,8 +195,8 @@ decode_ended-requires-clause-some c =
     let p = ap length (piece-is rest _ read n tail-is f.decoded.within e.within e.nonzero e.stop) in
     omega (arith, f.decoded.within)
 
-pub decode_ended-requires-clause-nonzero : goal.decode_ended-requires-clause-nonzero
-decode_ended-requires-clause-nonzero c =
+pub finish_piece-requires-clause-nonzero : goal.finish_piece-requires-clause-nonzero
+finish_piece-requires-clause-nonzero c =
     let source : List ℕ = c.args.source.now in
     let start : ℕ = c.leading_zeros-start.result in
     let rest : List ℕ = take (length source - start) (drop start source) in
@@ -242,10 +242,10 @@ returns-in_err-frame_size-2-clause-answer c =
     subst (λ (p : List ℕ). Decoded p c.args.dest.now c.decode_front-front.new.dest read c.decode_front-front.result.written) (sym (piece-is rest _ read n tail-is f.decoded.within e.within e.nonzero e.stop))
     (subst (λ (old : List ℕ). Decoded (head rest) old c.decode_front-front.new.dest read c.decode_front-front.result.written) (c.copy_short.ensures.kept c.if-copy_short.false) f.decoded) in
     let same : length c.decode_front-front.new.dest ≡ length c.args.dest.now = omega arith in
-    let answer = c.decode_ended.ensures.answer c.args.dest.now front ∙ ap (λ (k : ℕ). sized (outcome_of (take (read + n) rest) k)) same in
+    let answer = c.finish_piece.ensures.answer c.args.dest.now front ∙ ap (λ (k : ℕ). sized (outcome_of (take (read + n) rest) k)) same in
     let full : length source ≢ 0 = eqb-false _ 0 (sym c.is_empty.ensures ∙ c.if-is_empty.false) in
     let is : c.from_residual-in_err-frame_size-2.result ≡ Err c.in_err-frame_size-2.field-0.0 = search rules in
-    is ∙ decode_answer-refused source _ _ (omega arith) some c.decode_ended.result answer _ c.in_err-frame_size-2.was
+    is ∙ decode_answer-refused source _ _ (omega arith) some c.finish_piece.result answer _ c.in_err-frame_size-2.was
 
 pub returns-in_err-frame_size-2-clause-buffer : goal.returns-in_err-frame_size-2-clause-buffer
 returns-in_err-frame_size-2-clause-buffer c =
@@ -264,7 +264,7 @@ returns-in_err-frame_size-2-clause-buffer c =
     let front : Decoded (take (read + n) rest) c.args.dest.now c.decode_front-front.new.dest read c.decode_front-front.result.written =
     subst (λ (p : List ℕ). Decoded p c.args.dest.now c.decode_front-front.new.dest read c.decode_front-front.result.written) (sym (piece-is rest _ read n tail-is f.decoded.within e.within e.nonzero e.stop))
     (subst (λ (old : List ℕ). Decoded (head rest) old c.decode_front-front.new.dest read c.decode_front-front.result.written) (c.copy_short.ensures.kept c.if-copy_short.false) f.decoded) in
-    c.decode_ended.ensures.buffer c.args.dest.now (omega arith) front ∙ sym (ap (λ (p : Option (List ℕ)). overwritten c.args.dest.now (output_of p)) some)
+    c.finish_piece.ensures.buffer c.args.dest.now (omega arith) front ∙ sym (ap (λ (p : Option (List ℕ)). overwritten c.args.dest.now (output_of p)) some)
 
 pub returns-clause-answer : goal.returns-clause-answer
 returns-clause-answer c =
@@ -284,16 +284,16 @@ returns-clause-answer c =
     subst (λ (p : List ℕ). Decoded p c.args.dest.now c.decode_front-front.new.dest read c.decode_front-front.result.written) (sym (piece-is rest _ read n tail-is f.decoded.within e.within e.nonzero e.stop))
     (subst (λ (old : List ℕ). Decoded (head rest) old c.decode_front-front.new.dest read c.decode_front-front.result.written) (c.copy_short.ensures.kept c.if-copy_short.false) f.decoded) in
     let same : length c.decode_front-front.new.dest ≡ length c.args.dest.now = omega arith in
-    let answer = c.decode_ended.ensures.answer c.args.dest.now front ∙ ap (λ (k : ℕ). sized (outcome_of (take (read + n) rest) k)) same in
+    let answer = c.finish_piece.ensures.answer c.args.dest.now front ∙ ap (λ (k : ℕ). sized (outcome_of (take (read + n) rest) k)) same in
     let full : length source ≢ 0 = eqb-false _ 0 (sym c.is_empty.ensures ∙ c.if-is_empty.false) in
     let long = length-take-le (read + n) rest within in
     let r = ap length (take_rest source start) ∙ length-drop start source in
     let count = c.leading_zeros-start.ensures.count in
-    let parsed : c.if-end-source.parsed_size ≡ consumed source (take (read + n) rest) = elim c.if-end-source.branch [
+    let parsed : c.if-end-source.parsed_size ≡ len_through_piece source (take (read + n) rest) = elim c.if-end-source.branch [
       | then-end-source w ↦ omega arith
       | else-end-source w ↦ omega arith
     ] in
-    decode_answer-decoded source _ _ (omega arith) some c.decode_ended.result answer _ _ c.in_ok-frame_size-2.was parsed _ c.new-2.ensures
+    decode_answer-decoded source _ _ (omega arith) some c.finish_piece.result answer _ _ c.in_ok-frame_size-2.was parsed _ c.new-2.ensures
 
 pub returns-clause-buffer : goal.returns-clause-buffer
 returns-clause-buffer c =
@@ -312,4 +312,4 @@ returns-clause-buffer c =
     let front : Decoded (take (read + n) rest) c.args.dest.now c.decode_front-front.new.dest read c.decode_front-front.result.written =
     subst (λ (p : List ℕ). Decoded p c.args.dest.now c.decode_front-front.new.dest read c.decode_front-front.result.written) (sym (piece-is rest _ read n tail-is f.decoded.within e.within e.nonzero e.stop))
     (subst (λ (old : List ℕ). Decoded (head rest) old c.decode_front-front.new.dest read c.decode_front-front.result.written) (c.copy_short.ensures.kept c.if-copy_short.false) f.decoded) in
-    c.decode_ended.ensures.buffer c.args.dest.now (omega arith) front ∙ sym (ap (λ (p : Option (List ℕ)). overwritten c.args.dest.now (output_of p)) some)
+    c.finish_piece.ensures.buffer c.args.dest.now (omega arith) front ∙ sym (ap (λ (p : Option (List ℕ)). overwritten c.args.dest.now (output_of p)) some)

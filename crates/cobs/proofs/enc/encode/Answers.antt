@@ -1,5 +1,5 @@
 use Rattle.std.proofs.Common.{[], sym, ◌∙◌, subst, arith}
-use Rattle.cobs.specs.Encoder.{CobsEncoderAfter, Reached}
+use Rattle.cobs.specs.OpenBlock.{CobsEncoderAfter, Reached}
 use Rattle.cobs.proofs.AfterLemmas.{end-is}
 use Rattle.cobs.proofs.CoreLemmas.{after-nothing}
 use Rattle.cobs.proofs.SentinelLemmas.{encoded_nonzero}
@@ -8,12 +8,15 @@ use Rattle.cobs.proofs.enc.encode.Goals as goal
 pub returns-clause-frame : goal.returns-clause-frame
 returns-clause-frame c =
     let start = subst (λ (r : Reached). CobsEncoderAfter c.args.dest.now r []) (sym c.new-progress.ensures) (after-nothing c.args.dest.now (omega arith)) in
-    c.close.ensures.frame c.args.source.now (c.append.ensures.after [] start)
+    c.close.ensures.frame c.args.source.now (c.append_last.ensures.after [] start)
 
 pub returns-clause-len : goal.returns-clause-len
 returns-clause-len c =
     let start = subst (λ (r : Reached). CobsEncoderAfter c.args.dest.now r []) (sym c.new-progress.ensures) (after-nothing c.args.dest.now (omega arith)) in
-    c.close.ensures.end ∙ sym (end-is c.append.new.dest c.args.source.now c.append.new.progress (c.append.ensures.after [] start))
+    c.close.ensures.end ∙ sym (end-is c.append_last.new.dest c.args.source.now c.append_last.new.progress (c.append_last.ensures.after [] start))
 
 pub returns-clause-no_sentinel : goal.returns-clause-no_sentinel
 returns-clause-no_sentinel c = encoded_nonzero (returns-clause-frame c)
+
+pub returns-then-source-gt-WINDOW-clause-no_sentinel : goal.returns-then-source-gt-WINDOW-clause-no_sentinel
+returns-then-source-gt-WINDOW-clause-no_sentinel c = encoded_nonzero c.encode_long.ensures.frame

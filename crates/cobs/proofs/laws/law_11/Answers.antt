@@ -2,4 +2,4 @@ use Rattle.cobs.proofs.OutcomeLemmas.{outcome_frame}
 use Rattle.cobs.proofs.laws.law_11.Goals as goal
 
 pub returns : goal.returns
-returns c = outcome_frame
+returns c = record { message = outcome_frame }

@@ -2,4 +2,4 @@ use Rattle.cobs.proofs.JoinLemmas.{no_sentinel}
 use Rattle.cobs.proofs.laws.law_6.Goals as goal
 
 pub returns : goal.returns
-returns c = no_sentinel
+returns c = record { free = no_sentinel }

@@ -2,4 +2,4 @@ use Rattle.cobs.proofs.JoinLemmas.{Reads-append}
 use Rattle.cobs.proofs.laws.law_8.Goals as goal
 
 pub returns : goal.returns
-returns c = Reads-append
+returns c = record { joined = Reads-append }

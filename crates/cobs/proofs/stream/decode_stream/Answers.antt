@@ -1,20 +1,20 @@
 use Rattle.std.proofs.Common.{rules, ◌∙◌, refl, arith}
 use Rattle.std.proofs.lemmas.List.{map_push}
-use Rattle.cobs.specs.Streaming.{outcome_in}
+use Rattle.cobs.specs.Messages.{outcome_in}
 use Rattle.cobs.proofs.SoFar.{DecoderAfter-idle, SoFar-start, SoFar-all, SoFar-piece, piece_count, outcome_there}
 use Rattle.cobs.proofs.stream.decode_stream.Goals as goal
 
 pub by_piece-init : goal.by_piece-init
 by_piece-init g c = record { within = omega arith; so_far = rw c.new-outcomes.ensures.items (SoFar-start _ _); same_loan = refl }
 
-pub returns-in_err-outcome_of-clause-succeeds : goal.returns-in_err-outcome_of-clause-succeeds
-returns-in_err-outcome_of-clause-succeeds g c = λ p h none. absurd (outcome_there _ _ _ _ c.by_piece.invariant.so_far c.in-Some.ensures.takes p h none)
+pub returns-in_err-frame_outcome-clause-succeeds : goal.returns-in_err-frame_outcome-clause-succeeds
+returns-in_err-frame_outcome-clause-succeeds g c = λ p h none. absurd (outcome_there _ _ _ _ c.by_piece.invariant.so_far c.in-Some.ensures.takes p h none)
 
 pub returns-in_err-push-clause-succeeds : goal.returns-in_err-push-clause-succeeds
 returns-in_err-push-clause-succeeds g c = λ p h none. absurd (outcome_there _ _ _ _ c.by_piece.invariant.so_far c.in-Some.ensures.takes p h none)
 
-pub returns-in_err-outcome_of-clause-out_of_memory : goal.returns-in_err-outcome_of-clause-out_of_memory
-returns-in_err-outcome_of-clause-out_of_memory g c =
+pub returns-in_err-frame_outcome-clause-out_of_memory : goal.returns-in_err-frame_outcome-clause-out_of_memory
+returns-in_err-frame_outcome-clause-out_of_memory g c =
     let idle = DecoderAfter-idle (g.D.FrameDecoder.bytes c.feed_piece.new.self) _ c.in-Some.ensures.takes.idle in
     search rules
 
@@ -26,7 +26,7 @@ returns-in_err-push-clause-out_of_memory g c =
 pub by_piece-preserved : goal.by_piece-preserved
 by_piece-preserved g c = record {
   within = (piece_count _ _ _ _ c.by_piece.invariant.within c.in-Some.ensures.takes).1;
-  so_far = rw (c.in_ok-push.ensures.items, map_push outcome_in c.by_piece.outcomes.items c.in_ok-outcome_of.field-0, c.in_ok-outcome_of.ensures, c.buffer.ensures)
+  so_far = rw (c.in_ok-push.ensures.items, map_push outcome_in c.by_piece.outcomes.items c.in_ok-frame_outcome.field-0, c.in_ok-frame_outcome.ensures, c.buffer.ensures.value)
       (SoFar-piece _ _ _ _ c.by_piece.invariant.so_far c.in-Some.ensures.takes);
   same_loan = c.feed_piece.ensures.same_loan ∙ c.by_piece.invariant.same_loan;
 }

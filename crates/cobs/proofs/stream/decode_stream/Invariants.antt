@@ -1,5 +1,5 @@
 use Rattle.std.proofs.Common.{◌≡◌, ◌≤◌, ◌-◌, length, take}
-use Rattle.cobs.specs.Streaming.{outcomes_in}
+use Rattle.cobs.specs.Messages.{outcomes_in}
 use Rattle.cobs.proofs.SoFar.{SoFar}
 use Rattle.cobs.proofs.stream.decode_stream.Given as goal
 

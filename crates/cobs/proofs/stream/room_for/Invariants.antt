@@ -1,5 +1,5 @@
 use Rattle.std.proofs.Common.{◌≡◌, take}
-use Rattle.cobs.specs.Streaming.{messages_in, room_for_frames}
+use Rattle.cobs.specs.Messages.{messages_in, room_for_frames}
 use Rattle.cobs.proofs.stream.room_for.Given as goal
 
 abbrev pub invariant-by_message : goal.invariant-by_message

@@ -1,5 +1,5 @@
 use Rattle.std.proofs.Common.{◌≤◌, take, length}
-use Rattle.cobs.specs.Streaming.{AreFrames, messages_in, room_for_frames}
+use Rattle.cobs.specs.Messages.{AreFrames, messages_in, room_for_frames}
 use Rattle.cobs.proofs.stream.write_frames.Given as goal
 
 abbrev pub invariant-by_message : goal.invariant-by_message

@@ -1,5 +1,5 @@
 use Rattle.std.proofs.Common.{◌-◌, ◌∙◌, ℕ, List, length, drop, refl, ap, arith, take_all, length-drop}
-use Rattle.cobs.specs.Mask.{zero_mask}
+use Rattle.cobs.specs.Internal.Mask.{zero_mask}
 use Rattle.cobs.proofs.PartMasks.{or-window}
 use Rattle.cobs.proofs.window.zeros_of.Goals as goal
 

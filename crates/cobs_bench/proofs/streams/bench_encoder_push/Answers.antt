@@ -1,8 +1,8 @@
 use Rattle.std.proofs.Common.{◌≡◌, ◌≤◌, ◌+◌, ◌-◌, ◌++◌, ◌∙◌, ℕ, List, length, take, drop, ap, refl, sym, subst, arith}
 use Rattle.cobs.specs.Grammar.{IsEncodedFrame}
 use Rattle.cobs.specs.Length.{encoded_len}
-use Rattle.cobs.specs.Encoder.{CobsEncoderAfter, Reached}
-use Rattle.cobs.specs.CobsEncoder.{HasTaken, slice_of, reached_by}
+use Rattle.cobs.specs.OpenBlock.{CobsEncoderAfter, Reached}
+use Rattle.cobs.specs.Fields.Encoders.{HasTaken, slice_of, slice_reached}
 use Rattle.cobs.proofs.InPlaceSteps.{drop-later}
 use Rattle.cobs_bench.specs.Tally.{chunk_len}
 use Rattle.cobs_bench.proofs.ChunkLemmas.{take-to, encoded_len-all, encoded_len-front, next-within}
@@ -58,7 +58,7 @@ returns-in-Err-clause-frame c = λ some.
     let m : List ℕ = take c.by_chunk.parsed c.args.source.now in
     let same = c.in-Err.ensures.refused in
     let taken : HasTaken c.push.new.self m =
-    subst (λ (r : Reached). CobsEncoderAfter (slice_of c.push.new.self) r m) (sym same.1) (subst (λ (s : List ℕ). CobsEncoderAfter s (reached_by c.by_chunk.encoder) m) (sym same.0) i.taken) in
+    subst (λ (r : Reached). CobsEncoderAfter (slice_of c.push.new.self) r m) (sym same.1) (subst (λ (s : List ℕ). CobsEncoderAfter s (slice_reached c.by_chunk.encoder) m) (sym same.0) i.taken) in
     let done = c.finalize.ensures.frame m taken in
     let made = c.new-encoder.ensures.same_slice in
     let pushed = c.in-Err.ensures.same_slice in

@@ -1,5 +1,5 @@
 use Rattle.std.proofs.Common.{◌≡◌, ◌≤◌, length, take, drop, ◌-◌}
-use Rattle.cobs.specs.CobsEncoder.{slice_of, HasTaken}
+use Rattle.cobs.specs.Fields.Encoders.{slice_of, HasTaken}
 use Rattle.cobs.specs.Length.{encoded_len}
 use Rattle.cobs_bench.proofs.streams.bench_encoder_push.Given as goal
 

@@ -1,7 +1,7 @@
 use Rattle.std.proofs.Common.{◌≡◌, ◌≤◌, ◌+◌, ◌++◌, ◌∷◌, [], ◌∙◌, ℕ, min, List, length, take, drop, get_or, ap, sym, subst, rules, arith, length-append, length-take-le, take-append-drop}
 use Rattle.std.proofs.lemmas.List.{take_more, drop_more}
-use Rattle.cobs.specs.Decoder.{Phase}
-use Rattle.cobs.specs.Buffers.{lent_buffer, lent_phase}
+use Rattle.cobs.specs.Feed.{Phase}
+use Rattle.cobs.specs.Fields.Decoders.{borrowed_buffer, borrowed_phase}
 use Rattle.cobs_bench.specs.Tally.{tallied, outcomes_to_end}
 use Rattle.cobs_bench.proofs.TallyLemmas.{TalliedTo, tally-start, fed-none, fed-some, fed-refused, tally-bound}
 use Rattle.cobs_bench.proofs.streams.bench_feed_each.Goals as goal
@@ -10,17 +10,19 @@ use Rattle.cobs_bench.proofs.streams.bench_feed_each.Goals.{in-Ok-None, in-Ok-So
 pub by_byte-init : goal.by_byte-init
 by_byte-init c =
     let r = c.new-decoder.result in
-    subst (λ (n : ℕ). TalliedTo (lent_buffer r) (lent_phase r) n [] 0 0) (ap length c.new-decoder.ensures.buffer) (tally-start (lent_buffer r) (lent_phase r) c.new-decoder.ensures.idle)
+    subst (λ (n : ℕ). TalliedTo (borrowed_buffer r) (borrowed_phase r) n [] 0 0) (ap length c.new-decoder.ensures.buffer) (tally-start (borrowed_buffer r) (borrowed_phase r) c.new-decoder.ensures.idle)
 
 pub returns-in-Err : goal.returns-in-Err
 returns-in-Err c =
     let stream : List ℕ = c.args.stream.now in
     let i : ℕ = c.by_byte.byte-index in
-    let whole : take i stream ++ get_or stream i 0 ∷ drop (i + 1) stream ≡ stream =
-    ap (λ (x : List ℕ). take i stream ++ x) (sym (drop_more stream i 0 c.by_byte-test.true)) ∙ take-append-drop i stream in
-    ap (λ (v : ℕ). record { status = v; parsed = c.by_byte.messages; len = c.by_byte.sum }) c.status_of.ensures
-    ∙ fed-refused _ (take i stream) c.by_byte.messages c.by_byte.sum c.by_byte.invariant (get_or stream i 0) c.feed.ensures.feeds (drop (i + 1) stream) c.in-Err.error c.in-Err.is
-    ∙ ap (λ (x : List ℕ). tallied 0 0 (outcomes_to_end x (length c.args.dest.now))) whole
+    record {
+      tallied = let whole : take i stream ++ get_or stream i 0 ∷ drop (i + 1) stream ≡ stream =
+          ap (λ (x : List ℕ). take i stream ++ x) (sym (drop_more stream i 0 c.by_byte-test.true)) ∙ take-append-drop i stream in
+          ap (λ (v : ℕ). record { status = v; parsed = c.by_byte.messages; len = c.by_byte.sum }) c.status_of.ensures
+          ∙ fed-refused _ (take i stream) c.by_byte.messages c.by_byte.sum c.by_byte.invariant (get_or stream i 0) c.feed.ensures.feeds (drop (i + 1) stream) c.in-Err.error c.in-Err.is
+          ∙ ap (λ (x : List ℕ). tallied 0 0 (outcomes_to_end x (length c.args.dest.now))) whole;
+    }
 
 -- sums that never reach the greatest number
 capped : {buffer : List ℕ} {phase : Phase} (n : ℕ) (t : List ℕ) (count sum k count' sum' : ℕ) → length t ≤ 18446744073709551615 → count' ≡ min (count + 1) 18446744073709551615 → sum' ≡ min (sum + k) 18446744073709551615

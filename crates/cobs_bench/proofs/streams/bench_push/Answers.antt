@@ -1,6 +1,6 @@
 use Rattle.std.proofs.Common.{◌<◌, ◌≤◌, ◌+◌, ◌-◌, ◌++◌, [], ◌∙◌, ℕ, List, length, take, drop, Ok, ap, subst, arith, length-take-le, length-drop}
-use Rattle.cobs.specs.Buffers.{lent_buffer, lent_phase}
-use Rattle.cobs.specs.Report.{parsed_size_of, frame_size_of}
+use Rattle.cobs.specs.Fields.Decoders.{borrowed_buffer, borrowed_phase}
+use Rattle.cobs.specs.Fields.Report.{parsed_size_of, frame_size_of}
 use Rattle.cobs_bench.specs.Tally.{tallied, outcomes_to_end}
 use Rattle.cobs_bench.proofs.ChunkLemmas.{take-to, take-within, take-rest}
 use Rattle.cobs_bench.proofs.TallyLemmas.{TalliedTo, tally-start, tally-bound, pushed-none, pushed-some, pushed-size, pushed-refused}
@@ -13,7 +13,7 @@ by_push-init c =
     record {
       order = omega arith;
       within = omega arith;
-      tally = subst (λ (n : ℕ). TalliedTo (lent_buffer r) (lent_phase r) n [] 0 0) (ap length c.new-decoder.ensures.buffer) (tally-start (lent_buffer r) (lent_phase r) c.new-decoder.ensures.idle);
+      tally = subst (λ (n : ℕ). TalliedTo (borrowed_buffer r) (borrowed_phase r) n [] 0 0) (ap length c.new-decoder.ensures.buffer) (tally-start (borrowed_buffer r) (borrowed_phase r) c.new-decoder.ensures.idle);
     }
 
 pub by_push-preserved-in-Ok-None : goal.by_push-preserved-in-Ok-None
@@ -29,7 +29,7 @@ by_push-preserved-in-Ok-None c =
     record {
       order = omega arith;
       within = within;
-      tally = subst (λ (t : List ℕ). TalliedTo (lent_buffer c.push.new.self) (lent_phase c.push.new.self) (length c.args.dest.now) t c.by_push.messages c.by_push.sum) (take-to at end stream (omega arith))
+      tally = subst (λ (t : List ℕ). TalliedTo (borrowed_buffer c.push.new.self) (borrowed_phase c.push.new.self) (length c.args.dest.now) t c.by_push.messages c.by_push.sum) (take-to at end stream (omega arith))
           (pushed-none _ (take at stream) c.by_push.messages c.by_push.sum i.tally (take (end - at) (drop at stream)) c.push.result c.push.ensures.pushes (c.in-Ok-None.is ∙ ap Ok c.in-Ok-None.field-0-is) (omega arith));
     }
 
@@ -75,8 +75,8 @@ by_push-preserved c =
     record {
       order = omega (arith, size.1);
       within = within;
-      tally = rw (c.parsed_size-at.ensures, c.frame_size-sum.ensures)
-          (subst (λ (t : List ℕ). TalliedTo (lent_buffer c.push.new.self) (lent_phase c.push.new.self) (length c.args.dest.now) t (c.by_push.messages + 1) (c.by_push.sum + frame_size_of c.in-Ok-Some.report))
+      tally = rw (c.parsed_size-at.ensures.size, c.frame_size-sum.ensures.size)
+          (subst (λ (t : List ℕ). TalliedTo (borrowed_buffer c.push.new.self) (borrowed_phase c.push.new.self) (length c.args.dest.now) t (c.by_push.messages + 1) (c.by_push.sum + frame_size_of c.in-Ok-Some.report))
           (take-within at end parsed stream (omega (arith, size.1))) more);
     }
 
@@ -87,6 +87,8 @@ returns-in-Err c =
     let at : ℕ = c.by_push.at in
     let end : ℕ = c.if-at-end.end in
     let some : at < end = elim c.if-at-end.branch [ then-at-end w ↦ omega arith | else-at-end w ↦ omega arith ] in
-    ap (λ (v : ℕ). record { status = v; parsed = c.by_push.messages; len = c.by_push.sum }) c.status_of.ensures
-    ∙ pushed-refused _ (take at stream) c.by_push.messages c.by_push.sum i.tally (take (end - at) (drop at stream)) c.push.result c.push.ensures.pushes c.in-Err.refusal c.in-Err.is (drop end stream)
-    ∙ ap (λ (x : List ℕ). tallied 0 0 (outcomes_to_end x (length c.args.dest.now))) (take-rest at end stream (omega arith))
+    record {
+      tallied = ap (λ (v : ℕ). record { status = v; parsed = c.by_push.messages; len = c.by_push.sum }) c.status_of.ensures
+          ∙ pushed-refused _ (take at stream) c.by_push.messages c.by_push.sum i.tally (take (end - at) (drop at stream)) c.push.result c.push.ensures.pushes c.in-Err.refusal c.in-Err.is (drop end stream)
+          ∙ ap (λ (x : List ℕ). tallied 0 0 (outcomes_to_end x (length c.args.dest.now))) (take-rest at end stream (omega arith));
+    }

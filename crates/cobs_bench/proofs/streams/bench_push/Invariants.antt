@@ -1,5 +1,5 @@
 use Rattle.std.proofs.Common.{◌≤◌, ◌-◌, length, take}
-use Rattle.cobs.specs.Buffers.{lent_buffer, lent_phase}
+use Rattle.cobs.specs.Fields.Decoders.{borrowed_buffer, borrowed_phase}
 use Rattle.cobs_bench.proofs.TallyLemmas.{TalliedTo}
 use Rattle.cobs_bench.proofs.streams.bench_push.Given as goal
 
@@ -7,7 +7,7 @@ abbrev pub invariant-by_push : goal.invariant-by_push
 invariant-by_push l = record {
   order : l.at ≤ l.end;
   within : l.end ≤ length l.stream;
-  tally : TalliedTo (lent_buffer l.decoder) (lent_phase l.decoder) (length l.fn.dest) (take l.at l.stream) l.messages l.sum;
+  tally : TalliedTo (borrowed_buffer l.decoder) (borrowed_phase l.decoder) (length l.fn.dest) (take l.at l.stream) l.messages l.sum;
 }
 
 abbrev pub decreases-by_push : goal.decreases-by_push

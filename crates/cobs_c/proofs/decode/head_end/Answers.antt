@@ -12,7 +12,7 @@ returns-then-end-bytes c =
     let front = length-map (take c.first_sentinel-end.result c.args.bytes.now) change in
     let len = length-take-le c.first_sentinel-end.result c.args.bytes.now e.within in
     let all = length-map c.args.bytes.now change in
-    omega arith
+    record { end = omega arith }
 
 pub returns-else-end-bytes : goal.returns-else-end-bytes
 returns-else-end-bytes c =
@@ -22,4 +22,4 @@ returns-else-end-bytes c =
     let front = length-map (take c.first_sentinel-end.result c.args.bytes.now) change in
     let len = length-take-le c.first_sentinel-end.result c.args.bytes.now e.within in
     let all = length-map c.args.bytes.now change in
-    omega arith
+    record { end = omega arith }

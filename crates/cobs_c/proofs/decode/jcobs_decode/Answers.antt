@@ -1,5 +1,5 @@
 use Rattle.std.proofs.Common.{◌≡◌, ℕ, List, Err, sym, ap, ◌∙◌, length}
-use Rattle.cobs.specs.Decoding.{consumed, sized}
+use Rattle.cobs.specs.Decode.{len_through_piece, sized}
 use Rattle.cobs.specs.Stream.{outcome_of}
 use Rattle.cobs_c.specs.Answer.{answer_by}
 use Rattle.cobs_c.proofs.SourceLemmas.{answer-some, reported-err}
@@ -11,5 +11,5 @@ returns-in-Some-clause-some c = λ p is.
     let n : ℕ = length c.args.message.now in
     let found = c.in-Some.ensures.some in
     let same : found.0 ≡ p = let e = sym found.1 ∙ is in cc in
-    let refused = reported-err (consumed source p) (sized (outcome_of p n)) c.in-Err.error (c.in-Err.ensures.answer ∙ answer-some source p n is) in
-    c.answer_by-in-Some.ensures ∙ ap (λ (k : ℕ). answer_by k n (Err c.in-Err.error)) (found.2 ∙ ap (consumed source) same) ∙ ap (answer_by (consumed source p) n) refused
+    let refused = reported-err (len_through_piece source p) (sized (outcome_of p n)) c.in-Err.error (c.in-Err.ensures.answer ∙ answer-some source p n is) in
+    c.answer_by-in-Some.ensures ∙ ap (λ (k : ℕ). answer_by k n (Err c.in-Err.error)) (found.2 ∙ ap (len_through_piece source) same) ∙ ap (answer_by (len_through_piece source p) n) refused

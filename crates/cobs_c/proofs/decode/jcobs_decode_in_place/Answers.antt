@@ -7,5 +7,5 @@ pub returns-clause-answer : goal.returns-clause-answer
 returns-clause-answer c =
     let n : ℕ = length c.args.buffer.now in
     c.answer_by.ensures
-    ∙ ap (λ (k : ℕ). answer_by k n c.decode_in_place.result) (c.head_end-consumed.ensures ∙ ap head_end (xor_each-zero c.args.buffer.now))
+    ∙ ap (λ (k : ℕ). answer_by k n c.decode_in_place.result) (c.head_end-consumed.ensures.end ∙ ap head_end (xor_each-zero c.args.buffer.now))
     ∙ ap (answer_by (head_end c.args.buffer.now) n) c.decode_in_place.ensures.answer

@@ -7,4 +7,4 @@ pub returns-in-Broken-clause-takes : goal.returns-in-Broken-clause-takes
 returns-in-Broken-clause-takes c =
     broken-told c.in-Broken.count c.in-Some.consumed c.min.result
     (c.in-Some.is ∙ ap (λ (e : PieceEnd). Some (e, c.in-Some.consumed)) c.in-Broken.is)
-    (c.from_phase-unbuffered.ensures ∙ c.phase.ensures) (c.at.ensures ∙ c.phase-2.ensures) c.min.ensures c.feed_piece-found.ensures
+    (c.from_phase-unbuffered.ensures.phase ∙ c.phase.ensures) (c.at.ensures ∙ c.phase-2.ensures.phase) c.min.ensures c.feed_piece-found.ensures.takes

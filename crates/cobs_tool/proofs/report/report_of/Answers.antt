@@ -1,6 +1,6 @@
 use Rattle.std.proofs.Common.{ℕ, ◌++◌, length, string_bytes, take, ap, sym, ◌∙◌, arith, append-nil, length-take-le}
 use Rattle.std.proofs.lemmas.List.{length-replicate}
-use Rattle.cobs.specs.Buffers.{owned_buffer}
+use Rattle.cobs.specs.Fields.Decoders.{owned_buffer}
 use Rattle.cobs.specs.Stream.{Message}
 use Rattle.cobs_lines.specs.Lines.{outcome_line}
 use Rattle.cobs_tool.proofs.ReportLemmas.{report-start, few_at_start, still_few, told_all, unfinished_text, message_told, broken_told, too_long_told, end_told, no_fault, told_more}
@@ -11,8 +11,8 @@ pub by_piece-init : goal.by_piece-init
 by_piece-init c =
     let made = c.in_ok-decoder.ensures in
     record {
-      told = report-start _ _ _ _ c.new-text.ensures.bytes c.new-frames.ensures.kept c.new-source.ensures;
-      few = few_at_start _ _ _ _ c.new-frames.ensures.kept c.new-source.ensures c.requires;
+      told = report-start _ _ _ _ c.new-text.ensures.bytes c.new-frames.ensures.kept c.new-source.ensures.bytes;
+      few = few_at_start _ _ _ _ c.new-frames.ensures.kept c.new-source.ensures.bytes c.requires;
       idle = rw c.new-frames.ensures.decoder made.idle;
       buffer = ap (λ d. length (owned_buffer d)) c.new-frames.ensures.decoder ∙ ap length made.buffer ∙ length-replicate {A = ℕ} 65536 0;
     }
@@ -22,7 +22,7 @@ slice_bounds-message-end c =
     let next = rw c.in-Ok-Message.field-0-is at c.in-Ok-Message.ensures.next in
     let told = message_told _ _ _ _ _ next c.by_piece.invariant.idle (c.in-Ok-Message.ensures.len ∙ c.by_piece.invariant.buffer) in
     let within = told.1 in
-    let buffer = ap length (c.dest.ensures ∙ ap owned_buffer c.decoder.ensures) in
+    let buffer = ap length (c.dest.ensures.value ∙ ap owned_buffer c.decoder.ensures.value) in
     sym (length-take-le c.in-Ok-Message.len c.dest.result.now (omega arith))
 
 pub by_piece-smaller-in-Continue-branch-2 : goal.by_piece-smaller-in-Continue-branch-2
@@ -37,7 +37,7 @@ by_piece-preserved-in-Continue-branch-2 c =
     let len = c.in-Ok-Message.ensures.len ∙ c.by_piece.invariant.buffer in
     let told = message_told _ _ _ _ _ next c.by_piece.invariant.idle len in
     let pushed = c.in_ok-push_message-in-Ok-Message.ensures in
-    let message = ap (take c.in-Ok-Message.len) (c.dest.ensures ∙ ap owned_buffer c.decoder.ensures) in
+    let message = ap (take c.in-Ok-Message.len) (c.dest.ensures.value ∙ ap owned_buffer c.decoder.ensures.value) in
     record {
       told = told_more _ _ _ _ _ _ c.by_piece.invariant.told told.0.told (pushed ∙ ap (λ l. string_bytes c.by_piece.text ++ outcome_line (Message l)) message);
       few = still_few _ _ _ _ _ _ told.0 c.by_piece.invariant.few;
@@ -85,13 +85,15 @@ pub returns-in-Ok-End : goal.returns-in-Ok-End
 returns-in-Ok-End c =
     let next = rw c.in-Ok-End.field-0-is at c.in-Ok-End.ensures.next in
     let last = end_told _ _ _ _ _ next c.by_piece.invariant.idle (c.in-Ok-End.ensures.len ∙ c.by_piece.invariant.buffer) in
-    elim c.if-unfinished.branch [
-      | then-unfinished+in_ok-push_str-in-Ok-End w ↦
-          told_all _ _ _ _ _ c.by_piece.invariant.told (last ∙ ap unfinished_text w.if-unfinished.true)
-          (ap string_bytes w.text-is ∙ w.in_ok-push_str-in-Ok-End.ensures.bytes)
-      | else-unfinished w ↦
-          told_all _ _ _ _ _ c.by_piece.invariant.told (last ∙ ap unfinished_text w.if-unfinished.false) (ap string_bytes w.text-is ∙ sym (append-nil _))
-    ]
+    record {
+      report = elim c.if-unfinished.branch [
+        | then-unfinished+in_ok-push_str-in-Ok-End w ↦
+            told_all _ _ _ _ _ c.by_piece.invariant.told (last ∙ ap unfinished_text w.if-unfinished.true)
+            (ap string_bytes w.text-is ∙ w.in_ok-push_str-in-Ok-End.ensures.bytes)
+        | else-unfinished w ↦
+            told_all _ _ _ _ _ c.by_piece.invariant.told (last ∙ ap unfinished_text w.if-unfinished.false) (ap string_bytes w.text-is ∙ sym (append-nil _))
+      ];
+    }
 
 pub unreachable-requires : goal.unreachable-requires
 unreachable-requires c = no_fault _ _ _ _ _ c.in-Err.ensures.next c.by_piece.invariant.idle c.by_piece.invariant.few

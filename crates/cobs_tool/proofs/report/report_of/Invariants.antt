@@ -1,7 +1,7 @@
 use Rattle.std.proofs.Common.{◌≡◌, ◌≤◌, ◌+◌, [], ◌++◌, length, string_bytes}
-use Rattle.cobs.specs.Buffers.{owned_buffer, owned_phase}
-use Rattle.cobs.specs.Decoder.{DecoderAfter}
-use Rattle.cobs.specs.Reader.{decoder_of, kept_of}
+use Rattle.cobs.specs.Fields.Decoders.{owned_buffer, owned_phase}
+use Rattle.cobs.specs.Feed.{DecoderAfter}
+use Rattle.cobs.specs.Fields.Reader.{decoder_of, kept_of}
 use Rattle.cobs_lines.specs.Memory.{bytes_left}
 use Rattle.cobs_tool.specs.Report.{longest_message, report}
 use Rattle.cobs_tool.specs.Input.{max_input}

@@ -5,7 +5,7 @@ use Rattle.cobs_tool.proofs.text.hex_line.Goals as goal
 
 pub loop-at-preserved : goal.loop-at-preserved
 loop-at-preserved c =
-    let written = c.in_ok-push_hex.ensures in
+    let written = c.in_ok-push_hex.ensures.digits in
     let within = c.loop-at-test.true in
     elim c.if-at-gt0.branch [
       | then-at-gt0+in_ok-push w ↦

@@ -5,4 +5,4 @@ pub returns : goal.returns
 returns c =
     let text = hex_of_is c.args.byte c.ranges.byte.fits in
     let written = rw (c.laid_out.ensures, c.in_radix.ensures) at c.write.ensures.bytes in
-    rw text at written
+    record { digits = rw text at written }

@@ -1,5 +1,5 @@
 use Rattle.std.proofs.Common.{◌≡◌, take}
-use Rattle.cobs.specs.Streaming.{messages_in, room_for_frames}
+use Rattle.cobs.specs.Messages.{messages_in, room_for_frames}
 use Rattle.cobs_vectors.proofs.messages.encode_few.Given as goal
 
 -- the room counted so far is that of the messages so far

@@ -2,7 +2,7 @@ use Rattle.std.proofs.Common.{◌≡◌, ◌<◌, ◌≤◌, ◌==◌, ℕ, Bool
 use Rattle.std.proofs.lemmas.List.{take_more}
 use Rattle.cobs.specs.declared.enc.state.PushResult.{PushResult}
 use Rattle.cobs.specs.declared.enc.state.PushResult.TheVariants.{AddSingle, ModifyFromStartAndSkip, ModifyFromStartAndPushAndSkip}
-use Rattle.cobs.specs.Encoder.{OpenBlock, IsOpenOutput, push_answer, applied}
+use Rattle.cobs.specs.OpenBlock.{OpenBlock, IsOpenOutput, push_answer, applied}
 use Rattle.cobs.proofs.OpenLemmas.{length-IsOpenOutput, index-IsOpenOutput}
 use Rattle.cobs_vectors.proofs.worked_callers.encode_by_state.Goals.{in-AddSingle+in_ok-push-in-AddSingle, in-ModifyFromStartAndSkip+in_ok-push-in-ModifyFromStartAndSkip, in-ModifyFromStartAndPushAndSkip+in_ok-push-in-ModifyFromStartAndPushAndSkip+in_ok-push-in-ModifyFromStartAndPushAndSkip-2}
 use Rattle.cobs_vectors.proofs.worked_callers.encode_by_state.Goals as goal

@@ -1,5 +1,5 @@
 use Rattle.std.proofs.Common.{take}
-use Rattle.cobs.specs.Encoder.{IsOpenOutput}
+use Rattle.cobs.specs.OpenBlock.{IsOpenOutput}
 use Rattle.cobs_vectors.proofs.worked_callers.encode_by_state.Given as goal
 
 abbrev pub invariant-by_byte : goal.invariant-by_byte

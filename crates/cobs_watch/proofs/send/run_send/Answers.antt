@@ -14,7 +14,7 @@ returns-then-count-eq0 g c =
     let nothing : c.read_until.new.buf.items ≡ [] = nil_from_length _ (omega (arith, c.in-Ok.ensures.ok, c.clear.ensures.len, none, c.read_until.new.buf.ok.0)) in
     let start : c.clear.new.self.items ≡ [] = c.clear.ensures.items in
     let consumed : Consumes (g.B.Read.remaining c.by_line.input) (g.B.Read.remaining c.read_until.new.self) c.read_until.new.buf.items = rw start at c.in-Ok.ensures.none_lost in
-    sent_all _ _ _ _ _ _ _ c.by_line.invariant consumed nothing (c.in-Ok.ensures.end none)
+    record { sent = sent_all _ _ _ _ _ _ _ c.by_line.invariant consumed nothing (c.in-Ok.ensures.end none) }
 
 pub by_line-preserved : goal.by_line-preserved
 by_line-preserved g c =
@@ -22,4 +22,4 @@ by_line-preserved g c =
     let start : c.clear.new.self.items ≡ [] = c.clear.ensures.items in
     let stops : StopsAt c.read_until.new.buf.items 10 = rw start at c.in-Ok.ensures.stops in
     let consumed : Consumes (g.B.Read.remaining c.by_line.input) (g.B.Read.remaining c.read_until.new.self) c.read_until.new.buf.items = rw start at c.in-Ok.ensures.none_lost in
-    HasSentLines-more _ _ _ _ _ _ _ c.read_until.new.buf.items sent.0 c.by_line.invariant stops consumed (rw (c.without_newline.ensures, c.deref.ensures.value) at sent.1) sent.2
+    HasSentLines-more _ _ _ _ _ _ _ c.read_until.new.buf.items sent.0 c.by_line.invariant stops consumed (rw (c.without_newline.ensures.text, c.deref.ensures.value) at sent.1) sent.2

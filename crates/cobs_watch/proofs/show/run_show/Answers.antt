@@ -1,6 +1,6 @@
 use Rattle.std.proofs.Common.{◌≡◌, ℕ, List, length, take, ap, ◌∙◌, arith, rules}
 use Rattle.std.proofs.lemmas.List.{length-replicate, take_at}
-use Rattle.cobs.specs.Buffers.{owned_buffer}
+use Rattle.cobs.specs.Fields.Decoders.{owned_buffer}
 use Rattle.cobs.specs.Sentinel.{xor_each}
 use Rattle.cobs_watch.proofs.RunLemmas.{HasShownSoFar-start, HasShownSoFar-more, shown_failed, written_failed, shown_whole}
 use Rattle.cobs_watch.proofs.show.run_show.Goals as goal
@@ -13,20 +13,22 @@ by_read-init g c = record {
 }
 
 pub returns-in_err-count : goal.returns-in_err-count
-returns-in_err-count g c = shown_failed _ _ _ _ _ _ _ _ _ (search rules) c.by_read.invariant.so_far c.in_err-count.ensures.failed.1
+returns-in_err-count g c = record { shown = shown_failed _ _ _ _ _ _ _ _ _ (search rules) c.by_read.invariant.so_far c.in_err-count.ensures.failed.1 }
 
 pub returns-in_err-show_end : goal.returns-in_err-show_end
-returns-in_err-show_end g c = written_failed _ _ _ _ _ _ (search rules)
+returns-in_err-show_end g c = record { shown = written_failed _ _ _ _ _ _ (search rules) }
 
 pub returns-then-count-eq0 : goal.returns-then-count-eq0
-returns-then-count-eq0 g c =
-    let none : c.in_ok-count.count ≡ 0 = c.if-count-eq0.true in (
-      shown_whole _ _ _ _ _ _ _ _ _ _ c.by_read.invariant.so_far (rw none at c.in_ok-count.ensures.read) c.in_ok-show_end.ensures c.in_ok-flush.ensures.bytes,
-      c.in_ok-count.ensures.end none (omega (arith, c.deref_mut.ensures.len, c.by_read.invariant.chunk)),
-    )
+returns-then-count-eq0 g c = record {
+  shown =
+      let none : c.in_ok-count.count ≡ 0 = c.if-count-eq0.true in (
+        shown_whole _ _ _ _ _ _ _ _ _ _ c.by_read.invariant.so_far (rw none at c.in_ok-count.ensures.read) c.in_ok-show_end.ensures.shown c.in_ok-flush.ensures.bytes,
+        c.in_ok-count.ensures.end none (omega (arith, c.deref_mut.ensures.len, c.by_read.invariant.chunk)),
+      );
+}
 
 pub returns-in_err-unfinished : goal.returns-in_err-unfinished
-returns-in_err-unfinished g c = written_failed _ _ _ _ _ _ (search rules)
+returns-in_err-unfinished g c = record { shown = written_failed _ _ _ _ _ _ (search rules) }
 
 pub by_read-preserved : goal.by_read-preserved
 by_read-preserved g c =

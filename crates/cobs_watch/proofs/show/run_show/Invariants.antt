@@ -1,6 +1,6 @@
 use Rattle.std.proofs.Common.{◌≡◌, vec_len}
-use Rattle.cobs.specs.Buffers.{owned_buffer, owned_phase}
-use Rattle.cobs.specs.Reader.{reader_state}
+use Rattle.cobs.specs.Fields.Decoders.{owned_buffer, owned_phase}
+use Rattle.cobs.specs.Fields.Reader.{reader_state}
 use Rattle.cobs_watch.specs.Watched.{HasShownSoFar}
 use Rattle.cobs_watch.proofs.show.run_show.Given as goal
 

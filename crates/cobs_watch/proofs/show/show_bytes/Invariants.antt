@@ -1,7 +1,7 @@
 use Rattle.std.proofs.Common.{◌≡◌, ◌≤◌, ◌+◌, ℕ, List, length}
-use Rattle.cobs.specs.Buffers.{owned_buffer, owned_phase}
-use Rattle.cobs.specs.Reader.{decoder_of, kept_of, reader_state}
-use Rattle.cobs.specs.Reading.{IsBehind}
+use Rattle.cobs.specs.Fields.Decoders.{owned_buffer, owned_phase}
+use Rattle.cobs.specs.Fields.Reader.{decoder_of, kept_of, reader_state}
+use Rattle.cobs.specs.NextFrame.{IsBehind}
 use Rattle.cobs_lines.specs.Memory.{bytes_left}
 use Rattle.cobs_watch.proofs.ShowLemmas.{ShownSoFar}
 use Rattle.cobs_watch.proofs.show.show_bytes.Given as goal

@@ -1,5 +1,5 @@
 use Rattle.std.proofs.Common.{◌≤◌, ℕ, List, length, sym, subst, arith}
-use Rattle.cobs.specs.Piece.{Decoded}
+use Rattle.cobs.specs.Internal.Decoded.{Decoded}
 use Rattle.cobs.specs.Stream.{head}
 use Rattle.cobs.proofs.FrontSteps.{head-behind, head-one_more, block-stayed, long-copied}
 use Rattle.cobs.proofs.WindowSteps.{started}

@@ -2,7 +2,7 @@ use Rattle.std.proofs.Common.{◌≡◌, ◌≢◌, ◌+◌, ◌-◌, ◌∙◌,
 use Rattle.std.proofs.lemmas.Bool.{eqb-true, eqb-false}
 use Rattle.std.proofs.Math.ListN.{set}
 use Rattle.cobs.specs.Grammar.{HasNoZero}
-use Rattle.cobs.specs.Piece.{Decoded}
+use Rattle.cobs.specs.Internal.Decoded.{Decoded}
 use Rattle.cobs.specs.Stream.{head}
 use Rattle.cobs.proofs.FrontSteps.{head-behind, block-stayed, long-copied}
 use Rattle.cobs.proofs.WindowSteps.{started}

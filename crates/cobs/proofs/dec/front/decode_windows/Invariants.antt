@@ -1,5 +1,5 @@
 use Rattle.std.proofs.Common.{◌-◌, ◌≤◌, length}
-use Rattle.cobs.specs.Piece.{Decoded}
+use Rattle.cobs.specs.Internal.Decoded.{Decoded}
 use Rattle.cobs.specs.Stream.{head}
 use Rattle.cobs.proofs.dec.front.decode_windows.Given as goal
 

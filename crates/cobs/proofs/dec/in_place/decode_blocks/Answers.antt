@@ -2,7 +2,8 @@ use Rattle.std.proofs.Common.{◌≡◌, ◌≤◌, ◌+◌, ◌-◌, ℕ, List,
 use Rattle.std.proofs.lemmas.List.{take_rest, take-take, drop-drop}
 use Rattle.std.proofs.lemmas.Bool.{ne_eqb, eq-eqb, true≢false}
 use Rattle.cobs.specs.Grammar.{HasNoZero}
-use Rattle.cobs.specs.Piece.{output, IsFlat}
+use Rattle.cobs.specs.Piece.{output}
+use Rattle.cobs.specs.Internal.Decoded.{IsFlat}
 use Rattle.cobs.proofs.InPlaceSteps.{all-buffer, all-count, broken-buffer, broken-count, left-nonzero, left-broken, stretch-nonzero, stretch-last, stretch-zero}
 use Rattle.cobs.proofs.dec.in_place.decode_blocks.Goals as goal
 use Rattle.cobs.proofs.dec.in_place.decode_blocks.Goals.{else-not-full-via-then-not-full+else-read-end, else-not-full-via-else-not-full}
@@ -17,15 +18,15 @@ front-is buffer end read written len order fits =
     ∙ ap (take len) (drop-drop (read - written) written buffer ∙ ap (λ (k : ℕ). drop k buffer) sum)
     ∙ sym (take-take len (end - read) (drop read buffer) (omega arith))
 
-pub flat_front-len-requires : goal.flat_front-len-requires
-flat_front-len-requires c = left-nonzero _ _ _ _ _ c.by_front.invariant c.requires.nonzero
+pub front_of-len-requires : goal.front_of-len-requires
+front_of-len-requires c = left-nonzero _ _ _ _ _ c.by_front.invariant c.requires.nonzero
 
 pub returns-then-len-eq0-clause-answer : goal.returns-then-len-eq0-clause-answer
 returns-then-len-eq0-clause-answer c =
     let i = c.by_front.invariant in
     let d = length-drop c.by_front.read c.by_front.buffer in
     let n = length-take-le (c.args.end - c.by_front.read) (drop c.by_front.read c.by_front.buffer) (omega arith) in
-    let broken = left-broken _ _ _ _ _ i c.by_front-test.true (c.flat_front-len.ensures.broken c.if-len-eq0.true (omega arith)) in
+    let broken = left-broken _ _ _ _ _ i c.by_front-test.true (c.front_of-len.ensures.broken c.if-len-eq0.true (omega arith)) in
     broken-count _ _ _ _ _ i _ c.by_front-test.true refl broken
 
 pub returns-then-len-eq0-clause-buffer : goal.returns-then-len-eq0-clause-buffer
@@ -33,18 +34,18 @@ returns-then-len-eq0-clause-buffer c =
     let i = c.by_front.invariant in
     let d = length-drop c.by_front.read c.by_front.buffer in
     let n = length-take-le (c.args.end - c.by_front.read) (drop c.by_front.read c.by_front.buffer) (omega arith) in
-    let broken = left-broken _ _ _ _ _ i c.by_front-test.true (c.flat_front-len.ensures.broken c.if-len-eq0.true (omega arith)) in
+    let broken = left-broken _ _ _ _ _ i c.by_front-test.true (c.front_of-len.ensures.broken c.if-len-eq0.true (omega arith)) in
     broken-buffer _ _ _ _ _ i _ c.by_front-test.true refl broken
 
 pub decode_flat-requires-clause-nonzero : goal.decode_flat-requires-clause-nonzero
 decode_flat-requires-clause-nonzero c =
     let i = c.by_front.invariant in
-    let e = c.flat_front-len.ensures in
+    let e = c.front_of-len.ensures in
     let none = c.if-len-eq0.false in
     let buffer : List ℕ = c.by_front.buffer in
     let read : ℕ = c.by_front.read in
     let written : ℕ = c.by_front.written in
-    let len : ℕ = c.flat_front-len.result.0 in
+    let len : ℕ = c.front_of-len.result.0 in
     let part : List ℕ = take (c.args.end - read) (drop read buffer) in
     let flat = e.flat (omega arith) in
     let is = front-is buffer c.args.end read written len i.order e.within in
@@ -53,12 +54,12 @@ decode_flat-requires-clause-nonzero c =
 pub decode_flat-requires-clause-flat : goal.decode_flat-requires-clause-flat
 decode_flat-requires-clause-flat c =
     let i = c.by_front.invariant in
-    let e = c.flat_front-len.ensures in
+    let e = c.front_of-len.ensures in
     let none = c.if-len-eq0.false in
     let buffer : List ℕ = c.by_front.buffer in
     let read : ℕ = c.by_front.read in
     let written : ℕ = c.by_front.written in
-    let len : ℕ = c.flat_front-len.result.0 in
+    let len : ℕ = c.front_of-len.result.0 in
     let part : List ℕ = take (c.args.end - read) (drop read buffer) in
     let flat = e.flat (omega arith) in
     let is = front-is buffer c.args.end read written len i.order e.within in
@@ -67,12 +68,12 @@ decode_flat-requires-clause-flat c =
 pub by_front-preserved-then-read-end : goal.by_front-preserved-then-read-end
 by_front-preserved-then-read-end c =
     let i = c.by_front.invariant in
-    let e = c.flat_front-len.ensures in
+    let e = c.front_of-len.ensures in
     let none = c.if-len-eq0.false in
     let buffer : List ℕ = c.by_front.buffer in
     let read : ℕ = c.by_front.read in
     let written : ℕ = c.by_front.written in
-    let len : ℕ = c.flat_front-len.result.0 in
+    let len : ℕ = c.front_of-len.result.0 in
     let part : List ℕ = take (c.args.end - read) (drop read buffer) in
     let flat = e.flat (omega arith) in
     let back : take (length buffer - written) (drop written buffer) ≡ drop written buffer = take_rest buffer written in
@@ -89,12 +90,12 @@ by_front-preserved-then-read-end c =
 pub by_front-preserved : goal.by_front-preserved
 by_front-preserved c =
     let i = c.by_front.invariant in
-    let e = c.flat_front-len.ensures in
+    let e = c.front_of-len.ensures in
     let none = c.if-len-eq0.false in
     let buffer : List ℕ = c.by_front.buffer in
     let read : ℕ = c.by_front.read in
     let written : ℕ = c.by_front.written in
-    let len : ℕ = c.flat_front-len.result.0 in
+    let len : ℕ = c.front_of-len.result.0 in
     let part : List ℕ = take (c.args.end - read) (drop read buffer) in
     let flat = e.flat (omega arith) in
     let back : take (length buffer - written) (drop written buffer) ≡ drop written buffer = take_rest buffer written in

@@ -1,98 +1,28 @@
-use Rattle.std.proofs.Common.{refl, ◌≡◌, ◌<◌, ◌+◌, ◌-◌, ◌∙◌, ℕ, List, length, take, drop, replicate, length-drop, length-take-le, ap, sym, subst, arith}
-use Rattle.std.proofs.lemmas.List.{length-set, take_rest}
-use borrow.Rule.Slice.PartMut.{put_mid}
+use Rattle.std.proofs.Common.{◌∙◌, ap, sym, subst}
+use Rattle.cobs.specs.Grammar.{HasNoZero}
 use Rattle.cobs.specs.Piece.{output}
-use Rattle.cobs.proofs.WindowSteps.{code-pos, code-decoded, code-copied, flat-short, end-begins}
-use Rattle.cobs.proofs.FlatLemmas.{FlatCopied, copied-start, copied-ones, next-code, zeros-put, zeros-put-len}
+use Rattle.cobs.specs.Internal.Decoded.{IsFlat}
+use Rattle.cobs.proofs.FlatLemmas.{moved-piece, moved-rest, flat-some}
 use Rattle.cobs.proofs.dec.in_place.decode_flat.Goals as goal
 
-pub by_code-init : goal.by_code-init
-by_code-init c = record {
-  flat = copied-start c.args.buffer.now c.copy_within.new.self (drop (c.args.from + 1) c.args.buffer.now) c.args.from c.args.len (c.args.from + c.args.len - (c.args.from + 1)) c.requires.within c.requires.flat c.copy_within.ensures.after (omega arith) refl;
-  len = c.copy_within.ensures.len;
-}
+pub write_joints-requires-clause-nonzero : goal.write_joints-requires-clause-nonzero
+write_joints-requires-clause-nonzero c =
+    let some = flat-some c.args.buffer.now c.args.from c.args.len c.requires.flat in
+    subst HasNoZero (sym (moved-piece c.args.buffer.now c.move_to_front.new.buffer c.args.from c.args.len c.requires.within some c.move_to_front.ensures)) c.requires.nonzero
 
-pub by_code-preserved-then-is_ones : goal.by_code-preserved-then-is_ones
-by_code-preserved-then-is_ones c =
-    let i = c.by_code.invariant in
-    let piece : List ℕ = take c.args.len (drop c.args.from c.args.buffer.now) in
-    let buffer : List ℕ = c.by_code.buffer in
-    let read : ℕ = c.by_code.read in
-    let d = length-drop c.args.from c.args.buffer.now in
-    let long : length piece ≡ c.args.len = length-take-le c.args.len (drop c.args.from c.args.buffer.now) (omega arith) in
-    let first : c.by_code.code ≡ 1 = c.if-code-eq1.true in
-    let ones : take 32 (drop read buffer) ≡ replicate 32 1 = ap (take 32) (sym (take_rest buffer read)) ∙ c.is_ones.ensures c.if-is_ones.true in
-    let put = zeros-put read buffer c.write_zeros.new.dest c.write_zeros.ensures in
-    let after : List ℕ = put_mid read (length buffer - read) buffer c.write_zeros.new.dest in
-    record {
-      flat = subst (FlatCopied piece c.args.buffer.now after (read + 32)) (sym first)
-          (copied-ones piece c.args.buffer.now buffer after read (subst (FlatCopied piece c.args.buffer.now buffer read) first i.flat) ones (omega arith) (omega arith) put);
-      len = ap length put ∙ zeros-put-len read buffer (omega arith) ∙ i.len;
-    }
-
-pub alike-preserved : goal.alike-preserved
-alike-preserved c =
-    let i = c.alike.invariant in
-    let f = i.flat in
-    let piece : List ℕ = take c.args.len (drop c.args.from c.args.buffer.now) in
-    let d = length-drop c.args.from c.args.buffer.now in
-    let long : length piece ≡ c.args.len = length-take-le c.args.len (drop c.args.from c.args.buffer.now) (omega arith) in
-    let pos : 0 < c.alike.code = subst (λ (n : ℕ). 0 < n) (sym f.at-read) (code-pos piece c.alike.read c.requires.nonzero f.decoded.within) in
-    let more : c.alike.read + c.alike.code < length piece = omega arith in
-    let len = c.requires.flat.len in
-    let short = flat-short piece c.args.buffer.now c.alike.buffer c.alike.read f.decoded len c.alike.code f.at-read pos more in
-    let set = length-set c.alike.buffer (c.alike.read + (c.alike.code - 1)) 0 in
-    record {
-      flat = record {
-        decoded = code-decoded piece c.args.buffer.now c.alike.buffer c.alike.read c.alike.read c.alike.code f.decoded f.at-read pos more (length piece) f.copied more short (omega arith);
-        copied = code-copied piece c.args.buffer.now c.alike.buffer c.alike.read c.alike.read c.alike.code f.decoded f.at-read pos more (length piece) f.copied more short;
-        at-read = sym c.if-next-code.false ∙ next-code piece c.alike.buffer c.alike.read c.alike.code f.copied pos more;
-      };
-      len = set ∙ i.len;
-      more = omega arith;
-      onward = omega arith;
-    }
-
-pub by_code-preserved : goal.by_code-preserved
-by_code-preserved c =
-    let i = c.alike.invariant in
-    let f = i.flat in
-    let piece : List ℕ = take c.args.len (drop c.args.from c.args.buffer.now) in
-    let d = length-drop c.args.from c.args.buffer.now in
-    let long : length piece ≡ c.args.len = length-take-le c.args.len (drop c.args.from c.args.buffer.now) (omega arith) in
-    let pos : 0 < c.alike.code = subst (λ (n : ℕ). 0 < n) (sym f.at-read) (code-pos piece c.alike.read c.requires.nonzero f.decoded.within) in
-    let more : c.alike.read + c.alike.code < length piece = omega arith in
-    let len = c.requires.flat.len in
-    let short = flat-short piece c.args.buffer.now c.alike.buffer c.alike.read f.decoded len c.alike.code f.at-read pos more in
-    let set = length-set c.alike.buffer (c.alike.read + (c.alike.code - 1)) 0 in
-    record {
-      flat = record {
-        decoded = code-decoded piece c.args.buffer.now c.alike.buffer c.alike.read c.alike.read c.alike.code f.decoded f.at-read pos more (length piece) f.copied more short (omega arith);
-        copied = code-copied piece c.args.buffer.now c.alike.buffer c.alike.read c.alike.read c.alike.code f.decoded f.at-read pos more (length piece) f.copied more short;
-        at-read = next-code piece c.alike.buffer c.alike.read c.alike.code f.copied pos more;
-      };
-      len = set ∙ i.len;
-    }
+pub write_joints-requires-clause-flat : goal.write_joints-requires-clause-flat
+write_joints-requires-clause-flat c =
+    let some = flat-some c.args.buffer.now c.args.from c.args.len c.requires.flat in
+    subst IsFlat (sym (moved-piece c.args.buffer.now c.move_to_front.new.buffer c.args.from c.args.len c.requires.within some c.move_to_front.ensures)) c.requires.flat
 
 pub returns-clause-begins : goal.returns-clause-begins
 returns-clause-begins c =
-    let f = c.by_code.invariant.flat in
-    let piece : List ℕ = take c.args.len (drop c.args.from c.args.buffer.now) in
-    let w = f.decoded.within in
-    let d = length-drop c.args.from c.args.buffer.now in
-    let long : length piece ≡ c.args.len = length-take-le c.args.len (drop c.args.from c.args.buffer.now) (omega arith) in
-    let pos : 0 < c.by_code.code = subst (λ (n : ℕ). 0 < n) (sym f.at-read) (code-pos piece c.by_code.read c.requires.nonzero f.decoded.within) in
-    let len = c.requires.flat.len in
-    let all : c.args.len - 1 ≡ c.by_code.read + (length piece - c.by_code.read - 1) = omega arith in
-    ap (λ (n : ℕ). take n c.by_code.buffer) all
-    ∙ end-begins piece c.args.buffer.now c.by_code.buffer c.by_code.read c.by_code.read c.by_code.code f.decoded f.at-read pos (omega arith) f.copied (omega arith)
+    let some = flat-some c.args.buffer.now c.args.from c.args.len c.requires.flat in
+    c.write_joints.ensures.begins
+    ∙ ap output (moved-piece c.args.buffer.now c.move_to_front.new.buffer c.args.from c.args.len c.requires.within some c.move_to_front.ensures)
 
 pub returns-clause-rest : goal.returns-clause-rest
 returns-clause-rest c =
-    let f = c.by_code.invariant.flat in
-    let piece : List ℕ = take c.args.len (drop c.args.from c.args.buffer.now) in
-    let d = length-drop c.args.from c.args.buffer.now in
-    let long : length piece ≡ c.args.len = length-take-le c.args.len (drop c.args.from c.args.buffer.now) (omega arith) in
-    let len = c.requires.flat.len in
-    let at : length (output piece) ≡ c.args.len - 1 = omega arith in
-    subst (λ (n : ℕ). drop n c.by_code.buffer ≡ drop n c.args.buffer.now) at f.decoded.rest
+    let some = flat-some c.args.buffer.now c.args.from c.args.len c.requires.flat in
+    c.write_joints.ensures.rest
+    ∙ moved-rest c.args.buffer.now c.move_to_front.new.buffer c.args.from c.args.len c.requires.within some c.move_to_front.ensures

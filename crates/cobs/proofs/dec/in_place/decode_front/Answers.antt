@@ -1,6 +1,6 @@
 use Rattle.std.proofs.Common.{◌≡◌, ◌∙◌, ◌-◌, ◌<◌, ℕ, List, take, length-take-le, ap, sym, subst, arith}
 use Rattle.std.proofs.lemmas.List.{take-take}
-use Rattle.cobs.specs.Piece.{IsFlat}
+use Rattle.cobs.specs.Internal.Decoded.{IsFlat}
 use Rattle.cobs.proofs.FlatLemmas.{flat-kept, flat-answer}
 use Rattle.cobs.proofs.BlockSteps.{overwritten-front}
 use Rattle.cobs.proofs.dec.in_place.decode_front.Goals as goal
@@ -11,16 +11,16 @@ all-flat xs len end flat some is = subst IsFlat (ap (λ (k : ℕ). take k (take 
 
 pub returns-clause-answer : goal.returns-clause-answer
 returns-clause-answer c =
-    let e = c.flat_front-len.ensures in
+    let e = c.front_of-len.ensures in
     let long = length-take-le c.args.end c.args.buffer.now c.requires.within in
-    let flat = all-flat c.args.buffer.now c.flat_front-len.result.0 c.args.end e.flat (omega arith) (omega (arith, e.within)) in
+    let flat = all-flat c.args.buffer.now c.front_of-len.result.0 c.args.end e.flat (omega arith) (omega (arith, e.within)) in
     let some = flat.some in
     flat-answer (take c.args.end c.args.buffer.now) flat (c.args.end - 1) (omega arith)
 
 pub returns-clause-buffer : goal.returns-clause-buffer
 returns-clause-buffer c =
-    let e = c.flat_front-len.ensures in
+    let e = c.front_of-len.ensures in
     let long = length-take-le c.args.end c.args.buffer.now c.requires.within in
-    let flat = all-flat c.args.buffer.now c.flat_front-len.result.0 c.args.end e.flat (omega arith) (omega (arith, e.within)) in
+    let flat = all-flat c.args.buffer.now c.front_of-len.result.0 c.args.end e.flat (omega arith) (omega (arith, e.within)) in
     overwritten-front c.args.buffer.now c.decode_flat.new.buffer _ (c.args.end - 1) (omega arith) (omega arith) c.decode_flat.ensures.rest
     (flat-kept (take c.args.end c.args.buffer.now) flat ∙ sym c.decode_flat.ensures.begins)

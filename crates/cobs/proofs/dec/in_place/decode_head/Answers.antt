@@ -1,6 +1,6 @@
 use Rattle.std.proofs.Common.{◌≡◌, ◌≢◌, ℕ, List, length, Err, sym, ap, ◌∙◌, rules, arith, length-take-le}
 use Rattle.std.proofs.lemmas.Bool.{eqb-false}
-use Rattle.cobs.specs.Buffer.{overwritten}
+use Rattle.cobs.specs.Overwritten.{overwritten}
 use Rattle.cobs.specs.Piece.{kept_output}
 use Rattle.cobs.proofs.HeadLemmas.{front_is_head}
 use Rattle.cobs.proofs.OutcomeSteps.{in_place_report-refused, in_place_report-decoded}

@@ -75,8 +75,8 @@ by_window-preserved c =
     let part-is = c.copy_from_slice.ensures.after ∙ ap (λ (m : ℕ). take m (drop (read + 1) c.args.piece.now)) n in
     full-decoded c.args.piece.now c.args.dest.now c.by_window.dest c.by_window.read c.by_window.written code p refl pos (omega arith) _ _ (omega arith) (omega arith) part-is (omega arith)
 
-pub decode_end-end-requires-clause-flat : goal.decode_end-end-requires-clause-flat
-decode_end-end-requires-clause-flat c =
+pub decode_flat_piece-end-requires-clause-flat : goal.decode_flat_piece-end-requires-clause-flat
+decode_flat_piece-end-requires-clause-flat c =
     let p = c.by_window.invariant in
     let flat : length (output (drop c.by_window.read c.args.piece.now)) + 1 ≡ length (drop c.by_window.read c.args.piece.now) =
     elim c.by_window-test.branch [
@@ -87,12 +87,12 @@ decode_end-end-requires-clause-flat c =
 
 pub returns-clause-begins : goal.returns-clause-begins
 returns-clause-begins c =
-    let e = c.decode_end-end.ensures in
-    joined-begins c.args.piece.now c.args.dest.now c.by_window.dest c.by_window.read c.by_window.written c.by_window.invariant (omega arith) c.decode_end-end.new.dest _ (take_rest c.args.piece.now c.by_window.read)
+    let e = c.decode_flat_piece-end.ensures in
+    joined-begins c.args.piece.now c.args.dest.now c.by_window.dest c.by_window.read c.by_window.written c.by_window.invariant (omega arith) c.decode_flat_piece-end.new.dest _ (take_rest c.args.piece.now c.by_window.read)
     _ (take_rest c.by_window.dest c.by_window.written) _ refl _ e.written e.begins
 
 pub returns-clause-rest : goal.returns-clause-rest
 returns-clause-rest c =
-    let e = c.decode_end-end.ensures in
-    joined-rest c.args.piece.now c.args.dest.now c.by_window.dest c.by_window.read c.by_window.written c.by_window.invariant (omega arith) c.decode_end-end.new.dest _ (take_rest c.args.piece.now c.by_window.read)
+    let e = c.decode_flat_piece-end.ensures in
+    joined-rest c.args.piece.now c.args.dest.now c.by_window.dest c.by_window.read c.by_window.written c.by_window.invariant (omega arith) c.decode_flat_piece-end.new.dest _ (take_rest c.args.piece.now c.by_window.read)
     _ (take_rest c.by_window.dest c.by_window.written) _ refl _ e.written e.rest

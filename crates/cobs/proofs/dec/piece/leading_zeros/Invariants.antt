@@ -1,5 +1,5 @@
 use Rattle.std.proofs.Common.{◌≡◌, ◌+◌, drop}
-use Rattle.cobs.specs.Decoding.{leading_zeros}
+use Rattle.cobs.specs.Decode.{leading_zeros}
 use Rattle.cobs.proofs.dec.piece.leading_zeros.Given as goal
 
 abbrev pub invariant-by_byte : goal.invariant-by_byte

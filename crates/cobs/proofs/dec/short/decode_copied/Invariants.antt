@@ -1,5 +1,5 @@
 use Rattle.std.proofs.Common.{◌≡◌, ◌-◌, length, get_or}
-use Rattle.cobs.specs.Piece.{Decoded}
+use Rattle.cobs.specs.Internal.Decoded.{Decoded}
 use Rattle.cobs.proofs.WindowSteps.{CopiedTo}
 use Rattle.cobs.proofs.dec.short.decode_copied.Given as goal
 

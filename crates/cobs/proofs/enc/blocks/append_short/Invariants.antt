@@ -1,5 +1,6 @@
 use Rattle.std.proofs.Common.{◌+◌}
-use Rattle.cobs.specs.Encoder.{CobsEncoderAfter, open_len}
+use Rattle.cobs.specs.OpenBlock.{CobsEncoderAfter}
+use Rattle.cobs.specs.Internal.OpenLen.{open_len}
 use Rattle.cobs.proofs.MarkLemmas.{Marks}
 use Rattle.cobs.proofs.enc.blocks.append_short.Given as goal
 

@@ -2,10 +2,10 @@ use Rattle.std.proofs.Common.{◌≡◌, ◌≤◌, ◌+◌, ◌-◌, ◌%◌, a
 use Rattle.std.proofs.lemmas.Bool.{eqb-false}
 use Rattle.std.proofs.lemmas.List.{length-set}
 use Rattle.std.proofs.Math.ListN.{set}
-use Rattle.cobs.specs.Encoder.{CobsEncoderAfter, Reached, end_of}
+use Rattle.cobs.specs.OpenBlock.{CobsEncoderAfter, Reached, end_of}
 use Rattle.cobs.proofs.ReachLemmas.{Reaches, Reaches-full}
 use Rattle.cobs.proofs.MarkLemmas.{WindowTaken, WindowTaken-at, copied-reaches, filled, marks-start, marks-end, ones-room, ones-taken}
-use Rattle.cobs.specs.Mask.{lowest}
+use Rattle.cobs.specs.Internal.Mask.{lowest}
 use Rattle.cobs.proofs.ShortSteps.{code-inside, code-ordered, first-marked}
 use Rattle.cobs.proofs.CoreLemmas.{end_with, core-start, full-after, full-end, full-rest, open-after, open-end, open-rest, still-open}
 use Rattle.cobs.proofs.enc.blocks.append_windows.Goals.{then-zeros-eq-ALL_ZEROS, else-zeros-eq-ALL_ZEROS+else-by_zero-test}

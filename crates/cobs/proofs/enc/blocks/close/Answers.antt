@@ -1,6 +1,6 @@
 use Rattle.std.proofs.Common.{◌+◌, ◌-◌, ◌≡◌, ℕ, take, set, sym, subst, arith}
 use Rattle.cobs.specs.Grammar.{IsEncodedFrame}
-use Rattle.cobs.specs.Encoder.{CobsEncoderAfter, Reached}
+use Rattle.cobs.specs.OpenBlock.{CobsEncoderAfter, Reached}
 use Rattle.cobs.proofs.AfterLemmas.{at}
 use Rattle.cobs.proofs.CoreLemmas.{closed-full, closed-open}
 use Rattle.cobs.proofs.enc.blocks.close.Goals as goal

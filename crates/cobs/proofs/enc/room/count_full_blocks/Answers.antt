@@ -1,6 +1,6 @@
 use Rattle.std.proofs.Common.{◌≡◌, ◌≢◌, ℕ, ◌+◌, ◌≤◌, List, [], take, drop, sym, ap, ◌∙◌, arith}
 use Rattle.std.proofs.lemmas.List.{drop_all}
-use Rattle.cobs.specs.Mask.{zero_mask}
+use Rattle.cobs.specs.Internal.Mask.{zero_mask}
 use Rattle.cobs.proofs.RoomLemmas.{blocks_in, behind, blocks-le, blocks-end, window-none, window-some, leading-range, byte-zero, byte-other}
 use Rattle.cobs.proofs.enc.room.count_full_blocks.Goals.{then-zeros-eq0, else-zeros-eq0, then-source-read-eq0, else-source-read-eq0}
 use Rattle.cobs.proofs.enc.room.count_full_blocks.Goals as goal
@@ -84,4 +84,4 @@ returns c =
     let none : drop c.by_byte.read source ≡ [] = drop_all c.by_byte.read source (omega arith) in
     let e = ap (λ (x : List ℕ). blocks_in (behind c.by_byte.run x)) none ∙ blocks-end c.by_byte.run in
     let counted = c.by_byte.invariant.counted in
-    omega arith
+    record { count = omega arith }

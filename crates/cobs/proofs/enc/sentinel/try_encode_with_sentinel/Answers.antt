@@ -8,7 +8,7 @@ returns-clause-frame c =
     let dest : List ℕ = c.try_encode.new.dest in
     let within = c.in_ok-written.ensures.fits.0 refl in
     let len = c.in_ok-written.ensures.len in
-    changed_frame c.args.sentinel n dest c.xor_bytes.new.bytes (drop n dest) c.args.source.now c.in_ok-written.ensures.frame c.xor_bytes.ensures (omega arith)
+    changed_frame c.args.sentinel n dest c.xor_bytes.new.bytes (drop n dest) c.args.source.now c.in_ok-written.ensures.frame c.xor_bytes.ensures.changed (omega arith)
 
 pub returns-clause-no_sentinel : goal.returns-clause-no_sentinel
 returns-clause-no_sentinel c = encoded_free c.args.sentinel _ (returns-clause-frame c)

@@ -1,5 +1,5 @@
 use Rattle.std.proofs.Common.{◌≡◌}
-use Rattle.cobs.specs.Reader.{decoder_of, reader_state}
+use Rattle.cobs.specs.Fields.Reader.{decoder_of, reader_state}
 use Rattle.cobs.proofs.ReadingLemmas.{Going}
 use Rattle.cobs.proofs.framed.FrameReader.next_frame.Given as goal
 

@@ -1,7 +1,7 @@
 use Rattle.std.proofs.Common.{◌≡◌, ℕ, ◌+◌, ◌-◌, ◌≤◌, List, [], ◌∷◌, ◌++◌, length-take, take, drop, refl, sym, ap, ◌∙◌, arith}
 use Rattle.std.proofs.lemmas.List.{drop-take, drop-drop}
 use Rattle.std.proofs.Math.Logic.{∥∥₁_map}
-use Rattle.cobs.specs.Streaming.{outcome_at}
+use Rattle.cobs.specs.FeedPiece.{outcome_at}
 use Rattle.cobs.proofs.SoFar.{DecoderAfter-idle}
 use Rattle.cobs.proofs.ReadingLemmas.{HasTaken-any, EndsFirstIn-taken}
 use Rattle.cobs.proofs.framed.FrameReader.next_kept.Goals as goal
@@ -20,7 +20,7 @@ pub returns-in-None-clause-none : goal.returns-in-None-clause-none
 returns-in-None-clause-none g c = λ p b.
     let t = c.in-None.ensures.takes.takes in (
       record { none_ended = rw t.len (sym (t.outcomes p b)); behind = t.after p b; nothing_kept = empty_range c.args.self.now.chunk c.args.self.now.end },
-      c.is_unfinished-self.ensures p (HasTaken-any _ _ _ p c.args.self.now.has_taken b).flag b.phased.piece,
+      c.is_unfinished-self.ensures.unfinished p (HasTaken-any _ _ _ p c.args.self.now.has_taken b).flag b.phased.piece,
     )
 
 pub returns-in-Some-clause-first : goal.returns-in-Some-clause-first
@@ -31,7 +31,7 @@ returns-in-Some-clause-first g c = λ p h.
     let n : c.in-Some.count + r.start ≤ r.end = omega (arith, t.within.0, length-take (r.end - r.start) (drop r.start r.chunk), r.ordered) in
     record {
       outcome = outcome_at c.in-Some.end (g.D.FrameDecoder.bytes c.feed_piece.new.self);
-      is = c.next_of.ensures (g.D.FrameDecoder.bytes c.feed_piece.new.self) (rw t.takes.len t.within.1);
+      is = c.next_at.ensures (g.D.FrameDecoder.bytes c.feed_piece.new.self) (rw t.takes.len t.within.1);
       first = rw t.takes.len (record {
         front = o.front;
         cut = o.cut ∙ ap (λ (x : List ℕ). o.front ++ 0 ∷ x) (left_of_range r.chunk r.start r.end c.in-Some.count n);
@@ -48,7 +48,7 @@ invariant_of-self-clause-has_taken g c = ∥∥₁_map c.args.self.now.has_taken
   _,
   record {
     after = c.in-None.ensures.takes.takes.after w.0 w.1.after;
-    flag = c.is_unfinished-self.ensures w.0 w.1.flag w.1.after.phased.piece;
+    flag = c.is_unfinished-self.ensures.unfinished w.0 w.1.flag w.1.after.phased.piece;
   },
 ))
 

@@ -1,6 +1,6 @@
 use Rattle.std.proofs.lemmas.List.{take_all}
 use Rattle.std.proofs.Common.{◌≡◌, take, arith, ◌∙◌, refl, get_or}
-use Rattle.cobs.specs.Decoder.{Feeds}
+use Rattle.cobs.specs.Feed.{Feeds}
 use Rattle.cobs.proofs.SoFar.{LeavesRest-start, LeavesRest-step, SoFar-start, TakesPiece-none, TakesPiece-at_zero, step_none, step_nonzero}
 use Rattle.cobs.proofs.dec.frame_decoder.FrameDecoder.feed_piece.Goals as goal
 use Rattle.cobs.proofs.dec.frame_decoder.FrameDecoder.feed_piece.Goals.{then-byte-eq0+in_default, else-byte-eq0, After-feed_byte-answer}

@@ -1,5 +1,5 @@
 use Rattle.std.proofs.Common.{◌≡◌, take, []}
-use Rattle.cobs.specs.Streaming.{LeavesRest}
+use Rattle.cobs.specs.Internal.PieceEnds.{LeavesRest}
 use Rattle.cobs.proofs.SoFar.{SoFar}
 use Rattle.cobs.proofs.dec.frame_decoder.FrameDecoder.feed_piece.Given as goal
 

@@ -1,7 +1,7 @@
 use Rattle.std.proofs.Common.{◌+◌, ◌-◌, arith, [], length, drop, take, length-drop, length-take, ◌≡◌}
 use Rattle.std.proofs.lemmas.List.{take_all}
-use Rattle.cobs.specs.Buffers.{phase_of}
-use Rattle.cobs.specs.Streaming.{LeavesRest}
+use Rattle.cobs.specs.Fields.Decoders.{phase_of}
+use Rattle.cobs.specs.Internal.PieceEnds.{LeavesRest}
 use Rattle.cobs.proofs.SoFar.{LeavesRest-start, LeavesRest-run, LeavesRest-step, SoFar, SoFar-start, SoFar-run, TakesPiece-none, TakesPiece-at_zero, step_none, step_nonzero}
 use Rattle.cobs.proofs.dec.unbuffered.UnbufferedDecoder.feed_piece.Goals as goal
 use Rattle.cobs.proofs.dec.unbuffered.UnbufferedDecoder.feed_piece.Goals.{After-take_inside-taken}
@@ -20,19 +20,19 @@ left c = LeavesRest-run _ _ c.args.bytes.now c.by_run.taken _ _ (c.take_inside-t
 pub returns-in-Some : goal.returns-in-Some
 returns-in-Some c =
     let s = ran (goal.at.returns-in-Some c).After-take_inside-taken in
-    let e = c.in-Some.ensures c.feed-answer.new.dest (rw c.feed-answer.ensures.len c.feed-answer.ensures.bound) in
-    TakesPiece-at_zero _ _ c.if-taken-bytes.true c.if-byte-eq0.true s (left (goal.at.returns-in-Some c).After-take_inside-taken) c.feed-answer.ensures _ e.0 e.1
+    let e = c.in-Some.ensures c.feed-answer.new.dest (rw c.feed-answer.ensures.feeds.len c.feed-answer.ensures.feeds.bound) in
+    record { takes = TakesPiece-at_zero _ _ c.if-taken-bytes.true c.if-byte-eq0.true s (left (goal.at.returns-in-Some c).After-take_inside-taken) c.feed-answer.ensures.feeds _ e.0 e.1 }
 
 pub by_run-preserved-in_default : goal.by_run-preserved-in_default
 by_run-preserved-in_default c =
     let s = ran (goal.at.by_run-preserved-in_default c).After-take_inside-taken in
-    let e = c.in_default.ensures c.feed-answer.new.dest (rw c.feed-answer.ensures.len c.feed-answer.ensures.bound) in
-    record { within = omega arith; so_far = step_none _ _ c.if-taken-bytes.true c.if-byte-eq0.true e s c.feed-answer.ensures; rest = LeavesRest-step _ _ c.if-taken-bytes.true s (left (goal.at.by_run-preserved-in_default c).After-take_inside-taken) c.feed-answer.ensures }
+    let e = c.in_default.ensures c.feed-answer.new.dest (rw c.feed-answer.ensures.feeds.len c.feed-answer.ensures.feeds.bound) in
+    record { within = omega arith; so_far = step_none _ _ c.if-taken-bytes.true c.if-byte-eq0.true e s c.feed-answer.ensures.feeds; rest = LeavesRest-step _ _ c.if-taken-bytes.true s (left (goal.at.by_run-preserved-in_default c).After-take_inside-taken) c.feed-answer.ensures.feeds }
 
 pub by_run-preserved-else-byte-eq0 : goal.by_run-preserved-else-byte-eq0
 by_run-preserved-else-byte-eq0 c =
     let s = ran (goal.at.by_run-preserved-else-byte-eq0 c).After-take_inside-taken in
-    record { within = omega arith; so_far = step_nonzero _ _ c.if-taken-bytes.true c.if-byte-eq0.false s c.feed-answer.ensures; rest = LeavesRest-step _ _ c.if-taken-bytes.true s (left (goal.at.by_run-preserved-else-byte-eq0 c).After-take_inside-taken) c.feed-answer.ensures }
+    record { within = omega arith; so_far = step_nonzero _ _ c.if-taken-bytes.true c.if-byte-eq0.false s c.feed-answer.ensures.feeds; rest = LeavesRest-step _ _ c.if-taken-bytes.true s (left (goal.at.by_run-preserved-else-byte-eq0 c).After-take_inside-taken) c.feed-answer.ensures.feeds }
 
 pub by_run-preserved : goal.by_run-preserved
 by_run-preserved c = record {
@@ -44,4 +44,4 @@ by_run-preserved c = record {
 pub returns : goal.returns
 returns c =
     let all : take c.by_run.taken c.args.bytes.now ≡ c.args.bytes.now = take_all c.by_run.taken c.args.bytes.now (omega (arith, c.by_run-test.false)) in
-    TakesPiece-none _ (rw all at c.by_run.invariant.so_far) (rw all at c.by_run.invariant.rest)
+    record { takes = TakesPiece-none _ (rw all at c.by_run.invariant.so_far) (rw all at c.by_run.invariant.rest) }

@@ -1,6 +1,6 @@
 use Rattle.std.proofs.Common.{length, ◌-◌, ◌≤◌, [], take}
-use Rattle.cobs.specs.Buffers.{phase_of}
-use Rattle.cobs.specs.Streaming.{LeavesRest}
+use Rattle.cobs.specs.Fields.Decoders.{phase_of}
+use Rattle.cobs.specs.Internal.PieceEnds.{LeavesRest}
 use Rattle.cobs.proofs.SoFar.{SoFar}
 use Rattle.cobs.proofs.dec.unbuffered.UnbufferedDecoder.feed_piece.Given as goal
 

@@ -1,5 +1,5 @@
 use Rattle.std.proofs.Common.{◌+◌, ◌-◌, ◌∙◌, ap, arith, Ok, length, drop, length-drop, length-take}
-use Rattle.cobs.specs.Buffers.{phase_of}
+use Rattle.cobs.specs.Fields.Decoders.{phase_of}
 use Rattle.cobs.proofs.PushLemmas.{Pushed, Pushed-start, Pushed-more, pushed_none, pushed_some, pushed_error}
 use Rattle.cobs.proofs.RunLemmas.{Pushed-ran}
 use Rattle.cobs.proofs.dec.unbuffered.UnbufferedDecoder.push.Goals as goal
@@ -15,7 +15,7 @@ ran c = Pushed-ran c.args.bytes.now _ _ c.by_run.at (length c.args.bytes.now - c
 pub by_run-preserved-in-Ok-None : goal.by_run-preserved-in-Ok-None
 by_run-preserved-in-Ok-None c = record {
   within = omega arith;
-  pushed = Pushed-more _ _ c.if-at-bytes.true (ran (goal.at.by_run-preserved-in-Ok-None c).After-take_run-at) c.feed.ensures (c.in-Ok-None.is ∙ ap Ok c.in-Ok-None.field-0-is);
+  pushed = Pushed-more _ _ c.if-at-bytes.true (ran (goal.at.by_run-preserved-in-Ok-None c).After-take_run-at) c.feed.ensures.feeds (c.in-Ok-None.is ∙ ap Ok c.in-Ok-None.field-0-is);
 }
 
 pub by_run-preserved : goal.by_run-preserved
@@ -25,10 +25,10 @@ by_run-preserved c = record {
 }
 
 pub returns-in-Ok-Some : goal.returns-in-Ok-Some
-returns-in-Ok-Some c = rw c.new.ensures (pushed_some _ _ c.if-at-bytes.true (ran (goal.at.returns-in-Ok-Some c).After-take_run-at) c.feed.ensures _ (c.in-Ok-Some.is ∙ ap Ok c.in-Ok-Some.field-0-is))
+returns-in-Ok-Some c = record { pushes = rw c.new.ensures (pushed_some _ _ c.if-at-bytes.true (ran (goal.at.returns-in-Ok-Some c).After-take_run-at) c.feed.ensures.feeds _ (c.in-Ok-Some.is ∙ ap Ok c.in-Ok-Some.field-0-is)) }
 
 pub returns-in-Err : goal.returns-in-Err
-returns-in-Err c = pushed_error _ _ c.if-at-bytes.true (ran (goal.at.returns-in-Err c).After-take_run-at) c.feed.ensures _ c.in-Err.is
+returns-in-Err c = record { pushes = pushed_error _ _ c.if-at-bytes.true (ran (goal.at.returns-in-Err c).After-take_run-at) c.feed.ensures.feeds _ c.in-Err.is }
 
 pub returns : goal.returns
-returns c = pushed_none _ _ (omega arith) c.by_run.invariant.pushed
+returns c = record { pushes = pushed_none _ _ (omega arith) c.by_run.invariant.pushed }

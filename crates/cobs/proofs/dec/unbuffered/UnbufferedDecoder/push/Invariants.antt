@@ -1,5 +1,5 @@
 use Rattle.std.proofs.Common.{length, ◌-◌, ◌≤◌}
-use Rattle.cobs.specs.Buffers.{phase_of}
+use Rattle.cobs.specs.Fields.Decoders.{phase_of}
 use Rattle.cobs.proofs.PushLemmas.{Pushed}
 use Rattle.cobs.proofs.dec.unbuffered.UnbufferedDecoder.push.Given as goal
 

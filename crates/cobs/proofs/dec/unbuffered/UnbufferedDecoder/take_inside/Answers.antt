@@ -1,6 +1,6 @@
 use Rattle.std.proofs.Common.{◌≡◌, true, refl}
-use Rattle.cobs.specs.Decoder.{Over}
-use Rattle.cobs.specs.Buffers.{phase_of}
+use Rattle.cobs.specs.Feed.{Over}
+use Rattle.cobs.specs.Fields.Decoders.{phase_of}
 use Rattle.cobs.specs.declared.dec.unbuffered.UnbufferedDecoder.{UnbufferedDecoder}
 use Rattle.cobs.proofs.TakenLemmas.{LeavesRest-fed, LeavesRest-over, TakesBytes-fed, TakesBytes-over}
 use Rattle.cobs.proofs.dec.unbuffered.UnbufferedDecoder.take_inside.Goals as goal

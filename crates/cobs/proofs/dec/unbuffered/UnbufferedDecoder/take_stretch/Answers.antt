@@ -1,8 +1,8 @@
 use Rattle.std.proofs.Common.{ℕ, List, take, drop, sym, subst}
 use Rattle.std.proofs.lemmas.List.{take_rest}
 use Rattle.std.proofs.Math.Seq.{take-add}
-use Rattle.cobs.specs.Buffers.{phase_of}
-use Rattle.cobs.specs.Machine.{FedInTurn}
+use Rattle.cobs.specs.Fields.Decoders.{phase_of}
+use Rattle.cobs.specs.Internal.Step.{FedInTurn}
 use Rattle.cobs.proofs.StretchLemmas.{FedInTurn-append}
 use Rattle.cobs.proofs.dec.unbuffered.UnbufferedDecoder.take_stretch.Goals as goal
 

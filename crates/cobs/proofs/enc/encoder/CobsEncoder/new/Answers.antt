@@ -1,5 +1,5 @@
 use Rattle.std.proofs.Common.{[], sym, subst}
-use Rattle.cobs.specs.Encoder.{CobsEncoderAfter, Reached}
+use Rattle.cobs.specs.OpenBlock.{CobsEncoderAfter, Reached}
 use Rattle.cobs.proofs.CoreLemmas.{after-nothing}
 use Rattle.cobs.proofs.enc.encoder.CobsEncoder.new.Goals as goal
 

@@ -1,6 +1,6 @@
 use Rattle.std.proofs.Common.{List, ℕ, sym, subst}
 use Rattle.cobs.specs.Grammar.{IsOpenFrame}
-use Rattle.cobs.specs.Encoder.{OpenBlock, IsOpenOutput}
+use Rattle.cobs.specs.OpenBlock.{OpenBlock, IsOpenOutput}
 use Rattle.cobs.proofs.OpenLemmas.{completed}
 use Rattle.cobs.proofs.enc.state.EncoderState.finalize.Goals as goal
 

@@ -1,6 +1,6 @@
 use Rattle.std.proofs.Common.{ℕ, ◌+◌, List, [], ◌∷◌, ◌++◌, set, subst, sym, refl}
 use Rattle.cobs.specs.Grammar.{IsOpenFrame}
-use Rattle.cobs.specs.Encoder.{OpenBlock, AgreeOutside, IsOpenOutput}
+use Rattle.cobs.specs.OpenBlock.{OpenBlock, AgreeOutside, IsOpenOutput}
 use Rattle.cobs.proofs.OpenLemmas.{open-zero, open-more, open-full}
 use Rattle.cobs.proofs.enc.state.EncoderState.push.Goals as goal
 

@@ -1,5 +1,5 @@
 use Rattle.std.proofs.Common.{◌∙◌, sym, ap, subst}
-use Rattle.cobs.specs.Encoder.{Reached, CobsEncoderAfter, end_of}
+use Rattle.cobs.specs.OpenBlock.{Reached, CobsEncoderAfter, end_of}
 use Rattle.cobs.proofs.AfterLemmas.{end-is}
 use Rattle.cobs.proofs.PlaceLemmas.{after-place}
 use Rattle.cobs.proofs.SentinelLemmas.{encoded_nonzero}

@@ -1,8 +1,9 @@
 use Rattle.std.proofs.Common.{◌≡◌, ◌≢◌, ◌++◌, ℕ, List, [], ◌∷◌, length, refl, sym, ap, ◌∙◌, subst, arith, append-nil}
 use Rattle.std.proofs.lemmas.Bool.{eqb-false, eqb-true}
 use Rattle.cobs.specs.Length.{encoded_len}
-use Rattle.cobs.specs.Encoder.{Reached, CobsEncoderAfter, open_len}
-use Rattle.cobs.specs.UnbufferedEncoder.{IsPlaceIn}
+use Rattle.cobs.specs.OpenBlock.{Reached, CobsEncoderAfter}
+use Rattle.cobs.specs.Internal.OpenLen.{open_len}
+use Rattle.cobs.specs.Fields.Encoders.{IsPlaceIn}
 use Rattle.cobs.proofs.OpenLenLemmas.{open_len-least}
 use Rattle.cobs.proofs.CoreLemmas.{after-len, after-fits}
 use Rattle.cobs.proofs.PlaceLemmas.{after-place}
@@ -32,7 +33,7 @@ returns-then-not-fits-clause-fits c = λ m h.
     let e = after-len c.args.dest.now m c.args.bytes.now c.in-Some.progress some h' in
     let code = ap (λ (n : ℕ). open_len n c.args.bytes.now) c.code.ensures.code in
     let index = c.index.ensures in
-    (λ t. cc, λ le. let yes = c.fits.ensures.1 (omega arith) in cc)
+    (λ t. cc, λ le. let yes = c.fits.ensures.fits.1 (omega arith) in cc)
 
 pub returns-clause-fits : goal.returns-clause-fits
 returns-clause-fits c = λ m h.
@@ -41,7 +42,7 @@ returns-clause-fits c = λ m h.
     let e = after-len c.args.dest.now m c.args.bytes.now c.in-Some.progress some h' in
     let code = ap (λ (n : ℕ). open_len n c.args.bytes.now) c.code.ensures.code in
     let index = c.index.ensures in
-    let enough = c.fits.ensures.0 c.if-not-fits.false in
+    let enough = c.fits.ensures.fits.0 c.if-not-fits.false in
     let some_code = c.code.ensures.some in
     let least = open_len-least c.code.result c.args.bytes.now some_code in
     (λ t. omega arith, λ le. refl)

@@ -1,0 +1,41 @@
+use Rattle.std.proofs.Common.{◌∙◌, ℕ, List, take, refl, ap, sym, subst, arith}
+use Rattle.cobs.specs.Grammar.{HasNoZero}
+use Rattle.cobs.specs.Piece.{output}
+use Rattle.cobs.specs.Internal.Decoded.{IsFlat}
+use Rattle.cobs.proofs.SentinelLemmas.{xor_each-zero}
+use Rattle.cobs.proofs.FlatLemmas.{moved-piece, moved-rest, piece-nonzero}
+use Rattle.cobs.proofs.dec.in_place.decode_short.Goals as goal
+
+pub write_joints-requires-clause-nonzero : goal.write_joints-requires-clause-nonzero
+write_joints-requires-clause-nonzero c =
+    let m = c.if-not-move_nonzero_short.ensures in
+    let old : List ℕ = c.args.buffer.now in
+    let piece = moved-piece old c.move_nonzero_short.new.buffer 0 c.args.len (omega arith) (omega arith) (m.moved refl) in
+    subst HasNoZero (sym piece) (piece-nonzero old c.args.len (omega arith) (omega arith) c.if-buffer-eq0.false (m.nonzero refl))
+
+pub write_joints-requires-clause-flat : goal.write_joints-requires-clause-flat
+write_joints-requires-clause-flat c =
+    let m = c.if-not-move_nonzero_short.ensures in
+    let old : List ℕ = c.args.buffer.now in
+    let piece = moved-piece old c.move_nonzero_short.new.buffer 0 c.args.len (omega arith) (omega arith) (m.moved refl) in
+    subst IsFlat (sym piece) (subst IsFlat (xor_each-zero (take c.args.len old)) (c.if-not-is_flat.ensures refl))
+
+pub returns-clause-nonzero : goal.returns-clause-nonzero
+returns-clause-nonzero c holds =
+    let m = c.if-not-move_nonzero_short.ensures in
+    piece-nonzero c.args.buffer.now c.args.len (omega arith) (omega arith) c.if-buffer-eq0.false (m.nonzero refl)
+
+pub returns-clause-flat : goal.returns-clause-flat
+returns-clause-flat c holds = subst IsFlat (xor_each-zero (take c.args.len c.args.buffer.now)) (c.if-not-is_flat.ensures refl)
+
+pub returns-clause-begins : goal.returns-clause-begins
+returns-clause-begins c holds =
+    let m = c.if-not-move_nonzero_short.ensures in
+    let old : List ℕ = c.args.buffer.now in
+    c.write_joints.ensures.begins ∙ ap output (moved-piece old c.move_nonzero_short.new.buffer 0 c.args.len (omega arith) (omega arith) (m.moved refl))
+
+pub returns-clause-rest : goal.returns-clause-rest
+returns-clause-rest c =
+    let m = c.if-not-move_nonzero_short.ensures in
+    let old : List ℕ = c.args.buffer.now in
+    c.write_joints.ensures.rest ∙ moved-rest old c.move_nonzero_short.new.buffer 0 c.args.len (omega arith) (omega arith) (m.moved refl)

@@ -1,0 +1,23 @@
+use Rattle.std.proofs.Common.{◌≡◌, ◌+◌, ◌-◌, List, ℕ, take, drop, subst, arith}
+use Rattle.cobs.specs.Grammar.{HasNoZero}
+use Rattle.cobs.proofs.MaskLemmas.{zeros_by_lanes, zero_mask-none}
+use Rattle.cobs.proofs.NonzeroCopies.{or-none, more-nonzero}
+use Rattle.cobs.proofs.MoveLemmas.{parts-moved}
+use Rattle.cobs.proofs.dec.moves.move_nonzero_8_to_16.Goals as goal
+
+pub returns-clause-nonzero : goal.returns-clause-nonzero
+returns-clause-nonzero c holds =
+    let buffer : List ℕ = c.args.buffer.now in
+    let from = c.args.from in
+    let start : ℕ = c.args.len - 8 in
+    let sum : start + 8 ≡ c.args.len = omega arith in
+    let at : from + c.args.len - 8 ≡ from + start = omega arith in
+    let front-lanes = zeros_by_lanes buffer from 8 (omega arith) (omega arith) in
+    let back-lanes = zeros_by_lanes buffer (from + c.args.len - 8) 8 (omega arith) (omega arith) in
+    let clear = or-none _ _ _ _ front-lanes back-lanes c.if-zeros-ne0.false in
+    subst (λ (n : ℕ). HasNoZero (take n (drop from buffer))) sum
+    (more-nonzero buffer buffer buffer from 0 8 start 8 (omega arith) (omega arith) (omega arith) (omega arith)
+    (zero_mask-none (take 8 (drop from buffer)) clear.0) (subst (λ (n : ℕ). HasNoZero (take 8 (drop n buffer))) at (zero_mask-none (take 8 (drop (from + c.args.len - 8) buffer)) clear.1)))
+
+pub returns-clause-moved : goal.returns-clause-moved
+returns-clause-moved c holds = parts-moved c.args.buffer.now c.args.from c.args.len 8 c.requires.within c.requires.some (omega arith)

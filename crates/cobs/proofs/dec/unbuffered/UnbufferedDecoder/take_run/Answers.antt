@@ -1,0 +1,59 @@
+use Rattle.std.proofs.Common.{◌≡◌, ◌+◌, ◌-◌, ◌∙◌, ℕ, List, Bool, false, cond, eqb, take, drop, length, ap, sym, subst, arith, length-drop, length-take}
+use Rattle.std.proofs.lemmas.List.{take_rest, take-take}
+use Rattle.std.proofs.Math.Seq.{take-add}
+use Rattle.cobs.specs.Feed.{Phase, Over}
+use Rattle.cobs.specs.Fields.Decoders.{phase_of, phase_with}
+use Rattle.cobs.specs.declared.dec.unbuffered.UnbufferedDecoder.{UnbufferedDecoder}
+use Rattle.cobs.specs.Internal.Step.{FedInTurn}
+use Rattle.cobs.proofs.StretchLemmas.{FedInTurn-append}
+use Rattle.cobs.proofs.dec.unbuffered.UnbufferedDecoder.take_run.Goals as goal
+use Rattle.cobs.proofs.dec.unbuffered.UnbufferedDecoder.take_run.Goals.{then-by_part-test+then-bytes-run-ne0+else-bytes-run-lt-MANY, then-by_part-test+else-bytes-run-ne0, else-by_part-test, then-by_part-test+then-bytes-run-ne0+then-bytes-run-lt-MANY+then-part-eq0}
+
+-- the first bytes of those behind the run are fed
+joined : (bytes buffer buffer' buffer'' : List ℕ) (phase phase' phase'' : Phase) (run more : ℕ) → FedInTurn buffer phase (take run bytes) buffer' phase'
+    → FedInTurn buffer' phase' (take more (drop run bytes)) buffer'' phase'' → FedInTurn buffer phase (take (run + more) bytes) buffer'' phase''
+joined bytes buffer buffer' buffer'' phase phase' phase'' run more f g =
+    subst (λ (xs : List ℕ). FedInTurn buffer phase xs buffer'' phase'') (sym (take-add run more bytes))
+    (FedInTurn-append (take run bytes) (take more (drop run bytes)) buffer buffer' buffer'' phase phase' phase'' f g)
+
+pub by_part-preserved : goal.by_part-preserved
+by_part-preserved c =
+    let bytes : List ℕ = c.args.bytes.now in
+    let run : ℕ = c.by_part.run in
+    let more : ℕ = c.take_part-part.result in
+    record {
+      within = omega (arith, length-drop run bytes, length-take (length bytes - run) (drop run bytes), c.take_part-part.ensures.within);
+      going = c.take_part-part.ensures.going;
+      taken = joined bytes _ _ _ _ _ _ run more c.by_part.invariant.taken
+          (subst (λ (xs : List ℕ). FedInTurn c.by_part.dest (phase_of c.by_part.here) (take more xs) c.take_part-part.new.dest (phase_of c.take_part-part.new.self)) (take_rest bytes run) c.take_part-part.ensures.fed);
+    }
+
+-- a decoder whose fields are written one by one
+same_phase : (inner : UnbufferedDecoder) (over : Bool) → over ≡ false → inner.over ≡ false
+    → phase_of inner ≡ phase_of (record { dest_idx = inner.dest_idx; left = inner.left; code = inner.code; over = over })
+same_phase inner over e f = ap (λ (v : Bool). cond v Over (phase_with (eqb inner.code 255) inner.left inner.dest_idx)) (f ∙ sym e)
+
+pub returns-clause-fed : goal.returns-clause-fed
+returns-clause-fed c =
+    let bytes : List ℕ = c.args.bytes.now in
+    let run : ℕ = c.by_part-test.run in
+    let more : ℕ = c.take_stretch.result in
+    let most : ℕ = run + c.piece_len.result - run in
+    let start : Phase = phase_of c.args.self.now in
+    let here : UnbufferedDecoder = c.by_part-test.here in
+    let left_at : Phase = phase_of (record { dest_idx = here.dest_idx; left = here.left; code = here.code; over = c.args.self.now.over }) in
+    let so_far : FedInTurn c.args.dest.now start (take run bytes) c.by_part-test.dest (phase_of c.by_part-test.here) × (c.by_part-test.here.over ≡ false) = elim c.by_part-test.branch [
+      | then-by_part-test+then-bytes-run-ne0+else-bytes-run-lt-MANY w ↦ rw (w.dest-is, w.here-is, w.run-is) (c.by_part.invariant.taken, c.by_part.invariant.going)
+      | then-by_part-test+else-bytes-run-ne0 w ↦ rw (w.dest-is, w.here-is, w.run-is) (c.by_part.invariant.taken, c.by_part.invariant.going)
+      | else-by_part-test w ↦ rw (w.dest-is, w.here-is, w.run-is) (c.by_part.invariant.taken, c.by_part.invariant.going)
+      | then-by_part-test+then-bytes-run-ne0+then-bytes-run-lt-MANY+then-part-eq0 w ↦ rw (w.dest-is, w.here-is, w.run-is) (
+        joined bytes _ _ _ _ _ _ c.by_part.run w.take_part-part.result c.by_part.invariant.taken
+            (subst (λ (xs : List ℕ). FedInTurn c.by_part.dest (phase_of c.by_part.here) (take w.take_part-part.result xs) w.take_part-part.new.dest (phase_of w.take_part-part.new.self))
+            (take_rest bytes c.by_part.run) w.take_part-part.ensures.fed),
+        w.take_part-part.ensures.going,
+      )
+    ] in
+    joined bytes _ _ _ _ _ _ run more
+    (subst (λ (z : Phase). FedInTurn c.args.dest.now start (take run bytes) c.by_part-test.dest z) (same_phase c.by_part-test.here c.args.self.now.over c.if-self.false so_far.1) so_far.0)
+    (subst (λ (xs : List ℕ). FedInTurn c.by_part-test.dest left_at xs c.take_stretch.new.dest (phase_of c.take_stretch.new.self))
+    (take-take more most (drop run bytes) (omega (arith, length-take most (drop run bytes), c.take_stretch.ensures.within))) c.take_stretch.ensures.fed)

@@ -1,0 +1,77 @@
+-- What a streaming decoder answers, and where it stands, after the front of a piece.
+use Rattle.std.specs.Prelude.{ℕ, ◌≡◌, ◌≢◌, ◌≤◌, ◌==◌, nat_le, Bool, true, false, List, [], ◌∷◌, ◌++◌, length, take, drop, Option, Some, None, Result, Ok, Err, IfOk, IfSome, if◌then◌else◌}
+use Rattle.std.specs.Result.{result_map_both}
+use Rattle.cobs.specs.Grammar.{HasNoZero, is_full}
+use Rattle.cobs.specs.Piece.{output, last_part, lacks}
+use Rattle.cobs.specs.Table.{table_state}
+use Rattle.cobs.specs.Stream.{Outcome, outcome_of}
+use Rattle.cobs.specs.Decode.{sized}
+use Rattle.cobs.specs.declared.dec.error.DecodeError.{DecodeError}
+use Rattle.cobs.specs.declared.dec.state.DecoderState.{DecoderState}
+use Rattle.cobs.specs.declared.dec.state.DecoderState.TheVariants as states
+use Rattle.cobs.specs.declared.dec.error.DecodeError.TheVariants.{TargetBufTooSmall}
+
+-- how a streaming decoder answers an outcome: as the free decoders do, in an option
+abbrev pub told : Outcome → Result (Option ℕ) DecodeError
+told outcome = result_map_both Some (λ error. error) (sized outcome)
+
+-- the answer to the zero after the front p of a piece, over a buffer of n bytes: where p is empty no piece has ended
+unfoldable pub answer_at_end : List ℕ → ℕ → Result (Option ℕ) DecodeError
+answer_at_end [] n = Ok None
+answer_at_end (byte ∷ bytes) n = told (outcome_of (byte ∷ bytes) n)
+
+-- the answer to a byte after the front p of a piece, over a buffer of n bytes
+unfoldable pub answer_to : List ℕ → ℕ → ℕ → Result (Option ℕ) DecodeError
+answer_to p byte n =
+    if byte == 0 then answer_at_end p n
+    else (if nat_le (length (output (p ++ byte ∷ []))) n then Ok None else Err TargetBufTooSmall)
+
+-- the front of the piece once a byte is fed: a zero ends the piece
+abbrev pub fed : List ℕ → ℕ → List ℕ
+fed p byte = if byte == 0 then [] else p ++ byte ∷ []
+
+-- where a decoder stands: no piece has begun; in a block, full or not, that lacks so many bytes, with so many bytes
+-- written; or the output was too long for the buffer
+pub data Phase : Type 0 where
+  Idle : Phase
+  Within : (full : Bool) (left count : ℕ) → Phase
+  Over : Phase
+
+-- the state of the table of `DecoderState` in which a decoder stands; none where the output was too long
+abbrev pub state_in : Phase → Option DecoderState
+state_in Idle = Some states.Idle
+state_in (Within false left count) = Some (states.Grab left)
+state_in (Within true left count) = Some (states.GrabChain left)
+state_in Over = None
+
+-- the phase after the front p of a piece, over a buffer of n bytes
+unfoldable pub phase_after : List ℕ → ℕ → Phase
+phase_after [] n = Idle
+phase_after (byte ∷ bytes) n =
+    let p = byte ∷ bytes in
+    if nat_le (length (output p)) n then Within (is_full (last_part p)) (lacks (last_part p)) (length (output p)) else Over
+
+-- a decoder over a buffer of n bytes has taken the front p of a piece, as its phase shows
+pub record PhaseAfter (n : ℕ) (phase : Phase) (p : List ℕ) : Type 0 where
+  pub piece : HasNoZero p
+  pub phase_is : phase ≡ phase_after p n
+
+-- the same, and its buffer begins with the output of p, or is the first bytes of an output that is longer
+pub record DecoderAfter (buffer : List ℕ) (phase : Phase) (p : List ℕ) : Type 0 where
+  pub phased : PhaseAfter (length buffer) phase p
+  pub begins : take (length (output p)) buffer ≡ take (length buffer) (output p)
+
+-- feeding a byte takes a decoder from the one buffer and phase to the other, with this answer
+pub record Feeds (buffer : List ℕ) (phase : Phase) (byte : ℕ) (result : Result (Option ℕ) DecodeError) (buffer' : List ℕ) (phase' : Phase) : Type 0 where
+  pub answer : (p : List ℕ) → PhaseAfter (length buffer) phase p → result ≡ answer_to p byte (length buffer)
+  pub phased : (p : List ℕ) → PhaseAfter (length buffer) phase p → PhaseAfter (length buffer) phase' (fed p byte)
+  pub after : (p : List ℕ) → DecoderAfter buffer phase p → DecoderAfter buffer' phase' (fed p byte)
+  pub untouched : (p : List ℕ) → PhaseAfter (length buffer) phase p → byte ≢ 0
+      → drop (length (output (p ++ byte ∷ []))) buffer' ≡ drop (length (output (p ++ byte ∷ []))) buffer
+  -- in every phase
+  pub zero_idle : byte ≡ 0 → phase' ≡ Idle
+  pub zero_unchanged : byte ≡ 0 → buffer' ≡ buffer
+  -- its state moves as the table says, unless the output is now too long
+  pub by_table : (state : DecoderState) → state_in phase ≡ Some state → phase' ≢ Over → state_in phase' ≡ Some (table_state state byte)
+  pub bound : IfOk result (λ found. IfSome found (λ n. n ≤ length buffer))
+  pub len : length buffer' ≡ length buffer

@@ -1,0 +1,74 @@
+-- What a streaming decoder makes of the bytes through the end of a piece.
+use Rattle.std.specs.Prelude.{ℕ, ◌≡◌, ◌≤◌, List, [], ◌∷◌, ◌++◌, length, take, drop, Option, Some, None, IfSome}
+use Rattle.std.specs.List.{Contains}
+use Rattle.cobs.specs.Stream.{Outcome, Message, Broken, TooLong, stream_outcomes, unended}
+use Rattle.cobs.specs.Feed.{Phase, Idle, PhaseAfter, DecoderAfter}
+use Rattle.cobs.specs.Piece.{output}
+use Rattle.cobs.specs.Push.{last_piece}
+use Rattle.cobs.specs.declared.dec.frame_decoder.PieceEnd.{PieceEnd}
+use Rattle.cobs.specs.declared.dec.frame_decoder.PieceEnd.TheVariants as ends
+
+-- equal, or both messages of one length
+abbrev pub AreAlike : Outcome → Outcome → Type 0
+AreAlike (Message m) (Message k) = length m ≡ length k
+AreAlike (Message m) (Broken count) = ⊥
+AreAlike (Message m) TooLong = ⊥
+AreAlike (Broken count) other = Broken count ≡ other
+AreAlike TooLong other = TooLong ≡ other
+
+-- as many outcomes, alike at the first place and equal after it
+abbrev pub AreAlikeAtFirst : List Outcome → List Outcome → Type 0
+AreAlikeAtFirst [] [] = Unit {0}
+AreAlikeAtFirst [] (y ∷ ys) = ⊥
+AreAlikeAtFirst (x ∷ xs) [] = ⊥
+AreAlikeAtFirst (x ∷ xs) (y ∷ ys) = AreAlike x y × (xs ≡ ys)
+
+-- a decoder that takes these bytes goes from the one buffer and phase to the other, and tells these outcomes of the
+-- pieces that end in them
+pub record TakesBytes (buffer : List ℕ) (phase : Phase) (bytes : List ℕ) (told : List Outcome) (buffer' : List ℕ) (phase' : Phase) : Type 0 where
+  pub len : length buffer' ≡ length buffer
+  pub after : (p : List ℕ) → DecoderAfter buffer phase p → DecoderAfter buffer' phase' (unended (p ++ bytes))
+  pub outcomes : (p : List ℕ) → DecoderAfter buffer phase p → told ≡ stream_outcomes (p ++ bytes) (length buffer)
+  -- where the buffer was written to inside p, the same but for the bytes of the first message
+  pub phased : (p : List ℕ) → PhaseAfter (length buffer) phase p → PhaseAfter (length buffer) phase' (unended (p ++ bytes))
+  pub alike : (p : List ℕ) → PhaseAfter (length buffer) phase p → AreAlikeAtFirst told (stream_outcomes (p ++ bytes) (length buffer))
+  pub after_zero : (p : List ℕ) → PhaseAfter (length buffer) phase p → Contains bytes 0 → DecoderAfter buffer' phase' (unended (p ++ bytes))
+
+-- the outcome that a `PieceEnd` tells, over the buffer after the piece
+abbrev pub outcome_at : PieceEnd → List ℕ → Outcome
+outcome_at (ends.Message n) buffer = Message (take n buffer)
+outcome_at (ends.Broken count) buffer = Broken count
+outcome_at ends.TooLong buffer = TooLong
+
+-- its message is within a buffer of this length
+abbrev pub IsWithin : ℕ → PieceEnd → Type 0
+IsWithin len (ends.Message n) = n ≤ len
+IsWithin len (ends.Broken count) = Unit {0}
+IsWithin len ends.TooLong = Unit {0}
+
+-- which of the bytes were taken: those through the zero that ended a piece, or all
+abbrev pub bytes_taken : List ℕ → Option (PieceEnd × ℕ) → List ℕ
+bytes_taken bytes None = bytes
+bytes_taken bytes (Some (end, count)) = take count bytes
+
+-- what was told of them
+abbrev pub outcomes_taken : Option (PieceEnd × ℕ) → List ℕ → List Outcome
+outcomes_taken None buffer = []
+outcomes_taken (Some (end, count)) buffer = outcome_at end buffer ∷ []
+
+-- the last of the first bytes, so many, is the first zero that ends a piece, for a decoder over n bytes in this phase
+pub record EndsPiece (n : ℕ) (phase : Phase) (bytes : List ℕ) (count : ℕ) : Type 0 where
+  pub front : List ℕ
+  pub taken : take count bytes ≡ front ++ 0 ∷ []
+  pub none_before : (p : List ℕ) → PhaseAfter n phase p → stream_outcomes (p ++ front) n ≡ []
+
+-- a decoder takes the bytes through the first zero that ends a piece, or all of them, and this is its answer
+pub record TakesPiece (buffer : List ℕ) (phase : Phase) (bytes : List ℕ) (result : Option (PieceEnd × ℕ)) (buffer' : List ℕ) (phase' : Phase) : Type 0 where
+  pub takes : TakesBytes buffer phase (bytes_taken bytes result) (outcomes_taken result buffer') buffer' phase'
+  pub ends : IfSome result (λ found. EndsPiece (length buffer) phase bytes found.1)
+  -- the bytes after the output of the piece that was read last
+  pub untouched : (p : List ℕ) → PhaseAfter (length buffer) phase p
+      → let written = length (output (last_piece (p ++ bytes_taken bytes result))) in drop written buffer' ≡ drop written buffer
+  -- in every phase
+  pub idle : IfSome result (λ found. phase' ≡ Idle)
+  pub within : IfSome result (λ found. (found.1 ≤ length bytes) × IsWithin (length buffer) found.0)

@@ -1,0 +1,5 @@
+-- What contracts see of types whose fields are private.
+pub mod Report
+pub mod Decoders
+pub mod Encoders
+pub mod Reader

@@ -1,0 +1,98 @@
+-- What contracts see of the streaming decoders: their buffers, and where they stand.
+use Rattle.std.specs.Prelude.{length, ℕ, zero, suc, ◌==◌, Bool, true, false, List, [], if◌then◌else◌}
+use Rattle.std.specs.List.{length_refill}
+use Rattle.std.proofs.Common.{refl, sym, ◌∙◌}
+use Rattle.std.specs.Borrow.{Lends, MutBor, Fml, RattleType, u8, Array}
+use Rattle.std.specs.Vec.{with_items}
+use denote.Param.{value_of}
+use mir.Syntax.{named}
+use Rattle.arrayvec.specs.ArrayVec.{with_items as refilled}
+use Rattle.cobs.specs.declared.dec.borrowed.CobsDecoder.{CobsDecoder}
+use Rattle.cobs.specs.declared.dec.owned.CobsDecoderOwned.{CobsDecoderOwned}
+use Rattle.cobs.specs.declared.dec.heapless.CobsDecoderHeapless.{CobsDecoderHeapless}
+use Rattle.cobs.specs.contracts.dec.borrowed.CobsDecoder.{the_row as borrowed_row}
+use Rattle.cobs.specs.contracts.dec.owned.CobsDecoderOwned.{the_row as owned_row}
+use Rattle.cobs.specs.contracts.dec.heapless.CobsDecoderHeapless.{the_row as heapless_row}
+use Rattle.cobs.specs.Feed.{Phase, Idle, Within, Over}
+use Rattle.cobs.specs.declared.dec.unbuffered.UnbufferedDecoder.{UnbufferedDecoder}
+use Rattle.cobs.specs.declared.dec.unbuffered.DecoderPhase.{DecoderPhase}
+use Rattle.cobs.specs.declared.dec.unbuffered.DecoderPhase.TheVariants.{Idle as TheIdle, Within as TheWithin, TooLong}
+
+-- the phase by the block, full or not, that lacks so many bytes, with so many bytes written: before a piece begins, it
+-- is as after a full block, with nothing written
+abbrev pub phase_with : Bool → ℕ → ℕ → Phase
+phase_with false left count = Within false left count
+phase_with true (suc left) count = Within true (suc left) count
+phase_with true zero (suc count) = Within true zero (suc count)
+phase_with true zero zero = Idle
+
+-- the phase that a `DecoderPhase` names
+abbrev pub phase_at : DecoderPhase → Phase
+phase_at TheIdle = Idle
+phase_at (TheWithin is_full lacking written) = phase_with is_full lacking written
+phase_at TooLong = Over
+
+-- where a decoder stands whose buffer is passed to each call, as the three others do by the one in them. It reads the
+-- private fields: contracts name where a decoder stands by this word, and know nothing else of those fields.
+abbrev pub phase_of : UnbufferedDecoder → Phase
+phase_of inner = if inner.over then Over else phase_with (inner.code == 255) inner.left inner.dest_idx
+
+-- the bytes of the slice that was borrowed by a `CobsDecoder`
+abbrev pub borrowed_buffer : CobsDecoder → List ℕ
+borrowed_buffer decoder = decoder.dest.now
+
+-- where it stands
+abbrev pub borrowed_phase : CobsDecoder → Phase
+borrowed_phase decoder = phase_of decoder.inner
+
+-- which slice that is
+abbrev pub borrowed_slice : CobsDecoder → ℕ
+borrowed_slice decoder = decoder.dest.ghost_name
+
+-- the decoder with these bytes in its slice
+abbrev pub with_borrowed_buffer : CobsDecoder → List ℕ → CobsDecoder
+with_borrowed_buffer decoder bytes = record decoder { dest = record decoder.dest { now = bytes } }
+
+-- the decoder ends with what the caller leaves behind the reference, and is otherwise as it was
+abbrev pub LendsSlice : MutBor CobsDecoder → MutBor (List ℕ) → Fml
+LendsSlice decoder bytes = Lends (borrowed_row (record { mir = named 1; lft = [] })) (Array u8 0) decoder bytes (with_borrowed_buffer decoder.now)
+
+-- the bytes of the vector of a `CobsDecoderOwned`
+abbrev pub owned_buffer : CobsDecoderOwned → List ℕ
+owned_buffer decoder = decoder.dest.items
+
+-- where it stands
+abbrev pub owned_phase : CobsDecoderOwned → Phase
+owned_phase decoder = phase_of decoder.inner
+
+-- the decoder with these bytes in its vector
+abbrev pub with_owned_buffer : CobsDecoderOwned → List ℕ → CobsDecoderOwned
+with_owned_buffer decoder bytes = record decoder { dest = with_items decoder.dest bytes }
+
+-- the decoder ends with what the caller leaves behind the reference, and is otherwise as it was
+abbrev pub LendsOwned : MutBor CobsDecoderOwned → MutBor (List ℕ) → Fml
+LendsOwned decoder bytes = Lends owned_row (Array u8 0) decoder bytes (with_owned_buffer decoder.now)
+
+module _ {N : ℕ} where
+  -- the bytes of the vector of a `CobsDecoderHeapless`
+  abbrev pub heapless_buffer : CobsDecoderHeapless N → List ℕ
+  heapless_buffer decoder = decoder.dest.items
+
+  -- where it stands
+  abbrev pub heapless_phase : CobsDecoderHeapless N → Phase
+  heapless_phase decoder = phase_of decoder.inner
+
+  -- the decoder with these bytes in its vector
+  abbrev pub with_heapless_buffer : CobsDecoderHeapless N → List ℕ → CobsDecoderHeapless N
+  with_heapless_buffer decoder bytes = record decoder {
+    dest = refilled decoder.dest bytes;
+    filled = sym (length_refill (length decoder.dest.items) decoder.dest.items bytes refl) ∙ decoder.filled;
+  }
+
+-- the decoder ends with what the caller leaves behind the reference, and is otherwise as it was
+abbrev pub LendsHeapless : (N : RattleType) → MutBor (CobsDecoderHeapless (value_of N)) → MutBor (List ℕ) → Fml
+LendsHeapless N decoder bytes = Lends (heapless_row N) (Array u8 0) decoder bytes (with_heapless_buffer decoder.now)
+
+-- a value ends with what the caller leaves behind the reference in its buffer, and is otherwise as it was
+abbrev pub LendsBytes : (R : RattleType) → MutBor R.Denot → MutBor (List ℕ) → (R.Denot → List ℕ → R.Denot) → Fml
+LendsBytes R lender bytes with_bytes = Lends R (Array u8 0) lender bytes (with_bytes lender.now)

@@ -1,0 +1,24 @@
+-- What contracts see of a `FrameReader` and of a `Recorded`.
+use Rattle.std.specs.Prelude.{ℕ, List, slice_range}
+use Rattle.cobs.specs.Feed.{Phase}
+use Rattle.cobs.specs.NextFrame.{ReaderState}
+use Rattle.cobs.specs.declared.framed.FrameReader.{FrameReader}
+use Rattle.cobs.specs.declared.framed.Recorded.{Recorded}
+
+module _ {D : Type 0} {g : _} where
+  -- its decoder
+  abbrev pub decoder_of : FrameReader D g → D
+  decoder_of reader = reader.decoder
+
+  -- the bytes of its chunk that it has read and not yet fed
+  abbrev pub kept_of : FrameReader D g → List ℕ
+  kept_of reader = slice_range reader.chunk reader.start reader.end
+
+  -- the whole of it, by the buffer and the phase that contracts see of its decoder
+  abbrev pub reader_state : (D → List ℕ) → (D → Phase) → FrameReader D g → ReaderState
+  reader_state bytes phase reader =
+      record { buffer = bytes reader.decoder; phase = phase reader.decoder; kept = kept_of reader }
+
+-- its reader
+abbrev pub reader_of : {R : Type 0} → Recorded R → R
+reader_of source = source.reader

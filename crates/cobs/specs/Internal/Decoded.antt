@@ -1,0 +1,18 @@
+-- How far a piece is decoded.
+use Rattle.std.specs.Prelude.{◌≡◌, ℕ, ◌+◌, ◌<◌, List, ◌++◌, length, take, drop}
+use Rattle.cobs.specs.Piece.{output, last_part, lacks}
+
+-- a whole piece whose parts but the last aren't full, so that each byte after the first gives one byte of the output
+pub record IsFlat (p : List ℕ) : Type 0 where
+  pub some : 0 < length p
+  pub len : length (output p) + 1 ≡ length p
+  pub whole : lacks (last_part p) ≡ 0
+
+-- How far a piece is decoded into a buffer: read bytes of it, up to a code, have become the first written bytes of the
+-- buffer, which lacks the output of what is left. Behind the output the buffer is as it was.
+pub record Decoded (piece old new : List ℕ) (read written : ℕ) : Type 0 where
+  pub within : read < length piece
+  pub left : written + length (output (drop read piece)) ≡ length (output piece)
+  pub front : take written new ++ output (drop read piece) ≡ output piece
+  pub rest : drop (length (output piece)) new ≡ drop (length (output piece)) old
+  pub last : last_part (drop read piece) ≡ last_part piece

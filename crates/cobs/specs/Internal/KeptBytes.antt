@@ -1,0 +1,31 @@
+-- What a `FrameReader` makes of the bytes that it has read and not yet fed.
+use Rattle.std.specs.Prelude.{ℕ, ◌≡◌, ◌≤◌, Bool, List, [], ◌∷◌, ◌++◌, length, take}
+use Rattle.cobs.specs.Stream.{Outcome, Message, Broken, TooLong, stream_outcomes, is_nonempty}
+use Rattle.cobs.specs.Feed.{Phase, DecoderAfter}
+use Rattle.cobs.specs.declared.framed.Next.{Next}
+use Rattle.cobs.specs.declared.framed.Next.TheVariants as nexts
+
+-- the decoder with this buffer and phase has taken the front p of a piece, and the flag says whether p is nonempty
+pub record DecoderHasTaken (buffer : List ℕ) (phase : Phase) (unfinished : Bool) (p : List ℕ) : Type 0 where
+  pub after : DecoderAfter buffer phase p
+  pub flag : unfinished ≡ is_nonempty p
+
+-- the outcome of an answer, over the buffer
+abbrev pub IsOutcome : Next → List ℕ → Outcome → Type 0
+IsOutcome (nexts.Message n) buffer outcome = (outcome ≡ Message (take n buffer)) × (n ≤ length buffer)
+IsOutcome (nexts.Broken count) buffer outcome = outcome ≡ Broken count
+IsOutcome nexts.TooLong buffer outcome = outcome ≡ TooLong
+IsOutcome (nexts.End unfinished) buffer outcome = ⊥
+
+-- the first piece that ends in these bytes after p comes to this outcome, and what is behind follows its zero
+pub record EndsFirstIn (p bytes : List ℕ) (n : ℕ) (outcome : Outcome) (behind : List ℕ) : Type 0 where
+  pub front : List ℕ
+  pub cut : bytes ≡ front ++ 0 ∷ behind
+  pub none_before : stream_outcomes (p ++ front) n ≡ []
+  pub here : stream_outcomes (p ++ (front ++ 0 ∷ [])) n ≡ outcome ∷ []
+
+-- the answer tells of that piece, over the buffer
+pub record TellsFirst (next : Next) (p bytes buffer behind : List ℕ) : Type 0 where
+  pub outcome : Outcome
+  pub is : IsOutcome next buffer outcome
+  pub first : EndsFirstIn p bytes (length buffer) outcome behind

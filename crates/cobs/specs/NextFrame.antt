@@ -1,0 +1,113 @@
+-- What a source of bytes gives, and what a call of `next_frame` makes of it.
+use Rattle.std.specs.Prelude.{ℕ, ◌≡◌, ◌≢◌, ◌<◌, ◌≤◌, ◌↔◌, List, [], ◌∷◌, ◌++◌, length, take, All, Option, Some, None, Result, Ok, Err}
+use Rattle.std.specs.List.{flat_map}
+use Rattle.std.specs.Io.KnownBytes.{Consumes}
+use Rattle.cobs.specs.Stream.{Outcome, Message, Broken, TooLong, stream_outcomes, unended, is_nonempty}
+use Rattle.cobs.specs.Feed.{Phase, DecoderAfter}
+use Rattle.cobs.specs.declared.framed.Next.{Next}
+use Rattle.cobs.specs.declared.framed.Next.TheVariants as nexts
+use Rattle.cobs.specs.declared.framed.ReadFault.{ReadFault}
+use Rattle.cobs.specs.declared.framed.ReadFault.TheVariants as faults
+
+-- READS
+
+-- a read: the bytes that it gave, or nothing where it failed
+abbrev pub Read : Type 0
+Read = Option (List ℕ)
+
+abbrev pub bytes_given : Read → List ℕ
+bytes_given None = []
+bytes_given (Some bytes) = bytes
+
+-- the read didn't fail, and it wasn't empty
+abbrev pub GaveBytes : Read → Type 0
+GaveBytes read = bytes_given read ≢ []
+
+-- the bytes that the reads gave, in order
+abbrev pub all_given : List Read → List ℕ
+all_given reads = flat_map bytes_given reads
+
+-- the last of the reads was this one
+abbrev pub EndsIn : List Read → Read → Type 0
+EndsIn reads last = (earlier : List Read) × (reads ≡ earlier ++ last ∷ [])
+
+-- the reads take a source from the one state to the other, each by a step
+abbrev pub Runs : {S : Type 0} → (S → Read → S → Type 0) → S → List Read → S → Type 0
+Runs step from [] to = from ≡ to
+Runs {S} step from (read ∷ reads) to = (next : S) × step from read next × Runs step next reads to
+
+-- a read from a reader that has these bytes left, before and after, where it tells them: a failure, or at most 64
+-- bytes, exactly those that the reader gave
+abbrev pub IsReadOf : Option (List ℕ) → Read → Option (List ℕ) → Type 0
+IsReadOf before None after = Unit {0}
+IsReadOf before (Some bytes) after = (length bytes ≤ 64) × Consumes before after bytes
+
+-- WHEN A READ IS CALLED FOR
+
+-- after these reads another is called for: there are fewer than 65,536 of them, each gave bytes, and no piece has
+-- ended in the stream that the front and their bytes make
+pub record CallsForMore (front : List ℕ) (n : ℕ) (reads : List Read) : Type 0 where
+  pub few : length reads < 65536
+  pub gave : All GaveBytes reads
+  pub none_ended : stream_outcomes (front ++ all_given reads) n ≡ []
+
+-- each of the reads was called for by those in front of it
+abbrev pub EachCalledFor : List ℕ → ℕ → List Read → Type 0
+EachCalledFor front n reads =
+    (earlier later : List Read) (read : Read) → reads ≡ earlier ++ read ∷ later → CallsForMore front n earlier
+
+-- WHAT AN ANSWER TELLS
+
+-- the first piece that ends in the stream t comes to this outcome, in a buffer of n bytes, and these bytes stand
+-- after the zero that ends it
+pub record EndsFirst (t : List ℕ) (n : ℕ) (outcome : Outcome) (behind : List ℕ) : Type 0 where
+  pub front : List ℕ
+  pub cut : t ≡ front ++ 0 ∷ behind
+  pub none_before : stream_outcomes front n ≡ []
+  pub outcomes : stream_outcomes t n ≡ outcome ∷ stream_outcomes behind n
+
+-- what contracts see of a `FrameReader`: its decoder's buffer and phase, and the bytes that it has read but not fed
+pub record ReaderState : Type 0 where
+  pub buffer : List ℕ
+  pub phase : Phase
+  pub kept : List ℕ
+
+-- the decoder of the reader has taken the front p of a piece
+abbrev pub IsBehind : ReaderState → List ℕ → Type 0
+IsBehind reader p = DecoderAfter reader.buffer reader.phase p
+
+-- a piece has ended in the stream t, and the reader stands at its end: the decoder is idle, and what follows is kept
+pub record AtPieceEnd (t : List ℕ) (outcome : Outcome) (reader : ReaderState) : Type 0 where
+  pub first : EndsFirst t (length reader.buffer) outcome reader.kept
+  pub idle : IsBehind reader []
+
+-- no piece has ended in the stream t, and the reader stands at the end of t: the decoder has taken it, and nothing is
+-- kept
+pub record AtStreamEnd (t : List ℕ) (reader : ReaderState) : Type 0 where
+  pub none_ended : stream_outcomes t (length reader.buffer) ≡ []
+  pub behind : IsBehind reader (unended t)
+  pub nothing_kept : reader.kept ≡ []
+
+-- what an answer tells of the reads and of the stream t that they brought, and how it leaves the reader
+abbrev pub Tells : Result Next ReadFault → List Read → List ℕ → ReaderState → Type 0
+Tells (Ok (nexts.Message n)) reads t reader =
+    AtPieceEnd t (Message (take n reader.buffer)) reader × (n ≤ length reader.buffer)
+Tells (Ok (nexts.Broken count)) reads t reader = AtPieceEnd t (Broken count) reader
+Tells (Ok nexts.TooLong) reads t reader = AtPieceEnd t TooLong reader
+Tells (Ok (nexts.End unfinished)) reads t reader =
+    AtStreamEnd t reader × EndsIn reads (Some []) × (unfinished ≡ is_nonempty (unended t))
+Tells (Err faults.Io) reads t reader = AtStreamEnd t reader × EndsIn reads None
+Tells (Err faults.TooManyReads) reads t reader =
+    AtStreamEnd t reader × (length reads ≡ 65536) × All GaveBytes reads
+
+-- a call that takes the source and the reader from the one state to the other, with this answer
+pub record ReadsNext {S : Type 0} (step : S → Read → S → Type 0) (source source' : S)
+    (reader : ReaderState) (result : Result Next ReadFault) (reader' : ReaderState) : Type 0 where
+  -- the reads of this call
+  pub reads : List Read
+  pub runs : Runs step source reads source'
+  pub failed : (result ≡ Err faults.Io) ↔ EndsIn reads None
+  -- after each front p of a piece, the stream is p, what was kept, and what the reads gave; so nothing is read where
+  -- p and the kept bytes end a piece
+  pub called_for : (p : List ℕ) → IsBehind reader p → EachCalledFor (p ++ reader.kept) (length reader.buffer) reads
+  pub tells : (p : List ℕ) → IsBehind reader p → Tells result reads (p ++ reader.kept ++ all_given reads) reader'

@@ -1,0 +1,65 @@
+-- What a streaming encoder has taken of a message, and what a caller does with its answers.
+use Rattle.std.specs.Prelude.{◌≡◌, ℕ, ◌+◌, ◌≤◌, ◌==◌, Bool, List, [], ◌∷◌, ◌++◌, length, take, slice_set, if◌then◌else◌}
+use Rattle.cobs.specs.declared.enc.state.PushResult.{PushResult}
+use Rattle.cobs.specs.declared.enc.state.PushResult.TheVariants.{AddSingle, ModifyFromStartAndSkip, ModifyFromStartAndPushAndSkip}
+use Rattle.cobs.specs.Grammar.{IsEncodedFrame, IsOpenFrame, is_full, last_of}
+
+-- where the open block of a frame begins, and its code so far
+pub record OpenBlock : Type 0 where
+  pub index : ℕ
+  pub code : ℕ
+
+-- the encoder has taken m: some open frame of m ends in this block
+abbrev pub EncoderAfter : OpenBlock → List ℕ → Type 0
+EncoderAfter state m = (f : List ℕ) × IsOpenFrame f m state.index state.code
+
+-- g is f, but for the byte at i
+abbrev pub AgreeOutside : ℕ → List ℕ → List ℕ → Type 0
+AgreeOutside i f g = (x : ℕ) × (g ≡ slice_set f i x)
+
+-- what a caller has who carried out each answer over m: the open frame of m that ends in this block, but for the byte
+-- at the block's index
+abbrev pub IsOpenOutput : List ℕ → OpenBlock → List ℕ → Type 0
+IsOpenOutput g state m = (f : List ℕ) × IsOpenFrame f m state.index state.code × AgreeOutside state.index f g
+
+-- the answer to a byte: a zero closes the open block, the 254th nonzero byte fills it, any other one joins it
+abbrev pub push_answer : OpenBlock → ℕ → PushResult
+push_answer state byte =
+    if byte == 0 then ModifyFromStartAndSkip (state.index, state.code)
+    else (if state.code == 254 then ModifyFromStartAndPushAndSkip (state.index, 255, byte) else AddSingle byte)
+
+-- the open block after that byte
+abbrev pub next_open : OpenBlock → ℕ → OpenBlock
+next_open state byte =
+    if byte == 0 then record { index = state.index + state.code; code = 1 }
+    else (if state.code == 254 then record { index = state.index + 255; code = 1 } else record { index = state.index; code = state.code + 1 })
+
+-- the list g with an answer carried out, with x as the placeholder
+abbrev pub applied : List ℕ → PushResult → ℕ → List ℕ
+applied g (AddSingle b) x = g ++ b ∷ []
+applied g (ModifyFromStartAndSkip (i, c)) x = slice_set g i c ++ x ∷ []
+applied g (ModifyFromStartAndPushAndSkip (i, c, b)) x = slice_set g i c ++ b ∷ x ∷ []
+
+-- how far a frame in a slice has come: its open block, and whether the encoded frame's last block is full, so that the
+-- open one is a placeholder after it
+pub record Reached : Type 0 where
+  pub block : OpenBlock
+  pub full : Bool
+
+-- where the next byte goes
+abbrev pub next_of : Reached → ℕ
+next_of reached = reached.block.index + reached.block.code
+
+-- where the encoded frame ends
+abbrev pub end_of : Reached → ℕ
+end_of reached = if reached.full then reached.block.index else next_of reached
+
+-- A `CobsEncoder` over this slice, which has come so far, has taken m: the slice begins with the encoded frame of m, but
+-- for the byte at the open block's index, and it is noted whether that frame's last block is full.
+pub record CobsEncoderAfter (slice : List ℕ) (reached : Reached) (m : List ℕ) : Type 0 where
+  pub frame : List ℕ
+  pub encoded : IsEncodedFrame frame m
+  pub follows : EncoderAfter reached.block m
+  pub fits : length frame ≤ length slice
+  pub begins : AgreeOutside reached.block.index frame (take (length frame) slice)
+  pub noted : reached.full ≡ is_full (last_of encoded.reads.blocks)
