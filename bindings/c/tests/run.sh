@@ -41,6 +41,14 @@ has() { # TOOL PACKAGE PART
     return 1
 }
 
+# Whether a compiler has a C library to link with; it can come without one.
+links() { # COMPILER PACKAGE PART
+    [ -e "$("$1" -print-file-name=crti.o)" ] && return 0
+    skipped=$((skipped + 1))
+    echo "skipped: $3: $1 lacks its C library (Debian package $2)"
+    return 1
+}
+
 # Runs a command and compares what it prints.
 prints() { # EXPECTED COMMAND..
     expected=$1
@@ -181,7 +189,7 @@ if has clang-format clang-format 'layout'; then
     part 'layout' clang-format --dry-run -Werror include/jcobs.h examples/*.c examples/*.cpp tests/*.c
 fi
 if [ "$machine" != aarch64 ] && has aarch64-linux-gnu-gcc gcc-aarch64-linux-gnu aarch64 &&
-    has qemu-aarch64 qemu-user aarch64; then
+    links aarch64-linux-gnu-gcc libc6-dev-arm64-cross aarch64 && has qemu-aarch64 qemu-user aarch64; then
     at=build/aarch64-unknown-linux-gnu
     run='qemu-aarch64 -L /usr/aarch64-linux-gnu'
     part 'build for aarch64' make TARGET=aarch64-unknown-linux-gnu all tests "$at/read_frames"
