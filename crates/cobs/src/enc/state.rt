@@ -87,7 +87,7 @@ impl Default for EncoderState {
 }
 
 impl Clone for EncoderState {
-    ghost use Rattle.std.specs.Prelude.{◌≡◌, ⊤};
+    ghost use Rattle.std.specs.Prelude.{◌≡◌, Ok, ⊤};
 
     ghost is_clone = { λ state copy. copy ≡ state };
 
@@ -102,7 +102,9 @@ impl Clone for EncoderState {
     /// assert_eq!(rt; state.finalize(), (0, 2));
     /// assert_eq!(rt; copy.finalize(), (0, 1));
     /// ```
-    fn clone(&self) -> Result<EncoderState, AllocError> {
+    fn clone(&self) -> Result<EncoderState, AllocError>
+        ensures equal { result ≡ Ok self.now }
+    {
         Ok(EncoderState {
             code_index: self.code_index,
             code: self.code,

@@ -1,5 +1,8 @@
 use Rattle.cobs.proofs.StreamLemmas.{stream_outcomes-apart, stream_outcomes-one}
 use Rattle.cobs.proofs.laws.law_10.Goals as goal
 
-pub returns : goal.returns
-returns c = record { apart = stream_outcomes-apart; one = stream_outcomes-one }
+pub returns-clause-apart : goal.returns-clause-apart
+returns-clause-apart c = stream_outcomes-apart
+
+pub returns-clause-one : goal.returns-clause-one
+returns-clause-one c = stream_outcomes-one
