@@ -1,7 +1,7 @@
 -- Reads, one after another, and the first piece that ends in what they gave.
-use Rattle.std.proofs.Common.{◌≡◌, ◌≢◌, ℕ, ◌+◌, ◌-◌, ◌<◌, ◌≤◌, Bool, true, false, cond, leb, List, [], ◌∷◌, ◌++◌, length, take, drop, refl, sym, ap, ◌∙◌, subst, arith, append_assoc, length-append, Some, None, Ok, Err}
+use Rattle.std.proofs.Common.{◌≡◌, ◌≢◌, ℕ, ◌+◌, ◌-◌, ◌<◌, ◌≤◌, Bool, true, false, cond, leb, List, [], ◌∷◌, ◌++◌, length, take, drop, refl, sym, ap, ◌∙◌, subst, arith, append_assoc, length-append, length-take, Some, None, Ok, Err}
 use Rattle.std.specs.List.{All}
-use Rattle.std.proofs.lemmas.List.{append-nil, take_all, take-append-le, take-append-drop, flat_map_more, length_push, same_from_push}
+use Rattle.std.proofs.lemmas.List.{append-nil, take_all, take-append-le, take-append-drop, drop-take, flat_map_more, length_push, same_from_push}
 use Rattle.std.proofs.lemmas.List.Elements.{All-nil, All-push, All-take, All-head, All-tail}
 use Rattle.std.proofs.lemmas.Grind.{flat_map-append}
 use Rattle.std.proofs.Math.Logic.{∥∥₁_elim}
@@ -224,10 +224,10 @@ AtStreamEnd-more t bytes reader reader' len before more = record {
 
 module _ {S : Type 0} {step : S → Read → S → Type 0} {from to to' : S} {reader₀ reader reader' : ReaderState} {unfinished : Bool} {count : ℕ} where
   -- the bytes that were read end a piece
-  pub ReadsNext-piece : (bytes kept : List ℕ) (next : Next) → kept ≡ bytes → count < 65536 → Going step from to reader₀ reader unfinished count → step to (Some bytes) to' → length reader'.buffer ≡ length reader.buffer
-      → ((q : List ℕ) → IsBehind reader q → TellsFirst next q kept reader'.buffer reader'.kept) → IsBehind reader' []
+  pub ReadsNext-piece : (bytes : List ℕ) (next : Next) → count < 65536 → Going step from to reader₀ reader unfinished count → step to (Some bytes) to' → length reader'.buffer ≡ length reader.buffer
+      → ((q : List ℕ) → IsBehind reader q → TellsFirst next q bytes reader'.buffer reader'.kept) → IsBehind reader' []
       → ReadsNext step from to' reader₀ (Ok next) reader'
-  ReadsNext-piece bytes kept next same few g s len h idle = record {
+  ReadsNext-piece bytes next few g s len h idle = record {
     reads = g.reads ++ Some bytes ∷ [];
     runs = Runs-push step from g.reads to to' (Some bytes) g.runs s;
     failed = (λ f. absurd cc, λ l. absurd (some_is_none bytes (last_read g.reads (Some bytes) None l)));
@@ -235,15 +235,14 @@ module _ {S : Type 0} {step : S → Read → S → Type 0} {from to to' : S} {re
     tells = λ p b.
         let t = p ++ reader₀.kept ++ all_given g.reads in
         let end = g.at_end p b in
-        let w = subst (λ (x : List ℕ). TellsFirst next (unended t) x reader'.buffer reader'.kept) same (h _ end.behind) in
-        rw (given-push (p ++ reader₀.kept) g.reads (Some bytes)) (Tells-first next _ t bytes reader' (ap (stream_outcomes t) len ∙ end.none_ended) w idle);
+        rw (given-push (p ++ reader₀.kept) g.reads (Some bytes)) (Tells-first next _ t bytes reader' (ap (stream_outcomes t) len ∙ end.none_ended) (h _ end.behind) idle);
   }
 
   -- they end none, and the call goes on
-  pub Going-push : (bytes kept : List ℕ) (unfinished' : Bool) → kept ≡ bytes → bytes ≢ [] → Going step from to reader₀ reader unfinished count → step to (Some bytes) to' → length reader'.buffer ≡ length reader.buffer
-      → ((q : List ℕ) → IsBehind reader q → AtStreamEnd (q ++ kept) reader' × (unfinished' ≡ is_nonempty (unended (q ++ kept))))
+  pub Going-push : (bytes : List ℕ) (unfinished' : Bool) → bytes ≢ [] → Going step from to reader₀ reader unfinished count → step to (Some bytes) to' → length reader'.buffer ≡ length reader.buffer
+      → ((q : List ℕ) → IsBehind reader q → AtStreamEnd (q ++ bytes) reader' × (unfinished' ≡ is_nonempty (unended (q ++ bytes))))
       → Going step from to' reader₀ reader' unfinished' (count + 1)
-  Going-push bytes kept unfinished' same some g s len h = record {
+  Going-push bytes unfinished' some g s len h = record {
     reads = g.reads ++ Some bytes ∷ [];
     runs = Runs-push step from g.reads to to' (Some bytes) g.runs s;
     count_is = length_push g.reads (Some bytes) ∙ ap (λ (k : ℕ). k + 1) g.count_is;
@@ -252,10 +251,10 @@ module _ {S : Type 0} {step : S → Read → S → Type 0} {from to to' : S} {re
         let t = p ++ reader₀.kept ++ all_given g.reads in
         let end = g.at_end p b in
         rw (given-push (p ++ reader₀.kept) g.reads (Some bytes))
-        (AtStreamEnd-more t bytes reader reader' len end (subst (λ (x : List ℕ). AtStreamEnd (unended t ++ x) reader') same (h _ end.behind).0));
+        (AtStreamEnd-more t bytes reader reader' len end (h _ end.behind).0);
     flag = λ p b.
         let t = p ++ reader₀.kept ++ all_given g.reads in
-        rw (given-push (p ++ reader₀.kept) g.reads (Some bytes), unended-append t bytes, ← same) (h _ (g.at_end p b).behind).1;
+        rw (given-push (p ++ reader₀.kept) g.reads (Some bytes), unended-append t bytes) (h _ (g.at_end p b).behind).1;
     len = len ∙ g.len;
   }
 
@@ -272,10 +271,16 @@ ReadsNext-too_many {reader₀} {reader} all g = record {
 
 -- THE FRONT OF A CHUNK
 
--- the bytes from the start on
-pub range_from_start : (xs : List ℕ) (n : ℕ) → take (n - 0) (drop 0 xs) ≡ take n xs
-range_from_start xs n = let e : n - 0 ≡ n = omega arith in ap (λ (k : ℕ). take k xs) e
+-- the bytes of a chunk that a read gave aren't none
+pub front_nonempty : (xs : List ℕ) (n : ℕ) → n ≤ length xs → n ≢ 0 → take n xs ≢ []
+front_nonempty xs n within some = λ e. some (omega (arith, ap length e, length-take n xs, within))
 
--- there are some, where they are counted and the count isn't zero
-pub range_nonempty : (xs : List ℕ) (n : ℕ) → length (take (n - 0) (drop 0 xs)) + 0 ≡ n → n ≢ 0 → take n xs ≢ []
-range_nonempty xs n count some = λ e. some (sym count ∙ omega (arith, ap length (range_from_start xs n), ap length e))
+-- what is left of them after the first of them
+pub front_rest : (xs : List ℕ) (n count : ℕ) → count ≤ n → drop count (take n xs) ≡ take (n - count) (drop count xs)
+front_rest xs n count h =
+    let e : n ≡ count + (n - count) = omega arith in
+    ap (λ (k : ℕ). drop count (take k xs)) e ∙ drop-take count (n - count) xs
+
+-- a range that ends where it starts is empty
+pub empty_range : (xs : List ℕ) (from to : ℕ) → from ≡ to → take (to - from) (drop from xs) ≡ []
+empty_range xs from to e = let none : to - from ≡ 0 = omega (arith, e) in ap (λ (k : ℕ). take k (drop from xs)) none

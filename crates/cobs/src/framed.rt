@@ -216,11 +216,11 @@ pub struct FrameReader<D: FrameDecoder> {
 }
 
 impl<D: FrameDecoder> FrameReader<D> {
-    ghost use Rattle.std.specs.Prelude.{◌≡◌, ℕ, ◌+◌, List, [], ◌++◌, length, IfNone, IfSome, OnSome};
+    ghost use Rattle.std.specs.Prelude.{◌≡◌, ◌≤◌, ℕ, List, [], ◌++◌, length, drop, IfNone, IfSome, OnSome};
     ghost use Rattle.cobs.specs.Stream.{is_nonempty, unended};
     ghost use Rattle.cobs.specs.Feed.{DecoderAfter};
     ghost use Rattle.cobs.specs.NextFrame.{AtStreamEnd, IsBehind, ReadsNext};
-    ghost use Rattle.cobs.specs.Internal.KeptBytes.{TellsFirst};
+    ghost use Rattle.cobs.specs.Internal.KeptBytes.{TellsFirst, with_kept};
     ghost use Rattle.cobs.specs.Fields.Reader.{decoder_of, kept_of, reader_state};
 
     /// A reader with this decoder, which has read nothing yet.
@@ -259,6 +259,37 @@ impl<D: FrameDecoder> FrameReader<D> {
         &self.decoder
     }
 
+    /// Feeds bytes until a piece ends: what it comes to, and how many of the bytes were taken.
+    fn feed_through_end(&mut self, bytes: &[u8]) -> Option<(Next, usize)>
+        ensures none { IfNone result ((p : List ℕ)
+            → IsBehind (reader_state D.bytes D.phase self.old) p
+            → AtStreamEnd (p ++ bytes.now) (with_kept [] (reader_state D.bytes D.phase self.new))
+            × (self.new.unfinished ≡ is_nonempty (unended (p ++ bytes.now)))) }
+        ensures first { IfSome result (λ found. (p : List ℕ)
+            → IsBehind (reader_state D.bytes D.phase self.old) p
+            → TellsFirst found.0 p bytes.now
+            (D.bytes (decoder_of self.new)) (drop found.1 bytes.now)) }
+        ensures within { IfSome result (λ found. found.1 ≤ length bytes.now) }
+        ensures idle { OnSome result (IsBehind (reader_state D.bytes D.phase self.new) []) }
+        ensures len { length (D.bytes (decoder_of self.new))
+            ≡ length (D.bytes (decoder_of self.old)) }
+        ensures same_loan { D.loan (decoder_of self.new) ≡ D.loan (decoder_of self.old) }
+        ensures same_chunk { self.new.chunk ≡ self.old.chunk }
+        ensures same_start { self.new.start ≡ self.old.start }
+        ensures same_end { self.new.end ≡ self.old.end }
+    {
+        match self.decoder.feed_piece(bytes) {
+            None => {
+                self.unfinished = is_unfinished(self.unfinished, bytes);
+                None
+            }
+            Some((end, count)) => {
+                self.unfinished = false;
+                Some((next_at(end), count))
+            }
+        }
+    }
+
     /// Feeds the kept bytes until a piece ends.
     fn next_kept(&mut self) -> Option<Next>
         ensures none { IfNone result ((p : List ℕ)
@@ -273,20 +304,17 @@ impl<D: FrameDecoder> FrameReader<D> {
         ensures len { length (D.bytes (decoder_of self.new))
             ≡ length (D.bytes (decoder_of self.old)) }
         ensures same_loan { D.loan (decoder_of self.new) ≡ D.loan (decoder_of self.old) }
-        ensures count { length (kept_of self.old) + self.old.start ≡ self.old.end }
+        ensures emptied { IfNone result (self.new.start ≡ self.new.end) }
     {
         let chunk = self.chunk;
-        let kept = &chunk[self.start..self.end];
-        match self.decoder.feed_piece(kept) {
+        match self.feed_through_end(&chunk[self.start..self.end]) {
             None => {
-                self.unfinished = is_unfinished(self.unfinished, kept);
                 self.start = self.end;
                 None
             }
-            Some((end, count)) => {
-                self.unfinished = false;
+            Some((next, count)) => {
                 self.start += count;
-                Some(next_at(end))
+                Some(next)
             }
         }
     }
@@ -323,10 +351,9 @@ impl<D: FrameDecoder> FrameReader<D> {
         if let Some(kept) = self.next_kept() {
             return Ok(kept);
         }
+        let mut chunk = [0; 64];
         'by_read: for _read in 0..MOST_READS {
-            self.start = 0;
-            self.end = 0;
-            match source.read_some(&mut self.chunk) {
+            match source.read_some(&mut chunk) {
                 None => return Err(ReadFault::Io),
                 Some(0) => {
                     return Ok(Next::End {
@@ -334,8 +361,10 @@ impl<D: FrameDecoder> FrameReader<D> {
                     });
                 }
                 Some(n) => {
-                    self.end = n;
-                    if let Some(next) = self.next_kept() {
+                    if let Some((next, count)) = self.feed_through_end(&chunk[..n]) {
+                        self.chunk = chunk;
+                        self.start = count;
+                        self.end = n;
                         return Ok(next);
                     }
                 }

@@ -2,6 +2,7 @@
 use Rattle.std.specs.Prelude.{ℕ, ◌≡◌, ◌≤◌, Bool, List, [], ◌∷◌, ◌++◌, length, take}
 use Rattle.cobs.specs.Stream.{Outcome, Message, Broken, TooLong, stream_outcomes, is_nonempty}
 use Rattle.cobs.specs.Feed.{Phase, DecoderAfter}
+use Rattle.cobs.specs.NextFrame.{ReaderState}
 use Rattle.cobs.specs.declared.framed.Next.{Next}
 use Rattle.cobs.specs.declared.framed.Next.TheVariants as nexts
 
@@ -29,3 +30,7 @@ pub record TellsFirst (next : Next) (p bytes buffer behind : List ℕ) : Type 0 
   pub outcome : Outcome
   pub is : IsOutcome next buffer outcome
   pub first : EndsFirstIn p bytes (length buffer) outcome behind
+
+-- the reader, were these the bytes that it has read but not fed
+abbrev pub with_kept : List ℕ → ReaderState → ReaderState
+with_kept kept reader = record reader { kept = kept }

@@ -9,6 +9,7 @@ invariant-by_read g l =
     let phase = g.D.FrameDecoder.phase in
     let loan = g.D.FrameDecoder.loan in
     record {
+      emptied : l.self.start ≡ l.self.end;
       going : Going g.S.FrameSource.step l.fn.source l.source (reader_state bytes phase l.fn.self) (reader_state bytes phase l.self) l.self.unfinished l._read;
       same_loan : loan (decoder_of l.self) ≡ loan (decoder_of l.fn.self);
     }

@@ -1,0 +1,37 @@
+use Rattle.std.proofs.Common.{[], refl, sym}
+use Rattle.std.proofs.Math.Logic.{∥∥₁_map}
+use Rattle.cobs.specs.FeedPiece.{outcome_at}
+use Rattle.cobs.proofs.SoFar.{DecoderAfter-idle}
+use Rattle.cobs.proofs.ReadingLemmas.{HasTaken-any, EndsFirstIn-taken}
+use Rattle.cobs.proofs.framed.FrameReader.feed_through_end.Goals as goal
+
+pub returns-in-None-clause-none : goal.returns-in-None-clause-none
+returns-in-None-clause-none g c = λ p b.
+    let t = c.in-None.ensures.takes.takes in (
+      record { none_ended = rw t.len (sym (t.outcomes p b)); behind = t.after p b; nothing_kept = refl },
+      c.is_unfinished-self.ensures.unfinished p (HasTaken-any _ _ _ p c.args.self.now.has_taken b).flag b.phased.piece,
+    )
+
+pub returns-in-Some-clause-first : goal.returns-in-Some-clause-first
+returns-in-Some-clause-first g c = λ p h.
+    let t = c.in-Some.ensures.takes in
+    record {
+      outcome = outcome_at c.in-Some.end (g.D.FrameDecoder.bytes c.feed_piece.new.self);
+      is = c.next_at.ensures (g.D.FrameDecoder.bytes c.feed_piece.new.self) (rw t.takes.len t.within.1);
+      first = rw t.takes.len (EndsFirstIn-taken _ t p h);
+    }
+
+pub returns-in-Some-clause-idle : goal.returns-in-Some-clause-idle
+returns-in-Some-clause-idle g c = DecoderAfter-idle _ _ c.in-Some.ensures.takes.idle
+
+pub invariant_of-self-clause-has_taken : goal.invariant_of-self-clause-has_taken
+invariant_of-self-clause-has_taken g c = ∥∥₁_map c.args.self.now.has_taken (λ w. (
+  _,
+  record {
+    after = c.in-None.ensures.takes.takes.after w.0 w.1.after;
+    flag = c.is_unfinished-self.ensures.unfinished w.0 w.1.flag w.1.after.phased.piece;
+  },
+))
+
+pub invariant_of-self-in-Some-clause-has_taken : goal.invariant_of-self-in-Some-clause-has_taken
+invariant_of-self-in-Some-clause-has_taken g c = ∣ ([], record { after = DecoderAfter-idle _ _ c.in-Some.ensures.takes.idle; flag = refl }) ∣₁
