@@ -15,7 +15,7 @@ use crate::dec::moves::{move_nonzero_short, move_to_front};
 use crate::dec::piece::piece_len;
 use crate::dec::report::DecodeReport;
 use crate::enc::xor_bytes;
-use crate::window::WINDOW;
+use crate::window::WIDE_WINDOW;
 
 /// How many bytes the first whole blocks of a piece have, through the first full one, and whether the last of them is
 /// full. 0 bytes: the first block is broken.
@@ -47,7 +47,7 @@ fn decode_flat(buffer: &mut [u8], from: usize, len: usize)
     write_joints(buffer, first, len);
 }
 
-/// Decodes the first `len` bytes of the buffer, 2 to 33, to its front, if these are whole blocks without a zero; says
+/// Decodes the first `len` bytes of the buffer, 2 to 65, to its front, if these are whole blocks without a zero; says
 /// whether it did. Each byte after what they give stays, or where it did not every byte.
 #[inline(always)]
 fn decode_short(buffer: &mut [u8], len: usize) -> bool
@@ -59,7 +59,7 @@ fn decode_short(buffer: &mut [u8], len: usize) -> bool
     ensures rest { drop (len - 1) buffer.new ≡ drop (len - 1) buffer.old }
     ensures kept { result ≡ false → buffer.new ≡ buffer.old }
 {
-    if len < 2 || WINDOW + 1 < len || buffer[0] == 0 || !is_flat(&buffer[..len], 0) {
+    if len < 2 || WIDE_WINDOW + 1 < len || buffer[0] == 0 || !is_flat(&buffer[..len], 0) {
         return false;
     }
     let first = buffer[0] as usize;

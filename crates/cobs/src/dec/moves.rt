@@ -118,6 +118,29 @@ pub(crate) fn move_to_front(buffer: &mut [u8], from: usize, len: usize)
     }
 }
 
+/// Moves 32 to 64 bytes if none is a zero, and says whether it did: as two parts that may overlap.
+#[inline(always)]
+fn move_nonzero_32_to_64(buffer: &mut [u8], from: usize, len: usize) -> bool
+    requires within { from + len ≤ length buffer.old }
+    requires some { 32 ≤ len }
+    requires few { len ≤ 64 }
+    ensures nonzero { IsTrue result → HasNoZero (take len (drop from buffer.old)) }
+    ensures moved { IsTrue result
+        → buffer.new ≡ take len (drop from buffer.old) ++ drop len buffer.old }
+    ensures kept { result ≡ false → buffer.new ≡ buffer.old }
+{
+    let front = u8x32::from_slice(&buffer[from..]);
+    let back = u8x32::from_slice(&buffer[from + len - 32..]);
+    let zeros = front.simd_eq(u8x32::splat(0)).to_bitmask()
+        | back.simd_eq(u8x32::splat(0)).to_bitmask();
+    if zeros != 0 {
+        return false;
+    }
+    front.copy_to_slice(buffer);
+    back.copy_to_slice(&mut buffer[len - 32..]);
+    true
+}
+
 /// Moves 16 to 32 bytes if none is a zero, and says whether it did: as two parts that may overlap.
 #[inline(always)]
 fn move_nonzero_16_to_32(buffer: &mut [u8], from: usize, len: usize) -> bool
@@ -216,20 +239,24 @@ fn move_nonzero_few(buffer: &mut [u8], from: usize, len: usize) -> bool
     true
 }
 
-/// Moves the `len` bytes from `from` on, up to 32, to the front of the buffer, if none is a zero, and says whether it
+/// Moves the `len` bytes from `from` on, up to 64, to the front of the buffer, if none is a zero, and says whether it
 /// did; the bytes after them there stay.
 #[inline(always)]
 pub(crate) fn move_nonzero_short(buffer: &mut [u8], from: usize, len: usize) -> bool
     requires within { from + len ≤ length buffer.old }
     requires some { 0 < len }
-    requires few { len ≤ 32 }
+    requires few { len ≤ 64 }
     ensures nonzero { IsTrue result → HasNoZero (take len (drop from buffer.old)) }
     ensures moved { IsTrue result
         → buffer.new ≡ take len (drop from buffer.old) ++ drop len buffer.old }
     ensures kept { result ≡ false → buffer.new ≡ buffer.old }
 {
     if len >= 16 {
-        move_nonzero_16_to_32(buffer, from, len)
+        if len >= 32 {
+            move_nonzero_32_to_64(buffer, from, len)
+        } else {
+            move_nonzero_16_to_32(buffer, from, len)
+        }
     } else if len >= 8 {
         move_nonzero_8_to_16(buffer, from, len)
     } else if len >= 4 {

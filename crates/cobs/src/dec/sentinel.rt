@@ -13,7 +13,7 @@ use crate::dec::error::DecodeError;
 use crate::dec::flat::{flat_front, is_flat, write_joints};
 use crate::dec::xored::copy_xored_short;
 use crate::enc::FULL_CODE;
-use crate::window::WINDOW;
+use crate::window::WIDE_WINDOW;
 use memchr::memchr;
 
 /// Where the first sentinel of the source stands, or the source's length where it has none.
@@ -126,7 +126,7 @@ fn decode_fronts(source: &[u8], dest: &mut [u8], sentinel: u8) -> Result<usize, 
     Ok(written)
 }
 
-/// Decodes a source of 2 to 33 bytes, if these are whole blocks without a sentinel that fit; says whether it did. Each
+/// Decodes a source of 2 to 65 bytes, if these are whole blocks without a sentinel that fit; says whether it did. Each
 /// byte after what they give stays, or where it did not every byte.
 fn decode_short(source: &[u8], dest: &mut [u8], sentinel: u8) -> bool
     ensures nonzero { IsTrue result → HasNoZero (xor_each sentinel source.now) }
@@ -138,7 +138,7 @@ fn decode_short(source: &[u8], dest: &mut [u8], sentinel: u8) -> bool
     ensures kept { result ≡ false → dest.new ≡ dest.old }
 {
     let len = source.len();
-    if len < 2 || WINDOW + 1 < len || dest.len() < len - 1 || source[0] == sentinel {
+    if len < 2 || WIDE_WINDOW + 1 < len || dest.len() < len - 1 || source[0] == sentinel {
         return false;
     }
     if !is_flat(source, sentinel) || !copy_xored_short(&source[1..], dest, sentinel) {

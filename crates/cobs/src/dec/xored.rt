@@ -6,6 +6,30 @@ ghost use Rattle.cobs.specs.Sentinel.{xor_each};
 
 use std::simd::prelude::*;
 
+/// Copies 32 to 64 bytes, as two parts that may overlap, if none is the sentinel, and says whether it did.
+#[inline(always)]
+fn copy_32_to_64(source: &[u8], dest: &mut [u8], sentinel: u8) -> bool
+    requires some { 32 ≤ length source.now }
+    requires few { length source.now ≤ 64 }
+    requires room { length source.now ≤ length dest.old }
+    ensures nonzero { IsTrue result → HasNoZero (xor_each sentinel source.now) }
+    ensures copied { IsTrue result
+        → dest.new ≡ xor_each sentinel source.now ++ drop (length source.now) dest.old }
+    ensures kept { result ≡ false → dest.new ≡ dest.old }
+{
+    let at = source.len() - 32;
+    let front = u8x32::from_slice(source) ^ u8x32::splat(sentinel);
+    let back = u8x32::from_slice(&source[at..]) ^ u8x32::splat(sentinel);
+    let zeros = front.simd_eq(u8x32::splat(0)).to_bitmask()
+        | back.simd_eq(u8x32::splat(0)).to_bitmask();
+    if zeros != 0 {
+        return false;
+    }
+    front.copy_to_slice(dest);
+    back.copy_to_slice(&mut dest[at..]);
+    true
+}
+
 /// Copies 16 to 32 bytes, as two parts that may overlap, if none is the sentinel, and says whether it did.
 #[inline(always)]
 fn copy_16_to_32(source: &[u8], dest: &mut [u8], sentinel: u8) -> bool
@@ -107,11 +131,11 @@ fn copy_few(source: &[u8], dest: &mut [u8], sentinel: u8) -> bool
     true
 }
 
-/// Copies up to 32 bytes if none is the sentinel, and says whether it did.
+/// Copies up to 64 bytes if none is the sentinel, and says whether it did.
 #[inline(always)]
 pub(crate) fn copy_xored_short(source: &[u8], dest: &mut [u8], sentinel: u8) -> bool
     requires some { 0 < length source.now }
-    requires few { length source.now ≤ 32 }
+    requires few { length source.now ≤ 64 }
     requires room { length source.now ≤ length dest.old }
     ensures nonzero { IsTrue result → HasNoZero (xor_each sentinel source.now) }
     ensures copied { IsTrue result
@@ -120,7 +144,11 @@ pub(crate) fn copy_xored_short(source: &[u8], dest: &mut [u8], sentinel: u8) -> 
 {
     let len = source.len();
     if len >= 16 {
-        copy_16_to_32(source, dest, sentinel)
+        if len >= 32 {
+            copy_32_to_64(source, dest, sentinel)
+        } else {
+            copy_16_to_32(source, dest, sentinel)
+        }
     } else if len >= 8 {
         copy_8_to_16(source, dest, sentinel)
     } else if len >= 4 {
