@@ -122,7 +122,7 @@ in_place_answer_alone : (f : List ℕ) → IsPiece f → in_place_answer f ≡ h
 in_place_answer_alone [] piece = absurd (piece.0 refl)
 in_place_answer_alone (byte ∷ bytes) piece = ap head_answer (head_alone (byte ∷ bytes) piece.1)
 
-pub in_place_reads : (f : List ℕ) (result : Result ℕ DecodeError) (buffer' : List ℕ) → result ≡ in_place_answer f → buffer' ≡ in_place f
+in_place_reads : (f : List ℕ) (result : Result ℕ DecodeError) (buffer' : List ℕ) → result ≡ in_place_answer f → buffer' ≡ in_place f
     → All (λ b. b < 256) f → IsPiece f → (m : List ℕ) → AnswersMessage result buffer' m ↔ Reads f m
 in_place_reads f result buffer' answer after below piece m = decodes-reads f m result buffer' piece below (record {
   whole = λ whole. answer ∙ in_place_answer_alone f piece ∙ head_answer_whole f piece.0 whole;
@@ -131,12 +131,6 @@ in_place_reads f result buffer' answer after below piece m = decodes-reads f m r
       ∙ ap (λ (l : List ℕ). take (length (output f)) (overwritten f l)) (kept_output_whole f whole) ∙ front-overwritten f (output f) (output_within f);
   broken = λ broken. (InvalidFrame (length (kept_output f)), answer ∙ in_place_answer_alone f piece ∙ head_answer_broken f piece.0 broken);
 })
-
--- the same of a buffer that was changed first
-pub in_place_reads_at : (f changed : List ℕ) (result : Result ℕ DecodeError) (buffer' : List ℕ) → changed ≡ f → result ≡ in_place_answer changed → buffer' ≡ in_place changed
-    → All (λ b. b < 256) changed → IsPiece f → (m : List ℕ) → AnswersMessage result buffer' m ↔ Reads f m
-in_place_reads_at f changed result buffer' same answer after below piece m =
-    in_place_reads f result buffer' (answer ∙ ap in_place_answer same) (after ∙ ap in_place same) (subst (λ (x : List ℕ). All (λ b. b < 256) x) same below) piece m
 
 pub in_place_report_reads : (f : List ℕ) (result : Result DecodeReport DecodeError) (buffer' : List ℕ) → result ≡ in_place_report f → buffer' ≡ in_place f
     → All (λ b. b < 256) f → IsPiece f → (m : List ℕ) → ReportsMessage result buffer' m ↔ Reads f m

@@ -71,10 +71,13 @@ fn decode_short(buffer: &mut [u8], len: usize) -> bool
 }
 
 /// How many bytes of a buffer stand before a zero that is its last byte, or all of them.
+///
+/// The clause `bytes` is for a caller that writes the buffer afterwards, whose type tells only of what it holds at last.
 #[inline(always)]
 fn len_without_end(buffer: &[u8]) -> usize
     ensures within { result ≤ length buffer.now }
     ensures stop { result < length buffer.now → slice_index buffer.now result ≡ 0 }
+    ensures bytes { All (λ byte. byte < 256) buffer.now }
 {
     let len = buffer.len();
     if len > 0 && buffer[len - 1] == 0 {
@@ -129,48 +132,6 @@ fn decode_front(buffer: &mut [u8], end: usize) -> Result<usize, DecodeError>
     Ok(end - 1)
 }
 
-/// Does nothing: what a slice holds are bytes.
-fn bytes_known(bytes: &[u8])
-    ensures { All (λ byte. byte < 256) bytes.now }
-{}
-
-/// Decodes what stands before the first zero, and answers how many bytes it and the message have.
-fn decode_head(buf: &mut [u8]) -> Result<DecodeReport, DecodeError>
-    ensures answer { result ≡ in_place_report buf.old }
-    ensures buffer { buf.new ≡ in_place buf.old }
-    ensures room { IfErr result (λ error. error ≢ TargetBufTooSmall) }
-{
-    if buf.is_empty() {
-        return Err(DecodeError::EmptyFrame);
-    }
-    let end = piece_len(buf);
-    let frame_size = decode_front(buf, end)?;
-    Ok(DecodeReport::new(end, frame_size))
-}
-
-/// Decodes what stands before the first zero, a short frame by a way of its own, and answers how many bytes it and the
-/// message have.
-fn decode_buffer(buf: &mut [u8]) -> Result<DecodeReport, DecodeError>
-    ensures answer { result ≡ in_place_report buf.old }
-    ensures buffer { buf.new ≡ in_place buf.old }
-    ensures room { IfErr result (λ error. error ≢ TargetBufTooSmall) }
-{
-    let len = len_without_end(buf);
-    if decode_short(buf, len) {
-        return Ok(DecodeReport::new(len, len - 1));
-    }
-    decode_head(buf)
-}
-
-/// Decodes what stands before the first zero, and answers how many bytes the message has.
-fn decode_head_size(buf: &mut [u8]) -> Result<usize, DecodeError>
-    ensures answer { result ≡ in_place_answer buf.old }
-    ensures buffer { buf.new ≡ in_place buf.old }
-    ensures room { IfErr result (λ error. error ≢ TargetBufTooSmall) }
-{
-    Ok(decode_buffer(buf)?.frame_size())
-}
-
 /// Decodes the frame at the front of the buffer in its own place, up to the first zero or the buffer's end, and answers
 /// how many bytes the frame and the message have.
 ///
@@ -201,8 +162,16 @@ pub fn decode_in_place_report(buf: &mut [u8]) -> Result<DecodeReport, DecodeErro
         → (ReportsMessage result buf.new m ↔ Reads buf.old m) }
     ensures room { IfErr result (λ error. error ≢ TargetBufTooSmall) }
 {
-    bytes_known(buf);
-    decode_buffer(buf)
+    let len = len_without_end(buf);
+    if decode_short(buf, len) {
+        return Ok(DecodeReport::new(len, len - 1));
+    }
+    if buf.is_empty() {
+        return Err(DecodeError::EmptyFrame);
+    }
+    let end = piece_len(buf);
+    let frame_size = decode_front(buf, end)?;
+    Ok(DecodeReport::new(end, frame_size))
 }
 
 /// Decodes the frame at the front of the buffer in its own place, up to the first zero or the buffer's end, and answers
@@ -229,8 +198,7 @@ pub fn decode_in_place(buff: &mut [u8]) -> Result<usize, DecodeError>
         → (AnswersMessage result buff.new m ↔ Reads buff.old m) }
     ensures room { IfErr result (λ error. error ≢ TargetBufTooSmall) }
 {
-    bytes_known(buff);
-    decode_head_size(buff)
+    Ok(decode_in_place_report(buff)?.frame_size())
 }
 
 /// Decodes the frame at the front of the buffer in its own place, where the sentinel is another byte than 0.
@@ -255,6 +223,5 @@ pub fn decode_in_place_with_sentinel(buff: &mut [u8], sentinel: u8) -> Result<us
     ensures room { IfErr result (λ error. error ≢ TargetBufTooSmall) }
 {
     xor_bytes(buff, sentinel);
-    bytes_known(buff);
-    decode_head_size(buff)
+    decode_in_place(buff)
 }
