@@ -1,5 +1,5 @@
 -- What a run of `send` has read, and what it has written of it.
-use Rattle.std.specs.Prelude.{ℕ, ◌≡◌, ◌-◌, ◌==◌, ◌&&◌, nat_lt, Bool, true, false, List, [], ◌∷◌, ◌++◌, length, take, slice_index, All, Option, IfSome, Result, Ok, Err, MatchResult, if◌then◌else◌}
+use Rattle.std.specs.Prelude.{ℕ, ◌≡◌, ◌↔◌, ◌-◌, ◌==◌, ◌&&◌, nat_lt, Bool, true, false, IsTrue, IsOk, List, [], ◌∷◌, ◌++◌, length, take, slice_index, All, Option, IfSome, Result, Ok, Err, MatchResult, if◌then◌else◌}
 use Rattle.std.specs.List.{AllZip, concat}
 use Rattle.std.specs.Io.{StopsAt}
 use Rattle.std.specs.Io.KnownBytes.{Appends, Consumes}
@@ -27,21 +27,30 @@ SendsAs true sentinel text bytes = MatchResult (decode_of text) (λ message. IsS
 abbrev pub SendsText : Settings → List ℕ → List ℕ → Type 0
 SendsText settings text bytes = SendsAs settings.hex settings.sentinel text bytes
 
+-- a line's text stands for a message: where its digits are wanted, it has them
+abbrev pub IsSendable : Settings → List ℕ → Type 0
+IsSendable settings text = IsTrue settings.hex → IsOk (decode_of text)
+
 -- lines were read, and of each the bytes were written that belong to it
 pub record HasSentLines (settings : Settings) (rest : List ℕ) (from to before after : Option (List ℕ)) : Type 0 where
   pub lines : List (List ℕ)
   pub each_stops : All (λ line. StopsAt line 10) lines
   pub sent : List (List ℕ)
   pub each : AllZip (λ line bytes. SendsText settings (text_of line) bytes) lines sent
-  -- what is left is what a failed read cut
+  -- what is left was read and not sent: what a failed read cut, or a line for whose frame memory was refused
   pub read : Consumes from to (concat lines ++ rest)
   pub written : Appends before after (concat sent)
+
+-- the same, and a flag that says whether each line could be sent
+abbrev pub HasSentAll : Settings → Bool → (from to before after : Option (List ℕ)) → Type 0
+HasSentAll settings all_sent from to before after =
+    (s : HasSentLines settings [] from to before after) × (IsTrue all_sent ↔ All (λ line. IsSendable settings (text_of line)) s.lines)
 
 -- a run of `send`, by its answer
 abbrev pub HasSent : Settings → Result Bool WatchFault → (from to before after : Option (List ℕ)) → Type 0
 HasSent settings (Ok all_sent) from to before after =
-    (s : HasSentLines settings [] from to before after) × IfSome from (λ bytes. bytes ≡ concat s.lines)
+    (s : HasSentAll settings all_sent from to before after) × IfSome from (λ bytes. bytes ≡ concat s.0.lines)
 HasSent settings (Err ReadFailed) from to before after = (rest : List ℕ) × HasSentLines settings rest from to before after
-HasSent settings (Err OutOfMemory) from to before after = Unit {0}
+HasSent settings (Err OutOfMemory) from to before after = (rest : List ℕ) × HasSentLines settings rest from to before after
 HasSent settings (Err WriteFailed) from to before after = Unit {0}
 HasSent settings (Err OutputClosed) from to before after = Unit {0}

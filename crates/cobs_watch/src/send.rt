@@ -1,7 +1,8 @@
 //! Sending lines as frames.
-ghost use Rattle.std.specs.Prelude.{◌≡◌, ◌≢◌, List, OnOk, IfOk, IfErr, ℕ, true};
-ghost use Rattle.std.specs.Io.KnownBytes.{Appends};
-ghost use Rattle.cobs_watch.specs.Sent.{HasSent, IsSent, SendsAs, SendsText, text_of};
+ghost use Rattle.std.specs.Prelude.{◌≡◌, ◌≢◌, ◌↔◌, List, OnOk, IfOk, IfErr, IsOk, IsTrue, ℕ, true};
+ghost use Rattle.std.specs.Io.KnownBytes.{Appends, Keeps};
+ghost use Rattle.hex.specs.Hex.{decode_of};
+ghost use Rattle.cobs_watch.specs.Sent.{HasSent, IsSendable, IsSent, SendsAs, SendsText, text_of};
 
 use crate::fault::WatchFault;
 use cobs::encode_vec_with_sentinel;
@@ -77,7 +78,10 @@ fn send_text<W: Write>(
 ) -> Result<bool, WatchFault>
     ensures sent { OnOk result ((bytes : List ℕ) × SendsText settings.now text.now bytes
         × Appends (W.contents output.old) (W.contents output.new) bytes) }
+    ensures answer { IfOk result (λ sent. IsTrue sent ↔ IsSendable settings.now text.now) }
     ensures fault { IfErr result (λ fault. fault ≢ WatchFault.ReadFailed) }
+    ensures unwritten { IfErr result (λ fault. fault ≡ WatchFault.OutOfMemory
+        → Keeps (W.contents output.old) (W.contents output.new)) }
 {
     if settings.hex {
         send_digits(alloc, settings.sentinel, text, output)
@@ -96,7 +100,10 @@ fn send_digits<W: Write>(
 ) -> Result<bool, WatchFault>
     ensures sent { OnOk result ((bytes : List ℕ) × SendsAs true sentinel text.now bytes
         × Appends (W.contents output.old) (W.contents output.new) bytes) }
+    ensures answer { IfOk result (λ sent. IsTrue sent ↔ IsOk (decode_of text.now)) }
     ensures fault { IfErr result (λ fault. fault ≢ WatchFault.ReadFailed) }
+    ensures unwritten { IfErr result (λ fault. fault ≡ WatchFault.OutOfMemory
+        → Keeps (W.contents output.old) (W.contents output.new)) }
 {
     match hex::decode(alloc, text) {
         Ok(message) => {
@@ -122,6 +129,8 @@ fn send_message<W: Write>(
     ensures sent { OnOk result ((bytes : List ℕ) × IsSent sentinel message.now bytes
         × Appends (W.contents output.old) (W.contents output.new) bytes) }
     ensures fault { IfErr result (λ fault. fault ≢ WatchFault.ReadFailed) }
+    ensures unwritten { IfErr result (λ fault. fault ≡ WatchFault.OutOfMemory
+        → Keeps (W.contents output.old) (W.contents output.new)) }
 {
     let bytes = ended_frame(alloc, sentinel, message)?;
     output.write_all(&bytes)?;
