@@ -28,6 +28,17 @@ pub struct Answer {
     pub length: usize,
 }
 
+/// The answer of a call that did what it is for: so many bytes taken, and so many at the front of the buffer.
+pub(crate) fn done(consumed: usize, length: usize) -> Answer
+    ensures { result ≡ record { status = OK; consumed = consumed; length = length } }
+{
+    Answer {
+        status: OK,
+        consumed,
+        length,
+    }
+}
+
 /// The answer of a call that took and left nothing, since the buffer is too short.
 pub(crate) fn too_small() -> Answer
     ensures { result ≡ record { status = TOO_SMALL; consumed = 0; length = 0 } }

@@ -5,7 +5,7 @@ ghost use Rattle.cobs.specs.Length.{encoded_len, max_encoded_len};
 ghost use Rattle.cobs.specs.Sentinel.{IsEncodedFrameFor};
 ghost use Rattle.cobs_c.specs.Terminated.{IsTerminatedFrame};
 
-use crate::answer::{Answer, OK, TOO_SMALL, too_small};
+use crate::answer::{Answer, OK, TOO_SMALL, done, too_small};
 use cobs::{max_encoding_overhead, try_encode, try_encode_with_sentinel};
 
 /// How many bytes the longest frame of a message of `message_len` bytes has, or 0 where that number doesn't fit.
@@ -35,11 +35,7 @@ pub extern "C" fn jcobs_encode(message: &[u8], frame: &mut [u8]) -> Answer
     ensures rest { drop result.length frame.new ≡ drop result.length frame.old }
 {
     match try_encode(message, frame) {
-        Ok(length) => Answer {
-            status: OK,
-            consumed: message.len(),
-            length,
-        },
+        Ok(length) => done(message.len(), length),
         Err(_) => too_small(),
     }
 }
@@ -65,11 +61,7 @@ pub extern "C" fn jcobs_encode_with_sentinel(
     ensures rest { drop result.length frame.new ≡ drop result.length frame.old }
 {
     match try_encode_with_sentinel(message, frame, sentinel) {
-        Ok(length) => Answer {
-            status: OK,
-            consumed: message.len(),
-            length,
-        },
+        Ok(length) => done(message.len(), length),
         Err(_) => too_small(),
     }
 }
@@ -97,11 +89,7 @@ pub extern "C" fn jcobs_encode_terminated(message: &[u8], frame: &mut [u8]) -> A
     match try_encode(message, &mut frame[..room]) {
         Ok(end) => {
             frame[end] = 0;
-            Answer {
-                status: OK,
-                consumed: message.len(),
-                length: end + 1,
-            }
+            done(message.len(), end + 1)
         }
         Err(_) => too_small(),
     }
@@ -134,11 +122,7 @@ pub extern "C" fn jcobs_encode_terminated_with_sentinel(
     match try_encode_with_sentinel(message, &mut frame[..last], sentinel) {
         Ok(end) => {
             frame[end] = sentinel;
-            Answer {
-                status: OK,
-                consumed: message.len(),
-                length: end + 1,
-            }
+            done(message.len(), end + 1)
         }
         Err(_) => too_small(),
     }

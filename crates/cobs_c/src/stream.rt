@@ -10,7 +10,7 @@ ghost use Rattle.cobs.specs.Fields.Encoders.{reached_at};
 ghost use Rattle.cobs_c.specs.Answer.{told};
 ghost use Rattle.cobs_c.specs.State.{held, phase_in, reached_in};
 
-use crate::answer::{Answer, BROKEN, MORE, OK, TOO_SMALL, too_small};
+use crate::answer::{Answer, BROKEN, MORE, OK, TOO_SMALL, done, too_small};
 use cobs::{DecoderPhase, EncoderProgress, PieceEnd, UnbufferedDecoder, UnbufferedEncoder};
 
 /// Where a decoder stands. Each number may be any: zeros alone are the start.
@@ -132,11 +132,7 @@ pub extern "C" fn jcobs_decoder_push(
         };
     };
     match end {
-        PieceEnd::Message(length) => Answer {
-            status: OK,
-            consumed,
-            length,
-        },
+        PieceEnd::Message(length) => done(consumed, length),
         // No more than the buffer has, unless what stood in the decoder was no work of this function.
         PieceEnd::Broken(count) => Answer {
             status: BROKEN,
@@ -240,11 +236,7 @@ pub extern "C" fn jcobs_encoder_push(
     }
     let progress = unbuffered.progress();
     *encoder = Encoder::at(progress);
-    Answer {
-        status: OK,
-        consumed: bytes.len(),
-        length: end_of(progress),
-    }
+    done(bytes.len(), end_of(progress))
 }
 
 /// Ends the message, where its frame fits the buffer. Whatever stands in the encoder, the buffer keeps its length, and the
@@ -269,11 +261,7 @@ pub extern "C" fn jcobs_encoder_finish(encoder: &mut Encoder, buffer: &mut [u8])
     match unbuffered.finalize(buffer) {
         Ok(length) => {
             *encoder = Encoder::at(unbuffered.progress());
-            Answer {
-                status: OK,
-                consumed: 0,
-                length,
-            }
+            done(0, length)
         }
         Err(_) => too_small(),
     }

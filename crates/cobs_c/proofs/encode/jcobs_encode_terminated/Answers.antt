@@ -13,7 +13,7 @@ returns-in-Ok-clause-frame c = λ _.
     let last = length-drop (length c.args.frame.now - 1) c.args.frame.now in
     let len = c.in-Ok.ensures.len in
     let part : List ℕ = c.try_encode.new.dest in
-    let frame : List ℕ = take c.in-Ok.end part in (
+    let frame : List ℕ = take c.in-Ok.end part in rw c.done.ensures (
       frame,
       subst (λ (f : List ℕ). IsEncodedFrame f c.args.message.now) (sym (xor_each-zero frame)) c.in-Ok.ensures.frame,
       terminated part (drop (length c.args.frame.now - 1) c.args.frame.now) c.in-Ok.end 0 (omega (arith, whole, c.try_encode.auto.dest)) (omega arith),
@@ -25,4 +25,4 @@ returns-in-Ok-clause-rest c =
     let fits = c.in-Ok.ensures.fits.0 refl in
     let whole = length-take-le (length c.args.frame.now - 1) c.args.frame.now (omega arith) in
     let len = c.in-Ok.ensures.len in
-    behind_terminator c.args.frame.now c.try_encode.new.dest (length c.args.frame.now - 1) c.in-Ok.end 0 (omega (arith, whole, c.try_encode.auto.dest)) (omega arith) (omega arith) c.in-Ok.ensures.rest
+    rw c.done.ensures (behind_terminator c.args.frame.now c.try_encode.new.dest (length c.args.frame.now - 1) c.in-Ok.end 0 (omega (arith, whole, c.try_encode.auto.dest)) (omega arith) (omega arith) c.in-Ok.ensures.rest)

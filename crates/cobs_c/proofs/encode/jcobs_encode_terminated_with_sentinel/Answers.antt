@@ -9,4 +9,4 @@ returns-in-Ok-clause-rest c =
     let fits = c.in-Ok.ensures.fits.0 refl in
     let whole = length-take-le (length c.args.frame.now - 1) c.args.frame.now (omega arith) in
     let len = c.in-Ok.ensures.len in
-    behind_terminator c.args.frame.now c.try_encode_with_sentinel.new.dest (length c.args.frame.now - 1) c.in-Ok.end c.args.sentinel (omega (arith, whole, c.try_encode_with_sentinel.auto.dest)) (omega arith) (omega arith) c.in-Ok.ensures.rest
+    rw c.done.ensures (behind_terminator c.args.frame.now c.try_encode_with_sentinel.new.dest (length c.args.frame.now - 1) c.in-Ok.end c.args.sentinel (omega (arith, whole, c.try_encode_with_sentinel.auto.dest)) (omega arith) (omega arith) c.in-Ok.ensures.rest)
