@@ -26,7 +26,7 @@ row() { # CALL WHO
 }
 printf '| 64 KiB | %s |\n' "$(echo "$workloads" | sed 's/,/ | /g')"
 echo "$workloads," | sed 's/[^,]*,/--:|/g; s/^/|---|/'
-for call in encode try_encode decode "decode exact" "in place" "push 64" decode_stream FrameReader feed "encoder 17"; do
+for call in encode try_encode decode "decode exact" "in place" "push 64" decode_stream FrameReader feed "feed by call" "encoder 17"; do
     row "$call" ours
 done
 for call in encode decode "in place" "push 64"; do

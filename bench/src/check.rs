@@ -68,6 +68,12 @@ fn check_decoders(dice: &mut Dice, source: &[u8], room: usize) {
     let (mut a, mut b) = (vec![170; room], vec![170; room]);
     let (x, y) = (ours::feed_each(source, &mut a), machine::feed_each(source, &mut b));
     same("feed_each", (x, &a), (y, &b));
+    let mut a = vec![170; room];
+    let x = ours::feed_by_call(source, &mut a);
+    same("feed_by_call", (x, &a), (y, &b));
+    let mut a = vec![170; room];
+    let x = machine::feed_by_call(source, &mut a);
+    same("the machine's feed_by_call", (x, &a), (y, &b));
     let mut room = vec![170; room];
     let outcomes = machine::count_outcomes(source, &mut room);
     assert_eq!(ours::decode_stream(source, &mut room), outcomes, "decode_stream");
@@ -103,9 +109,11 @@ fn check_others(dice: &mut Dice, m: &[u8], frame: &[u8]) {
     }
     let stream = [frame, &[0], frame, &[0]].concat();
     assert_eq!(unsafe { plain::feed_each(&stream, room.as_mut_ptr()) }, 2 * m.len(), "plain feed");
+    assert_eq!(unsafe { plain::feed_by_call(&stream, room.as_mut_ptr()) }, 2 * m.len(), "plain feed by call");
     assert_eq!(simd::push_in_chunks(&stream, chunk, &mut room), Some(2 * m.len()), "simd push");
     assert!(&room[..m.len()] == m, "simd push: the message");
     assert_eq!(simd::feed_each(&stream, &mut room), Some(2 * m.len()), "simd feed");
+    assert_eq!(simd::feed_by_call(&stream, &mut room), Some(2 * m.len()), "simd feed by call");
     #[cfg(with_crate)]
     {
         assert_eq!(theirs::push_in_chunks(&stream, chunk, &mut room), 2 * m.len(), "the crate's push");

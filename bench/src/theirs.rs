@@ -92,6 +92,7 @@ pub fn read_frames(s: &[u8], d: &mut [u8]) -> usize {
     count
 }
 
+/// By a call for each byte: `feed` is no function that rustc inlines into another crate.
 #[inline(never)]
 pub fn feed_each(s: &[u8], d: &mut [u8]) -> usize {
     let mut decoder = CobsDecoder::new(d);

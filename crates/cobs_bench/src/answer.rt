@@ -15,6 +15,9 @@ pub const BROKEN: u32 = 2;
 /// There was no byte to decode.
 pub const EMPTY: u32 = 3;
 
+/// No piece has ended yet.
+pub const MORE: u32 = 4;
+
 /// A status, how many bytes of the source were consumed, and how many bytes stand at the front of the destination.
 #[repr(C)]
 #[derive(Clone, Copy)]
@@ -22,6 +25,25 @@ pub struct Answer {
     pub status: u32,
     pub parsed: usize,
     pub len: usize,
+}
+
+/// What a byte of a stream brought: a status, and the length of a message, or how much of a broken piece decoded.
+#[repr(C)]
+#[derive(Clone, Copy)]
+pub struct Fed {
+    pub status: u32,
+    pub len: usize,
+}
+
+/// An answer of these parts.
+pub(crate) fn answered(status: u32, parsed: usize, len: usize) -> Answer
+    ensures { result ≡ record { status = status; parsed = parsed; len = len } }
+{
+    Answer {
+        status,
+        parsed,
+        len,
+    }
 }
 
 /// The status that says why a frame was refused.
@@ -35,7 +57,7 @@ pub(crate) fn status_of(error: &DecodeError) -> u32
     }
 }
 
-ghost use Rattle.cobs_bench.specs.Answer.{answer_of, answer_of_size, refusal_of};
+ghost use Rattle.cobs_bench.specs.Answer.{answer_of, answer_of_size, refusal_of, told};
 
 /// The answer for a refusal.
 fn refusal_of(error: DecodeError) -> Answer
@@ -46,11 +68,7 @@ fn refusal_of(error: DecodeError) -> Answer
         DecodeError::InvalidFrame { decoded_bytes } => decoded_bytes,
         _ => 0,
     };
-    Answer {
-        status,
-        parsed: 0,
-        len,
-    }
+    answered(status, 0, len)
 }
 
 /// The answer for what a decoding call answers.
@@ -58,11 +76,7 @@ pub(crate) fn answer_of(decoded: Result<DecodeReport, DecodeError>) -> Answer
     ensures { result ≡ answer_of decoded }
 {
     match decoded {
-        Ok(report) => Answer {
-            status: OK,
-            parsed: report.parsed_size(),
-            len: report.frame_size(),
-        },
+        Ok(report) => answered(OK, report.parsed_size(), report.frame_size()),
         Err(error) => refusal_of(error),
     }
 }
@@ -72,11 +86,21 @@ pub(crate) fn answer_of_size(decoded: Result<usize, DecodeError>) -> Answer
     ensures { result ≡ answer_of_size decoded }
 {
     match decoded {
-        Ok(len) => Answer {
-            status: OK,
-            parsed: 0,
-            len,
-        },
+        Ok(len) => answered(OK, 0, len),
         Err(error) => refusal_of(error),
     }
+}
+
+/// The answer for what a byte brought.
+pub(crate) fn fed_of(found: Result<Option<usize>, DecodeError>) -> Fed
+    ensures { told result ≡ found }
+{
+    let (status, len) = match found {
+        Ok(None) => (MORE, 0),
+        Ok(Some(len)) => (OK, len),
+        Err(DecodeError::EmptyFrame) => (EMPTY, 0),
+        Err(DecodeError::InvalidFrame { decoded_bytes }) => (BROKEN, decoded_bytes),
+        Err(DecodeError::TargetBufTooSmall) => (TOO_SMALL, 0),
+    };
+    Fed { status, len }
 }

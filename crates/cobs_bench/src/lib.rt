@@ -15,8 +15,8 @@ ghost use Rattle.cobs_bench.specs.Answer.{answer_of, answer_of_size};
 mod answer;
 mod streams;
 
-pub use answer::Answer;
-use answer::{OK, TOO_SMALL, answer_of, answer_of_size};
+pub use answer::{Answer, Fed};
+use answer::{OK, TOO_SMALL, answer_of, answer_of_size, answered};
 use cobs::{CobsDecoder, FrameReader, Next, Recorded};
 use std::alloc::Global;
 
@@ -47,16 +47,8 @@ pub extern "C" fn bench_try_encode(source: &[u8], dest: &mut [u8]) -> Answer
     ensures refused { length dest.old < encoded_len source.now → dest.new ≡ dest.old }
 {
     match cobs::try_encode(source, dest) {
-        Ok(len) => Answer {
-            status: OK,
-            parsed: source.len(),
-            len,
-        },
-        Err(_) => Answer {
-            status: TOO_SMALL,
-            parsed: 0,
-            len: 0,
-        },
+        Ok(len) => answered(OK, source.len(), len),
+        Err(_) => answered(TOO_SMALL, 0, 0),
     }
 }
 

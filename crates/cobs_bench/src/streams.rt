@@ -1,11 +1,14 @@
-//! The streaming encoder and decoder, driven in chunks.
+//! The streaming encoder and decoder, driven in chunks; and a decoder that is fed by a call for each byte.
 ghost use Rattle.std.specs.Prelude.{◌≡◌, ◌≤◌, ◌<◌, ◌+◌, length, take, drop};
 ghost use Rattle.cobs.specs.Grammar.{IsEncodedFrame};
 ghost use Rattle.cobs.specs.Length.{encoded_len};
+ghost use Rattle.cobs.specs.Feed.{Feeds, Idle};
+ghost use Rattle.cobs.specs.Fields.Decoders.{phase_of};
+ghost use Rattle.cobs_bench.specs.Answer.{told};
 ghost use Rattle.cobs_bench.specs.Tally.{chunk_len, outcomes_to_end, tallied};
 
-use crate::answer::{Answer, OK, TOO_SMALL, status_of};
-use cobs::{CobsDecoder, CobsEncoder};
+use crate::answer::{Answer, Fed, OK, TOO_SMALL, answered, fed_of, status_of};
+use cobs::{CobsDecoder, CobsEncoder, UnbufferedDecoder};
 
 /// How many of the bytes that are left the next chunk has: `chunk` of them, or all where `chunk` is 0.
 fn next_len(chunk: usize, left: usize) -> usize
@@ -42,31 +45,17 @@ pub extern "C" fn bench_encoder_push(source: &[u8], chunk: usize, dest: &mut [u8
 {
     let mut parsed = 0;
     if dest.is_empty() {
-        return Answer {
-            status: TOO_SMALL,
-            parsed,
-            len: 0,
-        };
+        return answered(TOO_SMALL, parsed, 0);
     }
     let mut encoder = CobsEncoder::new(dest);
     'by_chunk: while parsed < source.len() {
         let len = next_len(chunk, source.len() - parsed);
         match encoder.push(&source[parsed..parsed + len]) {
             Ok(()) => parsed += len,
-            Err(_) => {
-                return Answer {
-                    status: TOO_SMALL,
-                    parsed,
-                    len: encoder.finalize(),
-                };
-            }
+            Err(_) => return answered(TOO_SMALL, parsed, encoder.finalize()),
         }
     }
-    Answer {
-        status: OK,
-        parsed,
-        len: encoder.finalize(),
-    }
+    answered(OK, parsed, encoder.finalize())
 }
 
 /// Pushes the stream to a `CobsDecoder`, `chunk` bytes at a time, or all at once where `chunk` is 0, up to the first
@@ -91,20 +80,10 @@ pub extern "C" fn bench_push(stream: &[u8], chunk: usize, dest: &mut [u8]) -> An
                 messages += 1;
                 sum += report.frame_size();
             }
-            Err(refusal) => {
-                return Answer {
-                    status: status_of(&refusal.error),
-                    parsed: messages,
-                    len: sum,
-                };
-            }
+            Err(refusal) => return answered(status_of(&refusal.error), messages, sum),
         }
     }
-    Answer {
-        status: OK,
-        parsed: messages,
-        len: sum,
-    }
+    answered(OK, messages, sum)
 }
 
 /// Feeds the stream to a `CobsDecoder` one byte after another, up to the first refusal.
@@ -122,18 +101,25 @@ pub extern "C" fn bench_feed_each(stream: &[u8], dest: &mut [u8]) -> Answer
                 messages = usize::saturating_add(messages, 1);
                 sum = usize::saturating_add(sum, n);
             }
-            Err(error) => {
-                return Answer {
-                    status: status_of(&error),
-                    parsed: messages,
-                    len: sum,
-                };
-            }
+            Err(error) => return answered(status_of(&error), messages, sum),
         }
     }
-    Answer {
-        status: OK,
-        parsed: messages,
-        len: sum,
-    }
+    answered(OK, messages, sum)
+}
+
+/// Makes a decoder that the caller keeps one that has taken nothing.
+#[unsafe(no_mangle)]
+pub extern "C" fn bench_decoder_reset(decoder: &mut UnbufferedDecoder)
+    ensures { phase_of decoder.new ≡ Idle }
+{
+    decoder.reset();
+}
+
+/// Feeds one byte to a decoder that the caller keeps, over the caller's buffer.
+#[unsafe(no_mangle)]
+pub extern "C" fn bench_feed(decoder: &mut UnbufferedDecoder, buffer: &mut [u8], byte: u8) -> Fed
+    ensures { Feeds buffer.old (phase_of decoder.old) byte (told result)
+        buffer.new (phase_of decoder.new) }
+{
+    fed_of(decoder.feed(buffer, byte))
 }

@@ -79,7 +79,8 @@ pub enum DecoderPhase {
 /// ```
 // No field says whether a piece has begun: a code at its front is taken as one after a full block is, which no zero
 // joins to anything. So a byte that is no zero asks what its block lacks and, where it is a code, whether the block
-// before it was full, and nothing else.
+// before it was full, and nothing else. It is `repr(C)`, so that a function for C can take one by reference.
+#[repr(C)]
 #[derive(Debug, Drop)]
 pub struct UnbufferedDecoder {
     /// How many bytes of this piece's output are written.

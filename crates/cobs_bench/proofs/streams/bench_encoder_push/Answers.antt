@@ -50,7 +50,7 @@ returns-in-Err-clause-next c = λ lt.
     let n = c.next_len-len.ensures in
     let short = next-within c.args.chunk c.next_len-len.result (length source - at) source n.all n.chunk (omega arith) in
     let longer = encoded_len-front end (at + chunk_len c.args.chunk source) source (omega arith) in
-    omega (arith, refused)
+    rw c.answered-in-Err.ensures (omega (arith, refused))
 
 pub returns-in-Err-clause-frame : goal.returns-in-Err-clause-frame
 returns-in-Err-clause-frame c = λ some.
@@ -62,4 +62,4 @@ returns-in-Err-clause-frame c = λ some.
     let done = c.finalize.ensures.frame m taken in
     let made = c.new-encoder.ensures.same_slice in
     let pushed = c.in-Err.ensures.same_slice in
-    subst (λ (l : List ℕ). IsEncodedFrame (take c.finalize.result l) m) (grind arith) done
+    rw c.answered-in-Err.ensures (subst (λ (l : List ℕ). IsEncodedFrame (take c.finalize.result l) m) (grind arith) done)

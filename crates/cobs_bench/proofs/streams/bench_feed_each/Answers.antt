@@ -19,7 +19,8 @@ returns-in-Err c =
     record {
       tallied = let whole : take i stream ++ get_or stream i 0 ∷ drop (i + 1) stream ≡ stream =
           ap (λ (x : List ℕ). take i stream ++ x) (sym (drop_more stream i 0 c.by_byte-test.true)) ∙ take-append-drop i stream in
-          ap (λ (v : ℕ). record { status = v; parsed = c.by_byte.messages; len = c.by_byte.sum }) c.status_of.ensures
+          c.answered.ensures
+          ∙ ap (λ (v : ℕ). record { status = v; parsed = c.by_byte.messages; len = c.by_byte.sum }) c.status_of.ensures
           ∙ fed-refused _ (take i stream) c.by_byte.messages c.by_byte.sum c.by_byte.invariant (get_or stream i 0) c.feed.ensures.feeds (drop (i + 1) stream) c.in-Err.error c.in-Err.is
           ∙ ap (λ (x : List ℕ). tallied 0 0 (outcomes_to_end x (length c.args.dest.now))) whole;
     }

@@ -88,7 +88,8 @@ returns-in-Err c =
     let end : ℕ = c.if-at-end.end in
     let some : at < end = elim c.if-at-end.branch [ then-at-end w ↦ omega arith | else-at-end w ↦ omega arith ] in
     record {
-      tallied = ap (λ (v : ℕ). record { status = v; parsed = c.by_push.messages; len = c.by_push.sum }) c.status_of.ensures
+      tallied = c.answered.ensures
+          ∙ ap (λ (v : ℕ). record { status = v; parsed = c.by_push.messages; len = c.by_push.sum }) c.status_of.ensures
           ∙ pushed-refused _ (take at stream) c.by_push.messages c.by_push.sum i.tally (take (end - at) (drop at stream)) c.push.result c.push.ensures.pushes c.in-Err.refusal c.in-Err.is (drop end stream)
           ∙ ap (λ (x : List ℕ). tallied 0 0 (outcomes_to_end x (length c.args.dest.now))) (take-rest at end stream (omega arith));
     }
