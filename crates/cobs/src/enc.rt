@@ -17,7 +17,7 @@ pub(crate) use blocks::FULL_CODE;
 use blocks::{Progress, append, append_last, close};
 pub use encoder::CobsEncoder;
 pub use error::DestBufTooSmallError;
-use room::fits;
+use room::fits_any;
 pub(crate) use sentinel::xor_bytes;
 pub use sentinel::{
     encode_including_sentinels, encode_with_sentinel, try_encode_including_sentinels,
@@ -93,7 +93,24 @@ pub fn try_encode(source: &[u8], dest: &mut [u8]) -> Result<usize, DestBufTooSma
     ensures rest { IfOk result (λ n. drop n dest.new ≡ drop n dest.old) }
     ensures refused { OnErr result (dest.new ≡ dest.old) }
 {
-    if !fits(1, source, dest.len()) {
+    if source.len() < dest.len().min(FULL_CODE) {
+        return Ok(encode(source, dest));
+    }
+    try_encode_long(source, dest)
+}
+
+/// Does what [`try_encode`] does, for messages that may fill a block, or may not fit: a function of its own, so that a
+/// short message doesn't pay for the question.
+#[inline(never)]
+fn try_encode_long(source: &[u8], dest: &mut [u8]) -> Result<usize, DestBufTooSmallError>
+    ensures fits { IsOk result ↔ (encoded_len source.now ≤ length dest.old) }
+    ensures frame { IfOk result (λ n. IsEncodedFrame (take n dest.new) source.now) }
+    ensures no_sentinel { IfOk result (λ n. HasNoZero (take n dest.new)) }
+    ensures len { IfOk result (λ n. n ≡ encoded_len source.now) }
+    ensures rest { IfOk result (λ n. drop n dest.new ≡ drop n dest.old) }
+    ensures refused { OnErr result (dest.new ≡ dest.old) }
+{
+    if !fits_any(1, source, dest.len()) {
         return Err(DestBufTooSmallError);
     }
     Ok(encode(source, dest))

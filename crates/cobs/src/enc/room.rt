@@ -28,7 +28,7 @@ pub(crate) fn fits(code: usize, source: &[u8], room: usize) -> bool
 /// The same question, of a source of any length. Most of the time the lengths alone answer it: the frame is longest
 /// where no byte is a zero, and shortest where no block becomes full.
 #[inline(never)]
-fn fits_any(code: usize, source: &[u8], room: usize) -> bool
+pub(crate) fn fits_any(code: usize, source: &[u8], room: usize) -> bool
     requires some { 0 < code }
     requires open_block { code < 255 }
     ensures fits { IsTrue result ↔ (open_len code source.now ≤ room) }

@@ -1,0 +1,13 @@
+use Rattle.std.proofs.Common.{refl, arith}
+use Rattle.cobs.proofs.LengthLemmas.{encoded_len-le}
+use Rattle.cobs.proofs.enc.try_encode.Goals as goal
+
+pub encode-requires : goal.encode-requires
+encode-requires c =
+    let most = encoded_len-le c.args.source.now in
+    omega arith
+
+pub returns-then-source-min-clause-fits : goal.returns-then-source-min-clause-fits
+returns-then-source-min-clause-fits c =
+    let most = encoded_len-le c.args.source.now in
+    (λ t. omega arith, λ le. refl)
