@@ -9,6 +9,7 @@ use Rattle.cobs.specs.Stream.{Outcome, Message, Broken, TooLong, is_nonempty, un
 use Rattle.cobs_lines.specs.Lines.{outcome_line}
 use Rattle.cobs_watch.specs.declared.shown.Style.{Style}
 use Rattle.cobs_watch.specs.declared.shown.Style.TheVariants.{Hex, Text, Raw}
+use Rattle.cobs_watch.specs.declared.tally.Tally.{Tally}
 
 -- whether the bytes are UTF-8 without control characters
 abbrev pub is_plain : List ℕ → Bool
@@ -47,3 +48,8 @@ shown_end Raw true = []
 -- what is shown of a stream that has come to its end
 abbrev pub shown_stream : Style → ℕ → List ℕ → List ℕ
 shown_stream style n stream = shown_pieces style n stream ++ shown_end style (is_nonempty (unended stream))
+
+-- the text of how much came
+abbrev pub tally_text : Tally → List ℕ
+tally_text tally =
+    codes "messages " ++ decimal tally.messages ++ codes ", broken " ++ decimal tally.broken ++ codes ", too long " ++ decimal tally.too_long ++ codes ", bytes " ++ decimal tally.bytes

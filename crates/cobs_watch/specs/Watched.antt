@@ -1,6 +1,9 @@
 -- What a run has read, and what it has written of it.
-use Rattle.std.specs.Prelude.{ℕ, ◌≡◌, ◌≤◌, Bool, List, [], ◌++◌, length, Option, Result, Ok, Err}
+use Rattle.std.specs.Prelude.{ℕ, ◌≡◌, ◌≢◌, ◌⊎◌, ◌≤◌, Bool, List, [], ◌++◌, length, Option, Result, Ok, Err}
 use Rattle.std.specs.Io.KnownBytes.{Appends, Consumes, IsAtEnd, Keeps}
+use Rattle.std.specs.IoError.{error_kind}
+use Rattle.std.specs.declared.io.Error.{Error}
+use Rattle.std.specs.declared.io.ErrorKind.TheVariants.{BrokenPipe}
 use Rattle.cobs.specs.Sentinel.{xor_each}
 use Rattle.cobs.specs.Stream.{is_nonempty, unended}
 use Rattle.cobs.specs.NextFrame.{ReaderState, IsBehind}
@@ -33,6 +36,10 @@ HasShown settings (Err ReadFailed) from to before after =
 HasShown settings (Err OutOfMemory) from to before after = Keeps from to × Keeps before after
 HasShown settings (Err WriteFailed) from to before after = Unit {0}
 HasShown settings (Err OutputClosed) from to before after = Unit {0}
+
+-- the fault of a write that failed: where its pipe was closed, nobody reads the output any more
+abbrev pub IsWriteFault : Error → WatchFault → Type 0
+IsWriteFault error fault = ((error_kind error ≡ BrokenPipe) × (fault ≡ OutputClosed)) ⊎ ((error_kind error ≢ BrokenPipe) × (fault ≡ WriteFailed))
 
 -- INSIDE A RUN
 

@@ -35,10 +35,9 @@ impl From<AllocError> for WatchFault {
 }
 
 impl From<io::Error> for WatchFault {
-    ghost use Rattle.std.specs.Prelude.{◌≡◌, ◌⊎◌};
-    ghost use Rattle.cobs_watch.specs.declared.fault.WatchFault.TheVariants.{WriteFailed, OutputClosed};
+    ghost use Rattle.cobs_watch.specs.Watched.{IsWriteFault};
 
-    ghost from_gives = { λ _ fault. (fault ≡ WriteFailed) ⊎ (fault ≡ OutputClosed) };
+    ghost from_gives = { IsWriteFault };
 
     /// The fault of a write that failed.
     fn from(error: io::Error) -> WatchFault {

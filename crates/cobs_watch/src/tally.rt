@@ -1,4 +1,6 @@
 //! How much came.
+ghost use Rattle.std.specs.Prelude.{◌≡◌};
+
 use std::fmt;
 
 /// How many messages, broken pieces, pieces that were too long, and bytes came. Each number stops at `u64::MAX`.
@@ -12,7 +14,9 @@ pub struct Tally {
 
 impl Tally {
     /// Nothing has come.
-    pub fn new() -> Self {
+    pub fn new() -> Self
+        ensures none { result ≡ record { messages = 0; broken = 0; too_long = 0; bytes = 0 } }
+    {
         Tally {
             messages: 0,
             broken: 0,
@@ -23,6 +27,11 @@ impl Tally {
 }
 
 impl fmt::Display for Tally {
+    ghost use Rattle.std.specs.Prelude.{Some};
+    ghost use Rattle.cobs_watch.specs.Shown.{tally_text};
+
+    ghost output = { λ tally. Some (tally_text tally) };
+
     fn fmt<W: fmt::Write>(&self, f: &mut fmt::Formatter<W>) -> fmt::Result {
         let Tally {
             messages,
