@@ -95,8 +95,8 @@ clauses_of() {
 # open_goals: the names of what the last check left without a proof, one a line
 open_goals() {
     grep -E '^(note: )?(\./)?(src|proofs)/' "$copy/log" |
-        sed -n -E 's/.*Answers\.antt:[0-9:]* error: `([^`]+)`:.*/\1/p; s/.*it is not proved .*\(`([^`]+)`\).*/\1/p; s/.*was not checked: (.*)/\1/p' |
-        tr -d ' `' | tr ',' '\n' | sort -u
+        sed -n -E 's/.*Answers\.antt:[0-9:]* error: `([^`]+)`:.*/\1/p; s/.*it is not proved .*\(`([^`]+)`\).*/\1/p; s/.*(was|were) not checked: (.*)/\2/p' |
+        sed -E 's/ \(via [^)]*\)//g; s/ and [0-9]+ more$//' | tr -d ' `' | tr ',' '\n' | sort -u
 }
 
 # in_line: the words, one a line, side by side

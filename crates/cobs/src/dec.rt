@@ -45,31 +45,6 @@ pub use unbuffered::{DecoderPhase, UnbufferedDecoder};
 pub use vector::{decode_vec, decode_vec_with_sentinel};
 pub use write_buffer::WriteBuffer;
 
-/// Decodes the first piece of the source.
-fn decode_first(source: &[u8], dest: &mut [u8]) -> Result<DecodeReport, DecodeError>
-    ensures answer { result ≡ decode_answer source.now (length dest.old) }
-    ensures buffer { dest.new ≡ overwritten dest.old (first_output source.now) }
-{
-    if source.is_empty() {
-        return Err(DecodeError::EmptyFrame);
-    }
-    let start = leading_zeros(source);
-    let rest = &source[start..];
-    if rest.is_empty() {
-        return Err(DecodeError::InvalidFrame { decoded_bytes: 0 });
-    }
-    if copy_short(rest, dest) {
-        let frame_size = decode_copied(rest, dest)?;
-        return Ok(DecodeReport::new(source.len(), frame_size));
-    }
-    let front = decode_front(rest, dest);
-    let len = front.read + piece_len(&rest[front.read..]);
-    let frame_size = finish_piece(&rest[..len], dest, front.read, front.written)?;
-    let end = start + len;
-    let parsed_size = if end < source.len() { end + 1 } else { end };
-    Ok(DecodeReport::new(parsed_size, frame_size))
-}
-
 /// Decodes the first frame of the source into `dest`, and answers how many bytes were consumed and how many the
 /// message has.
 ///
@@ -104,5 +79,22 @@ pub fn decode(source: &[u8], dest: &mut [u8]) -> Result<DecodeReport, DecodeErro
     ensures reads { IsPiece source.now → (m : List ℕ)
         → (ReportsMessage result dest.new m ↔ (Reads source.now m × (length m ≤ length dest.old))) }
 {
-    decode_first(source, dest)
+    if source.is_empty() {
+        return Err(DecodeError::EmptyFrame);
+    }
+    let start = leading_zeros(source);
+    let rest = &source[start..];
+    if rest.is_empty() {
+        return Err(DecodeError::InvalidFrame { decoded_bytes: 0 });
+    }
+    if copy_short(rest, dest) {
+        let frame_size = decode_copied(rest, dest)?;
+        return Ok(DecodeReport::new(source.len(), frame_size));
+    }
+    let front = decode_front(rest, dest);
+    let len = front.read + piece_len(&rest[front.read..]);
+    let frame_size = finish_piece(&rest[..len], dest, front.read, front.written)?;
+    let end = start + len;
+    let parsed_size = if end < source.len() { end + 1 } else { end };
+    Ok(DecodeReport::new(parsed_size, frame_size))
 }

@@ -162,23 +162,6 @@ fn len_without_end(source: &[u8], sentinel: u8) -> usize
     }
 }
 
-/// Decodes what stands before the first sentinel of the source.
-fn decode_source(source: &[u8], dest: &mut [u8], sentinel: u8) -> Result<usize, DecodeError>
-    ensures answer { result ≡ source_answer (xor_each sentinel source.now) (length dest.old) }
-    ensures buffer { dest.new ≡ overwritten dest.old
-        (kept_output (head (xor_each sentinel source.now))) }
-{
-    if source.is_empty() {
-        return Err(DecodeError::EmptyFrame);
-    }
-    let len = len_without_end(source, sentinel);
-    if decode_short(&source[..len], dest, sentinel) {
-        return Ok(len - 1);
-    }
-    let end = first_sentinel(source, sentinel);
-    decode_fronts(&source[..end], dest, sentinel)
-}
-
 /// Decodes the frame at the front of the source, where the sentinel may be any byte, and answers the message's length.
 ///
 /// The source alone is read, up to its first sentinel or its end; each byte is taken by exclusive or with the sentinel.
@@ -213,5 +196,13 @@ pub fn decode_with_sentinel(
     ensures reads { let f = xor_each sentinel source.now in IsPiece f → (m : List ℕ)
         → (AnswersMessage result dest.new m ↔ (Reads f m × (length m ≤ length dest.old))) }
 {
-    decode_source(source, dest, sentinel)
+    if source.is_empty() {
+        return Err(DecodeError::EmptyFrame);
+    }
+    let len = len_without_end(source, sentinel);
+    if decode_short(&source[..len], dest, sentinel) {
+        return Ok(len - 1);
+    }
+    let end = first_sentinel(source, sentinel);
+    decode_fronts(&source[..end], dest, sentinel)
 }
