@@ -11,7 +11,7 @@ use Rattle.cobs.specs.Piece.{output, lacks, last_part}
 use Rattle.cobs.specs.Stream.{Outcome, stream_outcomes, unended, is_nonempty}
 use Rattle.cobs.specs.Feed.{Phase, Idle, Within, Over, DecoderAfter, phase_after}
 use Rattle.cobs.specs.FeedPiece.{outcome_at, TakesPiece}
-use Rattle.cobs.specs.NextFrame.{Read, bytes_given, GaveBytes, all_given, EndsIn, Runs, CallsForMore, EachCalledFor, EndsFirst, ReaderState, IsBehind, AtStreamEnd, Tells, ReadsNext}
+use Rattle.cobs.specs.NextFrame.{Read, bytes_given, GaveBytes, all_given, EndsIn, Runs, CallsForMore, EachCalledFor, EndsFirst, ReaderState, ReaderAfter, AtStreamEnd, Tells, ReadsNext}
 use Rattle.cobs.specs.Internal.KeptBytes.{EndsFirstIn, DecoderHasTaken, IsOutcome, TellsFirst}
 use Rattle.cobs.specs.declared.framed.Next.{Next}
 use Rattle.cobs.specs.declared.framed.Next.TheVariants as nexts
@@ -123,13 +123,13 @@ pub record Going {S : Type 0} (step : S → Read → S → Type 0) (from to : S)
   pub runs : Runs step from reads to
   pub count_is : length reads ≡ count
   pub gave : All GaveBytes reads
-  pub at_end : (p : List ℕ) → IsBehind reader₀ p → AtStreamEnd (p ++ reader₀.kept ++ all_given reads) reader
-  pub flag : (p : List ℕ) → IsBehind reader₀ p → unfinished ≡ is_nonempty (unended (p ++ reader₀.kept ++ all_given reads))
+  pub at_end : (p : List ℕ) → ReaderAfter reader₀ p → AtStreamEnd (p ++ reader₀.kept ++ all_given reads) reader
+  pub flag : (p : List ℕ) → ReaderAfter reader₀ p → unfinished ≡ is_nonempty (unended (p ++ reader₀.kept ++ all_given reads))
   pub len : length reader.buffer ≡ length reader₀.buffer
 
 -- before any read
 pub Going-start : {S : Type 0} (step : S → Read → S → Type 0) (source : S) (reader₀ reader : ReaderState) (unfinished : Bool)
-    → ((p : List ℕ) → IsBehind reader₀ p → AtStreamEnd (p ++ reader₀.kept) reader × (unfinished ≡ is_nonempty (unended (p ++ reader₀.kept))))
+    → ((p : List ℕ) → ReaderAfter reader₀ p → AtStreamEnd (p ++ reader₀.kept) reader × (unfinished ≡ is_nonempty (unended (p ++ reader₀.kept))))
     → length reader.buffer ≡ length reader₀.buffer → Going step source source reader₀ reader unfinished 0
 Going-start step source reader₀ reader unfinished h len = record {
   reads = [];
@@ -145,7 +145,7 @@ some_is_none : (bytes : List ℕ) → Some bytes ≡ None → ⊥
 some_is_none bytes e = cc
 
 module _ {S : Type 0} {step : S → Read → S → Type 0} {from to : S} {reader₀ reader : ReaderState} {unfinished : Bool} {count : ℕ} where
-  more_called_for : count < 65536 → (g : Going step from to reader₀ reader unfinished count) → (p : List ℕ) → IsBehind reader₀ p → CallsForMore (p ++ reader₀.kept) (length reader₀.buffer) g.reads
+  more_called_for : count < 65536 → (g : Going step from to reader₀ reader unfinished count) → (p : List ℕ) → ReaderAfter reader₀ p → CallsForMore (p ++ reader₀.kept) (length reader₀.buffer) g.reads
   more_called_for few g p b = record { few = omega (arith, g.count_is); gave = g.gave; none_ended = ap (stream_outcomes (p ++ reader₀.kept ++ all_given g.reads)) (sym g.len) ∙ (g.at_end p b).none_ended }
 
   -- a read that gave nothing leaves the stream as it is
@@ -153,8 +153,8 @@ module _ {S : Type 0} {step : S → Read → S → Type 0} {from to : S} {reader
   nothing_more g read none p = given-push (p ++ reader₀.kept) g.reads read ∙ ap (λ (x : List ℕ). p ++ reader₀.kept ++ all_given g.reads ++ x) none ∙ append-nil _
 
   -- the stream has come to its end, and the chunk is empty
-  emptied : (kept : List ℕ) → kept ≡ [] → (g : Going step from to reader₀ reader unfinished count) → (p : List ℕ) → IsBehind reader₀ p → AtStreamEnd (p ++ reader₀.kept ++ all_given g.reads) (record reader { kept = kept })
-  emptied kept e g p b = let end = g.at_end p b in record { none_ended = end.none_ended; behind = end.behind; nothing_kept = e }
+  emptied : (kept : List ℕ) → kept ≡ [] → (g : Going step from to reader₀ reader unfinished count) → (p : List ℕ) → ReaderAfter reader₀ p → AtStreamEnd (p ++ reader₀.kept ++ all_given g.reads) (record reader { kept = kept })
+  emptied kept e g p b = let end = g.at_end p b in record { none_ended = end.none_ended; after = end.after; nothing_kept = e }
 
   -- WHERE THE SOURCE GIVES NO MORE
 
@@ -184,7 +184,7 @@ module _ {S : Type 0} {step : S → Read → S → Type 0} {from to : S} {reader
 
 -- an outcome is told
 Tells-outcome : (next : Next) (reads : List Read) (t : List ℕ) (reader : ReaderState) (outcome : Outcome)
-    → IsOutcome next reader.buffer outcome → EndsFirst t (length reader.buffer) outcome reader.kept → IsBehind reader [] → Tells (Ok next) reads t reader
+    → IsOutcome next reader.buffer outcome → EndsFirst t (length reader.buffer) outcome reader.kept → ReaderAfter reader [] → Tells (Ok next) reads t reader
 Tells-outcome (nexts.Message n) reads t reader outcome i w b = (record { first = subst (λ o. EndsFirst t (length reader.buffer) o reader.kept) i.0 w; idle = b }, i.1)
 Tells-outcome (nexts.Broken n) reads t reader outcome i w b = record { first = subst (λ o. EndsFirst t (length reader.buffer) o reader.kept) i w; idle = b }
 Tells-outcome nexts.TooLong reads t reader outcome i w b = record { first = subst (λ o. EndsFirst t (length reader.buffer) o reader.kept) i w; idle = b }
@@ -192,12 +192,12 @@ Tells-outcome (nexts.End unfinished) reads t reader outcome i w b = absurd i
 
 -- the first piece that ends in some bytes is told, behind a stream in which none has ended
 Tells-first : (next : Next) (reads : List Read) (t bytes : List ℕ) (reader : ReaderState) → stream_outcomes t (length reader.buffer) ≡ []
-    → TellsFirst next (unended t) bytes reader.buffer reader.kept → IsBehind reader [] → Tells (Ok next) reads (t ++ bytes) reader
+    → TellsFirst next (unended t) bytes reader.buffer reader.kept → ReaderAfter reader [] → Tells (Ok next) reads (t ++ bytes) reader
 Tells-first next reads t bytes reader none w b = Tells-outcome next reads (t ++ bytes) reader w.outcome w.is (EndsFirst-behind t none w.first) b
 
 -- the kept bytes end a piece: nothing is read
 pub ReadsNext-kept : {S : Type 0} (step : S → Read → S → Type 0) (source : S) (reader reader' : ReaderState) (next : Next)
-    → ((p : List ℕ) → IsBehind reader p → TellsFirst next p reader.kept reader'.buffer reader'.kept) → IsBehind reader' []
+    → ((p : List ℕ) → ReaderAfter reader p → TellsFirst next p reader.kept reader'.buffer reader'.kept) → ReaderAfter reader' []
     → ReadsNext step source source reader (Ok next) reader'
 ReadsNext-kept step source reader reader' next h idle = record {
   reads = [];
@@ -218,14 +218,14 @@ AtStreamEnd-more : (t bytes : List ℕ) (reader reader' : ReaderState) → lengt
 AtStreamEnd-more t bytes reader reader' len before more = record {
   none_ended = stream_outcomes-append t bytes (length reader'.buffer)
       ∙ ap (λ (x : List Outcome). x ++ stream_outcomes (unended t ++ bytes) (length reader'.buffer)) (ap (stream_outcomes t) len ∙ before.none_ended) ∙ more.none_ended;
-  behind = rw (unended-append t bytes) more.behind;
+  after = rw (unended-append t bytes) more.after;
   nothing_kept = more.nothing_kept;
 }
 
 module _ {S : Type 0} {step : S → Read → S → Type 0} {from to to' : S} {reader₀ reader reader' : ReaderState} {unfinished : Bool} {count : ℕ} where
   -- the bytes that were read end a piece
   pub ReadsNext-piece : (bytes : List ℕ) (next : Next) → count < 65536 → Going step from to reader₀ reader unfinished count → step to (Some bytes) to' → length reader'.buffer ≡ length reader.buffer
-      → ((q : List ℕ) → IsBehind reader q → TellsFirst next q bytes reader'.buffer reader'.kept) → IsBehind reader' []
+      → ((q : List ℕ) → ReaderAfter reader q → TellsFirst next q bytes reader'.buffer reader'.kept) → ReaderAfter reader' []
       → ReadsNext step from to' reader₀ (Ok next) reader'
   ReadsNext-piece bytes next few g s len h idle = record {
     reads = g.reads ++ Some bytes ∷ [];
@@ -235,12 +235,12 @@ module _ {S : Type 0} {step : S → Read → S → Type 0} {from to to' : S} {re
     tells = λ p b.
         let t = p ++ reader₀.kept ++ all_given g.reads in
         let end = g.at_end p b in
-        rw (given-push (p ++ reader₀.kept) g.reads (Some bytes)) (Tells-first next _ t bytes reader' (ap (stream_outcomes t) len ∙ end.none_ended) (h _ end.behind) idle);
+        rw (given-push (p ++ reader₀.kept) g.reads (Some bytes)) (Tells-first next _ t bytes reader' (ap (stream_outcomes t) len ∙ end.none_ended) (h _ end.after) idle);
   }
 
   -- they end none, and the call goes on
   pub Going-push : (bytes : List ℕ) (unfinished' : Bool) → bytes ≢ [] → Going step from to reader₀ reader unfinished count → step to (Some bytes) to' → length reader'.buffer ≡ length reader.buffer
-      → ((q : List ℕ) → IsBehind reader q → AtStreamEnd (q ++ bytes) reader' × (unfinished' ≡ is_nonempty (unended (q ++ bytes))))
+      → ((q : List ℕ) → ReaderAfter reader q → AtStreamEnd (q ++ bytes) reader' × (unfinished' ≡ is_nonempty (unended (q ++ bytes))))
       → Going step from to' reader₀ reader' unfinished' (count + 1)
   Going-push bytes unfinished' some g s len h = record {
     reads = g.reads ++ Some bytes ∷ [];
@@ -251,10 +251,10 @@ module _ {S : Type 0} {step : S → Read → S → Type 0} {from to to' : S} {re
         let t = p ++ reader₀.kept ++ all_given g.reads in
         let end = g.at_end p b in
         rw (given-push (p ++ reader₀.kept) g.reads (Some bytes))
-        (AtStreamEnd-more t bytes reader reader' len end (h _ end.behind).0);
+        (AtStreamEnd-more t bytes reader reader' len end (h _ end.after).0);
     flag = λ p b.
         let t = p ++ reader₀.kept ++ all_given g.reads in
-        rw (given-push (p ++ reader₀.kept) g.reads (Some bytes), unended-append t bytes) (h _ (g.at_end p b).behind).1;
+        rw (given-push (p ++ reader₀.kept) g.reads (Some bytes), unended-append t bytes) (h _ (g.at_end p b).after).1;
     len = len ∙ g.len;
   }
 

@@ -60,11 +60,11 @@ EachCalledFor front n reads =
 
 -- the first piece that ends in the stream t comes to this outcome, in a buffer of n bytes, and these bytes stand
 -- after the zero that ends it
-pub record EndsFirst (t : List ℕ) (n : ℕ) (outcome : Outcome) (behind : List ℕ) : Type 0 where
+pub record EndsFirst (t : List ℕ) (n : ℕ) (outcome : Outcome) (rest : List ℕ) : Type 0 where
   pub front : List ℕ
-  pub cut : t ≡ front ++ 0 ∷ behind
+  pub cut : t ≡ front ++ 0 ∷ rest
   pub none_before : stream_outcomes front n ≡ []
-  pub outcomes : stream_outcomes t n ≡ outcome ∷ stream_outcomes behind n
+  pub outcomes : stream_outcomes t n ≡ outcome ∷ stream_outcomes rest n
 
 -- what contracts see of a `FrameReader`: its decoder's buffer and phase, and the bytes that it has read but not fed
 pub record ReaderState : Type 0 where
@@ -73,19 +73,19 @@ pub record ReaderState : Type 0 where
   pub kept : List ℕ
 
 -- the decoder of the reader has taken the front p of a piece
-abbrev pub IsBehind : ReaderState → List ℕ → Type 0
-IsBehind reader p = DecoderAfter reader.buffer reader.phase p
+abbrev pub ReaderAfter : ReaderState → List ℕ → Type 0
+ReaderAfter reader p = DecoderAfter reader.buffer reader.phase p
 
 -- a piece has ended in the stream t, and the reader stands at its end: the decoder is idle, and what follows is kept
 pub record AtPieceEnd (t : List ℕ) (outcome : Outcome) (reader : ReaderState) : Type 0 where
   pub first : EndsFirst t (length reader.buffer) outcome reader.kept
-  pub idle : IsBehind reader []
+  pub idle : ReaderAfter reader []
 
 -- no piece has ended in the stream t, and the reader stands at the end of t: the decoder has taken it, and nothing is
 -- kept
 pub record AtStreamEnd (t : List ℕ) (reader : ReaderState) : Type 0 where
   pub none_ended : stream_outcomes t (length reader.buffer) ≡ []
-  pub behind : IsBehind reader (unended t)
+  pub after : ReaderAfter reader (unended t)
   pub nothing_kept : reader.kept ≡ []
 
 -- what an answer tells of the reads and of the stream t that they brought, and how it leaves the reader
@@ -109,5 +109,5 @@ pub record ReadsNext {S : Type 0} (step : S → Read → S → Type 0) (source s
   pub failed : (result ≡ Err faults.Io) ↔ EndsIn reads None
   -- after each front p of a piece, the stream is p, what was kept, and what the reads gave; so nothing is read where
   -- p and the kept bytes end a piece
-  pub called_for : (p : List ℕ) → IsBehind reader p → EachCalledFor (p ++ reader.kept) (length reader.buffer) reads
-  pub tells : (p : List ℕ) → IsBehind reader p → Tells result reads (p ++ reader.kept ++ all_given reads) reader'
+  pub called_for : (p : List ℕ) → ReaderAfter reader p → EachCalledFor (p ++ reader.kept) (length reader.buffer) reads
+  pub tells : (p : List ℕ) → ReaderAfter reader p → Tells result reads (p ++ reader.kept ++ all_given reads) reader'

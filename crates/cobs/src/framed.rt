@@ -219,7 +219,7 @@ impl<D: FrameDecoder> FrameReader<D> {
     ghost use Rattle.std.specs.Prelude.{◌≡◌, ◌≤◌, ℕ, List, [], ◌++◌, length, drop, IfNone, IfSome, OnSome};
     ghost use Rattle.cobs.specs.Stream.{is_nonempty, unended};
     ghost use Rattle.cobs.specs.Feed.{DecoderAfter};
-    ghost use Rattle.cobs.specs.NextFrame.{AtStreamEnd, IsBehind, ReadsNext};
+    ghost use Rattle.cobs.specs.NextFrame.{AtStreamEnd, ReaderAfter, ReadsNext};
     ghost use Rattle.cobs.specs.Internal.KeptBytes.{TellsFirst, with_kept};
     ghost use Rattle.cobs.specs.Fields.Reader.{decoder_of, kept_of, reader_state};
 
@@ -262,15 +262,15 @@ impl<D: FrameDecoder> FrameReader<D> {
     /// Feeds bytes until a piece ends: what it comes to, and how many of the bytes were taken.
     fn feed_through_end(&mut self, bytes: &[u8]) -> Option<(Next, usize)>
         ensures none { IfNone result ((p : List ℕ)
-            → IsBehind (reader_state D.bytes D.phase self.old) p
+            → ReaderAfter (reader_state D.bytes D.phase self.old) p
             → AtStreamEnd (p ++ bytes.now) (with_kept [] (reader_state D.bytes D.phase self.new))
             × (self.new.unfinished ≡ is_nonempty (unended (p ++ bytes.now)))) }
         ensures first { IfSome result (λ found. (p : List ℕ)
-            → IsBehind (reader_state D.bytes D.phase self.old) p
+            → ReaderAfter (reader_state D.bytes D.phase self.old) p
             → TellsFirst found.0 p bytes.now
             (D.bytes (decoder_of self.new)) (drop found.1 bytes.now)) }
         ensures within { IfSome result (λ found. found.1 ≤ length bytes.now) }
-        ensures idle { OnSome result (IsBehind (reader_state D.bytes D.phase self.new) []) }
+        ensures idle { OnSome result (ReaderAfter (reader_state D.bytes D.phase self.new) []) }
         ensures len { length (D.bytes (decoder_of self.new))
             ≡ length (D.bytes (decoder_of self.old)) }
         ensures same_loan { D.loan (decoder_of self.new) ≡ D.loan (decoder_of self.old) }
@@ -293,14 +293,14 @@ impl<D: FrameDecoder> FrameReader<D> {
     /// Feeds the kept bytes until a piece ends.
     fn next_kept(&mut self) -> Option<Next>
         ensures none { IfNone result ((p : List ℕ)
-            → IsBehind (reader_state D.bytes D.phase self.old) p
+            → ReaderAfter (reader_state D.bytes D.phase self.old) p
             → AtStreamEnd (p ++ kept_of self.old) (reader_state D.bytes D.phase self.new)
             × (self.new.unfinished ≡ is_nonempty (unended (p ++ kept_of self.old)))) }
         ensures first { IfSome result (λ next. (p : List ℕ)
-            → IsBehind (reader_state D.bytes D.phase self.old) p
+            → ReaderAfter (reader_state D.bytes D.phase self.old) p
             → TellsFirst next p (kept_of self.old)
             (D.bytes (decoder_of self.new)) (kept_of self.new)) }
-        ensures idle { OnSome result (IsBehind (reader_state D.bytes D.phase self.new) []) }
+        ensures idle { OnSome result (ReaderAfter (reader_state D.bytes D.phase self.new) []) }
         ensures len { length (D.bytes (decoder_of self.new))
             ≡ length (D.bytes (decoder_of self.old)) }
         ensures same_loan { D.loan (decoder_of self.new) ≡ D.loan (decoder_of self.old) }

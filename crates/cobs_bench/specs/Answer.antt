@@ -8,7 +8,7 @@ use Rattle.cobs_bench.specs.declared.answer.Answer.{Answer}
 use Rattle.cobs_bench.specs.declared.answer.Fed.{Fed}
 use Rattle.cobs_bench.specs.declared.answer.TheConstants.{OK, TOO_SMALL, BROKEN, EMPTY, MORE}
 
--- the answer for a refusal, behind so many bytes that were consumed for good and so many that they gave
+-- the answer for a refusal, after so many bytes that were consumed for good and so many that they gave
 abbrev pub refusal_of : DecodeError → Answer
 refusal_of EmptyFrame = record { status = EMPTY; parsed = 0; len = 0 }
 refusal_of (InvalidFrame count) = record { status = BROKEN; parsed = 0; len = count }

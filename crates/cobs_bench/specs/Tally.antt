@@ -9,7 +9,7 @@ use Rattle.cobs_bench.specs.declared.answer.TheConstants.{OK, TOO_SMALL, BROKEN}
 abbrev pub chunk_len : ℕ → List ℕ → ℕ
 chunk_len chunk bytes = if chunk == 0 then length bytes else chunk
 
--- behind so many messages with so many bytes: the count of messages and the sum of their lengths, up to the first
+-- after so many messages with so many bytes: the count of messages and the sum of their lengths, up to the first
 -- outcome that is no message, which gives the status
 abbrev pub tallied : ℕ → ℕ → List Outcome → Answer
 tallied count sum [] = record { status = OK; parsed = count; len = sum }

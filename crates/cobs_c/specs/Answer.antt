@@ -19,7 +19,7 @@ answer_by consumed n (Err TargetBufTooSmall) = record { status = TOO_SMALL; cons
 abbrev pub head_end : List ℕ → ℕ
 head_end source = min (length source) (length (head source) + 1)
 
--- what the answer of a push tells: how a piece of the stream ended, and behind how many bytes
+-- what the answer of a push tells: how a piece of the stream ended, and after how many bytes
 abbrev pub told : Answer → Option (PieceEnd × ℕ)
 told answer =
     if answer.status == OK then Some (Message answer.length, answer.consumed)

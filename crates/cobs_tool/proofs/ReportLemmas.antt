@@ -3,7 +3,7 @@ use Rattle.std.proofs.Common.{◌≡◌, ◌+◌, ◌<◌, ◌≤◌, ℕ, Bool,
 use Rattle.std.proofs.lemmas.Fmt.{decimal_digit}
 use Rattle.std.specs.List.{flat_map}
 use Rattle.cobs.proofs.StreamLemmas.{stream_outcomes-append, unended-append, unended-zero}
-use Rattle.cobs.specs.NextFrame.{Read, Runs, EndsFirst, ReaderState, IsBehind, ReadsNext, AtPieceEnd, all_given}
+use Rattle.cobs.specs.NextFrame.{Read, Runs, EndsFirst, ReaderState, ReaderAfter, ReadsNext, AtPieceEnd, all_given}
 use Rattle.cobs.specs.Stream.{Outcome, Message, Broken, TooLong, is_nonempty, stream_outcomes, unended}
 use Rattle.cobs.specs.declared.framed.Next.TheVariants as nexts
 use Rattle.cobs.specs.declared.framed.ReadFault.{ReadFault}
@@ -68,7 +68,7 @@ left_of reader source = reader.kept ++ bytes_left source
 pub record PieceTold (reader : ReaderState) (source : InMemory) (reader' : ReaderState) (source' : InMemory) (outcome : Outcome) : Type 0 where
   pub told : report (left_of reader source) ≡ outcome_line outcome ++ report (left_of reader' source')
   pub fewer : length reader'.kept + length (bytes_left source') < length reader.kept + length (bytes_left source)
-  pub idle : IsBehind reader' []
+  pub idle : ReaderAfter reader' []
 
 -- what was still to be reported, by the bytes that the reads gave
 left_of-given : (reader : ReaderState) (source : InMemory) (reads : List Read) (source' : InMemory) → Runs MemoryStep source reads source'
@@ -93,20 +93,20 @@ PieceTold-from reader source reader' source' reads outcome len runs end =
 -- what each answer of a call tells, where the reader was idle
 
 pub message_told : (reader : ReaderState) (source : InMemory) (reader' : ReaderState) (source' : InMemory) (n : ℕ)
-    → ReadsNext MemoryStep source source' reader (Ok (nexts.Message n)) reader' → IsBehind reader [] → length reader'.buffer ≡ longest_message
+    → ReadsNext MemoryStep source source' reader (Ok (nexts.Message n)) reader' → ReaderAfter reader [] → length reader'.buffer ≡ longest_message
     → PieceTold reader source reader' source' (Message (take n reader'.buffer)) × (n ≤ length reader'.buffer)
 message_told reader source reader' source' n next idle len =
     let told = next.tells [] idle in
     (PieceTold-from reader source reader' source' next.reads _ len next.runs told.0, told.1)
 
 pub broken_told : (reader : ReaderState) (source : InMemory) (reader' : ReaderState) (source' : InMemory) (count : ℕ)
-    → ReadsNext MemoryStep source source' reader (Ok (nexts.Broken count)) reader' → IsBehind reader [] → length reader'.buffer ≡ longest_message
+    → ReadsNext MemoryStep source source' reader (Ok (nexts.Broken count)) reader' → ReaderAfter reader [] → length reader'.buffer ≡ longest_message
     → PieceTold reader source reader' source' (Broken count)
 broken_told reader source reader' source' count next idle len =
     PieceTold-from reader source reader' source' next.reads _ len next.runs (next.tells [] idle)
 
 pub too_long_told : (reader : ReaderState) (source : InMemory) (reader' : ReaderState) (source' : InMemory)
-    → ReadsNext MemoryStep source source' reader (Ok nexts.TooLong) reader' → IsBehind reader [] → length reader'.buffer ≡ longest_message
+    → ReadsNext MemoryStep source source' reader (Ok nexts.TooLong) reader' → ReaderAfter reader [] → length reader'.buffer ≡ longest_message
     → PieceTold reader source reader' source' TooLong
 too_long_told reader source reader' source' next idle len =
     PieceTold-from reader source reader' source' next.reads _ len next.runs (next.tells [] idle)
@@ -117,7 +117,7 @@ unfinished_text unfinished = if unfinished then codes "unfinished\n" else []
 
 -- nothing is left behind the end
 pub end_told : (reader : ReaderState) (source : InMemory) (reader' : ReaderState) (source' : InMemory) (unfinished : Bool)
-    → ReadsNext MemoryStep source source' reader (Ok (nexts.End unfinished)) reader' → IsBehind reader [] → length reader'.buffer ≡ longest_message
+    → ReadsNext MemoryStep source source' reader (Ok (nexts.End unfinished)) reader' → ReaderAfter reader [] → length reader'.buffer ≡ longest_message
     → report (left_of reader source) ≡ unfinished_text unfinished
 end_told reader source reader' source' unfinished next idle len =
     let t = reader.kept ++ all_given next.reads in
@@ -130,7 +130,7 @@ end_told reader source reader' source' unfinished next idle len =
 
 -- a call over 1 MiB or less meets no fault: no read fails, and one in 64 bytes is enough
 pub no_fault : (reader : ReaderState) (source : InMemory) (reader' : ReaderState) (source' : InMemory) (fault : ReadFault)
-    → ReadsNext MemoryStep source source' reader (Err fault) reader' → IsBehind reader [] → length (left_of reader source) ≤ max_input → ⊥
+    → ReadsNext MemoryStep source source' reader (Err fault) reader' → ReaderAfter reader [] → length (left_of reader source) ≤ max_input → ⊥
 no_fault reader source reader' source' faults.Io next idle few =
     let (earlier, last) = (next.tells [] idle).1 in
     never_fails source earlier source' (subst (λ reads. Runs MemoryStep source reads source') last next.runs)

@@ -11,7 +11,7 @@ use Rattle.cobs_tool.specs.declared.mode.Mode.TheVariants.{Show, Encode, Decode}
 abbrev pub WritesSome : (List ℕ → Type 0) → Option (List ℕ) → Option (List ℕ) → Type 0
 WritesSome P old new = (bytes : List ℕ) × P bytes × Appends old new bytes
 
--- the encoded frame of the message, and a zero behind it
+-- the encoded frame of the message, and a zero after it
 pub record IsTerminatedFrame (bytes message : List ℕ) : Type 0 where
   pub frame : List ℕ
   pub encoded : IsEncodedFrame frame message

@@ -8,7 +8,7 @@ use Rattle.cobs.specs.Stream.{is_nonempty, stream_outcomes, unended}
 abbrev pub longest_message : ℕ
 longest_message = 65536
 
--- the last line, where a piece has begun behind the last zero
+-- the last line, where a piece has begun after the last zero
 abbrev pub unfinished_line : List ℕ → List ℕ
 unfinished_line stream = if is_nonempty (unended stream) then codes "unfinished\n" else []
 

@@ -270,7 +270,7 @@ fn input_has_a_limit(rt: HostRuntime) -> Result<(), Fail> {
 }
 
 #[test]
-fn nothing_is_read_behind_the_first_byte_too_many(rt: HostRuntime) -> Result<(), Fail> {
+fn nothing_is_read_after_the_first_byte_too_many(rt: HostRuntime) -> Result<(), Fail> {
     let alloc = rt.alloc();
     let zeros = vec![in alloc; 0u8; 1_048_577]?;
     let mut input = ByteReader {

@@ -45,7 +45,7 @@ pub fn reads_for(sentinel: u8, piece: &[u8], message: &[u8], buffer: &mut [u8]) 
     }
 }
 
-/// Writes the frame of the message for the sentinel, and the sentinel behind it, and answers where that stands: it is
+/// Writes the frame of the message for the sentinel, and the sentinel after it, and answers where that stands: it is
 /// the first one in the buffer.
 pub fn write_ended(message: &[u8], dest: &mut [u8], sentinel: u8) -> usize
     requires { encoded_len message.now < length dest.old }
@@ -88,7 +88,7 @@ pub fn frame_between(alloc: Global, message: &[u8]) -> Result<Vec<u8>, AllocErro
     Vec::from_slice(alloc, &delimited[1..delimited.len() - 1])
 }
 
-/// The frame of the message and a zero behind it, which is the only one.
+/// The frame of the message and a zero after it, which is the only one.
 pub fn ended_frame(alloc: Global, message: &[u8]) -> Result<Vec<u8>, AllocError>
     requires { max_encoded_len (length message.now) < 2 ^ 64 }
     ensures { IfOk result (λ ended. (f : List ℕ) × HasNoZero f × (ended.items ≡ f ++ 0 ∷ [])) }
@@ -98,7 +98,7 @@ pub fn ended_frame(alloc: Global, message: &[u8]) -> Result<Vec<u8>, AllocError>
     Ok(frame)
 }
 
-/// The frame of the message for the sentinel, and the sentinel behind it, which stands nowhere else.
+/// The frame of the message for the sentinel, and the sentinel after it, which stands nowhere else.
 pub fn ended_frame_for(alloc: Global, sentinel: u8, message: &[u8]) -> Result<Vec<u8>, AllocError>
     requires { max_encoded_len (length message.now) < 2 ^ 64 }
     ensures { IfOk result (λ ended. (f : List ℕ) × IsFreeOf sentinel f

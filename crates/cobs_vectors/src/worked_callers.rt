@@ -141,7 +141,7 @@ fn a_caller_that_writes_to_the_buffer_inside_a_piece(rt: HostRuntime) {
 }
 
 #[test]
-fn a_piece_goes_on_behind_a_write(rt: HostRuntime) {
+fn a_piece_goes_on_after_a_write(rt: HostRuntime) {
     let mut buffer = [0; 3];
     let mut decoder = CobsDecoder::new(&mut buffer);
     assert_eq!(rt; decoder.feed(3), Ok(None));

@@ -10,7 +10,7 @@ use Rattle.std.specs.List.{flat_map}
 use Rattle.std.specs.Int.Bits.{bit_xor}
 use Rattle.cobs.specs.Sentinel.{xor_each}
 use Rattle.cobs.specs.Stream.{is_nonempty, stream_outcomes, unended}
-use Rattle.cobs.specs.NextFrame.{ReaderState, IsBehind}
+use Rattle.cobs.specs.NextFrame.{ReaderState, ReaderAfter}
 use Rattle.cobs.proofs.StreamLemmas.{stream_outcomes-append, stream_outcomes-no_zero, unended-append, unended-no_zero}
 use Rattle.cobs_watch.specs.Shown.{shown, shown_pieces, shown_end, shown_stream}
 use Rattle.cobs_watch.specs.declared.shown.Style.{Style}
@@ -25,7 +25,7 @@ shown_pieces-append : (style : Style) (n : ℕ) (t u : List ℕ) → shown_piece
 shown_pieces-append style n t u = ap (flat_map (shown style)) (stream_outcomes-append t u n) ∙ flat_map-append (shown style) (stream_outcomes t n) (stream_outcomes (unended t ++ u) n)
 
 -- before the first read
-pub HasShownSoFar-start : (settings : Settings) (from before : Option (List ℕ)) (reader : ReaderState) → reader.kept ≡ [] → IsBehind reader [] → length reader.buffer ≡ settings.length
+pub HasShownSoFar-start : (settings : Settings) (from before : Option (List ℕ)) (reader : ReaderState) → reader.kept ≡ [] → ReaderAfter reader [] → length reader.buffer ≡ settings.length
     → HasShownSoFar settings from from before before reader false
 HasShownSoFar-start settings from before reader kept idle len =
     let none : unended [] ≡ [] = unended-no_zero [] (All-nil (λ b. b ≢ 0)) in
@@ -33,7 +33,7 @@ HasShownSoFar-start settings from before reader kept idle len =
       bytes = [];
       read = Consumes-nil from;
       written = rw (stream_outcomes-no_zero [] settings.length (All-nil (λ b. b ≢ 0))) (Appends-nil before);
-      behind = rw none idle;
+      taken = rw none idle;
       flag = sym (ap is_nonempty none);
       kept = kept;
       len = len;
@@ -42,12 +42,12 @@ HasShownSoFar-start settings from before reader kept idle len =
 module _ {settings : Settings} {from to to' before after after' after'' : Option (List ℕ)} {reader reader' : ReaderState} {unfinished unfinished' : Bool} where
   -- more bytes
   pub HasShownSoFar-more : (more : List ℕ) (s : HasShownSoFar settings from to before after reader unfinished) → Consumes to to' more
-      → ((p : List ℕ) → IsBehind reader p → ShowsBytes settings.style reader reader' (xor_each settings.sentinel more) after after' unfinished' p)
+      → ((p : List ℕ) → ReaderAfter reader p → ShowsBytes settings.style reader reader' (xor_each settings.sentinel more) after after' unfinished' p)
       → reader'.kept ≡ [] → length reader'.buffer ≡ length reader.buffer → Keeps after' after'' → HasShownSoFar settings from to' before after'' reader' unfinished'
   HasShownSoFar-more more s r shows kept len flushed =
       let t = stream_of settings s.bytes in
       let u = xor_each settings.sentinel more in
-      let w = shows (unended t) s.behind in
+      let w = shows (unended t) s.taken in
       let whole : stream_of settings (s.bytes ++ more) ≡ t ++ u = map-append (λ b. bit_xor b settings.sentinel) s.bytes more in
       let left : unended (stream_of settings (s.bytes ++ more)) ≡ unended (unended t ++ u) = ap unended whole ∙ unended-append t u in
       record {
@@ -55,7 +55,7 @@ module _ {settings : Settings} {from to to' before after after' after'' : Option
         read = Consumes-trans from to to' s.bytes more s.read r;
         written = rw (whole, shown_pieces-append settings.style settings.length t u)
             (Appends-kept before after' after'' _ (Appends-trans before after after' _ _ s.written (subst (λ n. Appends after after' (shown_pieces settings.style n (unended t ++ u))) s.len w.written)) flushed);
-        behind = rw left w.behind;
+        taken = rw left w.taken;
         flag = w.flag ∙ sym (ap is_nonempty left);
         kept = kept;
         len = len ∙ s.len;

@@ -6,7 +6,7 @@ use Rattle.std.proofs.KnownBytes.{Appends-nil, Appends-trans}
 use Rattle.std.specs.Io.KnownBytes.{Appends}
 use Rattle.cobs.specs.Grammar.{HasNoZero}
 use Rattle.cobs.specs.Stream.{Outcome, Message, Broken, TooLong, is_nonempty, stream_outcomes, unended}
-use Rattle.cobs.specs.NextFrame.{Read, Runs, EndsFirst, ReaderState, IsBehind, ReadsNext, AtPieceEnd, all_given}
+use Rattle.cobs.specs.NextFrame.{Read, Runs, EndsFirst, ReaderState, ReaderAfter, ReadsNext, AtPieceEnd, all_given}
 use Rattle.cobs.specs.declared.framed.Next.TheVariants as nexts
 use Rattle.cobs.specs.declared.framed.ReadFault.{ReadFault}
 use Rattle.cobs.specs.declared.framed.ReadFault.TheVariants as faults
@@ -67,7 +67,7 @@ pub record PieceTold (style : Style) (q : List ℕ) (reader : ReaderState) (sour
   pub told : shown_pieces style (length reader'.buffer) (stream_left q reader source) ≡ shown style outcome ++ shown_pieces style (length reader'.buffer) (stream_left [] reader' source')
   pub rest : unended (stream_left q reader source) ≡ unended (stream_left [] reader' source')
   pub fewer : length reader'.kept + length (bytes_left source') < length reader.kept + length (bytes_left source)
-  pub idle : IsBehind reader' []
+  pub idle : ReaderAfter reader' []
 
 PieceTold-from : (style : Style) (q : List ℕ) (reader : ReaderState) (source : InMemory) (reader' : ReaderState) (source' : InMemory) (reads : List Read) (outcome : Outcome)
     → HasNoZero q → Runs MemoryStep source reads source' → AtPieceEnd (q ++ reader.kept ++ all_given reads) outcome reader'
@@ -91,7 +91,7 @@ PieceTold-from style q reader source reader' source' reads outcome nonzero runs 
       idle = end.idle;
     }
 
-module _ (style : Style) (q : List ℕ) (reader : ReaderState) (source : InMemory) (reader' : ReaderState) (source' : InMemory) (b : IsBehind reader q) where
+module _ (style : Style) (q : List ℕ) (reader : ReaderState) (source : InMemory) (reader' : ReaderState) (source' : InMemory) (b : ReaderAfter reader q) where
   pub message_told : (n : ℕ) → ReadsNext MemoryStep source source' reader (Ok (nexts.Message n)) reader' → PieceTold style q reader source reader' source' (Message (take n reader'.buffer)) × (n ≤ length reader'.buffer)
   message_told n next = let told = next.tells q b in (PieceTold-from style q reader source reader' source' next.reads _ b.phased.piece next.runs told.0, told.1)
 
@@ -104,7 +104,7 @@ module _ (style : Style) (q : List ℕ) (reader : ReaderState) (source : InMemor
   -- a call has come to the end of the bytes
   pub record AllTold (unfinished : Bool) : Type 0 where
     pub nothing : stream_outcomes (stream_left q reader source) (length reader'.buffer) ≡ []
-    pub behind : IsBehind reader' (unended (stream_left q reader source))
+    pub taken : ReaderAfter reader' (unended (stream_left q reader source))
     pub flag : unfinished ≡ is_nonempty (unended (stream_left q reader source))
     pub kept : reader'.kept ≡ []
 
@@ -117,7 +117,7 @@ module _ (style : Style) (q : List ℕ) (reader : ReaderState) (source : InMemor
       let whole : stream_left q reader source ≡ t = left-given q reader source next.reads source' next.runs ∙ ap (λ l. t ++ l) none ∙ append-nil t in
       record {
         nothing = rw whole told.0.none_ended;
-        behind = rw whole told.0.behind;
+        taken = rw whole told.0.after;
         flag = rw whole told.2;
         kept = told.0.nothing_kept;
       }
@@ -135,23 +135,23 @@ module _ (style : Style) (q : List ℕ) (reader : ReaderState) (source : InMemor
 
 -- A LOOP OVER THE PIECES
 
--- behind the front p, the pieces so far are shown, and the rest of the stream is what the reader has kept and not read yet
+-- after the front p, the pieces so far are shown, and the rest of the stream is what the reader has kept and not read yet
 pub record ShownSoFar (style : Style) (reader₀ reader : ReaderState) (source : InMemory) (bytes : List ℕ) (before after : Option (List ℕ)) (p : List ℕ) : Type 0 where
   pub front : List ℕ
-  pub behind : IsBehind reader front
+  pub taken : ReaderAfter reader front
   pub text : List ℕ
   pub written : Appends before after text
   pub told : text ++ shown_pieces style (length reader₀.buffer) (stream_left front reader source) ≡ shown_pieces style (length reader₀.buffer) (p ++ bytes)
   pub rest : unended (stream_left front reader source) ≡ unended (p ++ bytes)
   pub len : length reader.buffer ≡ length reader₀.buffer
 
-pub ShownSoFar-start : (style : Style) (reader : ReaderState) (source : InMemory) (bytes : List ℕ) (before : Option (List ℕ)) (p : List ℕ) → reader.kept ≡ [] → bytes_left source ≡ bytes → IsBehind reader p
+pub ShownSoFar-start : (style : Style) (reader : ReaderState) (source : InMemory) (bytes : List ℕ) (before : Option (List ℕ)) (p : List ℕ) → reader.kept ≡ [] → bytes_left source ≡ bytes → ReaderAfter reader p
     → ShownSoFar style reader reader source bytes before before p
 ShownSoFar-start style reader source bytes before p kept left b =
     let whole : stream_left p reader source ≡ p ++ bytes = ap (λ l. p ++ l ++ bytes_left source) kept ∙ ap (λ l. l ++ bytes_left source) (append-nil p) ∙ ap (λ l. p ++ l) left in
     record {
       front = p;
-      behind = b;
+      taken = b;
       text = [];
       written = Appends-nil before;
       told = ap (shown_pieces style (length reader.buffer)) whole;
@@ -167,7 +167,7 @@ module _ {style : Style} {reader₀ reader reader' : ReaderState} {source source
       let same : length reader'.buffer ≡ length reader₀.buffer = len ∙ s.len in
       record {
         front = [];
-        behind = t.idle;
+        taken = t.idle;
         text = s.text ++ shown style outcome;
         written = Appends-trans before after after' s.text (shown style outcome) s.written w;
         told = append_assoc s.text (shown style outcome) _ ∙ ap (λ l. s.text ++ l) (sym (rw same at t.told)) ∙ s.told;
@@ -177,12 +177,12 @@ module _ {style : Style} {reader₀ reader reader' : ReaderState} {source source
 
 module _ {style : Style} {reader₀ reader reader' : ReaderState} {source source' : InMemory} {bytes p : List ℕ} {before after : Option (List ℕ)} where
   -- all of the bytes are shown
-  pub all_shown : (unfinished : Bool) (s : ShownSoFar style reader₀ reader source bytes before after p) → AllTold style s.front reader source reader' source' s.behind unfinished → length reader'.buffer ≡ length reader.buffer
+  pub all_shown : (unfinished : Bool) (s : ShownSoFar style reader₀ reader source bytes before after p) → AllTold style s.front reader source reader' source' s.taken unfinished → length reader'.buffer ≡ length reader.buffer
       → ShowsBytes style reader₀ reader' bytes before after unfinished p
   all_shown unfinished s t len =
       let none : shown_pieces style (length reader₀.buffer) (stream_left s.front reader source) ≡ [] = ap (flat_map (shown style)) (rw (len ∙ s.len) at t.nothing) in
       record {
         written = rw (sym s.told ∙ ap (λ l. s.text ++ l) none ∙ append-nil s.text) s.written;
-        behind = rw s.rest at t.behind;
+        taken = rw s.rest at t.taken;
         flag = t.flag ∙ ap is_nonempty s.rest;
       }

@@ -38,7 +38,7 @@ shown Raw TooLong = []
 abbrev pub shown_pieces : Style → ℕ → List ℕ → List ℕ
 shown_pieces style n stream = flat_map (shown style) (stream_outcomes stream n)
 
--- what is shown behind a stream that has come to its end: whether a piece has begun that no zero ended
+-- what is shown after a stream that has come to its end: whether a piece has begun that no zero ended
 abbrev pub shown_end : Style → Bool → List ℕ
 shown_end style false = []
 shown_end Hex true = codes "unfinished\n"

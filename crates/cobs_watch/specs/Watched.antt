@@ -6,7 +6,7 @@ use Rattle.std.specs.declared.io.Error.{Error}
 use Rattle.std.specs.declared.io.ErrorKind.TheVariants.{BrokenPipe}
 use Rattle.cobs.specs.Sentinel.{xor_each}
 use Rattle.cobs.specs.Stream.{is_nonempty, unended}
-use Rattle.cobs.specs.NextFrame.{ReaderState, IsBehind}
+use Rattle.cobs.specs.NextFrame.{ReaderState, ReaderAfter}
 use Rattle.cobs_watch.specs.declared.shown.Style.{Style}
 use Rattle.cobs_watch.specs.Shown.{shown_pieces, shown_stream}
 use Rattle.cobs_watch.specs.declared.fault.WatchFault.{WatchFault}
@@ -43,11 +43,11 @@ IsWriteFault error fault = ((error_kind error ≡ BrokenPipe) × (fault ≡ Outp
 
 -- INSIDE A RUN
 
--- a reader behind the front p of a piece has taken these bytes, and a writer has got what is shown of the pieces that end
--- in them; the flag says whether a piece has begun behind the last zero
+-- a reader that had taken the front p of a piece has taken these bytes too, and a writer has got what is shown of the
+-- pieces that end in them; the flag says whether a piece has begun after the last zero
 pub record ShowsBytes (style : Style) (reader reader' : ReaderState) (bytes : List ℕ) (before after : Option (List ℕ)) (unfinished : Bool) (p : List ℕ) : Type 0 where
   pub written : Appends before after (shown_pieces style (length reader.buffer) (p ++ bytes))
-  pub behind : IsBehind reader' (unended (p ++ bytes))
+  pub taken : ReaderAfter reader' (unended (p ++ bytes))
   pub flag : unfinished ≡ is_nonempty (unended (p ++ bytes))
 
 -- a run so far
@@ -55,7 +55,7 @@ pub record HasShownSoFar (settings : Settings) (from to before after : Option (L
   pub bytes : List ℕ
   pub read : Consumes from to bytes
   pub written : Appends before after (shown_pieces settings.style settings.length (stream_of settings bytes))
-  pub behind : IsBehind reader (unended (stream_of settings bytes))
+  pub taken : ReaderAfter reader (unended (stream_of settings bytes))
   pub flag : unfinished ≡ is_nonempty (unended (stream_of settings bytes))
   pub kept : reader.kept ≡ []
   pub len : length reader.buffer ≡ settings.length

@@ -3,7 +3,7 @@ ghost use Rattle.std.specs.Prelude.{◌≡◌, ◌≢◌, ◌≤◌, ◌<◌, �
 ghost use Rattle.std.specs.Io.KnownBytes.{Consumes, IsAtEnd, Keeps};
 ghost use Rattle.cobs.specs.Fields.Decoders.{owned_buffer, owned_phase};
 ghost use Rattle.cobs.specs.Fields.Reader.{decoder_of, kept_of, reader_state};
-ghost use Rattle.cobs.specs.NextFrame.{IsBehind};
+ghost use Rattle.cobs.specs.NextFrame.{ReaderAfter};
 ghost use Rattle.cobs.specs.Sentinel.{xor_each};
 ghost use Rattle.cobs_watch.specs.Watched.{HasShown, ShowsBytes};
 
@@ -100,9 +100,9 @@ fn show_bytes<W: Write>(
 ) -> Result<bool, WatchFault>
     requires few { length bytes.now ≤ CHUNK_LEN }
     requires kept { kept_of frames.old ≡ [] }
-    requires behind { (p : List ℕ) × IsBehind (reader_state owned_buffer owned_phase frames.old) p }
+    requires after { (p : List ℕ) × ReaderAfter (reader_state owned_buffer owned_phase frames.old) p }
     ensures shows { IfOk result (λ unfinished. (p : List ℕ) →
-        IsBehind (reader_state owned_buffer owned_phase frames.old) p → ShowsBytes style
+        ReaderAfter (reader_state owned_buffer owned_phase frames.old) p → ShowsBytes style
         (reader_state owned_buffer owned_phase frames.old)
         (reader_state owned_buffer owned_phase frames.new)
         bytes.now (W.contents output.old) (W.contents output.new) unfinished p) }

@@ -53,7 +53,7 @@ borrowed_slice decoder = decoder.dest.ghost_name
 abbrev pub with_borrowed_buffer : CobsDecoder → List ℕ → CobsDecoder
 with_borrowed_buffer decoder bytes = record decoder { dest = record decoder.dest { now = bytes } }
 
--- the decoder ends with what the caller leaves behind the reference, and is otherwise as it was
+-- the decoder ends with what the caller leaves in its buffer, and is otherwise as it was
 abbrev pub LendsSlice : MutBor CobsDecoder → MutBor (List ℕ) → Fml
 LendsSlice decoder bytes = Lends (borrowed_row (record { mir = named 1; lft = [] })) (Array u8 0) decoder bytes (with_borrowed_buffer decoder.now)
 
@@ -69,7 +69,7 @@ owned_phase decoder = phase_of decoder.inner
 abbrev pub with_owned_buffer : CobsDecoderOwned → List ℕ → CobsDecoderOwned
 with_owned_buffer decoder bytes = record decoder { dest = with_items decoder.dest bytes }
 
--- the decoder ends with what the caller leaves behind the reference, and is otherwise as it was
+-- the decoder ends with what the caller leaves in its buffer, and is otherwise as it was
 abbrev pub LendsOwned : MutBor CobsDecoderOwned → MutBor (List ℕ) → Fml
 LendsOwned decoder bytes = Lends owned_row (Array u8 0) decoder bytes (with_owned_buffer decoder.now)
 
@@ -89,10 +89,10 @@ module _ {N : ℕ} where
     filled = sym (length_refill (length decoder.dest.items) decoder.dest.items bytes refl) ∙ decoder.filled;
   }
 
--- the decoder ends with what the caller leaves behind the reference, and is otherwise as it was
+-- the decoder ends with what the caller leaves in its buffer, and is otherwise as it was
 abbrev pub LendsHeapless : (N : RattleType) → MutBor (CobsDecoderHeapless (value_of N)) → MutBor (List ℕ) → Fml
 LendsHeapless N decoder bytes = Lends (heapless_row N) (Array u8 0) decoder bytes (with_heapless_buffer decoder.now)
 
--- a value ends with what the caller leaves behind the reference in its buffer, and is otherwise as it was
+-- a value ends with what the caller leaves in its buffer, and is otherwise as it was
 abbrev pub LendsBytes : (R : RattleType) → MutBor R.Denot → MutBor (List ℕ) → (R.Denot → List ℕ → R.Denot) → Fml
 LendsBytes R lender bytes with_bytes = Lends R (Array u8 0) lender bytes (with_bytes lender.now)

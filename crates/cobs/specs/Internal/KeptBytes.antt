@@ -18,18 +18,18 @@ IsOutcome (nexts.Broken count) buffer outcome = outcome ≡ Broken count
 IsOutcome nexts.TooLong buffer outcome = outcome ≡ TooLong
 IsOutcome (nexts.End unfinished) buffer outcome = ⊥
 
--- the first piece that ends in these bytes after p comes to this outcome, and what is behind follows its zero
-pub record EndsFirstIn (p bytes : List ℕ) (n : ℕ) (outcome : Outcome) (behind : List ℕ) : Type 0 where
+-- the first piece that ends in these bytes after p comes to this outcome, and the rest follows its zero
+pub record EndsFirstIn (p bytes : List ℕ) (n : ℕ) (outcome : Outcome) (rest : List ℕ) : Type 0 where
   pub front : List ℕ
-  pub cut : bytes ≡ front ++ 0 ∷ behind
+  pub cut : bytes ≡ front ++ 0 ∷ rest
   pub none_before : stream_outcomes (p ++ front) n ≡ []
   pub here : stream_outcomes (p ++ (front ++ 0 ∷ [])) n ≡ outcome ∷ []
 
 -- the answer tells of that piece, over the buffer
-pub record TellsFirst (next : Next) (p bytes buffer behind : List ℕ) : Type 0 where
+pub record TellsFirst (next : Next) (p bytes buffer rest : List ℕ) : Type 0 where
   pub outcome : Outcome
   pub is : IsOutcome next buffer outcome
-  pub first : EndsFirstIn p bytes (length buffer) outcome behind
+  pub first : EndsFirstIn p bytes (length buffer) outcome rest
 
 -- the reader, were these the bytes that it has read but not fed
 abbrev pub with_kept : List ℕ → ReaderState → ReaderState

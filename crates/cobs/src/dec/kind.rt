@@ -51,7 +51,7 @@ pub fn frame_kind(bytes: &[u8]) -> FrameKind
         return FrameKind::NotAFrame;
     }
     let mut read = 0;
-    let mut behind_full = false;
+    let mut after_full = false;
     'by_block: loop {
         let code = bytes[read] as usize;
         let left = bytes.len() - read;
@@ -59,13 +59,13 @@ pub fn frame_kind(bytes: &[u8]) -> FrameKind
             return FrameKind::NotAFrame;
         }
         if left == code {
-            return if behind_full && code == 1 {
+            return if after_full && code == 1 {
                 FrameKind::Longer
             } else {
                 FrameKind::Canonical
             };
         }
-        behind_full = code == FULL_CODE;
+        after_full = code == FULL_CODE;
         read += code;
     }
 }

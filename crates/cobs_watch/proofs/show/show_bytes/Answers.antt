@@ -6,7 +6,7 @@ use Rattle.cobs_watch.proofs.show.show_bytes.Goals as goal
 pub by_piece-init : goal.by_piece-init
 by_piece-init g c = record {
   so_far = λ p b. ShownSoFar-start _ _ _ _ _ p c.requires.kept c.new-source.ensures.bytes b;
-  some = c.requires.behind;
+  some = c.requires.after;
   few = omega (arith, ap length c.new-source.ensures.bytes, ap length c.requires.kept, c.requires.few);
   len = refl;
 }
@@ -23,7 +23,7 @@ pub returns-in-Ok-End-clause-shows : goal.returns-in-Ok-End-clause-shows
 returns-in-Ok-End-clause-shows g c = λ p b.
     let s = c.by_piece.invariant.so_far p b in
     let next = rw c.in-Ok-End.field-0-is at c.in-Ok-End.ensures.next in
-    all_shown _ s (end_told _ _ _ _ _ _ s.behind _ next) c.in-Ok-End.ensures.len
+    all_shown _ s (end_told _ _ _ _ _ _ s.taken _ next) c.in-Ok-End.ensures.len
 
 pub unreachable-requires : goal.unreachable-requires
 unreachable-requires g c =
@@ -41,7 +41,7 @@ by_piece-preserved-in-Continue-1 g c =
     let message = ap (take c.in-Ok-Message.len) (c.dest.ensures.value ∙ ap owned_buffer c.decoder.ensures.value) in
     let told = (message_told c.args.style _ _ _ _ _ c.by_piece.invariant.some.1 _ next).0 in
     record {
-      so_far = λ p b. (let s = c.by_piece.invariant.so_far p b in ShownSoFar-more _ s (message_told _ _ _ _ _ _ s.behind _ next).0 c.in-Ok-Message.ensures.len (rw message at c.in_ok-show_message-in-Ok-Message.ensures.shown));
+      so_far = λ p b. (let s = c.by_piece.invariant.so_far p b in ShownSoFar-more _ s (message_told _ _ _ _ _ _ s.taken _ next).0 c.in-Ok-Message.ensures.len (rw message at c.in_ok-show_message-in-Ok-Message.ensures.shown));
       some = ([], told.idle);
       few = omega (arith, told.fewer, c.by_piece.invariant.few);
       len = c.in-Ok-Message.ensures.len ∙ c.by_piece.invariant.len;
@@ -57,7 +57,7 @@ by_piece-preserved-in-Continue-branch-2 g c =
     let next = rw c.in-Ok-Broken.field-0-is at c.in-Ok-Broken.ensures.next in
     let told = (broken_told c.args.style _ _ _ _ _ c.by_piece.invariant.some.1 _ next) in
     record {
-      so_far = λ p b. (let s = c.by_piece.invariant.so_far p b in ShownSoFar-more _ s (broken_told _ _ _ _ _ _ s.behind _ next) c.in-Ok-Broken.ensures.len (c.in_ok-show_broken-in-Ok-Broken.ensures.shown));
+      so_far = λ p b. (let s = c.by_piece.invariant.so_far p b in ShownSoFar-more _ s (broken_told _ _ _ _ _ _ s.taken _ next) c.in-Ok-Broken.ensures.len (c.in_ok-show_broken-in-Ok-Broken.ensures.shown));
       some = ([], told.idle);
       few = omega (arith, told.fewer, c.by_piece.invariant.few);
       len = c.in-Ok-Broken.ensures.len ∙ c.by_piece.invariant.len;
@@ -73,7 +73,7 @@ by_piece-preserved g c =
     let next = rw c.in-Ok-TooLong.field-0-is at c.in-Ok-TooLong.ensures.next in
     let told = (too_long_told c.args.style _ _ _ _ _ c.by_piece.invariant.some.1 next) in
     record {
-      so_far = λ p b. (let s = c.by_piece.invariant.so_far p b in ShownSoFar-more _ s (too_long_told _ _ _ _ _ _ s.behind next) c.in-Ok-TooLong.ensures.len (c.in_ok-show_too_long-in-Ok-TooLong.ensures.shown));
+      so_far = λ p b. (let s = c.by_piece.invariant.so_far p b in ShownSoFar-more _ s (too_long_told _ _ _ _ _ _ s.taken next) c.in-Ok-TooLong.ensures.len (c.in_ok-show_too_long-in-Ok-TooLong.ensures.shown));
       some = ([], told.idle);
       few = omega (arith, told.fewer, c.by_piece.invariant.few);
       len = c.in-Ok-TooLong.ensures.len ∙ c.by_piece.invariant.len;

@@ -4,7 +4,7 @@ use Rattle.cobs.specs.Grammar.{HasNoZero}
 use Rattle.cobs.specs.declared.dec.kind.FrameKind.TheVariants.{NotAFrame, Canonical, Longer}
 use Rattle.cobs.proofs.KindLemmas.{IsKindOf, says_not, says_canonical, says_longer, empty-kind, zero-kind, code-some, broken-kind, block-behind, longer-kind, canonical-kind, all_nonzero}
 use Rattle.cobs.proofs.dec.kind.frame_kind.Goals as goal
-use Rattle.cobs.proofs.dec.kind.frame_kind.Goals.{then-is_empty-via-then-is_empty, then-is_empty-via-else-is_empty+then-piece_len-bytes, else-behind_full-via-then-behind_full+else-code-eq1, else-behind_full-via-else-behind_full}
+use Rattle.cobs.proofs.dec.kind.frame_kind.Goals.{then-is_empty-via-then-is_empty, then-is_empty-via-else-is_empty+then-piece_len-bytes, else-after_full-via-then-after_full+else-code-eq1, else-after_full-via-else-after_full}
 
 pub returns-then-is_empty-clause-not_a_frame : goal.returns-then-is_empty-clause-not_a_frame
 returns-then-is_empty-clause-not_a_frame c =
@@ -51,48 +51,48 @@ returns-then-left-code-clause-longer c =
 pub returns-then-code-eq1-clause-not_a_frame : goal.returns-then-code-eq1-clause-not_a_frame
 returns-then-code-eq1-clause-not_a_frame c =
     let nonzero : HasNoZero c.args.bytes.now = all_nonzero c.args.bytes.now c.piece_len.result c.piece_len.ensures.nonzero c.if-piece_len-bytes.false in
-    let is = longer-kind c.args.bytes.now _ _ c.by_block.invariant nonzero _ refl (let fits = c.type_inv.bytes c.by_block.read in omega arith) c.if-left-code-2.true c.if-behind_full.true c.if-code-eq1.true in
+    let is = longer-kind c.args.bytes.now _ _ c.by_block.invariant nonzero _ refl (let fits = c.type_inv.bytes c.by_block.read in omega arith) c.if-left-code-2.true c.if-after_full.true c.if-code-eq1.true in
     says_not c.args.bytes.now Longer is
 
 pub returns-then-code-eq1-clause-canonical : goal.returns-then-code-eq1-clause-canonical
 returns-then-code-eq1-clause-canonical c =
     let nonzero : HasNoZero c.args.bytes.now = all_nonzero c.args.bytes.now c.piece_len.result c.piece_len.ensures.nonzero c.if-piece_len-bytes.false in
-    let is = longer-kind c.args.bytes.now _ _ c.by_block.invariant nonzero _ refl (let fits = c.type_inv.bytes c.by_block.read in omega arith) c.if-left-code-2.true c.if-behind_full.true c.if-code-eq1.true in
+    let is = longer-kind c.args.bytes.now _ _ c.by_block.invariant nonzero _ refl (let fits = c.type_inv.bytes c.by_block.read in omega arith) c.if-left-code-2.true c.if-after_full.true c.if-code-eq1.true in
     says_canonical c.args.bytes.now Longer is
 
 pub returns-then-code-eq1-clause-longer : goal.returns-then-code-eq1-clause-longer
 returns-then-code-eq1-clause-longer c =
     let nonzero : HasNoZero c.args.bytes.now = all_nonzero c.args.bytes.now c.piece_len.result c.piece_len.ensures.nonzero c.if-piece_len-bytes.false in
-    let is = longer-kind c.args.bytes.now _ _ c.by_block.invariant nonzero _ refl (let fits = c.type_inv.bytes c.by_block.read in omega arith) c.if-left-code-2.true c.if-behind_full.true c.if-code-eq1.true in
+    let is = longer-kind c.args.bytes.now _ _ c.by_block.invariant nonzero _ refl (let fits = c.type_inv.bytes c.by_block.read in omega arith) c.if-left-code-2.true c.if-after_full.true c.if-code-eq1.true in
     says_longer c.args.bytes.now Longer is
 
-pub returns-else-behind_full-clause-not_a_frame : goal.returns-else-behind_full-clause-not_a_frame
-returns-else-behind_full-clause-not_a_frame c =
+pub returns-else-after_full-clause-not_a_frame : goal.returns-else-after_full-clause-not_a_frame
+returns-else-after_full-clause-not_a_frame c =
     let nonzero : HasNoZero c.args.bytes.now = all_nonzero c.args.bytes.now c.piece_len.result c.piece_len.ensures.nonzero c.if-piece_len-bytes.false in
     let is : IsKindOf Canonical c.args.bytes.now = canonical-kind c.args.bytes.now _ _ c.by_block.invariant nonzero _ refl (let fits = c.type_inv.bytes c.by_block.read in omega arith) c.if-left-code-2.true
-    (λ both. elim c.else-behind_full.branch [
-      | else-behind_full-via-then-behind_full+else-code-eq1 w ↦ w.if-code-eq1.false both.1
-      | else-behind_full-via-else-behind_full w ↦ true≢false (sym both.0 ∙ w.if-behind_full.false)
+    (λ both. elim c.else-after_full.branch [
+      | else-after_full-via-then-after_full+else-code-eq1 w ↦ w.if-code-eq1.false both.1
+      | else-after_full-via-else-after_full w ↦ true≢false (sym both.0 ∙ w.if-after_full.false)
     ]) in
     says_not c.args.bytes.now Canonical is
 
-pub returns-else-behind_full-clause-canonical : goal.returns-else-behind_full-clause-canonical
-returns-else-behind_full-clause-canonical c =
+pub returns-else-after_full-clause-canonical : goal.returns-else-after_full-clause-canonical
+returns-else-after_full-clause-canonical c =
     let nonzero : HasNoZero c.args.bytes.now = all_nonzero c.args.bytes.now c.piece_len.result c.piece_len.ensures.nonzero c.if-piece_len-bytes.false in
     let is : IsKindOf Canonical c.args.bytes.now = canonical-kind c.args.bytes.now _ _ c.by_block.invariant nonzero _ refl (let fits = c.type_inv.bytes c.by_block.read in omega arith) c.if-left-code-2.true
-    (λ both. elim c.else-behind_full.branch [
-      | else-behind_full-via-then-behind_full+else-code-eq1 w ↦ w.if-code-eq1.false both.1
-      | else-behind_full-via-else-behind_full w ↦ true≢false (sym both.0 ∙ w.if-behind_full.false)
+    (λ both. elim c.else-after_full.branch [
+      | else-after_full-via-then-after_full+else-code-eq1 w ↦ w.if-code-eq1.false both.1
+      | else-after_full-via-else-after_full w ↦ true≢false (sym both.0 ∙ w.if-after_full.false)
     ]) in
     says_canonical c.args.bytes.now Canonical is
 
-pub returns-else-behind_full-clause-longer : goal.returns-else-behind_full-clause-longer
-returns-else-behind_full-clause-longer c =
+pub returns-else-after_full-clause-longer : goal.returns-else-after_full-clause-longer
+returns-else-after_full-clause-longer c =
     let nonzero : HasNoZero c.args.bytes.now = all_nonzero c.args.bytes.now c.piece_len.result c.piece_len.ensures.nonzero c.if-piece_len-bytes.false in
     let is : IsKindOf Canonical c.args.bytes.now = canonical-kind c.args.bytes.now _ _ c.by_block.invariant nonzero _ refl (let fits = c.type_inv.bytes c.by_block.read in omega arith) c.if-left-code-2.true
-    (λ both. elim c.else-behind_full.branch [
-      | else-behind_full-via-then-behind_full+else-code-eq1 w ↦ w.if-code-eq1.false both.1
-      | else-behind_full-via-else-behind_full w ↦ true≢false (sym both.0 ∙ w.if-behind_full.false)
+    (λ both. elim c.else-after_full.branch [
+      | else-after_full-via-then-after_full+else-code-eq1 w ↦ w.if-code-eq1.false both.1
+      | else-after_full-via-else-after_full w ↦ true≢false (sym both.0 ∙ w.if-after_full.false)
     ]) in
     says_longer c.args.bytes.now Canonical is
 

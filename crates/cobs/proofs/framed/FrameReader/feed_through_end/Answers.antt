@@ -8,7 +8,7 @@ use Rattle.cobs.proofs.framed.FrameReader.feed_through_end.Goals as goal
 pub returns-in-None-clause-none : goal.returns-in-None-clause-none
 returns-in-None-clause-none g c = λ p b.
     let t = c.in-None.ensures.takes.takes in (
-      record { none_ended = rw t.len (sym (t.outcomes p b)); behind = t.after p b; nothing_kept = refl },
+      record { none_ended = rw t.len (sym (t.outcomes p b)); after = t.after p b; nothing_kept = refl },
       c.is_unfinished-self.ensures.unfinished p (HasTaken-any _ _ _ p c.args.self.now.has_taken b).flag b.phased.piece,
     )
 

@@ -33,7 +33,7 @@ by_read-preserved g c =
       going = Going-push (take n chunk) _ (front_nonempty chunk n (rw c.read_some.array_long c.in-Some-read_some.ensures.bound) c.in-Some-read_some.n-test.1) c.by_read.invariant.going
           c.in-Some-read_some.ensures.step e.len (λ q b.
           let t = e.none q b in
-          (record { none_ended = t.0.none_ended; behind = t.0.behind; nothing_kept = empty_range r.chunk r.start r.end emptied }, t.1));
+          (record { none_ended = t.0.none_ended; after = t.0.after; nothing_kept = empty_range r.chunk r.start r.end emptied }, t.1));
       same_loan = e.same_loan ∙ c.by_read.invariant.same_loan;
     }
 

@@ -12,7 +12,7 @@ left_of_range xs from to n h =
 pub returns-in-None-clause-none : goal.returns-in-None-clause-none
 returns-in-None-clause-none g c = λ p b.
     let t = c.in-None.ensures.none p b in
-    (record { none_ended = t.0.none_ended; behind = t.0.behind; nothing_kept = empty_range c.feed_through_end.new.self.chunk _ c.feed_through_end.new.self.end refl }, t.1)
+    (record { none_ended = t.0.none_ended; after = t.0.after; nothing_kept = empty_range c.feed_through_end.new.self.chunk _ c.feed_through_end.new.self.end refl }, t.1)
 
 pub returns-in-Some-clause-first : goal.returns-in-Some-clause-first
 returns-in-Some-clause-first g c = λ p h.
