@@ -41,6 +41,23 @@ fn copy_window_to_zero(window: &[u8], dest: &mut [u8], at: usize) -> usize
     len
 }
 
+/// Copies the first of 64 bytes, up to a zero, and answers how many.
+#[inline(always)]
+fn copy_wide_to_zero(wide: &[u8], dest: &mut [u8], at: usize) -> usize
+    requires source { 64 ≤ length wide.now }
+    requires room { at + 64 ≤ length dest.old }
+    ensures within { result ≤ 64 }
+    ensures nonzero { HasNoZero (take result wide.now) }
+    ensures copied { dest.new ≡ take at dest.old
+        ++ (take result wide.now ++ drop (at + result) dest.old) }
+{
+    let front = copy_window_to_zero(wide, dest, at);
+    if front < WINDOW {
+        return front;
+    }
+    WINDOW + copy_window_to_zero(&wide[WINDOW..], dest, at + WINDOW)
+}
+
 /// Copies the first of fewer than 32 bytes, up to a zero, and answers how many.
 fn copy_few_to_zero(few: &[u8], dest: &mut [u8], at: usize) -> usize
     requires some { 0 < length few.now }
@@ -58,21 +75,27 @@ fn copy_few_to_zero(few: &[u8], dest: &mut [u8], at: usize) -> usize
     len
 }
 
-/// Copies the first bytes of a chunk, up to a zero: 64 of them, or else up to 32; and answers how many.
+/// Copies the first bytes of a chunk, up to a zero: up to 64 of them, or up to 32 of a shorter chunk; and answers how
+/// many.
 #[inline(always)]
 pub(crate) fn copy_to_zero(chunk: &[u8], dest: &mut [u8], at: usize) -> usize
-    requires some { 0 < length chunk.now }
-    requires room { at + length chunk.now ≤ length dest.old }
+    requires room { 0 < length chunk.now → at + length chunk.now ≤ length dest.old }
     ensures within { result ≤ length chunk.now }
     ensures few { result ≤ 64 }
     ensures nonzero { HasNoZero (take result chunk.now) }
-    ensures copied { dest.new ≡ take at dest.old
+    ensures copied { 0 < result → dest.new ≡ take at dest.old
         ++ (take result chunk.now ++ drop (at + result) dest.old) }
+    ensures kept { result ≡ 0 → dest.new ≡ dest.old }
 {
-    if WIDE_WINDOW <= chunk.len() && copy_nonzero_32_to_64(chunk, 0, WIDE_WINDOW, dest, at) {
-        WIDE_WINDOW
+    if WIDE_WINDOW <= chunk.len() {
+        if copy_nonzero_32_to_64(chunk, 0, WIDE_WINDOW, dest, at) {
+            return WIDE_WINDOW;
+        }
+        copy_wide_to_zero(chunk, dest, at)
     } else if WINDOW <= chunk.len() {
         copy_window_to_zero(chunk, dest, at)
+    } else if chunk.is_empty() {
+        0
     } else {
         copy_few_to_zero(chunk, dest, at)
     }

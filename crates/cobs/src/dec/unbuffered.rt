@@ -16,7 +16,7 @@ use crate::dec::frame_decoder::{PieceEnd, piece_end};
 use crate::dec::piece::{decode_piece, piece_len};
 use crate::dec::report::DecodeReport;
 use crate::enc::FULL_CODE;
-use crate::window::{WIDE_WINDOW, WINDOW};
+use crate::window::WIDE_WINDOW;
 use std::mem;
 
 /// So many bytes after the first ones are worth a search for the end of their piece.
@@ -425,11 +425,11 @@ impl UnbufferedDecoder {
         if self.code == FULL {
             most = most.min(self.left as usize);
         }
-        if most == 0 {
+        let len = copy_to_zero(&bytes[..most], dest, self.dest_idx);
+        if len == 0 {
             return 0;
         }
-        let len = copy_to_zero(&bytes[..most], dest, self.dest_idx);
-        self.mark_codes(dest, &bytes[..len], WINDOW <= len);
+        self.mark_codes(dest, &bytes[..len], WIDE_WINDOW <= len);
         len
     }
 
