@@ -62,6 +62,18 @@ else
     part 'a bad line is named and skipped' 1
 fi
 
+# The options of both sides: a sentinel, and the length of the longest message. Wrong words end it with status 2.
+printf 'line\nlonger line\n' | "$watch" send --sentinel 10 > "$room/tens"
+shown=$("$watch" --sentinel 10 --length 4 --text < "$room/tens" | paste -s -d ,)
+first=$(head -c 6 "$room/tens" | od -An -tx1)
+if [ "$shown" = 'message 4 line,too long' ] && [ "$first" = ' 0f 66 63 64 6f 0a' ]; then
+    part 'another sentinel, and a length' 0
+else
+    part 'another sentinel, and a length' 1
+fi
+"$watch" --length many < "$room/frames" > "$room/one" 2> "$room/errors" && bad=0 || bad=$?
+[ "$bad" = 2 ] && [ ! -s "$room/one" ] && part 'wrong words' 0 || part 'wrong words' 1
+
 # A line of its own, as a serial port is.
 if command -v socat > "$room/log"; then
     socat "pty,raw,echo=0,link=$room/device" "pty,raw,echo=0,link=$room/host" &
