@@ -92,11 +92,13 @@ clauses_of() {
     ' "$crate/$path.rt"
 }
 
-# open_goals: the names of what the last check left without a proof, one a line
+# open_goals: the names of what the last check left without a proof, one a line; where it names none so, of what rests on
+# a lemma that it refused
 open_goals() {
-    grep -E '^(note: )?(\./)?(src|proofs)/' "$copy/log" |
-        sed -n -E 's/.*Answers\.antt:[0-9:]* error: `([^`]+)`:.*/\1/p; s/.*it is not proved .*\(`([^`]+)`\).*/\1/p; s/.*(was|were) not checked: (.*)/\2/p' |
-        sed -E 's/ \(via [^)]*\)//g; s/ and [0-9]+ more$//' | tr -d ' `' | tr ',' '\n' | sort -u
+    said=$(grep -E '^(note: )?(\./)?(src|proofs)/' "$copy/log")
+    names=$(echo "$said" | sed -n -E 's/.*Answers\.antt:[0-9:]* error: `([^`]+)`:.*/\1/p; s/.*it is not proved .*\(`([^`]+)`\).*/\1/p; s/.*was not checked: (.*)/\1/p')
+    [ -n "$names" ] || names=$(echo "$said" | sed -n -E 's/ \(via [^)]*\)//g; s/ and [0-9]+ more$//; s/.*were not checked: (.*)/\1/p')
+    echo "$names" | tr -d ' `' | tr ',' '\n' | sort -u
 }
 
 # in_line: the words, one a line, side by side
