@@ -47,9 +47,6 @@ module _ (before : List ℕ) (phase : Phase) (stretch : List ℕ) (base : ℕ) w
   )
 
   module _ (nz : HasNoZero stretch) (room : base + length stretch ≤ length before) where
-    byte_at : ℕ → ℕ
-    byte_at i = get_or stretch i 0
-
     nonzero : (i : ℕ) → i < length stretch → get_or stretch i 0 ≢ 0
     nonzero i below = All-get_or (λ b. b ≢ 0) stretch i 0 below nz
 

@@ -1,7 +1,7 @@
 -- Frames in which no block but the last is full, decoded in their own place.
 use Rattle.std.proofs.Common.{take_at, drop_at, bit_xor, append-nil, length-append, zero, suc, ◌≤◌, ◌++◌, replicate, subst, append_assoc, take-append-drop, length-take-le, set, ◌≡◌, ◌≢◌, ℕ, ◌+◌, ◌-◌, ◌<◌, true, List, [], ◌∷◌, length, take, drop, get_or, Ok, refl, sym, ap, ◌∙◌, arith, length-drop, inl, inr}
 use Rattle.std.proofs.lemmas.Bool.{eq-eqb}
-use Rattle.std.proofs.lemmas.List.{take-map, drop-map, take-take, drop_all, take_rest, length-set, drop-set-lt, take_more_set, drop-drop, drop_more, drop-take, get_or-take, get_or-drop}
+use Rattle.std.proofs.lemmas.List.{take-map, drop-map, take-take, drop_all, take_rest, length-set, drop-set-lt, take_more_set, drop-drop, drop_more, get_or-take, get_or-drop}
 use borrow.Rule.Slice.PartMut.{put_mid}
 use Rattle.std.proofs.lemmas.List.Elements.{All-cons}
 use Rattle.cobs.specs.Grammar.{code_of, HasNoZero}
@@ -180,10 +180,6 @@ pub copied-ones : (piece old dest after : List ℕ) (read : ℕ) → FlatCopied 
     → after ≡ take read dest ++ (replicate 32 0 ++ drop (read + 32) dest) → FlatCopied piece old after (read + 32) 1
 copied-ones piece old dest after read f ones lt room is =
     subst (λ (x : List ℕ). FlatCopied piece old x (read + 32) 1) (zeroed-is 32 read dest (omega arith) ∙ sym is) (copied-ones-by 32 piece old dest read f ones lt room)
-
--- the front of a list without its first byte
-pub front-rest : (xs : List ℕ) (end : ℕ) → 0 < end → drop 1 (take end xs) ≡ take (end - 1) (drop 1 xs)
-front-rest xs end some = let sum : end ≡ 1 + (end - 1) = omega arith in ap (λ (k : ℕ). drop 1 (take k xs)) sum ∙ drop-take 1 (end - 1) xs
 
 -- a buffer that begins with what stands behind the first code
 pub joints-start : (dest : List ℕ) (first len : ℕ) → 0 < len → len ≤ length dest + 1 → IsFlat (first ∷ take (len - 1) dest)

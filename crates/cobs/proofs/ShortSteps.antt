@@ -122,9 +122,6 @@ module _ (H : List ℕ → Type 0) (source old slice : List ℕ) (end read len i
       let none : nonzero_len (replicate (suc n) 0) ≡ 0 = refl in
       ap (count_trailing_zeros 64) bits ∙ lowest_bit w (omega arith) (λ e. some_bits (bits ∙ e)) ∙ ap nonzero_len (window-is ∙ ap (λ (k : ℕ). replicate k 0) sum) ∙ none
 
-  pub window-room : next + len ≤ end
-  window-room = let l = least source end read index next r.ordered r.within r.room in omega arith
-
   -- ones in the place of its zeros
   zeros-taken : (after : List ℕ) → next < index + 255 → after ≡ take next (set slice index (next - index)) ++ (replicate len 1 ++ drop (next + len) (set slice index (next - index)))
       → WindowTaken H source old after end read len (next + len - 1) next

@@ -43,13 +43,7 @@ module _ (buffer : List ℕ) (x : ℕ) (nz : x ≢ 0) where
       (leads (Within full (suc left) count) (Within full left (count + 1)) (set buffer count x)
       (is Idle (grows (length buffer) full left count) ∙ room-grows full left count room) (is buffer (set buffer count x)))))
 
-  -- a code behind a full block, or at a piece's front
-  pub leads-chained : (count : ℕ) → Leads buffer (phase_with true 0 count) x (Ok None) buffer (phase_with (eqb x 255) (x - 1) count)
-  leads-chained zero = rw (opened x 0 (eqb x 255) refl) (leads Idle (Within (eqb x 255) (x - 1) 0) buffer (is Idle (Within (eqb x 255) (x - 1) 0)) refl)
-  leads-chained (suc count) = rw (opened x (suc count) (eqb x 255) refl)
-      (leads (Within true 0 (suc count)) (Within (eqb x 255) (x - 1) (suc count)) buffer (is Idle (Within (eqb x 255) (x - 1) (suc count))) refl)
-
-  -- a code behind another block
+  -- a code after a block that isn't full
   pub leads-joined : (count : ℕ) → count < length buffer → Leads buffer (phase_with false 0 count) x (Ok None) (set buffer count 0) (phase_with (eqb x 255) (x - 1) (count + 1))
   leads-joined count room = rw (opened x (count + 1) (eqb x 255) refl)
       (leads (Within false 0 count) (Within (eqb x 255) (x - 1) (count + 1)) (set buffer count 0)

@@ -29,13 +29,6 @@ not-leb m n lt = at_test (leb m n) refl
     at_test false is = refl
     at_test true is = let le = leb-true m n is in absurd (omega arith)
 
-le-leb : (m n : ℕ) → m ≤ n → leb m n ≡ true
-le-leb m n le = at_test (leb m n) refl
-  where
-    at_test : (v : Bool) → leb m n ≡ v → v ≡ true
-    at_test true is = refl
-    at_test false is = let lt = leb-false m n is in absurd (omega arith)
-
 outcome-over : (p : List ℕ) (n : ℕ) → leb (length (output p)) n ≡ false → outcome_of p n ≡ TooLong
 unfolding outcome_of
 outcome-over p n over = ap (λ (x : Bool). cond x (cond (is_whole p) (Message (output p)) (Broken (length (output p)))) TooLong) over
@@ -242,11 +235,6 @@ tally-start buffer phase h =
       fits = omega arith;
       tally = λ more. ap (λ (x : List Outcome). tallied 0 0 (x ++ more)) (stream_outcomes-no_zero [] (length buffer) nil);
     }
-
--- at the end of the stream
-pub tally-end : {buffer : List ℕ} {phase : Phase} (n : ℕ) (t : List ℕ) (count sum : ℕ) → TalliedTo buffer phase n t count sum → record { status = OK; parsed = count; len = sum } ≡ tallied 0 0 (outcomes_to_end t n)
-tally-end n t count sum s =
-    sym (ap (λ (x : Bool). tallied 0 0 (stream_outcomes t n ++ cond x [] (TooLong ∷ []))) (le-leb (length (output (unended t))) n s.fits) ∙ s.tally [])
 
 -- at a refusal, behind the front t
 pub tally-refused : {buffer : List ℕ} {phase : Phase} (n : ℕ) (t : List ℕ) (count sum : ℕ) → TalliedTo buffer phase n t count sum
