@@ -19,6 +19,9 @@ use crate::enc::FULL_CODE;
 use crate::window::WIDE_WINDOW;
 use std::mem;
 
+/// So few bytes are pushed by a step each.
+const FEW: usize = 4;
+
 /// So many bytes after the first ones are worth a search for the end of their piece.
 const MANY: usize = 128;
 
@@ -473,6 +476,25 @@ impl UnbufferedDecoder {
         run + self.take_stretch(dest, &bytes[run..end])
     }
 
+    /// As `push`, by a step for each byte.
+    fn push_few(&mut self, dest: &mut [u8], bytes: &[u8]) -> Result<Option<DecodeReport>, PushError>
+        ensures pushes { PushesBytes dest.old (phase_of self.old) bytes.now result
+            dest.new (phase_of self.new) }
+    {
+        'by_byte: for i in 0..bytes.len() {
+            let parsed = i + 1;
+            match self.feed(dest, bytes[i]) {
+                Ok(None) => {}
+                Ok(Some(len)) => return Ok(Some(DecodeReport::new(parsed, len))),
+                Err(error) => return Err(PushError {
+                    error,
+                    parsed_size: parsed,
+                }),
+            }
+        }
+        Ok(None)
+    }
+
     /// Takes bytes of the stream, over this buffer, up to the first one whose answer by `feed` isn't `Ok(None)`.
     ///
     /// `Ok(None)`: all bytes were taken, and no piece has ended in them. `Ok(Some(report))`: a whole frame has ended;
@@ -498,6 +520,9 @@ impl UnbufferedDecoder {
         ensures pushes { PushesBytes dest.old (phase_of self.old) bytes.now result
             dest.new (phase_of self.new) }
     {
+        if bytes.len() <= FEW {
+            return self.push_few(dest, bytes);
+        }
         let mut at = 0;
         'by_run: while at < bytes.len() {
             at += self.take_run(dest, &bytes[at..]);
