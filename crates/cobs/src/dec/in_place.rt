@@ -35,7 +35,7 @@ fn front_of(piece: &[u8]) -> (usize, bool)
 /// Decodes `len` bytes of the buffer, which begin at `from`, to its front, where they are whole blocks of which none
 /// but the last is full: one move of all these bytes, and a zero at each code. Each byte after what they give stays.
 #[inline(never)]
-fn decode_flat(buffer: &mut [u8], from: usize, len: usize)
+fn decode_flat_in_place(buffer: &mut [u8], from: usize, len: usize)
     requires within { from + len ≤ length buffer.old }
     requires nonzero { HasNoZero (take len (drop from buffer.old)) }
     requires flat { IsFlat (take len (drop from buffer.old)) }
@@ -50,7 +50,7 @@ fn decode_flat(buffer: &mut [u8], from: usize, len: usize)
 /// Decodes the first `len` bytes of the buffer, 2 to 65, to its front, if these are whole blocks without a zero; says
 /// whether it did. Each byte after what they give stays, or where it did not every byte.
 #[inline(always)]
-fn decode_short(buffer: &mut [u8], len: usize) -> bool
+fn decode_short_in_place(buffer: &mut [u8], len: usize) -> bool
     requires { len ≤ length buffer.old }
     ensures some { IsTrue result → 1 < len }
     ensures nonzero { IsTrue result → HasNoZero (take len buffer.old) }
@@ -74,7 +74,7 @@ fn decode_short(buffer: &mut [u8], len: usize) -> bool
 ///
 /// The clause `bytes` is for a caller that writes the buffer afterwards, whose type tells only of what it holds at last.
 #[inline(always)]
-fn len_without_end(buffer: &[u8]) -> usize
+fn len_without_zero(buffer: &[u8]) -> usize
     ensures within { result ≤ length buffer.now }
     ensures stop { result < length buffer.now → slice_index buffer.now result ≡ 0 }
     ensures bytes { All (λ byte. byte < 256) buffer.now }
@@ -90,7 +90,7 @@ fn len_without_end(buffer: &[u8]) -> usize
 ///
 /// The whole blocks through each full one are decoded to the front by one move, so no byte of a broken block is moved.
 #[inline(never)]
-fn decode_blocks(buffer: &mut [u8], end: usize) -> Result<usize, DecodeError>
+fn decode_blocks_in_place(buffer: &mut [u8], end: usize) -> Result<usize, DecodeError>
     requires within { end ≤ length buffer.old }
     requires nonzero { HasNoZero (take end buffer.old) }
     ensures answer { result ≡ head_answer (take end buffer.old) }
@@ -105,7 +105,7 @@ fn decode_blocks(buffer: &mut [u8], end: usize) -> Result<usize, DecodeError>
                 decoded_bytes: written,
             });
         }
-        decode_flat(&mut buffer[written..], read - written, len);
+        decode_flat_in_place(&mut buffer[written..], read - written, len);
         read += len;
         written += len - 1;
         if !full && read < end {
@@ -118,7 +118,7 @@ fn decode_blocks(buffer: &mut [u8], end: usize) -> Result<usize, DecodeError>
 
 /// Decodes the piece in the first `end` bytes of the buffer, and answers how many bytes it gives. Most frames have no
 /// full block before their last, and are one move.
-fn decode_front(buffer: &mut [u8], end: usize) -> Result<usize, DecodeError>
+fn decode_front_in_place(buffer: &mut [u8], end: usize) -> Result<usize, DecodeError>
     requires within { end ≤ length buffer.old }
     requires nonzero { HasNoZero (take end buffer.old) }
     ensures answer { result ≡ head_answer (take end buffer.old) }
@@ -126,9 +126,9 @@ fn decode_front(buffer: &mut [u8], end: usize) -> Result<usize, DecodeError>
 {
     let (len, _) = front_of(&buffer[..end]);
     if len == 0 || len < end {
-        return decode_blocks(buffer, end);
+        return decode_blocks_in_place(buffer, end);
     }
-    decode_flat(buffer, 0, end);
+    decode_flat_in_place(buffer, 0, end);
     Ok(end - 1)
 }
 
@@ -162,15 +162,15 @@ pub fn decode_in_place_report(buf: &mut [u8]) -> Result<DecodeReport, DecodeErro
         → (ReportsMessage result buf.new m ↔ Reads buf.old m) }
     ensures room { IfErr result (λ error. error ≢ TargetBufTooSmall) }
 {
-    let len = len_without_end(buf);
-    if decode_short(buf, len) {
+    let len = len_without_zero(buf);
+    if decode_short_in_place(buf, len) {
         return Ok(DecodeReport::new(len, len - 1));
     }
     if buf.is_empty() {
         return Err(DecodeError::EmptyFrame);
     }
     let end = piece_len(buf);
-    let frame_size = decode_front(buf, end)?;
+    let frame_size = decode_front_in_place(buf, end)?;
     Ok(DecodeReport::new(end, frame_size))
 }
 

@@ -39,7 +39,7 @@ fn copy_xored(source: &[u8], dest: &mut [u8], at: usize, sentinel: u8)
 
 /// Decodes the blocks of a source that has no sentinel, and answers how many bytes they give.
 #[inline(never)]
-fn decode_blocks(source: &[u8], dest: &mut [u8], sentinel: u8) -> Result<usize, DecodeError>
+fn decode_xored_blocks(source: &[u8], dest: &mut [u8], sentinel: u8) -> Result<usize, DecodeError>
     requires { HasNoZero (xor_each sentinel source.now) }
     ensures answer { result ≡ head_answer_within (xor_each sentinel source.now) (length dest.old) }
     ensures buffer { dest.new ≡ overwritten dest.old (kept_output (xor_each sentinel source.now)) }
@@ -74,7 +74,7 @@ fn decode_blocks(source: &[u8], dest: &mut [u8], sentinel: u8) -> Result<usize, 
 
 /// Decodes whole blocks of which none but the last is full to the front of `dest`: one copy, and a zero at each code.
 /// Each byte after what they give stays.
-fn decode_flat(source: &[u8], dest: &mut [u8], sentinel: u8)
+fn decode_xored_flat(source: &[u8], dest: &mut [u8], sentinel: u8)
     requires nonzero { HasNoZero (xor_each sentinel source.now) }
     requires flat { IsFlat (xor_each sentinel source.now) }
     requires room { length source.now ≤ length dest.old + 1 }
@@ -113,9 +113,9 @@ fn decode_fronts(source: &[u8], dest: &mut [u8], sentinel: u8) -> Result<usize, 
             });
         }
         if dest.len() - written < len - 1 + joint_len(full, read + len == source.len()) {
-            return decode_blocks(source, dest, sentinel);
+            return decode_xored_blocks(source, dest, sentinel);
         }
-        decode_flat(&source[read..read + len], &mut dest[written..], sentinel);
+        decode_xored_flat(&source[read..read + len], &mut dest[written..], sentinel);
         read += len;
         written += len - 1;
         if !full && read < source.len() {
@@ -128,7 +128,7 @@ fn decode_fronts(source: &[u8], dest: &mut [u8], sentinel: u8) -> Result<usize, 
 
 /// Decodes a source of 2 to 65 bytes, if these are whole blocks without a sentinel that fit; says whether it did. Each
 /// byte after what they give stays, or where it did not every byte.
-fn decode_short(source: &[u8], dest: &mut [u8], sentinel: u8) -> bool
+fn decode_xored_short(source: &[u8], dest: &mut [u8], sentinel: u8) -> bool
     ensures nonzero { IsTrue result → HasNoZero (xor_each sentinel source.now) }
     ensures flat { IsTrue result → IsFlat (xor_each sentinel source.now) }
     ensures room { IsTrue result → length source.now ≤ length dest.old + 1 }
@@ -149,7 +149,7 @@ fn decode_short(source: &[u8], dest: &mut [u8], sentinel: u8) -> bool
 }
 
 /// How many bytes of the source stand before a sentinel that is its last byte, or all of them.
-fn len_without_end(source: &[u8], sentinel: u8) -> usize
+fn len_without_sentinel(source: &[u8], sentinel: u8) -> usize
     requires { 0 < length source.now }
     ensures within { result ≤ length source.now }
     ensures stop { result < length source.now → slice_index source.now result ≡ sentinel }
@@ -199,8 +199,8 @@ pub fn decode_with_sentinel(
     if source.is_empty() {
         return Err(DecodeError::EmptyFrame);
     }
-    let len = len_without_end(source, sentinel);
-    if decode_short(&source[..len], dest, sentinel) {
+    let len = len_without_sentinel(source, sentinel);
+    if decode_xored_short(&source[..len], dest, sentinel) {
         return Ok(len - 1);
     }
     let end = first_sentinel(source, sentinel);

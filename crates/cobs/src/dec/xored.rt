@@ -105,7 +105,7 @@ fn copy_4_to_8(source: &[u8], dest: &mut [u8], sentinel: u8) -> bool
 /// Copies one, two or three bytes if none is the sentinel, and says whether it did: the first one, the one in the
 /// middle and the last one, some of which may be the same.
 #[inline(always)]
-fn copy_few(source: &[u8], dest: &mut [u8], sentinel: u8) -> bool
+fn copy_xored_few(source: &[u8], dest: &mut [u8], sentinel: u8) -> bool
     requires some { 0 < length source.now }
     requires few { length source.now ≤ 3 }
     requires room { length source.now ≤ length dest.old }
@@ -154,6 +154,6 @@ pub(crate) fn copy_xored_short(source: &[u8], dest: &mut [u8], sentinel: u8) -> 
     } else if len >= 4 {
         copy_4_to_8(source, dest, sentinel)
     } else {
-        copy_few(source, dest, sentinel)
+        copy_xored_few(source, dest, sentinel)
     }
 }

@@ -35,14 +35,14 @@ returns-then-len-eq0-clause-buffer c =
 
 pub returns-then-dest-written-clause-answer : goal.returns-then-dest-written-clause-answer
 returns-then-dest-written-clause-answer c =
-    c.decode_blocks.ensures.answer ∙ ap (head_answer_within (xor_each c.args.sentinel c.args.source.now)) c.by_front.invariant.len
+    c.decode_xored_blocks.ensures.answer ∙ ap (head_answer_within (xor_each c.args.sentinel c.args.source.now)) c.by_front.invariant.len
 
 pub returns-then-dest-written-clause-buffer : goal.returns-then-dest-written-clause-buffer
 returns-then-dest-written-clause-buffer c =
-    c.decode_blocks.ensures.buffer ∙ again c.args.source.now c.args.sentinel c.args.dest.now c.by_front.dest _ _ c.by_front.invariant
+    c.decode_xored_blocks.ensures.buffer ∙ again c.args.source.now c.args.sentinel c.args.dest.now c.by_front.dest _ _ c.by_front.invariant
 
-pub decode_flat-requires-clause-nonzero : goal.decode_flat-requires-clause-nonzero
-decode_flat-requires-clause-nonzero c =
+pub decode_xored_flat-requires-clause-nonzero : goal.decode_xored_flat-requires-clause-nonzero
+decode_xored_flat-requires-clause-nonzero c =
     let i = c.by_front.invariant in
     let e = c.flat_front-len.ensures in
     let none = c.if-len-eq0.false in
@@ -58,8 +58,8 @@ decode_flat-requires-clause-nonzero c =
     let left = length-take-le (length source - read) (drop read source) (omega arith) in
     subst HasNoZero (sym is) (stretch-nonzero source c.args.sentinel c.args.dest.now dest read written i c.requires len (take len (drop read h)) (omega arith) (omega (arith, e.within)) refl flat.whole)
 
-pub decode_flat-requires-clause-flat : goal.decode_flat-requires-clause-flat
-decode_flat-requires-clause-flat c =
+pub decode_xored_flat-requires-clause-flat : goal.decode_xored_flat-requires-clause-flat
+decode_xored_flat-requires-clause-flat c =
     let i = c.by_front.invariant in
     let e = c.flat_front-len.ensures in
     let none = c.if-len-eq0.false in
@@ -91,17 +91,17 @@ by_front-preserved-then-read-source c =
     let within : read + len ≤ length source = omega (arith, e.within) in
     let part-long : length (take (read + len - read) (drop read source)) ≡ len = length-take-le (read + len - read) (drop read source) (omega arith) ∙ omega arith in
     let back : take (length dest - written) (drop written dest) ≡ drop written dest = take_rest dest written in
-    let same : length c.decode_flat.new.dest ≡ length dest - written = c.decode_flat.auto.dest ∙ ap length back ∙ length-drop written dest in
+    let same : length c.decode_xored_flat.new.dest ≡ length dest - written = c.decode_xored_flat.auto.dest ∙ ap length back ∙ length-drop written dest in
     let long : length (take len (drop read h)) ≡ len = ap length (sym is) ∙ length-map (take (read + len - read) (drop read source)) (λ (b : ℕ). bit_xor b c.args.sentinel) ∙ part-long in
     let count : len - 1 ≡ length (output (take len (drop read h))) = (let l = flat.len in omega arith) in
     let less : len - 1 ≡ length (take (read + len - read) (drop read source)) - 1 = omega arith in
-    let begins : take (len - 1) c.decode_flat.new.dest ≡ output (take len (drop read h)) = ap (λ (k : ℕ). take k c.decode_flat.new.dest) less ∙ c.decode_flat.ensures.begins ∙ ap output is in
-    let rest : drop (len - 1) c.decode_flat.new.dest ≡ drop (len - 1) (drop written dest) =
-    ap (λ (k : ℕ). drop k c.decode_flat.new.dest) less ∙ c.decode_flat.ensures.rest ∙ ap (λ (k : ℕ). drop k (take (length dest - written) (drop written dest))) (sym less) ∙ ap (drop (len - 1)) back in
+    let begins : take (len - 1) c.decode_xored_flat.new.dest ≡ output (take len (drop read h)) = ap (λ (k : ℕ). take k c.decode_xored_flat.new.dest) less ∙ c.decode_xored_flat.ensures.begins ∙ ap output is in
+    let rest : drop (len - 1) c.decode_xored_flat.new.dest ≡ drop (len - 1) (drop written dest) =
+    ap (λ (k : ℕ). drop k c.decode_xored_flat.new.dest) less ∙ c.decode_xored_flat.ensures.rest ∙ ap (λ (k : ℕ). drop k (take (length dest - written) (drop written dest))) (sym less) ∙ ap (drop (len - 1)) back in
     let open' = c.if-not-full.true in
     let due = one-due c.flat_front-len.result.1 _ c.joint_len.result c.joint_len.ensures open' (ne_eqb (read + len) (length source) (λ all. omega (arith, all, c.if-read-source.true))) in
     stretch-zero source c.args.sentinel c.args.dest.now dest read written i c.requires len (take len (drop read h)) (omega arith) within refl flat.whole
-    c.decode_flat.new.dest (len - 1) _ refl same count (omega arith) begins rest
+    c.decode_xored_flat.new.dest (len - 1) _ refl same count (omega arith) begins rest
     c.if-read-source.true (omega arith) (ne_eqb _ 255 (λ full. true≢false (sym ((subst (λ (x : List ℕ). (code_of (last_part (take len x)) ≡ 255) → IsTrue c.flat_front-len.result.1) (left-is source c.args.sentinel c.args.dest.now dest read written i) (e.full (omega arith)).1) full) ∙ open')))
 
 pub by_front-preserved : goal.by_front-preserved
@@ -122,19 +122,19 @@ by_front-preserved c =
     let within : read + len ≤ length source = omega (arith, e.within) in
     let part-long : length (take (read + len - read) (drop read source)) ≡ len = length-take-le (read + len - read) (drop read source) (omega arith) ∙ omega arith in
     let back : take (length dest - written) (drop written dest) ≡ drop written dest = take_rest dest written in
-    let same : length c.decode_flat.new.dest ≡ length dest - written = c.decode_flat.auto.dest ∙ ap length back ∙ length-drop written dest in
+    let same : length c.decode_xored_flat.new.dest ≡ length dest - written = c.decode_xored_flat.auto.dest ∙ ap length back ∙ length-drop written dest in
     let long : length (take len (drop read h)) ≡ len = ap length (sym is) ∙ length-map (take (read + len - read) (drop read source)) (λ (b : ℕ). bit_xor b c.args.sentinel) ∙ part-long in
     let count : len - 1 ≡ length (output (take len (drop read h))) = (let l = flat.len in omega arith) in
     let less : len - 1 ≡ length (take (read + len - read) (drop read source)) - 1 = omega arith in
-    let begins : take (len - 1) c.decode_flat.new.dest ≡ output (take len (drop read h)) = ap (λ (k : ℕ). take k c.decode_flat.new.dest) less ∙ c.decode_flat.ensures.begins ∙ ap output is in
-    let rest : drop (len - 1) c.decode_flat.new.dest ≡ drop (len - 1) (drop written dest) =
-    ap (λ (k : ℕ). drop k c.decode_flat.new.dest) less ∙ c.decode_flat.ensures.rest ∙ ap (λ (k : ℕ). drop k (take (length dest - written) (drop written dest))) (sym less) ∙ ap (drop (len - 1)) back in
+    let begins : take (len - 1) c.decode_xored_flat.new.dest ≡ output (take len (drop read h)) = ap (λ (k : ℕ). take k c.decode_xored_flat.new.dest) less ∙ c.decode_xored_flat.ensures.begins ∙ ap output is in
+    let rest : drop (len - 1) c.decode_xored_flat.new.dest ≡ drop (len - 1) (drop written dest) =
+    ap (λ (k : ℕ). drop k c.decode_xored_flat.new.dest) less ∙ c.decode_xored_flat.ensures.rest ∙ ap (λ (k : ℕ). drop k (take (length dest - written) (drop written dest))) (sym less) ∙ ap (drop (len - 1)) back in
     elim c.else-not-full.branch [
       | else-not-full-via-then-not-full+else-read-source w ↦ stretch-last source c.args.sentinel c.args.dest.now dest read written i c.requires len (take len (drop read h)) (omega arith) within refl flat.whole
-          c.decode_flat.new.dest (len - 1) _ refl same count (omega arith) begins rest
+          c.decode_xored_flat.new.dest (len - 1) _ refl same count (omega arith) begins rest
           (inl (omega (arith, w.if-read-source.false)))
       | else-not-full-via-else-not-full w ↦ stretch-last source c.args.sentinel c.args.dest.now dest read written i c.requires len (take len (drop read h)) (omega arith) within refl flat.whole
-          c.decode_flat.new.dest (len - 1) _ refl same count (omega arith) begins rest
+          c.decode_xored_flat.new.dest (len - 1) _ refl same count (omega arith) begins rest
           (inr (eq-eqb _ 255 ((subst (λ (x : List ℕ). IsTrue c.flat_front-len.result.1 → (code_of (last_part (take len x)) ≡ 255)) (left-is source c.args.sentinel c.args.dest.now dest read written i) (e.full (omega arith)).0) w.if-not-full.false)))
     ]
 

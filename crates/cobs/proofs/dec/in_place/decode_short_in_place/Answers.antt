@@ -4,7 +4,7 @@ use Rattle.cobs.specs.Piece.{output}
 use Rattle.cobs.specs.Internal.Decoded.{IsFlat}
 use Rattle.cobs.proofs.SentinelLemmas.{xor_each-zero}
 use Rattle.cobs.proofs.FlatLemmas.{moved-piece, moved-rest, piece-nonzero}
-use Rattle.cobs.proofs.dec.in_place.decode_short.Goals as goal
+use Rattle.cobs.proofs.dec.in_place.decode_short_in_place.Goals as goal
 
 pub write_joints-requires-clause-nonzero : goal.write_joints-requires-clause-nonzero
 write_joints-requires-clause-nonzero c =

@@ -4,7 +4,7 @@ use Rattle.cobs.specs.Grammar.{HasNoZero}
 use Rattle.cobs.specs.Piece.{output}
 use Rattle.cobs.specs.Internal.Decoded.{IsFlat}
 use Rattle.cobs.proofs.SourceFronts.{copied-piece, copied-rest}
-use Rattle.cobs.proofs.dec.sentinel.decode_flat.Goals as goal
+use Rattle.cobs.proofs.dec.sentinel.decode_xored_flat.Goals as goal
 
 pub write_joints-requires-clause-nonzero : goal.write_joints-requires-clause-nonzero
 write_joints-requires-clause-nonzero c =

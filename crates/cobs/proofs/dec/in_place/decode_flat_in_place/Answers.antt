@@ -3,7 +3,7 @@ use Rattle.cobs.specs.Grammar.{HasNoZero}
 use Rattle.cobs.specs.Piece.{output}
 use Rattle.cobs.specs.Internal.Decoded.{IsFlat}
 use Rattle.cobs.proofs.FlatLemmas.{moved-piece, moved-rest, flat-some}
-use Rattle.cobs.proofs.dec.in_place.decode_flat.Goals as goal
+use Rattle.cobs.proofs.dec.in_place.decode_flat_in_place.Goals as goal
 
 pub write_joints-requires-clause-nonzero : goal.write_joints-requires-clause-nonzero
 write_joints-requires-clause-nonzero c =

@@ -5,8 +5,8 @@ use Rattle.cobs.specs.Grammar.{HasNoZero}
 use Rattle.cobs.specs.Piece.{output}
 use Rattle.cobs.specs.Internal.Decoded.{IsFlat}
 use Rattle.cobs.proofs.InPlaceSteps.{all-buffer, all-count, broken-buffer, broken-count, left-nonzero, left-broken, stretch-nonzero, stretch-last, stretch-zero}
-use Rattle.cobs.proofs.dec.in_place.decode_blocks.Goals as goal
-use Rattle.cobs.proofs.dec.in_place.decode_blocks.Goals.{else-not-full-via-then-not-full+else-read-end, else-not-full-via-else-not-full}
+use Rattle.cobs.proofs.dec.in_place.decode_blocks_in_place.Goals as goal
+use Rattle.cobs.proofs.dec.in_place.decode_blocks_in_place.Goals.{else-not-full-via-then-not-full+else-read-end, else-not-full-via-else-not-full}
 
 -- a stretch of what is left, seen from the place where its output goes
 front-is : (buffer : List ℕ) (end read written len : ℕ) → written ≤ read → len ≤ length (take (end - read) (drop read buffer))
@@ -37,8 +37,8 @@ returns-then-len-eq0-clause-buffer c =
     let broken = left-broken _ _ _ _ _ i c.by_front-test.true (c.front_of-len.ensures.broken c.if-len-eq0.true (omega arith)) in
     broken-buffer _ _ _ _ _ i _ c.by_front-test.true refl broken
 
-pub decode_flat-requires-clause-nonzero : goal.decode_flat-requires-clause-nonzero
-decode_flat-requires-clause-nonzero c =
+pub decode_flat_in_place-requires-clause-nonzero : goal.decode_flat_in_place-requires-clause-nonzero
+decode_flat_in_place-requires-clause-nonzero c =
     let i = c.by_front.invariant in
     let e = c.front_of-len.ensures in
     let none = c.if-len-eq0.false in
@@ -51,8 +51,8 @@ decode_flat-requires-clause-nonzero c =
     let is = front-is buffer c.args.end read written len i.order e.within in
     subst HasNoZero (sym is) (stretch-nonzero c.args.buffer.now c.args.end buffer read written i c.requires.nonzero len (take len part) (omega arith) e.within refl flat.whole)
 
-pub decode_flat-requires-clause-flat : goal.decode_flat-requires-clause-flat
-decode_flat-requires-clause-flat c =
+pub decode_flat_in_place-requires-clause-flat : goal.decode_flat_in_place-requires-clause-flat
+decode_flat_in_place-requires-clause-flat c =
     let i = c.by_front.invariant in
     let e = c.front_of-len.ensures in
     let none = c.if-len-eq0.false in
@@ -79,13 +79,13 @@ by_front-preserved-then-read-end c =
     let back : take (length buffer - written) (drop written buffer) ≡ drop written buffer = take_rest buffer written in
     let is : take len (drop (read - written) (take (length buffer - written) (drop written buffer))) ≡ take len part = front-is buffer c.args.end read written len i.order (e.within) in
     let long : length (take len part) ≡ len = length-take-le len part e.within in
-    let same : length c.decode_flat.new.buffer ≡ length buffer - written = c.decode_flat.auto.buffer ∙ ap length back ∙ length-drop written buffer in
+    let same : length c.decode_flat_in_place.new.buffer ≡ length buffer - written = c.decode_flat_in_place.auto.buffer ∙ ap length back ∙ length-drop written buffer in
     let count : len - 1 ≡ length (output (take len part)) = (let l = flat.len in omega arith) in
-    let begins = c.decode_flat.ensures.begins ∙ ap output is in
-    let rest = c.decode_flat.ensures.rest ∙ ap (drop (len - 1)) back in
+    let begins = c.decode_flat_in_place.ensures.begins ∙ ap output is in
+    let rest = c.decode_flat_in_place.ensures.rest ∙ ap (drop (len - 1)) back in
     let open' = c.if-not-full.true in
     stretch-zero c.args.buffer.now c.args.end buffer read written i c.requires.nonzero len (take len part) (omega arith) e.within refl flat.whole
-    c.decode_flat.new.buffer (len - 1) _ refl same count begins rest c.if-read-end.true (ne_eqb _ 255 (λ full. true≢false (sym ((e.full (omega arith)).1 full) ∙ open')))
+    c.decode_flat_in_place.new.buffer (len - 1) _ refl same count begins rest c.if-read-end.true (ne_eqb _ 255 (λ full. true≢false (sym ((e.full (omega arith)).1 full) ∙ open')))
 
 pub by_front-preserved : goal.by_front-preserved
 by_front-preserved c =
@@ -101,15 +101,15 @@ by_front-preserved c =
     let back : take (length buffer - written) (drop written buffer) ≡ drop written buffer = take_rest buffer written in
     let is : take len (drop (read - written) (take (length buffer - written) (drop written buffer))) ≡ take len part = front-is buffer c.args.end read written len i.order (e.within) in
     let long : length (take len part) ≡ len = length-take-le len part e.within in
-    let same : length c.decode_flat.new.buffer ≡ length buffer - written = c.decode_flat.auto.buffer ∙ ap length back ∙ length-drop written buffer in
+    let same : length c.decode_flat_in_place.new.buffer ≡ length buffer - written = c.decode_flat_in_place.auto.buffer ∙ ap length back ∙ length-drop written buffer in
     let count : len - 1 ≡ length (output (take len part)) = (let l = flat.len in omega arith) in
-    let begins = c.decode_flat.ensures.begins ∙ ap output is in
-    let rest = c.decode_flat.ensures.rest ∙ ap (drop (len - 1)) back in
+    let begins = c.decode_flat_in_place.ensures.begins ∙ ap output is in
+    let rest = c.decode_flat_in_place.ensures.rest ∙ ap (drop (len - 1)) back in
     elim c.else-not-full.branch [
       | else-not-full-via-then-not-full+else-read-end w ↦ stretch-last c.args.buffer.now c.args.end buffer read written i c.requires.nonzero len (take len part) (omega arith) e.within refl flat.whole
-          c.decode_flat.new.buffer (len - 1) _ refl same count begins rest (inl (omega (arith, w.if-read-end.false)))
+          c.decode_flat_in_place.new.buffer (len - 1) _ refl same count begins rest (inl (omega (arith, w.if-read-end.false)))
       | else-not-full-via-else-not-full w ↦ stretch-last c.args.buffer.now c.args.end buffer read written i c.requires.nonzero len (take len part) (omega arith) e.within refl flat.whole
-          c.decode_flat.new.buffer (len - 1) _ refl same count begins rest (inr (eq-eqb _ 255 ((e.full (omega arith)).0 w.if-not-full.false)))
+          c.decode_flat_in_place.new.buffer (len - 1) _ refl same count begins rest (inr (eq-eqb _ 255 ((e.full (omega arith)).0 w.if-not-full.false)))
     ]
 
 pub returns-clause-answer : goal.returns-clause-answer

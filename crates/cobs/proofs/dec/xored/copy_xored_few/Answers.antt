@@ -1,5 +1,5 @@
 use Rattle.cobs.proofs.XoredLemmas.{few-nonzero, few-xored}
-use Rattle.cobs.proofs.dec.xored.copy_few.Goals as goal
+use Rattle.cobs.proofs.dec.xored.copy_xored_few.Goals as goal
 
 pub returns-clause-nonzero : goal.returns-clause-nonzero
 returns-clause-nonzero c holds = few-nonzero c.args.source.now c.args.dest.now c.args.sentinel c.requires.some c.requires.few c.requires.room c.if-zeros-ne0.false

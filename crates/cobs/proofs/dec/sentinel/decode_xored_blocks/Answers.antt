@@ -1,8 +1,8 @@
 use Rattle.std.proofs.Common.{◌<◌, ◌-◌, ℕ, get_or, bit_xor, refl, arith}
 use Rattle.cobs.specs.Sentinel.{xor_each}
 use Rattle.cobs.proofs.SourceSteps.{source-started, all-buffer, all-count, broken-buffer, broken-count, code-some, cut-buffer, cut-count, full-copied, last-copied, block-copied, full-buffer, full-count}
-use Rattle.cobs.proofs.dec.sentinel.decode_blocks.Goals as goal
-use Rattle.cobs.proofs.dec.sentinel.decode_blocks.Goals.{else-code-ne-FULL_CODE-via-then-code-ne-FULL_CODE+else-read-source, else-code-ne-FULL_CODE-via-else-code-ne-FULL_CODE}
+use Rattle.cobs.proofs.dec.sentinel.decode_xored_blocks.Goals as goal
+use Rattle.cobs.proofs.dec.sentinel.decode_xored_blocks.Goals.{else-code-ne-FULL_CODE-via-then-code-ne-FULL_CODE+else-read-source, else-code-ne-FULL_CODE-via-else-code-ne-FULL_CODE}
 
 pub by_block-init : goal.by_block-init
 by_block-init c = source-started (xor_each c.args.sentinel c.args.source.now) c.args.dest.now

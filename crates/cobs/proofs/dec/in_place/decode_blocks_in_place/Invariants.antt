@@ -1,6 +1,6 @@
 use Rattle.std.proofs.Common.{◌-◌}
 use Rattle.cobs.proofs.InPlaceSteps.{DecodedInPlace}
-use Rattle.cobs.proofs.dec.in_place.decode_blocks.Given as goal
+use Rattle.cobs.proofs.dec.in_place.decode_blocks_in_place.Given as goal
 
 abbrev pub invariant-by_front : goal.invariant-by_front
 invariant-by_front l = DecodedInPlace l.fn.buffer l.end l.buffer l.read l.written
