@@ -149,6 +149,22 @@ module _ (piece old dest : List ℕ) (read written : ℕ) (p : Decoded piece old
         last = ap last_part (sym next) ∙ q.last ∙ ap last_part part-is ∙ p.last;
       }
 
+  -- and all that is left of the piece
+  module _ (count : ℕ) (count-is : count ≡ length (output part)) (begins : take count new ≡ output part) (behind : drop count new ≡ drop count back) where
+    pub finished-long : written + count ≡ length (output piece)
+    finished-long = let l = left-is in omega arith
+
+    pub finished-begins : take (written + count) (put_mid written k dest new) ≡ output piece
+    finished-begins =
+        ap (take (written + count)) joined-is ∙ take-past (take written dest) new written count (written + count) front-long refl
+        ∙ ap (λ (x : List ℕ). take written dest ++ x) (begins ∙ ap output part-is) ∙ p.front
+
+    pub finished-rest : drop (written + count) (put_mid written k dest new) ≡ drop (written + count) old
+    finished-rest =
+        ap (drop (written + count)) joined-is ∙ drop-past (take written dest) new written count (written + count) front-long refl
+        ∙ behind ∙ ap (drop count) back-is ∙ drop-drop count written dest
+        ∙ ap (λ (n : ℕ). drop n dest) finished-long ∙ p.rest ∙ ap (λ (n : ℕ). drop n old) (sym finished-long)
+
   -- and what is left of the piece, as far as it fits
   module _ (same : length old ≡ length dest) (whole : List ℕ) (out : output whole ≡ take (length dest - written) (output part)) (count : ℕ) (count-is : count ≡ length (output whole))
       (begins : take count new ≡ output whole) (behind : drop count new ≡ drop count back) where

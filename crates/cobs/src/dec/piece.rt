@@ -1,15 +1,15 @@
 //! Pieces that are at hand as a whole: where they end, how long their outputs are, and the outputs.
-ghost use Rattle.std.specs.Prelude.{◌≡◌, ◌+◌, ◌-◌, ◌++◌, ◌<◌, ◌≤◌, ℕ, List, length, take, drop, slice_index};
+ghost use Rattle.std.specs.Prelude.{◌≡◌, ◌+◌, ◌-◌, ◌++◌, ◌<◌, ◌≤◌, ℕ, IsTrue, List, length, take, drop, slice_index};
 ghost use Rattle.cobs.specs.Grammar.{HasNoZero, code_of};
 ghost use Rattle.cobs.specs.Overwritten.{overwritten};
 ghost use Rattle.cobs.specs.Decode.{leading_zeros, sized};
 ghost use Rattle.cobs.specs.Internal.Decoded.{Decoded};
 ghost use Rattle.cobs.specs.Piece.{output, last_part, lacks};
-ghost use Rattle.cobs.specs.Stream.{outcome_of};
+ghost use Rattle.cobs.specs.Stream.{head, outcome_of};
 
 use crate::dec::error::DecodeError;
 use crate::dec::fit::fitting_len;
-use crate::dec::front::decode_window;
+use crate::dec::front::{decode_front, decode_window};
 use crate::enc::FULL_CODE;
 use crate::window::{WINDOW, copy_window, first_zero_of_few};
 use memchr::memchr;
@@ -152,6 +152,35 @@ pub(crate) fn decode_piece(piece: &[u8], dest: &mut [u8]) -> PieceOutput
         code: end.code,
         left: end.left,
     }
+}
+
+/// Decodes what a source has in front of its first zero, or all of it, and answers how many bytes that is, and what is
+/// to be known of it. `clean` says that no byte is a zero.
+///
+/// Precondition: as much room as the source has bytes. No byte after the output is written.
+pub(crate) fn decode_head(source: &[u8], dest: &mut [u8], clean: bool) -> (usize, PieceOutput)
+    requires begun { 0 < length (head source.now) }
+    requires clean { IsTrue clean → HasNoZero source.now }
+    requires room { length source.now ≤ length dest.old }
+    ensures read { result.0 ≡ length (head source.now) }
+    ensures written { result.1.written ≡ length (output (head source.now)) }
+    ensures begins { take result.1.written dest.new ≡ output (head source.now) }
+    ensures rest { drop result.1.written dest.new ≡ drop result.1.written dest.old }
+    ensures code { result.1.code ≡ code_of (last_part (head source.now)) }
+    ensures left { result.1.left ≡ lacks (last_part (head source.now)) }
+{
+    if clean {
+        return (source.len(), decode_piece(source, dest));
+    }
+    let front = decode_front(source, dest);
+    let end = front.read + piece_len(&source[front.read..]);
+    let rest = decode_piece(&source[front.read..end], &mut dest[front.written..]);
+    let all = PieceOutput {
+        written: front.written + rest.written,
+        code: rest.code,
+        left: rest.left,
+    };
+    (end, all)
 }
 
 /// Decodes what is left of a piece that has ended, where `read` bytes of it have become the first `written` bytes of

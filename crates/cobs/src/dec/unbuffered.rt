@@ -1,9 +1,10 @@
 //! The streaming decoder whose buffer is passed to each call. The three others stand on it.
-ghost use Rattle.std.specs.Prelude.{◌≡◌, ◌<◌, ◌≤◌, ◌+◌, ℕ, false, List, [], length, take, drop, Err, IfOk, IfSome, ◌++◌};
+ghost use Rattle.std.specs.Prelude.{◌≡◌, ◌<◌, ◌≤◌, ◌+◌, ℕ, IsTrue, false, List, [], length, take, drop, Err, IfOk, IfSome, ◌++◌};
 ghost use Rattle.cobs.specs.Grammar.{HasNoZero};
 ghost use Rattle.cobs.specs.Feed.{DecoderAfter, Feeds, Idle, Over, Phase};
 ghost use Rattle.cobs.specs.declared.dec.error.DecodeError.TheVariants.{TargetBufTooSmall};
 ghost use Rattle.cobs.specs.Fields.Decoders.{phase_at, phase_of};
+ghost use Rattle.cobs.specs.Stream.{head};
 ghost use Rattle.cobs.specs.Internal.Step.{next_phase, next_buffer, next_answer, end_answer, FedInTurn};
 ghost use Rattle.cobs.specs.Push.{PushesBytes};
 ghost use Rattle.cobs.specs.Internal.PieceEnds.{LeavesRest};
@@ -11,9 +12,8 @@ ghost use Rattle.cobs.specs.FeedPiece.{TakesBytes, TakesPiece};
 
 use crate::dec::chunk::copy_to_zero;
 use crate::dec::error::{DecodeError, PushError};
-use crate::dec::fit::fitting_len;
 use crate::dec::frame_decoder::{PieceEnd, piece_end};
-use crate::dec::piece::{decode_piece, piece_len};
+use crate::dec::piece::{decode_head, piece_len};
 use crate::dec::report::DecodeReport;
 use crate::enc::FULL_CODE;
 use crate::window::WIDE_WINDOW;
@@ -24,6 +24,9 @@ const FEW: usize = 4;
 
 /// So many bytes after the first ones are worth a search for the end of their piece.
 const MANY: usize = 128;
+
+/// Where no zero is found in so many bytes, it is sought while they are decoded.
+const LONG: usize = 1024;
 
 /// The code of a full block, as a byte.
 const FULL: u8 = FULL_CODE as u8;
@@ -314,50 +317,51 @@ impl UnbufferedDecoder {
         run
     }
 
-    /// Takes the first bytes of a stretch without zeros whose code stands at its front, as far as their output fits
-    /// the buffer, and answers how many.
-    fn take_blocks(&mut self, dest: &mut [u8], stretch: &[u8]) -> usize
-        requires some { 0 < length stretch.now }
-        requires nonzero { HasNoZero stretch.now }
+    /// Takes the first bytes up to a zero, of which the first is a code, as many as there is room for, and answers how
+    /// many. `clean` says that no byte is a zero.
+    fn take_blocks(&mut self, dest: &mut [u8], bytes: &[u8], clean: bool) -> usize
+        requires begun { 0 < length (head bytes.now) }
+        requires clean { IsTrue clean → HasNoZero bytes.now }
         requires boundary { self.old.left ≡ 0 }
         requires going { self.old.over ≡ false }
-        ensures within { result ≤ length stretch.now }
-        ensures fed { FedInTurn dest.old (phase_of self.old) (take result stretch.now)
+        ensures within { result ≤ length bytes.now }
+        ensures fed { FedInTurn dest.old (phase_of self.old) (take result bytes.now)
             dest.new (phase_of self.new) }
     {
+        if dest.len().saturating_sub(self.dest_idx) < 2 {
+            return 0;
+        }
         let at = if self.code == FULL {
             self.dest_idx
         } else {
-            if dest.len() <= self.dest_idx {
-                return 0;
-            }
             dest[self.dest_idx] = 0;
             self.dest_idx + 1
         };
-        if dest.len() < at {
-            return 0;
-        }
-        let fit = fitting_len(stretch, dest.len() - at);
-        let end = decode_piece(&stretch[..fit], &mut dest[at..]);
+        // An output is shorter than its piece.
+        let most = bytes.len().min(dest.len() - at);
+        let (len, end) = decode_head(&bytes[..most], &mut dest[at..], clean);
         self.dest_idx = at + end.written;
         self.code = end.code as u8;
         self.left = end.left as u8;
-        fit
+        len
     }
 
-    /// Takes the first bytes of a stretch without zeros, as far as their output fits the buffer, and answers how
-    /// many.
-    fn take_stretch(&mut self, dest: &mut [u8], stretch: &[u8]) -> usize
-        requires { HasNoZero stretch.now }
-        ensures within { result ≤ length stretch.now }
-        ensures fed { FedInTurn dest.old (phase_of self.old) (take result stretch.now)
+    /// Takes first bytes up to a zero, as many as there is room for, and answers how many: those that the open block
+    /// lacks, and then whole blocks.
+    fn take_many(&mut self, dest: &mut [u8], bytes: &[u8]) -> usize
+        ensures within { result ≤ length bytes.now }
+        ensures fed { FedInTurn dest.old (phase_of self.old) (take result bytes.now)
             dest.new (phase_of self.new) }
     {
-        let run = self.take_open_block(dest, stretch);
-        if self.over || run == stretch.len() || self.left != 0 {
+        let near = bytes.len().min(LONG);
+        let clean = piece_len(&bytes[..near]);
+        let open = clean.min(self.left as usize);
+        let run = self.take_open_block(dest, &bytes[..open]);
+        if self.over || self.left != 0 || run == clean {
             return run;
         }
-        run + self.take_blocks(dest, &stretch[run..])
+        let end = if clean < LONG { clean } else { bytes.len() };
+        run + self.take_blocks(dest, &bytes[run..end], clean < LONG)
     }
 
     /// Writes a zero at each code of a stretch that was copied after the output so far, and goes on after it. `alike`
@@ -469,11 +473,10 @@ impl UnbufferedDecoder {
         self.dest_idx = here.dest_idx;
         self.left = here.left;
         self.code = here.code;
-        if run < WIDE_WINDOW || bytes.len() - run < MANY {
+        if bytes.len() - run < MANY || run < WIDE_WINDOW {
             return run;
         }
-        let end = run + piece_len(&bytes[run..]);
-        run + self.take_stretch(dest, &bytes[run..end])
+        run + self.take_many(dest, &bytes[run..])
     }
 
     /// As `push`, by a step for each byte.

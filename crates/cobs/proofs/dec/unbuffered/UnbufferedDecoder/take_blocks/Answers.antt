@@ -1,35 +1,96 @@
-use Rattle.std.proofs.Common.{◌≡◌, ◌≢◌, ◌<◌, ◌∙◌, ◌-◌, Bool, eqb, length, take, sym, ap, arith, length-take-le}
+use Rattle.std.proofs.Common.{◌≡◌, ◌≢◌, ◌<◌, ◌≤◌, ◌∙◌, ◌+◌, ℕ, List, Bool, eqb, get_or, length, take, sym, ap, subst, arith, get_or-take, length-take}
 use Rattle.std.specs.List.{All}
 use Rattle.std.proofs.lemmas.Bool.{ne_eqb, eq-eqb}
-use Rattle.std.proofs.lemmas.List.{length-take}
-use Rattle.std.proofs.lemmas.List.Elements.{All-take, All-from_get_or}
-use Rattle.cobs.specs.Piece.{output}
+use Rattle.std.proofs.lemmas.List.{take-take}
+use Rattle.std.proofs.lemmas.List.Elements.{All-take, All-get_or, All-from_get_or}
+use Rattle.cobs.specs.Feed.{Phase}
+use Rattle.cobs.specs.Grammar.{code_of}
+use Rattle.cobs.specs.Internal.Step.{FedInTurn}
+use Rattle.cobs.specs.Piece.{last_part, output}
+use Rattle.cobs.specs.Stream.{head}
+use Rattle.cobs.proofs.FrontSteps.{head-get, head-one_more, head-prefix}
+use Rattle.cobs.proofs.OutcomeLemmas.{head_nonzero, length-head}
+use Rattle.cobs.proofs.PieceCuts.{output-le}
 use Rattle.cobs.proofs.StretchLemmas.{base_of, joined, blocks_fed, code_small}
 use Rattle.cobs.proofs.dec.unbuffered.UnbufferedDecoder.take_blocks.Goals as goal
-use Rattle.cobs.proofs.dec.unbuffered.UnbufferedDecoder.take_blocks.Goals.{then-self, else-self+else-dest-self}
+use Rattle.cobs.proofs.dec.unbuffered.UnbufferedDecoder.take_blocks.Goals.{then-self, else-self}
+
+-- what a front of some bytes has before its first zero
+module _ (bytes : List ℕ) (most : ℕ) where
+  abbrev piece : List ℕ
+  piece = head (take most bytes)
+
+  begun : 0 < length (head bytes) → 0 < most → 0 < length piece
+  begun some room =
+      let first : get_or bytes 0 0 ≢ 0 = λ zero. All-get_or (λ b. b ≢ 0) (head bytes) 0 0 some (head_nonzero bytes) (head-get 0 bytes some ∙ zero) in
+      let l = length-head bytes in
+      let t = length-take most bytes in
+      head-one_more 0 (take most bytes) (omega arith) (omega arith) (λ zero. first (sym (get_or-take most bytes 0 0 room) ∙ zero))
+
+  within : length piece ≤ length bytes
+  within = let l = length-head (take most bytes) in let t = length-take most bytes in omega arith
+
+  short : length piece ≤ most
+  short = let l = length-head (take most bytes) in let t = length-take most bytes in omega arith
+
+  front : take (length piece) bytes ≡ piece
+  front = sym (take-take (length piece) most bytes short) ∙ head-prefix (take most bytes)
+
+  small : All (λ b. b < 256) bytes → code_of (last_part piece) < 256
+  small below = subst (λ (p : List ℕ). code_of (last_part p) < 256) front (code_small (take (length piece) bytes) (All-take (λ b. b < 256) (length piece) bytes below))
+
+  fed-front : (buffer buffer' : List ℕ) (phase phase' : Phase) (n : ℕ) → n ≡ length piece → FedInTurn buffer phase piece buffer' phase' → FedInTurn buffer phase (take n bytes) buffer' phase'
+  fed-front buffer buffer' phase phase' n is fed = subst (λ (xs : List ℕ). FedInTurn buffer phase xs buffer' phase') (sym (ap (λ (k : ℕ). take k bytes) is ∙ front)) fed
+
+pub decode_head-len-requires-clause-begun : goal.decode_head-len-requires-clause-begun
+decode_head-len-requires-clause-begun c =
+    let here : ℕ = c.args.self.now.dest_idx in
+    let near : c.if-self.at ≤ here + 1 = elim c.if-self.branch [
+      | then-self w ↦ omega (arith, w.at-is)
+      | else-self w ↦ omega (arith, w.at-is)
+    ] in
+    let l = length-head c.args.bytes.now in
+    begun c.args.bytes.now c.min-most.result c.requires.begun (omega (arith, near, c.requires.begun, c.saturating_sub.ensures, c.if-saturating_sub-lt2.false))
 
 pub overflow_cast-self : goal.overflow_cast-self
 overflow_cast-self c =
-    let bytes : All (λ b. b < 256) c.args.stretch.now = All-from_get_or (λ b. b < 256) c.args.stretch.now 0 (λ i below. (c.type_inv.stretch i).fits) in
-    record { fits = rw c.decode_piece-end.ensures.code (code_small (take c.fitting_len-fit.result c.args.stretch.now) (All-take (λ b. b < 256) c.fitting_len-fit.result c.args.stretch.now bytes)) }
+    let below : All (λ b. b < 256) c.args.bytes.now = All-from_get_or (λ b. b < 256) c.args.bytes.now 0 (λ i below. (c.type_inv.bytes i).fits) in
+    record { fits = rw c.decode_head-len.ensures.code (small c.args.bytes.now c.min-most.result below) }
 
 pub overflow_cast-self-2 : goal.overflow_cast-self-2
 overflow_cast-self-2 c =
-    let bytes : All (λ b. b < 256) c.args.stretch.now = All-from_get_or (λ b. b < 256) c.args.stretch.now 0 (λ i below. (c.type_inv.stretch i).fits) in
-    record { fits = omega (arith, c.decode_piece-end.ensures.left, code_small (take c.fitting_len-fit.result c.args.stretch.now) (All-take (λ b. b < 256) c.fitting_len-fit.result c.args.stretch.now bytes)) }
+    let below : All (λ b. b < 256) c.args.bytes.now = All-from_get_or (λ b. b < 256) c.args.bytes.now 0 (λ i below. (c.type_inv.bytes i).fits) in
+    record { fits = omega (arith, c.decode_head-len.ensures.left, small c.args.bytes.now c.min-most.result below) }
+
+pub returns-clause-within : goal.returns-clause-within
+returns-clause-within c = omega (arith, c.decode_head-len.ensures.read, within c.args.bytes.now c.min-most.result)
 
 pub returns-clause-fed : goal.returns-clause-fed
 returns-clause-fed c =
+    let bytes : List ℕ = c.args.bytes.now in
+    let most : ℕ = c.min-most.result in
+    let e = c.decode_head-len.ensures in
     let at-is : c.if-self.at ≡ base_of (eqb c.args.self.now.code 255) c.args.self.now.dest_idx = elim c.if-self.branch [
       | then-self w ↦ w.at-is ∙ sym (ap (λ (v : Bool). base_of v c.args.self.now.dest_idx) (eq-eqb _ 255 w.if-self.true))
-      | else-self+else-dest-self w ↦ w.at-is ∙ sym (ap (λ (v : Bool). base_of v c.args.self.now.dest_idx) (ne_eqb _ 255 w.if-self.false))
+      | else-self w ↦ w.at-is ∙ sym (ap (λ (v : Bool). base_of v c.args.self.now.dest_idx) (ne_eqb _ 255 w.if-self.false))
     ] in
     let dest-is : c.if-self.dest ≡ joined (eqb c.args.self.now.code 255) c.args.self.now.dest_idx c.args.dest.now = elim c.if-self.branch [
       | then-self w ↦ w.dest-is ∙ sym (ap (λ (v : Bool). joined v c.args.self.now.dest_idx c.args.dest.now) (eq-eqb _ 255 w.if-self.true))
-      | else-self+else-dest-self w ↦ w.dest-is ∙ sym (ap (λ (v : Bool). joined v c.args.self.now.dest_idx c.args.dest.now) (ne_eqb _ 255 w.if-self.false))
+      | else-self w ↦ w.dest-is ∙ sym (ap (λ (v : Bool). joined v c.args.self.now.dest_idx c.args.dest.now) (ne_eqb _ 255 w.if-self.false))
     ] in
-    blocks_fed c.args.self.now c.decode_piece-end.result.code c.decode_piece-end.result.left c.args.dest.now c.if-self.dest (take c.fitting_len-fit.result c.args.stretch.now) _ c.if-self.at _
-    c.requires.going c.requires.boundary (All-take (λ byte. byte ≢ 0) c.fitting_len-fit.result c.args.stretch.now c.requires.nonzero)
-    (omega (arith, length-take-le c.fitting_len-fit.result c.args.stretch.now c.fitting_len-fit.ensures.within))
-    at-is dest-is c.if-self.auto.dest (omega (arith, ap length c.fitting_len-fit.ensures.front, length-take (length c.if-self.dest - c.if-self.at) (output c.args.stretch.now)))
-    c.decode_piece-end.ensures.written c.decode_piece-end.ensures.begins c.decode_piece-end.ensures.rest c.decode_piece-end.ensures.code c.decode_piece-end.ensures.left
+    let some : 0 < length (piece bytes most) =
+    let near : c.if-self.at ≤ c.args.self.now.dest_idx + 1 = elim c.if-self.branch [
+      | then-self w ↦ omega (arith, w.at-is)
+      | else-self w ↦ omega (arith, w.at-is)
+    ] in
+    let l = length-head bytes in
+    begun bytes most c.requires.begun (omega (arith, near, c.requires.begun, c.saturating_sub.ensures, c.if-saturating_sub-lt2.false)) in
+    let o = output-le (piece bytes most) some in
+    let s = short bytes most in
+    let a = c.if-self.auto.dest in
+    let fits : c.if-self.at + length (output (piece bytes most)) ≤ length c.args.dest.now = omega arith in
+    let fed = blocks_fed c.args.self.now c.decode_head-len.result.1.code c.decode_head-len.result.1.left c.args.dest.now c.if-self.dest (piece bytes most) _ c.if-self.at _
+    c.requires.going c.requires.boundary (head_nonzero (take most bytes)) some at-is dest-is c.if-self.auto.dest
+    fits
+    e.written e.begins e.rest e.code e.left in
+    fed-front bytes most _ _ _ _ _ e.read fed

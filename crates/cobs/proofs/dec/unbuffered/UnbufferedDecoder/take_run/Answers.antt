@@ -1,5 +1,5 @@
 use Rattle.std.proofs.Common.{◌≡◌, ◌+◌, ◌-◌, ◌∙◌, ℕ, List, Bool, false, cond, eqb, take, drop, length, ap, sym, subst, arith, length-drop, length-take}
-use Rattle.std.proofs.lemmas.List.{take_rest, take-take}
+use Rattle.std.proofs.lemmas.List.{take_rest}
 use Rattle.std.proofs.Math.Seq.{take-add}
 use Rattle.cobs.specs.Feed.{Phase, Over}
 use Rattle.cobs.specs.Fields.Decoders.{phase_of, phase_with}
@@ -37,8 +37,7 @@ pub returns-clause-fed : goal.returns-clause-fed
 returns-clause-fed c =
     let bytes : List ℕ = c.args.bytes.now in
     let run : ℕ = c.by_part-test.run in
-    let more : ℕ = c.take_stretch.result in
-    let most : ℕ = run + c.piece_len.result - run in
+    let more : ℕ = c.take_many.result in
     let start : Phase = phase_of c.args.self.now in
     let here : UnbufferedDecoder = c.by_part-test.here in
     let left_at : Phase = phase_of (record { dest_idx = here.dest_idx; left = here.left; code = here.code; over = c.args.self.now.over }) in
@@ -55,5 +54,4 @@ returns-clause-fed c =
     ] in
     joined bytes _ _ _ _ _ _ run more
     (subst (λ (z : Phase). FedInTurn c.args.dest.now start (take run bytes) c.by_part-test.dest z) (same_phase c.by_part-test.here c.args.self.now.over c.if-self.false so_far.1) so_far.0)
-    (subst (λ (xs : List ℕ). FedInTurn c.by_part-test.dest left_at xs c.take_stretch.new.dest (phase_of c.take_stretch.new.self))
-    (take-take more most (drop run bytes) (omega (arith, length-take most (drop run bytes), c.take_stretch.ensures.within))) c.take_stretch.ensures.fed)
+    (subst (λ (xs : List ℕ). FedInTurn c.by_part-test.dest left_at (take more xs) c.take_many.new.dest (phase_of c.take_many.new.self)) (take_rest bytes run) c.take_many.ensures.fed)
