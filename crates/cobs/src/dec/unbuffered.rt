@@ -374,9 +374,9 @@ impl UnbufferedDecoder {
         requires going { self.old.over ≡ false }
         requires flat { self.old.code ≡ 255 → length stretch.now ≤ self.old.left }
         requires room { self.old.dest_idx + length stretch.now ≤ length dest.old }
-        ensures fed { (before : List ℕ) → let behind = self.old.dest_idx + length stretch.now in
+        ensures fed { (before : List ℕ) → let end = self.old.dest_idx + length stretch.now in
             length before ≡ length dest.old
-            → dest.old ≡ take self.old.dest_idx before ++ (stretch.now ++ drop behind before)
+            → dest.old ≡ take self.old.dest_idx before ++ (stretch.now ++ drop end before)
             → FedInTurn before (phase_of self.old) stretch.now dest.new (phase_of self.new) }
         ensures going { self.new.over ≡ false }
     {
