@@ -1,6 +1,6 @@
 #!/bin/sh
 # Builds and runs the bindings: for each folder of bindings/ its tests/run.sh, whose last line counts what passed, failed and
-# was skipped for want of a tool. The last line here is their sum; the status is 0 only if nothing failed.
+# was skipped where a tool is missing. The last line here is their sum; the status is 0 only if nothing failed.
 set -u
 root=$(cd "$(dirname "$0")/.." && pwd)
 said=$(mktemp)

@@ -1,5 +1,5 @@
 #!/bin/sh
-# Refuses the growths of memory one after another, and sees that each call then answers its value or want of memory.
+# Refuses the growths of memory one after another, and sees that each call then answers its value or out of memory.
 #
 # usage: tests/fail-alloc.sh [FIRST]
 #
@@ -56,10 +56,10 @@ refuse() {
             exit 1
         fi
         if grep -q "^test $2 \.\.\. ok$" "$work/log"; then
-            echo "$1, round $round: no growth was refused, and the rounds before were answered as want of memory"
+            echo "$1, round $round: no growth was refused, and the rounds before were answered as out of memory"
             return
         fi
-        echo "$1, round $round: a growth was refused, and answered as want of memory"
+        echo "$1, round $round: a growth was refused, and answered as out of memory"
         round=$((round + 1))
     done
     echo "$1: no round was free of refusals"

@@ -1,6 +1,6 @@
 #!/bin/sh
 # Sees that the vectors are what the definition gives, that they notice wrong bodies and changed digits, and that plain
-# code in Python and in C passes what it owes.
+# code in Python and in C passes what it must.
 #
 # usage: tests/vectors.sh
 #

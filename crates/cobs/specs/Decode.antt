@@ -98,7 +98,7 @@ abbrev pub decoded_head : List ℕ → Result (List ℕ) DecodeError
 decoded_head [] = Err EmptyFrame
 decoded_head (byte ∷ bytes) = message_of_head (head (byte ∷ bytes))
 
--- an error of a vector form is the refusal of the source, or want of memory
+-- an error of a vector form is the refusal of the source, or out of memory
 abbrev pub IsRefusal : Result (List ℕ) DecodeError → DecodeVecError → Type 0
 IsRefusal answer (Decode error) = answer ≡ Err error
 IsRefusal answer (Memory error) = ⊤

@@ -1,6 +1,6 @@
 //! Out of memory in each mode.
 //!
-//! Each test here but the last passes whichever growth is refused: a mode writes its whole output, or answers want of
+//! Each test here but the last passes whichever growth is refused: a mode writes its whole output, or answers out of
 //! memory and writes nothing. The last one passes only where no growth is refused. `tests/fail-alloc.sh` refuses the
 //! growths one after another until that test passes.
 use crate::fault::ToolFault;
