@@ -11,8 +11,8 @@
 #
 # For each file a line is printed, in the order of their names: its name, the function that was refused, and which of its
 # clauses; where what a loop keeps is left without a proof, the loop's name stands there behind the word 'loop'.
-# A file takes from five seconds to a minute, all of them about half an hour, so this is no part of the gate. The status is
-# 0 where each was refused.
+# A file takes from five seconds to a minute, all of them twenty minutes of a processor, so this is no part of the gate.
+# The status is 0 where each was refused.
 set -u
 
 PATH=/opt/rattle/bin:$PATH
@@ -96,8 +96,8 @@ clauses_of() {
 # a lemma that it refused
 open_goals() {
     said=$(grep -E '^(note: )?(\./)?(src|proofs)/' "$copy/log")
-    names=$(echo "$said" | sed -n -E 's/.*Answers\.antt:[0-9:]* error: `([^`]+)`:.*/\1/p; s/.*it is not proved .*\(`([^`]+)`\).*/\1/p; s/.*was not checked: (.*)/\1/p')
-    [ -n "$names" ] || names=$(echo "$said" | sed -n -E 's/ \(via [^)]*\)//g; s/ and [0-9]+ more$//; s/.*were not checked: (.*)/\1/p')
+    names=$(echo "$said" | sed -n -E 's/.*Answers\.antt:[0-9:]* error: `([^`]+)`:.*/\1/p; s/.*it is not proved .*\(`([^`]+)`\).*/\1/p; s/.*Answers\.antt.*was not checked: (.*)/\1/p')
+    [ -n "$names" ] || names=$(echo "$said" | sed -n -E 's/ \(via [^)]*\)//g; s/ and [0-9]+ more$//; s/.*Answers\.antt.*were not checked: (.*)/\1/p')
     echo "$names" | tr -d ' `' | tr ',' '\n' | sort -u
 }
 
