@@ -212,15 +212,17 @@ fn panel(figures: &Figures, call: &str, left: f64, top: f64) {
         let y = top + 18.0 + row * i as f64;
         println!(r##"<text x="{}" y="{}" text-anchor="end">{workload}</text>"##, base - 6.0, y + 10.0);
         let Some(baseline) = figures.best(call, workload, MAIN_SIZE, figures.baseline()) else { continue };
-        if let Some(ours) = figures.best(call, workload, MAIN_SIZE, "ours") {
-            let end = at(ours / baseline);
-            println!(r##"<rect x="{base}" y="{y}" width="{:.1}" height="11" fill="{OURS}"/>"##, end - base);
-            println!(r##"<text x="{:.1}" y="{}" font-size="9">{:.1}</text>"##, end + 4.0, y + 9.0, ours / baseline);
+        let ours = figures.best(call, workload, MAIN_SIZE, "ours").map(|rate| rate / baseline);
+        if let Some(ratio) = ours {
+            println!(r##"<rect x="{base}" y="{y}" width="{:.1}" height="11" fill="{OURS}"/>"##, at(ratio) - base);
         }
         for (who, colour) in [("simd", SIMD), ("memcpy", MEMCPY)] {
             if let Some(rate) = figures.best(call, workload, MAIN_SIZE, who) {
                 println!(r##"<rect x="{:.1}" y="{}" width="3" height="13" fill="{colour}"/>"##, at(rate / baseline), y - 1.0);
             }
+        }
+        if let Some(ratio) = ours {
+            println!(r##"<text x="{}" y="{}" font-size="9" fill="#ffffff">{ratio:.1}</text>"##, base + 4.0, y + 9.0);
         }
     }
 }
