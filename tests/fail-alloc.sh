@@ -67,6 +67,7 @@ refuse() {
 }
 
 copy cobs ''
+copy cobs_lines ''
 copy cobs_vectors 'bytes|memory|messages|slices'
 copy cobs_tool 'refused_memory'
 refuse cobs_tool refused_memory::without_a_refusal_every_mode_writes_its_output
