@@ -6,7 +6,7 @@
 #
 # --crate FOLDER: the sources of the crate `cobs` 0.5.1, as cargo downloads them. They are built and measured in the same
 #                 run, and the ratios are to them; without them the ratios are to the state machine in bench/src/machine.rs.
-# --docs:         writes the tables and the chart into docs/PERFORMANCE.md and docs/performance.svg too.
+# --docs:         writes the tables and the chart into docs/PERFORMANCE.md and docs/images/performance.svg too.
 #
 # It needs `rt` (in the PATH or in /opt/rattle/bin) and rustc; where valgrind is there, it counts instructions too.
 # A first run proves the library, which takes some minutes; measuring takes three, and counting instructions five.
@@ -70,7 +70,7 @@ fi
 "$out/driver-0" chart "$out"/*.csv >"$out/performance.svg"
 cat "$out/tables.md" "$out/instructions.md"
 if [ -n "$docs" ]; then
-    cp "$out/performance.svg" "$top/docs/performance.svg"
+    cp "$out/performance.svg" "$top/docs/images/performance.svg"
     {
         date -u '+- Date: %Y-%m-%d'
         lscpu | sed -n 's/^Model name: */- Processor: /p; s/^CPU(s): */- Processors: /p; s/^CPU family: */- Family: /p; s/^Model: */- Model: /p'

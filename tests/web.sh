@@ -1,7 +1,7 @@
 #!/bin/sh
 # Tests the binding for the browser (bindings/web):
 #   - the module is built anew from the proved crate, and compared with the committed cobs.wasm, byte for byte;
-#   - the vectors of vectors/ and the tests of jcobs.js, in Node;
+#   - the vectors of conformance/ and the tests of jcobs.js, in Node;
 #   - the types in jcobs.d.ts, by the TypeScript compiler;
 #   - the page in Chromium, by keys, clicks and pastes;
 #   - the pictures of docs/FORMAT.md, drawn anew and compared.
@@ -81,12 +81,12 @@ else
         skip "Node" "$("$node" --version) has no 64-bit WebAssembly memory: version 20 or later has it"
     else
         echo "Node $("$node" --version)"
-        counted "vectors" "$node" $flags "$web/test/vectors.mjs" "$web/cobs.wasm" "$root/vectors"
+        counted "vectors" "$node" $flags "$web/test/vectors.mjs" "$web/cobs.wasm" "$root/conformance"
         counted "module" "$node" $flags --expose-gc "$web/test/module.mjs" "$web/cobs.wasm"
         mkdir "$work/docs"
         check "the pictures are drawn" "$node" $flags "$web/figures.mjs" "$work/docs"
         for picture in frame run-of-255 damaged-stream two-frames; do
-            check "docs/$picture.svg is what figures.mjs draws" cmp "$work/docs/$picture.svg" "$root/docs/$picture.svg"
+            check "docs/images/$picture.svg is what figures.mjs draws" cmp "$work/docs/$picture.svg" "$root/docs/images/$picture.svg"
         done
         if has tsc; then
             check "jcobs.d.ts serves its users" tsc --noEmit --strict --target es2022 --module es2022 --moduleResolution node --lib es2022,dom "$web/test/types.ts"

@@ -3,16 +3,17 @@
 #
 # usage: tests/wrong-definitions.sh [--jobs N] [WORD..]
 #
-# Each file of tests/wrong-definitions/ changes a line or two of crates/cobs, a definition of specs/ or a body of src/. It
-# has the format of a must-fail edit, and in front of it a line 'only: FUNCTION' with the function that has to refuse it.
-# Only that function and what its proof cites are checked, over the work that an earlier `rt check` of crates/cobs kept.
-# With words, only the files are tried whose names hold one of them. With --jobs, so many files are tried at once, each on
-# a copy of its own; a copy takes a gigabyte or two, and a check as much memory.
+# Each block of tests/wrong-definitions.txt changes a line or two of crates/cobs, a definition of specs/ or a body of src/.
+# A block begins with a line '== NAME' and ends at an empty line. It has the format of a must-fail edit, after a line
+# 'only: FUNCTION' that names the function that has to refuse it. Only that function and what its proof cites are checked,
+# over the work that an earlier `rt check` of crates/cobs kept. With words, only the blocks are tried whose names contain
+# one of them. With --jobs, N blocks are tried at once, each on a copy of its own; a copy takes a gigabyte or two, and a
+# check as much memory.
 #
-# For each file a line is printed, in the order of their names: its name, the function that was refused, and which of its
-# clauses; where what a loop keeps is left without a proof, the loop's name stands there behind the word 'loop'.
-# A file takes from five seconds to a minute, all of them twenty minutes of a processor, so this is no part of the gate.
-# The status is 0 where each was refused.
+# For each block it prints a line, in the order of the file: its name, the function that was refused, and which of its
+# clauses; if a loop invariant is left without a proof, the loop's name, after the word 'loop'.
+# A block takes from five seconds to a minute, all of them twenty minutes of a processor, so this is no part of the gate.
+# The status is 0 if each was refused.
 set -u
 
 PATH=/opt/rattle/bin:$PATH
@@ -32,7 +33,11 @@ work=$(mktemp -d)
 workers=
 trap 'kill $workers 2> /dev/null; wait; rm -rf "$work"' EXIT
 trap 'exit 2' HUP INT TERM
-mkdir "$work/taken" "$work/said" "$work/ended"
+mkdir "$work/edits" "$work/taken" "$work/said" "$work/ended"
+awk -v to="$work/edits" '
+    /^== / { name = substr($0, 4); print name; next }
+    NF { print > (to "/" name) }
+' "$top/tests/wrong-definitions.txt" > "$work/all"
 
 # copy: a repository of its own, with the library and what an earlier check kept
 copy() {
@@ -140,9 +145,9 @@ tell() {
     echo "$1: $(echo "$refused" | in_line)${open:+: $open}"
 }
 
-# try NAME: tells of the file of this name
+# try NAME: tells of the block of this name
 try() {
-    edit=$top/tests/wrong-definitions/$1.edit
+    edit=$work/edits/$1
     function=$(sed -n 's/^only: //p' "$edit")
     if change "$edit"; then
         (cd "$crate" && rt check --jobs 1 --only "$function") < /dev/null > "$copy/log" 2>&1
@@ -154,7 +159,7 @@ try() {
     restore "$edit"
 }
 
-# worker NUMBER: tries each file that no other worker has taken
+# worker NUMBER: tries each block that no other worker has taken
 worker() {
     copy=$work/$1
     crate=$copy/crates/cobs
@@ -177,10 +182,9 @@ wanted() {
     return 1
 }
 
-for edit in "$top"/tests/wrong-definitions/*.edit; do
-    name=$(basename "$edit" .edit)
+while read -r name; do
     wanted "$name" "$@" && echo "$name"
-done > "$work/names"
+done < "$work/all" > "$work/names"
 
 number=1
 while [ "$number" -le "$jobs" ]; do

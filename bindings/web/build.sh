@@ -4,7 +4,7 @@
 #     build.sh                 cobs.wasm, from the proved crate (needs the kit of Rattle; RATTLE is its folder)
 #     build.sh to FILE         the same, written to FILE
 #     build.sh pictures        the pictures of docs/FORMAT.md (Node)
-#     build.sh screenshots     the screenshots in docs/ (Node and Chromium)
+#     build.sh screenshots     the screenshots in docs/images/ (Node and Chromium)
 #     build.sh serve [PORT]    the page, at http://localhost:8000/ or another port (Node)
 #
 # Everything is proved before it is built: on a clone with no checks kept, that takes some minutes.
@@ -45,11 +45,11 @@ build() { # FILE
 case ${1:-} in
     '') build "$here/cobs.wasm"; ls -l "$here/cobs.wasm" ;;
     to) build "$2" ;;
-    pictures) need "$node" nodejs; "$node" $(node_flags) "$here/figures.mjs" "$root/docs" ;;
+    pictures) need "$node" nodejs; "$node" $(node_flags) "$here/figures.mjs" "$root/docs/images" ;;
     screenshots)
         need "$node" nodejs
         need "${CHROMIUM:-chromium}" chromium
-        "$node" "$here/test/screenshots.mjs" "$root/docs"
+        "$node" "$here/test/screenshots.mjs" "$root/docs/images"
         ;;
     serve) need "$node" nodejs; exec "$node" "$here/serve.mjs" "${2:-8000}" ;;
     *) sed -n '2,10s/^# \{0,1\}//p' "$0" >&2; exit 2 ;;

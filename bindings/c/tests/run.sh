@@ -167,7 +167,7 @@ if has clang clang 'header by clang'; then
     part 'header by clang++, C++98 to C++20' header clang++ cpp c++98 c++11 c++14 c++17 c++20
 fi
 part 'symbols: those of the header alone' symbols
-part 'vectors' "$at/vectors" ../../vectors/*.txt
+part 'vectors' "$at/vectors" ../../conformance/*.txt
 part 'calls: constants, texts, NULL, loops' "$at/calls"
 part 'calls by the shared library' shared
 part '1,000,000 random calls between pages without access' "$at/guard" 1000000
@@ -193,7 +193,7 @@ if [ "$machine" != aarch64 ] && has aarch64-linux-gnu-gcc gcc-aarch64-linux-gnu 
     at=build/aarch64-unknown-linux-gnu
     run='qemu-aarch64 -L /usr/aarch64-linux-gnu'
     part 'build for aarch64' make TARGET=aarch64-unknown-linux-gnu all tests "$at/read_frames"
-    part 'vectors on aarch64' $run "$at/vectors" ../../vectors/*.txt
+    part 'vectors on aarch64' $run "$at/vectors" ../../conformance/*.txt
     part 'calls on aarch64' $run "$at/calls"
     part '100,000 random calls on aarch64' $run "$at/guard" 100000
     part 'read_frames on aarch64' reads 7

@@ -1,6 +1,6 @@
-/* Runs the cases of vectors/ that this library has calls for: vectors FILE...
+/* Runs the cases of conformance/ that this library has calls for: vectors FILE...
  *
- * Prints each case that fails, and last how many were run, passed over and failed. vectors/README.md has the
+ * Prints each case that fails, and last how many were run, passed over and failed. conformance/README.md has the
  * format. Where this library answers otherwise than the vectors say:
  *
  * - It counts a terminator that it has taken, in place too, and says with a refusal too how many bytes it took.

@@ -1,4 +1,4 @@
-//! The cases of the repository's `vectors/`, by the calls of this crate. `vectors/README.md` has the format.
+//! The cases of the repository's `conformance/`, by the calls of this crate. `conformance/README.md` has the format.
 #![cfg(feature = "alloc")]
 
 use std::fmt::Write as _;
@@ -15,9 +15,9 @@ type Words = Vec<String>;
 
 #[test]
 fn vectors() {
-    let folder = Path::new(env!("CARGO_MANIFEST_DIR")).join("../../vectors");
+    let folder = Path::new(env!("CARGO_MANIFEST_DIR")).join("../../conformance");
     let mut files: Vec<_> = fs::read_dir(&folder)
-        .expect("the repository's vectors/")
+        .expect("the repository's conformance/")
         .map(|entry| entry.expect("an entry").path())
         .filter(|path| path.extension().is_some_and(|extension| extension == "txt"))
         .collect();

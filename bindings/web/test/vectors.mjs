@@ -1,8 +1,8 @@
-// The vectors of vectors/ through the module: by its calls as they are, and where a line fits by jcobs.js too.
+// The vectors of conformance/ through the module: by its calls as they are, and where a line fits by jcobs.js too.
 //
 //     node vectors.mjs COBS.WASM VECTORS
 //
-// vectors/README.md says what a line is. Left out are the calls that the module lacks, since jcobs.js makes none of them:
+// conformance/README.md says what a line is. Left out are the calls that the module lacks, since jcobs.js makes none of them:
 // the streaming encoder, decoding in place, `next_frame` and the two state machines. Where this library answers otherwise
 // than the crate's own names say, the comment at the call has it.
 import { readFile, readdir } from "node:fs/promises";

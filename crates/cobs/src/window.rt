@@ -11,47 +11,15 @@ pub(crate) const WINDOW: usize = 32;
 /// How many bytes of a long block are copied at once.
 pub(crate) const WIDE_WINDOW: usize = 64;
 
-/// Which of the 32 bytes from `at` on are zeros.
+/// Which of the `N` bytes from `at` on are zeros.
 #[inline(always)]
-pub(crate) fn zeros_32(source: &[u8], at: usize) -> u64
-    requires { at + 32 ≤ length source.now }
-    ensures { result ≡ zero_mask (take 32 (drop at source.now)) }
+pub(crate) fn zeros_at<const N: usize>(bytes: &[u8], at: usize) -> u64
+    requires lanes { N ≤ 64 }
+    requires source { at + N ≤ length bytes.now }
+    ensures { result ≡ zero_mask (take N (drop at bytes.now)) }
 {
-    u8x32::from_slice(&source[at..])
-        .simd_eq(u8x32::splat(0))
-        .to_bitmask()
-}
-
-/// Which of the 16 bytes from `at` on are zeros.
-#[inline(always)]
-fn zeros_16(bytes: &[u8], at: usize) -> u64
-    requires { at + 16 ≤ length bytes.now }
-    ensures { result ≡ zero_mask (take 16 (drop at bytes.now)) }
-{
-    u8x16::from_slice(&bytes[at..])
-        .simd_eq(u8x16::splat(0))
-        .to_bitmask()
-}
-
-/// Which of the 8 bytes from `at` on are zeros.
-#[inline(always)]
-fn zeros_8(bytes: &[u8], at: usize) -> u64
-    requires { at + 8 ≤ length bytes.now }
-    ensures { result ≡ zero_mask (take 8 (drop at bytes.now)) }
-{
-    u8x8::from_slice(&bytes[at..])
-        .simd_eq(u8x8::splat(0))
-        .to_bitmask()
-}
-
-/// Which of the 4 bytes from `at` on are zeros.
-#[inline(always)]
-fn zeros_4(bytes: &[u8], at: usize) -> u64
-    requires { at + 4 ≤ length bytes.now }
-    ensures { result ≡ zero_mask (take 4 (drop at bytes.now)) }
-{
-    u8x4::from_slice(&bytes[at..])
-        .simd_eq(u8x4::splat(0))
+    Simd::<u8, N>::from_slice(&bytes[at..])
+        .simd_eq(Simd::splat(0))
         .to_bitmask()
 }
 
@@ -70,6 +38,18 @@ fn zeros_few(bytes: &[u8]) -> u64
         | (((bytes[last] == 0) as u64) << last)
 }
 
+/// Which of `N` to `2 * N` bytes are zeros, looked at as two parts that may overlap.
+#[inline(always)]
+fn zeros_two<const N: usize>(bytes: &[u8]) -> u64
+    requires lanes { N ≤ 16 }
+    requires some { N ≤ length bytes.now }
+    requires few { length bytes.now ≤ N + N }
+    ensures { result ≡ zero_mask bytes.now }
+{
+    let start = bytes.len() - N;
+    zeros_at::<N>(bytes, 0) | (zeros_at::<N>(bytes, start) << start)
+}
+
 /// Which of up to 32 bytes are zeros: bit `i` is set where byte `i` is one. They are looked at as two parts that may
 /// overlap.
 #[inline(always)]
@@ -80,11 +60,11 @@ fn zeros_of(bytes: &[u8]) -> u64
 {
     let len = bytes.len();
     if len >= 16 {
-        zeros_16(bytes, 0) | (zeros_16(bytes, len - 16) << (len - 16))
+        zeros_two::<16>(bytes)
     } else if len >= 8 {
-        zeros_8(bytes, 0) | (zeros_8(bytes, len - 8) << (len - 8))
+        zeros_two::<8>(bytes)
     } else if len >= 4 {
-        zeros_4(bytes, 0) | (zeros_4(bytes, len - 4) << (len - 4))
+        zeros_two::<4>(bytes)
     } else {
         zeros_few(bytes)
     }
@@ -102,60 +82,19 @@ pub(crate) fn first_zero_of_few(bytes: &[u8]) -> usize
     (zeros_of(bytes).trailing_zeros() as usize).min(bytes.len())
 }
 
-/// Copies the 32 bytes from `read` on, and answers which of them are zeros.
+/// Copies the `N` bytes from `read` on, and answers which of them are zeros.
 #[inline(always)]
-pub(crate) fn copy_32(source: &[u8], read: usize, dest: &mut [u8], at: usize) -> u64
-    requires source { read + 32 ≤ length source.now }
-    requires room { at + 32 ≤ length dest.old }
+pub(crate) fn copy_at<const N: usize>(source: &[u8], read: usize, dest: &mut [u8], at: usize) -> u64
+    requires lanes { N ≤ 64 }
+    requires source { read + N ≤ length source.now }
+    requires room { at + N ≤ length dest.old }
     ensures copied { dest.new ≡ take at dest.old
-        ++ (take 32 (drop read source.now) ++ drop (at + 32) dest.old) }
-    ensures zeros { result ≡ zero_mask (take 32 (drop read source.now)) }
+        ++ (take N (drop read source.now) ++ drop (at + N) dest.old) }
+    ensures zeros { result ≡ zero_mask (take N (drop read source.now)) }
 {
-    let bytes = u8x32::from_slice(&source[read..]);
+    let bytes = Simd::<u8, N>::from_slice(&source[read..]);
     bytes.copy_to_slice(&mut dest[at..]);
-    bytes.simd_eq(u8x32::splat(0)).to_bitmask()
-}
-
-/// Copies the 16 bytes from `read` on, and answers which of them are zeros.
-#[inline(always)]
-fn copy_16(source: &[u8], read: usize, dest: &mut [u8], at: usize) -> u64
-    requires source { read + 16 ≤ length source.now }
-    requires room { at + 16 ≤ length dest.old }
-    ensures copied { dest.new ≡ take at dest.old
-        ++ (take 16 (drop read source.now) ++ drop (at + 16) dest.old) }
-    ensures zeros { result ≡ zero_mask (take 16 (drop read source.now)) }
-{
-    let bytes = u8x16::from_slice(&source[read..]);
-    bytes.copy_to_slice(&mut dest[at..]);
-    bytes.simd_eq(u8x16::splat(0)).to_bitmask()
-}
-
-/// Copies the 8 bytes from `read` on, and answers which of them are zeros.
-#[inline(always)]
-fn copy_8(source: &[u8], read: usize, dest: &mut [u8], at: usize) -> u64
-    requires source { read + 8 ≤ length source.now }
-    requires room { at + 8 ≤ length dest.old }
-    ensures copied { dest.new ≡ take at dest.old
-        ++ (take 8 (drop read source.now) ++ drop (at + 8) dest.old) }
-    ensures zeros { result ≡ zero_mask (take 8 (drop read source.now)) }
-{
-    let bytes = u8x8::from_slice(&source[read..]);
-    bytes.copy_to_slice(&mut dest[at..]);
-    bytes.simd_eq(u8x8::splat(0)).to_bitmask()
-}
-
-/// Copies the 4 bytes from `read` on, and answers which of them are zeros.
-#[inline(always)]
-fn copy_4(source: &[u8], read: usize, dest: &mut [u8], at: usize) -> u64
-    requires source { read + 4 ≤ length source.now }
-    requires room { at + 4 ≤ length dest.old }
-    ensures copied { dest.new ≡ take at dest.old
-        ++ (take 4 (drop read source.now) ++ drop (at + 4) dest.old) }
-    ensures zeros { result ≡ zero_mask (take 4 (drop read source.now)) }
-{
-    let bytes = u8x4::from_slice(&source[read..]);
-    bytes.copy_to_slice(&mut dest[at..]);
-    bytes.simd_eq(u8x4::splat(0)).to_bitmask()
+    bytes.simd_eq(Simd::splat(0)).to_bitmask()
 }
 
 /// Copies one, two or three bytes with no branch: the first one, the one in the middle and the last one, some of which
@@ -194,18 +133,18 @@ pub(crate) fn copy_window(source: &[u8], read: usize, len: usize, dest: &mut [u8
     ensures zeros { result ≡ zero_mask (take len (drop read source.now)) }
 {
     if len == WINDOW {
-        copy_32(source, read, dest, at)
+        copy_at::<32>(source, read, dest, at)
     } else if len >= 16 {
-        let front = copy_16(source, read, dest, at);
-        let back = copy_16(source, read + len - 16, dest, at + len - 16);
+        let front = copy_at::<16>(source, read, dest, at);
+        let back = copy_at::<16>(source, read + len - 16, dest, at + len - 16);
         front | (back << (len - 16))
     } else if len >= 8 {
-        let front = copy_8(source, read, dest, at);
-        let back = copy_8(source, read + len - 8, dest, at + len - 8);
+        let front = copy_at::<8>(source, read, dest, at);
+        let back = copy_at::<8>(source, read + len - 8, dest, at + len - 8);
         front | (back << (len - 8))
     } else if len >= 4 {
-        let front = copy_4(source, read, dest, at);
-        let back = copy_4(source, read + len - 4, dest, at + len - 4);
+        let front = copy_at::<4>(source, read, dest, at);
+        let back = copy_at::<4>(source, read + len - 4, dest, at + len - 4);
         front | (back << (len - 4))
     } else {
         copy_few(source, read, len, dest, at)
@@ -231,19 +170,20 @@ pub(crate) fn copy_nonzero_32(source: &[u8], read: usize, dest: &mut [u8], at: u
     true
 }
 
-/// Copies the `len` bytes from `read` on, 32 to 64 of them, if none is a zero, and says whether it did: as two windows
-/// that may overlap.
+/// Copies the `len` bytes from `read` on, `N` to `2 * N` of them, if none is a zero, and says whether it did: as two
+/// windows that may overlap.
 #[inline(always)]
-pub(crate) fn copy_nonzero_32_to_64(
+pub(crate) fn copy_nonzero_two<const N: usize>(
     source: &[u8],
     read: usize,
     len: usize,
     dest: &mut [u8],
     at: usize,
 ) -> bool
+    requires lanes { N ≤ 64 }
     requires source { read + len ≤ length source.now }
-    requires some { 32 ≤ len }
-    requires few { len ≤ 64 }
+    requires some { N ≤ len }
+    requires few { len ≤ N + N }
     requires room { at + len ≤ length dest.old }
     ensures nonzero { IsTrue result → HasNoZero (take len (drop read source.now)) }
     ensures copied { IsTrue result
@@ -251,90 +191,15 @@ pub(crate) fn copy_nonzero_32_to_64(
         ++ (take len (drop read source.now) ++ drop (at + len) dest.old) }
     ensures kept { result ≡ false → dest.new ≡ dest.old }
 {
-    let front = u8x32::from_slice(&source[read..]);
-    let back = u8x32::from_slice(&source[read + len - WINDOW..]);
-    let zeros = front.simd_eq(u8x32::splat(0)).to_bitmask()
-        | back.simd_eq(u8x32::splat(0)).to_bitmask();
+    let front = Simd::<u8, N>::from_slice(&source[read..]);
+    let back = Simd::<u8, N>::from_slice(&source[read + len - N..]);
+    let zeros = front.simd_eq(Simd::splat(0)).to_bitmask()
+        | back.simd_eq(Simd::splat(0)).to_bitmask();
     if zeros != 0 {
         return false;
     }
     front.copy_to_slice(&mut dest[at..]);
-    back.copy_to_slice(&mut dest[at + len - WINDOW..]);
-    true
-}
-
-/// Copies the `len` bytes from `read` on, 16 to 32 of them, if none is a zero, and says whether it did.
-#[inline(always)]
-fn copy_nonzero_16_to_32(source: &[u8], read: usize, len: usize, dest: &mut [u8], at: usize) -> bool
-    requires source { read + len ≤ length source.now }
-    requires some { 16 ≤ len }
-    requires few { len ≤ 32 }
-    requires room { at + len ≤ length dest.old }
-    ensures nonzero { IsTrue result → HasNoZero (take len (drop read source.now)) }
-    ensures copied { IsTrue result
-        → dest.new ≡ take at dest.old
-        ++ (take len (drop read source.now) ++ drop (at + len) dest.old) }
-    ensures kept { result ≡ false → dest.new ≡ dest.old }
-{
-    let front = u8x16::from_slice(&source[read..]);
-    let back = u8x16::from_slice(&source[read + len - 16..]);
-    let zeros = front.simd_eq(u8x16::splat(0)).to_bitmask()
-        | back.simd_eq(u8x16::splat(0)).to_bitmask();
-    if zeros != 0 {
-        return false;
-    }
-    front.copy_to_slice(&mut dest[at..]);
-    back.copy_to_slice(&mut dest[at + len - 16..]);
-    true
-}
-
-/// Copies the `len` bytes from `read` on, 8 to 16 of them, if none is a zero, and says whether it did.
-#[inline(always)]
-fn copy_nonzero_8_to_16(source: &[u8], read: usize, len: usize, dest: &mut [u8], at: usize) -> bool
-    requires source { read + len ≤ length source.now }
-    requires some { 8 ≤ len }
-    requires few { len ≤ 16 }
-    requires room { at + len ≤ length dest.old }
-    ensures nonzero { IsTrue result → HasNoZero (take len (drop read source.now)) }
-    ensures copied { IsTrue result
-        → dest.new ≡ take at dest.old
-        ++ (take len (drop read source.now) ++ drop (at + len) dest.old) }
-    ensures kept { result ≡ false → dest.new ≡ dest.old }
-{
-    let front = u8x8::from_slice(&source[read..]);
-    let back = u8x8::from_slice(&source[read + len - 8..]);
-    let zeros = front.simd_eq(u8x8::splat(0)).to_bitmask()
-        | back.simd_eq(u8x8::splat(0)).to_bitmask();
-    if zeros != 0 {
-        return false;
-    }
-    front.copy_to_slice(&mut dest[at..]);
-    back.copy_to_slice(&mut dest[at + len - 8..]);
-    true
-}
-
-/// Copies the `len` bytes from `read` on, 4 to 8 of them, if none is a zero, and says whether it did.
-#[inline(always)]
-fn copy_nonzero_4_to_8(source: &[u8], read: usize, len: usize, dest: &mut [u8], at: usize) -> bool
-    requires source { read + len ≤ length source.now }
-    requires some { 4 ≤ len }
-    requires few { len ≤ 8 }
-    requires room { at + len ≤ length dest.old }
-    ensures nonzero { IsTrue result → HasNoZero (take len (drop read source.now)) }
-    ensures copied { IsTrue result
-        → dest.new ≡ take at dest.old
-        ++ (take len (drop read source.now) ++ drop (at + len) dest.old) }
-    ensures kept { result ≡ false → dest.new ≡ dest.old }
-{
-    let front = u8x4::from_slice(&source[read..]);
-    let back = u8x4::from_slice(&source[read + len - 4..]);
-    let zeros = front.simd_eq(u8x4::splat(0)).to_bitmask()
-        | back.simd_eq(u8x4::splat(0)).to_bitmask();
-    if zeros != 0 {
-        return false;
-    }
-    front.copy_to_slice(&mut dest[at..]);
-    back.copy_to_slice(&mut dest[at + len - 4..]);
+    back.copy_to_slice(&mut dest[at + len - N..]);
     true
 }
 
@@ -390,13 +255,13 @@ pub(crate) fn copy_nonzero_short(
     ensures kept { result ≡ false → dest.new ≡ dest.old }
 {
     if len >= 32 {
-        copy_nonzero_32_to_64(source, read, len, dest, at)
+        copy_nonzero_two::<32>(source, read, len, dest, at)
     } else if len >= 16 {
-        copy_nonzero_16_to_32(source, read, len, dest, at)
+        copy_nonzero_two::<16>(source, read, len, dest, at)
     } else if len >= 8 {
-        copy_nonzero_8_to_16(source, read, len, dest, at)
+        copy_nonzero_two::<8>(source, read, len, dest, at)
     } else if len >= 4 {
-        copy_nonzero_4_to_8(source, read, len, dest, at)
+        copy_nonzero_two::<4>(source, read, len, dest, at)
     } else {
         copy_nonzero_few(source, read, len, dest, at)
     }
@@ -463,34 +328,29 @@ pub(crate) fn write_zeros(dest: &mut [u8])
     u8x32::splat(0).copy_to_slice(dest);
 }
 
-/// Writes 32 blocks with no bytes.
+/// Writes `N` blocks with no bytes.
 #[inline(always)]
-pub(crate) fn write_ones(dest: &mut [u8], at: usize)
-    requires { at + 32 ≤ length dest.old }
-    ensures { dest.new ≡ take at dest.old ++ (replicate 32 1 ++ drop (at + 32) dest.old) }
+pub(crate) fn write_ones<const N: usize>(dest: &mut [u8], at: usize)
+    requires { at + N ≤ length dest.old }
+    ensures { dest.new ≡ take at dest.old ++ (replicate N 1 ++ drop (at + N) dest.old) }
 {
-    u8x32::splat(1).copy_to_slice(&mut dest[at..]);
+    Simd::<u8, N>::splat(1).copy_to_slice(&mut dest[at..]);
 }
 
-/// Writes 16 blocks with no bytes.
+/// Writes `N` to `2 * N` blocks with no bytes, as two parts that may overlap.
 #[inline(always)]
-fn write_16_ones(dest: &mut [u8], at: usize)
-    requires { at + 16 ≤ length dest.old }
-    ensures { dest.new ≡ take at dest.old ++ (replicate 16 1 ++ drop (at + 16) dest.old) }
+fn write_ones_two<const N: usize>(dest: &mut [u8], at: usize, len: usize)
+    requires lanes { N ≤ 16 }
+    requires some { N ≤ len }
+    requires few { len ≤ N + N }
+    requires room { at + len ≤ length dest.old }
+    ensures { dest.new ≡ take at dest.old ++ (replicate len 1 ++ drop (at + len) dest.old) }
 {
-    u8x16::splat(1).copy_to_slice(&mut dest[at..]);
+    write_ones::<N>(dest, at);
+    write_ones::<N>(dest, at + len - N);
 }
 
-/// Writes 8 blocks with no bytes.
-#[inline(always)]
-fn write_8_ones(dest: &mut [u8], at: usize)
-    requires { at + 8 ≤ length dest.old }
-    ensures { dest.new ≡ take at dest.old ++ (replicate 8 1 ++ drop (at + 8) dest.old) }
-{
-    u8x8::splat(1).copy_to_slice(&mut dest[at..]);
-}
-
-/// Writes 8 to 32 blocks with no bytes, as two parts that may overlap.
+/// Writes 8 to 32 blocks with no bytes.
 #[inline(always)]
 pub(crate) fn write_some_ones(dest: &mut [u8], at: usize, len: usize)
     requires some { 8 ≤ len }
@@ -499,11 +359,9 @@ pub(crate) fn write_some_ones(dest: &mut [u8], at: usize, len: usize)
     ensures { dest.new ≡ take at dest.old ++ (replicate len 1 ++ drop (at + len) dest.old) }
 {
     if len >= 16 {
-        write_16_ones(dest, at);
-        write_16_ones(dest, at + len - 16);
+        write_ones_two::<16>(dest, at, len);
     } else {
-        write_8_ones(dest, at);
-        write_8_ones(dest, at + len - 8);
+        write_ones_two::<8>(dest, at, len);
     }
 }
 

@@ -3,7 +3,7 @@ ghost use Rattle.std.specs.Prelude.{◌≡◌, ◌<◌, ◌≤◌, ◌+◌, ◌+
 ghost use Rattle.cobs.specs.Grammar.{HasNoZero};
 
 use crate::window::{
-    WIDE_WINDOW, WINDOW, copy_nonzero_32_to_64, copy_window, first_zero_of_few, zeros_32,
+    WIDE_WINDOW, WINDOW, copy_nonzero_two, copy_window, first_zero_of_few, zeros_at,
 };
 use std::simd::prelude::*;
 
@@ -36,7 +36,7 @@ fn copy_window_to_zero(window: &[u8], dest: &mut [u8], at: usize) -> usize
     ensures copied { dest.new ≡ take at dest.old
         ++ (take result window.now ++ drop (at + result) dest.old) }
 {
-    let len = (zeros_32(window, 0).trailing_zeros() as usize).min(WINDOW);
+    let len = (zeros_at::<32>(window, 0).trailing_zeros() as usize).min(WINDOW);
     copy_first(window, len, dest, at);
     len
 }
@@ -88,7 +88,7 @@ pub(crate) fn copy_to_zero(chunk: &[u8], dest: &mut [u8], at: usize) -> usize
     ensures kept { result ≡ 0 → dest.new ≡ dest.old }
 {
     if WIDE_WINDOW <= chunk.len() {
-        if copy_nonzero_32_to_64(chunk, 0, WIDE_WINDOW, dest, at) {
+        if copy_nonzero_two::<32>(chunk, 0, WIDE_WINDOW, dest, at) {
             return WIDE_WINDOW;
         }
         copy_wide_to_zero(chunk, dest, at)

@@ -7,7 +7,7 @@ ghost use Rattle.cobs.specs.Stream.{head};
 
 use crate::enc::FULL_CODE;
 use crate::window::{
-    WINDOW, copy_nonzero, copy_nonzero_32, copy_nonzero_32_to_64, is_ones, write_zeros,
+    WINDOW, copy_nonzero, copy_nonzero_32, copy_nonzero_two, is_ones, write_zeros,
 };
 
 /// No step reads or writes more bytes than a full block and the code after it.
@@ -119,7 +119,7 @@ fn decode_long(source: &[u8], dest: &mut [u8]) -> usize
 {
     let code = source[0] as usize;
     let copied = if code <= 2 * WINDOW {
-        copy_nonzero_32_to_64(source, 1, code, dest, 0)
+        copy_nonzero_two::<32>(source, 1, code, dest, 0)
     } else {
         copy_nonzero(source, 1, code, dest, 0) == code
     };

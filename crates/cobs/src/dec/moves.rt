@@ -6,60 +6,18 @@ ghost use Rattle.cobs.specs.Grammar.{HasNoZero};
 use crate::window::WIDE_WINDOW;
 use std::simd::prelude::*;
 
-/// Moves 32 to 64 bytes, as two parts that may overlap.
+/// Moves `N` to `2 * N` bytes, as two parts that may overlap.
 #[inline(always)]
-fn move_32_to_64(buffer: &mut [u8], from: usize, len: usize)
+fn move_two<const N: usize>(buffer: &mut [u8], from: usize, len: usize)
     requires within { from + len ≤ length buffer.old }
-    requires some { 32 ≤ len }
-    requires few { len ≤ 64 }
+    requires some { N ≤ len }
+    requires few { len ≤ N + N }
     ensures { buffer.new ≡ take len (drop from buffer.old) ++ drop len buffer.old }
 {
-    let front = u8x32::from_slice(&buffer[from..]);
-    let back = u8x32::from_slice(&buffer[from + len - 32..]);
+    let front = Simd::<u8, N>::from_slice(&buffer[from..]);
+    let back = Simd::<u8, N>::from_slice(&buffer[from + len - N..]);
     front.copy_to_slice(buffer);
-    back.copy_to_slice(&mut buffer[len - 32..]);
-}
-
-/// Moves 16 to 32 bytes, as two parts that may overlap.
-#[inline(always)]
-fn move_16_to_32(buffer: &mut [u8], from: usize, len: usize)
-    requires within { from + len ≤ length buffer.old }
-    requires some { 16 ≤ len }
-    requires few { len ≤ 32 }
-    ensures { buffer.new ≡ take len (drop from buffer.old) ++ drop len buffer.old }
-{
-    let front = u8x16::from_slice(&buffer[from..]);
-    let back = u8x16::from_slice(&buffer[from + len - 16..]);
-    front.copy_to_slice(buffer);
-    back.copy_to_slice(&mut buffer[len - 16..]);
-}
-
-/// Moves 8 to 16 bytes, as two parts that may overlap.
-#[inline(always)]
-fn move_8_to_16(buffer: &mut [u8], from: usize, len: usize)
-    requires within { from + len ≤ length buffer.old }
-    requires some { 8 ≤ len }
-    requires few { len ≤ 16 }
-    ensures { buffer.new ≡ take len (drop from buffer.old) ++ drop len buffer.old }
-{
-    let front = u8x8::from_slice(&buffer[from..]);
-    let back = u8x8::from_slice(&buffer[from + len - 8..]);
-    front.copy_to_slice(buffer);
-    back.copy_to_slice(&mut buffer[len - 8..]);
-}
-
-/// Moves 4 to 8 bytes, as two parts that may overlap.
-#[inline(always)]
-fn move_4_to_8(buffer: &mut [u8], from: usize, len: usize)
-    requires within { from + len ≤ length buffer.old }
-    requires some { 4 ≤ len }
-    requires few { len ≤ 8 }
-    ensures { buffer.new ≡ take len (drop from buffer.old) ++ drop len buffer.old }
-{
-    let front = u8x4::from_slice(&buffer[from..]);
-    let back = u8x4::from_slice(&buffer[from + len - 4..]);
-    front.copy_to_slice(buffer);
-    back.copy_to_slice(&mut buffer[len - 4..]);
+    back.copy_to_slice(&mut buffer[len - N..]);
 }
 
 /// Moves one, two or three bytes: the first one, the one in the middle and the last one, some of which may be the same.
@@ -106,107 +64,39 @@ pub(crate) fn move_to_front(buffer: &mut [u8], from: usize, len: usize)
     if len >= 64 {
         move_long(buffer, from, len);
     } else if len >= 32 {
-        move_32_to_64(buffer, from, len);
+        move_two::<32>(buffer, from, len);
     } else if len >= 16 {
-        move_16_to_32(buffer, from, len);
+        move_two::<16>(buffer, from, len);
     } else if len >= 8 {
-        move_8_to_16(buffer, from, len);
+        move_two::<8>(buffer, from, len);
     } else if len >= 4 {
-        move_4_to_8(buffer, from, len);
+        move_two::<4>(buffer, from, len);
     } else if len > 0 {
         move_few(buffer, from, len);
     }
 }
 
-/// Moves 32 to 64 bytes if none is a zero, and says whether it did: as two parts that may overlap.
+/// Moves `N` to `2 * N` bytes if none is a zero, and says whether it did: as two parts that may overlap.
 #[inline(always)]
-fn move_nonzero_32_to_64(buffer: &mut [u8], from: usize, len: usize) -> bool
+fn move_nonzero_two<const N: usize>(buffer: &mut [u8], from: usize, len: usize) -> bool
+    requires lanes { N ≤ 64 }
     requires within { from + len ≤ length buffer.old }
-    requires some { 32 ≤ len }
-    requires few { len ≤ 64 }
+    requires some { N ≤ len }
+    requires few { len ≤ N + N }
     ensures nonzero { IsTrue result → HasNoZero (take len (drop from buffer.old)) }
     ensures moved { IsTrue result
         → buffer.new ≡ take len (drop from buffer.old) ++ drop len buffer.old }
     ensures kept { result ≡ false → buffer.new ≡ buffer.old }
 {
-    let front = u8x32::from_slice(&buffer[from..]);
-    let back = u8x32::from_slice(&buffer[from + len - 32..]);
-    let zeros = front.simd_eq(u8x32::splat(0)).to_bitmask()
-        | back.simd_eq(u8x32::splat(0)).to_bitmask();
+    let front = Simd::<u8, N>::from_slice(&buffer[from..]);
+    let back = Simd::<u8, N>::from_slice(&buffer[from + len - N..]);
+    let zeros = front.simd_eq(Simd::splat(0)).to_bitmask()
+        | back.simd_eq(Simd::splat(0)).to_bitmask();
     if zeros != 0 {
         return false;
     }
     front.copy_to_slice(buffer);
-    back.copy_to_slice(&mut buffer[len - 32..]);
-    true
-}
-
-/// Moves 16 to 32 bytes if none is a zero, and says whether it did: as two parts that may overlap.
-#[inline(always)]
-fn move_nonzero_16_to_32(buffer: &mut [u8], from: usize, len: usize) -> bool
-    requires within { from + len ≤ length buffer.old }
-    requires some { 16 ≤ len }
-    requires few { len ≤ 32 }
-    ensures nonzero { IsTrue result → HasNoZero (take len (drop from buffer.old)) }
-    ensures moved { IsTrue result
-        → buffer.new ≡ take len (drop from buffer.old) ++ drop len buffer.old }
-    ensures kept { result ≡ false → buffer.new ≡ buffer.old }
-{
-    let front = u8x16::from_slice(&buffer[from..]);
-    let back = u8x16::from_slice(&buffer[from + len - 16..]);
-    let zeros = front.simd_eq(u8x16::splat(0)).to_bitmask()
-        | back.simd_eq(u8x16::splat(0)).to_bitmask();
-    if zeros != 0 {
-        return false;
-    }
-    front.copy_to_slice(buffer);
-    back.copy_to_slice(&mut buffer[len - 16..]);
-    true
-}
-
-/// Moves 8 to 16 bytes if none is a zero, and says whether it did: as two parts that may overlap.
-#[inline(always)]
-fn move_nonzero_8_to_16(buffer: &mut [u8], from: usize, len: usize) -> bool
-    requires within { from + len ≤ length buffer.old }
-    requires some { 8 ≤ len }
-    requires few { len ≤ 16 }
-    ensures nonzero { IsTrue result → HasNoZero (take len (drop from buffer.old)) }
-    ensures moved { IsTrue result
-        → buffer.new ≡ take len (drop from buffer.old) ++ drop len buffer.old }
-    ensures kept { result ≡ false → buffer.new ≡ buffer.old }
-{
-    let front = u8x8::from_slice(&buffer[from..]);
-    let back = u8x8::from_slice(&buffer[from + len - 8..]);
-    let zeros = front.simd_eq(u8x8::splat(0)).to_bitmask()
-        | back.simd_eq(u8x8::splat(0)).to_bitmask();
-    if zeros != 0 {
-        return false;
-    }
-    front.copy_to_slice(buffer);
-    back.copy_to_slice(&mut buffer[len - 8..]);
-    true
-}
-
-/// Moves 4 to 8 bytes if none is a zero, and says whether it did: as two parts that may overlap.
-#[inline(always)]
-fn move_nonzero_4_to_8(buffer: &mut [u8], from: usize, len: usize) -> bool
-    requires within { from + len ≤ length buffer.old }
-    requires some { 4 ≤ len }
-    requires few { len ≤ 8 }
-    ensures nonzero { IsTrue result → HasNoZero (take len (drop from buffer.old)) }
-    ensures moved { IsTrue result
-        → buffer.new ≡ take len (drop from buffer.old) ++ drop len buffer.old }
-    ensures kept { result ≡ false → buffer.new ≡ buffer.old }
-{
-    let front = u8x4::from_slice(&buffer[from..]);
-    let back = u8x4::from_slice(&buffer[from + len - 4..]);
-    let zeros = front.simd_eq(u8x4::splat(0)).to_bitmask()
-        | back.simd_eq(u8x4::splat(0)).to_bitmask();
-    if zeros != 0 {
-        return false;
-    }
-    front.copy_to_slice(buffer);
-    back.copy_to_slice(&mut buffer[len - 4..]);
+    back.copy_to_slice(&mut buffer[len - N..]);
     true
 }
 
@@ -253,14 +143,14 @@ pub(crate) fn move_nonzero_short(buffer: &mut [u8], from: usize, len: usize) -> 
 {
     if len >= 16 {
         if len >= 32 {
-            move_nonzero_32_to_64(buffer, from, len)
+            move_nonzero_two::<32>(buffer, from, len)
         } else {
-            move_nonzero_16_to_32(buffer, from, len)
+            move_nonzero_two::<16>(buffer, from, len)
         }
     } else if len >= 8 {
-        move_nonzero_8_to_16(buffer, from, len)
+        move_nonzero_two::<8>(buffer, from, len)
     } else if len >= 4 {
-        move_nonzero_4_to_8(buffer, from, len)
+        move_nonzero_two::<4>(buffer, from, len)
     } else {
         move_nonzero_few(buffer, from, len)
     }

@@ -6,7 +6,7 @@ ghost use Rattle.cobs.specs.Internal.OpenLen.{open_len};
 ghost use Rattle.cobs.specs.Internal.Mask.{lowest, without_lowest};
 
 use crate::window::{
-    WINDOW, copy_32, copy_window, is_all_zeros, write_ones, write_some_ones, zeros_32,
+    WINDOW, copy_at, copy_window, is_all_zeros, write_ones, write_some_ones, zeros_at,
 };
 use std::marker::Model;
 
@@ -203,7 +203,7 @@ fn append_windows(source: &[u8], dest: &mut [u8], progress: &mut Progress)
         } else {
             if zeros == ALL_ZEROS {
                 dest[index] = (next - index) as u8;
-                write_ones(dest, next);
+                write_ones::<32>(dest, next);
                 index = next + WINDOW - 1;
             } else {
                 'by_zero: while zeros != 0 {
@@ -256,14 +256,14 @@ fn write_rows(source: &[u8], read: usize, dest: &mut [u8], at: usize) -> usize
     ensures ones { dest.new ≡ take at dest.old
         ++ (replicate result 1 ++ drop (at + result) dest.old) }
 {
-    write_ones(dest, at);
+    write_ones::<32>(dest, at);
     let last = source.len() - read - WINDOW;
     let mut count = WINDOW;
     'by_row: while count < last {
-        if zeros_32(source, read + count) != ALL_ZEROS {
+        if zeros_at::<32>(source, read + count) != ALL_ZEROS {
             return count;
         }
-        write_ones(dest, at + count);
+        write_ones::<32>(dest, at + count);
         count += WINDOW;
     }
     count
@@ -297,7 +297,7 @@ fn append_whole_windows(source: &[u8], dest: &mut [u8], progress: &mut Progress)
     let mut read = 0;
     let last = source.len() - WINDOW;
     'by_window: while read < last {
-        let window = copy_32(source, read, dest, next);
+        let window = copy_at::<32>(source, read, dest, next);
         if window == 0 {
             if next - index < FULL_CODE - WINDOW {
                 read += WINDOW;

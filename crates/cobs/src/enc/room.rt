@@ -5,7 +5,7 @@ ghost use Rattle.cobs.specs.Length.{full_blocks, runs};
 
 use crate::enc::blocks::FULL_CODE;
 use crate::max_encoding_overhead;
-use crate::window::{WINDOW, zeros_32};
+use crate::window::{WINDOW, zeros_at};
 
 /// How many bytes a full block has after its code.
 const FULL_BLOCK_BYTES: usize = 254;
@@ -57,7 +57,7 @@ fn count_full_blocks(run: usize, source: &[u8]) -> usize
     let mut counted = 0;
     let mut read = 0;
     'by_window: while source.len() - read >= WINDOW {
-        let zeros = zeros_32(source, read);
+        let zeros = zeros_at::<32>(source, read);
         if zeros == 0 {
             run += WINDOW;
         } else {

@@ -11,4 +11,4 @@ returns-clause-nonzero c =
     let len : ℕ = c.min-len.result in
     let long : length (take 32 window) ≡ 32 = length-take-le 32 window c.requires.source in
     subst (λ (bytes : List ℕ). HasNoZero bytes) (take-take len 32 window (omega (arith, c.min-len.ensures)))
-    (clear_front (take 32 window) len (omega arith) (subst (λ (mask : ℕ). len ≤ lowest mask) c.zeros_32.ensures (omega (arith, c.min-len.ensures))))
+    (clear_front (take 32 window) len (omega arith) (subst (λ (mask : ℕ). len ≤ lowest mask) c.zeros_at.ensures (omega (arith, c.min-len.ensures))))

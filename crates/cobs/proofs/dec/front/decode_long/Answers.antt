@@ -16,7 +16,7 @@ returns-then-not-copied-clause-decoded c =
     let code : ℕ = get_or source 0 0 in
     elim c.if-code.branch [
       | then-code w ↦
-          subst (λ (x : List ℕ). Decoded (head source) dest x 0 0) (sym (w.dest-is ∙ w.copy_nonzero_32_to_64-copied.ensures.kept (sym w.copied-is ∙ c.if-not-copied.true))) (started (head source) dest c.requires.begun)
+          subst (λ (x : List ℕ). Decoded (head source) dest x 0 0) (sym (w.dest-is ∙ w.copy_nonzero_two-copied.ensures.kept (sym w.copied-is ∙ c.if-not-copied.true))) (started (head source) dest c.requires.begun)
       | else-code w ↦ (
           let e = w.copy_nonzero.ensures in
           let done : ℕ = w.copy_nonzero.result in
@@ -40,9 +40,9 @@ returns-clause-decoded c =
     elim c.if-code.branch [
       | then-code w ↦ (
           let done = sym w.copied-is ∙ c.if-not-copied.false in
-          let e = w.copy_nonzero_32_to_64-copied.ensures in
+          let e = w.copy_nonzero_two-copied.ensures in
           subst (λ (x : List ℕ). Decoded (head source) dest (set x (code - 1) 0) code code) (sym w.dest-is)
-          (whole (e.nonzero done) w.copy_nonzero_32_to_64-copied.new.dest (e.copied done) (omega arith))
+          (whole (e.nonzero done) w.copy_nonzero_two-copied.new.dest (e.copied done) (omega arith))
           )
       | else-code w ↦ (
           let e = w.copy_nonzero.ensures in

@@ -32,13 +32,13 @@ by_window-preserved-then-next-index c =
     let read : ℕ = c.by_window.read in
     let index : ℕ = c.by_window.index in
     let next : ℕ = c.by_window.next in
-    let copied : List ℕ = c.copy_32-window.new.dest in
-    let window : ℕ = c.copy_32-window.result in
+    let copied : List ℕ = c.copy_at-window.new.dest in
+    let window : ℕ = c.copy_at-window.result in
     let fits : end ≤ length c.by_window.dest = omega arith in
     let inside : read + 32 ≤ length source = omega arith in
     let r = Reaches-at H source old c.by_window.dest end read index next (λ noted. noted ≡ c.by_window.full) (λ _. Unit {0}) c.by_window.dest read index next refl refl refl refl (λ noted is. tt) c.by_window.invariant.reaches in
     let o = r.ordered in
-    let start = marks-start H source old c.by_window.dest copied end read 32 index next window r fits inside (omega arith) c.copy_32-window.ensures.copied c.copy_32-window.ensures.zeros (omega arith) (omega arith) in
+    let start = marks-start H source old c.by_window.dest copied end read 32 index next window r fits inside (omega arith) c.copy_at-window.ensures.copied c.copy_at-window.ensures.zeros (omega arith) (omega arith) in
     let taken = marks-end H source old copied end read 32 index next window (index + 1 - next) start c.if-window-eq0.true (omega arith) in
     record {
       more = omega arith;
@@ -50,7 +50,7 @@ pub write_rows-count-requires-clause-zeros : goal.write_rows-count-requires-clau
 write_rows-count-requires-clause-zeros c =
     let row : List ℕ = take 32 (drop c.by_window.read c.args.source.now) in
     let long : length row ≡ 32 = length-take-le 32 (drop c.by_window.read c.args.source.now) (let l = length-drop c.by_window.read c.args.source.now in omega arith) in
-    (window_all row (omega arith) (sym c.copy_32-window.ensures.zeros ∙ c.if-window-eq-ALL_ZEROS.true)).1
+    (window_all row (omega arith) (sym c.copy_at-window.ensures.zeros ∙ c.if-window-eq-ALL_ZEROS.true)).1
 
 pub by_window-preserved-then-window-eq-ALL_ZEROS : goal.by_window-preserved-then-window-eq-ALL_ZEROS
 unfolding count_trailing_zeros
@@ -62,12 +62,12 @@ by_window-preserved-then-window-eq-ALL_ZEROS c =
     let read : ℕ = c.by_window.read in
     let index : ℕ = c.by_window.index in
     let next : ℕ = c.by_window.next in
-    let copied : List ℕ = c.copy_32-window.new.dest in
-    let window : ℕ = c.copy_32-window.result in
+    let copied : List ℕ = c.copy_at-window.new.dest in
+    let window : ℕ = c.copy_at-window.result in
     let fits : end ≤ length c.by_window.dest = omega arith in
     let inside : read + 32 ≤ length source = omega arith in
     let r = Reaches-at H source old c.by_window.dest end read index next (λ noted. noted ≡ c.by_window.full) (λ _. Unit {0}) c.by_window.dest read index next refl refl refl refl (λ noted is. tt) c.by_window.invariant.reaches in
-    let q = copied-reaches H source old c.by_window.dest copied end read 32 index next window r fits inside (omega arith) c.copy_32-window.ensures.copied c.copy_32-window.ensures.zeros in
+    let q = copied-reaches H source old c.by_window.dest copied end read 32 index next window r fits inside (omega arith) c.copy_at-window.ensures.copied c.copy_at-window.ensures.zeros in
     let count : ℕ = c.write_rows-count.result in
     let after : List ℕ = c.write_rows-count.new.dest in
     let first : count_trailing_zeros 64 window ≡ 0 = ap (count_trailing_zeros 64) c.if-window-eq-ALL_ZEROS.true in
@@ -90,18 +90,18 @@ by_zero-init c =
     let read : ℕ = c.by_window.read in
     let index : ℕ = c.by_window.index in
     let next : ℕ = c.by_window.next in
-    let copied : List ℕ = c.copy_32-window.new.dest in
-    let window : ℕ = c.copy_32-window.result in
+    let copied : List ℕ = c.copy_at-window.new.dest in
+    let window : ℕ = c.copy_at-window.result in
     let fits : end ≤ length c.by_window.dest = omega arith in
     let inside : read + 32 ≤ length source = omega arith in
     let r = Reaches-at H source old c.by_window.dest end read index next (λ noted. noted ≡ c.by_window.full) (λ _. Unit {0}) c.by_window.dest read index next refl refl refl refl (λ noted is. tt) c.by_window.invariant.reaches in
     let o = r.ordered in
-    let start = marks-start H source old c.by_window.dest copied end read 32 index next window r fits inside (omega arith) c.copy_32-window.ensures.copied c.copy_32-window.ensures.zeros (omega arith) (omega arith) in
+    let start = marks-start H source old c.by_window.dest copied end read 32 index next window r fits inside (omega arith) c.copy_at-window.ensures.copied c.copy_at-window.ensures.zeros (omega arith) (omega arith) in
     marks-step H source old copied end read 32 index next window (index + 1 - next) start c.if-window-eq0.false (omega arith)
 
 pub by_window-preserved-then-place-index-lt-FULL_CODE : goal.by_window-preserved-then-place-index-lt-FULL_CODE
 by_window-preserved-then-place-index-lt-FULL_CODE c =
-    let coded = length-set c.copy_32-window.new.dest c.by_window.index (c.by_window.next + count_trailing_zeros 64 c.copy_32-window.result - c.by_window.index) in
+    let coded = length-set c.copy_at-window.new.dest c.by_window.index (c.by_window.next + count_trailing_zeros 64 c.copy_at-window.result - c.by_window.index) in
     let taken = marks-end _ _ _ _ _ _ _ _ _ _ _ c.by_zero.invariant c.by_zero-test.false (omega arith) in
     record {
       more = omega arith;
@@ -118,8 +118,8 @@ by_window-preserved c =
     let read : ℕ = c.by_window.read in
     let index : ℕ = c.by_window.index in
     let next : ℕ = c.by_window.next in
-    let copied : List ℕ = c.copy_32-window.new.dest in
-    let window : ℕ = c.copy_32-window.result in
+    let copied : List ℕ = c.copy_at-window.new.dest in
+    let window : ℕ = c.copy_at-window.result in
     let fits : end ≤ length c.by_window.dest = omega arith in
     let inside : read + 32 ≤ length source = omega arith in
     let r = Reaches-at H source old c.by_window.dest end read index next (λ noted. noted ≡ c.by_window.full) (λ _. Unit {0}) c.by_window.dest read index next refl refl refl refl (λ noted is. tt) c.by_window.invariant.reaches in
@@ -130,15 +130,15 @@ by_window-preserved c =
       | else-window-eq0+else-place-index-lt-FULL_CODE w ↦ (
           let row : List ℕ = take 32 (drop read source) in
           let long : length row ≡ 32 = length-take-le 32 (drop read source) (let l = length-drop read source in omega arith) in
-          let some : zero_mask row ≢ 0 = λ none. w.if-window-eq0.false (c.copy_32-window.ensures.zeros ∙ none) in
-          let first = ap (count_trailing_zeros 64) c.copy_32-window.ensures.zeros ∙ lowest_bit row (omega arith) some in
+          let some : zero_mask row ≢ 0 = λ none. w.if-window-eq0.false (c.copy_at-window.ensures.zeros ∙ none) in
+          let first = ap (count_trailing_zeros 64) c.copy_at-window.ensures.zeros ∙ lowest_bit row (omega arith) some in
           let lt = nonzero_len-lt row some in
           omega arith
           )
     ] in
     let short = c.by_window.invariant.open' in
     let sum : next + lacking ≡ index + 255 = omega arith in
-    let joined = filled H source old c.by_window.dest copied end read 32 index next window r fits inside (omega arith) c.copy_32-window.ensures.copied c.copy_32-window.ensures.zeros lacking refl none in
+    let joined = filled H source old c.by_window.dest copied end read 32 index next window r fits inside (omega arith) c.copy_at-window.ensures.copied c.copy_at-window.ensures.zeros lacking refl none in
     let f = subst (λ (n : ℕ). Reaches H source old copied end (read + lacking) index n (λ _. Unit {0})) sum joined in
     record {
       more = omega arith;
@@ -162,7 +162,7 @@ pub mark_first-requires-then-zeros-ne0-clause-inside : goal.mark_first-requires-
 mark_first-requires-then-zeros-ne0-clause-inside c =
     let H : List ℕ → Type 0 = CobsEncoderAfter c.args.dest.now c.args.progress.now in
     let end : ℕ = end_with c.args.progress.now c.args.source.now in
-    let coded = length-set c.copy_32-window.new.dest c.by_window.index (c.by_window.next + count_trailing_zeros 64 c.copy_32-window.result - c.by_window.index) in
+    let coded = length-set c.copy_at-window.new.dest c.by_window.index (c.by_window.next + count_trailing_zeros 64 c.copy_at-window.result - c.by_window.index) in
     let fits : end ≤ length c.by_zero.dest = omega arith in
     let one = first-marked H c.args.source.now c.args.dest.now c.by_zero.dest end c.by_window.read 32 c.by_zero.index c.by_window.next c.by_zero.zeros c.by_zero.invariant c.mark_first.new.dest c.mark_first.result fits c.mark_first.ensures.code c.mark_first.ensures.none c.mark_first.ensures.some in
     let l = length-set c.by_zero.dest c.by_zero.index ((c.by_window.next + lowest c.by_zero.zeros - c.by_zero.index) % 256) in
@@ -173,7 +173,7 @@ pub mark_first-requires-then-zeros-ne0-clause-ordered : goal.mark_first-requires
 mark_first-requires-then-zeros-ne0-clause-ordered c =
     let H : List ℕ → Type 0 = CobsEncoderAfter c.args.dest.now c.args.progress.now in
     let end : ℕ = end_with c.args.progress.now c.args.source.now in
-    let coded = length-set c.copy_32-window.new.dest c.by_window.index (c.by_window.next + count_trailing_zeros 64 c.copy_32-window.result - c.by_window.index) in
+    let coded = length-set c.copy_at-window.new.dest c.by_window.index (c.by_window.next + count_trailing_zeros 64 c.copy_at-window.result - c.by_window.index) in
     let fits : end ≤ length c.by_zero.dest = omega arith in
     let one = first-marked H c.args.source.now c.args.dest.now c.by_zero.dest end c.by_window.read 32 c.by_zero.index c.by_window.next c.by_zero.zeros c.by_zero.invariant c.mark_first.new.dest c.mark_first.result fits c.mark_first.ensures.code c.mark_first.ensures.none c.mark_first.ensures.some in
     code-ordered H c.args.source.now c.args.dest.now c.mark_first.new.dest end c.by_window.read 32 c.mark_first.result.0 c.by_window.next c.mark_first.result.1 one
@@ -182,7 +182,7 @@ pub by_zero-preserved-then-zeros-ne0 : goal.by_zero-preserved-then-zeros-ne0
 by_zero-preserved-then-zeros-ne0 c =
     let H : List ℕ → Type 0 = CobsEncoderAfter c.args.dest.now c.args.progress.now in
     let end : ℕ = end_with c.args.progress.now c.args.source.now in
-    let coded = length-set c.copy_32-window.new.dest c.by_window.index (c.by_window.next + count_trailing_zeros 64 c.copy_32-window.result - c.by_window.index) in
+    let coded = length-set c.copy_at-window.new.dest c.by_window.index (c.by_window.next + count_trailing_zeros 64 c.copy_at-window.result - c.by_window.index) in
     let fits : end ≤ length c.by_zero.dest = omega arith in
     let one = first-marked H c.args.source.now c.args.dest.now c.by_zero.dest end c.by_window.read 32 c.by_zero.index c.by_window.next c.by_zero.zeros c.by_zero.invariant c.mark_first.new.dest c.mark_first.result fits c.mark_first.ensures.code c.mark_first.ensures.none c.mark_first.ensures.some in
     let l = length-set c.by_zero.dest c.by_zero.index ((c.by_window.next + lowest c.by_zero.zeros - c.by_zero.index) % 256) in
@@ -193,7 +193,7 @@ pub by_zero-preserved : goal.by_zero-preserved
 by_zero-preserved c =
     let H : List ℕ → Type 0 = CobsEncoderAfter c.args.dest.now c.args.progress.now in
     let end : ℕ = end_with c.args.progress.now c.args.source.now in
-    let coded = length-set c.copy_32-window.new.dest c.by_window.index (c.by_window.next + count_trailing_zeros 64 c.copy_32-window.result - c.by_window.index) in
+    let coded = length-set c.copy_at-window.new.dest c.by_window.index (c.by_window.next + count_trailing_zeros 64 c.copy_at-window.result - c.by_window.index) in
     let fits : end ≤ length c.by_zero.dest = omega arith in
     let one = first-marked H c.args.source.now c.args.dest.now c.by_zero.dest end c.by_window.read 32 c.by_zero.index c.by_window.next c.by_zero.zeros c.by_zero.invariant c.mark_first.new.dest c.mark_first.result fits c.mark_first.ensures.code c.mark_first.ensures.none c.mark_first.ensures.some in
     one

@@ -9,7 +9,7 @@ by_row-preserved c =
     let i = c.by_row.invariant in
     let row : List ℕ = take 32 (drop (c.args.read + c.by_row.count) source) in
     let long : length row ≡ 32 = length-take-le 32 (drop (c.args.read + c.by_row.count) source) (let l = length-drop (c.args.read + c.by_row.count) source in omega arith) in
-    let all = window_all row (omega arith) (sym c.zeros_32.ensures ∙ c.if-zeros_32-ne-ALL_ZEROS.false) in
+    let all = window_all row (omega arith) (sym c.zeros_at.ensures ∙ c.if-zeros_at-ne-ALL_ZEROS.false) in
     record {
       some = omega arith;
       within = omega arith;

@@ -9,7 +9,7 @@ pub overflow_add-counted-else-zeros-eq0 : goal.overflow_add-counted-else-zeros-e
 overflow_add-counted-else-zeros-eq0 c =
     let source : List ℕ = c.args.source.now in
     let read : ℕ = c.by_window.read in
-    let z : zero_mask (take 32 (drop read source)) ≡ c.zeros_32-zeros.result = sym c.zeros_32-zeros.ensures in
+    let z : zero_mask (take 32 (drop read source)) ≡ c.zeros_at-zeros.result = sym c.zeros_at-zeros.ensures in
     let s = rw z at (window-some source read c.by_window.run (omega arith) (λ e. c.if-zeros-eq0.false (sym z ∙ e))) in
     let le = blocks-le c.args.run source in
     let counted = c.by_window.invariant.counted in
@@ -19,7 +19,7 @@ pub overflow_sub-run : goal.overflow_sub-run
 overflow_sub-run c =
     let source : List ℕ = c.args.source.now in
     let read : ℕ = c.by_window.read in
-    let z : zero_mask (take 32 (drop read source)) ≡ c.zeros_32-zeros.result = sym c.zeros_32-zeros.ensures in
+    let z : zero_mask (take 32 (drop read source)) ≡ c.zeros_at-zeros.result = sym c.zeros_at-zeros.ensures in
     (rw z at (leading-range source read c.by_window.run (omega arith) (λ e. c.if-zeros-eq0.false (sym z ∙ e)))).0
 
 pub by_window-preserved : goal.by_window-preserved
@@ -28,7 +28,7 @@ by_window-preserved c =
     let read : ℕ = c.by_window.read in
     let run' : ℕ = c.if-zeros-eq0.run in
     let counted = c.by_window.invariant.counted in
-    let z : zero_mask (take 32 (drop read source)) ≡ c.zeros_32-zeros.result = sym c.zeros_32-zeros.ensures in
+    let z : zero_mask (take 32 (drop read source)) ≡ c.zeros_at-zeros.result = sym c.zeros_at-zeros.ensures in
     let both : (run' ≤ read + 32 + 254) × (c.if-zeros-eq0.counted + blocks_in (behind run' (drop (read + 32) source)) ≡ blocks_in (behind c.args.run source)) = elim c.if-zeros-eq0.branch [
       | then-zeros-eq0 w ↦ (let s = window-none source read c.by_window.run (omega arith) (z ∙ w.if-zeros-eq0.true) in
           let e = ap (λ (n : ℕ). blocks_in (behind n (drop (read + 32) source))) w.run-is in

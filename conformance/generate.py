@@ -1,0 +1,458 @@
+#!/usr/bin/env python3
+"""Writes the vectors: a file for each group of calls beside this script, and all of them, one behind another, as what the
+program crates/cobs_conformance is run on. README.md has the format. With --check nothing is written, and the status is 1
+where a file isn't what would be written."""
+
+import itertools
+import os
+import sys
+
+import model
+from definition import encoded_frame, is_whole, masked, output, parts
+
+HERE = os.path.dirname(os.path.abspath(__file__))
+PROGRAM = f"{HERE}/../crates/cobs_conformance"
+
+ANY = "?"
+MESSAGE = bytes([10, 11, 0, 12])
+FRAME = encoded_frame(MESSAGE)
+STREAM = bytes([0, 3, 7, 8, 0, 5, 1, 0, 6, 1, 2, 3, 4, 5, 0, 2, 9, 0])
+STREAM_OF_OVERFLOW = bytes([4, 7, 8, 9, 0, 2, 5, 0, 3, 1, 0, 0, 1, 0])
+HELLO = b"\x0chello world"
+LENGTHS = [*range(252, 257), *range(507, 511), *range(761, 765)]
+
+
+# What a line is
+
+
+def word(value):
+    if isinstance(value, bytes):
+        return value.hex() or model.NONE
+    return str(value)
+
+
+class Group:
+    """A file of vectors: its lines, each with a name of its own."""
+
+    def __init__(self, name, *about):
+        self.name, self.lines, self.seen, self.count = name, [f"# {line}" for line in about], set(), {}
+
+    def line(self, label, level, call, arguments, answers):
+        said = " ".join(map(word, [level, call, *arguments, "->", *answers]))
+        if said in self.seen:
+            return
+        self.seen.add(said)
+        self.count[label] = self.count.get(label, 0) + 1
+        self.lines.append(f"{self.name}-{label}-{self.count[label]} {said}")
+
+    def choice(self, label, call, *arguments):
+        self.line(label, "choice", call, arguments, getattr(model, call)(*arguments))
+
+    def owed(self, label, call, *arguments):
+        self.line(label, "owed", call, arguments, getattr(model, call)(*arguments))
+
+    def owed_decoding(self, label, call, *arguments):
+        """A decoding whose refusal is owed, but not how it is named or counted."""
+        status, length, after = getattr(model, call)(*arguments)
+        answers = [status, length, after] if status == "ok" else ["refused", ANY, ANY]
+        self.line(label, "owed", call, arguments, answers)
+
+
+def filled(length, byte=0xAA):
+    return bytes([byte]) * length
+
+
+def counting(length, first=1):
+    return bytes((first + at - 1) % 255 + 1 for at in range(length))
+
+
+def with_zero(length, *places):
+    return bytes(0 if at in places else 1 for at in range(length))
+
+
+def lists(alphabet, longest):
+    for length in range(longest + 1):
+        yield from map(bytes, itertools.product(alphabet, repeat=length))
+
+
+SHORT_MESSAGES = list(lists([0, 1, 255], 3))
+
+NAMED_MESSAGES = [
+    MESSAGE,
+    b"\xff\0",
+    b"\0\0\1\0",
+    b"\1\2\3",
+    b"\0\x11\0\x22",
+    b"hello",
+    b"hello world",
+    bytes(range(1, 255)),
+    bytes(range(255)),
+    bytes(range(1, 256)),
+    bytes([*range(2, 256), 0]),
+    bytes([*range(3, 256), 0, 1]),
+]
+
+
+def long_messages():
+    for length in LENGTHS:
+        yield filled(length, 1)
+        yield counting(length)
+        if length in (254, 255, 508):
+            yield bytes(length)
+        for place in [253, 254, 255, 507, 508, 509, 762, length - 1]:
+            if place < length:
+                yield with_zero(length, place)
+    yield with_zero(509, 254)
+    yield with_zero(764, 254, 509)
+    yield with_zero(764, 253, 508)
+    yield filled(1016, 255)
+
+
+def at_block_ends():
+    """A few long messages on both sides of a block's end."""
+    for length in [253, 254, 255, 508, 509]:
+        yield filled(length, 1)
+        yield with_zero(length, length - 1)
+    yield with_zero(509, 254)
+    yield bytes(300)
+
+
+def round_words():
+    """Runs and rows of zeros of lengths round those of machine words and vectors, with a little behind them."""
+    for length in [7, 8, 9, 15, 16, 17, 31, 32, 33, 63, 64, 65, 127, 128, 129]:
+        yield counting(length) + b"\0\1\2"
+        yield bytes(length) + b"\1"
+        yield b"\1\0" * (length // 2) + b"\2"
+
+
+def short_sources():
+    """Pieces, broken pieces and zeros in every order, up to four bytes."""
+    return lists([0, 1, 2, 3], 4)
+
+
+def long_frames():
+    """Frames with full blocks, the longer ones among them, and what is left of them when cut round a block's end."""
+    ones = filled(254, 1)
+    full, nearly = b"\xff" + ones, b"\xfe" + ones[1:]
+    yield from [full, nearly, full + b"\1", full + b"\1\1", full + b"\2\5", full + b"\3\5", full + full]
+    yield from [full + full + b"\1", b"\1" + full + b"\1", nearly + b"\1", nearly + full, full + nearly]
+    yield from [full[:-1], full[:-1] + b"\0", full + b"\xff", full + full[:-1], full + nearly[:-1], nearly[:-1]]
+
+
+# The groups
+
+
+def lengths():
+    group = Group("lengths", "The greatest length of a frame: for a message of so many bytes.")
+    few = [*range(6), *LENGTHS, 1000, 1016, 1017, 65024, 65025, 65535, 1 << 20, (1 << 31) - 1 - (1 << 23)]
+    for length in few:
+        group.choice("overhead", "max_encoding_overhead", length)
+        group.choice("length", "max_encoding_length", length)
+    return group
+
+
+def encoding():
+    group = Group("encode", "Whole messages to frames: handed out, and into a buffer with room.")
+    for label, messages in [
+        ("short", SHORT_MESSAGES),
+        ("named", NAMED_MESSAGES),
+        ("words", round_words()),
+        ("long", long_messages()),
+    ]:
+        for message in messages:
+            group.owed(label, "encode_vec", message)
+    for message in [*SHORT_MESSAGES, *NAMED_MESSAGES, *at_block_ends()]:
+        frame = encoded_frame(message)
+        group.choice("wrapped", "encode_vec_including_sentinels", message)
+        group.choice("into", "encode", message, filled(len(frame)))
+        group.choice("into", "encode", message, filled(len(frame) + 2))
+        group.choice("wrapped-into", "encode_including_sentinels", message, filled(len(frame) + 2))
+        group.choice("wrapped-into", "encode_including_sentinels", message, filled(len(frame) + 3))
+    group.choice("nothing", "encode", b"", filled(16, 255))
+    group.choice("wrapped", "encode_vec_including_sentinels", bytes(509))
+    return group
+
+
+def rooms():
+    group = Group("room", "Encoding into every room, from none to one byte more than enough.")
+    for message in [*lists([0, 1], 3), *NAMED_MESSAGES[:7]]:
+        for room in range(len(encoded_frame(message)) + 2):
+            group.choice("try", "try_encode", message, filled(room))
+    for message in [*lists([0, 1], 2), *NAMED_MESSAGES[:4]]:
+        for room in range(len(encoded_frame(message)) + 4):
+            group.choice("try-wrapped", "try_encode_including_sentinels", message, filled(room))
+    for message in [*NAMED_MESSAGES[7:], *at_block_ends()]:
+        enough = len(encoded_frame(message))
+        for room in range(enough - 1, enough + 2):
+            group.choice("try-long", "try_encode", message, filled(room))
+        for room in [enough + 1, enough + 2]:
+            group.choice("try-wrapped-long", "try_encode_including_sentinels", message, filled(room))
+    return group
+
+
+def sentinels():
+    group = Group("sentinel", "Other sentinels: each once, and what the forms for them answer.")
+    for sentinel in map(lambda it: bytes([it]), range(256)):
+        frame = masked(FRAME, sentinel[0])
+        group.owed("encode", "encode_vec_with_sentinel", sentinel, MESSAGE)
+        group.owed_decoding("decode", "decode_vec_with_sentinel", sentinel, frame)
+        if sentinel[0] % 4 == 3:
+            group.choice("encode-into", "encode_with_sentinel", sentinel, MESSAGE, filled(6, 9))
+            group.choice("decode-into", "decode_with_sentinel", sentinel, frame, filled(5, 9))
+        group.choice("decode-in-place", "decode_in_place_with_sentinel", sentinel, frame + sentinel + b"\7")
+    for sentinel in [b"\0", b"\x0a", b"\xff"]:
+        for message in [b"", b"\0", *NAMED_MESSAGES[:5], bytes(range(1, 255)), with_zero(300, 254)]:
+            frame = masked(encoded_frame(message), sentinel[0])
+            group.owed("encode", "encode_vec_with_sentinel", sentinel, message)
+            group.owed_decoding("decode", "decode_vec_with_sentinel", sentinel, frame)
+            group.choice("encode-into", "encode_with_sentinel", sentinel, message, filled(len(frame) + 1))
+        for source in lists([0, 1, 2, 3], 2):
+            source = masked(source, sentinel[0])
+            for room in range(2):
+                group.choice("short-into", "decode_with_sentinel", sentinel, source, filled(room, 2))
+            group.choice("short-in-place", "decode_in_place_with_sentinel", sentinel, source)
+            group.choice("short", "decode_vec_with_sentinel", sentinel, source)
+        for message in [b"", b"\0", b"\1\2", MESSAGE]:
+            for room in range(len(encoded_frame(message)) + 2):
+                group.choice("try", "try_encode_with_sentinel", sentinel, message, filled(room, 9))
+        for room in range(7):
+            given = masked(FRAME + b"\0\x63", sentinel[0])
+            group.choice("room", "decode_with_sentinel", sentinel, given, filled(room, 255))
+            cut = masked(FRAME[:4], sentinel[0])
+            group.choice("cut-into", "decode_with_sentinel", sentinel, cut, filled(room, 7))
+    for frame in long_frames():
+        group.choice("long", "decode_with_sentinel", b"\x55", masked(frame, 0x55), filled(len(output(frame[:509])), 7))
+    return group
+
+
+def decoding():
+    group = Group("decode", "Whole frames to messages: handed out, and into a buffer.")
+    for label, messages in [
+        ("short", SHORT_MESSAGES),
+        ("named", NAMED_MESSAGES),
+        ("words", round_words()),
+        ("long", long_messages()),
+    ]:
+        for message in messages:
+            group.owed_decoding(label, "decode_vec", encoded_frame(message))
+    for frame in map(encoded_frame, [MESSAGE, b"\0\0\1\0", b"hello world", with_zero(8, 3, 5)]):
+        for length in range(1, len(frame) + 1):
+            group.owed_decoding("cut", "decode_vec", frame[:length])
+            group.choice("cut-into", "decode", frame[:length], filled(8))
+    full = encoded_frame(counting(300))
+    for length in [1, 2, 127, 253, 254, 255, 256, 257, 258, 300, len(full) - 1]:
+        group.owed_decoding("cut-long", "decode_vec", full[:length])
+    for source in short_sources():
+        group.choice("any", "decode", source, filled(3))
+    for source in lists([0, 1, 2, 3], 3):
+        group.choice("any-out", "decode_vec", source)
+    for source in [FRAME, FRAME + b"\0\7", FRAME[:4], b"\2\5\3\1", b"\0\0\2\5\0\x09", b"\1\1\1", b"\4\7\x08"]:
+        for room in range(len(source) + 2):
+            group.choice("room", "decode", source, filled(room, 9))
+    for frame in long_frames():
+        needed = len(output(frame.rstrip(b"\0")))
+        group.choice("long-out", "decode_vec", frame)
+        for room in range(needed - 1, needed + 2):
+            group.choice("long-into", "decode", frame, filled(room))
+    group.choice("padded", "decode", b"DEADBEEF" + bytes(24), filled(32, 0))
+    group.choice("padded", "decode", bytes([68, 69, 65, 68, 66, 69, 69, 70]) + bytes(24), filled(32, 0))
+    group.choice("padded", "decode", encoded_frame(filled(254, 1)) + b"\0", filled(254, 0))
+    return group
+
+
+def damage():
+    group = Group("damage", "Each one-byte damage of the frame 030a0b020c, of two blocks.")
+    for place, byte in itertools.product(range(len(FRAME)), range(256)):
+        damaged = FRAME[:place] + bytes([byte]) + FRAME[place + 1 :]
+        if byte == 0:
+            group.choice("zero", "decode_vec", damaged)
+        elif damaged != FRAME:
+            group.owed_decoding("byte", "decode_vec", damaged)
+        if place in (0, 3) and byte < 8 or byte in (0, 255):
+            group.choice("into", "decode", damaged, filled(5))
+            group.choice("in-place", "decode_in_place_report", damaged + b"\0\7")
+    return group
+
+
+def in_place():
+    group = Group("in-place", "Frames decoded where they lie, and every byte behind the message.")
+    for source in short_sources():
+        group.choice("any-report", "decode_in_place_report", source)
+    for source in lists([0, 1, 2, 3], 2):
+        group.choice("any", "decode_in_place", source)
+    for message in [*SHORT_MESSAGES, *NAMED_MESSAGES, *at_block_ends()]:
+        group.choice("frame", "decode_in_place", encoded_frame(message))
+        group.choice("frame-report", "decode_in_place_report", encoded_frame(message) + b"\0\x07")
+    for message in round_words():
+        group.choice("words", "decode_in_place", encoded_frame(message))
+    for frame in long_frames():
+        group.choice("long-report", "decode_in_place_report", frame)
+        group.choice("long-report", "decode_in_place_report", frame + b"\0\x07")
+    for length in range(1, len(FRAME) + 1):
+        group.choice("cut", "decode_in_place", FRAME[:length])
+        group.choice("cut", "decode_in_place", FRAME[:length] + b"\0\x63")
+    return group
+
+
+def encoder():
+    group = Group("encoder", "A streaming encoder over a buffer, given a message in pieces.")
+    for message in [*lists([0, 1], 2), b"\1\0\1", MESSAGE, b"hello"]:
+        frame = encoded_frame(message)
+        for room in range(1, len(frame) + 2):
+            for cut in range(len(message) + 1):
+                group.choice("room", "encoder", filled(room), message[:cut], message[cut:])
+            group.choice("bytes", "encoder", filled(room), *[message[at : at + 1] for at in range(len(message))])
+    ones, more = filled(254, 1), filled(508, 1)
+    for pieces in [[ones, b""], [ones, b"\0"], [ones, b"", b"\0"], [ones, b"", b"\1"], [ones, b"\1", b"\0", b""]]:
+        for room in range(254, 259):
+            group.choice("full", "encoder", filled(room), *pieces)
+    for cut in [0, 1, 127, 253, 254, 255, 256, 507, 508, 509]:
+        given = more + b"\0"
+        group.choice("two-full", "encoder", filled(513), given[:cut], b"", given[cut:], b"")
+    for size in [7, 253, 254, 255]:
+        given = filled(300, 2) + b"\0" + filled(20, 3)
+        cut = [given[at : at + size] for at in range(0, len(given), size)]
+        group.choice("pieces", "encoder", filled(len(encoded_frame(given)) + 1), *cut)
+        group.choice("pieces", "encoder", filled(len(encoded_frame(given)) - 1), *cut)
+    group.choice("refused", "encoder", filled(3, 9), b"\1\2", b"\3", b"")
+    group.choice("refused", "encoder", filled(1, 9), b"\0", b"")
+    group.choice("refused", "encoder", filled(255, 9), ones, b"\1", b"\0", b"")
+    return group
+
+
+def in_pieces(stream, size):
+    return [stream[at : at + size] for at in range(0, len(stream), size)]
+
+
+def cut_twice(stream):
+    for first, second in itertools.combinations_with_replacement(range(len(stream) + 1), 2):
+        yield [stream[:first], stream[first:second], stream[second:]]
+
+
+def decoder():
+    group = Group("decoder", "A streaming decoder over a buffer, given a stream in pieces: each answer with its place.")
+    for cut in range(len(STREAM) + 1):
+        group.choice("cut", "decoder", filled(4), STREAM[:cut], STREAM[cut:])
+    for cut in range(len(STREAM_OF_OVERFLOW) + 1):
+        group.choice("cut-overflow", "decoder", filled(2, 0), STREAM_OF_OVERFLOW[:cut], STREAM_OF_OVERFLOW[cut:])
+    for room in range(8):
+        for size in [1, 2, 64]:
+            group.choice("room", "decoder", filled(room), *in_pieces(STREAM, size))
+            group.choice("room", "decoder", filled(room, 0), *in_pieces(FRAME + b"\0" + FRAME, size))
+    for source in lists([0, 1, 2, 3], 3):
+        for room in [1, 2]:
+            group.choice("any", "decoder", filled(room), source + b"\0\2\5\0")
+    for stream in [b"\0" + HELLO + b"\0", b"\0\x0chel\0" + HELLO + b"\0", b"\0" + HELLO + b"\0\0\7second\0"]:
+        for size in [1, 3, 64]:
+            group.choice("hello", "decoder", filled(32, 0), *in_pieces(stream, size))
+    group.choice("reset", "decoder", filled(4, 0), b"\3\7", "reset", b"\2\5\0")
+    group.choice("reset", "decoder", filled(2, 0), b"\4\7\x08\x09", "reset", b"\2\5\0")
+    group.choice("reset", "decoder", filled(4, 0), b"\xff\7", "reset", b"\0\1\0", "reset", "reset", b"\2")
+    group.choice("reset", "decoder", filled(0, 0), b"\2\5", "reset", b"\1\0")
+    for frame in long_frames():
+        room = len(output(frame.rstrip(b"\0")))
+        group.choice("long", "decoder", filled(room), *in_pieces(frame.rstrip(b"\0") + b"\0\2\5\0", 100))
+    frame = encoded_frame(with_zero(300, 254))
+    group.choice("long", "decoder", filled(299), frame[:255], frame[255:256], frame[256:-1], frame[-1:], b"\0")
+    return group
+
+
+def streams():
+    group = Group("stream", "Whole streams: the outcome of each piece, and a stream of messages.")
+    good = b"\0".join([b"", FRAME, b"\1", b"", b"\2\5", encoded_frame(b"\0\0"), HELLO, b""])
+    for cut in range(len(good) + 1):
+        group.owed("messages", "decode_stream", 16, good[:cut], good[cut:])
+    for size in [1, 2, 3, 5, 7, 64]:
+        group.owed("messages", "decode_stream", 16, *in_pieces(good, size))
+    for broken in [b"\2", b"\5\1", b"\3\7", b"\xff\1\2", b"\1\1\4\1", b"\x0chel"]:
+        for size in [1, 2, 3, 64]:
+            arguments = [16, *in_pieces(FRAME + b"\0" + broken + b"\0" + HELLO + b"\0\2\5\0", size)]
+            kinds = ["message", MESSAGE, "refused", ANY, "message", HELLO[1:], "message", b"\5"]
+            group.line("behind-broken", "owed", "decode_stream", arguments, kinds)
+            group.choice("broken", "decode_stream", *arguments)
+    for pieces in cut_twice(STREAM):
+        group.choice("cut", "decode_stream", 4, *pieces)
+    for pieces in cut_twice(STREAM_OF_OVERFLOW):
+        group.choice("cut-overflow", "decode_stream", 2, *pieces)
+    for end in range(len(STREAM) + 1):
+        group.choice("front", "decode_stream", 4, STREAM[:end])
+    for room in range(8):
+        group.choice("room", "decode_stream", room, STREAM + STREAM_OF_OVERFLOW)
+    for frame in long_frames():
+        for room in [253, 254, 255, 508, 600]:
+            group.choice("long", "decode_stream", room, *in_pieces(b"\2\7\0" + frame + b"\0\2\5\0", 300))
+    for messages in [[], [b""], [b"", b"\0", b"\1\2"], [MESSAGE, b"hello", MESSAGE], [filled(254, 1), b"\1", b""]]:
+        group.owed("frames", "encode_frames", *messages)
+    return group
+
+
+def reader():
+    group = Group("reader", "A reader of frames over a source that gives its bytes in these reads.")
+    for size in [1, 2, 5, 7, 64]:
+        group.choice("reads", "next_frame", 4, *in_pieces(STREAM, size))
+        group.choice("reads", "next_frame", 4, *in_pieces(STREAM[:-1], size))
+        group.choice("reads", "next_frame", 11, *in_pieces(b"\0" + HELLO + b"\0\0\7second\0" + HELLO, size))
+    group.choice("kept", "next_frame", 4, b"\1\0\1\0\2\5\0")
+    group.choice("kept", "next_frame", 4, b"\1\0\0\0\2", b"\5\0\0")
+    group.choice("kept", "next_frame", 0, b"\1\0\2\5\0\1\0\3")
+    group.choice("kept", "next_frame", 64, b"\1\0" * 32, b"\1\0" * 32)
+    group.choice("end", "next_frame", 4, b"\2", b"", b"\5\0")
+    group.choice("end", "next_frame", 4, b"", b"\2\5\0", b"", b"", b"\3\1", b"", b"\0\2\6\0")
+    group.choice("end", "next_frame", 4, b"\0\0", b"", b"\0")
+    group.choice("end", "next_frame", 4)
+    group.choice("failed", "next_frame", 4, b"\2", "fail", b"\5", b"\0")
+    group.choice("failed", "next_frame", 4, "fail", "fail", b"\2\5\0\3\1", "fail", b"\2\0")
+    group.choice("unfinished", "next_frame", 4, b"\2\5\0\3\1")
+    group.choice("unfinished", "next_frame", 4, b"\4\7\x08\x09\1\1", b"", b"\7\0\7\0")
+    return group
+
+
+def kinds():
+    group = Group("kind", "Whether a list is a frame, and the shorter one of its message where there are two.")
+    for given in [*lists([0, 1, 2, 3], 3), *long_frames(), b"\5", b"\xff", FRAME, FRAME[:4], b"\1\xff" + filled(254, 1) + b"\1"]:
+        group.choice("any", "frame_kind", given)
+    group.choice("any", "frame_kind", b"\xff" + filled(253, 1))
+    return group
+
+
+def states():
+    group = Group("state", "The state machines: what one more byte is answered, and the state that follows.")
+    for message in [*lists([0, 1], 3), filled(252, 1), filled(253, 1), filled(254, 1), filled(255, 1), b"\0" + filled(253, 9)]:
+        for byte in [b"\0", b"\1", b"\xff"]:
+            group.choice("encoder", "encoder_state", message, byte)
+    for byte in map(lambda it: bytes([it]), [0, 1, 2, 7, 128, 254, 255]):
+        group.choice("decoder", "decoder_state", "idle", model.NONE, byte)
+        for state, left in itertools.product(["grab", "grab_chain"], [0, 1, 2, 127, 253, 254, 255]):
+            group.choice("decoder", "decoder_state", state, left, byte)
+    return group
+
+
+GROUPS = [lengths, encoding, rooms, sentinels, decoding, damage, in_place, encoder, decoder, streams, reader, kinds, states]
+
+
+def main(words):
+    texts, joined = {}, ""
+    for group in [make() for make in GROUPS]:
+        text = "\n".join(group.lines) + "\n"
+        texts[f"{HERE}/{group.name.replace('-', '_')}.txt"] = text
+        joined += text
+    lines = [line for line in joined.splitlines() if not line.startswith("#")]
+    texts[f"{PROGRAM}/stdin"] = joined
+    texts[f"{PROGRAM}/stdout"] = f"{len(lines)} cases, 0 differ\n"
+    stale = []
+    for path, text in texts.items():
+        if words == ["--check"]:
+            if not os.path.isfile(path) or open(path, encoding="ascii").read() != text:
+                stale.append(os.path.relpath(path, f"{HERE}/.."))
+        else:
+            with open(path, "w", encoding="ascii") as file:
+                file.write(text)
+    for path in stale:
+        print(f"{path} is not what conformance/generate.py writes")
+    owed = sum(line.split(" ")[1] == "owed" for line in lines)
+    print(f"{len(lines)} cases, {owed} of them owed, {len(joined)} bytes")
+    return 1 if stale else 0
+
+
+if __name__ == "__main__":
+    sys.exit(main(sys.argv[1:]))

@@ -1,0 +1,6 @@
+use Rattle.std.proofs.Common.{arith}
+use Rattle.cobs.proofs.MaskLemmas.{zeros_by_lanes}
+use Rattle.cobs.proofs.window.zeros_at.Goals as goal
+
+pub returns : goal.returns
+returns g c = zeros_by_lanes c.args.bytes.now c.args.at g.row.N c.requires.source c.requires.lanes
