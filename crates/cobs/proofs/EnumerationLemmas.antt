@@ -5,11 +5,11 @@ use Rattle.std.proofs.lemmas.List.{length_push}
 use Rattle.std.proofs.lemmas.Bool.{cases_Bool, true≢false, eqb-true, eqb-false}
 use Rattle.std.proofs.lemmas.List.Elements.{All-head, All-tail, All-nil}
 use Rattle.std.proofs.lemmas.List.Splits.{slice_split_none, slice_split_at, join_with_byte-slice_split}
-use Rattle.cobs.specs.Grammar.{HasNoZero, IsBlock, is_full, IsFull, joint, lone_block, message_of, last_of, IsFrameOf, Reads, IsEncodedFrame}
+use Rattle.cobs.specs.Grammar.{HasNoZero, IsBlock, is_full, IsFull, joint, lone_block, message_of, last_of, IsFrameOf, IsOpenFrame, Reads, IsEncodedFrame}
 use Rattle.cobs.specs.Length.{last_number, last_run, EndsInFullRun, encoded_len}
 use Rattle.cobs.specs.Stream.{stretches}
 use Rattle.cobs.specs.Laws.{IsFrameFor}
-use Rattle.cobs.proofs.FrameLemmas.{last_of-cons}
+use Rattle.cobs.proofs.FrameLemmas.{last_of-cons, last_of-push}
 use Rattle.cobs.proofs.GrammarLemmas.{IsEncodedFrame-last}
 use Rattle.cobs.proofs.LengthLemmas.{no_zero, some_stretch, stretches-append, onto_parts}
 use Rattle.cobs.proofs.JoinLemmas.{concat-append, message_of-append, All-left, Reads-append}
@@ -176,3 +176,22 @@ all_frames f m = (frames_of f m, frames_from f m)
 -- the second is one byte longer
 pub length-second : (f m : List ℕ) → IsEncodedFrame f m → EndsInFullRun m → length (f ++ lone_block) ≡ encoded_len m + 1
 length-second f m e x = length_push f 1 ∙ ap (λ (n : ℕ). n + 1) (length-encoded f m e)
+
+-- AN OPEN FRAME
+
+abbrev open_reads : (f m : List ℕ) (index code : ℕ) → IsOpenFrame f m index code → Reads f m
+open_reads f m index code o = record { blocks = o.front ++ (code ∷ o.bytes) ∷ []; frame = o.frame; message = o.message }
+
+-- the encoded frame of a message that ends in a full run ends in a full block
+open_full : (f m : List ℕ) (index code : ℕ) → IsOpenFrame f m index code → IsEncodedFrame f m → EndsInFullRun m → ⊥
+open_full f m index code o e x =
+    let full = (ends_in_full f m (record { reads = open_reads f m index code o; canonical = e.canonical })).1 x in
+    let code-is : code ≡ 255 = eqb-true code 255 (subst IsFull (last_of-push o.front (code ∷ o.bytes)) full) in
+    let below = o.not_full in
+    omega arith
+
+pub open_shorter : (f m : List ℕ) (index code : ℕ) → IsOpenFrame f m index code → (EndsInFullRun m → ⊥) → IsEncodedFrame f m
+open_shorter f m index code o other = ⊎_elim (λ e. e) (λ w. absurd (other w.0)) (frames_of f m (open_reads f m index code o))
+
+pub open_longer : (f m : List ℕ) (index code : ℕ) → IsOpenFrame f m index code → EndsInFullRun m → (g : List ℕ) × IsEncodedFrame g m × (f ≡ g ++ lone_block)
+open_longer f m index code o x = ⊎_elim (λ e. absurd (open_full f m index code o e x)) (λ w. w.1) (frames_of f m (open_reads f m index code o))

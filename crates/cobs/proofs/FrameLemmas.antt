@@ -51,6 +51,11 @@ pub last_of-cons : (xs : List ℕ) (more : List (List ℕ)) → more ≢ [] → 
 last_of-cons xs [] some = absurd (some refl)
 last_of-cons xs (next ∷ more) some = refl
 
+pub last_of-push : (xs : List (List ℕ)) (x : List ℕ) → last_of (xs ++ x ∷ []) ≡ x
+last_of-push [] x = refl
+last_of-push (y ∷ []) x = refl
+last_of-push (y ∷ z ∷ xs) x = last_of-push (z ∷ xs) x
+
 -- THE PARTS OF BLOCKS ARE THE BLOCKS
 
 -- a block in front is the first part

@@ -7,16 +7,11 @@ use Rattle.cobs.specs.Grammar.{HasNoZero, IsBlock, IsFull, IsFrame, IsFrameOf, I
 use Rattle.cobs.specs.Piece.{parts, parts_after}
 use Rattle.cobs.specs.declared.dec.kind.FrameKind.{FrameKind}
 use Rattle.cobs.specs.declared.dec.kind.FrameKind.TheVariants.{NotAFrame, Canonical, Longer}
-use Rattle.cobs.proofs.FrameLemmas.{parts-frame, frame_some, frame_nonzero}
+use Rattle.cobs.proofs.FrameLemmas.{last_of-push, parts-frame, frame_some, frame_nonzero}
 use Rattle.cobs.proofs.GrammarLemmas.{one_frame}
 use Rattle.cobs.proofs.JoinLemmas.{concat-append, parts-append}
 
 -- LISTS OF LISTS WITH ONE MORE BEHIND THEM
-
-last_of-push : (xs : List (List ℕ)) (x : List ℕ) → last_of (xs ++ x ∷ []) ≡ x
-last_of-push [] x = refl
-last_of-push (y ∷ []) x = refl
-last_of-push (y ∷ z ∷ xs) x = last_of-push (z ∷ xs) x
 
 front_of : List (List ℕ) → List (List ℕ)
 front_of [] = []

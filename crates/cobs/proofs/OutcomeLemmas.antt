@@ -11,9 +11,12 @@ use Rattle.cobs.proofs.FrameLemmas.{concat-parts, frame_some, frame_nonzero, fra
 
 -- A FRAME, BY ITS BYTES
 
+pub reads_only : (f m : List ℕ) → Reads f m → (f ≢ []) × HasNoZero f × IsWhole f × (m ≡ output f)
+reads_only f m r = (frame_some f m r, frame_nonzero f m r, frame_whole f m r, frame_output f m r)
+
 pub reads_iff : (f m : List ℕ) → All (λ b. b < 256) f → Reads f m ↔ ((f ≢ []) × HasNoZero f × IsWhole f × (m ≡ output f))
 reads_iff f m below = (
-  λ r. (frame_some f m r, frame_nonzero f m r, frame_whole f m r, frame_output f m r),
+  λ r. reads_only f m r,
   λ (some, nonzero, whole, is). subst (λ (x : List ℕ). Reads f x) (sym is) (reads_output f some nonzero below whole),
 )
 

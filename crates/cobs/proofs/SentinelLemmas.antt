@@ -4,7 +4,7 @@ use borrow.Rule.Slice.PartMut.{put_mid}
 use Rattle.std.specs.Int.Bits.{bit_xor, xor_assoc, xor_self, xor_zero_r}
 use Rattle.std.proofs.lemmas.List.{length-map, drop-append-le, drop-drop, drop-set-lt}
 use Rattle.std.proofs.lemmas.List.Elements.{All-map, All-weaker}
-use Rattle.cobs.specs.Grammar.{HasNoZero, IsEncodedFrame}
+use Rattle.cobs.specs.Grammar.{HasNoZero, IsEncodedFrame, IsFrame}
 use Rattle.cobs.specs.Sentinel.{xor_each, IsEncodedFrameFor, IsDelimitedFrame, IsFreeOf, between_ends}
 use Rattle.cobs.proofs.FrameLemmas.{frame_nonzero}
 
@@ -49,9 +49,12 @@ pub encoded_nonzero : {f m : List ℕ} → IsEncodedFrame f m → HasNoZero f
 encoded_nonzero {f} {m} e = frame_nonzero f m e.reads
 
 -- a frame for the sentinel s
+pub no_sentinel_for : (s : ℕ) (f : List ℕ) → IsFrame (xor_each s f) → IsFreeOf s f
+no_sentinel_for s f (m, r) = subst (IsFreeOf s) (xor_each-twice s f) (All-map (λ b. b ≢ s) (λ b. bit_xor b s) (xor_each s f)
+    (All-weaker (λ x. x ≢ 0) (λ x. bit_xor x s ≢ s) (λ x some is. some (sym (xor_twice x s) ∙ ap (λ (y : ℕ). bit_xor y s) is ∙ xor_self s)) (xor_each s f) (frame_nonzero (xor_each s f) m r)))
+
 pub encoded_free : (s : ℕ) (f : List ℕ) {m : List ℕ} → IsEncodedFrameFor s f m → IsFreeOf s f
-encoded_free s f {m} e = subst (IsFreeOf s) (xor_each-twice s f) (All-map (λ b. b ≢ s) (λ b. bit_xor b s) (xor_each s f)
-    (All-weaker (λ x. x ≢ 0) (λ x. bit_xor x s ≢ s) (λ x some is. some (sym (xor_twice x s) ∙ ap (λ (y : ℕ). bit_xor y s) is ∙ xor_self s)) (xor_each s f) (encoded_nonzero e)))
+encoded_free s f {m} e = no_sentinel_for s f (m, e.reads)
 
 -- a frame between two sentinels
 pub delimited_nonzero : {bytes m : List ℕ} → IsDelimitedFrame bytes m → HasNoZero (between_ends bytes)

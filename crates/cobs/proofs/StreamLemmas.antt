@@ -224,3 +224,6 @@ stream_outcomes-apart a d z n h =
 pub stream_outcomes-one : (d : List ℕ) (n : ℕ) → d ≢ [] → HasNoZero d → stream_outcomes (d ++ 0 ∷ []) n ≡ outcome_of d n ∷ []
 stream_outcomes-one [] n some h = absurd (some refl)
 stream_outcomes-one (c ∷ d) n some h = stream_outcomes-piece (c ∷ d) n h
+
+pub stream_outcomes-nothing : (n : ℕ) → stream_outcomes (0 ∷ []) n ≡ []
+stream_outcomes-nothing n = stream_outcomes-piece [] n (All-nil (λ b. b ≢ 0))

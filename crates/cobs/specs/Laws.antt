@@ -1,8 +1,9 @@
 -- Words of the laws.
 use Rattle.std.specs.Prelude.{◌≡◌, ℕ, List, [], ◌∷◌, ◌++◌, ◌⊎◌}
 use Rattle.std.specs.List.{concat}
-use Rattle.cobs.specs.Grammar.{lone_block, IsEncodedFrame}
+use Rattle.cobs.specs.Grammar.{HasNoZero, lone_block, IsEncodedFrame}
 use Rattle.cobs.specs.Length.{EndsInFullRun}
+use Rattle.cobs.specs.Stream.{stream_outcomes, unended}
 
 -- f is the encoded frame of m or, where m ends in a full run, that frame and the lone block after it
 abbrev pub IsFrameFor : List ℕ → List ℕ → Type 0
@@ -19,3 +20,12 @@ IsFront front xs = (rest : List ℕ) × (xs ≡ front ++ rest)
 -- the stream ends in a sentinel, or nothing of it has come
 abbrev pub IsAtSentinel : List ℕ → Type 0
 IsAtSentinel t = (t ≡ []) ⊎ ((front : List ℕ) × (t ≡ front ++ 0 ∷ []))
+
+-- what `law_9` says, for a lemma that takes it
+pub record StreamLaw : Type 0 where
+  pub cut : (x y : List ℕ) (n : ℕ) → stream_outcomes (x ++ y) n ≡ stream_outcomes x n ++ stream_outcomes (unended x ++ y) n
+  pub left : (x y : List ℕ) → unended (x ++ y) ≡ unended (unended x ++ y)
+  pub ended : (x : List ℕ) → unended (x ++ 0 ∷ []) ≡ []
+  pub begun : (x : List ℕ) → HasNoZero (unended x)
+  pub same : (x : List ℕ) → HasNoZero x → unended x ≡ x
+  pub none : (x : List ℕ) (n : ℕ) → HasNoZero x → stream_outcomes x n ≡ []

@@ -12,15 +12,17 @@
 //! }
 //! ```
 ghost use Rattle.std.specs.Prelude.{◌≡◌, ◌≢◌, ◌↔◌, ◌<◌, ◌≤◌, ◌+◌, ℕ, List, [], ◌∷◌, ◌++◌, length, All};
-ghost use Rattle.cobs.specs.Grammar.{HasNoZero, IsEncodedFrame, IsFrame, Reads, joint, last_of, lone_block};
+ghost use Rattle.cobs.specs.Grammar.{HasNoZero, IsEncodedFrame, IsFrame, IsOpenFrame, Reads, joint, last_of, lone_block};
 ghost use Rattle.cobs.specs.Laws.{EndsAtBlock, IsAtSentinel, IsFrameFor, IsFront};
 ghost use Rattle.cobs.specs.Length.{EndsInFullRun, encoded_len, max_encoded_len};
+ghost use Rattle.cobs.specs.OpenBlock.{CobsEncoderAfter, IsOpenOutput, OpenBlock, Reached, end_of};
 ghost use Rattle.cobs.specs.Piece.{IsWhole, output};
-ghost use Rattle.cobs.specs.Sentinel.{xor_each};
+ghost use Rattle.cobs.specs.Sentinel.{IsFreeOf, xor_each};
 ghost use Rattle.cobs.specs.Stream.{Message, first_piece, head, outcome_of, stream_outcomes, unended};
 
 /// A frame reads as its output: a list of bytes reads as a message exactly where it isn't empty, has no zero, its last
-/// block has all the bytes that its code counts, and the message is what it decodes to.
+/// block has all the bytes that its code counts, and the message is what it decodes to. No output is longer than its
+/// piece, and with one more byte of the piece it gets no shorter.
 ///
 /// So whether a list is a frame, and of what, can be told by cutting it at its codes. Each decoder does so, and its
 /// users know by this law that what it accepts are the frames and nothing else.
@@ -37,6 +39,10 @@ ghost use Rattle.cobs.specs.Stream.{Message, first_piece, head, outcome_of, stre
 pub fn law_1()
     ensures reads { (f m : List ℕ) → All (λ byte. byte < 256) f
         → (Reads f m ↔ ((f ≢ []) × HasNoZero f × IsWhole f × (m ≡ output f))) }
+    ensures only { (f m : List ℕ) → Reads f m
+        → (f ≢ []) × HasNoZero f × IsWhole f × (m ≡ output f) }
+    ensures within { (p : List ℕ) → length (output p) ≤ length p }
+    ensures grows { (p : List ℕ) (byte : ℕ) → length (output p) ≤ length (output (p ++ byte ∷ [])) }
 {}
 
 /// Each message has exactly one encoded frame.
@@ -85,7 +91,7 @@ pub fn law_3()
 
 /// The bounds of an encoded frame's length: it is longer than its message, and at most as long as
 /// [`max_encoding_length`](crate::max_encoding_length) says. A message without zeros reaches that bound, so each
-/// length of a message does.
+/// length of a message does. With more bytes a message's frame gets no shorter.
 ///
 /// ```
 /// fn encode_nonzero(source: &[u8], dest: &mut [u8]) -> usize
@@ -103,6 +109,7 @@ pub fn law_4()
     ensures reached { (m : List ℕ) → HasNoZero m → encoded_len m ≡ max_encoded_len (length m) }
     ensures everywhere { (n : ℕ) → (m : List ℕ) × (length m ≡ n) × All (λ byte. byte < 256) m
         × (encoded_len m ≡ max_encoded_len n) }
+    ensures grows { (m d : List ℕ) → encoded_len m ≤ encoded_len (m ++ d) }
 {}
 
 /// Messages with equal encoded frames are equal, and a frame has one message at all.
@@ -125,9 +132,10 @@ pub fn law_5()
     ensures encoded { (f g m k : List ℕ) → IsEncodedFrame f m → IsEncodedFrame g k → f ≡ g → m ≡ k }
 {}
 
-/// No byte of a frame for a sentinel is that sentinel.
+/// No byte of a frame for a sentinel is that sentinel, and a second exclusive or gives the frame for 0 back.
 ///
-/// This is what COBS is for: whoever puts the sentinel between frames can find their ends by it alone.
+/// This is what COBS is for: whoever puts the sentinel between frames can find their ends by it alone. `free` is said of
+/// a frame that is sent, `received` of one that has come.
 ///
 /// ```
 /// fn change_sentinel(frame: &mut [u8], sentinel: u8)
@@ -142,6 +150,8 @@ pub fn law_5()
 /// ```
 pub fn law_6()
     ensures free { (f : List ℕ) (s : ℕ) → IsFrame f → All (λ byte. byte ≢ s) (xor_each s f) }
+    ensures received { (f : List ℕ) (s : ℕ) → IsFrame (xor_each s f) → IsFreeOf s f }
+    ensures back { (f : List ℕ) (s : ℕ) → xor_each s (xor_each s f) ≡ f }
 {}
 
 /// A front of a frame, unless it is empty, is a frame exactly where it ends at a block's end, and its message is then a
@@ -189,7 +199,8 @@ pub fn law_8()
 {}
 
 /// A stream that is cut in two anywhere: the outcomes of its first part, and then those of the second part after what
-/// the first left unended.
+/// the first left unended. What both leave unended is what the second part leaves after that. Behind a zero nothing
+/// is left; bytes without a zero have no outcome, and are all left.
 ///
 /// So a receiver may be given a stream in parts of any length, as reads happen to bring it, and gets what one call over
 /// the whole stream would give: `decode_stream`, `push` and `FrameReader` rest on this.
@@ -213,11 +224,16 @@ pub fn law_8()
 pub fn law_9()
     ensures cut { (x y : List ℕ) (n : ℕ) →
         stream_outcomes (x ++ y) n ≡ stream_outcomes x n ++ stream_outcomes (unended x ++ y) n }
+    ensures left { (x y : List ℕ) → unended (x ++ y) ≡ unended (unended x ++ y) }
+    ensures ended { (x : List ℕ) → unended (x ++ 0 ∷ []) ≡ [] }
+    ensures begun { (x : List ℕ) → HasNoZero (unended x) }
+    ensures same { (x : List ℕ) → HasNoZero x → unended x ≡ x }
+    ensures none { (x : List ℕ) (n : ℕ) → HasNoZero x → stream_outcomes x n ≡ [] }
 {}
 
 /// Damage between two sentinels stays between them: what is changed, lost or added there, sentinels too, leaves the
 /// outcomes before the first and after the second as they are. Where no sentinel stands between them, one piece
-/// does, with one outcome.
+/// does, with one outcome; two sentinels side by side have none between them.
 ///
 /// So a receiver of a noisy link, or a reader of a damaged file of records, loses no message but those that the damage
 /// touches.
@@ -244,6 +260,7 @@ pub fn law_10()
         ≡ stream_outcomes a n ++ stream_outcomes (d ++ 0 ∷ []) n ++ stream_outcomes z n }
     ensures one { (d : List ℕ) (n : ℕ) → d ≢ [] → HasNoZero d
         → stream_outcomes (d ++ 0 ∷ []) n ≡ outcome_of d n ∷ [] }
+    ensures empty { (n : ℕ) → stream_outcomes (0 ∷ []) n ≡ [] }
 {}
 
 /// A frame in a stream comes to its message in each buffer that holds the message.
@@ -288,4 +305,31 @@ pub fn law_12()
     ensures reads { (byte : ℕ) (bytes m : List ℕ) → let t = byte ∷ bytes in
         byte ≢ 0 → All (λ byte. byte < 256) t
         → ((outcome_of (head t) (length t) ≡ Message m) ↔ Reads (head t) m) }
+{}
+
+/// What a streaming encoder has come to: where the frame so far ends, and how the open frame of an
+/// [`EncoderState`](crate::EncoderState) differs from the encoded one.
+///
+/// So the placeholder is always within the output of a caller who carries out each push result, and the frame that this
+/// caller gets is the encoded one, unless the message ends in a full run: then it has one 01 more.
+///
+/// ```
+/// fn as_encoded<'a>(frame: &'a [u8], message: &[u8], index: usize, code: u8) -> &'a [u8]
+///     requires open { IsOpenFrame frame.now message.now index code }
+///     requires last_run { EndsInFullRun message.now → ⊥ }
+///     ensures { IsEncodedFrame result.now message.now }
+/// {
+///     law_13();
+///     frame
+/// }
+/// ```
+pub fn law_13()
+    ensures output { (g m : List ℕ) (state : OpenBlock) → IsOpenOutput g state m
+        → (length g ≡ state.index + state.code) × (state.index < length g) }
+    ensures shorter { (f m : List ℕ) (index code : ℕ) → IsOpenFrame f m index code
+        → (EndsInFullRun m → ⊥) → IsEncodedFrame f m }
+    ensures longer { (f m : List ℕ) (index code : ℕ) → IsOpenFrame f m index code → EndsInFullRun m
+        → (g : List ℕ) × IsEncodedFrame g m × (f ≡ g ++ lone_block) }
+    ensures end { (slice m : List ℕ) (reached : Reached) → CobsEncoderAfter slice reached m
+        → end_of reached ≡ encoded_len m }
 {}

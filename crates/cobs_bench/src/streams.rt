@@ -8,6 +8,7 @@ ghost use Rattle.cobs_bench.specs.Answer.{told};
 ghost use Rattle.cobs_bench.specs.Tally.{chunk_len, outcomes_to_end, tallied};
 
 use crate::answer::{Answer, Fed, OK, TOO_SMALL, answered, fed_of, status_of};
+use cobs::laws::{law_1, law_4, law_9, law_10};
 use cobs::{CobsDecoder, CobsEncoder, UnbufferedDecoder};
 
 /// How many of the bytes that are left the next chunk has: `chunk` of them, or all where `chunk` is 0.
@@ -49,6 +50,7 @@ pub extern "C" fn bench_encoder_push(source: &[u8], chunk: usize, dest: &mut [u8
     }
     let mut encoder = CobsEncoder::new(dest);
     'by_chunk: while parsed < source.len() {
+        law_4();
         let len = next_len(chunk, source.len() - parsed);
         match encoder.push(&source[parsed..parsed + len]) {
             Ok(()) => parsed += len,
@@ -64,6 +66,9 @@ pub extern "C" fn bench_encoder_push(source: &[u8], chunk: usize, dest: &mut [u8
 pub extern "C" fn bench_push(stream: &[u8], chunk: usize, dest: &mut [u8]) -> Answer
     ensures tallied { result ≡ tallied 0 0 (outcomes_to_end stream.now (length dest.old)) }
 {
+    law_1();
+    law_9();
+    law_10();
     let mut decoder = CobsDecoder::new(dest);
     let mut messages = 0;
     let mut sum = 0;
@@ -91,6 +96,9 @@ pub extern "C" fn bench_push(stream: &[u8], chunk: usize, dest: &mut [u8]) -> An
 pub extern "C" fn bench_feed_each(stream: &[u8], dest: &mut [u8]) -> Answer
     ensures tallied { result ≡ tallied 0 0 (outcomes_to_end stream.now (length dest.old)) }
 {
+    law_1();
+    law_9();
+    law_10();
     let mut decoder = CobsDecoder::new(dest);
     let mut messages = 0;
     let mut sum = 0;

@@ -2,7 +2,7 @@
 use Rattle.std.proofs.Common.{◌≡◌, ◌+◌, ◌<◌, ◌≤◌, ℕ, Bool, if◌then◌else◌, List, [], ◌∷◌, ◌++◌, length, codes, cond, Result, Ok, Err, is_ok, OnOk, refl, ap, sym, ◌∙◌, arith, append_assoc, append-nil, length-append, subst, take}
 use Rattle.std.proofs.lemmas.Fmt.{decimal_digit}
 use Rattle.std.specs.List.{flat_map}
-use Rattle.cobs.proofs.StreamLemmas.{stream_outcomes-append, unended-append, unended-zero}
+use Rattle.cobs.specs.Laws.{StreamLaw}
 use Rattle.cobs.specs.NextFrame.{Read, Runs, EndsFirst, ReaderState, ReaderAfter, ReadsNext, AtPieceEnd, all_given}
 use Rattle.cobs.specs.Stream.{Outcome, Message, Broken, TooLong, is_nonempty, stream_outcomes, unended}
 use Rattle.cobs.specs.declared.framed.Next.TheVariants as nexts
@@ -33,21 +33,21 @@ report_is : (stream : List ℕ) (n : ℕ) → n ≡ longest_message → report s
 report_is stream n e = ap (λ k. flat_map outcome_line (stream_outcomes stream k) ++ unfinished_line stream) (sym e)
 
 -- what no zero has ended in a stream is that of what follows a zero
-unended-behind : (front behind : List ℕ) → unended (front ++ 0 ∷ behind) ≡ unended behind
-unended-behind front behind =
-    ap unended (sym (append_assoc front (0 ∷ []) behind)) ∙ unended-append (front ++ 0 ∷ []) behind ∙ ap (λ l. unended (l ++ behind)) (unended-zero front)
+unended-behind : (law : StreamLaw) (front behind : List ℕ) → unended (front ++ 0 ∷ behind) ≡ unended behind
+unended-behind law front behind =
+    ap unended (sym (append_assoc front (0 ∷ []) behind)) ∙ law.left (front ++ 0 ∷ []) behind ∙ ap (λ l. unended (l ++ behind)) (law.ended front)
 
 -- what stands behind the first piece that ends in the stream t, and then more, decides the rest of the report
-report-first : (t behind more : List ℕ) (n : ℕ) (outcome : Outcome) → n ≡ longest_message → EndsFirst t n outcome behind
+report-first : (law : StreamLaw) (t behind more : List ℕ) (n : ℕ) (outcome : Outcome) → n ≡ longest_message → EndsFirst t n outcome behind
     → report (t ++ more) ≡ outcome_line outcome ++ report (behind ++ more)
-report-first t behind more n outcome e first =
-    let same : unended t ≡ unended behind = ap unended first.cut ∙ unended-behind first.front behind in
+report-first law t behind more n outcome e first =
+    let same : unended t ≡ unended behind = ap unended first.cut ∙ unended-behind law first.front behind in
     let outcomes : stream_outcomes (t ++ more) n ≡ outcome ∷ stream_outcomes (behind ++ more) n =
-    stream_outcomes-append t more n ∙ ap (λ l. l ++ stream_outcomes (unended t ++ more) n) first.outcomes
+    law.cut t more n ∙ ap (λ l. l ++ stream_outcomes (unended t ++ more) n) first.outcomes
     ∙ ap (λ l. outcome ∷ (stream_outcomes behind n ++ stream_outcomes (l ++ more) n)) same
-    ∙ ap (λ l. outcome ∷ l) (sym (stream_outcomes-append behind more n)) in
+    ∙ ap (λ l. outcome ∷ l) (sym (law.cut behind more n)) in
     let begun : unended (t ++ more) ≡ unended (behind ++ more) =
-    unended-append t more ∙ ap (λ l. unended (l ++ more)) same ∙ sym (unended-append behind more) in
+    law.left t more ∙ ap (λ l. unended (l ++ more)) same ∙ sym (law.left behind more) in
     report_is (t ++ more) n e
     ∙ ap (λ l. flat_map outcome_line l ++ unfinished_line (t ++ more)) outcomes
     ∙ append_assoc (outcome_line outcome) (flat_map outcome_line (stream_outcomes (behind ++ more) n)) (unfinished_line (t ++ more))
@@ -76,40 +76,40 @@ left_of-given : (reader : ReaderState) (source : InMemory) (reads : List Read) (
 left_of-given reader source reads source' runs =
     ap (λ l. reader.kept ++ l) (bytes_left-Runs source reads source' runs) ∙ sym (append_assoc reader.kept (all_given reads) (bytes_left source'))
 
-pub PieceTold-from : (reader : ReaderState) (source : InMemory) (reader' : ReaderState) (source' : InMemory) (reads : List Read) (outcome : Outcome)
+pub PieceTold-from : (law : StreamLaw) (reader : ReaderState) (source : InMemory) (reader' : ReaderState) (source' : InMemory) (reads : List Read) (outcome : Outcome)
     → length reader'.buffer ≡ longest_message → Runs MemoryStep source reads source' → AtPieceEnd (reader.kept ++ all_given reads) outcome reader'
     → PieceTold reader source reader' source' outcome
-PieceTold-from reader source reader' source' reads outcome len runs end =
+PieceTold-from law reader source reader' source' reads outcome len runs end =
     let more = bytes_left source' in
     let given = left_of-given reader source reads source' runs in
     let whole = ap length given in
     let cut = ap length end.first.cut in
     record {
-      told = ap report given ∙ report-first (reader.kept ++ all_given reads) reader'.kept more (length reader'.buffer) outcome len end.first;
+      told = ap report given ∙ report-first law (reader.kept ++ all_given reads) reader'.kept more (length reader'.buffer) outcome len end.first;
       fewer = omega (arith, length-append reader.kept (bytes_left source), length-append (reader.kept ++ all_given reads) more, length-append end.first.front (0 ∷ reader'.kept));
       idle = end.idle;
     }
 
 -- what each answer of a call tells, where the reader was idle
 
-pub message_told : (reader : ReaderState) (source : InMemory) (reader' : ReaderState) (source' : InMemory) (n : ℕ)
+pub message_told : (law : StreamLaw) (reader : ReaderState) (source : InMemory) (reader' : ReaderState) (source' : InMemory) (n : ℕ)
     → ReadsNext MemoryStep source source' reader (Ok (nexts.Message n)) reader' → ReaderAfter reader [] → length reader'.buffer ≡ longest_message
     → PieceTold reader source reader' source' (Message (take n reader'.buffer)) × (n ≤ length reader'.buffer)
-message_told reader source reader' source' n next idle len =
+message_told law reader source reader' source' n next idle len =
     let told = next.tells [] idle in
-    (PieceTold-from reader source reader' source' next.reads _ len next.runs told.0, told.1)
+    (PieceTold-from law reader source reader' source' next.reads _ len next.runs told.0, told.1)
 
-pub broken_told : (reader : ReaderState) (source : InMemory) (reader' : ReaderState) (source' : InMemory) (count : ℕ)
+pub broken_told : (law : StreamLaw) (reader : ReaderState) (source : InMemory) (reader' : ReaderState) (source' : InMemory) (count : ℕ)
     → ReadsNext MemoryStep source source' reader (Ok (nexts.Broken count)) reader' → ReaderAfter reader [] → length reader'.buffer ≡ longest_message
     → PieceTold reader source reader' source' (Broken count)
-broken_told reader source reader' source' count next idle len =
-    PieceTold-from reader source reader' source' next.reads _ len next.runs (next.tells [] idle)
+broken_told law reader source reader' source' count next idle len =
+    PieceTold-from law reader source reader' source' next.reads _ len next.runs (next.tells [] idle)
 
-pub too_long_told : (reader : ReaderState) (source : InMemory) (reader' : ReaderState) (source' : InMemory)
+pub too_long_told : (law : StreamLaw) (reader : ReaderState) (source : InMemory) (reader' : ReaderState) (source' : InMemory)
     → ReadsNext MemoryStep source source' reader (Ok nexts.TooLong) reader' → ReaderAfter reader [] → length reader'.buffer ≡ longest_message
     → PieceTold reader source reader' source' TooLong
-too_long_told reader source reader' source' next idle len =
-    PieceTold-from reader source reader' source' next.reads _ len next.runs (next.tells [] idle)
+too_long_told law reader source reader' source' next idle len =
+    PieceTold-from law reader source reader' source' next.reads _ len next.runs (next.tells [] idle)
 
 -- the last line, or none
 abbrev pub unfinished_text : Bool → List ℕ

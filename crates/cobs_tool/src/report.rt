@@ -5,6 +5,7 @@ ghost use Rattle.cobs_lines.specs.Lines.{outcome_line};
 ghost use Rattle.cobs_tool.specs.Report.{report};
 
 use crate::input::MAX_INPUT;
+use cobs::laws::law_9;
 use cobs::{CobsDecoderOwned, FrameReader, Next};
 use cobs_lines::InMemory;
 use std::alloc::{AllocError, Global};
@@ -22,6 +23,7 @@ pub fn report_of(alloc: Global, stream: &[u8]) -> Result<String, AllocError>
     requires { length stream.now ≤ MAX_INPUT }
     ensures report { IfOk result (λ text. string_bytes text ≡ report stream.now) }
 {
+    law_9();
     let decoder = CobsDecoderOwned::new(alloc, DECODE_BUFFER_LEN)?;
     let mut frames = FrameReader::new(decoder);
     let mut source = InMemory::new(stream);

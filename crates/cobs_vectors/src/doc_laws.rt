@@ -2,10 +2,10 @@
 //! the law that they call. A test runs each of them.
 ghost use Rattle.std.specs.Prelude.{◌≡◌, ◌≤◌, ◌<◌, ◌^◌, ◌++◌, ◌∷◌, [], ℕ, List, IfOk, IsTrue, Some, length, take};
 ghost use Rattle.cobs.specs.Feed.{DecoderAfter};
-ghost use Rattle.cobs.specs.Grammar.{HasNoZero, IsEncodedFrame, IsFrame, Reads};
+ghost use Rattle.cobs.specs.Grammar.{HasNoZero, IsEncodedFrame, IsFrame, IsOpenFrame, Reads};
 ghost use Rattle.cobs.specs.Headline.{IsPiece};
 ghost use Rattle.cobs.specs.Laws.{IsFrameFor, IsFront};
-ghost use Rattle.cobs.specs.Length.{encoded_len, max_encoded_len};
+ghost use Rattle.cobs.specs.Length.{EndsInFullRun, encoded_len, max_encoded_len};
 ghost use Rattle.cobs.specs.Piece.{output};
 ghost use Rattle.cobs.specs.Sentinel.{IsFreeOf, xor_each};
 ghost use Rattle.cobs.specs.Stream.{Message, first_piece, head, outcome_of, stream_outcomes};
@@ -14,6 +14,7 @@ ghost use Rattle.cobs.specs.Messages.{outcomes_in};
 use crate::callers::reads_as;
 use cobs::laws::{
     law_1, law_2, law_3, law_4, law_5, law_6, law_7, law_8, law_9, law_10, law_11, law_12,
+    law_13,
 };
 use cobs::{CobsDecoder, FrameDecoder, FrameOutcome, decode_stream, encode, encode_vec};
 use std::alloc::{AllocError, Global};
@@ -153,6 +154,16 @@ fn begins_with_piece(stream: &[u8]) -> bool
     }
 }
 
+/// law_13
+fn as_encoded<'a>(frame: &'a [u8], message: &[u8], index: usize, code: u8) -> &'a [u8]
+    requires open { IsOpenFrame frame.now message.now index code }
+    requires last_run { EndsInFullRun message.now → ⊥ }
+    ensures { IsEncodedFrame result.now message.now }
+{
+    law_13();
+    frame
+}
+
 #[test]
 fn laws_of_messages_and_frames(rt: HostRuntime) -> Result<(), Fail> {
     let alloc = rt.alloc();
@@ -180,6 +191,7 @@ fn laws_of_written_frames(rt: HostRuntime) -> Result<(), Fail> {
 
     change_sentinel(&mut frame, 8);
     assert_eq!(rt; frame, [11, 15, 0, 162]);
+    assert_eq!(rt; as_encoded(&[1], &[], 0, 1), [1].as_slice());
     Ok(())
 }
 

@@ -10,7 +10,7 @@ ghost use Rattle.cobs.specs.Messages.{messages_in, outcomes_in, room_for_frames}
 use crate::bytes::ONES;
 use crate::slices::Answer;
 use crate::streaming::pushed;
-use cobs::laws::law_4;
+use cobs::laws::{law_4, law_13};
 use cobs::{
     CobsDecoder, CobsEncoder, DestBufTooSmallError, EncoderState, FrameDecoder, FrameOutcome,
     PushResult, WriteBuffer, decode_stream, encode, encode_frames,
@@ -32,6 +32,7 @@ fn encode_by_state(alloc: Global, source: &[u8]) -> Result<Vec<u8>, AllocError>
     ensures { IfOk result
         (λ bytes. (index code : ℕ) × IsOpenFrame bytes.items source.now index code) }
 {
+    law_13();
     let mut output = vec![in alloc; 0]?;
     let mut state = EncoderState::default();
     'by_byte: for byte in source {
@@ -59,6 +60,7 @@ fn encode_both(first: &[u8], second: &[u8], dest: &mut [u8]) -> Result<usize, De
     ensures fits { IsOk result ↔ (encoded_len (first.now ++ second.now) ≤ length dest.old) }
     ensures frame { IfOk result (λ n. IsEncodedFrame (take n dest.new) (first.now ++ second.now)) }
 {
+    law_4();
     let mut encoder = CobsEncoder::new(dest);
     encoder.push(first)?;
     encoder.push(second)?;

@@ -11,7 +11,7 @@ use Rattle.std.specs.Int.Bits.{bit_xor}
 use Rattle.cobs.specs.Sentinel.{xor_each}
 use Rattle.cobs.specs.Stream.{is_nonempty, stream_outcomes, unended}
 use Rattle.cobs.specs.NextFrame.{ReaderState, ReaderAfter}
-use Rattle.cobs.proofs.StreamLemmas.{stream_outcomes-append, stream_outcomes-no_zero, unended-append, unended-no_zero}
+use Rattle.cobs.specs.Laws.{StreamLaw}
 use Rattle.cobs_watch.specs.Shown.{shown, shown_pieces, shown_end, shown_stream}
 use Rattle.cobs_watch.specs.declared.shown.Style.{Style}
 use Rattle.cobs_watch.specs.declared.shown.Settings.{Settings}
@@ -21,18 +21,18 @@ use Rattle.cobs_watch.specs.declared.fault.WatchFault.TheVariants.{ReadFailed, W
 use Rattle.cobs_watch.specs.declared.tally.Tally.{Tally}
 
 -- what is shown of a stream in two parts
-shown_pieces-append : (style : Style) (n : ℕ) (t u : List ℕ) → shown_pieces style n (t ++ u) ≡ shown_pieces style n t ++ shown_pieces style n (unended t ++ u)
-shown_pieces-append style n t u = ap (flat_map (shown style)) (stream_outcomes-append t u n) ∙ flat_map-append (shown style) (stream_outcomes t n) (stream_outcomes (unended t ++ u) n)
+shown_pieces-append : (law : StreamLaw) (style : Style) (n : ℕ) (t u : List ℕ) → shown_pieces style n (t ++ u) ≡ shown_pieces style n t ++ shown_pieces style n (unended t ++ u)
+shown_pieces-append law style n t u = ap (flat_map (shown style)) (law.cut t u n) ∙ flat_map-append (shown style) (stream_outcomes t n) (stream_outcomes (unended t ++ u) n)
 
 -- before the first read
-pub HasShownSoFar-start : (settings : Settings) (from before : Option (List ℕ)) (reader : ReaderState) → reader.kept ≡ [] → ReaderAfter reader [] → length reader.buffer ≡ settings.length
+pub HasShownSoFar-start : (law : StreamLaw) (settings : Settings) (from before : Option (List ℕ)) (reader : ReaderState) → reader.kept ≡ [] → ReaderAfter reader [] → length reader.buffer ≡ settings.length
     → HasShownSoFar settings from from before before reader false
-HasShownSoFar-start settings from before reader kept idle len =
-    let none : unended [] ≡ [] = unended-no_zero [] (All-nil (λ b. b ≢ 0)) in
+HasShownSoFar-start law settings from before reader kept idle len =
+    let none : unended [] ≡ [] = law.same [] (All-nil (λ b. b ≢ 0)) in
     record {
       bytes = [];
       read = Consumes-nil from;
-      written = rw (stream_outcomes-no_zero [] settings.length (All-nil (λ b. b ≢ 0))) (Appends-nil before);
+      written = rw (law.none [] settings.length (All-nil (λ b. b ≢ 0))) (Appends-nil before);
       taken = rw none idle;
       flag = sym (ap is_nonempty none);
       kept = kept;
@@ -41,19 +41,19 @@ HasShownSoFar-start settings from before reader kept idle len =
 
 module _ {settings : Settings} {from to to' before after after' after'' : Option (List ℕ)} {reader reader' : ReaderState} {unfinished unfinished' : Bool} where
   -- more bytes
-  pub HasShownSoFar-more : (more : List ℕ) (s : HasShownSoFar settings from to before after reader unfinished) → Consumes to to' more
+  pub HasShownSoFar-more : (law : StreamLaw) (more : List ℕ) (s : HasShownSoFar settings from to before after reader unfinished) → Consumes to to' more
       → ((p : List ℕ) → ReaderAfter reader p → ShowsBytes settings.style reader reader' (xor_each settings.sentinel more) after after' unfinished' p)
       → reader'.kept ≡ [] → length reader'.buffer ≡ length reader.buffer → Keeps after' after'' → HasShownSoFar settings from to' before after'' reader' unfinished'
-  HasShownSoFar-more more s r shows kept len flushed =
+  HasShownSoFar-more law more s r shows kept len flushed =
       let t = stream_of settings s.bytes in
       let u = xor_each settings.sentinel more in
       let w = shows (unended t) s.taken in
       let whole : stream_of settings (s.bytes ++ more) ≡ t ++ u = map-append (λ b. bit_xor b settings.sentinel) s.bytes more in
-      let left : unended (stream_of settings (s.bytes ++ more)) ≡ unended (unended t ++ u) = ap unended whole ∙ unended-append t u in
+      let left : unended (stream_of settings (s.bytes ++ more)) ≡ unended (unended t ++ u) = ap unended whole ∙ law.left t u in
       record {
         bytes = s.bytes ++ more;
         read = Consumes-trans from to to' s.bytes more s.read r;
-        written = rw (whole, shown_pieces-append settings.style settings.length t u)
+        written = rw (whole, shown_pieces-append law settings.style settings.length t u)
             (Appends-kept before after' after'' _ (Appends-trans before after after' _ _ s.written (subst (λ n. Appends after after' (shown_pieces settings.style n (unended t ++ u))) s.len w.written)) flushed);
         taken = rw left w.taken;
         flag = w.flag ∙ sym (ap is_nonempty left);

@@ -10,7 +10,7 @@ use Rattle.cobs.specs.NextFrame.{Read, Runs, EndsFirst, ReaderState, ReaderAfter
 use Rattle.cobs.specs.declared.framed.Next.TheVariants as nexts
 use Rattle.cobs.specs.declared.framed.ReadFault.{ReadFault}
 use Rattle.cobs.specs.declared.framed.ReadFault.TheVariants as faults
-use Rattle.cobs.proofs.StreamLemmas.{stream_outcomes-append, unended-append, unended-zero}
+use Rattle.cobs.specs.Laws.{StreamLaw}
 use Rattle.cobs_lines.specs.Memory.{bytes_left}
 use Rattle.cobs_lines.specs.declared.memory.InMemory.{InMemory}
 use Rattle.cobs_lines.proofs.MemoryLemmas.{MemoryStep, bytes_left-Runs, never_fails, bytes_left-at_end, few_reads}
@@ -21,22 +21,22 @@ use Rattle.cobs_watch.specs.Watched.{ShowsBytes}
 -- PIECE BY PIECE
 
 -- what no zero has ended in a stream is that of what follows a zero
-unended-behind : (front behind : List ℕ) → unended (front ++ 0 ∷ behind) ≡ unended behind
-unended-behind front behind =
-    ap unended (sym (append_assoc front (0 ∷ []) behind)) ∙ unended-append (front ++ 0 ∷ []) behind ∙ ap (λ l. unended (l ++ behind)) (unended-zero front)
+unended-behind : (law : StreamLaw) (front behind : List ℕ) → unended (front ++ 0 ∷ behind) ≡ unended behind
+unended-behind law front behind =
+    ap unended (sym (append_assoc front (0 ∷ []) behind)) ∙ law.left (front ++ 0 ∷ []) behind ∙ ap (λ l. unended (l ++ behind)) (law.ended front)
 
-module _ {t behind : List ℕ} {n : ℕ} {outcome : Outcome} (more : List ℕ) (first : EndsFirst t n outcome behind) where
+module _ (law : StreamLaw) {t behind : List ℕ} {n : ℕ} {outcome : Outcome} (more : List ℕ) (first : EndsFirst t n outcome behind) where
   -- what stands behind the first piece that ends in the stream t, and then more, leaves the same unended
   unended-first : unended (t ++ more) ≡ unended (behind ++ more)
   unended-first =
-      unended-append t more ∙ ap (λ l. unended (l ++ more)) (ap unended first.cut ∙ unended-behind first.front behind) ∙ sym (unended-append behind more)
+      law.left t more ∙ ap (λ l. unended (l ++ more)) (ap unended first.cut ∙ unended-behind law first.front behind) ∙ sym (law.left behind more)
 
   -- and has the same outcomes but the first
   outcomes-first : stream_outcomes (t ++ more) n ≡ outcome ∷ stream_outcomes (behind ++ more) n
   outcomes-first =
-      stream_outcomes-append t more n ∙ ap (λ l. l ++ stream_outcomes (unended t ++ more) n) first.outcomes
-      ∙ ap (λ l. outcome ∷ (stream_outcomes behind n ++ stream_outcomes (l ++ more) n)) (ap unended first.cut ∙ unended-behind first.front behind)
-      ∙ ap (λ l. outcome ∷ l) (sym (stream_outcomes-append behind more n))
+      law.cut t more n ∙ ap (λ l. l ++ stream_outcomes (unended t ++ more) n) first.outcomes
+      ∙ ap (λ l. outcome ∷ (stream_outcomes behind n ++ stream_outcomes (l ++ more) n)) (ap unended first.cut ∙ unended-behind law first.front behind)
+      ∙ ap (λ l. outcome ∷ l) (sym (law.cut behind more n))
 
   shown-first : (style : Style) → shown_pieces style n (t ++ more) ≡ shown style outcome ++ shown_pieces style n (behind ++ more)
   shown-first style = ap (flat_map (shown style)) outcomes-first
@@ -69,17 +69,17 @@ pub record PieceTold (style : Style) (q : List ℕ) (reader : ReaderState) (sour
   pub fewer : length reader'.kept + length (bytes_left source') < length reader.kept + length (bytes_left source)
   pub idle : ReaderAfter reader' []
 
-PieceTold-from : (style : Style) (q : List ℕ) (reader : ReaderState) (source : InMemory) (reader' : ReaderState) (source' : InMemory) (reads : List Read) (outcome : Outcome)
+PieceTold-from : (law : StreamLaw) (style : Style) (q : List ℕ) (reader : ReaderState) (source : InMemory) (reader' : ReaderState) (source' : InMemory) (reads : List Read) (outcome : Outcome)
     → HasNoZero q → Runs MemoryStep source reads source' → AtPieceEnd (q ++ reader.kept ++ all_given reads) outcome reader'
     → PieceTold style q reader source reader' source' outcome
-PieceTold-from style q reader source reader' source' reads outcome nonzero runs end =
+PieceTold-from law style q reader source reader' source' reads outcome nonzero runs end =
     let more = bytes_left source' in
     let given = left-given q reader source reads source' runs in
     let cut = ap length end.first.cut in
     let within = front_within q (reader.kept ++ all_given reads) end.first.front reader'.kept nonzero (sym (append_assoc q reader.kept (all_given reads)) ∙ end.first.cut) in
     record {
-      told = ap (shown_pieces style (length reader'.buffer)) given ∙ shown-first more end.first style;
-      rest = ap unended given ∙ unended-first more end.first;
+      told = ap (shown_pieces style (length reader'.buffer)) given ∙ shown-first law more end.first style;
+      rest = ap unended given ∙ unended-first law more end.first;
       fewer = omega (
         arith,
         ap length (bytes_left-Runs source reads source' runs),
@@ -92,14 +92,14 @@ PieceTold-from style q reader source reader' source' reads outcome nonzero runs 
     }
 
 module _ (style : Style) (q : List ℕ) (reader : ReaderState) (source : InMemory) (reader' : ReaderState) (source' : InMemory) (b : ReaderAfter reader q) where
-  pub message_told : (n : ℕ) → ReadsNext MemoryStep source source' reader (Ok (nexts.Message n)) reader' → PieceTold style q reader source reader' source' (Message (take n reader'.buffer)) × (n ≤ length reader'.buffer)
-  message_told n next = let told = next.tells q b in (PieceTold-from style q reader source reader' source' next.reads _ b.phased.piece next.runs told.0, told.1)
+  pub message_told : (law : StreamLaw) (n : ℕ) → ReadsNext MemoryStep source source' reader (Ok (nexts.Message n)) reader' → PieceTold style q reader source reader' source' (Message (take n reader'.buffer)) × (n ≤ length reader'.buffer)
+  message_told law n next = let told = next.tells q b in (PieceTold-from law style q reader source reader' source' next.reads _ b.phased.piece next.runs told.0, told.1)
 
-  pub broken_told : (count : ℕ) → ReadsNext MemoryStep source source' reader (Ok (nexts.Broken count)) reader' → PieceTold style q reader source reader' source' (Broken count)
-  broken_told count next = PieceTold-from style q reader source reader' source' next.reads _ b.phased.piece next.runs (next.tells q b)
+  pub broken_told : (law : StreamLaw) (count : ℕ) → ReadsNext MemoryStep source source' reader (Ok (nexts.Broken count)) reader' → PieceTold style q reader source reader' source' (Broken count)
+  broken_told law count next = PieceTold-from law style q reader source reader' source' next.reads _ b.phased.piece next.runs (next.tells q b)
 
-  pub too_long_told : ReadsNext MemoryStep source source' reader (Ok nexts.TooLong) reader' → PieceTold style q reader source reader' source' TooLong
-  too_long_told next = PieceTold-from style q reader source reader' source' next.reads _ b.phased.piece next.runs (next.tells q b)
+  pub too_long_told : (law : StreamLaw) → ReadsNext MemoryStep source source' reader (Ok nexts.TooLong) reader' → PieceTold style q reader source reader' source' TooLong
+  too_long_told law next = PieceTold-from law style q reader source reader' source' next.reads _ b.phased.piece next.runs (next.tells q b)
 
   -- a call has come to the end of the bytes
   pub record AllTold (unfinished : Bool) : Type 0 where

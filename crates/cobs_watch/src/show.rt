@@ -10,6 +10,7 @@ ghost use Rattle.cobs_watch.specs.Watched.{HasShown, ShowsBytes};
 use crate::fault::WatchFault;
 use crate::shown::{Settings, Style, show_broken, show_end, show_message, show_too_long};
 use crate::tally::Tally;
+use cobs::laws::law_9;
 use cobs::{CobsDecoderOwned, FrameReader, Next};
 use cobs_lines::InMemory;
 use std::alloc::Global;
@@ -37,6 +38,7 @@ pub fn run_show<R: Read, W: Write>(
     ensures shown { HasShown settings.now result (R.remaining input.old) (R.remaining input.new)
         (W.contents output.old) (W.contents output.new) }
 {
+    law_9();
     let mut frames = FrameReader::new(CobsDecoderOwned::new(alloc, settings.length)?);
     let mut chunk = vec![in alloc; 0; CHUNK_LEN]?;
     let mut tally = Tally::new();
@@ -112,6 +114,7 @@ fn show_bytes<W: Write>(
     ensures written { IfErr result
         (λ fault. (fault ≢ WatchFault.ReadFailed) × (fault ≢ WatchFault.OutOfMemory)) }
 {
+    law_9();
     let mut source = InMemory::new(bytes);
     'by_piece: loop {
         match frames.next_frame(&mut source) {

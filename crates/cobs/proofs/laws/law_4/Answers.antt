@@ -1,4 +1,5 @@
 use Rattle.cobs.proofs.LengthLemmas.{encoded_len-le, encoded_len-nonzero, encoded_len-reached}
+use Rattle.cobs.proofs.RoomLemmas.{encoded_len-longer}
 use Rattle.cobs.proofs.laws.law_4.Goals as goal
 
 pub returns-clause-upper : goal.returns-clause-upper
@@ -9,3 +10,6 @@ returns-clause-reached c = encoded_len-nonzero
 
 pub returns-clause-everywhere : goal.returns-clause-everywhere
 returns-clause-everywhere c = encoded_len-reached
+
+pub returns-clause-grows : goal.returns-clause-grows
+returns-clause-grows c = encoded_len-longer

@@ -3,9 +3,8 @@ use Rattle.cobs.specs.Grammar.{IsEncodedFrame}
 use Rattle.cobs.specs.Length.{encoded_len}
 use Rattle.cobs.specs.OpenBlock.{CobsEncoderAfter, Reached}
 use Rattle.cobs.specs.Fields.Encoders.{HasTaken, slice_of, slice_reached}
-use Rattle.cobs.proofs.InPlaceSteps.{drop-later}
 use Rattle.cobs_bench.specs.Tally.{chunk_len}
-use Rattle.cobs_bench.proofs.ChunkLemmas.{take-to, encoded_len-all, encoded_len-front, next-within}
+use Rattle.cobs_bench.proofs.ChunkLemmas.{drop-later, take-to, encoded_len-all, encoded_len-front, next-within}
 use Rattle.cobs_bench.proofs.streams.bench_encoder_push.Goals as goal
 
 pub by_chunk-preserved : goal.by_chunk-preserved
@@ -17,7 +16,7 @@ by_chunk-preserved c =
     let more : take at source ++ take (end - at) (drop at source) ≡ take end source = take-to at end source (omega arith) in
     let fits : encoded_len (take at source ++ take (end - at) (drop at source)) ≤ length (slice_of c.by_chunk.encoder) = (c.in-Ok.ensures.fits (take at source) i.taken).0 refl in
     let same : encoded_len (take at source ++ take (end - at) (drop at source)) ≡ encoded_len (take end source) = ap encoded_len more in
-    let grows = encoded_len-front at end source (omega arith) in
+    let grows = encoded_len-front c.law_4.ensures.grows at end source (omega arith) in
     record {
       within = omega arith;
       taken = subst (λ (m : List ℕ). HasTaken c.push.new.self m) more (c.in-Ok.ensures.taken (take at source) i.taken);
@@ -35,7 +34,7 @@ returns-in-Err-clause-fits c = λ le.
     let at : ℕ = c.by_chunk.parsed in
     let end : ℕ = at + c.next_len-len.result in
     let same : encoded_len (take at source ++ take (end - at) (drop at source)) ≡ encoded_len (take end source) = ap encoded_len (take-to at end source (omega arith)) in
-    let all = encoded_len-all end source in
+    let all = encoded_len-all c.law_4.ensures.grows end source in
     let ok = (c.in-Err.ensures.fits (take at source) i.taken).1 (omega (arith, i.len)) in
     absurd cc
 
@@ -49,7 +48,7 @@ returns-in-Err-clause-next c = λ lt.
     let refused : encoded_len (take end source) ≤ length c.args.dest.now → ⊥ = λ le. let ok = (c.in-Err.ensures.fits (take at source) i.taken).1 (omega (arith, i.len)) in cc in
     let n = c.next_len-len.ensures in
     let short = next-within c.args.chunk c.next_len-len.result (length source - at) source n.all n.chunk (omega arith) in
-    let longer = encoded_len-front end (at + chunk_len c.args.chunk source) source (omega arith) in
+    let longer = encoded_len-front c.law_4.ensures.grows end (at + chunk_len c.args.chunk source) source (omega arith) in
     rw c.answered-in-Err.ensures (omega (arith, refused))
 
 pub returns-in-Err-clause-frame : goal.returns-in-Err-clause-frame

@@ -13,7 +13,7 @@ by_push-init c =
     record {
       order = omega arith;
       within = omega arith;
-      tally = subst (λ (n : ℕ). TalliedTo (borrowed_buffer r) (borrowed_phase r) n [] 0 0) (ap length c.new-decoder.ensures.buffer) (tally-start (borrowed_buffer r) (borrowed_phase r) c.new-decoder.ensures.idle);
+      tally = subst (λ (n : ℕ). TalliedTo (borrowed_buffer r) (borrowed_phase r) n [] 0 0) (ap length c.new-decoder.ensures.buffer) (tally-start (assumption (c.law_1.ensures, c.law_9.ensures, c.law_10.ensures)) (borrowed_buffer r) (borrowed_phase r) c.new-decoder.ensures.idle);
     }
 
 pub by_push-preserved-in-Ok-None : goal.by_push-preserved-in-Ok-None
@@ -30,13 +30,13 @@ by_push-preserved-in-Ok-None c =
       order = omega arith;
       within = within;
       tally = subst (λ (t : List ℕ). TalliedTo (borrowed_buffer c.push.new.self) (borrowed_phase c.push.new.self) (length c.args.dest.now) t c.by_push.messages c.by_push.sum) (take-to at end stream (omega arith))
-          (pushed-none _ (take at stream) c.by_push.messages c.by_push.sum i.tally (take (end - at) (drop at stream)) c.push.result c.push.ensures.pushes (c.in-Ok-None.is ∙ ap Ok c.in-Ok-None.field-0-is) (omega arith));
+          (pushed-none (assumption (c.law_1.ensures, c.law_9.ensures, c.law_10.ensures)) _ (take at stream) c.by_push.messages c.by_push.sum i.tally (take (end - at) (drop at stream)) c.push.result c.push.ensures.pushes (c.in-Ok-None.is ∙ ap Ok c.in-Ok-None.field-0-is) (omega arith));
     }
 
 pub overflow_add-messages : goal.overflow_add-messages
 overflow_add-messages c =
     let l = length-take-le c.by_push.at c.args.stream.now (omega arith) in
-    let b = tally-bound _ (take c.by_push.at c.args.stream.now) c.by_push.messages c.by_push.sum c.by_push.invariant.tally in
+    let b = tally-bound (assumption (c.law_1.ensures, c.law_9.ensures, c.law_10.ensures)) _ (take c.by_push.at c.args.stream.now) c.by_push.messages c.by_push.sum c.by_push.invariant.tally in
     omega arith
 
 pub overflow_add-sum : goal.overflow_add-sum
@@ -51,11 +51,11 @@ overflow_add-sum c =
     let is = c.in-Ok-Some.is ∙ ap Ok c.in-Ok-Some.field-0-is in
     let bytes : List ℕ = take (end - at) (drop at stream) in
     let parsed : ℕ = parsed_size_of c.in-Ok-Some.report in
-    let size = pushed-size _ (take at stream) c.by_push.messages c.by_push.sum i.tally bytes c.push.result c.push.ensures.pushes c.in-Ok-Some.report is in
-    let more = pushed-some _ (take at stream) c.by_push.messages c.by_push.sum i.tally bytes c.push.result c.push.ensures.pushes c.in-Ok-Some.report is in
+    let size = pushed-size (assumption (c.law_1.ensures, c.law_9.ensures, c.law_10.ensures)) _ (take at stream) c.by_push.messages c.by_push.sum i.tally bytes c.push.result c.push.ensures.pushes c.in-Ok-Some.report is in
+    let more = pushed-some (assumption (c.law_1.ensures, c.law_9.ensures, c.law_10.ensures)) _ (take at stream) c.by_push.messages c.by_push.sum i.tally bytes c.push.result c.push.ensures.pushes c.in-Ok-Some.report is in
     let l = ap length (take-within at end parsed stream (omega (arith, size.1))) in
     let k = length-take-le (at + parsed) stream (omega (arith, size.1)) in
-    let b = tally-bound _ (take at stream ++ take parsed bytes) (c.by_push.messages + 1) (c.by_push.sum + frame_size_of c.in-Ok-Some.report) more in
+    let b = tally-bound (assumption (c.law_1.ensures, c.law_9.ensures, c.law_10.ensures)) _ (take at stream ++ take parsed bytes) (c.by_push.messages + 1) (c.by_push.sum + frame_size_of c.in-Ok-Some.report) more in
     omega (arith, size.1)
 
 pub by_push-preserved : goal.by_push-preserved
@@ -70,8 +70,8 @@ by_push-preserved c =
     let is = c.in-Ok-Some.is ∙ ap Ok c.in-Ok-Some.field-0-is in
     let bytes : List ℕ = take (end - at) (drop at stream) in
     let parsed : ℕ = parsed_size_of c.in-Ok-Some.report in
-    let size = pushed-size _ (take at stream) c.by_push.messages c.by_push.sum i.tally bytes c.push.result c.push.ensures.pushes c.in-Ok-Some.report is in
-    let more = pushed-some _ (take at stream) c.by_push.messages c.by_push.sum i.tally bytes c.push.result c.push.ensures.pushes c.in-Ok-Some.report is in
+    let size = pushed-size (assumption (c.law_1.ensures, c.law_9.ensures, c.law_10.ensures)) _ (take at stream) c.by_push.messages c.by_push.sum i.tally bytes c.push.result c.push.ensures.pushes c.in-Ok-Some.report is in
+    let more = pushed-some (assumption (c.law_1.ensures, c.law_9.ensures, c.law_10.ensures)) _ (take at stream) c.by_push.messages c.by_push.sum i.tally bytes c.push.result c.push.ensures.pushes c.in-Ok-Some.report is in
     record {
       order = omega (arith, size.1);
       within = within;
@@ -90,6 +90,6 @@ returns-in-Err c =
     record {
       tallied = c.answered.ensures
           ∙ ap (λ (v : ℕ). record { status = v; parsed = c.by_push.messages; len = c.by_push.sum }) c.status_of.ensures
-          ∙ pushed-refused _ (take at stream) c.by_push.messages c.by_push.sum i.tally (take (end - at) (drop at stream)) c.push.result c.push.ensures.pushes c.in-Err.refusal c.in-Err.is (drop end stream)
+          ∙ pushed-refused (assumption (c.law_1.ensures, c.law_9.ensures, c.law_10.ensures)) _ (take at stream) c.by_push.messages c.by_push.sum i.tally (take (end - at) (drop at stream)) c.push.result c.push.ensures.pushes c.in-Err.refusal c.in-Err.is (drop end stream)
           ∙ ap (λ (x : List ℕ). tallied 0 0 (outcomes_to_end x (length c.args.dest.now))) (take-rest at end stream (omega arith));
     }

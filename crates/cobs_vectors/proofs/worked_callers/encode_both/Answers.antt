@@ -2,7 +2,6 @@ use Rattle.std.proofs.Common.{List, take, ◌≤◌, ◌≡◌, ℕ, [], ◌++�
 use Rattle.std.proofs.lemmas.Result.{err_from_is_err_and}
 use Rattle.cobs.specs.Grammar.{IsEncodedFrame}
 use Rattle.cobs.specs.Length.{encoded_len}
-use Rattle.cobs.proofs.RoomLemmas.{encoded_len-longer}
 use Rattle.cobs_vectors.proofs.worked_callers.encode_both.Goals as goal
 
 pub returns-in_err-push-clause-fits : goal.returns-in_err-push-clause-fits
@@ -11,7 +10,7 @@ returns-in_err-push-clause-fits c =
     rw p.1 (
       λ e. cc,
       λ le.
-          let more = encoded_len-longer c.args.first.now c.args.second.now in
+          let more = c.law_4.ensures.grows c.args.first.now c.args.second.now in
           let unchanged = c.new-encoder.ensures.unchanged in
           (c.in_err-push.ensures.fits [] c.new-encoder.ensures.taken).1 (subst (λ l. encoded_len c.args.first.now ≤ length l) (sym unchanged) (omega arith)),
     )

@@ -3,7 +3,6 @@ use Rattle.std.proofs.lemmas.List.{take_more}
 use Rattle.cobs.specs.declared.enc.state.PushResult.{PushResult}
 use Rattle.cobs.specs.declared.enc.state.PushResult.TheVariants.{AddSingle, ModifyFromStartAndSkip, ModifyFromStartAndPushAndSkip}
 use Rattle.cobs.specs.OpenBlock.{OpenBlock, IsOpenOutput, push_answer, applied}
-use Rattle.cobs.proofs.OpenLemmas.{length-IsOpenOutput, index-IsOpenOutput}
 use Rattle.cobs_vectors.proofs.worked_callers.encode_by_state.Goals.{in-AddSingle+in_ok-push-in-AddSingle, in-ModifyFromStartAndSkip+in_ok-push-in-ModifyFromStartAndSkip, in-ModifyFromStartAndPushAndSkip+in_ok-push-in-ModifyFromStartAndPushAndSkip+in_ok-push-in-ModifyFromStartAndPushAndSkip-2}
 use Rattle.cobs_vectors.proofs.worked_callers.encode_by_state.Goals as goal
 
@@ -22,28 +21,27 @@ index_of-push_answer state byte = go (byte == 0) (state.code == 254)
     go false true = omega arith
     go false false = omega arith
 
-within : (g : List ℕ) (state : OpenBlock) (m : List ℕ) (byte : ℕ) (answer : PushResult) → IsOpenOutput g state m → answer ≡ push_answer state byte → index_of answer < length g
-within g state m byte answer o is =
+within : (g : List ℕ) (state : OpenBlock) (byte : ℕ) (answer : PushResult) → state.index < length g → answer ≡ push_answer state byte → index_of answer < length g
+within g state byte answer end is =
     let at = index_of-push_answer state byte in
     let same = ap index_of is in
-    let end = index-IsOpenOutput g state m o in
     omega arith
 
 pub by_byte-init : goal.by_byte-init
 by_byte-init c = subst (λ (g : List ℕ). IsOpenOutput g c.default-state.result []) (sym c.in_ok-output.ensures.items) (c.default-state.ensures.output 0)
 
 pub push-requires : goal.push-requires
-push-requires c = let len = length-IsOpenOutput _ _ _ c.by_byte.invariant in omega arith
+push-requires c = let len = (c.law_13.ensures.output c.by_byte.output.items (take c.by_byte.byte-index c.args.source.now) c.by_byte.state c.by_byte.invariant).0 in omega arith
 
 pub index_mut-requires : goal.index_mut-requires
 index_mut-requires c =
-    let h = within _ _ _ _ c.push.result c.by_byte.invariant c.push.ensures.answer in
+    let h = within c.by_byte.output.items c.by_byte.state (get_or c.args.source.now c.by_byte.byte-index 0) c.push.result (c.law_13.ensures.output c.by_byte.output.items (take c.by_byte.byte-index c.args.source.now) c.by_byte.state c.by_byte.invariant).1 c.push.ensures.answer in
     let i = ap index_of c.in-ModifyFromStartAndSkip.is in
     omega arith
 
 pub index_mut-requires-in-ModifyFromStartAndPushAndSkip : goal.index_mut-requires-in-ModifyFromStartAndPushAndSkip
 index_mut-requires-in-ModifyFromStartAndPushAndSkip c =
-    let h = within _ _ _ _ c.push.result c.by_byte.invariant c.push.ensures.answer in
+    let h = within c.by_byte.output.items c.by_byte.state (get_or c.args.source.now c.by_byte.byte-index 0) c.push.result (c.law_13.ensures.output c.by_byte.output.items (take c.by_byte.byte-index c.args.source.now) c.by_byte.state c.by_byte.invariant).1 c.push.ensures.answer in
     let i = ap index_of c.in-ModifyFromStartAndPushAndSkip.is in
     omega arith
 
@@ -78,7 +76,7 @@ by_byte-preserved c =
 
 pub index_mut-requires-2 : goal.index_mut-requires-2
 index_mut-requires-2 c =
-    let end = index-IsOpenOutput _ _ _ c.by_byte.invariant in
+    let end = (c.law_13.ensures.output c.by_byte.output.items (take c.by_byte.byte-index c.args.source.now) c.by_byte.state c.by_byte.invariant).1 in
     let i = c.finalize-index.ensures.index in
     omega arith
 

@@ -7,7 +7,7 @@ use Rattle.cobs_watch.proofs.show.run_show.Goals as goal
 
 pub by_read-init : goal.by_read-init
 by_read-init g c = record {
-  so_far = HasShownSoFar-start _ _ _ _ c.new-frames.ensures.kept (rw c.new-frames.ensures.decoder c.in_ok-new.ensures.idle)
+  so_far = HasShownSoFar-start (assumption c.law_9.ensures) _ _ _ _ c.new-frames.ensures.kept (rw c.new-frames.ensures.decoder c.in_ok-new.ensures.idle)
       (ap (λ d. length (owned_buffer d)) c.new-frames.ensures.decoder ∙ ap length c.in_ok-new.ensures.buffer ∙ length-replicate {A = ℕ} c.args.settings.now.length 0);
   chunk = c.in_ok-chunk.ensures.len;
 }
@@ -36,6 +36,6 @@ by_read-preserved g c =
     let changed : c.change_each.new.bytes ≡ xor_each c.args.settings.now.sentinel more = c.change_each.ensures
     ∙ ap (λ (l : List ℕ). xor_each c.args.settings.now.sentinel (take c.in_ok-count.count l)) (c.deref_mut-in-by_read.ensures.value ∙ take_at c.read_chunk.new.chunk _ _ (omega (arith, c.in_ok-count.ensures.len, c.deref_mut.ensures.len))) in
     record {
-      so_far = HasShownSoFar-more more c.by_read.invariant.so_far c.in_ok-count.ensures.read (rw changed at c.in_ok-unfinished.ensures.shows) c.in_ok-unfinished.ensures.kept c.in_ok-unfinished.ensures.len c.in_ok-flush-2.ensures.bytes;
+      so_far = HasShownSoFar-more (assumption c.law_9.ensures) more c.by_read.invariant.so_far c.in_ok-count.ensures.read (rw changed at c.in_ok-unfinished.ensures.shows) c.in_ok-unfinished.ensures.kept c.in_ok-unfinished.ensures.len c.in_ok-flush-2.ensures.bytes;
       chunk = c.by_read.invariant.chunk;
     }
