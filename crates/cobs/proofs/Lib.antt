@@ -51,6 +51,7 @@ pub mod VectorSteps
 pub mod HeadlineLemmas
 pub mod WholeLemmas
 mod BorrowedSlice
+mod BrokenLemmas
 pub mod StepLemmas
 pub mod PushHeadline
 pub mod FlatLemmas

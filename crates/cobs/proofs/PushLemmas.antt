@@ -160,7 +160,7 @@ output-longer [] b = omega arith
 output-longer (c ∷ q) b = omega (arith, ap length (output-push c q b).1, length-append (output (c ∷ q)) (output-push c q b).0)
 
 -- a buffer that begins with an output, as far as it fits, and is otherwise as before
-begun : (written buffer buffer' : List ℕ) → length buffer' ≡ length buffer → take (length written) buffer' ≡ take (length buffer') written → drop (length written) buffer' ≡ drop (length written) buffer
+pub begun : (written buffer buffer' : List ℕ) → length buffer' ≡ length buffer → take (length written) buffer' ≡ take (length buffer') written → drop (length written) buffer' ≡ drop (length written) buffer
     → buffer' ≡ overwritten buffer written
 begun written buffer buffer' len begins rest =
     sym (take-append-drop (length written) buffer')

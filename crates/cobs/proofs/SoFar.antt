@@ -11,11 +11,12 @@ use Rattle.cobs.specs.Stream.{ended_pieces, unended, Outcome, Message, Broken, T
 use Rattle.cobs.specs.Feed.{Phase, Idle, PhaseAfter, DecoderAfter, Feeds, fed, told, answer_to, answer_at_end, phase_after}
 use Rattle.cobs.specs.Push.{last_piece}
 use Rattle.cobs.specs.Internal.PieceEnds.{LeavesRest, outcome_told}
-use Rattle.cobs.specs.FeedPiece.{AreAlike, AreAlikeAtFirst, TakesBytes, TakesPiece, outcome_at, IsWithin}
+use Rattle.cobs.specs.FeedPiece.{AreAlike, AreAlikeAtFirst, FeedsEach, TakesBytes, TakesPiece, outcome_at, IsWithin}
 use Rattle.cobs.specs.declared.dec.frame_decoder.PieceEnd.{PieceEnd}
 use Rattle.cobs.specs.declared.dec.error.DecodeError.{DecodeError}
 use Rattle.cobs.proofs.PieceLemmas.{output-push}
-use Rattle.cobs.proofs.PushLemmas.{last_piece-unended, last_piece-zero}
+use Rattle.cobs.proofs.BrokenLemmas.{count-within}
+use Rattle.cobs.proofs.PushLemmas.{begun, last_piece-unended, last_piece-zero}
 use Rattle.cobs.proofs.StreamLemmas.{fed-nonzero, stream_outcomes-no_zero, unended-no_zero, stream_outcomes-push, unended-push, outcomes_at, outcomes_at-nonzero, stream_outcomes-append, unended-append}
 
 -- from a buffer and a phase before, these bytes led to a buffer, a phase and these outcomes
@@ -106,9 +107,20 @@ zero_or_none (suc b ∷ xs) = elim (zero_or_none xs) [ inl h ↦ inl (suc h.0, o
 -- THE STEPS
 
 -- before any byte
+FeedsEach-append : (done more buffer₀ buffer buffer' : List ℕ) (phase₀ phase phase' : Phase) → FeedsEach buffer₀ phase₀ done buffer phase → FeedsEach buffer phase more buffer' phase'
+    → FeedsEach buffer₀ phase₀ (done ++ more) buffer' phase'
+FeedsEach-append [] more buffer₀ buffer buffer' phase₀ phase phase' f g = subst (λ (b : List ℕ). FeedsEach b phase₀ more buffer' phase') f.0 (subst (λ (q : Phase). FeedsEach buffer q more buffer' phase') f.1 g)
+FeedsEach-append (byte ∷ done) more buffer₀ buffer buffer' phase₀ phase phase' f g =
+    (f.0, f.1, f.2, f.3, FeedsEach-append done more f.1 buffer buffer' f.2 phase phase' f.4 g)
+
+FeedsEach-byte : (done : List ℕ) (b : ℕ) (buffer₀ buffer buffer' : List ℕ) (phase₀ phase phase' : Phase) (result : Result (Option ℕ) DecodeError) → FeedsEach buffer₀ phase₀ done buffer phase → Feeds buffer phase b result buffer' phase'
+    → FeedsEach buffer₀ phase₀ (done ++ b ∷ []) buffer' phase'
+FeedsEach-byte done b buffer₀ buffer buffer' phase₀ phase phase' result f g = FeedsEach-append done (b ∷ []) buffer₀ buffer buffer' phase₀ phase phase' f (result, buffer', phase', g, (refl, refl))
+
 pub SoFar-start : (buffer : List ℕ) (phase : Phase) → SoFar buffer phase buffer phase [] []
 SoFar-start buffer phase = record {
   len = refl;
+  feeds = (refl, refl);
   phased = λ p h. rw (append-nil p, unended-no_zero p h.piece) h;
   after = λ p h. rw (append-nil p, unended-no_zero p h.phased.piece) h;
   outcomes = λ p h. sym (ap (λ (x : List ℕ). stream_outcomes x (length buffer)) (append-nil p) ∙ stream_outcomes-no_zero p (length buffer) h.phased.piece);
@@ -145,6 +157,7 @@ module _ {buffer₀ buffer buffer' : List ℕ} {phase₀ phase phase' : Phase} {
       = λ p. outcomes_on p done b (length buffer₀) ∙ ap (λ (x : List Outcome). stream_outcomes (p ++ done) (length buffer₀) ++ x) (outcomes_at-nonzero (unended (p ++ done)) b (length buffer₀) nz) ∙ append-nil _ in
       record {
         len = f.len ∙ s.len;
+        feeds = FeedsEach-byte done b buffer₀ buffer buffer' phase₀ phase phase' result s.feeds f;
         phased = phased_on b s f;
         after = λ p h. after_on p done b f (s.after p h);
         outcomes = λ p h. s.outcomes p h ∙ sym (same p);
@@ -168,6 +181,7 @@ module _ {buffer₀ buffer buffer' : List ℕ} {phase₀ phase phase' : Phase} {
   SoFar-zero : SoFar buffer₀ phase₀ buffer phase done found → Feeds buffer phase 0 result buffer' phase' → SoFar buffer₀ phase₀ buffer' phase' (done ++ 0 ∷ []) (found ++ outcome_told result buffer')
   SoFar-zero s f = record {
     len = f.len ∙ s.len;
+    feeds = FeedsEach-byte done 0 buffer₀ buffer buffer' phase₀ phase phase' result s.feeds f;
     phased = phased_on 0 s f;
     after = λ p h. after_on p done 0 f (s.after p h);
     outcomes = λ p h. ap (λ (x : List Outcome). x ++ outcome_told result buffer') (s.outcomes p h)
@@ -198,6 +212,7 @@ module _ {buffer₀ buffer buffer' : List ℕ} {phase₀ phase phase' : Phase} {
   pub SoFar-more : SoFar buffer₀ phase₀ buffer phase done found → TakesBytes buffer phase more told buffer' phase' → SoFar buffer₀ phase₀ buffer' phase' (done ++ more) (found ++ told)
   SoFar-more s t = record {
     len = t.len ∙ s.len;
+    feeds = FeedsEach-append done more buffer₀ buffer buffer' phase₀ phase phase' s.feeds t.feeds;
     phased = λ p h. rw (unended_more p done more) (subst (λ n. PhaseAfter n phase' (unended (unended (p ++ done) ++ more))) s.len (t.phased _ (here s p h)));
     after = λ p h. rw (unended_more p done more) (t.after _ (s.after p h));
     outcomes = λ p h. rw (outcomes_more p done more (length buffer₀), ← s.outcomes p h, told_more s t p (s.after p h)) refl;
@@ -305,28 +320,40 @@ pub TakesPiece-at_zero : {buffer₀ buffer buffer' : List ℕ} {phase₀ phase p
     → SoFar buffer₀ phase₀ buffer phase (take i bytes) [] → LeavesRest buffer₀ phase₀ (take i bytes) buffer → Feeds buffer phase (get_or bytes i 0) result buffer' phase'
     → (end : PieceEnd) → outcome_told result buffer' ≡ outcome_at end buffer' ∷ [] → IsWithin (length buffer') end
     → TakesPiece buffer₀ phase₀ bytes (Some (end, i + 1)) buffer' phase'
-TakesPiece-at_zero {buffer₀} {buffer} {buffer'} bytes i within z s l f end e fits = record {
-  untouched = λ p h.
-      let none : stream_outcomes (p ++ take i bytes) (length buffer₀) ≡ [] = nil-alike (stream_outcomes (p ++ take i bytes) (length buffer₀)) (s.alike p h) in
-      let whole : p ++ take (i + 1) bytes ≡ (p ++ take i bytes) ++ 0 ∷ []
-      = ap (λ (x : List ℕ). p ++ x) (take_more bytes i 0 within ∙ ap (λ (x : ℕ). take i bytes ++ x ∷ []) z) ∙ sym (append_assoc p (take i bytes) (0 ∷ [])) in
-      let last : last_piece (p ++ take (i + 1) bytes) ≡ unended (p ++ take i bytes) = ap last_piece whole ∙ last_piece-zero (p ++ take i bytes) (no_outcomes _ _ none) in
-      rw (last, f.zero_unchanged z) (l p h none);
-  takes = rw e at (step_zero bytes i within z s f);
-  ends = record {
-    front = take i bytes;
-    taken = take_more bytes i 0 within ∙ ap (λ (x : ℕ). take i bytes ++ x ∷ []) z;
-    none_before = λ p h. nil-alike (stream_outcomes (p ++ take i bytes) (length buffer₀)) (s.alike p h);
-  };
-  idle = f.zero_idle z;
-  within = (omega (arith, within), subst (λ n. IsWithin n end) (f.len ∙ s.len) fits);
-}
+TakesPiece-at_zero {buffer₀} {buffer} {buffer'} {phase₀} bytes i within z s l f end e fits =
+    let none : (p : List ℕ) → PhaseAfter (length buffer₀) phase₀ p → stream_outcomes (p ++ take i bytes) (length buffer₀) ≡ []
+    = λ p h. nil-alike (stream_outcomes (p ++ take i bytes) (length buffer₀)) (s.alike p h) in
+    let last : (p : List ℕ) → PhaseAfter (length buffer₀) phase₀ p → last_piece (p ++ take (i + 1) bytes) ≡ unended (p ++ take i bytes)
+    = λ p h.
+        ap last_piece (ap (λ (x : List ℕ). p ++ x) (take_more bytes i 0 within ∙ ap (λ (x : ℕ). take i bytes ++ x ∷ []) z) ∙ sym (append_assoc p (take i bytes) (0 ∷ [])))
+        ∙ last_piece-zero (p ++ take i bytes) (no_outcomes _ _ (none p h)) in
+    let takes : TakesBytes buffer₀ phase₀ (take (i + 1) bytes) (outcome_at end buffer' ∷ []) buffer' _ = rw e at (step_zero bytes i within z s f) in
+    record {
+      holds = λ p h.
+          rw (last p h.phased, f.zero_unchanged z)
+          (begun (output (unended (p ++ take i bytes))) buffer₀ buffer s.len (s.after p h).begins (l p h.phased (none p h.phased)));
+      untouched = λ p h. rw (last p h, f.zero_unchanged z) (l p h (none p h));
+      takes = takes;
+      ends = record {
+        front = take i bytes;
+        taken = take_more bytes i 0 within ∙ ap (λ (x : ℕ). take i bytes ++ x ∷ []) z;
+        none_before = none;
+      };
+      bound = λ p h. count-within end buffer' _ _ (takes.alike p h) (subst (λ n. IsWithin n end) (f.len ∙ s.len) fits);
+      idle = f.zero_idle z;
+      within = (omega (arith, within), subst (λ n. IsWithin n end) (f.len ∙ s.len) fits);
+    }
 
 -- no piece ends in all of the bytes
 pub TakesPiece-none : {buffer₀ buffer : List ℕ} {phase₀ phase : Phase} (bytes : List ℕ) → SoFar buffer₀ phase₀ buffer phase bytes [] → LeavesRest buffer₀ phase₀ bytes buffer → TakesPiece buffer₀ phase₀ bytes None buffer phase
 TakesPiece-none {buffer₀} bytes s l = record {
   takes = s;
   ends = tt;
+  bound = λ p h. tt;
+  holds = λ p h.
+      let none : stream_outcomes (p ++ bytes) (length buffer₀) ≡ [] = nil-alike (stream_outcomes (p ++ bytes) (length buffer₀)) (s.alike p h.phased) in
+      rw (last_piece-unended (p ++ bytes) (no_outcomes _ _ none))
+      (begun (output (unended (p ++ bytes))) buffer₀ _ s.len (s.after p h).begins (l p h.phased none));
   untouched = λ p h.
       let none : stream_outcomes (p ++ bytes) (length buffer₀) ≡ [] = nil-alike (stream_outcomes (p ++ bytes) (length buffer₀)) (s.alike p h) in
       rw (last_piece-unended (p ++ bytes) (no_outcomes _ _ none)) (l p h none);

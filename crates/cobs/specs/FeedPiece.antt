@@ -1,10 +1,12 @@
 -- What a streaming decoder makes of the bytes through the end of a piece.
-use Rattle.std.specs.Prelude.{ℕ, ◌≡◌, ◌≤◌, List, [], ◌∷◌, ◌++◌, length, take, drop, Option, Some, None, IfSome}
+use Rattle.std.specs.Prelude.{ℕ, ◌≡◌, ◌≤◌, List, [], ◌∷◌, ◌++◌, length, take, drop, Option, Some, None, Result, IfSome}
 use Rattle.std.specs.List.{Contains}
 use Rattle.cobs.specs.Stream.{Outcome, Message, Broken, TooLong, stream_outcomes, unended}
-use Rattle.cobs.specs.Feed.{Phase, Idle, PhaseAfter, DecoderAfter}
+use Rattle.cobs.specs.Feed.{Phase, Idle, PhaseAfter, DecoderAfter, Feeds}
+use Rattle.cobs.specs.Overwritten.{overwritten}
 use Rattle.cobs.specs.Piece.{output}
 use Rattle.cobs.specs.Push.{last_piece}
+use Rattle.cobs.specs.declared.dec.error.DecodeError.{DecodeError}
 use Rattle.cobs.specs.declared.dec.frame_decoder.PieceEnd.{PieceEnd}
 use Rattle.cobs.specs.declared.dec.frame_decoder.PieceEnd.TheVariants as ends
 
@@ -23,10 +25,19 @@ AreAlikeAtFirst [] (y ∷ ys) = ⊥
 AreAlikeAtFirst (x ∷ xs) [] = ⊥
 AreAlikeAtFirst (x ∷ xs) (y ∷ ys) = AreAlike x y × (xs ≡ ys)
 
+-- the bytes are fed one after another, from the one buffer and phase to the other, whatever each is answered by
+abbrev pub FeedsEach : List ℕ → Phase → List ℕ → List ℕ → Phase → Type 0
+FeedsEach buffer phase [] buffer' phase' = (buffer' ≡ buffer) × (phase' ≡ phase)
+FeedsEach buffer phase (byte ∷ bytes) buffer' phase' =
+    (answer : Result (Option ℕ) DecodeError) × (between : List ℕ) × (phase_between : Phase) × Feeds buffer phase byte answer between phase_between
+    × FeedsEach between phase_between bytes buffer' phase'
+
 -- a decoder that takes these bytes goes from the one buffer and phase to the other, and tells these outcomes of the
 -- pieces that end in them
 pub record TakesBytes (buffer : List ℕ) (phase : Phase) (bytes : List ℕ) (told : List Outcome) (buffer' : List ℕ) (phase' : Phase) : Type 0 where
   pub len : length buffer' ≡ length buffer
+  -- in every phase
+  pub feeds : FeedsEach buffer phase bytes buffer' phase'
   pub after : (p : List ℕ) → DecoderAfter buffer phase p → DecoderAfter buffer' phase' (unended (p ++ bytes))
   pub outcomes : (p : List ℕ) → DecoderAfter buffer phase p → told ≡ stream_outcomes (p ++ bytes) (length buffer)
   -- where the buffer was written to inside p, the same but for the bytes of the first message
@@ -45,6 +56,12 @@ abbrev pub IsWithin : ℕ → PieceEnd → Type 0
 IsWithin len (ends.Message n) = n ≤ len
 IsWithin len (ends.Broken count) = Unit {0}
 IsWithin len ends.TooLong = Unit {0}
+
+-- the bytes that it counts are within a buffer of this length
+abbrev pub IsCountWithin : ℕ → PieceEnd → Type 0
+IsCountWithin len (ends.Message n) = n ≤ len
+IsCountWithin len (ends.Broken count) = count ≤ len
+IsCountWithin len ends.TooLong = Unit {0}
 
 -- which of the bytes were taken: those through the zero that ended a piece, or all
 abbrev pub bytes_taken : List ℕ → Option (PieceEnd × ℕ) → List ℕ
@@ -66,9 +83,11 @@ pub record EndsPiece (n : ℕ) (phase : Phase) (bytes : List ℕ) (count : ℕ) 
 pub record TakesPiece (buffer : List ℕ) (phase : Phase) (bytes : List ℕ) (result : Option (PieceEnd × ℕ)) (buffer' : List ℕ) (phase' : Phase) : Type 0 where
   pub takes : TakesBytes buffer phase (bytes_taken bytes result) (outcomes_taken result buffer') buffer' phase'
   pub ends : IfSome result (λ found. EndsPiece (length buffer) phase bytes found.1)
-  -- the bytes after the output of the piece that was read last
+  -- its buffer begins with the output of the piece that was read last, as far as it fits, and is otherwise as it was
+  pub holds : (p : List ℕ) → DecoderAfter buffer phase p → buffer' ≡ overwritten buffer (output (last_piece (p ++ bytes_taken bytes result)))
   pub untouched : (p : List ℕ) → PhaseAfter (length buffer) phase p
       → let written = length (output (last_piece (p ++ bytes_taken bytes result))) in drop written buffer' ≡ drop written buffer
+  pub bound : (p : List ℕ) → PhaseAfter (length buffer) phase p → IfSome result (λ found. IsCountWithin (length buffer) found.0)
   -- in every phase
   pub idle : IfSome result (λ found. phase' ≡ Idle)
   pub within : IfSome result (λ found. (found.1 ≤ length bytes) × IsWithin (length buffer) found.0)

@@ -11,7 +11,8 @@
 //!     encode(source, dest)
 //! }
 //! ```
-ghost use Rattle.std.specs.Prelude.{◌≡◌, ◌≢◌, ◌↔◌, ◌<◌, ◌≤◌, ◌+◌, ℕ, List, [], ◌∷◌, ◌++◌, length, All};
+ghost use Rattle.std.specs.Prelude.{◌≡◌, ◌≢◌, ◌↔◌, ◌<◌, ◌≤◌, ◌+◌, ℕ, List, [], ◌∷◌, ◌++◌, length, take, drop, slice_index, All};
+ghost use Rattle.cobs.specs.Decode.{leading_zeros};
 ghost use Rattle.cobs.specs.Grammar.{HasNoZero, IsEncodedFrame, IsFrame, IsOpenFrame, Reads, joint, last_of, lone_block};
 ghost use Rattle.cobs.specs.Laws.{EndsAtBlock, IsAtSentinel, IsFrameFor, IsFront};
 ghost use Rattle.cobs.specs.Length.{EndsInFullRun, encoded_len, max_encoded_len};
@@ -284,7 +285,8 @@ pub fn law_11()
 {}
 
 /// In a stream that begins with a nonzero byte the first piece is what stands before the first zero, and, in a buffer
-/// of the stream's length, it comes to a message exactly where it reads as that message.
+/// of the stream's length, it comes to a message exactly where it reads as that message. Zeros before the first piece
+/// are skipped. What stands before the first zero is found by its end.
 ///
 /// So `decode`, into a buffer as long as its source, and `decode_in_place` both refuse, or both give the same message.
 ///
@@ -305,6 +307,9 @@ pub fn law_12()
     ensures reads { (byte : ℕ) (bytes m : List ℕ) → let t = byte ∷ bytes in
         byte ≢ 0 → All (λ byte. byte < 256) t
         → ((outcome_of (head t) (length t) ≡ Message m) ↔ Reads (head t) m) }
+    ensures behind { (t : List ℕ) → first_piece t ≡ first_piece (drop (leading_zeros t) t) }
+    ensures head { (t : List ℕ) (n : ℕ) → n ≤ length t → HasNoZero (take n t)
+        → (n < length t → slice_index t n ≡ 0) → take n t ≡ head t }
 {}
 
 /// What a streaming encoder has come to: where the frame so far ends, and how the open frame of an
