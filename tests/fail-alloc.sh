@@ -1,17 +1,30 @@
 #!/bin/sh
 # Refuses the growths of memory one after another, and sees that each call then answers its value or out of memory.
 #
-# usage: tests/fail-alloc.sh [FIRST]
+# usage: tests/fail-alloc.sh [--rounds N] [FIRST]
 #
 # Two files of tests run again and again, unproved: crates/cobs_vectors/src/memory.rt and
 # crates/cobs_tool/src/refused_memory.rt. At round N the Nth growth that a test asks for is refused. All of a file's
 # tests but the last have to pass in each round. The last one, which makes every call and wants its value, fails as long
 # as a growth of its own is refused; the first round in which it passes has met no refusal, and is that file's last.
-# A round takes about a quarter of a minute, so this is no part of the gate.
+# With --rounds, each file gets at most N rounds, from the first growth on or from FIRST on. A round takes about a quarter
+# of a minute; the gate runs three of each file.
 set -u
 
 PATH=/opt/rattle/bin:$PATH
+rounds=
+if [ "${1-}" = --rounds ]; then
+    rounds=${2-}
+    case $rounds in
+        '' | *[!0-9]* | 0)
+            echo 'usage: tests/fail-alloc.sh [--rounds N] [FIRST]' >&2
+            exit 2
+            ;;
+    esac
+    shift 2
+fi
 first=${1:-1}
+last=$((first + ${rounds:-1000} - 1))
 top=$(cd "$(dirname "$0")/.." && pwd)
 work=$(mktemp -d)
 trap 'rm -rf "$work"' EXIT
@@ -39,11 +52,11 @@ copy() {
     grep -E "^$1( [a-z_]+=[^ :]+)*:" "$top/crates.txt" >> "$work/crates.txt"
 }
 
-# refuse CRATE LAST: round after round until the last test passes
+# refuse CRATE LAST: round after round until the last test passes, or until there were as many as were asked for
 refuse() {
     cd "$work/crates/$1" || exit 2
     round=$first
-    while [ "$round" -le 1000 ]; do
+    while [ "$round" -le "$last" ]; do
         rt try --test --fail-alloc "$round" > "$work/log" 2>&1
         if ! grep -q "^test $2 \.\.\. " "$work/log"; then
             cat "$work/log"
@@ -62,6 +75,7 @@ refuse() {
         echo "$1, round $round: a growth was refused, and answered as out of memory"
         round=$((round + 1))
     done
+    [ -n "$rounds" ] && return
     echo "$1: no round was free of refusals"
     exit 1
 }
