@@ -100,6 +100,13 @@ Tells (Err faults.Io) reads t reader = AtStreamEnd t reader × EndsIn reads None
 Tells (Err faults.TooManyReads) reads t reader =
     AtStreamEnd t reader × (length reads ≡ 65536) × All GaveBytes reads
 
+-- its message is within a buffer of this length
+abbrev pub IsNextWithin : ℕ → Next → Type 0
+IsNextWithin len (nexts.Message n) = n ≤ len
+IsNextWithin len (nexts.Broken count) = Unit {0}
+IsNextWithin len nexts.TooLong = Unit {0}
+IsNextWithin len (nexts.End unfinished) = Unit {0}
+
 -- a call that takes the source and the reader from the one state to the other, with this answer
 pub record ReadsNext {S : Type 0} (step : S → Read → S → Type 0) (source source' : S)
     (reader : ReaderState) (result : Result Next ReadFault) (reader' : ReaderState) : Type 0 where

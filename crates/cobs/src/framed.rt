@@ -216,10 +216,10 @@ pub struct FrameReader<D: FrameDecoder> {
 }
 
 impl<D: FrameDecoder> FrameReader<D> {
-    ghost use Rattle.std.specs.Prelude.{◌≡◌, ◌≤◌, ℕ, List, [], ◌++◌, length, drop, IfNone, IfSome, OnSome};
+    ghost use Rattle.std.specs.Prelude.{◌≡◌, ◌≤◌, ℕ, List, [], ◌++◌, length, drop, IfNone, IfOk, IfSome, OnSome};
     ghost use Rattle.cobs.specs.Stream.{is_nonempty, unended};
     ghost use Rattle.cobs.specs.Feed.{DecoderAfter};
-    ghost use Rattle.cobs.specs.NextFrame.{AtStreamEnd, ReaderAfter, ReadsNext};
+    ghost use Rattle.cobs.specs.NextFrame.{AtStreamEnd, IsNextWithin, ReaderAfter, ReadsNext};
     ghost use Rattle.cobs.specs.Internal.KeptBytes.{TellsFirst, with_kept};
     ghost use Rattle.cobs.specs.Fields.Reader.{decoder_of, kept_of, reader_state};
 
@@ -270,6 +270,8 @@ impl<D: FrameDecoder> FrameReader<D> {
             → TellsFirst found.0 p bytes.now
             (D.bytes (decoder_of self.new)) (drop found.1 bytes.now)) }
         ensures within { IfSome result (λ found. found.1 ≤ length bytes.now) }
+        ensures bound { IfSome result
+            (λ found. IsNextWithin (length (D.bytes (decoder_of self.new))) found.0) }
         ensures idle { OnSome result (ReaderAfter (reader_state D.bytes D.phase self.new) []) }
         ensures len { length (D.bytes (decoder_of self.new))
             ≡ length (D.bytes (decoder_of self.old)) }
@@ -300,6 +302,8 @@ impl<D: FrameDecoder> FrameReader<D> {
             → ReaderAfter (reader_state D.bytes D.phase self.old) p
             → TellsFirst next p (kept_of self.old)
             (D.bytes (decoder_of self.new)) (kept_of self.new)) }
+        ensures bound { IfSome result
+            (λ next. IsNextWithin (length (D.bytes (decoder_of self.new))) next) }
         ensures idle { OnSome result (ReaderAfter (reader_state D.bytes D.phase self.new) []) }
         ensures len { length (D.bytes (decoder_of self.new))
             ≡ length (D.bytes (decoder_of self.old)) }
@@ -344,6 +348,8 @@ impl<D: FrameDecoder> FrameReader<D> {
     pub fn next_frame<S: FrameSource>(&mut self, source: &mut S) -> Result<Next, ReadFault>
         ensures next { ReadsNext S.step source.old source.new
             (reader_state D.bytes D.phase self.old) result (reader_state D.bytes D.phase self.new) }
+        ensures bound { IfOk result
+            (λ next. IsNextWithin (length (D.bytes (decoder_of self.new))) next) }
         ensures len { length (D.bytes (decoder_of self.new))
             ≡ length (D.bytes (decoder_of self.old)) }
         ensures same_loan { D.loan (decoder_of self.new) ≡ D.loan (decoder_of self.old) }

@@ -13,6 +13,7 @@
 //! ```
 ghost use Rattle.std.specs.Prelude.{◌≡◌, ◌≢◌, ◌↔◌, ◌<◌, ◌≤◌, ◌+◌, ℕ, List, [], ◌∷◌, ◌++◌, length, take, drop, slice_index, All};
 ghost use Rattle.cobs.specs.Decode.{leading_zeros};
+ghost use Rattle.cobs.specs.Feed.{DecoderAfter, Idle, Phase};
 ghost use Rattle.cobs.specs.Grammar.{HasNoZero, IsEncodedFrame, IsFrame, IsOpenFrame, Reads, joint, last_of, lone_block};
 ghost use Rattle.cobs.specs.Laws.{EndsAtBlock, IsAtSentinel, IsFrameFor, IsFront};
 ghost use Rattle.cobs.specs.Length.{EndsInFullRun, encoded_len, max_encoded_len};
@@ -337,4 +338,23 @@ pub fn law_13()
         → (g : List ℕ) × IsEncodedFrame g m × (f ≡ g ++ lone_block) }
     ensures end { (slice m : List ℕ) (reached : Reached) → CobsEncoderAfter slice reached m
         → end_of reached ≡ encoded_len m }
+{}
+
+/// A decoder has taken nothing of a piece exactly where it is idle.
+///
+/// So a decoder that a zero has left idle is one that [`FrameReader::new`](crate::FrameReader::new) accepts, and a new
+/// one is one that reads a frame and its zero by `push`.
+///
+/// ```
+/// fn reader_after_zero(mut decoder: CobsDecoderOwned) -> FrameReader<CobsDecoderOwned>
+///     ensures { kept_of result ≡ [] }
+/// {
+///     law_14();
+///     let _ended = decoder.feed(0);
+///     FrameReader::new(decoder)
+/// }
+/// ```
+pub fn law_14()
+    ensures idle { (buffer : List ℕ) (phase : Phase)
+        → (DecoderAfter buffer phase [] ↔ (phase ≡ Idle)) }
 {}

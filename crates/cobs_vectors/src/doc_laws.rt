@@ -2,6 +2,7 @@
 //! the law that they call. A test runs each of them.
 ghost use Rattle.std.specs.Prelude.{◌≡◌, ◌≤◌, ◌<◌, ◌^◌, ◌++◌, ◌∷◌, [], ℕ, List, IfOk, IsTrue, Some, length, take};
 ghost use Rattle.cobs.specs.Feed.{DecoderAfter};
+ghost use Rattle.cobs.specs.Fields.Reader.{kept_of};
 ghost use Rattle.cobs.specs.Grammar.{HasNoZero, IsEncodedFrame, IsFrame, IsOpenFrame, Reads};
 ghost use Rattle.cobs.specs.Headline.{IsPiece};
 ghost use Rattle.cobs.specs.Laws.{IsFrameFor, IsFront};
@@ -13,10 +14,13 @@ ghost use Rattle.cobs.specs.Messages.{outcomes_in};
 
 use crate::callers::reads_as;
 use cobs::laws::{
-    law_1, law_2, law_3, law_4, law_5, law_6, law_7, law_8, law_9, law_10, law_11, law_12,
-    law_13,
+    law_1, law_2, law_3, law_4, law_5, law_6, law_7, law_8, law_9, law_10, law_11, law_12, law_13,
+    law_14,
 };
-use cobs::{CobsDecoder, FrameDecoder, FrameOutcome, decode_stream, encode, encode_vec};
+use cobs::{
+    CobsDecoder, CobsDecoderOwned, FrameDecoder, FrameOutcome, FrameReader, Next, Recorded,
+    decode_stream, encode, encode_vec,
+};
 use std::alloc::{AllocError, Global};
 use std::test::Fail;
 
@@ -164,6 +168,15 @@ fn as_encoded<'a>(frame: &'a [u8], message: &[u8], index: usize, code: u8) -> &'
     frame
 }
 
+/// law_14
+fn reader_after_zero(mut decoder: CobsDecoderOwned) -> FrameReader<CobsDecoderOwned>
+    ensures { kept_of result ≡ [] }
+{
+    law_14();
+    let _ended = decoder.feed(0);
+    FrameReader::new(decoder)
+}
+
 #[test]
 fn laws_of_messages_and_frames(rt: HostRuntime) -> Result<(), Fail> {
     let alloc = rt.alloc();
@@ -204,6 +217,13 @@ fn laws_of_streams(rt: HostRuntime) -> Result<(), Fail> {
     let found = one_outcome(alloc, &mut CobsDecoder::new(&mut buffer), &[4, 7])?;
     assert_eq!(rt; found.as_slice(), [FrameOutcome::Broken(1)].as_slice());
     assert!(rt; begins_with_piece(&[2, 7, 0]));
+    let mut begun = CobsDecoderOwned::new(alloc, 4)?;
+    assert_eq!(rt; begun.push(&[3, 7]), Ok(None));
+    let mut source = Recorded::new([2, 8, 0].as_slice());
+    assert_eq!(rt;
+        reader_after_zero(begun).next_frame(&mut source),
+        Ok(Next::Message(1))
+    );
     assert!(rt; !begins_with_piece(&[0, 2, 7]));
     Ok(())
 }

@@ -49,6 +49,7 @@ impl<'a> CobsDecoder<'a> {
         ensures same_slice { borrowed_slice result ≡ dest.entry.ghost_name }
         ensures buffer { borrowed_buffer result ≡ dest.old }
         ensures idle { DecoderAfter (borrowed_buffer result) (borrowed_phase result) [] }
+        ensures phase { borrowed_phase result ≡ Idle }
     {
         CobsDecoder {
             dest,

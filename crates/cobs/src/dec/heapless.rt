@@ -44,6 +44,7 @@ impl<const N: usize> CobsDecoderHeapless<N> {
     pub fn new() -> Self
         ensures buffer { heapless_buffer result ≡ replicate N 0 }
         ensures idle { DecoderAfter (heapless_buffer result) (heapless_phase result) [] }
+        ensures phase { heapless_phase result ≡ Idle }
     {
         CobsDecoderHeapless::new_with_vec(ArrayVec::new())
     }
@@ -61,6 +62,7 @@ impl<const N: usize> CobsDecoderHeapless<N> {
         ensures buffer { heapless_buffer result
             ≡ vec.entry.items ++ replicate (N - array_vec_len vec.entry) 0 }
         ensures idle { DecoderAfter (heapless_buffer result) (heapless_phase result) [] }
+        ensures phase { heapless_phase result ≡ Idle }
     {
         let mut dest = vec;
         'fill: for _i in 0..dest.remaining_capacity() {
@@ -140,6 +142,7 @@ impl<const N: usize> CobsDecoderHeapless<N> {
     pub fn reset(&mut self)
         ensures buffer { heapless_buffer self.new ≡ heapless_buffer self.old }
         ensures idle { DecoderAfter (heapless_buffer self.new) (heapless_phase self.new) [] }
+        ensures phase { heapless_phase self.new ≡ Idle }
     {
         self.inner = UnbufferedDecoder::new();
     }
@@ -186,6 +189,7 @@ impl<const N: usize> Default for CobsDecoderHeapless<N> {
     fn default() -> Self
         ensures buffer { heapless_buffer result ≡ replicate N 0 }
         ensures idle { DecoderAfter (heapless_buffer result) (heapless_phase result) [] }
+        ensures phase { heapless_phase result ≡ Idle }
     {
         CobsDecoderHeapless::new()
     }

@@ -45,6 +45,7 @@ impl CobsDecoderOwned {
         ensures buffer { IfOk result (λ decoder. owned_buffer decoder ≡ replicate dest_buf_size 0) }
         ensures idle { IfOk result (λ decoder. DecoderAfter (owned_buffer decoder)
             (owned_phase decoder) []) }
+        ensures phase { IfOk result (λ decoder. owned_phase decoder ≡ Idle) }
     {
         Ok(CobsDecoderOwned {
             dest: vec![in alloc; 0; dest_buf_size]?,
@@ -119,6 +120,7 @@ impl CobsDecoderOwned {
     pub fn reset(&mut self)
         ensures buffer { owned_buffer self.new ≡ owned_buffer self.old }
         ensures idle { DecoderAfter (owned_buffer self.new) (owned_phase self.new) [] }
+        ensures phase { owned_phase self.new ≡ Idle }
     {
         self.inner = UnbufferedDecoder::new();
     }

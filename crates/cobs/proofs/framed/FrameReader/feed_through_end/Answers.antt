@@ -1,9 +1,20 @@
-use Rattle.std.proofs.Common.{[], refl, sym}
+use Rattle.std.proofs.Common.{ℕ, List, [], length, refl, sym}
 use Rattle.std.proofs.Math.Logic.{∥∥₁_map}
 use Rattle.cobs.specs.FeedPiece.{outcome_at}
+use Rattle.cobs.specs.Internal.KeptBytes.{IsOutcome}
+use Rattle.cobs.specs.NextFrame.{IsNextWithin}
+use Rattle.cobs.specs.Stream.{Outcome}
+use Rattle.cobs.specs.declared.framed.Next.{Next}
+use Rattle.cobs.specs.declared.framed.Next.TheVariants as nexts
 use Rattle.cobs.proofs.SoFar.{DecoderAfter-idle}
 use Rattle.cobs.proofs.ReadingLemmas.{HasTaken-any, EndsFirstIn-taken}
 use Rattle.cobs.proofs.framed.FrameReader.feed_through_end.Goals as goal
+
+next_within : (next : Next) (buffer : List ℕ) (outcome : Outcome) → IsOutcome next buffer outcome → IsNextWithin (length buffer) next
+next_within (nexts.Message n) buffer outcome h = h.1
+next_within (nexts.Broken count) buffer outcome h = tt
+next_within nexts.TooLong buffer outcome h = tt
+next_within (nexts.End unfinished) buffer outcome h = tt
 
 pub returns-in-None-clause-none : goal.returns-in-None-clause-none
 returns-in-None-clause-none g c = λ p b.
@@ -20,6 +31,12 @@ returns-in-Some-clause-first g c = λ p h.
       is = c.next_at.ensures (g.D.FrameDecoder.bytes c.feed_piece.new.self) (rw t.takes.len t.within.1);
       first = rw t.takes.len (EndsFirstIn-taken _ t p h);
     }
+
+pub returns-in-Some-clause-bound : goal.returns-in-Some-clause-bound
+returns-in-Some-clause-bound g c =
+    let t = c.in-Some.ensures.takes in
+    let buffer : List ℕ = g.D.FrameDecoder.bytes c.feed_piece.new.self in
+    next_within c.next_at.result buffer _ (c.next_at.ensures buffer (rw t.takes.len t.within.1))
 
 pub returns-in-Some-clause-idle : goal.returns-in-Some-clause-idle
 returns-in-Some-clause-idle g c = DecoderAfter-idle _ _ c.in-Some.ensures.takes.idle
