@@ -9,7 +9,9 @@ usage: tests/docs.py [--write]
   crates/cobs_vectors/src, whose tests run it, or as a caller in worked_callers.rt. Lines that begin with 'use ' are
   left out.
 - So do the functions that README.md and crates/cobs/CALLING.md show, or in callers.rt; of a test, its statements.
-- The contracts in crates/cobs/CALLING.md are those of the public calls in src. With --write they are written.
+- The contracts in crates/cobs/CALLING.md are those of the public calls in src, and of `default` and `clone` where
+  they have clauses of their own. With --write they are written.
+- No file outside crates/cobs names its proofs: what a caller cites are its specs and its laws.
 - docs/MAP.md names each file of the repository, or a folder that it is in.
 
 It prints what differs, and the status is then 1.
@@ -21,7 +23,7 @@ from pathlib import Path, PurePosixPath
 
 TOP = Path(__file__).resolve().parent.parent
 SRC = TOP / "crates/cobs/src"
-RUN = "doc_examples doc_decoders doc_laws worked_callers callers".split()
+RUN = "doc_examples doc_decoders doc_laws worked_callers callers clients".split()
 TESTS = [TOP / f"crates/cobs_vectors/src/{name}.rt" for name in RUN]
 CALLING = TOP / "crates/cobs/CALLING.md"
 PAGES = [TOP / "README.md", CALLING]
@@ -30,6 +32,8 @@ FILES = """lib enc enc/sentinel enc/vector enc/encoder enc/state enc/unbuffered 
     dec/kind dec/error dec/report dec/state dec/frame_decoder dec/write_buffer dec/borrowed dec/owned dec/heapless dec/unbuffered
     stream framed laws""".split()
 HEADING = "## Contracts\n"
+# Crates whose proofs still cite lemmas of cobs.
+NOT_YET = ["cobs_c"]
 
 
 def examples(path):
@@ -115,23 +119,38 @@ def contracts(path):
     lines, owner, said = path.read_text().splitlines(), None, None
     for at, line in enumerate(lines):
         if re.match(r"(pub )?(impl|trait)\b.*\{$", line):
-            owner = None if " for " in line else line.removesuffix(" {").removeprefix("pub ")
+            of_trait = " for " in line and not re.match(r"impl(<.*>)? (Default|Clone) for ", line)
+            owner = None if of_trait else line.removesuffix(" {").removeprefix("pub ")
         elif line == "}":
             owner = None
-        in_trait = owner is not None and owner.startswith("trait")
+        in_trait = owner is not None and (owner.startswith("trait") or " for " in owner)
         indent = re.match(r"( *)(pub fn|fn) ", line)
         if not indent or (indent[1] and owner is None) or (indent[2] == "fn" and not (in_trait and indent[1])):
             continue
         end = next(i for i in range(at, len(lines)) if re.match(indent[1] + r"\{|.*;$", lines[i]))
         body = lines[end].strip().startswith("{")
+        parts = contract(lines[at : end if body else end + 1])
+        if owner is not None and " for " in owner and len(parts) == 1:
+            continue
         if indent[1] and owner != said:
             yield owner
             said = owner
-        yield from (indent[1] + part for part in contract(lines[at : end if body else end + 1]))
+        yield from (indent[1] + part for part in parts)
 
 
 def all_contracts():
     return "```text\n" + "\n".join(line for name in FILES for line in contracts(SRC / f"{name}.rt")) + "\n```\n"
+
+
+def private_names():
+    """A line for each file outside crates/cobs that names its proofs."""
+    for path in sorted((TOP / "crates").glob("*/*/")):
+        if path.name not in ("src", "specs", "proofs") or path.parent.name in ["cobs", *NOT_YET]:
+            continue
+        for file in sorted([*path.rglob("*.rt"), *path.rglob("*.antt")]):
+            for number, line in enumerate(file.read_text().splitlines(), 1):
+                if "Rattle.cobs.proofs" in line:
+                    yield f"{file.relative_to(TOP)}:{number}: names a proof of cobs"
 
 
 def names_on_map():
@@ -166,7 +185,7 @@ def files_off_map():
 
 
 def main():
-    said = [*items_without_example(), *unrun_examples(), *files_off_map()]
+    said = [*items_without_example(), *unrun_examples(), *files_off_map(), *private_names()]
     head, heading, tail = CALLING.read_text().partition(HEADING)
     prose = tail.partition("```text\n")[0]
     wanted = head + heading + prose + all_contracts()

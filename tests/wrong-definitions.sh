@@ -6,7 +6,8 @@
 # Each block of tests/wrong-definitions.txt changes a line or two of crates/cobs, a definition of specs/ or a body of src/.
 # A block begins with a line '== NAME' and ends at an empty line. It has the format of a must-fail edit, after a line
 # 'only: FUNCTION' that names the function that has to refuse it. Only that function and what its proof cites are checked,
-# over the work that an earlier `rt check` of crates/cobs kept. With words, only the blocks are tried whose names contain
+# over the work that an earlier `rt check` of crates/cobs kept. A line 'crate: NAME' in front of it says that the function
+# is in crates/NAME, which uses the library; the library has to be proved with the change. With words, only the blocks are tried whose names contain
 # one of them. With --jobs, N blocks are tried at once, each on a copy of its own; a copy takes a gigabyte or two, and a
 # check as much memory.
 #
@@ -45,8 +46,12 @@ copy() {
     mkdir -p "$copy/crates"
     cp -r "$top/crates/cobs" "$crate"
     mkdir "$copy/unchanged"
-    cp -r "$crate/src" "$crate/specs" "$copy/unchanged"
+    cp -r "$crate/src" "$crate/specs" "$crate/proofs" "$copy/unchanged"
     grep '^cobs:' "$top/crates.txt" > "$copy/crates.txt"
+    for user in $users; do
+        cp -r "$top/crates/$user" "$copy/crates"
+        grep "^$user:" "$top/crates.txt" >> "$copy/crates.txt"
+    done
 }
 
 # change EDIT: applies each pair of lines 'old:' and 'new:', whose old text has to stand once in the file before them
@@ -84,7 +89,7 @@ restore() {
 # clauses_of FUNCTION: the names of its clauses, one a line
 clauses_of() {
     path=src/$(echo "$1" | sed 's#::#/#g')
-    while [ ! -f "$crate/$path.rt" ]; do
+    while [ ! -f "$checked/$path.rt" ]; do
         case $path in
             */*) path=${path%/*} ;;
             *) return ;;
@@ -94,7 +99,7 @@ clauses_of() {
         $0 ~ head { inside = 1 }
         inside && $1 ~ /^ensures/ && $3 == "{" { print $2 }
         inside && (/^ *\{$/ || /\) .*\{$/ && !/ensures|requires/ || /;$/) { exit }
-    ' "$crate/$path.rt"
+    ' "$checked/$path.rt"
 }
 
 # open_goals: the names of what the last check left without a proof, one a line; where it names none so, of what rests on
@@ -136,7 +141,7 @@ tell() {
         echo "$1: CANNOT BE READ: $(grep -m 1 -E '^(\./)?(specs|src)/[^ ]*: error' "$copy/log")"
         return 1
     fi
-    refused=$(sed -n -E '/it calls/d; s/^fn cobs::([^ ]*): (not proved|no proof).*/\1/p' "$copy/log" | sort -u)
+    refused=$(sed -n -E "/it calls/d; s/^fn ${checked##*/}::([^ ]*): (not proved|no proof).*/\\1/p" "$copy/log" | sort -u)
     if [ "$2" -ne 1 ] || [ -z "$refused" ]; then
         echo "$1: NOT REFUSED (rt check ended with $2): $(tail -n 1 "$copy/log")"
         return 1
@@ -149,8 +154,10 @@ tell() {
 try() {
     edit=$work/edits/$1
     function=$(sed -n 's/^only: //p' "$edit")
+    user=$(sed -n 's/^crate: //p' "$edit")
+    checked=$copy/crates/${user:-cobs}
     if change "$edit"; then
-        (cd "$crate" && rt check --jobs 1 --only "$function") < /dev/null > "$copy/log" 2>&1
+        (cd "$checked" && rt check --jobs 1 --only "$function") < /dev/null > "$copy/log" 2>&1
         tell "$1" $? || touch "$work/failed"
     else
         echo "$1: CANNOT BE APPLIED"
@@ -185,6 +192,8 @@ wanted() {
 while read -r name; do
     wanted "$name" "$@" && echo "$name"
 done < "$work/all" > "$work/names"
+
+users=$(while read -r name; do sed -n 's/^crate: //p' "$work/edits/$name"; done < "$work/names" | sort -u)
 
 number=1
 while [ "$number" -le "$jobs" ]; do

@@ -9,6 +9,7 @@
 #[cfg(test)]
 mod bytes;
 pub mod callers;
+pub mod clients;
 #[cfg(test)]
 mod decoding;
 #[cfg(test)]

@@ -1,0 +1,35 @@
+use Rattle.std.proofs.Common.{◌≡◌, ◌≢◌, ◌≤◌, ℕ, ◌+◌, List, [], ◌∷◌, ◌++◌, length, ap, sym, ◌∙◌, arith, append-nil, inr, rules}
+use Rattle.std.proofs.lemmas.List.Elements.{All-nil}
+use Rattle.cobs.specs.Grammar.{HasNoZero, IsEncodedFrame}
+use Rattle.cobs.specs.Laws.{IsAtSentinel}
+use Rattle.cobs.specs.Stream.{Outcome, Message, stream_outcomes, outcome_of}
+use Rattle.cobs_vectors.proofs.clients.append_to_log.Goals as goal
+
+-- a log, a frame and a zero
+told : (log f m : List ℕ) (n : ℕ) → IsAtSentinel log → f ≢ [] → HasNoZero f
+    → ((a d z : List ℕ) (n : ℕ) → IsAtSentinel a → stream_outcomes (a ++ d ++ 0 ∷ z) n ≡ stream_outcomes a n ++ stream_outcomes (d ++ 0 ∷ []) n ++ stream_outcomes z n)
+    → stream_outcomes (f ++ 0 ∷ []) n ≡ outcome_of f n ∷ [] → outcome_of f n ≡ Message m → stream_outcomes [] n ≡ []
+    → stream_outcomes ((log ++ f) ++ 0 ∷ []) n ≡ stream_outcomes log n ++ Message m ∷ []
+told log f m n at some nonzero apart one message none =
+    let s : List Outcome = stream_outcomes log n in
+    apart log f [] n at
+    ∙ ap (λ (x : List Outcome). (s ++ x) ++ stream_outcomes [] n) (one ∙ ap (λ (o : Outcome). o ∷ []) message)
+    ∙ ap (λ (x : List Outcome). (s ++ Message m ∷ []) ++ x) none ∙ append-nil (s ++ Message m ∷ [])
+
+pub returns-clause-told : goal.returns-clause-told
+returns-clause-told c = λ n held.
+    let log : List ℕ = c.args.log.now in
+    let f : List ℕ = c.in_ok-frame.frame.items in
+    let m : List ℕ = c.args.message.now in
+    let len = c.law_2.ensures.len f m c.in_ok-frame.ensures.frame in
+    let lower = c.law_4.ensures.lower m in
+    let some : f ≢ [] = λ e. (let z = ap length e in omega arith) in
+    let nonzero : HasNoZero f = c.in_ok-frame.ensures.no_sentinel in
+    let one = c.law_10.ensures.one f n some nonzero in
+    let message = c.law_11.ensures.message f m n c.in_ok-frame.ensures.frame.reads held in
+    let none = c.law_9.ensures.none [] n (All-nil (λ b. b ≢ 0)) in
+    let items : c.push.new.self.items ≡ (log ++ f) ++ 0 ∷ [] = search rules in
+    rw items (told log f m n c.requires.at_sentinel some nonzero c.law_10.ensures.apart one message none)
+
+pub returns-clause-at_sentinel : goal.returns-clause-at_sentinel
+returns-clause-at_sentinel c = inr (c.extend_from_slice.new.self.items, c.in_ok-push.ensures.items)

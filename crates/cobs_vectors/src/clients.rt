@@ -1,0 +1,180 @@
+//! Callers as a user's own crate has them: a handler of one byte, a loop over a stream, a reader of frames, a round
+//! trip, a log. What each promises is proved by the public clauses of `cobs` alone.
+ghost use Rattle.std.specs.Prelude.{◌≡◌, ◌≤◌, ◌<◌, ◌^◌, ◌↔◌, ◌∷◌, ◌++◌, [], length, List, ℕ, IfOk, IsSomeAnd, IsTrue};
+ghost use Rattle.cobs.specs.Feed.{DecoderAfter, Idle};
+ghost use Rattle.cobs.specs.Grammar.{Reads};
+ghost use Rattle.cobs.specs.Headline.{BeginsWith, IsPiece};
+ghost use Rattle.cobs.specs.Laws.{IsAtSentinel};
+ghost use Rattle.cobs.specs.Length.{encoded_len, max_encoded_len};
+ghost use Rattle.cobs.specs.Stream.{Message, stream_outcomes};
+
+use cobs::laws::{law_2, law_4, law_9, law_10, law_11};
+use cobs::{
+    CobsDecoder, CobsDecoderHeapless, CobsDecoderOwned, FrameDecoder, FrameReader, FrameSource,
+    Next, PieceEnd, UnbufferedDecoder, decode, encode, encode_vec,
+};
+use std::alloc::{AllocError, Global};
+
+/// Handles a byte in an interrupt: the length of the message that it ended, which is sliced out of the buffer.
+pub fn on_byte<const N: usize>(decoder: &mut CobsDecoderHeapless<N>, byte: u8) -> usize
+    ensures { result ≤ N }
+{
+    match decoder.feed(byte) {
+        Ok(Some(len)) => {
+            let message = &decoder.dest()[..len];
+            message.len()
+        }
+        _ => 0,
+    }
+}
+
+/// Counts the messages that end in some bytes, and goes on after each error, in any phase.
+pub fn count_messages(decoder: &mut CobsDecoderOwned, bytes: &[u8]) -> usize {
+    let mut at = 0;
+    let mut count = 0usize;
+    'by_push: while at < bytes.len() {
+        match decoder.push(&bytes[at..]) {
+            Ok(None) => return count,
+            Ok(Some(report)) => {
+                at += report.parsed_size();
+                count = count.saturating_add(1);
+            }
+            Err(refused) => at += refused.parsed_size,
+        }
+    }
+    count
+}
+
+/// The greatest length of a message in some bytes, by any decoder.
+pub fn longest<D: FrameDecoder>(decoder: &mut D, bytes: &[u8]) -> usize {
+    let mut at = 0;
+    let mut longest = 0;
+    'by_piece: while let Some((end, count)) = decoder.feed_piece(&bytes[at..]) {
+        if let PieceEnd::Message(n) = end {
+            let message = &decoder.buffer()[..n];
+            longest = longest.max(message.len());
+        }
+        at += count;
+    }
+    longest
+}
+
+/// How much of a broken piece was decoded, which is sliced out of the buffer.
+pub fn broken_part<D: FrameDecoder>(decoder: &mut D, bytes: &[u8]) -> usize
+    requires { DecoderAfter (D.bytes decoder.old) (D.phase decoder.old) [] }
+{
+    match decoder.feed_piece(bytes) {
+        Some((PieceEnd::Broken(n), _)) => {
+            let part = &decoder.buffer()[..n];
+            part.len()
+        }
+        _ => 0,
+    }
+}
+
+/// Feeds a zero, which makes any decoder idle and changes no byte, in every phase.
+pub fn resync<D: FrameDecoder>(decoder: &mut D)
+    ensures idle { D.phase decoder.new ≡ Idle }
+    ensures unchanged { D.bytes decoder.new ≡ D.bytes decoder.old }
+{
+    let _ended = decoder.feed_byte(0);
+}
+
+/// All frames of a reader: how many bytes their messages have, each sliced out of the decoder's buffer.
+pub fn total<D: FrameDecoder, S: FrameSource>(reader: &mut FrameReader<D>, source: &mut S) -> usize {
+    let mut total = 0usize;
+    'by_call: for _ in 0..1000 {
+        match reader.next_frame(source) {
+            Ok(Next::Message(n)) => {
+                let message = &reader.decoder().buffer()[..n];
+                total = total.saturating_add(message.len());
+            }
+            Ok(Next::End { unfinished: _ }) => return total,
+            Ok(_) => {}
+            Err(_) => return total,
+        }
+    }
+    total
+}
+
+/// A serial port that keeps a decoder's state beside its buffer.
+pub struct Port {
+    decoder: UnbufferedDecoder,
+    buffer: [u8; 64],
+}
+
+impl Port {
+    /// Handles a byte: the length of the message that it ended.
+    pub fn on_byte(&mut self, byte: u8) -> usize
+        ensures { result ≤ 64 }
+    {
+        match self.decoder.feed(&mut self.buffer, byte) {
+            Ok(Some(len)) => {
+                let message = &self.buffer[..len];
+                message.len()
+            }
+            _ => 0,
+        }
+    }
+}
+
+/// Decodes a frame and its zero: the message is in the caller's slice once the decoder is gone.
+pub fn decode_ended(ended: &[u8], piece: &[u8], dest: &mut [u8]) -> Option<usize>
+    requires piece { IsPiece piece.now }
+    requires ended { ended.now ≡ piece.now ++ 0 ∷ [] }
+    ensures { (m : List ℕ) → (IsSomeAnd result (λ n. BeginsWith dest.new n m)
+        ↔ (Reads piece.now m × (length m ≤ length dest.old))) }
+{
+    let mut decoder = CobsDecoder::new(dest);
+    match decoder.push(ended) {
+        Ok(Some(report)) => Some(report.frame_size()),
+        Ok(None) => None,
+        Err(_) => None,
+    }
+}
+
+/// Encodes a message and decodes its frame: the message comes back.
+pub fn there_and_back(message: &[u8], frame: &mut [u8], buffer: &mut [u8]) -> bool
+    requires room { encoded_len message.now ≤ length frame.old }
+    requires held { length message.now ≤ length buffer.old }
+    ensures { IsTrue result }
+{
+    law_2();
+    law_4();
+    let len = encode(message, frame);
+    match decode(&frame[..len], buffer) {
+        Ok(report) => report.frame_size() == message.len() && buffer.starts_with(message),
+        Err(_) => false,
+    }
+}
+
+/// Appends the frame of a message and a zero to a log that is empty or ends in a zero. Whatever is in the log, what it
+/// tells stays, and the message follows.
+pub fn append_to_log(alloc: Global, log: &[u8], message: &[u8]) -> Result<Vec<u8>, AllocError>
+    requires at_sentinel { IsAtSentinel log.now }
+    requires fits { max_encoded_len (length message.now) < 2 ^ 64 }
+    ensures told { IfOk result (λ longer. (n : ℕ) → length message.now ≤ n
+        → stream_outcomes longer.items n ≡ stream_outcomes log.now n ++ Message message.now ∷ []) }
+    ensures at_sentinel { IfOk result (λ longer. IsAtSentinel longer.items) }
+{
+    law_2();
+    law_4();
+    law_9();
+    law_10();
+    law_11();
+    let mut longer = log.to_vec(alloc)?;
+    let frame = encode_vec(alloc, message)?;
+    longer.extend_from_slice(&frame)?;
+    longer.push(0)?;
+    Ok(longer)
+}
+
+/// A log of two messages.
+pub fn log_of_two(alloc: Global, first: &[u8], second: &[u8]) -> Result<Vec<u8>, AllocError>
+    requires first { max_encoded_len (length first.now) < 2 ^ 64 }
+    requires second { max_encoded_len (length second.now) < 2 ^ 64 }
+    ensures { IfOk result (λ log. IsAtSentinel log.items) }
+{
+    let log = append_to_log(alloc, &[], first)?;
+    append_to_log(alloc, &log, second)
+}
