@@ -7,10 +7,10 @@ ghost use Rattle.cobs.specs.Grammar.{IsCanonical, IsFrame};
 ghost use Rattle.cobs.specs.Piece.{kept_output};
 ghost use Rattle.cobs.specs.Sentinel.{xor_each};
 ghost use Rattle.cobs.specs.Stream.{first_piece, head, outcome_of};
-ghost use Rattle.cobs_c.specs.Answer.{answer_by, head_end};
+ghost use Rattle.cobs_abi.specs.Answer.{answer_by, head_end};
 
-use crate::answer::{Answer, EMPTY, answer_by};
 use cobs::FrameKind;
+use cobs_abi::{Answer, EMPTY, answer_by};
 use memchr::memchr;
 
 /// The bytes are no frame.

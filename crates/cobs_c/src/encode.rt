@@ -3,10 +3,10 @@ ghost use Rattle.std.specs.Prelude.{◌≡◌, ◌≤◌, ◌<◌, ◌+◌, ◌^
 ghost use Rattle.cobs.specs.Grammar.{IsEncodedFrame};
 ghost use Rattle.cobs.specs.Length.{encoded_len, max_encoded_len};
 ghost use Rattle.cobs.specs.Sentinel.{IsEncodedFrameFor};
-ghost use Rattle.cobs_c.specs.Terminated.{IsTerminatedFrame};
+ghost use Rattle.cobs_abi.specs.Terminated.{IsTerminatedFrame};
 
-use crate::answer::{Answer, OK, TOO_SMALL, done, too_small};
 use cobs::{max_encoding_overhead, try_encode, try_encode_with_sentinel};
+use cobs_abi::{Answer, OK, TOO_SMALL, done, too_small};
 
 /// How many bytes the longest frame of a message of `message_len` bytes has, or 0 where that number doesn't fit.
 #[unsafe(no_mangle)]

@@ -4,11 +4,7 @@
 //! them. Of a slice, C passes the pointer and then the length.
 #![tactic(auto)]
 
-mod answer;
 mod decode;
 mod encode;
 mod stream;
 mod text;
-
-pub use answer::Answer;
-pub use stream::{Decoder, Encoder};

@@ -7,69 +7,11 @@ ghost use Rattle.cobs.specs.Grammar.{IsEncodedFrame};
 ghost use Rattle.cobs.specs.Length.{encoded_len};
 ghost use Rattle.cobs.specs.FeedPiece.{TakesPiece};
 ghost use Rattle.cobs.specs.Fields.Encoders.{reached_at};
-ghost use Rattle.cobs_c.specs.Answer.{told};
-ghost use Rattle.cobs_c.specs.State.{held, phase_in, reached_in};
+ghost use Rattle.cobs_abi.specs.Answer.{told};
+ghost use Rattle.cobs_abi.specs.State.{held, phase_in, reached_in};
 
-use crate::answer::{Answer, BROKEN, MORE, OK, TOO_SMALL, done, too_small};
-use cobs::{DecoderPhase, EncoderProgress, PieceEnd, UnbufferedDecoder, UnbufferedEncoder};
-
-/// Where a decoder stands. Each number may be any: zeros alone are the start.
-#[repr(C)]
-#[derive(Clone, Copy)]
-pub struct Decoder {
-    pub written: usize,
-    pub lacking: u8,
-    pub joint: u8,
-    pub too_long: u8,
-}
-
-impl Decoder {
-    /// The numbers of a decoder that stands there.
-    fn at(phase: DecoderPhase) -> Self
-        ensures { phase_in result ≡ phase_at phase }
-    {
-        let (written, lacking, joint, too_long) = match phase {
-            DecoderPhase::Idle => (0, 0, 0, 0),
-            DecoderPhase::Within {
-                is_full,
-                lacking,
-                written,
-            } => (written, lacking, if is_full { 0 } else { 1 }, 0),
-            DecoderPhase::TooLong => (0, 0, 0, 1),
-        };
-        Decoder {
-            written,
-            lacking,
-            joint,
-            too_long,
-        }
-    }
-
-    /// Where a decoder with these numbers stands.
-    fn phase(&self) -> DecoderPhase
-        ensures { phase_at result ≡ phase_in self.now }
-    {
-        if self.too_long != 0 {
-            return DecoderPhase::TooLong;
-        }
-        DecoderPhase::Within {
-            is_full: self.joint == 0,
-            lacking: self.lacking,
-            written: self.written,
-        }
-    }
-
-    /// How many bytes of an open message a buffer of `room` bytes holds.
-    fn held(&self, room: usize) -> usize
-        ensures { result ≡ held room (phase_in self.now) }
-    {
-        if self.too_long != 0 {
-            room
-        } else {
-            self.written.min(room)
-        }
-    }
-}
+use cobs::{PieceEnd, UnbufferedDecoder, UnbufferedEncoder};
+use cobs_abi::{Answer, BROKEN, Decoder, Encoder, MORE, OK, TOO_SMALL, done, end_of, too_small};
 
 /// Makes the decoder one that has taken nothing, whatever stood in it.
 #[unsafe(no_mangle)]
@@ -144,52 +86,6 @@ pub extern "C" fn jcobs_decoder_push(
             consumed,
             length: room,
         },
-    }
-}
-
-/// Where an encoder stands. Each number may be any: zeros alone are the start.
-#[repr(C)]
-#[derive(Clone, Copy)]
-pub struct Encoder {
-    pub index: usize,
-    pub taken: u8,
-    pub full: u8,
-}
-
-impl Encoder {
-    /// The numbers of an encoder that has come so far.
-    fn at(progress: EncoderProgress) -> Self
-        requires { 0 < progress.code }
-        ensures { reached_in result ≡ reached_at progress }
-    {
-        Encoder {
-            index: progress.index,
-            taken: progress.code - 1,
-            full: if progress.is_full { 1 } else { 0 },
-        }
-    }
-
-    /// How far an encoder with these numbers has come.
-    fn progress(&self) -> EncoderProgress
-        ensures { reached_at result ≡ reached_in self.now }
-    {
-        EncoderProgress {
-            index: self.index,
-            code: self.taken.min(254) + 1,
-            is_full: self.full != 0,
-        }
-    }
-}
-
-/// Where the frame ends that has come so far.
-fn end_of(progress: EncoderProgress) -> usize
-    requires { end_of (reached_at progress) < 2 ^ 64 }
-    ensures { result ≡ end_of (reached_at progress) }
-{
-    if progress.is_full {
-        progress.index
-    } else {
-        progress.index + progress.code as usize
     }
 }
 

@@ -1,7 +1,7 @@
 use Rattle.std.proofs.Common.{◌≡◌, ℕ, List, Err, sym, ap, ◌∙◌, length}
 use Rattle.cobs.specs.Decode.{len_through_piece, sized}
 use Rattle.cobs.specs.Stream.{outcome_of}
-use Rattle.cobs_c.specs.Answer.{answer_by}
+use Rattle.cobs_abi.specs.Answer.{answer_by}
 use Rattle.cobs_c.proofs.SourceLemmas.{answer-some, reported-err}
 use Rattle.cobs_c.proofs.decode.jcobs_decode.Goals as goal
 
