@@ -1,4 +1,7 @@
 pub mod Answer
 pub mod State
 pub mod Text
-pub mod Terminated
+pub mod Frames
+pub mod Encode
+pub mod Decode
+pub mod Stream

@@ -7,9 +7,11 @@
 mod answer;
 mod decoder;
 mod encoder;
+mod kind;
 mod text;
 
 pub use answer::{Answer, BROKEN, EMPTY, MORE, OK, TOO_SMALL, answer_by, done, too_small};
 pub use decoder::Decoder;
 pub use encoder::{Encoder, end_of};
+pub use kind::{CANONICAL, LONGER, NOT_A_FRAME};
 pub use text::{VERSION, words};

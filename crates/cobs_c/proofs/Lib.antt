@@ -1,3 +1,4 @@
 mod BrokenLemmas
 mod BufferLemmas
+mod InPlaceLemmas
 mod SourceLemmas

@@ -1,14 +1,6 @@
 //! Streams of frames to messages, and messages in pieces to frames: coders whose state and buffer are C's.
-ghost use Rattle.std.specs.Prelude.{◌≡◌, ◌≢◌, ◌≤◌, ◌<◌, ◌^◌, ◌↔◌, ◌++◌, [], ℕ, List, length, take, drop, false};
-ghost use Rattle.cobs.specs.Fields.Decoders.{phase_at};
-ghost use Rattle.cobs.specs.Feed.{DecoderAfter, Idle};
-ghost use Rattle.cobs.specs.OpenBlock.{CobsEncoderAfter, end_of};
-ghost use Rattle.cobs.specs.Grammar.{IsEncodedFrame};
-ghost use Rattle.cobs.specs.Length.{encoded_len};
-ghost use Rattle.cobs.specs.FeedPiece.{TakesPiece};
-ghost use Rattle.cobs.specs.Fields.Encoders.{reached_at};
-ghost use Rattle.cobs_abi.specs.Answer.{told};
-ghost use Rattle.cobs_abi.specs.State.{held, phase_in, reached_in};
+ghost use Rattle.cobs_abi.specs.Frames.{IsFrameOnWire};
+ghost use Rattle.cobs_abi.specs.Stream.{DecodesNext, EncodesNext, Finishes, IsFreshDecoder, IsFreshEncoder, TellsIdle};
 
 use cobs::{PieceEnd, UnbufferedDecoder, UnbufferedEncoder};
 use cobs_abi::{Answer, BROKEN, Decoder, Encoder, MORE, OK, TOO_SMALL, done, end_of, too_small};
@@ -16,8 +8,7 @@ use cobs_abi::{Answer, BROKEN, Decoder, Encoder, MORE, OK, TOO_SMALL, done, end_
 /// Makes the decoder one that has taken nothing, whatever stood in it.
 #[unsafe(no_mangle)]
 pub extern "C" fn jcobs_decoder_reset(decoder: &mut Decoder)
-    ensures idle { phase_in decoder.new ≡ Idle }
-    ensures after { (buffer : List ℕ) → DecoderAfter buffer (phase_in decoder.new) [] }
+    ensures fresh { IsFreshDecoder decoder.new }
 {
     *decoder = Decoder::at(UnbufferedDecoder::new().phase());
 }
@@ -25,8 +16,7 @@ pub extern "C" fn jcobs_decoder_reset(decoder: &mut Decoder)
 /// Whether no piece is open: 1, or else 0.
 #[unsafe(no_mangle)]
 pub extern "C" fn jcobs_decoder_is_idle(decoder: &Decoder) -> u32
-    ensures idle { phase_in decoder.now ≡ Idle → result ≡ 1 }
-    ensures open { phase_in decoder.now ≢ Idle → result ≡ 0 }
+    ensures idle { TellsIdle decoder.now result }
 {
     let Decoder {
         written,
@@ -49,18 +39,8 @@ pub extern "C" fn jcobs_decoder_push(
     buffer: &mut [u8],
     bytes: &[u8],
 ) -> Answer
-    ensures takes { TakesPiece buffer.old (phase_in decoder.old) bytes.now (told result)
-        buffer.new (phase_in decoder.new) }
-    ensures more { result.status ≡ MORE → result ≡ record {
-      status = MORE;
-      consumed = length bytes.now;
-      length = held (length buffer.old) (phase_in decoder.new);
-    } }
-    ensures too_small { result.status ≡ TOO_SMALL → result.length ≡ length buffer.old }
-    ensures status { result.status ≤ BROKEN }
-    ensures consumed { result.consumed ≤ length bytes.now }
-    ensures bound { result.length ≤ length buffer.old }
-    ensures len { length buffer.new ≡ length buffer.old }
+    ensures decodes { DecodesNext decoder.old buffer.old bytes.now result
+        decoder.new buffer.new }
 {
     let room = buffer.len();
     let mut unbuffered = UnbufferedDecoder::from_phase(decoder.phase());
@@ -92,10 +72,7 @@ pub extern "C" fn jcobs_decoder_push(
 /// Makes the encoder one that has taken nothing, whatever stood in it.
 #[unsafe(no_mangle)]
 pub extern "C" fn jcobs_encoder_reset(encoder: &mut Encoder)
-    ensures start { reached_in encoder.new
-        ≡ record { block = record { index = 0; code = 1 }; full = false } }
-    ensures taken { (buffer : List ℕ) → 0 < length buffer
-        → CobsEncoderAfter buffer (reached_in encoder.new) [] }
+    ensures fresh { IsFreshEncoder encoder.new }
 {
     *encoder = Encoder::at(UnbufferedEncoder::new().progress());
 }
@@ -108,23 +85,8 @@ pub extern "C" fn jcobs_encoder_push(
     buffer: &mut [u8],
     bytes: &[u8],
 ) -> Answer
-    ensures fits { (m : List ℕ) → CobsEncoderAfter buffer.old (reached_in encoder.old) m
-        → ((result.status ≡ OK) ↔ (encoded_len (m ++ bytes.now) ≤ length buffer.old)) }
-    ensures taken { result.status ≡ OK → (m : List ℕ)
-        → CobsEncoderAfter buffer.old (reached_in encoder.old) m
-        → CobsEncoderAfter buffer.new (reached_in encoder.new) (m ++ bytes.now) }
-    ensures answer { result.status ≡ OK → result
-        ≡ record {
-          status = OK;
-          consumed = length bytes.now;
-          length = end_of (reached_in encoder.new);
-        } }
-    ensures too_small { result.status ≢ OK → result
-        ≡ record { status = TOO_SMALL; consumed = 0; length = 0 } }
-    ensures refused { result.status ≢ OK → encoder.new ≡ encoder.old }
-    ensures rest { drop result.length buffer.new ≡ drop result.length buffer.old }
-    ensures bound { result.length ≤ length buffer.old }
-    ensures len { length buffer.new ≡ length buffer.old }
+    ensures encodes { EncodesNext encoder.old buffer.old bytes.now result
+        encoder.new buffer.new }
 {
     let mut unbuffered = UnbufferedEncoder::from_progress(encoder.progress());
     if unbuffered.push(buffer, bytes).is_err() {
@@ -139,24 +101,16 @@ pub extern "C" fn jcobs_encoder_push(
 /// answered length stays within it.
 #[unsafe(no_mangle)]
 pub extern "C" fn jcobs_encoder_finish(encoder: &mut Encoder, buffer: &mut [u8]) -> Answer
-    ensures fits { (m : List ℕ) → CobsEncoderAfter buffer.old (reached_in encoder.old) m
-        → result ≡ record { status = OK; consumed = 0; length = encoded_len m } }
-    ensures frame { result.status ≡ OK → (m : List ℕ)
-        → CobsEncoderAfter buffer.old (reached_in encoder.old) m
-        → IsEncodedFrame (take result.length buffer.new) m }
-    ensures start { result.status ≡ OK
-        → reached_in encoder.new ≡ record { block = record { index = 0; code = 1 }; full = false } }
-    ensures too_small { result.status ≢ OK → result
-        ≡ record { status = TOO_SMALL; consumed = 0; length = 0 } }
-    ensures refused { result.status ≢ OK → encoder.new ≡ encoder.old }
-    ensures rest { drop result.length buffer.new ≡ drop result.length buffer.old }
-    ensures bound { result.length ≤ length buffer.old }
-    ensures len { length buffer.new ≡ length buffer.old }
+    ensures finishes { Finishes 0 IsFrameOnWire encoder.old buffer.old result
+        encoder.new buffer.new }
 {
+    if buffer.is_empty() {
+        return too_small();
+    }
     let mut unbuffered = UnbufferedEncoder::from_progress(encoder.progress());
     match unbuffered.finalize(buffer) {
         Ok(length) => {
-            *encoder = Encoder::at(unbuffered.progress());
+            jcobs_encoder_reset(encoder);
             done(0, length)
         }
         Err(_) => too_small(),
