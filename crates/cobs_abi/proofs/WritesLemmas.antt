@@ -21,7 +21,7 @@ module _ {size taken : ℕ} {IsWanted : List ℕ → Type 0} {buffer : List ℕ}
       (cases_Bool (nat_le size (length buffer)))
 
 -- behind a frame and its terminator a buffer is as it was, where its part in front of the last byte is behind the frame
-behind_terminator : (buffer part : List ℕ) (last end s : ℕ) → length part ≡ last → last < length buffer → end ≤ last → drop end part ≡ drop end (take last buffer)
+pub behind_terminator : (buffer part : List ℕ) (last end s : ℕ) → length part ≡ last → last < length buffer → end ≤ last → drop end part ≡ drop end (take last buffer)
     → drop (end + 1) (set (part ++ drop last buffer) end s) ≡ drop (end + 1) buffer
 behind_terminator buffer part last end s len within short behind =
     let front : length (take last buffer) ≡ last = length-take-le last buffer (omega arith) in

@@ -47,6 +47,7 @@ pub record EncodesNext (encoder : Encoder) (buffer bytes : List ℕ) (result : A
       → ((result.status ≡ OK) ↔ (encoded_len (m ++ bytes) ≤ length buffer))
   pub taken : result.status ≡ OK → (m : List ℕ) → CobsEncoderAfter buffer (reached_in encoder) m
       → CobsEncoderAfter buffer' (reached_in encoder') (m ++ bytes)
+  pub counted : result.status ≡ OK → (m : List ℕ) → CobsEncoderAfter buffer (reached_in encoder) m → result.length ≡ encoded_len (m ++ bytes)
   -- in every state
   pub answer : result.status ≡ OK
       → result ≡ record { status = OK; consumed = length bytes; length = end_of (reached_in encoder') }
@@ -62,6 +63,7 @@ pub record Finishes (added : ℕ) (IsWanted : List ℕ → List ℕ → Type 0) 
   pub writes : (m : List ℕ) → CobsEncoderAfter buffer (reached_in encoder) m
       → Writes (encoded_len m + added) 0 (λ bytes. IsWanted bytes m) buffer result buffer'
   -- in every state
+  pub place : result.status ≡ OK → result.length ≡ end_of (reached_in encoder) + added
   pub fresh : result.status ≡ OK → IsFreshEncoder encoder'
   pub too_small : result.status ≢ OK → result ≡ record { status = TOO_SMALL; consumed = 0; length = 0 }
   pub refused : result.status ≢ OK → encoder' ≡ encoder

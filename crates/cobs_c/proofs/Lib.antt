@@ -1,4 +1,5 @@
 mod BrokenLemmas
 mod BufferLemmas
+mod FinishLemmas
 mod InPlaceLemmas
 mod SourceLemmas

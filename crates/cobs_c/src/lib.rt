@@ -5,6 +5,7 @@
 #![tactic(auto)]
 
 mod decode;
+mod decoder;
 mod encode;
-mod stream;
+mod encoder;
 mod text;

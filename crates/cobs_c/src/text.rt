@@ -30,3 +30,11 @@ pub extern "C" fn jcobs_version() -> u32
 {
     VERSION
 }
+
+/// Returns 1, the version of the interface. Its name carries that version, so that a program of another one can't be linked.
+#[unsafe(no_mangle)]
+pub extern "C" fn jcobs_abi_1() -> u32
+    ensures { result ≡ 1 }
+{
+    1
+}

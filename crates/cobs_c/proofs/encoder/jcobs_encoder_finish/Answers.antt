@@ -1,8 +1,8 @@
 use Rattle.std.proofs.Common.{◌≢◌, ◌∙◌, ℕ, length, refl, sym, ap, subst, arith}
 use Rattle.std.proofs.lemmas.Bool.{eqb-false}
-use Rattle.cobs.specs.OpenBlock.{Reached, CobsEncoderAfter}
+use Rattle.cobs.specs.OpenBlock.{Reached, CobsEncoderAfter, end_of}
 use Rattle.cobs_abi.specs.declared.answer.TheConstants.{OK}
-use Rattle.cobs_c.proofs.stream.jcobs_encoder_finish.Goals as goal
+use Rattle.cobs_c.proofs.encoder.jcobs_encoder_finish.Goals as goal
 
 pub returns-in-Ok : goal.returns-in-Ok
 returns-in-Ok c =
@@ -19,6 +19,7 @@ returns-in-Ok c =
               too_small = λ long. absurd (omega (arith, f.len m taken, f.within));
               rest = f.rest;
             };
+        place = λ _. omega (arith, f.end, ap end_of same);
         fresh = λ _. c.jcobs_encoder_reset.ensures.fresh;
         too_small = λ other. absurd (other refl);
         refused = λ other. absurd (other refl);
@@ -37,6 +38,7 @@ returns-in-Err c =
     record {
       finishes = rw c.too_small-in-Err.ensures (record {
         writes = λ m h. absurd (let e = f.fits m (subst (λ (r : Reached). CobsEncoderAfter c.args.buffer.now r m) (sym same) h) in cc);
+        place = λ ok. absurd (omega (arith, ok));
         fresh = λ ok. absurd (omega (arith, ok));
         too_small = λ _. refl;
         refused = λ _. refl;

@@ -1,7 +1,7 @@
 use Rattle.std.proofs.Common.{Some, ap, ◌∙◌, rules}
 use Rattle.cobs.specs.declared.dec.frame_decoder.PieceEnd.{PieceEnd}
 use Rattle.cobs_c.proofs.BrokenLemmas.{broken-told}
-use Rattle.cobs_c.proofs.stream.jcobs_decoder_push.Goals as goal
+use Rattle.cobs_c.proofs.decoder.jcobs_decoder_push.Goals as goal
 
 pub returns-in-Broken : goal.returns-in-Broken
 returns-in-Broken c =
