@@ -1,4 +1,3 @@
-mod BrokenLemmas
 mod BufferLemmas
 mod FinishLemmas
 mod InPlaceLemmas
