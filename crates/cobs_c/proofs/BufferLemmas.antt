@@ -1,26 +1,8 @@
 -- What stands in a buffer.
-use Rattle.std.proofs.Common.{◌≡◌, ℕ, ◌+◌, ◌-◌, ◌<◌, ◌≤◌, min, List, [], ◌∷◌, ◌++◌, length, take, drop, set, get_or, sym, ap, ◌∙◌, arith, length-append, length-take-le, take-append-drop, take_all, append_assoc, nat_le, true, false, ⊎_elim}
-use Rattle.std.proofs.lemmas.List.{drop-append-le, drop-drop, drop-set-lt, drop_more, set_at, take_more_set, take-append-le}
+use Rattle.std.proofs.Common.{◌≡◌, ℕ, ◌+◌, ◌-◌, ◌<◌, ◌≤◌, min, List, [], ◌∷◌, ◌++◌, length, take, drop, set, get_or, sym, ap, ◌∙◌, arith, length-append, length-take-le, take_all, append_assoc, nat_le, true, false, ⊎_elim}
+use Rattle.std.proofs.lemmas.List.{drop_more, set_at}
 use Rattle.std.proofs.lemmas.Bool.{leb-true, leb-false, cases_Bool}
 use Rattle.cobs.specs.Overwritten.{overwritten}
-
--- behind a frame and its terminator a buffer is as it was, where its part in front of the last byte is behind the frame
-pub behind_terminator : (buffer part : List ℕ) (last end s : ℕ) → length part ≡ last → last < length buffer → end ≤ last → drop end part ≡ drop end (take last buffer)
-    → drop (end + 1) (set (part ++ drop last buffer) end s) ≡ drop (end + 1) buffer
-behind_terminator buffer part last end s len within short behind =
-    let front : length (take last buffer) ≡ last = length-take-le last buffer (omega arith) in
-    let same : drop end (part ++ drop last buffer) ≡ drop end buffer =
-    drop-append-le end part (drop last buffer) (omega arith) ∙ ap (λ (l : List ℕ). l ++ drop last buffer) behind
-    ∙ sym (drop-append-le end (take last buffer) (drop last buffer) (omega arith)) ∙ ap (drop end) (take-append-drop last buffer) in
-    let next : end + 1 ≡ 1 + end = omega arith in
-    drop-set-lt (end + 1) (part ++ drop last buffer) end s (omega arith)
-    ∙ sym (drop-drop 1 end (part ++ drop last buffer)) ∙ ap (drop 1) same ∙ drop-drop 1 end buffer
-
--- and it begins with the frame and the terminator
-pub terminated : (part rest : List ℕ) (end s : ℕ) → end ≤ length part → 0 < length rest → take (end + 1) (set (part ++ rest) end s) ≡ take end part ++ s ∷ []
-terminated part rest end s within some =
-    let l = length-append part rest in
-    take_more_set (part ++ rest) end s (omega arith) ∙ ap (λ (xs : List ℕ). xs ++ s ∷ []) (take-append-le end part rest within)
 
 -- words with a zero behind, as far as both fit
 pub words-written : (text words : List ℕ) (end : ℕ) → 0 < length text → end ≡ min (length words) (length text - 1)

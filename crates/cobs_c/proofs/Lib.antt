@@ -1,3 +1,4 @@
-mod BrokenLemmas
 mod BufferLemmas
+mod FinishLemmas
+mod InPlaceLemmas
 mod SourceLemmas

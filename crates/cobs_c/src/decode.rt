@@ -1,26 +1,15 @@
 //! Whole frames to messages.
-ghost use Rattle.std.specs.Prelude.{◌≡◌, ◌≢◌, ◌≤◌, ◌<◌, ◌↔◌, ℕ, List, length, take, slice_index, IfSome, Some, None};
+ghost use Rattle.std.specs.Prelude.{◌≡◌, ◌≢◌, ◌≤◌, ◌<◌, ℕ, List, length, take, slice_index, IfSome, Some, None};
 ghost use Rattle.std.specs.List.{All};
-ghost use Rattle.cobs.specs.Overwritten.{overwritten};
-ghost use Rattle.cobs.specs.Decode.{len_through_piece, first_output, in_place, in_place_answer, leading_zeros, sized, source_answer};
-ghost use Rattle.cobs.specs.Grammar.{IsCanonical, IsFrame};
-ghost use Rattle.cobs.specs.Piece.{kept_output};
+ghost use Rattle.cobs.specs.Decode.{len_through_piece, leading_zeros};
 ghost use Rattle.cobs.specs.Sentinel.{xor_each};
-ghost use Rattle.cobs.specs.Stream.{first_piece, head, outcome_of};
-ghost use Rattle.cobs_c.specs.Answer.{answer_by, head_end};
+ghost use Rattle.cobs.specs.Stream.{first_piece};
+ghost use Rattle.cobs_abi.specs.Answer.{head_end};
+ghost use Rattle.cobs_abi.specs.Decode.{Decodes, DecodesFor, DecodesInPlace, DecodesInPlaceFor, IsKindOf};
 
-use crate::answer::{Answer, EMPTY, answer_by};
 use cobs::FrameKind;
+use cobs_abi::{Answer, CANONICAL, EMPTY, LONGER, NOT_A_FRAME, answer_by, done};
 use memchr::memchr;
-
-/// The bytes are no frame.
-pub const NOT_A_FRAME: u32 = 0;
-
-/// The bytes are the frame that encoders write for its message.
-pub const CANONICAL: u32 = 1;
-
-/// The bytes are that frame with a 1 after it.
-pub const LONGER: u32 = 2;
 
 /// Where the first sentinel stands, or how many bytes there are where none does.
 fn first_sentinel(bytes: &[u8], sentinel: u8) -> usize
@@ -73,12 +62,7 @@ fn first_piece_end(source: &[u8]) -> Option<usize>
 /// The first frame of the source, decoded to the front of `message`.
 #[unsafe(no_mangle)]
 pub extern "C" fn jcobs_decode(source: &[u8], message: &mut [u8]) -> Answer
-    ensures none { first_piece source.now ≡ None
-        → result ≡ record { status = EMPTY; consumed = length source.now; length = 0 } }
-    ensures some { (p : List ℕ) → first_piece source.now ≡ Some p
-        → result ≡ answer_by (len_through_piece source.now p) (length message.old)
-        (sized (outcome_of p (length message.old))) }
-    ensures buffer { message.new ≡ overwritten message.old (first_output source.now) }
+    ensures decodes { Decodes source.now message.old result message.new }
 {
     let room = message.len();
     match cobs::decode(source, message) {
@@ -101,11 +85,7 @@ pub extern "C" fn jcobs_decode_with_sentinel(
     message: &mut [u8],
     sentinel: u8,
 ) -> Answer
-    ensures answer { let s = xor_each sentinel source.now in
-        result ≡ answer_by (head_end s) (length message.old)
-        (source_answer s (length message.old)) }
-    ensures buffer { message.new
-        ≡ overwritten message.old (kept_output (head (xor_each sentinel source.now))) }
+    ensures decodes { DecodesFor sentinel source.now message.old result message.new }
 {
     let room = message.len();
     let consumed = head_end(source, sentinel);
@@ -119,9 +99,7 @@ pub extern "C" fn jcobs_decode_with_sentinel(
 /// The frame at the front of the buffer, decoded in its own place.
 #[unsafe(no_mangle)]
 pub extern "C" fn jcobs_decode_in_place(buffer: &mut [u8]) -> Answer
-    ensures answer { result
-        ≡ answer_by (head_end buffer.old) (length buffer.old) (in_place_answer buffer.old) }
-    ensures buffer { buffer.new ≡ in_place buffer.old }
+    ensures decodes { DecodesInPlace buffer.old result buffer.new }
 {
     let room = buffer.len();
     let consumed = head_end(buffer, 0);
@@ -131,25 +109,26 @@ pub extern "C" fn jcobs_decode_in_place(buffer: &mut [u8]) -> Answer
 /// The frame at the front of the buffer, for this sentinel, decoded in its own place.
 #[unsafe(no_mangle)]
 pub extern "C" fn jcobs_decode_in_place_with_sentinel(buffer: &mut [u8], sentinel: u8) -> Answer
-    ensures answer { let s = xor_each sentinel buffer.old in
-        result ≡ answer_by (head_end s) (length buffer.old) (in_place_answer s) }
-    ensures buffer { buffer.new ≡ in_place (xor_each sentinel buffer.old) }
+    ensures decodes { DecodesInPlaceFor sentinel buffer.old result buffer.new }
 {
     let room = buffer.len();
-    let consumed = head_end(buffer, sentinel);
+    let end = first_sentinel(buffer, sentinel);
+    if end == 0 && room != 0 {
+        return done(1, 0);
+    }
+    let consumed = room.min(end + 1);
+    let frame = &mut buffer[..end];
     answer_by(
         consumed,
         room,
-        cobs::decode_in_place_with_sentinel(buffer, sentinel),
+        cobs::decode_in_place_with_sentinel(frame, sentinel),
     )
 }
 
 /// Whether the bytes are a frame, and which one of its message.
 #[unsafe(no_mangle)]
 pub extern "C" fn jcobs_frame_kind(bytes: &[u8]) -> u32
-    ensures not_a_frame { (result ≡ NOT_A_FRAME) ↔ ¬ IsFrame bytes.now }
-    ensures canonical { (result ≡ CANONICAL) ↔ IsCanonical bytes.now }
-    ensures longer { (result ≡ LONGER) ↔ (IsFrame bytes.now × ¬ IsCanonical bytes.now) }
+    ensures kind { IsKindOf bytes.now result }
 {
     match cobs::frame_kind(bytes) {
         FrameKind::NotAFrame => NOT_A_FRAME,

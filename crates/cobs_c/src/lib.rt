@@ -4,11 +4,8 @@
 //! them. Of a slice, C passes the pointer and then the length.
 #![tactic(auto)]
 
-mod answer;
 mod decode;
+mod decoder;
 mod encode;
-mod stream;
+mod encoder;
 mod text;
-
-pub use answer::Answer;
-pub use stream::{Decoder, Encoder};

@@ -1,26 +1,9 @@
 //! What a status means in words, and the library's version.
 ghost use Rattle.std.specs.Prelude.{◌≡◌, ◌-◌, ◌∷◌, ◌++◌, [], length, take};
 ghost use Rattle.cobs.specs.Overwritten.{overwritten};
-ghost use Rattle.cobs_c.specs.Text.{words};
+ghost use Rattle.cobs_abi.specs.Text.{words};
 
-use crate::answer::{BROKEN, EMPTY, MORE, OK, TOO_SMALL};
-
-/// The version, 10,000 times the major number, 100 times the minor one, and the patch's.
-pub const VERSION: u32 = 10000;
-
-/// What a status means.
-fn words(status: u32) -> &'static str
-    ensures { result.now ≡ words status }
-{
-    match status {
-        OK => "done",
-        MORE => "more bytes are needed",
-        TOO_SMALL => "the buffer is too small",
-        BROKEN => "the frame breaks off inside a block",
-        EMPTY => "there is no frame",
-        _ => "unknown status",
-    }
-}
+use cobs_abi::{VERSION, words};
 
 /// What a status means, written to the front of `text` as far as it fits, with a zero after it. The answer is the length of
 /// all the words.
@@ -46,4 +29,12 @@ pub extern "C" fn jcobs_version() -> u32
     ensures { result ≡ VERSION }
 {
     VERSION
+}
+
+/// Returns 1, the version of the interface. Its name carries that version, so that a program of another one can't be linked.
+#[unsafe(no_mangle)]
+pub extern "C" fn jcobs_abi_1() -> u32
+    ensures { result ≡ 1 }
+{
+    1
 }

@@ -1,15 +1,22 @@
 use Rattle.std.proofs.Common.{◌≡◌, ℕ, List, Err, sym, ap, ◌∙◌, length}
 use Rattle.cobs.specs.Decode.{len_through_piece, sized}
 use Rattle.cobs.specs.Stream.{outcome_of}
-use Rattle.cobs_c.specs.Answer.{answer_by}
+use Rattle.cobs_abi.specs.Answer.{answer_by}
 use Rattle.cobs_c.proofs.SourceLemmas.{answer-some, reported-err}
 use Rattle.cobs_c.proofs.decode.jcobs_decode.Goals as goal
 
-pub returns-in-Some-clause-some : goal.returns-in-Some-clause-some
-returns-in-Some-clause-some c = λ p is.
+pub returns-in-Some : goal.returns-in-Some
+returns-in-Some c =
     let source : List ℕ = c.args.source.now in
     let n : ℕ = length c.args.message.now in
     let found = c.in-Some.ensures.some in
-    let same : found.0 ≡ p = let e = sym found.1 ∙ is in cc in
-    let refused = reported-err (len_through_piece source p) (sized (outcome_of p n)) c.in-Err.error (c.in-Err.ensures.answer ∙ answer-some source p n is) in
-    c.answer_by-in-Some.ensures ∙ ap (λ (k : ℕ). answer_by k n (Err c.in-Err.error)) (found.2 ∙ ap (len_through_piece source) same) ∙ ap (answer_by (len_through_piece source p) n) refused
+    record {
+      decodes = record {
+        none = λ is. absurd (let e = sym found.1 ∙ is in cc);
+        some = λ p is.
+            let same : found.0 ≡ p = let e = sym found.1 ∙ is in cc in
+            let refused = reported-err (len_through_piece source p) (sized (outcome_of p n)) c.in-Err.error (c.in-Err.ensures.answer ∙ answer-some source p n is) in
+            c.answer_by-in-Some.ensures ∙ ap (λ (k : ℕ). answer_by k n (Err c.in-Err.error)) (found.2 ∙ ap (len_through_piece source) same) ∙ ap (answer_by (len_through_piece source p) n) refused;
+        buffer = c.decode.ensures.buffer;
+      };
+    }

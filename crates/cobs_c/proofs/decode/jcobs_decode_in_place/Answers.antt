@@ -1,11 +1,16 @@
 use Rattle.std.proofs.Common.{ℕ, ap, ◌∙◌, length}
-use Rattle.cobs_c.specs.Answer.{answer_by, head_end}
+use Rattle.cobs_abi.specs.Answer.{answer_by, head_end}
 use Rattle.cobs_c.proofs.SourceLemmas.{xor_each-zero}
 use Rattle.cobs_c.proofs.decode.jcobs_decode_in_place.Goals as goal
 
-pub returns-clause-answer : goal.returns-clause-answer
-returns-clause-answer c =
+pub returns : goal.returns
+returns c =
     let n : ℕ = length c.args.buffer.now in
-    c.answer_by.ensures
-    ∙ ap (λ (k : ℕ). answer_by k n c.decode_in_place.result) (c.head_end-consumed.ensures.end ∙ ap head_end (xor_each-zero c.args.buffer.now))
-    ∙ ap (answer_by (head_end c.args.buffer.now) n) c.decode_in_place.ensures.answer
+    record {
+      decodes = record {
+        answer = c.answer_by.ensures
+            ∙ ap (λ (k : ℕ). answer_by k n c.decode_in_place.result) (c.head_end-consumed.ensures.end ∙ ap head_end (xor_each-zero c.args.buffer.now))
+            ∙ ap (answer_by (head_end c.args.buffer.now) n) c.decode_in_place.ensures.answer;
+        buffer = c.decode_in_place.ensures.buffer;
+      };
+    }

@@ -1,12 +1,14 @@
-use Rattle.std.proofs.Common.{◌≢◌, ◌-◌, length, length-take-le, refl, sym, ◌∙◌, arith}
+use Rattle.std.proofs.Common.{◌≢◌, ◌-◌, ℕ, List, length, length-take-le, refl, sym, ◌∙◌, arith}
 use Rattle.std.proofs.lemmas.Bool.{eqb-false}
-use Rattle.cobs_c.proofs.BufferLemmas.{behind_terminator}
+use Rattle.cobs_abi.proofs.WritesLemmas.{Writes-terminated}
 use Rattle.cobs_c.proofs.encode.jcobs_encode_terminated_with_sentinel.Goals as goal
 
-pub returns-in-Ok-clause-rest : goal.returns-in-Ok-clause-rest
-returns-in-Ok-clause-rest c =
+pub returns : goal.returns
+returns c =
     let some : length c.args.frame.now ≢ 0 = eqb-false _ 0 (sym c.is_empty.ensures ∙ c.if-is_empty.false) in
-    let fits = c.in-Ok.ensures.fits.0 refl in
-    let whole = length-take-le (length c.args.frame.now - 1) c.args.frame.now (omega arith) in
-    let len = c.in-Ok.ensures.len in
-    rw c.done.ensures (behind_terminator c.args.frame.now c.try_encode_with_sentinel.new.dest (length c.args.frame.now - 1) c.in-Ok.end c.args.sentinel (omega (arith, whole, c.try_encode_with_sentinel.auto.dest)) (omega arith) (omega arith) c.in-Ok.ensures.rest)
+    let last : ℕ = length c.args.frame.now - 1 in
+    let front = length-take-le last c.args.frame.now (omega arith) in
+    record {
+      encodes = rw c.done.ensures (Writes-terminated last c.args.sentinel (omega (arith, some)) (omega (arith, front, c.jcobs_encode_with_sentinel-answer.auto.frame))
+          c.jcobs_encode_with_sentinel-answer.ensures.encodes c.if-answer-ne-OK.false (λ (f : List ℕ) w. (f, w, refl)));
+    }

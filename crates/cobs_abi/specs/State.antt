@@ -3,8 +3,8 @@ use Rattle.std.specs.Prelude.{ℕ, ◌+◌, ◌==◌, not, min, if◌then◌else
 use Rattle.cobs.specs.Fields.Decoders.{phase_with}
 use Rattle.cobs.specs.Feed.{Phase, Idle, Within, Over}
 use Rattle.cobs.specs.OpenBlock.{Reached}
-use Rattle.cobs_c.specs.declared.stream.Decoder.{Decoder}
-use Rattle.cobs_c.specs.declared.stream.Encoder.{Encoder}
+use Rattle.cobs_abi.specs.declared.decoder.Decoder.{Decoder}
+use Rattle.cobs_abi.specs.declared.encoder.Encoder.{Encoder}
 
 -- where a decoder stands, whatever its numbers are
 abbrev pub phase_in : Decoder → Phase

@@ -1,6 +1,6 @@
 -- What a status means in words.
 use Rattle.std.specs.Prelude.{ℕ, ◌==◌, List, codes, if◌then◌else◌}
-use Rattle.cobs_c.specs.declared.answer.TheConstants.{OK, MORE, TOO_SMALL, BROKEN, EMPTY}
+use Rattle.cobs_abi.specs.declared.answer.TheConstants.{OK, MORE, TOO_SMALL, BROKEN, EMPTY}
 
 abbrev pub words : ℕ → List ℕ
 words status =

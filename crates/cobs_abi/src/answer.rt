@@ -1,6 +1,6 @@
 //! What a call answers, as C sees it.
 ghost use Rattle.std.specs.Prelude.{◌≡◌};
-ghost use Rattle.cobs_c.specs.Answer.{answer_by};
+ghost use Rattle.cobs_abi.specs.Answer.{answer_by};
 
 use cobs::DecodeError;
 
@@ -29,7 +29,7 @@ pub struct Answer {
 }
 
 /// The answer of a call that did what it is for: so many bytes taken, and so many at the front of the buffer.
-pub(crate) fn done(consumed: usize, length: usize) -> Answer
+pub fn done(consumed: usize, length: usize) -> Answer
     ensures { result ≡ record { status = OK; consumed = consumed; length = length } }
 {
     Answer {
@@ -40,7 +40,7 @@ pub(crate) fn done(consumed: usize, length: usize) -> Answer
 }
 
 /// The answer of a call that took and left nothing, since the buffer is too short.
-pub(crate) fn too_small() -> Answer
+pub fn too_small() -> Answer
     ensures { result ≡ record { status = TOO_SMALL; consumed = 0; length = 0 } }
 {
     Answer {
@@ -52,7 +52,7 @@ pub(crate) fn too_small() -> Answer
 
 /// The answer of a decoding call that took so many bytes, into a buffer of `room` bytes, by the message's length or the
 /// refusal.
-pub(crate) fn answer_by(consumed: usize, room: usize, size: Result<usize, DecodeError>) -> Answer
+pub fn answer_by(consumed: usize, room: usize, size: Result<usize, DecodeError>) -> Answer
     ensures { result ≡ answer_by consumed room size }
 {
     let (status, length) = match size {

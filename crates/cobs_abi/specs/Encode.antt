@@ -1,0 +1,27 @@
+-- What the calls that write frames ensure.
+use Rattle.std.specs.Prelude.{◌≡◌, ◌≤◌, ◌<◌, ◌+◌, ℕ, List, length, take, drop}
+use Rattle.cobs.specs.Length.{encoded_len}
+use Rattle.cobs_abi.specs.Frames.{IsFrameOnWire, IsFrameOnWireFor, IsTerminatedFrame}
+use Rattle.cobs_abi.specs.declared.answer.Answer.{Answer}
+use Rattle.cobs_abi.specs.declared.answer.TheConstants.{OK, TOO_SMALL}
+
+-- If `size` bytes fit the buffer, it begins with bytes of which the fact holds, so many, and the call has taken `taken`
+-- bytes. Otherwise the call takes and changes nothing.
+pub record Writes (size taken : ℕ) (IsWanted : List ℕ → Type 0) (buffer : List ℕ) (result : Answer) (buffer' : List ℕ) : Type 0 where
+  pub fits : size ≤ length buffer → result ≡ record { status = OK; consumed = taken; length = size }
+  pub wanted : size ≤ length buffer → IsWanted (take result.length buffer')
+  pub too_small : length buffer < size → result ≡ record { status = TOO_SMALL; consumed = 0; length = 0 }
+  pub rest : drop result.length buffer' ≡ drop result.length buffer
+
+-- `jcobs_encode`
+abbrev pub Encodes : List ℕ → List ℕ → Answer → List ℕ → Type 0
+Encodes message buffer result buffer' = Writes (encoded_len message) (length message) (λ f. IsFrameOnWire f message) buffer result buffer'
+
+-- `jcobs_encode_with_sentinel`
+abbrev pub EncodesFor : ℕ → List ℕ → List ℕ → Answer → List ℕ → Type 0
+EncodesFor s message buffer result buffer' = Writes (encoded_len message) (length message) (λ f. IsFrameOnWireFor s f message) buffer result buffer'
+
+-- `jcobs_encode_terminated`, for 0, and `jcobs_encode_terminated_with_sentinel`
+abbrev pub EncodesTerminated : ℕ → List ℕ → List ℕ → Answer → List ℕ → Type 0
+EncodesTerminated s message buffer result buffer' =
+    Writes (encoded_len message + 1) (length message) (λ f. IsTerminatedFrame s f message) buffer result buffer'

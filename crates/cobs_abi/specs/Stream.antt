@@ -1,0 +1,73 @@
+-- What the calls over a state and a buffer of the caller's ensure.
+use Rattle.std.specs.Prelude.{◌≡◌, ◌≢◌, ◌≤◌, ◌<◌, ◌+◌, ◌↔◌, ◌++◌, [], ℕ, List, length, drop, false}
+use Rattle.cobs.specs.Feed.{DecoderAfter, Idle}
+use Rattle.cobs.specs.FeedPiece.{TakesPiece}
+use Rattle.cobs.specs.Length.{encoded_len}
+use Rattle.cobs.specs.OpenBlock.{CobsEncoderAfter, end_of}
+use Rattle.cobs_abi.specs.Answer.{told}
+use Rattle.cobs_abi.specs.Encode.{Writes}
+use Rattle.cobs_abi.specs.State.{held, phase_in, reached_in}
+use Rattle.cobs_abi.specs.declared.answer.Answer.{Answer}
+use Rattle.cobs_abi.specs.declared.answer.TheConstants.{OK, MORE, TOO_SMALL, BROKEN}
+use Rattle.cobs_abi.specs.declared.decoder.Decoder.{Decoder}
+use Rattle.cobs_abi.specs.declared.encoder.Encoder.{Encoder}
+
+-- `jcobs_decoder_reset`: the decoder has taken nothing
+pub record IsFreshDecoder (decoder : Decoder) : Type 0 where
+  pub idle : phase_in decoder ≡ Idle
+  pub after : (buffer : List ℕ) → DecoderAfter buffer (phase_in decoder) []
+
+-- `jcobs_decoder_is_idle`
+pub record TellsIdle (decoder : Decoder) (result : ℕ) : Type 0 where
+  pub idle : phase_in decoder ≡ Idle → result ≡ 1
+  pub open_piece : phase_in decoder ≢ Idle → result ≡ 0
+
+-- `jcobs_decoder_push`, `jcobs_decoder_feed` of one byte, and `jcobs_decoder_push_with_sentinel` of bytes that are XORed
+-- with the sentinel: the decoder takes the bytes through the zero that ends the first piece, or all of them
+pub record DecodesNext (decoder : Decoder) (buffer bytes : List ℕ) (result : Answer) (decoder' : Decoder) (buffer' : List ℕ) : Type 0 where
+  pub takes : TakesPiece buffer (phase_in decoder) bytes (told result) buffer' (phase_in decoder')
+  pub more : result.status ≡ MORE
+      → result ≡ record { status = MORE; consumed = length bytes; length = held (length buffer) (phase_in decoder') }
+  pub too_small : result.status ≡ TOO_SMALL → result.length ≡ length buffer
+  -- in every state
+  pub status : result.status ≤ BROKEN
+  pub consumed : result.consumed ≤ length bytes
+  pub bound : result.length ≤ length buffer
+  pub len : length buffer' ≡ length buffer
+
+-- `jcobs_encoder_reset`: the encoder has taken nothing
+pub record IsFreshEncoder (encoder : Encoder) : Type 0 where
+  pub start : reached_in encoder ≡ record { block = record { index = 0; code = 1 }; full = false }
+  pub taken : (buffer : List ℕ) → 0 < length buffer → CobsEncoderAfter buffer (reached_in encoder) []
+
+-- `jcobs_encoder_push`, and `jcobs_encoder_feed` of one byte: the encoder takes the bytes, if the frame of all that it has
+-- taken fits
+pub record EncodesNext (encoder : Encoder) (buffer bytes : List ℕ) (result : Answer) (encoder' : Encoder) (buffer' : List ℕ) : Type 0 where
+  pub fits : (m : List ℕ) → CobsEncoderAfter buffer (reached_in encoder) m
+      → ((result.status ≡ OK) ↔ (encoded_len (m ++ bytes) ≤ length buffer))
+  pub taken : result.status ≡ OK → (m : List ℕ) → CobsEncoderAfter buffer (reached_in encoder) m
+      → CobsEncoderAfter buffer' (reached_in encoder') (m ++ bytes)
+  pub counted : result.status ≡ OK → (m : List ℕ) → CobsEncoderAfter buffer (reached_in encoder) m → result.length ≡ encoded_len (m ++ bytes)
+  -- in every state
+  pub answer : result.status ≡ OK
+      → result ≡ record { status = OK; consumed = length bytes; length = end_of (reached_in encoder') }
+  pub too_small : result.status ≢ OK → result ≡ record { status = TOO_SMALL; consumed = 0; length = 0 }
+  pub refused : result.status ≢ OK → encoder' ≡ encoder
+  pub rest : drop result.length buffer' ≡ drop result.length buffer
+  pub bound : result.length ≤ length buffer
+  pub len : length buffer' ≡ length buffer
+
+-- `jcobs_encoder_finish` and its forms, by how many bytes are added to a frame, and by what is written for a message: the
+-- encoder ends the message, if what is to be written fits
+pub record Finishes (added : ℕ) (IsWanted : List ℕ → List ℕ → Type 0) (encoder : Encoder) (buffer : List ℕ) (result : Answer) (encoder' : Encoder) (buffer' : List ℕ) : Type 0 where
+  pub writes : (m : List ℕ) → CobsEncoderAfter buffer (reached_in encoder) m
+      → Writes (encoded_len m + added) 0 (λ bytes. IsWanted bytes m) buffer result buffer'
+  -- in every state
+  pub place : result.status ≡ OK → result.length ≡ end_of (reached_in encoder) + added
+  pub fresh : result.status ≡ OK → IsFreshEncoder encoder'
+  pub too_small : result.status ≢ OK → result ≡ record { status = TOO_SMALL; consumed = 0; length = 0 }
+  pub refused : result.status ≢ OK → encoder' ≡ encoder
+  pub empty : length buffer ≡ 0 → result ≡ record { status = TOO_SMALL; consumed = 0; length = 0 }
+  pub rest : drop result.length buffer' ≡ drop result.length buffer
+  pub bound : result.length ≤ length buffer
+  pub len : length buffer' ≡ length buffer

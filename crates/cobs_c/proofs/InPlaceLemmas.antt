@@ -1,0 +1,72 @@
+-- A frame that is decoded in its own place, and nothing after it.
+use Rattle.std.proofs.Common.{◌≡◌, ◌≢◌, ◌∙◌, ◌⊎◌, inl, inr, ◌++◌, ◌+◌, ◌<◌, ◌≤◌, ℕ, List, [], ◌∷◌, All, length, take, drop, min, get_or, refl, sym, ap, subst, arith, take_all, length-take-le}
+use Rattle.std.proofs.lemmas.List.{length-map}
+use Rattle.std.specs.Int.Bits.{bit_xor}
+use Rattle.cobs.specs.Decode.{head_answer, in_place, in_place_answer}
+use Rattle.cobs.specs.Overwritten.{overwritten}
+use Rattle.cobs.specs.Piece.{kept_output}
+use Rattle.cobs.specs.Sentinel.{xor_each}
+use Rattle.cobs.specs.Stream.{head}
+use Rattle.cobs.proofs.HeadLemmas.{front_is_head}
+use Rattle.cobs.proofs.SourceSteps.{xor_head, xor_no_zero}
+use Rattle.cobs_abi.specs.Answer.{answer_by, head_end}
+use Rattle.cobs_abi.specs.declared.answer.TheConstants.{OK}
+
+-- the answer to a list is the one to what is in front of its first zero
+same_answer : (g t : List ℕ) → g ≡ head t → head g ≡ g → (length t ≡ 0) ⊎ (length g ≢ 0) → in_place_answer g ≡ in_place_answer t
+unfolding head
+same_answer [] [] e h some = refl
+same_answer [] (b ∷ t) e h some = elim some [ inl none ↦ absurd (omega (arith, none)) | inr some ↦ absurd (some refl) ]
+same_answer (x ∷ g) [] e h some = absurd cc
+same_answer (x ∷ g) (b ∷ t) e h some = ap head_answer (h ∙ e)
+
+empty_answer : (t : List ℕ) (n : ℕ) → head t ≡ [] → length t ≢ 0 → record { status = OK; consumed = 1; length = 0 } ≡ answer_by (head_end t) n (in_place_answer t)
+empty_answer [] n e some = absurd (some refl)
+empty_answer (b ∷ t) n e some =
+    let one : head_end (b ∷ t) ≡ 1 = omega (arith, ap length e) in
+    sym (ap (λ (h : List ℕ). answer_by (head_end (b ∷ t)) n (head_answer h)) e ∙ ap (λ (k : ℕ). record { status = OK; consumed = k; length = 0 }) one)
+
+nothing_written : (xs buffer : List ℕ) → buffer ≡ overwritten [] xs ++ drop 0 buffer
+nothing_written [] buffer = refl
+nothing_written (x ∷ xs) buffer = refl
+
+module _ (buffer : List ℕ) (end s : ℕ) (within : end ≤ length buffer) (before : All (λ byte. byte ≢ s) (take end buffer)) (stop : end < length buffer → get_or buffer end 0 ≡ s) where
+  front : List ℕ
+  front = xor_each s (take end buffer)
+
+  is_head : xor_each s (take end buffer) ≡ head (xor_each s buffer)
+  is_head = xor_head buffer end s within before stop
+
+  len : length (xor_each s (take end buffer)) ≡ end
+  len = length-map (take end buffer) (λ b. bit_xor b s) ∙ length-take-le end buffer within
+
+  head_of_front : head (xor_each s (take end buffer)) ≡ xor_each s (take end buffer)
+  head_of_front =
+      let f : List ℕ = xor_each s (take end buffer) in
+      let whole : take (length f) f ≡ f = take_all (length f) f (omega arith) in
+      sym (front_is_head f (length f) (omega arith) (subst (λ (x : List ℕ). All (λ b. b ≢ 0) x) (sym whole) (xor_no_zero buffer end s within before stop)) (λ more. absurd (omega arith))) ∙ whole
+
+  pub front-end : min (length buffer) (end + 1) ≡ head_end (xor_each s buffer)
+  front-end = omega (arith, len, ap length is_head, length-map buffer (λ b. bit_xor b s))
+
+  pub front-answer : (end ≡ 0 × length buffer ≡ 0) ⊎ (end ≢ 0) → in_place_answer (xor_each s (take end buffer)) ≡ in_place_answer (xor_each s buffer)
+  front-answer some =
+      same_answer (xor_each s (take end buffer)) (xor_each s buffer) is_head head_of_front
+      (elim some [ inl none ↦ inl (length-map buffer (λ b. bit_xor b s) ∙ none.1) | inr some ↦ inr (λ none. some (sym len ∙ none)) ])
+
+  pub front-buffer : in_place (xor_each s (take end buffer)) ++ drop end buffer ≡ (let frame = head (xor_each s buffer) in overwritten frame (kept_output frame) ++ drop (length frame) buffer)
+  front-buffer =
+      ap (λ (h : List ℕ). overwritten (xor_each s (take end buffer)) (kept_output h) ++ drop end buffer) head_of_front
+      ∙ ap (λ (k : ℕ). overwritten (xor_each s (take end buffer)) (kept_output (xor_each s (take end buffer))) ++ drop k buffer) (sym len)
+      ∙ ap (λ (f : List ℕ). overwritten f (kept_output f) ++ drop (length f) buffer) is_head
+
+  -- a sentinel in front
+  module _ (none : end ≡ 0) (some : length buffer ≢ 0) where
+    no_head : head (xor_each s buffer) ≡ []
+    no_head = sym is_head ∙ ap (λ (k : ℕ). xor_each s (take k buffer)) none
+
+    pub sentinel-answer : (n : ℕ) → record { status = OK; consumed = 1; length = 0 } ≡ answer_by (head_end (xor_each s buffer)) n (in_place_answer (xor_each s buffer))
+    sentinel-answer n = empty_answer (xor_each s buffer) n no_head (λ e. some (sym (length-map buffer (λ b. bit_xor b s)) ∙ e))
+
+    pub sentinel-buffer : buffer ≡ (let frame = head (xor_each s buffer) in overwritten frame (kept_output frame) ++ drop (length frame) buffer)
+    sentinel-buffer = nothing_written (kept_output []) buffer ∙ sym (ap (λ (f : List ℕ). overwritten f (kept_output f) ++ drop (length f) buffer) no_head)

@@ -1,4 +1,0 @@
-pub mod Answer
-pub mod State
-pub mod Text
-pub mod Terminated

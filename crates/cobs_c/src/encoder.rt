@@ -1,0 +1,130 @@
+//! Messages in pieces to frames: encoders whose state and buffer are C's.
+ghost use Rattle.std.specs.Prelude.{◌≡◌, [], ◌∷◌};
+ghost use Rattle.cobs.specs.Sentinel.{xor_each};
+ghost use Rattle.cobs_abi.specs.Frames.{IsFrameOnWire, IsFrameOnWireFor, IsTerminatedFrame};
+ghost use Rattle.cobs_abi.specs.Stream.{EncodesNext, Finishes, IsFreshEncoder};
+
+use cobs::UnbufferedEncoder;
+use cobs::laws::{law_2, law_6, law_13};
+use cobs_abi::{Answer, Encoder, OK, done, end_of, too_small};
+
+/// Makes the encoder one that has taken nothing, even if its state is corrupt.
+#[unsafe(no_mangle)]
+pub extern "C" fn jcobs_encoder_reset(encoder: &mut Encoder)
+    ensures fresh { IsFreshEncoder encoder.new }
+{
+    *encoder = Encoder::at(UnbufferedEncoder::new().progress());
+}
+
+/// Takes the next bytes of a message, if the frame of all that was taken fits the buffer. Even if the state is corrupt, the
+/// buffer keeps its length, and the counts are within the bytes and the buffer.
+#[unsafe(no_mangle)]
+pub extern "C" fn jcobs_encoder_push(
+    encoder: &mut Encoder,
+    buffer: &mut [u8],
+    bytes: &[u8],
+) -> Answer
+    ensures encodes { EncodesNext encoder.old buffer.old bytes.now result
+        encoder.new buffer.new }
+{
+    law_13();
+    let mut unbuffered = UnbufferedEncoder::from_progress(encoder.progress());
+    if unbuffered.push(buffer, bytes).is_err() {
+        return too_small();
+    }
+    let progress = unbuffered.progress();
+    *encoder = Encoder::at(progress);
+    done(bytes.len(), end_of(progress))
+}
+
+/// Ends the message, if its frame fits the buffer. Even if the state is corrupt, the buffer keeps its length, and the
+/// returned length is within it.
+#[unsafe(no_mangle)]
+pub extern "C" fn jcobs_encoder_finish(encoder: &mut Encoder, buffer: &mut [u8]) -> Answer
+    ensures finishes { Finishes 0 IsFrameOnWire encoder.old buffer.old result
+        encoder.new buffer.new }
+{
+    if buffer.is_empty() {
+        // Not even the frame of the empty message fits.
+        return too_small();
+    }
+    let mut unbuffered = UnbufferedEncoder::from_progress(encoder.progress());
+    match unbuffered.finalize(buffer) {
+        Ok(length) => {
+            jcobs_encoder_reset(encoder);
+            done(0, length)
+        }
+        Err(_) => too_small(),
+    }
+}
+
+/// Takes the next byte of a message, as `jcobs_encoder_push` does.
+#[unsafe(no_mangle)]
+pub extern "C" fn jcobs_encoder_feed(encoder: &mut Encoder, buffer: &mut [u8], byte: u8) -> Answer
+    ensures encodes { EncodesNext encoder.old buffer.old (byte ∷ []) result
+        encoder.new buffer.new }
+{
+    jcobs_encoder_push(encoder, buffer, &[byte])
+}
+
+/// XORs each byte with the sentinel.
+fn xor_bytes(bytes: &mut [u8], sentinel: u8)
+    ensures { bytes.new ≡ xor_each sentinel bytes.old }
+{
+    for byte in bytes.iter_mut() {
+        *byte ^= sentinel;
+    }
+}
+
+/// Ends the message, as `jcobs_encoder_finish` does, with a frame for this sentinel.
+#[unsafe(no_mangle)]
+pub extern "C" fn jcobs_encoder_finish_with_sentinel(
+    encoder: &mut Encoder,
+    buffer: &mut [u8],
+    sentinel: u8,
+) -> Answer
+    ensures finishes { Finishes 0 (IsFrameOnWireFor sentinel) encoder.old buffer.old result
+        encoder.new buffer.new }
+{
+    law_6();
+    let answer = jcobs_encoder_finish(encoder, buffer);
+    xor_bytes(&mut buffer[..answer.length], sentinel);
+    answer
+}
+
+/// Ends the message, as `jcobs_encoder_finish_with_sentinel` does, and writes the sentinel after its frame, if both fit.
+#[unsafe(no_mangle)]
+pub extern "C" fn jcobs_encoder_finish_terminated_with_sentinel(
+    encoder: &mut Encoder,
+    buffer: &mut [u8],
+    sentinel: u8,
+) -> Answer
+    ensures finishes { Finishes 1 (IsTerminatedFrame sentinel) encoder.old buffer.old result
+        encoder.new buffer.new }
+{
+    law_2();
+    law_13();
+    if buffer.is_empty() {
+        return too_small();
+    }
+    let last = buffer.len() - 1;
+    let front = &mut buffer[..last];
+    let answer = jcobs_encoder_finish_with_sentinel(encoder, front, sentinel);
+    if answer.status != OK {
+        return answer;
+    }
+    buffer[answer.length] = sentinel;
+    done(answer.consumed, answer.length + 1)
+}
+
+/// Ends the message, as `jcobs_encoder_finish` does, and writes a zero after its frame, if both fit.
+#[unsafe(no_mangle)]
+pub extern "C" fn jcobs_encoder_finish_terminated(
+    encoder: &mut Encoder,
+    buffer: &mut [u8],
+) -> Answer
+    ensures finishes { Finishes 1 (IsTerminatedFrame 0) encoder.old buffer.old result
+        encoder.new buffer.new }
+{
+    jcobs_encoder_finish_terminated_with_sentinel(encoder, buffer, 0)
+}
