@@ -87,24 +87,6 @@ fn decode_full(source: &[u8], dest: &mut [u8]) -> Cursor
     }
 }
 
-/// Decodes the block of 32 bytes at the front of a source, if neither it nor the code after it has a zero; answers how
-/// many bytes it has read and written.
-#[inline(always)]
-fn decode_33(source: &[u8], dest: &mut [u8]) -> usize
-    requires begun { 0 < length (head source.now) }
-    requires code { slice_index source.now 0 ≡ 33 }
-    requires long { 34 ≤ length source.now }
-    requires room { 33 ≤ length dest.old }
-    ensures decoded { Decoded (head source.now) dest.old dest.new result result }
-    ensures within { result ≤ 33 }
-{
-    if !copy_nonzero_32(source, 1, dest, 0) || source[WINDOW + 1] == 0 {
-        return 0;
-    }
-    dest[WINDOW] = 0;
-    WINDOW + 1
-}
-
 /// Decodes the block at the front of a source, one with 32 bytes or more that isn't full, if neither it nor the code
 /// after it has a zero; answers how many bytes it has read and written.
 #[inline(always)]
@@ -147,8 +129,6 @@ fn decode_step(source: &[u8], dest: &mut [u8]) -> Cursor
     }
     let step = if code <= WINDOW {
         decode_window(source, dest)
-    } else if code == WINDOW + 1 {
-        decode_33(source, dest)
     } else {
         decode_long(source, dest)
     };
