@@ -1,9 +1,11 @@
 //! Decoding: from frames to messages.
-ghost use Rattle.std.specs.Prelude.{◌≡◌, ◌↔◌, ◌≤◌, List, length, ℕ};
+ghost use Rattle.std.specs.Prelude.{◌≡◌, ◌↔◌, ◌<◌, ◌≤◌, List, length, ℕ};
 ghost use Rattle.cobs.specs.Overwritten.{overwritten};
-ghost use Rattle.cobs.specs.Decode.{decode_answer, first_output};
+ghost use Rattle.cobs.specs.Decode.{decode_answer, first_output, sized};
 ghost use Rattle.cobs.specs.Grammar.{Reads};
 ghost use Rattle.cobs.specs.Headline.{IsPiece, ReportsMessage};
+ghost use Rattle.cobs.specs.Piece.{output};
+ghost use Rattle.cobs.specs.Stream.{head, outcome_of};
 
 mod borrowed;
 mod chunk;
@@ -44,6 +46,26 @@ pub use state::{DecodeResult, DecoderState};
 pub use unbuffered::{DecoderPhase, UnbufferedDecoder};
 pub use vector::{decode_vec, decode_vec_with_sentinel};
 pub use write_buffer::WriteBuffer;
+
+/// Decodes what a source has in front of its first zero, where that begins with a code; returns how many bytes that is,
+/// and its message's length.
+#[inline(always)]
+fn decode_begun(source: &[u8], dest: &mut [u8]) -> (usize, Result<usize, DecodeError>)
+    requires begun { 0 < length (head source.now) }
+    ensures len { result.0 ≡ length (head source.now) }
+    ensures answer { result.1 ≡ sized (outcome_of (head source.now) (length dest.old)) }
+    ensures buffer { dest.new ≡ overwritten dest.old (output (head source.now)) }
+{
+    if copy_short(source, dest) {
+        return (source.len(), decode_copied(source, dest));
+    }
+    let front = decode_front(source, dest);
+    let len = front.read + piece_len(&source[front.read..]);
+    (
+        len,
+        finish_piece(&source[..len], dest, front.read, front.written),
+    )
+}
 
 /// Decodes the first frame of the source into `dest`, and answers how many bytes were consumed and how many the
 /// message has.
@@ -87,13 +109,8 @@ pub fn decode(source: &[u8], dest: &mut [u8]) -> Result<DecodeReport, DecodeErro
     if rest.is_empty() {
         return Err(DecodeError::InvalidFrame { decoded_bytes: 0 });
     }
-    if copy_short(rest, dest) {
-        let frame_size = decode_copied(rest, dest)?;
-        return Ok(DecodeReport::new(source.len(), frame_size));
-    }
-    let front = decode_front(rest, dest);
-    let len = front.read + piece_len(&rest[front.read..]);
-    let frame_size = finish_piece(&rest[..len], dest, front.read, front.written)?;
+    let (len, decoded) = decode_begun(rest, dest);
+    let frame_size = decoded?;
     let end = start + len;
     let parsed_size = if end < source.len() { end + 1 } else { end };
     Ok(DecodeReport::new(parsed_size, frame_size))
