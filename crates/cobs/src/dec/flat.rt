@@ -72,14 +72,14 @@ pub(crate) fn is_flat(source: &[u8], sentinel: u8) -> bool
     }
 }
 
-/// Writes a zero over each code that stands in the first bytes of `dest`, where those are what follows the first code
-/// of such a stretch of `len` bytes. Each byte after them stays.
+/// Writes a zero over each code in the first bytes of `dest`, which are what follows the first code of such a stretch of
+/// `len` bytes, or of one that is cut. Each byte after them stays.
 #[inline(always)]
 pub(crate) fn write_joints(dest: &mut [u8], first: usize, len: usize)
     requires some { 0 < len }
     requires room { len ≤ length dest.old + 1 }
     requires nonzero { HasNoZero (first ∷ take (len - 1) dest.old) }
-    requires flat { IsFlat (first ∷ take (len - 1) dest.old) }
+    requires flat { length (output (first ∷ take (len - 1) dest.old)) + 1 ≡ len }
     ensures begins { take (len - 1) dest.new ≡ output (first ∷ take (len - 1) dest.old) }
     ensures rest { drop (len - 1) dest.new ≡ drop (len - 1) dest.old }
 {

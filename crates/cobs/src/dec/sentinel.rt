@@ -12,7 +12,6 @@ ghost use Rattle.cobs.specs.Stream.{head};
 use crate::dec::error::DecodeError;
 use crate::dec::flat::{flat_front, is_flat, write_joints};
 use crate::dec::xored::copy_xored_short;
-use crate::enc::FULL_CODE;
 use crate::window::WIDE_WINDOW;
 use memchr::memchr;
 
@@ -37,46 +36,12 @@ fn copy_xored(source: &[u8], dest: &mut [u8], at: usize, sentinel: u8)
     }
 }
 
-/// Decodes the blocks of a source that has no sentinel, and answers how many bytes they give.
-#[inline(never)]
-fn decode_xored_blocks(source: &[u8], dest: &mut [u8], sentinel: u8) -> Result<usize, DecodeError>
-    requires { HasNoZero (xor_each sentinel source.now) }
-    ensures answer { result ≡ head_answer_within (xor_each sentinel source.now) (length dest.old) }
-    ensures buffer { dest.new ≡ overwritten dest.old (kept_output (xor_each sentinel source.now)) }
-{
-    let mut read = 0;
-    let mut written = 0;
-    'by_block: while read < source.len() {
-        let code = (source[read] ^ sentinel) as usize;
-        if source.len() - read < code {
-            return Err(DecodeError::InvalidFrame {
-                decoded_bytes: written,
-            });
-        }
-        let room = dest.len() - written;
-        if room < code - 1 {
-            copy_xored(&source[read + 1..read + 1 + room], dest, written, sentinel);
-            return Err(DecodeError::TargetBufTooSmall);
-        }
-        copy_xored(&source[read + 1..read + code], dest, written, sentinel);
-        read += code;
-        written += code - 1;
-        if code != FULL_CODE && read < source.len() {
-            if written == dest.len() {
-                return Err(DecodeError::TargetBufTooSmall);
-            }
-            dest[written] = 0;
-            written += 1;
-        }
-    }
-    Ok(written)
-}
-
-/// Decodes whole blocks of which none but the last is full to the front of `dest`: one copy, and a zero at each code.
-/// Each byte after what they give stays.
+/// Decodes blocks of which none but the last is full, and the last may be cut, to the front of `dest`: one copy, and a
+/// zero at each code. Each byte after what they give stays.
 fn decode_xored_flat(source: &[u8], dest: &mut [u8], sentinel: u8)
     requires nonzero { HasNoZero (xor_each sentinel source.now) }
-    requires flat { IsFlat (xor_each sentinel source.now) }
+    requires some { 0 < length source.now }
+    requires flat { length (output (xor_each sentinel source.now)) + 1 ≡ length source.now }
     requires room { length source.now ≤ length dest.old + 1 }
     ensures begins { take (length source.now - 1) dest.new
         ≡ output (xor_each sentinel source.now) }
@@ -87,17 +52,9 @@ fn decode_xored_flat(source: &[u8], dest: &mut [u8], sentinel: u8)
     write_joints(dest, first, source.len());
 }
 
-/// How many zeros are due after blocks: one, unless the last of them is full, or is the last of all.
-fn joint_len(full: bool, last: bool) -> usize
-    ensures { result ≡ (if full then 0 else (if last then 0 else 1)) }
-{
-    if full || last { 0 } else { 1 }
-}
-
 /// Decodes the blocks of a source that has no sentinel, and answers how many bytes they give.
 ///
-/// The whole blocks through each full one are decoded by one copy; where their bytes don't fit, it begins again, and
-/// goes by blocks.
+/// The whole blocks through each full one are decoded by one copy; if their bytes don't fit, those of them that do.
 fn decode_fronts(source: &[u8], dest: &mut [u8], sentinel: u8) -> Result<usize, DecodeError>
     requires { HasNoZero (xor_each sentinel source.now) }
     ensures answer { result ≡ head_answer_within (xor_each sentinel source.now) (length dest.old) }
@@ -112,13 +69,17 @@ fn decode_fronts(source: &[u8], dest: &mut [u8], sentinel: u8) -> Result<usize, 
                 decoded_bytes: written,
             });
         }
-        if dest.len() - written < len - 1 + joint_len(full, read + len == source.len()) {
-            return decode_xored_blocks(source, dest, sentinel);
+        let due = !full && read + len < source.len();
+        let gives = if due { len } else { len - 1 };
+        let room = dest.len() - written;
+        if room < gives {
+            decode_xored_flat(&source[read..=read + room], &mut dest[written..], sentinel);
+            return Err(DecodeError::TargetBufTooSmall);
         }
         decode_xored_flat(&source[read..read + len], &mut dest[written..], sentinel);
         read += len;
         written += len - 1;
-        if !full && read < source.len() {
+        if due {
             dest[written] = 0;
             written += 1;
         }

@@ -8,7 +8,7 @@ use Rattle.cobs.proofs.dec.flat.write_joints.Goals as goal
 
 pub by_code-init : goal.by_code-init
 by_code-init c = record {
-  flat = joints-start c.args.dest.now c.args.first c.args.len c.requires.some c.requires.room c.requires.flat;
+  flat = joints-start c.args.dest.now c.args.first c.args.len c.requires.some c.requires.room;
   len = refl;
 }
 
@@ -41,8 +41,7 @@ alike-preserved c =
     let long : length piece ≡ c.args.len = omega arith in
     let pos : 0 < c.alike.code = subst (λ (n : ℕ). 0 < n) (sym f.at-read) (code-pos piece c.alike.read c.requires.nonzero f.decoded.within) in
     let more : c.alike.read + c.alike.code < length piece = omega arith in
-    let len = c.requires.flat.len in
-    let short = flat-short piece c.args.dest.now c.alike.dest c.alike.read f.decoded len c.alike.code f.at-read pos more in
+    let short = flat-short piece c.args.dest.now c.alike.dest c.alike.read f.decoded (omega arith) c.alike.code f.at-read pos more in
     let set = length-set c.alike.dest (c.alike.read + (c.alike.code - 1)) 0 in
     record {
       flat = record {
@@ -65,8 +64,7 @@ by_code-preserved c =
     let long : length piece ≡ c.args.len = omega arith in
     let pos : 0 < c.alike.code = subst (λ (n : ℕ). 0 < n) (sym f.at-read) (code-pos piece c.alike.read c.requires.nonzero f.decoded.within) in
     let more : c.alike.read + c.alike.code < length piece = omega arith in
-    let len = c.requires.flat.len in
-    let short = flat-short piece c.args.dest.now c.alike.dest c.alike.read f.decoded len c.alike.code f.at-read pos more in
+    let short = flat-short piece c.args.dest.now c.alike.dest c.alike.read f.decoded (omega arith) c.alike.code f.at-read pos more in
     let set = length-set c.alike.dest (c.alike.read + (c.alike.code - 1)) 0 in
     record {
       flat = record {
@@ -86,7 +84,6 @@ returns-clause-begins c =
     let w = f.decoded.within in
     let long : length piece ≡ c.args.len = omega arith in
     let pos : 0 < c.by_code.code = subst (λ (n : ℕ). 0 < n) (sym f.at-read) (code-pos piece c.by_code.read c.requires.nonzero f.decoded.within) in
-    let len = c.requires.flat.len in
     let all : c.args.len - 1 ≡ c.by_code.read + (length piece - c.by_code.read - 1) = omega arith in
     ap (λ (n : ℕ). take n c.by_code.dest) all
     ∙ end-begins piece c.args.dest.now c.by_code.dest c.by_code.read c.by_code.read c.by_code.code f.decoded f.at-read pos (omega arith) f.copied (omega arith)
@@ -98,6 +95,5 @@ returns-clause-rest c =
     let few = length-take-le (c.args.len - 1) c.args.dest.now (omega arith) in
     let some = c.requires.some in
     let long : length piece ≡ c.args.len = omega arith in
-    let len = c.requires.flat.len in
     let at : length (output piece) ≡ c.args.len - 1 = omega arith in
     subst (λ (n : ℕ). drop n c.by_code.dest ≡ drop n c.args.dest.now) at f.decoded.rest
