@@ -5,7 +5,7 @@ use Rattle.cobs.specs.Piece.{output}
 use Rattle.cobs.proofs.PieceCuts.{length-output-last, output-le, joint_of, joint-length}
 use Rattle.cobs.proofs.WindowSteps.{code-pos}
 use Rattle.cobs.proofs.FrontLemmas.{front-started, front-ends, front-whole, front-too_long, front-more-left}
-use Rattle.cobs.proofs.dec.fit.fitting_len.Goals as goal
+use Rattle.cobs.proofs.dec.piece.fitting_len.Goals as goal
 
 pub returns-then-piece-room-clause-front : goal.returns-then-piece-room-clause-front
 returns-then-piece-room-clause-front c =

@@ -1,6 +1,6 @@
 use Rattle.std.proofs.Common.{◌≡◌, ◌<◌, ◌+◌, ◌-◌, ◌≤◌, length, get_or}
 use Rattle.cobs.proofs.WindowSteps.{Decoded, CopiedTo}
-use Rattle.cobs.proofs.dec.piece.decode_flat_piece.Given as goal
+use Rattle.cobs.proofs.dec.piece.write_codes.Given as goal
 
 abbrev pub invariant-by_code : goal.invariant-by_code
 invariant-by_code l = record {

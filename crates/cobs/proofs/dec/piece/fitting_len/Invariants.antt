@@ -1,6 +1,6 @@
 use Rattle.std.proofs.Common.{◌-◌, length}
 use Rattle.cobs.proofs.FrontLemmas.{FrontSought}
-use Rattle.cobs.proofs.dec.fit.fitting_len.Given as goal
+use Rattle.cobs.proofs.dec.piece.fitting_len.Given as goal
 
 abbrev pub invariant-by_code : goal.invariant-by_code
 invariant-by_code l = FrontSought l.piece l.room l.read l.left
