@@ -7,42 +7,34 @@ ghost use Rattle.cobs.specs.Headline.{IsPiece, ReportsMessage};
 ghost use Rattle.cobs.specs.Piece.{output};
 ghost use Rattle.cobs.specs.Stream.{head, outcome_of};
 
+mod blocks;
 mod borrowed;
-mod chunk;
 mod error;
-mod flat;
+mod forms;
 mod frame_decoder;
 mod front;
 mod heapless;
 mod in_place;
-mod kind;
-mod moves;
 mod owned;
 mod piece;
 mod report;
-mod sentinel;
 mod state;
 mod unbuffered;
-mod vector;
-mod write_buffer;
-mod xored;
 
+pub use blocks::{FrameKind, frame_kind};
 pub use borrowed::CobsDecoder;
 pub use error::{DecodeError, DecodeVecError, PushError};
+pub use forms::{decode_vec, decode_vec_with_sentinel, decode_with_sentinel};
 pub(crate) use frame_decoder::piece_end;
-pub use frame_decoder::{FrameDecoder, PieceEnd};
+pub use frame_decoder::{FrameDecoder, PieceEnd, WriteBuffer};
 use front::decode_front;
 pub use heapless::CobsDecoderHeapless;
 pub use in_place::{decode_in_place, decode_in_place_report, decode_in_place_with_sentinel};
-pub use kind::{FrameKind, frame_kind};
 pub use owned::CobsDecoderOwned;
 use piece::{copy_short, decode_copied, finish_piece, leading_zeros, piece_len};
 pub use report::{DecodeReport, DecodingResult};
-pub use sentinel::decode_with_sentinel;
 pub use state::{DecodeResult, DecoderState};
 pub use unbuffered::{DecoderPhase, UnbufferedDecoder};
-pub use vector::{decode_vec, decode_vec_with_sentinel};
-pub use write_buffer::WriteBuffer;
 
 /// Decodes what a source has in front of its first zero, where that begins with a code; returns how many bytes that is,
 /// and its message's length.

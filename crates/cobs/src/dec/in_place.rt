@@ -9,12 +9,12 @@ ghost use Rattle.cobs.specs.Internal.Decoded.{IsFlat};
 ghost use Rattle.cobs.specs.Sentinel.{xor_each};
 ghost use Rattle.cobs.specs.declared.dec.error.DecodeError.TheVariants.{TargetBufTooSmall};
 
+use crate::dec::blocks::{flat_front, is_flat, write_joints};
 use crate::dec::error::DecodeError;
-use crate::dec::flat::{flat_front, is_flat, write_joints};
-use crate::dec::moves::{move_nonzero_short, move_to_front};
 use crate::dec::piece::piece_len;
 use crate::dec::report::DecodeReport;
 use crate::enc::xor_bytes;
+use crate::lanes::{move_nonzero_short, move_to_front};
 use crate::window::WIDE_WINDOW;
 
 /// How many bytes the first whole blocks of a piece have, through the first full one, and whether the last of them is

@@ -9,8 +9,8 @@ ghost use Rattle.cobs.specs.Stream.{head, outcome_of};
 
 use crate::dec::error::DecodeError;
 use crate::dec::front::{decode_front, decode_window};
-use crate::dec::xored::copy_xored_short;
 use crate::enc::FULL_CODE;
+use crate::lanes::copy_xored_short;
 use crate::window::{WIDE_WINDOW, WINDOW, copy_window, first_zero_of_few};
 use memchr::memchr;
 

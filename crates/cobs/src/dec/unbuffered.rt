@@ -10,12 +10,12 @@ ghost use Rattle.cobs.specs.Push.{PushesBytes};
 ghost use Rattle.cobs.specs.Internal.PieceEnds.{LeavesRest};
 ghost use Rattle.cobs.specs.FeedPiece.{TakesBytes, TakesPiece};
 
-use crate::dec::chunk::copy_to_zero;
 use crate::dec::error::{DecodeError, PushError};
 use crate::dec::frame_decoder::{PieceEnd, piece_end};
 use crate::dec::piece::{decode_head, piece_len};
 use crate::dec::report::DecodeReport;
 use crate::enc::FULL_CODE;
+use crate::lanes::copy_to_zero;
 use crate::window::WIDE_WINDOW;
 use std::mem;
 
