@@ -18,6 +18,7 @@ mod in_place;
 mod owned;
 mod piece;
 mod report;
+mod runs;
 mod state;
 mod unbuffered;
 
@@ -35,6 +36,23 @@ use piece::{copy_short, decode_copied, finish_piece, leading_zeros, piece_len};
 pub use report::{DecodeReport, DecodingResult};
 pub use state::{DecodeResult, DecoderState};
 pub use unbuffered::{DecoderPhase, UnbufferedDecoder};
+
+// The lengths at which another way takes over. Up to 64 bytes (`WIDE_WINDOW`) each call has a way of its own.
+
+/// So few bytes are pushed by a step each: a run takes some 130 instructions, however short it is.
+const FEW: usize = 4;
+
+/// A source of up to so many bytes is searched and copied as a whole; a longer one is decoded in one pass, which takes
+/// 0.4 instructions a byte if it has no zeros.
+const SHORT: usize = 96;
+
+/// So many bytes at least are decoded by windows, and are worth a search for the end of their piece: of a telemetry stream
+/// `push` takes 4.9 instructions a byte so, and 7.0 in chunks of 64 bytes.
+const MANY: usize = 128;
+
+/// If no zero is found in so many bytes, it is sought while they are decoded. For pieces of 70 to 600 bytes the search by
+/// itself is faster.
+const LONG: usize = 1024;
 
 /// Decodes what a source has in front of its first zero, where that begins with a code; returns how many bytes that is,
 /// and its message's length.

@@ -246,15 +246,6 @@ pub(crate) fn is_all(bytes: &[u8], byte: u8) -> bool
         == 0
 }
 
-/// Whether the first 32 bytes are all 1.
-#[inline(always)]
-pub(crate) fn is_ones(bytes: &[u8]) -> bool
-    requires { 32 ≤ length bytes.now }
-    ensures { IsTrue result → take 32 bytes.now ≡ replicate 32 1 }
-{
-    is_all(bytes, 1)
-}
-
 /// Writes 32 zeros.
 #[inline(always)]
 pub(crate) fn write_zeros(dest: &mut [u8])

@@ -8,7 +8,7 @@ ghost use Rattle.cobs.specs.Sentinel.{xor_each};
 
 use crate::dec::piece::piece_len;
 use crate::enc::FULL_CODE;
-use crate::window::{WINDOW, is_all, is_ones, write_zeros};
+use crate::window::{WINDOW, is_all, write_zeros};
 
 /// How many bytes the first whole blocks of a piece have, through the first full one, and whether the last of them is
 /// full. 0 bytes: the first block is broken. Each byte of the piece is taken by exclusive or with the sentinel.
@@ -88,7 +88,7 @@ pub(crate) fn write_joints(dest: &mut [u8], first: usize, len: usize)
     let mut code = first;
     let mut read = 0;
     'by_code: while code < len - read {
-        if code == 1 && len - read > WINDOW && is_ones(&dest[read..]) {
+        if code == 1 && len - read > WINDOW && is_all(&dest[read..], 1) {
             write_zeros(&mut dest[read..]);
             read += WINDOW;
         } else {

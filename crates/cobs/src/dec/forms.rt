@@ -13,19 +13,10 @@ ghost use Rattle.cobs.specs.declared.dec.error.DecodeError.TheVariants.{EmptyFra
 use crate::dec::blocks::{flat_front, is_flat, write_joints};
 use crate::dec::decode;
 use crate::dec::error::{DecodeError, DecodeVecError};
+use crate::dec::piece::{first_of, len_without};
 use crate::lanes::copy_xored_short;
 use crate::window::WIDE_WINDOW;
-use memchr::memchr;
 use std::alloc::Global;
-
-/// Where the first sentinel of the source stands, or the source's length where it has none.
-fn first_sentinel(source: &[u8], sentinel: u8) -> usize
-    ensures within { result ≤ length source.now }
-    ensures before { All (λ byte. byte ≢ sentinel) (take result source.now) }
-    ensures stop { result < length source.now → slice_index source.now result ≡ sentinel }
-{
-    memchr(sentinel, source).unwrap_or(source.len())
-}
 
 /// Writes the bytes of the source, each changed by exclusive or with the sentinel, to where `at` says.
 #[inline(never)]
@@ -112,20 +103,6 @@ fn decode_xored_short(source: &[u8], dest: &mut [u8], sentinel: u8) -> bool
     true
 }
 
-/// How many bytes of the source stand before a sentinel that is its last byte, or all of them.
-fn len_without_sentinel(source: &[u8], sentinel: u8) -> usize
-    requires { 0 < length source.now }
-    ensures within { result ≤ length source.now }
-    ensures stop { result < length source.now → slice_index source.now result ≡ sentinel }
-{
-    let last = source.len() - 1;
-    if source[last] == sentinel {
-        last
-    } else {
-        source.len()
-    }
-}
-
 /// Decodes the frame at the front of the source, where the sentinel may be any byte, and answers the message's length.
 ///
 /// The source alone is read, up to its first sentinel or its end; each byte is taken by exclusive or with the sentinel.
@@ -163,11 +140,11 @@ pub fn decode_with_sentinel(
     if source.is_empty() {
         return Err(DecodeError::EmptyFrame);
     }
-    let len = len_without_sentinel(source, sentinel);
+    let len = len_without(source, sentinel);
     if decode_xored_short(&source[..len], dest, sentinel) {
         return Ok(len - 1);
     }
-    let end = first_sentinel(source, sentinel);
+    let end = first_of(source, sentinel);
     decode_fronts(&source[..end], dest, sentinel)
 }
 

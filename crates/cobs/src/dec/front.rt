@@ -5,16 +5,12 @@ ghost use Rattle.cobs.specs.Grammar.{HasNoZero};
 ghost use Rattle.cobs.specs.Internal.Decoded.{Decoded};
 ghost use Rattle.cobs.specs.Stream.{head};
 
+use crate::dec::SHORT;
 use crate::enc::FULL_CODE;
-use crate::window::{
-    WINDOW, copy_nonzero, copy_nonzero_32, copy_nonzero_two, is_ones, write_zeros,
-};
+use crate::window::{WINDOW, copy_nonzero, copy_nonzero_32, copy_nonzero_two, is_all, write_zeros};
 
 /// No step reads or writes more bytes than a full block and the code after it.
 const LONGEST_STEP: usize = FULL_CODE + 1;
-
-/// So short a source is searched and copied as a whole.
-const SHORT: usize = 96;
 
 /// How far a source is decoded: up to a code of it, and how many bytes of the output are written.
 #[derive(Clone, Copy)]
@@ -40,7 +36,7 @@ pub(crate) fn decode_window(source: &[u8], dest: &mut [u8]) -> usize
     ensures some { HasNoZero (take 33 source.now) → 0 < result }
 {
     let mut code = source[0] as usize;
-    if code == 1 && is_ones(&source[1..]) {
+    if code == 1 && is_all(&source[1..], 1) {
         write_zeros(dest);
         return WINDOW;
     }

@@ -1,5 +1,5 @@
 //! Pieces that are at hand as a whole: where they end, how long their outputs are, and the outputs.
-ghost use Rattle.std.specs.Prelude.{false, ◌↔◌, ◌≡◌, ◌+◌, ◌-◌, ◌++◌, ◌<◌, ◌≤◌, ℕ, IsTrue, List, length, take, drop, slice_index};
+ghost use Rattle.std.specs.Prelude.{All, ◌≢◌, false, ◌↔◌, ◌≡◌, ◌+◌, ◌-◌, ◌++◌, ◌<◌, ◌≤◌, ℕ, IsTrue, List, length, take, drop, slice_index};
 ghost use Rattle.cobs.specs.Grammar.{HasNoZero, code_of};
 ghost use Rattle.cobs.specs.Overwritten.{overwritten};
 ghost use Rattle.cobs.specs.Decode.{leading_zeros, sized};
@@ -7,15 +7,13 @@ ghost use Rattle.cobs.specs.Internal.Decoded.{Decoded};
 ghost use Rattle.cobs.specs.Piece.{output, last_part, lacks};
 ghost use Rattle.cobs.specs.Stream.{head, outcome_of};
 
+use crate::dec::MANY;
 use crate::dec::error::DecodeError;
 use crate::dec::front::{decode_front, decode_window};
 use crate::enc::FULL_CODE;
 use crate::lanes::copy_xored_short;
 use crate::window::{WIDE_WINDOW, WINDOW, copy_window, first_zero_of_few};
 use memchr::memchr;
-
-/// So many bytes of a piece at least are decoded by windows.
-const MANY: usize = 128;
 
 /// What is to be known of a piece once its output is written.
 #[derive(Clone, Copy)]
@@ -28,13 +26,29 @@ pub(crate) struct PieceOutput {
     pub(crate) left: usize,
 }
 
-/// Where the first zero of a source that is not short stands, or its length.
-fn first_zero(source: &[u8]) -> usize
+/// Where the first such byte of a source is, or the source's length if there is none.
+pub(crate) fn first_of(source: &[u8], byte: u8) -> usize
     ensures within { result ≤ length source.now }
-    ensures nonzero { HasNoZero (take result source.now) }
-    ensures stop { result < length source.now → slice_index source.now result ≡ 0 }
+    ensures before { All (λ other. other ≢ byte) (take result source.now) }
+    ensures stop { result < length source.now → slice_index source.now result ≡ byte }
 {
-    memchr(0, source).unwrap_or(source.len())
+    memchr(byte, source).unwrap_or(source.len())
+}
+
+/// How many bytes of a source come before such a byte at its end; all of them if its last byte is another.
+///
+/// The clause `bytes` is for a caller that writes the source afterwards, whose type tells only of what it holds at last.
+#[inline(always)]
+pub(crate) fn len_without(source: &[u8], byte: u8) -> usize
+    ensures within { result ≤ length source.now }
+    ensures stop { result < length source.now → slice_index source.now result ≡ byte }
+    ensures bytes { All (λ other. other < 256) source.now }
+{
+    let len = source.len();
+    if len > 0 && source[len - 1] == byte {
+        return len - 1;
+    }
+    len
 }
 
 /// Where the first zero of the source stands, or the source's length where it has none.
@@ -44,7 +58,7 @@ pub(crate) fn piece_len(source: &[u8]) -> usize
     ensures stop { result < length source.now → slice_index source.now result ≡ 0 }
 {
     if source.len() > WINDOW {
-        return first_zero(source);
+        return first_of(source, 0);
     }
     if source.is_empty() {
         return 0;

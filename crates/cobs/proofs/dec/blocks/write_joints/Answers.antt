@@ -12,8 +12,8 @@ by_code-init c = record {
   len = refl;
 }
 
-pub by_code-preserved-then-is_ones : goal.by_code-preserved-then-is_ones
-by_code-preserved-then-is_ones c =
+pub by_code-preserved-then-is_all : goal.by_code-preserved-then-is_all
+by_code-preserved-then-is_all c =
     let i = c.by_code.invariant in
     let piece : List ℕ = c.args.first ∷ take (c.args.len - 1) c.args.dest.now in
     let few = length-take-le (c.args.len - 1) c.args.dest.now (omega arith) in
@@ -22,7 +22,7 @@ by_code-preserved-then-is_ones c =
     let read : ℕ = c.by_code.read in
     let long : length piece ≡ c.args.len = omega arith in
     let first : c.by_code.code ≡ 1 = c.if-code-eq1.true in
-    let ones : take 32 (drop read dest) ≡ replicate 32 1 = ap (take 32) (sym (take_rest dest read)) ∙ c.is_ones.ensures c.if-is_ones.true in
+    let ones : take 32 (drop read dest) ≡ replicate 32 1 = ap (take 32) (sym (take_rest dest read)) ∙ c.is_all.ensures c.if-is_all.true in
     let put = zeros-put read dest c.write_zeros.new.dest c.write_zeros.ensures in
     let after : List ℕ = put_mid read (length dest - read) dest c.write_zeros.new.dest in
     record {
