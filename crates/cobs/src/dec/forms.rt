@@ -1,5 +1,5 @@
 //! The other decode forms from a source that stays as it is: for any sentinel, and into a vector.
-ghost use Rattle.std.specs.Prelude.{◌≡◌, IsTrue, false, ◌≢◌, ◌+◌, ◌-◌, if◌then◌else◌, ◌++◌, ◌<◌, ◌≤◌, All, length, take, drop, slice_index, ◌↔◌, List, ℕ, [], IfOk, IfErr, IsOkAnd};
+ghost use Rattle.std.specs.Prelude.{◌≡◌, IsTrue, false, ◌≢◌, ◌+◌, ◌-◌, if◌then◌else◌, ◌++◌, ◌<◌, ◌≤◌, length, take, drop, ◌↔◌, List, ℕ, [], IfOk, IfErr, IsOkAnd};
 ghost use Rattle.cobs.specs.Overwritten.{overwritten};
 ghost use Rattle.cobs.specs.Decode.{head_answer_within, source_answer, decoded, decoded_head, IsRefusal};
 ghost use Rattle.cobs.specs.Grammar.{HasNoZero, Reads};

@@ -1,10 +1,10 @@
 //! Decoding a frame in the buffer in which it stands.
-ghost use Rattle.std.specs.Prelude.{◌≡◌, false, ◌≢◌, ◌↔◌, ◌+◌, ◌-◌, ◌<◌, ◌≤◌, ℕ, List, All, length, take, drop, slice_index, IfErr, IsTrue};
+ghost use Rattle.std.specs.Prelude.{◌≡◌, false, ◌≢◌, ◌↔◌, ◌+◌, ◌-◌, ◌<◌, ◌≤◌, ℕ, List, length, take, drop, slice_index, IfErr, IsTrue};
 ghost use Rattle.cobs.specs.Overwritten.{overwritten};
 ghost use Rattle.cobs.specs.Decode.{head_answer, in_place, in_place_answer, in_place_report};
 ghost use Rattle.cobs.specs.Grammar.{HasNoZero, Reads, code_of};
 ghost use Rattle.cobs.specs.Headline.{AnswersMessage, IsPiece, ReportsMessage};
-ghost use Rattle.cobs.specs.Piece.{kept_output, lacks, last_part, output};
+ghost use Rattle.cobs.specs.Piece.{kept_output, last_part, output};
 ghost use Rattle.cobs.specs.Internal.Decoded.{IsFlat};
 ghost use Rattle.cobs.specs.Sentinel.{xor_each};
 ghost use Rattle.cobs.specs.declared.dec.error.DecodeError.TheVariants.{TargetBufTooSmall};
