@@ -28,8 +28,8 @@ TESTS = [TOP / f"crates/cobs_vectors/src/{name}.rt" for name in RUN]
 CALLING = TOP / "crates/cobs/CALLING.md"
 PAGES = [TOP / "README.md", CALLING]
 MAP = TOP / "docs/MAP.md"
-FILES = """lib enc enc/sentinel enc/vector enc/encoder enc/state enc/unbuffered dec dec/sentinel dec/vector dec/in_place
-    dec/kind dec/error dec/report dec/state dec/frame_decoder dec/write_buffer dec/borrowed dec/owned dec/heapless dec/unbuffered
+FILES = """lib enc enc/sentinel enc/vector enc/encoder enc/state enc/unbuffered dec dec/forms dec/in_place
+    dec/blocks dec/error dec/report dec/state dec/frame_decoder dec/borrowed dec/owned dec/heapless dec/unbuffered
     stream framed laws""".split()
 HEADING = "## Contracts\n"
 # Crates whose proofs still cite lemmas of cobs.

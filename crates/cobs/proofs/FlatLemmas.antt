@@ -182,9 +182,9 @@ copied-ones piece old dest after read f ones lt room is =
     subst (λ (x : List ℕ). FlatCopied piece old x (read + 32) 1) (zeroed-is 32 read dest (omega arith) ∙ sym is) (copied-ones-by 32 piece old dest read f ones lt room)
 
 -- a buffer that begins with what stands behind the first code
-pub joints-start : (dest : List ℕ) (first len : ℕ) → 0 < len → len ≤ length dest + 1 → IsFlat (first ∷ take (len - 1) dest)
+pub joints-start : (dest : List ℕ) (first len : ℕ) → 0 < len → len ≤ length dest + 1
     → FlatCopied (first ∷ take (len - 1) dest) dest dest 0 first
-joints-start dest first len some room flat =
+joints-start dest first len some room =
     let piece : List ℕ = first ∷ take (len - 1) dest in
     let few = length-take-le (len - 1) dest (omega arith) in
     let long : length piece - (0 + 1) ≡ len - 1 = omega arith in
@@ -193,6 +193,10 @@ joints-start dest first len some room flat =
       copied = record { within = omega arith; bytes = ap (λ (k : ℕ). take k dest) long ∙ sym (ap (λ (k : ℕ). take k (take (len - 1) dest)) long ∙ take-take (len - 1) (len - 1) dest (omega arith)) };
       at-read = refl;
     }
+
+-- a copy of one
+pub flat-copy : (copy p : List ℕ) (n : ℕ) → copy ≡ p → IsFlat p → length p ≡ n → length (output copy) + 1 ≡ n
+flat-copy copy p n is flat long = ap (λ (x : List ℕ). length (output x) + 1) is ∙ flat.len ∙ long
 
 -- such a stretch has some bytes
 pub flat-some : (old : List ℕ) (from len : ℕ) → IsFlat (take len (drop from old)) → 0 < len

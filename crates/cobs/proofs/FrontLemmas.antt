@@ -1,9 +1,11 @@
 -- The output of a front of a piece is a front of its output.
-use Rattle.std.proofs.Common.{◌≡◌, ℕ, ◌+◌, ◌-◌, ◌<◌, ◌≤◌, List, ◌∷◌, ◌++◌, length, take, drop, get_or, suc, refl, sym, ap, ◌∙◌, arith, length-take-le, length-drop, length-append, append_assoc, inl, inr}
+use Rattle.std.proofs.Common.{◌≡◌, ◌≢◌, ℕ, zero, ◌+◌, ◌-◌, ◌<◌, ◌≤◌, List, [], ◌∷◌, ◌++◌, length, take, drop, get_or, suc, refl, sym, ap, ◌∙◌, arith, length-take-le, length-drop, length-append, append_assoc, inl, inr}
 use Rattle.std.proofs.lemmas.Bool.{cases_lt}
 use Rattle.std.proofs.lemmas.List.{drop-drop, drop-take, drop_more, take-take, take-append-le, take_all}
+use Rattle.std.proofs.lemmas.List.Elements.{All-head, All-tail, All-drop}
+use Rattle.cobs.specs.Grammar.{HasNoZero}
 use Rattle.cobs.specs.Piece.{output}
-use Rattle.cobs.proofs.PieceCuts.{output-last, output-more, joint_of}
+use Rattle.cobs.proofs.PieceCuts.{output-last, output-more, output-le, joint_of, joint-length}
 use Rattle.cobs.proofs.WindowSteps.{take-past}
 
 -- a front that ends behind the first part
@@ -27,6 +29,36 @@ front-inside code bytes left few within =
       | inr short ↦ ap (take left) (output-last code bytes (omega arith))
     ] in
     output-last code (take left bytes) (omega arith) ∙ sym whole
+
+-- each front of a piece whose parts but the last aren't full gives a byte for each byte after its first
+flat-front-by : (fuel : ℕ) (p : List ℕ) (k : ℕ) → length p ≤ fuel → HasNoZero p → length (output p) + 1 ≡ length p → k < length p → output (take (suc k) p) ≡ take k (output p)
+flat-front-by fuel [] k le none flat within = absurd (omega arith)
+flat-front-by zero (code ∷ bytes) k le none flat within = absurd (omega arith)
+flat-front-by (suc fuel) (code ∷ bytes) k le none flat within = elim (cases_lt k code) [
+  | inl few ↦ front-inside code bytes k few (omega arith)
+  | inr far ↦ (
+      let first : code ≢ 0 = All-head (λ b. b ≢ 0) code bytes none in
+      let n : ℕ = code - 1 in
+      let j : ℕ = k - code in
+      let rest : List ℕ = drop n bytes in
+      let more : n < length bytes = omega arith in
+      let is = output-more code bytes more in
+      let e = ap length is ∙ length-append (take n bytes ++ joint_of code) (output rest) in
+      let m = length-append (take n bytes) (joint_of code) in
+      let t = length-take-le n bytes (omega arith) in
+      let d = length-drop n bytes in
+      let o = output-le rest (omega arith) in
+      let one : length (joint_of code) ≡ 1 = elim (joint-length code) [ inl full ↦ absurd (let z = full.1 in omega arith) | inr other ↦ other.1 ] in
+      let again = flat-front-by fuel rest j (omega arith) (All-drop (λ b. b ≢ 0) n bytes (All-tail (λ b. b ≢ 0) code bytes none)) (omega arith) (omega arith) in
+      let sum : k ≡ n + suc j = omega arith in
+      ap (λ (i : ℕ). output (code ∷ take i bytes)) sum ∙ front-more code bytes (suc j) more (omega arith) (omega arith)
+      ∙ ap (λ (x : List ℕ). (take n bytes ++ joint_of code) ++ x) again
+      ∙ sym (ap (take k) is ∙ take-past (take n bytes ++ joint_of code) (output rest) (n + 1) j k (omega arith) (omega arith))
+      )
+]
+
+pub flat-front : (p : List ℕ) (k : ℕ) → HasNoZero p → length (output p) + 1 ≡ length p → k < length p → output (take (suc k) p) ≡ take k (output p)
+flat-front p k none flat within = flat-front-by (length p) p k (omega arith) none flat within
 
 -- what the loop over the codes of a piece keeps, which looks for its front with the first n bytes of its output: behind
 -- the codes that it has read it looks for the front of what is left with the bytes that are left

@@ -5,8 +5,8 @@ use Rattle.std.proofs.lemmas.List.{drop-drop, drop_all, drop_more}
 use Rattle.std.proofs.lemmas.List.Elements.{All-push, All-head, All-tail, All-take, All-drop, All-get_or}
 use Rattle.cobs.specs.Grammar.{HasNoZero, IsBlock, IsFull, IsFrame, IsFrameOf, IsCanonical, code_of, is_full, last_of, lone_block, message_of}
 use Rattle.cobs.specs.Piece.{parts, parts_after}
-use Rattle.cobs.specs.declared.dec.kind.FrameKind.{FrameKind}
-use Rattle.cobs.specs.declared.dec.kind.FrameKind.TheVariants.{NotAFrame, Canonical, Longer}
+use Rattle.cobs.specs.declared.dec.blocks.FrameKind.{FrameKind}
+use Rattle.cobs.specs.declared.dec.blocks.FrameKind.TheVariants.{NotAFrame, Canonical, Longer}
 use Rattle.cobs.proofs.FrameLemmas.{last_of-push, parts-frame, frame_some, frame_nonzero}
 use Rattle.cobs.proofs.GrammarLemmas.{one_frame}
 use Rattle.cobs.proofs.JoinLemmas.{concat-append, parts-append}

@@ -1,5 +1,5 @@
 -- A source for any sentinel, of which stretches of whole blocks are decoded by one copy each.
-use Rattle.std.proofs.Common.{Ok, ◌≡◌, ◌≢◌, ℕ, ◌+◌, ◌-◌, ◌<◌, ◌≤◌, ◌⊎◌, if◌then◌else◌, inl, inr, Bool, true, false, List, [], ◌∷◌, ◌++◌, length, take, drop, get_or, set, bit_xor, refl, sym, ap, ◌∙◌, subst, arith, append_assoc, length-append, length-drop, length-take-le, take_at, drop_at, take_all, append-nil, take-append-drop}
+use Rattle.std.proofs.Common.{Ok, Err, ◌≡◌, ◌≢◌, ℕ, ◌+◌, ◌-◌, ◌<◌, ◌≤◌, ◌⊎◌, inl, inr, true, false, List, [], ◌∷◌, ◌++◌, length, take, drop, get_or, set, bit_xor, refl, sym, ap, ◌∙◌, subst, arith, append_assoc, length-append, length-drop, length-take-le, take_at, drop_at, take_all, append-nil, take-append-drop}
 use Rattle.std.proofs.lemmas.List.{drop-drop, drop_all, take_rest, length-map, get_or-map, get_or-take, get_or-drop, take-map, drop-map, length-set, take_more_set, drop-set-lt}
 use Rattle.std.proofs.lemmas.List.Elements.{All-take, All-drop}
 use borrow.Rule.Slice.PartMut.{put_mid}
@@ -13,11 +13,12 @@ use Rattle.cobs.proofs.KeptLemmas.{joins, whole_left}
 use Rattle.cobs.proofs.WholeLemmas.{in_front}
 use Rattle.cobs.proofs.WindowSteps.{take-past, drop-past}
 use Rattle.cobs.proofs.BlockSteps.{BlocksRead, overwritten-front}
-use Rattle.cobs.proofs.SourceSteps.{DecodedSource, answer-fits, source_answer-head}
+use Rattle.cobs.proofs.SourceSteps.{DecodedSource, answer-fits, answer-too_long, overwritten-full, source_answer-head}
 use Rattle.cobs.proofs.HeadLemmas.{front_is_head}
 use Rattle.cobs.proofs.FlatLemmas.{flat-kept, flat-answer}
 use Rattle.std.specs.Int.Bits.{xor_self}
 use Rattle.cobs.specs.Stream.{head}
+use Rattle.cobs.specs.declared.dec.error.DecodeError.TheVariants.{TargetBufTooSmall}
 use Rattle.cobs.specs.Decode.{head_answer_within, source_answer}
 
 -- what stands behind the first code, copied to the front
@@ -78,10 +79,6 @@ module _ (source dest new : List ℕ) (s end : ℕ) (within : end ≤ length sou
       overwritten-front dest new (kept_output (xor_each s (take end source))) (end - 1) same (omega arith) rest (flat-kept _ flat ∙ sym begins)
       ∙ ap (λ (h : List ℕ). overwritten dest (kept_output h)) front-head
 
--- where a zero is due
-pub one-due : (full last : Bool) (n : ℕ) → n ≡ (if full then 0 else (if last then 0 else 1)) → full ≡ false → last ≡ false → n ≡ 1
-one-due full last n is open' more = is ∙ ap (λ (t : Bool). if t then 0 else (if last then 0 else 1)) open' ∙ ap (λ (t : Bool). if t then 0 else 1) more
-
 module _ (source : List ℕ) (s : ℕ) (old dest : List ℕ) (read written : ℕ) (d : DecodedSource (xor_each s source) old dest read written) where
   abbrev h : List ℕ
   h = xor_each s source
@@ -91,14 +88,6 @@ module _ (source : List ℕ) (s : ℕ) (old dest : List ℕ) (read written : ℕ
 
   done-long : length (take written dest) ≡ written
   done-long = length-take-le written dest (let r = d.room in let l = d.len in omega arith)
-
-  -- what is written again, from the start
-  pub again : overwritten dest (kept_output h) ≡ overwritten old (kept_output h)
-  again =
-      let k = ap length d.blocks.kepts ∙ length-append (take written dest) (kept_output (drop read h)) in
-      let l = done-long in
-      ap (λ (n : ℕ). take n (kept_output h) ++ drop (length (kept_output h)) dest) d.len
-      ∙ ap (λ (x : List ℕ). take (length old) (kept_output h) ++ x) (drop-later written (length (kept_output h)) dest old (omega arith) d.rest)
 
   -- what is left of the source
   pub left-is : xor_each s (take (length source - read) (drop read source)) ≡ drop read h
@@ -138,6 +127,42 @@ module _ (source : List ℕ) (s : ℕ) (old dest : List ℕ) (read written : ℕ
 
     split : drop read h ≡ p ++ q
     split = sym (take-append-drop len (drop read h)) ∙ ap (λ (x : List ℕ). x ++ drop len (drop read h)) (sym p-is) ∙ ap (λ (x : List ℕ). p ++ x) (drop-drop len read h)
+
+    -- the buffer ends inside it, or in front of a zero that is due
+    module _ (new : List ℕ) (k n : ℕ) (k-is : k ≡ length dest - written) (same : length new ≡ n) (n-is : n ≡ length dest - written) (begins : new ≡ take n (output p))
+        (cut : n < length (output p) + length (joins (code_of (last_part p)) q)) (few : n ≤ length (output p)) where
+      tail : List ℕ
+      tail = drop n (output p) ++ (joins (code_of (last_part p)) q ++ kept_output q)
+
+      full-is : put_mid written k dest new ≡ take written dest ++ new
+      full-is =
+          let none : drop k (drop written dest) ≡ [] = drop-drop k written dest ∙ drop_all (written + k) dest (omega arith) in
+          ap (λ (x : List ℕ). take written dest ++ (new ++ x)) none ∙ ap (λ (x : List ℕ). take written dest ++ x) (append-nil new)
+
+      full-long : length (put_mid written k dest new) ≡ length old
+      full-long = let e = done-long in let l = d.len in let r = d.room in ap length full-is ∙ length-append (take written dest) new ∙ omega arith
+
+      kept-full : kept_output h ≡ put_mid written k dest new ++ tail
+      unfolding tail
+      kept-full =
+          d.blocks.kepts ∙ ap (λ (x : List ℕ). take written dest ++ x) (ap kept_output split ∙ (in_front p q (let l = p-long in omega arith) stretch-nonzero whole).kepts)
+          ∙ ap (λ (x : List ℕ). take written dest ++ (x ++ (joins (code_of (last_part p)) q ++ kept_output q))) (sym (take-append-drop n (output p)) ∙ ap (λ (x : List ℕ). x ++ drop n (output p)) (sym begins))
+          ∙ ap (λ (x : List ℕ). take written dest ++ x) (append_assoc new (drop n (output p)) (joins (code_of (last_part p)) q ++ kept_output q))
+          ∙ sym (append_assoc (take written dest) new (drop n (output p) ++ (joins (code_of (last_part p)) q ++ kept_output q)))
+          ∙ ap (λ (x : List ℕ). x ++ (drop n (output p) ++ (joins (code_of (last_part p)) q ++ kept_output q))) (sym full-is)
+
+      pub full-buffer : put_mid written k dest new ≡ overwritten old (kept_output h)
+      full-buffer = overwritten-full old (put_mid written k dest new) (kept_output h) tail full-long kept-full
+
+      pub full-count : Err TargetBufTooSmall ≡ head_answer_within h (length old)
+      unfolding tail
+      full-count =
+          let l = ap length kept-full ∙ length-append (put_mid written k dest new) tail in
+          let a = length-append (drop n (output p)) (joins (code_of (last_part p)) q ++ kept_output q) in
+          let b = length-append (joins (code_of (last_part p)) q) (kept_output q) in
+          let c = length-drop n (output p) in
+          let e = full-long in
+          answer-too_long h (length old) (omega arith)
 
     -- decoded to the front of what is left of the buffer
     module _ (new : List ℕ) (w k : ℕ) (k-is : k ≡ length dest - written) (same : length new ≡ length dest - written) (count : w ≡ length (output p)) (room : w ≤ length dest - written) (begins : take w new ≡ output p)

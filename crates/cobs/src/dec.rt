@@ -1,49 +1,78 @@
 //! Decoding: from frames to messages.
-ghost use Rattle.std.specs.Prelude.{◌≡◌, ◌↔◌, ◌≤◌, List, length, ℕ};
+ghost use Rattle.std.specs.Prelude.{◌≡◌, ◌↔◌, ◌<◌, ◌≤◌, List, length, ℕ};
 ghost use Rattle.cobs.specs.Overwritten.{overwritten};
-ghost use Rattle.cobs.specs.Decode.{decode_answer, first_output};
+ghost use Rattle.cobs.specs.Decode.{decode_answer, first_output, sized};
 ghost use Rattle.cobs.specs.Grammar.{Reads};
 ghost use Rattle.cobs.specs.Headline.{IsPiece, ReportsMessage};
+ghost use Rattle.cobs.specs.Piece.{output};
+ghost use Rattle.cobs.specs.Stream.{head, outcome_of};
 
+mod blocks;
 mod borrowed;
-mod chunk;
 mod error;
-mod fit;
-mod flat;
+mod forms;
 mod frame_decoder;
 mod front;
 mod heapless;
 mod in_place;
-mod kind;
-mod moves;
 mod owned;
 mod piece;
 mod report;
-mod sentinel;
-mod short;
+mod runs;
 mod state;
 mod unbuffered;
-mod vector;
-mod write_buffer;
-mod xored;
 
+pub use blocks::{FrameKind, frame_kind};
 pub use borrowed::CobsDecoder;
 pub use error::{DecodeError, DecodeVecError, PushError};
+pub use forms::{decode_vec, decode_vec_with_sentinel, decode_with_sentinel};
 pub(crate) use frame_decoder::piece_end;
-pub use frame_decoder::{FrameDecoder, PieceEnd};
+pub use frame_decoder::{FrameDecoder, PieceEnd, WriteBuffer};
 use front::decode_front;
 pub use heapless::CobsDecoderHeapless;
 pub use in_place::{decode_in_place, decode_in_place_report, decode_in_place_with_sentinel};
-pub use kind::{FrameKind, frame_kind};
 pub use owned::CobsDecoderOwned;
-use piece::{finish_piece, leading_zeros, piece_len};
+use piece::{copy_short, decode_copied, finish_piece, leading_zeros, piece_len};
 pub use report::{DecodeReport, DecodingResult};
-pub use sentinel::decode_with_sentinel;
-use short::{copy_short, decode_copied};
 pub use state::{DecodeResult, DecoderState};
 pub use unbuffered::{DecoderPhase, UnbufferedDecoder};
-pub use vector::{decode_vec, decode_vec_with_sentinel};
-pub use write_buffer::WriteBuffer;
+
+// The lengths at which another way takes over. Up to 64 bytes (`WIDE_WINDOW`) each call has a way of its own.
+
+/// So few bytes are pushed by a step each: a run takes some 130 instructions, however short it is.
+const FEW: usize = 4;
+
+/// A source of up to so many bytes is searched and copied as a whole; a longer one is decoded in one pass, which takes
+/// 0.4 instructions a byte if it has no zeros.
+const SHORT: usize = 96;
+
+/// So many bytes at least are decoded by windows, and are worth a search for the end of their piece: of a telemetry stream
+/// `push` takes 4.9 instructions a byte so, and 7.0 in chunks of 64 bytes.
+const MANY: usize = 128;
+
+/// If no zero is found in so many bytes, it is sought while they are decoded. For pieces of 70 to 600 bytes the search by
+/// itself is faster.
+const LONG: usize = 1024;
+
+/// Decodes what a source has in front of its first zero, where that begins with a code; returns how many bytes that is,
+/// and its message's length.
+#[inline(always)]
+fn decode_begun(source: &[u8], dest: &mut [u8]) -> (usize, Result<usize, DecodeError>)
+    requires begun { 0 < length (head source.now) }
+    ensures len { result.0 ≡ length (head source.now) }
+    ensures answer { result.1 ≡ sized (outcome_of (head source.now) (length dest.old)) }
+    ensures buffer { dest.new ≡ overwritten dest.old (output (head source.now)) }
+{
+    if copy_short(source, dest) {
+        return (source.len(), decode_copied(source, dest));
+    }
+    let front = decode_front(source, dest);
+    let len = front.read + piece_len(&source[front.read..]);
+    (
+        len,
+        finish_piece(&source[..len], dest, front.read, front.written),
+    )
+}
 
 /// Decodes the first frame of the source into `dest`, and answers how many bytes were consumed and how many the
 /// message has.
@@ -87,13 +116,8 @@ pub fn decode(source: &[u8], dest: &mut [u8]) -> Result<DecodeReport, DecodeErro
     if rest.is_empty() {
         return Err(DecodeError::InvalidFrame { decoded_bytes: 0 });
     }
-    if copy_short(rest, dest) {
-        let frame_size = decode_copied(rest, dest)?;
-        return Ok(DecodeReport::new(source.len(), frame_size));
-    }
-    let front = decode_front(rest, dest);
-    let len = front.read + piece_len(&rest[front.read..]);
-    let frame_size = finish_piece(&rest[..len], dest, front.read, front.written)?;
+    let (len, decoded) = decode_begun(rest, dest);
+    let frame_size = decoded?;
     let end = start + len;
     let parsed_size = if end < source.len() { end + 1 } else { end };
     Ok(DecodeReport::new(parsed_size, frame_size))

@@ -203,70 +203,6 @@ pub(crate) fn copy_nonzero_two<const N: usize>(
     true
 }
 
-/// Copies one, two or three bytes if none is a zero, and says whether it did: the first one, the one in the middle and
-/// the last one, some of which may be the same.
-#[inline(always)]
-fn copy_nonzero_few(source: &[u8], read: usize, len: usize, dest: &mut [u8], at: usize) -> bool
-    requires source { read + len ≤ length source.now }
-    requires some { 0 < len }
-    requires few { len ≤ 3 }
-    requires room { at + len ≤ length dest.old }
-    ensures nonzero { IsTrue result → HasNoZero (take len (drop read source.now)) }
-    ensures copied { IsTrue result
-        → dest.new ≡ take at dest.old
-        ++ (take len (drop read source.now) ++ drop (at + len) dest.old) }
-    ensures kept { result ≡ false → dest.new ≡ dest.old }
-{
-    let half = len / 2;
-    let last = len - 1;
-    let front = source[read];
-    let middle = source[read + half];
-    let back = source[read + last];
-    let zeros = (front == 0) as u64
-        | (((middle == 0) as u64) << half)
-        | (((back == 0) as u64) << last);
-    if zeros != 0 {
-        return false;
-    }
-    dest[at] = front;
-    dest[at + half] = middle;
-    dest[at + last] = back;
-    true
-}
-
-/// Copies the `len` bytes from `read` on, up to 64, if none is a zero, and says whether it did: by one class of their
-/// number.
-#[inline(always)]
-pub(crate) fn copy_nonzero_short(
-    source: &[u8],
-    read: usize,
-    len: usize,
-    dest: &mut [u8],
-    at: usize,
-) -> bool
-    requires source { read + len ≤ length source.now }
-    requires some { 0 < len }
-    requires few { len ≤ 64 }
-    requires room { at + len ≤ length dest.old }
-    ensures nonzero { IsTrue result → HasNoZero (take len (drop read source.now)) }
-    ensures copied { IsTrue result
-        → dest.new ≡ take at dest.old
-        ++ (take len (drop read source.now) ++ drop (at + len) dest.old) }
-    ensures kept { result ≡ false → dest.new ≡ dest.old }
-{
-    if len >= 32 {
-        copy_nonzero_two::<32>(source, read, len, dest, at)
-    } else if len >= 16 {
-        copy_nonzero_two::<16>(source, read, len, dest, at)
-    } else if len >= 8 {
-        copy_nonzero_two::<8>(source, read, len, dest, at)
-    } else if len >= 4 {
-        copy_nonzero_two::<4>(source, read, len, dest, at)
-    } else {
-        copy_nonzero_few(source, read, len, dest, at)
-    }
-}
-
 /// Copies the `len` bytes from `read` on, at least 64 of them, up to the first 64 of which one is a zero, and answers
 /// how many: in windows of 64 bytes, of which the last may overlap the one before it.
 #[inline(always)]
@@ -308,15 +244,6 @@ pub(crate) fn is_all(bytes: &[u8], byte: u8) -> bool
         .simd_ne(u8x32::splat(byte))
         .to_bitmask()
         == 0
-}
-
-/// Whether the first 32 bytes are all 1.
-#[inline(always)]
-pub(crate) fn is_ones(bytes: &[u8]) -> bool
-    requires { 32 ≤ length bytes.now }
-    ensures { IsTrue result → take 32 bytes.now ≡ replicate 32 1 }
-{
-    is_all(bytes, 1)
 }
 
 /// Writes 32 zeros.

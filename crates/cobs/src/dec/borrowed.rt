@@ -8,10 +8,9 @@ ghost use Rattle.cobs.specs.Push.{PushesBytes};
 ghost use Rattle.cobs.specs.Fields.Decoders.{borrowed_buffer, borrowed_phase, borrowed_slice, LendsSlice};
 
 use crate::dec::error::{DecodeError, PushError};
-use crate::dec::frame_decoder::{FrameDecoder, PieceEnd};
+use crate::dec::frame_decoder::{FrameDecoder, PieceEnd, WriteBuffer};
 use crate::dec::report::DecodeReport;
 use crate::dec::unbuffered::UnbufferedDecoder;
-use crate::dec::write_buffer::WriteBuffer;
 
 /// Decodes a stream of frames, each ended by a zero, into a slice that it borrows.
 ///

@@ -5,16 +5,12 @@ ghost use Rattle.cobs.specs.Grammar.{HasNoZero};
 ghost use Rattle.cobs.specs.Internal.Decoded.{Decoded};
 ghost use Rattle.cobs.specs.Stream.{head};
 
+use crate::dec::SHORT;
 use crate::enc::FULL_CODE;
-use crate::window::{
-    WINDOW, copy_nonzero, copy_nonzero_32, copy_nonzero_two, is_ones, write_zeros,
-};
+use crate::window::{WINDOW, copy_nonzero, copy_nonzero_32, copy_nonzero_two, is_all, write_zeros};
 
 /// No step reads or writes more bytes than a full block and the code after it.
 const LONGEST_STEP: usize = FULL_CODE + 1;
-
-/// So short a source is searched and copied as a whole.
-const SHORT: usize = 96;
 
 /// How far a source is decoded: up to a code of it, and how many bytes of the output are written.
 #[derive(Clone, Copy)]
@@ -40,7 +36,7 @@ pub(crate) fn decode_window(source: &[u8], dest: &mut [u8]) -> usize
     ensures some { HasNoZero (take 33 source.now) → 0 < result }
 {
     let mut code = source[0] as usize;
-    if code == 1 && is_ones(&source[1..]) {
+    if code == 1 && is_all(&source[1..], 1) {
         write_zeros(dest);
         return WINDOW;
     }
@@ -87,24 +83,6 @@ fn decode_full(source: &[u8], dest: &mut [u8]) -> Cursor
     }
 }
 
-/// Decodes the block of 32 bytes at the front of a source, if neither it nor the code after it has a zero; answers how
-/// many bytes it has read and written.
-#[inline(always)]
-fn decode_33(source: &[u8], dest: &mut [u8]) -> usize
-    requires begun { 0 < length (head source.now) }
-    requires code { slice_index source.now 0 ≡ 33 }
-    requires long { 34 ≤ length source.now }
-    requires room { 33 ≤ length dest.old }
-    ensures decoded { Decoded (head source.now) dest.old dest.new result result }
-    ensures within { result ≤ 33 }
-{
-    if !copy_nonzero_32(source, 1, dest, 0) || source[WINDOW + 1] == 0 {
-        return 0;
-    }
-    dest[WINDOW] = 0;
-    WINDOW + 1
-}
-
 /// Decodes the block at the front of a source, one with 32 bytes or more that isn't full, if neither it nor the code
 /// after it has a zero; answers how many bytes it has read and written.
 #[inline(always)]
@@ -147,8 +125,6 @@ fn decode_step(source: &[u8], dest: &mut [u8]) -> Cursor
     }
     let step = if code <= WINDOW {
         decode_window(source, dest)
-    } else if code == WINDOW + 1 {
-        decode_33(source, dest)
     } else {
         decode_long(source, dest)
     };

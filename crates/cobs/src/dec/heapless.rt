@@ -8,10 +8,9 @@ ghost use Rattle.cobs.specs.Headline.{IsPiece, PushesMessage};
 ghost use Rattle.cobs.specs.Push.{PushesBytes};
 
 use crate::dec::error::{DecodeError, PushError};
-use crate::dec::frame_decoder::{FrameDecoder, PieceEnd};
+use crate::dec::frame_decoder::{FrameDecoder, PieceEnd, WriteBuffer};
 use crate::dec::report::DecodeReport;
 use crate::dec::unbuffered::UnbufferedDecoder;
-use crate::dec::write_buffer::WriteBuffer;
 use arrayvec::ArrayVec;
 
 /// Decodes a stream of frames, each ended by a zero, into a buffer of `N` bytes that lies in the value itself.

@@ -1,20 +1,20 @@
 //! Decoding a frame in the buffer in which it stands.
-ghost use Rattle.std.specs.Prelude.{◌≡◌, false, ◌≢◌, ◌↔◌, ◌+◌, ◌-◌, ◌<◌, ◌≤◌, ℕ, List, All, length, take, drop, slice_index, IfErr, IsTrue};
+ghost use Rattle.std.specs.Prelude.{◌≡◌, false, ◌≢◌, ◌↔◌, ◌+◌, ◌-◌, ◌<◌, ◌≤◌, ℕ, List, length, take, drop, slice_index, IfErr, IsTrue};
 ghost use Rattle.cobs.specs.Overwritten.{overwritten};
 ghost use Rattle.cobs.specs.Decode.{head_answer, in_place, in_place_answer, in_place_report};
 ghost use Rattle.cobs.specs.Grammar.{HasNoZero, Reads, code_of};
 ghost use Rattle.cobs.specs.Headline.{AnswersMessage, IsPiece, ReportsMessage};
-ghost use Rattle.cobs.specs.Piece.{kept_output, lacks, last_part, output};
+ghost use Rattle.cobs.specs.Piece.{kept_output, last_part, output};
 ghost use Rattle.cobs.specs.Internal.Decoded.{IsFlat};
 ghost use Rattle.cobs.specs.Sentinel.{xor_each};
 ghost use Rattle.cobs.specs.declared.dec.error.DecodeError.TheVariants.{TargetBufTooSmall};
 
+use crate::dec::blocks::{flat_front, is_flat, write_joints};
 use crate::dec::error::DecodeError;
-use crate::dec::flat::{flat_front, is_flat, write_joints};
-use crate::dec::moves::{move_nonzero_short, move_to_front};
-use crate::dec::piece::piece_len;
+use crate::dec::piece::{len_without, piece_len};
 use crate::dec::report::DecodeReport;
 use crate::enc::xor_bytes;
+use crate::lanes::{move_nonzero_short, move_to_front};
 use crate::window::WIDE_WINDOW;
 
 /// How many bytes the first whole blocks of a piece have, through the first full one, and whether the last of them is
@@ -68,22 +68,6 @@ fn decode_short_in_place(buffer: &mut [u8], len: usize) -> bool
     }
     write_joints(buffer, first, len);
     true
-}
-
-/// How many bytes of a buffer stand before a zero that is its last byte, or all of them.
-///
-/// The clause `bytes` is for a caller that writes the buffer afterwards, whose type tells only of what it holds at last.
-#[inline(always)]
-fn len_without_zero(buffer: &[u8]) -> usize
-    ensures within { result ≤ length buffer.now }
-    ensures stop { result < length buffer.now → slice_index buffer.now result ≡ 0 }
-    ensures bytes { All (λ byte. byte < 256) buffer.now }
-{
-    let len = buffer.len();
-    if len > 0 && buffer[len - 1] == 0 {
-        return len - 1;
-    }
-    len
 }
 
 /// Decodes the blocks in the first `end` bytes of the buffer, and answers how many bytes they give.
@@ -162,7 +146,7 @@ pub fn decode_in_place_report(buf: &mut [u8]) -> Result<DecodeReport, DecodeErro
         → (ReportsMessage result buf.new m ↔ Reads buf.old m) }
     ensures room { IfErr result (λ error. error ≢ TargetBufTooSmall) }
 {
-    let len = len_without_zero(buf);
+    let len = len_without(buf, 0);
     if decode_short_in_place(buf, len) {
         return Ok(DecodeReport::new(len, len - 1));
     }

@@ -8,10 +8,9 @@ ghost use Rattle.cobs.specs.Push.{PushesBytes};
 ghost use Rattle.cobs.specs.Fields.Decoders.{owned_buffer, owned_phase, LendsOwned};
 
 use crate::dec::error::{DecodeError, PushError};
-use crate::dec::frame_decoder::{FrameDecoder, PieceEnd};
+use crate::dec::frame_decoder::{FrameDecoder, PieceEnd, WriteBuffer};
 use crate::dec::report::DecodeReport;
 use crate::dec::unbuffered::UnbufferedDecoder;
-use crate::dec::write_buffer::WriteBuffer;
 use std::alloc::{AllocError, Global};
 
 /// Decodes a stream of frames, each ended by a zero, into a buffer of its own.

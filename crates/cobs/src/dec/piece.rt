@@ -1,5 +1,5 @@
 //! Pieces that are at hand as a whole: where they end, how long their outputs are, and the outputs.
-ghost use Rattle.std.specs.Prelude.{◌≡◌, ◌+◌, ◌-◌, ◌++◌, ◌<◌, ◌≤◌, ℕ, IsTrue, List, length, take, drop, slice_index};
+ghost use Rattle.std.specs.Prelude.{All, ◌≢◌, false, ◌↔◌, ◌≡◌, ◌+◌, ◌-◌, ◌++◌, ◌<◌, ◌≤◌, ℕ, IsTrue, List, length, take, drop, slice_index};
 ghost use Rattle.cobs.specs.Grammar.{HasNoZero, code_of};
 ghost use Rattle.cobs.specs.Overwritten.{overwritten};
 ghost use Rattle.cobs.specs.Decode.{leading_zeros, sized};
@@ -7,15 +7,13 @@ ghost use Rattle.cobs.specs.Internal.Decoded.{Decoded};
 ghost use Rattle.cobs.specs.Piece.{output, last_part, lacks};
 ghost use Rattle.cobs.specs.Stream.{head, outcome_of};
 
+use crate::dec::MANY;
 use crate::dec::error::DecodeError;
-use crate::dec::fit::fitting_len;
 use crate::dec::front::{decode_front, decode_window};
 use crate::enc::FULL_CODE;
-use crate::window::{WINDOW, copy_window, first_zero_of_few};
+use crate::lanes::copy_xored_short;
+use crate::window::{WIDE_WINDOW, WINDOW, copy_window, first_zero_of_few};
 use memchr::memchr;
-
-/// So many bytes of a piece at least are decoded by windows.
-const MANY: usize = 128;
 
 /// What is to be known of a piece once its output is written.
 #[derive(Clone, Copy)]
@@ -28,13 +26,29 @@ pub(crate) struct PieceOutput {
     pub(crate) left: usize,
 }
 
-/// Where the first zero of a source that is not short stands, or its length.
-fn first_zero(source: &[u8]) -> usize
+/// Where the first such byte of a source is, or the source's length if there is none.
+pub(crate) fn first_of(source: &[u8], byte: u8) -> usize
     ensures within { result ≤ length source.now }
-    ensures nonzero { HasNoZero (take result source.now) }
-    ensures stop { result < length source.now → slice_index source.now result ≡ 0 }
+    ensures before { All (λ other. other ≢ byte) (take result source.now) }
+    ensures stop { result < length source.now → slice_index source.now result ≡ byte }
 {
-    memchr(0, source).unwrap_or(source.len())
+    memchr(byte, source).unwrap_or(source.len())
+}
+
+/// How many bytes of a source come before such a byte at its end; all of them if its last byte is another.
+///
+/// The clause `bytes` is for a caller that writes the source afterwards, whose type tells only of what it holds at last.
+#[inline(always)]
+pub(crate) fn len_without(source: &[u8], byte: u8) -> usize
+    ensures within { result ≤ length source.now }
+    ensures stop { result < length source.now → slice_index source.now result ≡ byte }
+    ensures bytes { All (λ other. other < 256) source.now }
+{
+    let len = source.len();
+    if len > 0 && source[len - 1] == byte {
+        return len - 1;
+    }
+    len
 }
 
 /// Where the first zero of the source stands, or the source's length where it has none.
@@ -44,7 +58,7 @@ pub(crate) fn piece_len(source: &[u8]) -> usize
     ensures stop { result < length source.now → slice_index source.now result ≡ 0 }
 {
     if source.len() > WINDOW {
-        return first_zero(source);
+        return first_of(source, 0);
     }
     if source.is_empty() {
         return 0;
@@ -80,8 +94,42 @@ fn copy_after_code(piece: &[u8], dest: &mut [u8])
     }
 }
 
-/// Decodes a piece in which no code stands after a full part: one copy, and a zero at each code. Codes of one value in
-/// a row go by a loop of their own, as in a window.
+/// Writes a zero at each code of a piece but the first, over a copy of what follows that one, where no code follows a full
+/// part. `alike` says that codes of one value in a row are worth a loop of their own, which needn't wait for each code to
+/// know where the next is.
+#[inline(always)]
+fn write_codes(piece: &[u8], dest: &mut [u8], alike: bool) -> PieceOutput
+    requires some { 0 < length piece.now }
+    requires nonzero { HasNoZero piece.now }
+    requires flat { length (output piece.now) + 1 ≡ length piece.now }
+    requires room { length piece.now ≤ length dest.old + 1 }
+    requires copied { take (length piece.now - 1) dest.old ≡ drop 1 piece.now }
+    ensures written { result.written ≡ length (output piece.now) }
+    ensures begins { take result.written dest.new ≡ output piece.now }
+    ensures rest { drop result.written dest.new ≡ drop result.written dest.old }
+    ensures code { result.code ≡ code_of (last_part piece.now) }
+    ensures left { result.left ≡ lacks (last_part piece.now) }
+{
+    let mut read = 0;
+    let mut code = piece[0] as usize;
+    'by_code: while code < piece.len() - read {
+        'alike: loop {
+            dest[read + (code - 1)] = 0;
+            read += code;
+            if !alike || piece[read] as usize != code || piece.len() - read <= code {
+                break;
+            }
+        }
+        code = piece[read] as usize;
+    }
+    PieceOutput {
+        written: piece.len() - 1,
+        code,
+        left: code - (piece.len() - read),
+    }
+}
+
+/// Decodes a piece in which no code stands after a full part: one copy, and a zero at each code.
 fn decode_flat_piece(piece: &[u8], dest: &mut [u8]) -> PieceOutput
     requires some { 0 < length piece.now }
     requires nonzero { HasNoZero piece.now }
@@ -94,22 +142,46 @@ fn decode_flat_piece(piece: &[u8], dest: &mut [u8]) -> PieceOutput
     ensures left { result.left ≡ lacks (last_part piece.now) }
 {
     copy_after_code(piece, dest);
-    let mut read = 0;
-    let mut code = piece[0] as usize;
-    'by_code: while code < piece.len() - read {
-        'alike: loop {
-            dest[read + (code - 1)] = 0;
-            read += code;
-            if piece[read] as usize != code || piece.len() - read <= code {
-                break;
-            }
-        }
-        code = piece[read] as usize;
+    write_codes(piece, dest, true)
+}
+
+/// Copies what stands after the first byte of a source, if that is some bytes, at most 64, they fit, and none is a
+/// zero; says whether it did.
+#[inline(always)]
+pub(crate) fn copy_short(source: &[u8], dest: &mut [u8]) -> bool
+    requires some { 0 < length source.now }
+    ensures few { IsTrue result → length source.now ≤ 65 }
+    ensures nonzero { IsTrue result → HasNoZero (drop 1 source.now) }
+    ensures room { IsTrue result → length source.now ≤ length dest.old + 1 }
+    ensures copied { IsTrue result
+        → dest.new ≡ drop 1 source.now ++ drop (length source.now - 1) dest.old }
+    ensures kept { result ≡ false → dest.new ≡ dest.old }
+{
+    let len = source.len() - 1;
+    if len == 0 || WIDE_WINDOW < len || dest.len() < len {
+        return false;
     }
-    PieceOutput {
-        written: piece.len() - 1,
-        code,
-        left: code - (piece.len() - read),
+    copy_xored_short(&source[1..], dest, 0)
+}
+
+/// Decodes a short piece, of which all but the first code is copied already, and answers its message's length.
+#[inline(always)]
+pub(crate) fn decode_copied(piece: &[u8], dest: &mut [u8]) -> Result<usize, DecodeError>
+    requires some { 0 < length piece.now }
+    requires nonzero { HasNoZero piece.now }
+    requires few { length piece.now < 255 }
+    requires room { length piece.now ≤ length dest.old + 1 }
+    requires copied { take (length piece.now - 1) dest.old ≡ drop 1 piece.now }
+    ensures answer { result ≡ sized (outcome_of piece.now (length dest.old)) }
+    ensures buffer { dest.new ≡ overwritten dest.old (output piece.now) }
+{
+    let end = write_codes(piece, dest, false);
+    if end.left == 0 {
+        Ok(end.written)
+    } else {
+        Err(DecodeError::InvalidFrame {
+            decoded_bytes: end.written,
+        })
     }
 }
 
@@ -181,6 +253,36 @@ pub(crate) fn decode_head(source: &[u8], dest: &mut [u8], clean: bool) -> (usize
         left: rest.left,
     };
     (end, all)
+}
+
+/// How many of the first bytes of a piece have an output that fits `room` bytes: all of them exactly where the whole
+/// output does, and else so many that the output fills the room.
+///
+/// It takes one step for each code, and none where the room is enough for any piece of this length.
+pub(crate) fn fitting_len(piece: &[u8], room: usize) -> usize
+    requires some { 0 < length piece.now }
+    requires nonzero { HasNoZero piece.now }
+    ensures some { 0 < result }
+    ensures within { result ≤ length piece.now }
+    ensures front { output (take result piece.now) ≡ take room (output piece.now) }
+    ensures too_long { (result < length piece.now) ↔ (room < length (output piece.now)) }
+{
+    // An output is shorter than its piece.
+    if piece.len() - 1 <= room {
+        return piece.len();
+    }
+    let mut left = room;
+    let mut read = 0;
+    'by_code: loop {
+        let code = piece[read] as usize;
+        // What a block adds where another one follows it: its bytes and a zero, or a full block's bytes alone.
+        let adds = code.min(FULL_CODE - 1);
+        if piece.len() - read <= code || left < adds {
+            return (read + 1 + left).min(piece.len());
+        }
+        left -= adds;
+        read += code;
+    }
 }
 
 /// Decodes what is left of a piece that has ended, where `read` bytes of it have become the first `written` bytes of

@@ -1,4 +1,3 @@
-use Rattle.std.proofs.Common.{arith}
 use Rattle.cobs.proofs.MaskLemmas.{zeros_by_lanes}
 use Rattle.cobs.proofs.window.zeros_at.Goals as goal
 

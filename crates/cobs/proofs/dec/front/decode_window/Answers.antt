@@ -9,10 +9,10 @@ use Rattle.cobs.proofs.FrontSteps.{head-behind, head-get, head-part, ones-front}
 use Rattle.cobs.proofs.WindowSteps.{code-pos, window-decoded, window-copied, ones-decoded, code-decoded-within, code-copied}
 use Rattle.cobs.proofs.dec.front.decode_window.Goals as goal
 
-pub returns-then-is_ones-clause-decoded : goal.returns-then-is_ones-clause-decoded
-returns-then-is_ones-clause-decoded c =
+pub returns-then-is_all-clause-decoded : goal.returns-then-is_all-clause-decoded
+returns-then-is_all-clause-decoded c =
     let source : List ℕ = c.args.source.now in
-    let ones : take 32 (drop 1 source) ≡ replicate 32 1 = ap (take 32) (sym (take_rest source 1)) ∙ c.is_ones.ensures c.if-is_ones.true in
+    let ones : take 32 (drop 1 source) ≡ replicate 32 1 = ap (take 32) (sym (take_rest source 1)) ∙ c.is_all.ensures c.if-is_all.true in
     let front = ones-front source c.requires.long c.if-code-eq1.true ones in
     ones-decoded (head source) c.args.dest.now c.write_zeros.new.dest front.0 front.1 c.write_zeros.ensures
 

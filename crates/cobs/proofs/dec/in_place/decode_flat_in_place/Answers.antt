@@ -1,8 +1,7 @@
-use Rattle.std.proofs.Common.{◌∙◌, ap, sym, subst}
+use Rattle.std.proofs.Common.{◌∙◌, ap, sym, subst, arith, drop, length-drop, length-take-le}
 use Rattle.cobs.specs.Grammar.{HasNoZero}
 use Rattle.cobs.specs.Piece.{output}
-use Rattle.cobs.specs.Internal.Decoded.{IsFlat}
-use Rattle.cobs.proofs.FlatLemmas.{moved-piece, moved-rest, flat-some}
+use Rattle.cobs.proofs.FlatLemmas.{moved-piece, moved-rest, flat-some, flat-copy}
 use Rattle.cobs.proofs.dec.in_place.decode_flat_in_place.Goals as goal
 
 pub write_joints-requires-clause-nonzero : goal.write_joints-requires-clause-nonzero
@@ -13,7 +12,9 @@ write_joints-requires-clause-nonzero c =
 pub write_joints-requires-clause-flat : goal.write_joints-requires-clause-flat
 write_joints-requires-clause-flat c =
     let some = flat-some c.args.buffer.now c.args.from c.args.len c.requires.flat in
-    subst IsFlat (sym (moved-piece c.args.buffer.now c.move_to_front.new.buffer c.args.from c.args.len c.requires.within some c.move_to_front.ensures)) c.requires.flat
+    let d = length-drop c.args.from c.args.buffer.now in
+    flat-copy _ _ c.args.len (moved-piece c.args.buffer.now c.move_to_front.new.buffer c.args.from c.args.len c.requires.within some c.move_to_front.ensures) c.requires.flat
+    (length-take-le c.args.len (drop c.args.from c.args.buffer.now) (omega (arith, c.requires.within)))
 
 pub returns-clause-begins : goal.returns-clause-begins
 returns-clause-begins c =

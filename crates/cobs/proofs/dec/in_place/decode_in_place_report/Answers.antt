@@ -15,26 +15,26 @@ use Rattle.cobs.proofs.dec.in_place.decode_in_place_report.Goals as goal
 
 pub returns-then-decode_short_in_place-clause-answer : goal.returns-then-decode_short_in_place-clause-answer
 returns-then-decode_short_in_place-clause-answer c =
-    let e = c.len_without_zero-len.ensures in
+    let e = c.len_without-len.ensures in
     let d = c.decode_short_in_place.ensures in
     let yes = c.if-decode_short_in_place.true in
     let some = d.some yes in
-    let t = length-take-le c.len_without_zero-len.result c.args.buf.now e.within in
-    in_place_report-decoded c.args.buf.now _ (omega arith) (front_is_head _ _ e.within (d.nonzero yes) e.stop) (Ok (c.len_without_zero-len.result - 1))
-    (flat-answer _ (d.flat yes) (c.len_without_zero-len.result - 1) (omega arith)) _ _ refl (sym t) _ c.new.ensures
+    let t = length-take-le c.len_without-len.result c.args.buf.now e.within in
+    in_place_report-decoded c.args.buf.now _ (omega arith) (front_is_head _ _ e.within (d.nonzero yes) e.stop) (Ok (c.len_without-len.result - 1))
+    (flat-answer _ (d.flat yes) (c.len_without-len.result - 1) (omega arith)) _ _ refl (sym t) _ c.new.ensures
 
 pub returns-then-decode_short_in_place-clause-buffer : goal.returns-then-decode_short_in_place-clause-buffer
 returns-then-decode_short_in_place-clause-buffer c =
-    let e = c.len_without_zero-len.ensures in
+    let e = c.len_without-len.ensures in
     let d = c.decode_short_in_place.ensures in
     let yes = c.if-decode_short_in_place.true in
     let some = d.some yes in
-    overwritten-front c.args.buf.now c.decode_short_in_place.new.buffer _ (c.len_without_zero-len.result - 1) c.decode_short_in_place.auto.buffer (omega arith) d.rest (flat-kept _ (d.flat yes) ∙ sym (d.begins yes))
+    overwritten-front c.args.buf.now c.decode_short_in_place.new.buffer _ (c.len_without-len.result - 1) c.decode_short_in_place.auto.buffer (omega arith) d.rest (flat-kept _ (d.flat yes) ∙ sym (d.begins yes))
     ∙ ap (λ (h : List ℕ). overwritten c.args.buf.now (kept_output h)) (front_is_head _ _ e.within (d.nonzero yes) e.stop)
 
 pub returns-then-decode_short_in_place-clause-reads : goal.returns-then-decode_short_in_place-clause-reads
 returns-then-decode_short_in_place-clause-reads c =
-    in_place_report_reads c.args.buf.now _ _ (returns-then-decode_short_in_place-clause-answer c) (returns-then-decode_short_in_place-clause-buffer c) c.len_without_zero-len.ensures.bytes
+    in_place_report_reads c.args.buf.now _ _ (returns-then-decode_short_in_place-clause-answer c) (returns-then-decode_short_in_place-clause-buffer c) c.len_without-len.ensures.bytes
 
 -- any other
 
@@ -54,7 +54,7 @@ returns-in_err-frame_size-clause-buffer c =
 
 pub returns-in_err-frame_size-clause-reads : goal.returns-in_err-frame_size-clause-reads
 returns-in_err-frame_size-clause-reads c =
-    in_place_report_reads c.args.buf.now _ _ (returns-in_err-frame_size-clause-answer c) (returns-in_err-frame_size-clause-buffer c) c.len_without_zero-len.ensures.bytes
+    in_place_report_reads c.args.buf.now _ _ (returns-in_err-frame_size-clause-answer c) (returns-in_err-frame_size-clause-buffer c) c.len_without-len.ensures.bytes
 
 pub returns-clause-answer : goal.returns-clause-answer
 returns-clause-answer c =
@@ -72,4 +72,4 @@ returns-clause-buffer c =
 
 pub returns-clause-reads : goal.returns-clause-reads
 returns-clause-reads c =
-    in_place_report_reads c.args.buf.now _ _ (returns-clause-answer c) (returns-clause-buffer c) c.len_without_zero-len.ensures.bytes
+    in_place_report_reads c.args.buf.now _ _ (returns-clause-answer c) (returns-clause-buffer c) c.len_without-len.ensures.bytes

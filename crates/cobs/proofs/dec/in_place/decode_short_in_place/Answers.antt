@@ -1,9 +1,9 @@
-use Rattle.std.proofs.Common.{◌∙◌, ℕ, List, take, refl, ap, sym, subst, arith}
+use Rattle.std.proofs.Common.{◌∙◌, ℕ, List, take, refl, ap, sym, subst, arith, length-take-le}
 use Rattle.cobs.specs.Grammar.{HasNoZero}
 use Rattle.cobs.specs.Piece.{output}
 use Rattle.cobs.specs.Internal.Decoded.{IsFlat}
 use Rattle.cobs.proofs.SentinelLemmas.{xor_each-zero}
-use Rattle.cobs.proofs.FlatLemmas.{moved-piece, moved-rest, piece-nonzero}
+use Rattle.cobs.proofs.FlatLemmas.{moved-piece, moved-rest, piece-nonzero, flat-copy}
 use Rattle.cobs.proofs.dec.in_place.decode_short_in_place.Goals as goal
 
 pub write_joints-requires-clause-nonzero : goal.write_joints-requires-clause-nonzero
@@ -18,7 +18,7 @@ write_joints-requires-clause-flat c =
     let m = c.if-not-move_nonzero_short.ensures in
     let old : List ℕ = c.args.buffer.now in
     let piece = moved-piece old c.move_nonzero_short.new.buffer 0 c.args.len (omega arith) (omega arith) (m.moved refl) in
-    subst IsFlat (sym piece) (subst IsFlat (xor_each-zero (take c.args.len old)) (c.if-not-is_flat.ensures refl))
+    flat-copy _ _ c.args.len piece (subst IsFlat (xor_each-zero (take c.args.len old)) (c.if-not-is_flat.ensures refl)) (length-take-le c.args.len old c.requires)
 
 pub returns-clause-nonzero : goal.returns-clause-nonzero
 returns-clause-nonzero c holds =

@@ -1,6 +1,0 @@
-use Rattle.std.proofs.Common.{arith}
-use Rattle.cobs.proofs.MoveLemmas.{parts-moved}
-use Rattle.cobs.proofs.dec.moves.move_two.Goals as goal
-
-pub returns : goal.returns
-returns g c = parts-moved c.args.buffer.now c.args.from c.args.len g.row.N c.requires.within (omega arith) (omega arith)

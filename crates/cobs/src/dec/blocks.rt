@@ -1,0 +1,172 @@
+//! Blocks that are walked from code to code: stretches of whole blocks of which none but the last is full, so that each
+//! byte after the first code gives one byte; and whether a list is a frame.
+ghost use Rattle.std.specs.Prelude.{◌≡◌, ◌↔◌, ◌+◌, ◌-◌, ◌<◌, ◌≤◌, ◌∷◌, length, take, drop, slice_index, IsTrue};
+ghost use Rattle.cobs.specs.Grammar.{HasNoZero, code_of, IsCanonical, IsFrame};
+ghost use Rattle.cobs.specs.Piece.{last_part, output};
+ghost use Rattle.cobs.specs.Internal.Decoded.{IsFlat};
+ghost use Rattle.cobs.specs.Sentinel.{xor_each};
+
+use crate::dec::piece::piece_len;
+use crate::enc::FULL_CODE;
+use crate::window::{WINDOW, is_all, write_zeros};
+
+/// How many bytes the first whole blocks of a piece have, through the first full one, and whether the last of them is
+/// full. 0 bytes: the first block is broken. Each byte of the piece is taken by exclusive or with the sentinel.
+///
+/// Rows of empty blocks go by 32 at a time, and codes of one value in a row by a loop of their own, which needn't
+/// wait for each.
+#[inline(always)]
+pub(crate) fn flat_front(piece: &[u8], sentinel: u8) -> (usize, bool)
+    requires { HasNoZero (xor_each sentinel piece.now) }
+    ensures within { result.0 ≤ length piece.now }
+    ensures flat { 0 < result.0 → IsFlat (take result.0 (xor_each sentinel piece.now)) }
+    ensures full { 0 < result.0 → (IsTrue result.1
+        ↔ (code_of (last_part (take result.0 (xor_each sentinel piece.now))) ≡ 255)) }
+    ensures broken { result.0 ≡ 0 → 0 < length piece.now
+        → length piece.now < slice_index (xor_each sentinel piece.now) 0 }
+{
+    let mut read = 0;
+    if piece.is_empty() {
+        return (read, false);
+    }
+    'by_code: loop {
+        let code = (piece[read] ^ sentinel) as usize;
+        if code == 1 && piece.len() - read > WINDOW && is_all(&piece[read..], 1 ^ sentinel) {
+            read += WINDOW;
+        } else {
+            'alike: loop {
+                if piece.len() - read <= code {
+                    if piece.len() - read < code {
+                        return (read, false);
+                    }
+                    return (read + code, code == FULL_CODE);
+                }
+                if code == FULL_CODE {
+                    return (read + code, true);
+                }
+                read += code;
+                if (piece[read] ^ sentinel) as usize != code {
+                    break;
+                }
+            }
+        }
+    }
+}
+
+/// Whether a short source is such a stretch, each byte taken by exclusive or with the sentinel, as far as the codes say.
+#[inline(always)]
+pub(crate) fn is_flat(source: &[u8], sentinel: u8) -> bool
+    requires some { 0 < length source.now }
+    requires few { length source.now < 255 }
+    ensures { IsTrue result → IsFlat (xor_each sentinel source.now) }
+{
+    let mut read = 0;
+    'by_code: loop {
+        let code = (source[read] ^ sentinel) as usize;
+        let left = source.len() - read;
+        if left <= code {
+            return left == code;
+        }
+        if code == 0 {
+            return false;
+        }
+        read += code;
+    }
+}
+
+/// Writes a zero over each code in the first bytes of `dest`, which are what follows the first code of such a stretch of
+/// `len` bytes, or of one that is cut. Each byte after them stays.
+#[inline(always)]
+pub(crate) fn write_joints(dest: &mut [u8], first: usize, len: usize)
+    requires some { 0 < len }
+    requires room { len ≤ length dest.old + 1 }
+    requires nonzero { HasNoZero (first ∷ take (len - 1) dest.old) }
+    requires flat { length (output (first ∷ take (len - 1) dest.old)) + 1 ≡ len }
+    ensures begins { take (len - 1) dest.new ≡ output (first ∷ take (len - 1) dest.old) }
+    ensures rest { drop (len - 1) dest.new ≡ drop (len - 1) dest.old }
+{
+    let mut code = first;
+    let mut read = 0;
+    'by_code: while code < len - read {
+        if code == 1 && len - read > WINDOW && is_all(&dest[read..], 1) {
+            write_zeros(&mut dest[read..]);
+            read += WINDOW;
+        } else {
+            'alike: loop {
+                let at = read + (code - 1);
+                let next = dest[at] as usize;
+                dest[at] = 0;
+                read += code;
+                if next != code || len - read <= code {
+                    code = next;
+                    break;
+                }
+            }
+        }
+    }
+}
+
+/// What a list of bytes is to a decoder. (The names are this library's own.)
+///
+/// ```
+/// assert_eq!(rt; frame_kind(&[]), FrameKind::NotAFrame);
+/// assert_eq!(rt; frame_kind(&[1]), FrameKind::Canonical);
+/// ```
+#[derive(Debug, Drop, PartialEq, Eq)]
+pub enum FrameKind {
+    /// No message: the list is empty, has a zero, or breaks off inside a block.
+    NotAFrame,
+
+    /// The frame that encoders give for its message.
+    Canonical,
+
+    /// The longer frame of its message: the one that encoders give, followed by a block without bytes. Only a message
+    /// whose last run of nonzero bytes fills its blocks has one.
+    Longer,
+}
+
+/// Whether the bytes are a frame, and whether they are the one that encoders give for its message.
+///
+/// The bytes are taken without sentinels around them. A frame is longer than its message's encoded one exactly where
+/// its last two blocks are a full one and the block that has no bytes; decoders read the two alike. No memory is
+/// taken.
+///
+/// A frame is defined by its blocks, after Cheshire and Baker; which of two frames is the canonical one is said by
+/// their encoder, which gives the shorter.
+///
+/// ```
+/// assert_eq!(rt; frame_kind(b"\x06hello"), FrameKind::Canonical);
+/// assert_eq!(rt; frame_kind(b"\x07hello"), FrameKind::NotAFrame);
+///
+/// let mut longer = [1; 256];
+/// longer[0] = 255;
+/// assert_eq!(rt; frame_kind(&longer), FrameKind::Longer);
+/// assert_eq!(rt; frame_kind(&longer[..255]), FrameKind::Canonical);
+/// ```
+pub fn frame_kind(bytes: &[u8]) -> FrameKind
+    ensures not_a_frame { (result ≡ FrameKind.NotAFrame) ↔ ¬ IsFrame bytes.now }
+    ensures canonical { (result ≡ FrameKind.Canonical) ↔ IsCanonical bytes.now }
+    ensures longer { (result ≡ FrameKind.Longer) ↔ (IsFrame bytes.now × ¬ IsCanonical bytes.now) }
+{
+    if bytes.is_empty() || piece_len(bytes) < bytes.len() {
+        return FrameKind::NotAFrame;
+    }
+    let mut read = 0;
+    let mut after_full = false;
+    'by_block: loop {
+        let code = bytes[read] as usize;
+        let left = bytes.len() - read;
+        if left < code {
+            return FrameKind::NotAFrame;
+        }
+        if left == code {
+            return if after_full && code == 1 {
+                FrameKind::Longer
+            } else {
+                FrameKind::Canonical
+            };
+        }
+        after_full = code == FULL_CODE;
+        read += code;
+    }
+}

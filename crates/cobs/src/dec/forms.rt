@@ -1,0 +1,228 @@
+//! The other decode forms from a source that stays as it is: for any sentinel, and into a vector.
+ghost use Rattle.std.specs.Prelude.{◌≡◌, IsTrue, false, ◌≢◌, ◌+◌, ◌-◌, if◌then◌else◌, ◌++◌, ◌<◌, ◌≤◌, length, take, drop, ◌↔◌, List, ℕ, [], IfOk, IfErr, IsOkAnd};
+ghost use Rattle.cobs.specs.Overwritten.{overwritten};
+ghost use Rattle.cobs.specs.Decode.{head_answer_within, source_answer, decoded, decoded_head, IsRefusal};
+ghost use Rattle.cobs.specs.Grammar.{HasNoZero, Reads};
+ghost use Rattle.cobs.specs.Headline.{AnswersMessage, IsPiece, FoundMemory};
+ghost use Rattle.cobs.specs.Piece.{kept_output, output};
+ghost use Rattle.cobs.specs.Internal.Decoded.{IsFlat};
+ghost use Rattle.cobs.specs.Sentinel.{xor_each};
+ghost use Rattle.cobs.specs.Stream.{head};
+ghost use Rattle.cobs.specs.declared.dec.error.DecodeError.TheVariants.{EmptyFrame, TargetBufTooSmall};
+
+use crate::dec::blocks::{flat_front, is_flat, write_joints};
+use crate::dec::decode;
+use crate::dec::error::{DecodeError, DecodeVecError};
+use crate::dec::piece::{first_of, len_without};
+use crate::lanes::copy_xored_short;
+use crate::window::WIDE_WINDOW;
+use std::alloc::Global;
+
+/// Writes the bytes of the source, each changed by exclusive or with the sentinel, to where `at` says.
+#[inline(never)]
+fn copy_xored(source: &[u8], dest: &mut [u8], at: usize, sentinel: u8)
+    requires { at + length source.now ≤ length dest.old }
+    ensures { dest.new ≡ take at dest.old ++ xor_each sentinel source.now
+        ++ drop (at + length source.now) dest.old }
+{
+    'by_byte: for i in 0..source.len() {
+        dest[at + i] = source[i] ^ sentinel;
+    }
+}
+
+/// Decodes blocks of which none but the last is full, and the last may be cut, to the front of `dest`: one copy, and a
+/// zero at each code. Each byte after what they give stays.
+fn decode_xored_flat(source: &[u8], dest: &mut [u8], sentinel: u8)
+    requires nonzero { HasNoZero (xor_each sentinel source.now) }
+    requires some { 0 < length source.now }
+    requires flat { length (output (xor_each sentinel source.now)) + 1 ≡ length source.now }
+    requires room { length source.now ≤ length dest.old + 1 }
+    ensures begins { take (length source.now - 1) dest.new
+        ≡ output (xor_each sentinel source.now) }
+    ensures rest { drop (length source.now - 1) dest.new ≡ drop (length source.now - 1) dest.old }
+{
+    let first = (source[0] ^ sentinel) as usize;
+    copy_xored(&source[1..], dest, 0, sentinel);
+    write_joints(dest, first, source.len());
+}
+
+/// Decodes the blocks of a source that has no sentinel, and answers how many bytes they give.
+///
+/// The whole blocks through each full one are decoded by one copy; if their bytes don't fit, those of them that do.
+fn decode_fronts(source: &[u8], dest: &mut [u8], sentinel: u8) -> Result<usize, DecodeError>
+    requires { HasNoZero (xor_each sentinel source.now) }
+    ensures answer { result ≡ head_answer_within (xor_each sentinel source.now) (length dest.old) }
+    ensures buffer { dest.new ≡ overwritten dest.old (kept_output (xor_each sentinel source.now)) }
+{
+    let mut read = 0;
+    let mut written = 0;
+    'by_front: while read < source.len() {
+        let (len, full) = flat_front(&source[read..], sentinel);
+        if len == 0 {
+            return Err(DecodeError::InvalidFrame {
+                decoded_bytes: written,
+            });
+        }
+        let due = !full && read + len < source.len();
+        let gives = if due { len } else { len - 1 };
+        let room = dest.len() - written;
+        if room < gives {
+            decode_xored_flat(&source[read..=read + room], &mut dest[written..], sentinel);
+            return Err(DecodeError::TargetBufTooSmall);
+        }
+        decode_xored_flat(&source[read..read + len], &mut dest[written..], sentinel);
+        read += len;
+        written += len - 1;
+        if due {
+            dest[written] = 0;
+            written += 1;
+        }
+    }
+    Ok(written)
+}
+
+/// Decodes a source of 2 to 65 bytes, if these are whole blocks without a sentinel that fit; says whether it did. Each
+/// byte after what they give stays, or where it did not every byte.
+fn decode_xored_short(source: &[u8], dest: &mut [u8], sentinel: u8) -> bool
+    ensures nonzero { IsTrue result → HasNoZero (xor_each sentinel source.now) }
+    ensures flat { IsTrue result → IsFlat (xor_each sentinel source.now) }
+    ensures room { IsTrue result → length source.now ≤ length dest.old + 1 }
+    ensures begins { IsTrue result → take (length source.now - 1) dest.new
+        ≡ output (xor_each sentinel source.now) }
+    ensures rest { drop (length source.now - 1) dest.new ≡ drop (length source.now - 1) dest.old }
+    ensures kept { result ≡ false → dest.new ≡ dest.old }
+{
+    let len = source.len();
+    if len < 2 || WIDE_WINDOW + 1 < len || dest.len() < len - 1 || source[0] == sentinel {
+        return false;
+    }
+    if !is_flat(source, sentinel) || !copy_xored_short(&source[1..], dest, sentinel) {
+        return false;
+    }
+    write_joints(dest, (source[0] ^ sentinel) as usize, len);
+    true
+}
+
+/// Decodes the frame at the front of the source, where the sentinel may be any byte, and answers the message's length.
+///
+/// The source alone is read, up to its first sentinel or its end; each byte is taken by exclusive or with the sentinel.
+/// The message then stands at the front of `dest`, and every byte after it is as it was. Unlike `decode`, this reads a
+/// leading sentinel as an empty message, and answers 0.
+///
+/// # Errors
+///
+/// - `EmptyFrame` where the source is empty; `dest` is as it was.
+/// - `TargetBufTooSmall` where the message, or what the whole blocks of a frame give that breaks off inside a block, is
+///   longer than `dest`, which then holds the first bytes of it.
+/// - `InvalidFrame` where the frame breaks off inside a block and that does fit: `dest` begins with what the whole blocks
+///   before it gave, `decoded_bytes` says how many bytes these are, and every byte after them is as it was.
+///
+/// Frames for another sentinel than 0 are Cheshire and Baker's; the answers to broken ones are a choice of this
+/// library.
+///
+/// ```
+/// let mut dest = [170; 5];
+/// let len = decode_with_sentinel(&[252, 245, 244, 253, 243, 255], &mut dest, 255);
+/// assert_eq!(rt; len, Ok(4));
+/// assert_eq!(rt; dest, [10, 11, 0, 12, 170]);
+/// ```
+pub fn decode_with_sentinel(
+    source: &[u8],
+    dest: &mut [u8],
+    sentinel: u8,
+) -> Result<usize, DecodeError>
+    ensures answer { result ≡ source_answer (xor_each sentinel source.now) (length dest.old) }
+    ensures buffer { dest.new ≡ overwritten dest.old
+        (kept_output (head (xor_each sentinel source.now))) }
+    ensures reads { let f = xor_each sentinel source.now in IsPiece f → (m : List ℕ)
+        → (AnswersMessage result dest.new m ↔ (Reads f m × (length m ≤ length dest.old))) }
+{
+    if source.is_empty() {
+        return Err(DecodeError::EmptyFrame);
+    }
+    let len = len_without(source, sentinel);
+    if decode_xored_short(&source[..len], dest, sentinel) {
+        return Ok(len - 1);
+    }
+    let end = first_of(source, sentinel);
+    decode_fronts(&source[..end], dest, sentinel)
+}
+
+/// The message of the first frame of the source, in a vector of exactly its bytes.
+///
+/// The frame is found and read as by [`decode`]. Memory is asked for once, for as many bytes as the source has, so a
+/// message always fits and `TargetBufTooSmall` never comes.
+///
+/// # Errors
+///
+/// `Decode(EmptyFrame)` where the source is empty, and then no memory is asked for; else `Memory` where memory was
+/// refused; else `Decode` with the refusal of [`decode`].
+///
+/// ```
+/// let message = decode_vec(alloc, b"\x06hello\0")?;
+/// assert_eq!(rt; message.as_slice(), b"hello".as_slice());
+/// ```
+pub fn decode_vec(alloc: Global, source: &[u8]) -> Result<Vec<u8>, DecodeVecError>
+    ensures message { IfOk result (λ message. decoded source.now ≡ Ok message.items) }
+    ensures refused { IfErr result (λ error. IsRefusal (decoded source.now) error) }
+    ensures empty { source.now ≡ [] → result ≡ Err (DecodeVecError.Decode EmptyFrame) }
+    ensures room { IfErr result (λ error. error ≢ DecodeVecError.Decode TargetBufTooSmall) }
+    ensures reads { IsPiece source.now → FoundMemory result → (m : List ℕ)
+        → (IsOkAnd result (λ message. message.items ≡ m) ↔ Reads source.now m) }
+{
+    if source.is_empty() {
+        return Err(DecodeVecError::Decode(DecodeError::EmptyFrame));
+    }
+    let mut message = vec![in alloc; 0; source.len()].map_err(DecodeVecError::Memory)?;
+    match decode(source, &mut message) {
+        Ok(report) => {
+            message.truncate(report.frame_size());
+            Ok(message)
+        }
+        Err(error) => Err(DecodeVecError::Decode(error)),
+    }
+}
+
+/// The message of the frame at the front of the source, where the sentinel may be any byte, in a vector of exactly its
+/// bytes.
+///
+/// The frame is read as by [`decode_with_sentinel`], up to the first sentinel or the source's end; a leading sentinel
+/// gives an empty vector. Memory is asked for once, for as many bytes as the source has, so a message always fits and
+/// `TargetBufTooSmall` never comes.
+///
+/// # Errors
+///
+/// `Decode(EmptyFrame)` where the source is empty, and then no memory is asked for; else `Memory` where memory was
+/// refused; else `Decode` with the refusal of [`decode_with_sentinel`].
+///
+/// ```
+/// let message = decode_vec_with_sentinel(alloc, &[252, 245, 244, 253, 243], 255)?;
+/// assert_eq!(rt; message.as_slice(), [10, 11, 0, 12].as_slice());
+/// ```
+pub fn decode_vec_with_sentinel(
+    alloc: Global,
+    source: &[u8],
+    sentinel: u8,
+) -> Result<Vec<u8>, DecodeVecError>
+    ensures message { IfOk result
+        (λ message. decoded_head (xor_each sentinel source.now) ≡ Ok message.items) }
+    ensures refused { IfErr result
+        (λ error. IsRefusal (decoded_head (xor_each sentinel source.now)) error) }
+    ensures empty { source.now ≡ [] → result ≡ Err (DecodeVecError.Decode EmptyFrame) }
+    ensures room { IfErr result (λ error. error ≢ DecodeVecError.Decode TargetBufTooSmall) }
+    ensures reads { let f = xor_each sentinel source.now in
+        IsPiece f → FoundMemory result → (m : List ℕ)
+        → (IsOkAnd result (λ message. message.items ≡ m) ↔ Reads f m) }
+{
+    if source.is_empty() {
+        return Err(DecodeVecError::Decode(DecodeError::EmptyFrame));
+    }
+    let mut message = vec![in alloc; 0; source.len()].map_err(DecodeVecError::Memory)?;
+    match decode_with_sentinel(source, &mut message, sentinel) {
+        Ok(len) => {
+            message.truncate(len);
+            Ok(message)
+        }
+        Err(error) => Err(DecodeVecError::Decode(error)),
+    }
+}

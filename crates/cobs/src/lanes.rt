@@ -1,0 +1,338 @@
+//! Stretches of bytes of other lengths than a window's: copied up to a zero, copied or moved if none is a zero or a
+//! sentinel, and moved within one buffer, where the places may overlap. All of a part is loaded before any of it is stored.
+//!
+//! `copy_to_zero` is for chunks of 64 bytes of a stream, `copy_xored_short` and `move_nonzero_short` are for messages of
+//! up to 64 bytes, as telemetry has, and `move_to_front` is for long ones in place.
+ghost use Rattle.std.specs.Prelude.{◌≡◌, ◌<◌, ◌≤◌, ◌+◌, ◌++◌, length, take, drop, IsTrue, false};
+ghost use Rattle.cobs.specs.Grammar.{HasNoZero};
+ghost use Rattle.cobs.specs.Sentinel.{xor_each};
+
+use crate::window::{
+    WIDE_WINDOW, WINDOW, copy_nonzero_two, copy_window, first_zero_of_few, zeros_at,
+};
+use std::simd::prelude::*;
+
+/// Copies the first `len` of 32 bytes, by one load and one store of a whole window for each number of them.
+#[inline(always)]
+fn copy_first(window: &[u8], len: usize, dest: &mut [u8], at: usize)
+    requires source { 32 ≤ length window.now }
+    requires few { len ≤ 32 }
+    requires room { at + 32 ≤ length dest.old }
+    ensures { dest.new ≡ take at dest.old ++ (take len window.now ++ drop (at + len) dest.old) }
+{
+    let places = u8x32::from_array([
+        0, 1, 2, 3, 4, 5, 6, 7, 8, 9, 10, 11, 12, 13, 14, 15, 16, 17, 18, 19, 20, 21, 22, 23, 24,
+        25, 26, 27, 28, 29, 30, 31,
+    ]);
+    let kept = u8x32::from_slice(&dest[at..]);
+    places
+        .simd_lt(u8x32::splat(len as u8))
+        .select(u8x32::from_slice(window), kept)
+        .copy_to_slice(&mut dest[at..]);
+}
+
+/// Copies the first of 32 bytes, up to a zero, and answers how many.
+#[inline(always)]
+fn copy_window_to_zero(window: &[u8], dest: &mut [u8], at: usize) -> usize
+    requires source { 32 ≤ length window.now }
+    requires room { at + 32 ≤ length dest.old }
+    ensures within { result ≤ 32 }
+    ensures nonzero { HasNoZero (take result window.now) }
+    ensures copied { dest.new ≡ take at dest.old
+        ++ (take result window.now ++ drop (at + result) dest.old) }
+{
+    let len = (zeros_at::<32>(window, 0).trailing_zeros() as usize).min(WINDOW);
+    copy_first(window, len, dest, at);
+    len
+}
+
+/// Copies the first of 64 bytes, up to a zero, and answers how many.
+#[inline(always)]
+fn copy_wide_to_zero(wide: &[u8], dest: &mut [u8], at: usize) -> usize
+    requires source { 64 ≤ length wide.now }
+    requires room { at + 64 ≤ length dest.old }
+    ensures within { result ≤ 64 }
+    ensures nonzero { HasNoZero (take result wide.now) }
+    ensures copied { dest.new ≡ take at dest.old
+        ++ (take result wide.now ++ drop (at + result) dest.old) }
+{
+    let front = copy_window_to_zero(wide, dest, at);
+    if front < WINDOW {
+        return front;
+    }
+    WINDOW + copy_window_to_zero(&wide[WINDOW..], dest, at + WINDOW)
+}
+
+/// Copies the first of fewer than 32 bytes, up to a zero, and answers how many.
+fn copy_few_to_zero(few: &[u8], dest: &mut [u8], at: usize) -> usize
+    requires some { 0 < length few.now }
+    requires few { length few.now ≤ 32 }
+    requires room { at + length few.now ≤ length dest.old }
+    ensures within { result ≤ length few.now }
+    ensures nonzero { HasNoZero (take result few.now) }
+    ensures copied { dest.new ≡ take at dest.old
+        ++ (take result few.now ++ drop (at + result) dest.old) }
+{
+    let len = first_zero_of_few(few);
+    if len > 0 {
+        copy_window(few, 0, len, dest, at);
+    }
+    len
+}
+
+/// Copies the first bytes of a chunk, up to a zero: up to 64 of them, or up to 32 of a shorter chunk; and answers how
+/// many.
+#[inline(always)]
+pub(crate) fn copy_to_zero(chunk: &[u8], dest: &mut [u8], at: usize) -> usize
+    requires room { 0 < length chunk.now → at + length chunk.now ≤ length dest.old }
+    ensures within { result ≤ length chunk.now }
+    ensures few { result ≤ 64 }
+    ensures nonzero { HasNoZero (take result chunk.now) }
+    ensures copied { 0 < result → dest.new ≡ take at dest.old
+        ++ (take result chunk.now ++ drop (at + result) dest.old) }
+    ensures kept { result ≡ 0 → dest.new ≡ dest.old }
+{
+    if WIDE_WINDOW <= chunk.len() {
+        if copy_nonzero_two::<32>(chunk, 0, WIDE_WINDOW, dest, at) {
+            return WIDE_WINDOW;
+        }
+        copy_wide_to_zero(chunk, dest, at)
+    } else if WINDOW <= chunk.len() {
+        copy_window_to_zero(chunk, dest, at)
+    } else if chunk.is_empty() {
+        0
+    } else {
+        copy_few_to_zero(chunk, dest, at)
+    }
+}
+
+/// Moves `N` to `2 * N` bytes, as two parts that may overlap.
+#[inline(always)]
+fn move_two<const N: usize>(buffer: &mut [u8], from: usize, len: usize)
+    requires within { from + len ≤ length buffer.old }
+    requires some { N ≤ len }
+    requires few { len ≤ N + N }
+    ensures { buffer.new ≡ take len (drop from buffer.old) ++ drop len buffer.old }
+{
+    let front = Simd::<u8, N>::from_slice(&buffer[from..]);
+    let back = Simd::<u8, N>::from_slice(&buffer[from + len - N..]);
+    front.copy_to_slice(buffer);
+    back.copy_to_slice(&mut buffer[len - N..]);
+}
+
+/// Moves one, two or three bytes: the first one, the one in the middle and the last one, some of which may be the same.
+#[inline(always)]
+fn move_few(buffer: &mut [u8], from: usize, len: usize)
+    requires within { from + len ≤ length buffer.old }
+    requires some { 0 < len }
+    requires few { len ≤ 3 }
+    ensures { buffer.new ≡ take len (drop from buffer.old) ++ drop len buffer.old }
+{
+    let half = len / 2;
+    let last = len - 1;
+    let front = buffer[from];
+    let middle = buffer[from + half];
+    let back = buffer[from + last];
+    buffer[0] = front;
+    buffer[half] = middle;
+    buffer[last] = back;
+}
+
+/// Moves 64 bytes or more: in windows of 64, of which the last, loaded first, may overlap the one before it.
+#[inline(always)]
+fn move_long(buffer: &mut [u8], from: usize, len: usize)
+    requires within { from + len ≤ length buffer.old }
+    requires some { 64 ≤ len }
+    ensures { buffer.new ≡ take len (drop from buffer.old) ++ drop len buffer.old }
+{
+    let back = u8x64::from_slice(&buffer[from + len - WIDE_WINDOW..]);
+    let mut done = 0;
+    'by_window: while WIDE_WINDOW <= len - done {
+        let bytes = u8x64::from_slice(&buffer[from + done..]);
+        bytes.copy_to_slice(&mut buffer[done..]);
+        done += WIDE_WINDOW;
+    }
+    back.copy_to_slice(&mut buffer[len - WIDE_WINDOW..]);
+}
+
+/// Moves the `len` bytes from `from` on to the front of the buffer; the bytes after them there stay.
+#[inline(always)]
+pub(crate) fn move_to_front(buffer: &mut [u8], from: usize, len: usize)
+    requires { from + len ≤ length buffer.old }
+    ensures { buffer.new ≡ take len (drop from buffer.old) ++ drop len buffer.old }
+{
+    if len >= 64 {
+        move_long(buffer, from, len);
+    } else if len >= 32 {
+        move_two::<32>(buffer, from, len);
+    } else if len >= 16 {
+        move_two::<16>(buffer, from, len);
+    } else if len >= 8 {
+        move_two::<8>(buffer, from, len);
+    } else if len >= 4 {
+        move_two::<4>(buffer, from, len);
+    } else if len > 0 {
+        move_few(buffer, from, len);
+    }
+}
+
+/// Moves `N` to `2 * N` bytes if none is a zero, and says whether it did: as two parts that may overlap.
+#[inline(always)]
+fn move_nonzero_two<const N: usize>(buffer: &mut [u8], from: usize, len: usize) -> bool
+    requires lanes { N ≤ 64 }
+    requires within { from + len ≤ length buffer.old }
+    requires some { N ≤ len }
+    requires few { len ≤ N + N }
+    ensures nonzero { IsTrue result → HasNoZero (take len (drop from buffer.old)) }
+    ensures moved { IsTrue result
+        → buffer.new ≡ take len (drop from buffer.old) ++ drop len buffer.old }
+    ensures kept { result ≡ false → buffer.new ≡ buffer.old }
+{
+    let front = Simd::<u8, N>::from_slice(&buffer[from..]);
+    let back = Simd::<u8, N>::from_slice(&buffer[from + len - N..]);
+    let zeros = front.simd_eq(Simd::splat(0)).to_bitmask()
+        | back.simd_eq(Simd::splat(0)).to_bitmask();
+    if zeros != 0 {
+        return false;
+    }
+    front.copy_to_slice(buffer);
+    back.copy_to_slice(&mut buffer[len - N..]);
+    true
+}
+
+/// Moves one, two or three bytes if none is a zero, and says whether it did: the first one, the one in the middle and
+/// the last one, some of which may be the same.
+#[inline(always)]
+fn move_nonzero_few(buffer: &mut [u8], from: usize, len: usize) -> bool
+    requires within { from + len ≤ length buffer.old }
+    requires some { 0 < len }
+    requires few { len ≤ 3 }
+    ensures nonzero { IsTrue result → HasNoZero (take len (drop from buffer.old)) }
+    ensures moved { IsTrue result
+        → buffer.new ≡ take len (drop from buffer.old) ++ drop len buffer.old }
+    ensures kept { result ≡ false → buffer.new ≡ buffer.old }
+{
+    let half = len / 2;
+    let last = len - 1;
+    let front = buffer[from];
+    let middle = buffer[from + half];
+    let back = buffer[from + last];
+    let zeros = (front == 0) as u64
+        | (((middle == 0) as u64) << half)
+        | (((back == 0) as u64) << last);
+    if zeros != 0 {
+        return false;
+    }
+    buffer[0] = front;
+    buffer[half] = middle;
+    buffer[last] = back;
+    true
+}
+
+/// Moves the `len` bytes from `from` on, up to 64, to the front of the buffer, if none is a zero, and says whether it
+/// did; the bytes after them there stay.
+#[inline(always)]
+pub(crate) fn move_nonzero_short(buffer: &mut [u8], from: usize, len: usize) -> bool
+    requires within { from + len ≤ length buffer.old }
+    requires some { 0 < len }
+    requires few { len ≤ 64 }
+    ensures nonzero { IsTrue result → HasNoZero (take len (drop from buffer.old)) }
+    ensures moved { IsTrue result
+        → buffer.new ≡ take len (drop from buffer.old) ++ drop len buffer.old }
+    ensures kept { result ≡ false → buffer.new ≡ buffer.old }
+{
+    if len >= 16 {
+        if len >= 32 {
+            move_nonzero_two::<32>(buffer, from, len)
+        } else {
+            move_nonzero_two::<16>(buffer, from, len)
+        }
+    } else if len >= 8 {
+        move_nonzero_two::<8>(buffer, from, len)
+    } else if len >= 4 {
+        move_nonzero_two::<4>(buffer, from, len)
+    } else {
+        move_nonzero_few(buffer, from, len)
+    }
+}
+
+/// Copies `N` to `2 * N` bytes, as two parts that may overlap, if none is the sentinel, and says whether it did.
+#[inline(always)]
+fn copy_xored_two<const N: usize>(source: &[u8], dest: &mut [u8], sentinel: u8) -> bool
+    requires lanes { N ≤ 64 }
+    requires some { N ≤ length source.now }
+    requires few { length source.now ≤ N + N }
+    requires room { length source.now ≤ length dest.old }
+    ensures nonzero { IsTrue result → HasNoZero (xor_each sentinel source.now) }
+    ensures copied { IsTrue result
+        → dest.new ≡ xor_each sentinel source.now ++ drop (length source.now) dest.old }
+    ensures kept { result ≡ false → dest.new ≡ dest.old }
+{
+    let at = source.len() - N;
+    let front = Simd::<u8, N>::from_slice(source) ^ Simd::splat(sentinel);
+    let back = Simd::<u8, N>::from_slice(&source[at..]) ^ Simd::splat(sentinel);
+    let zeros = front.simd_eq(Simd::splat(0)).to_bitmask()
+        | back.simd_eq(Simd::splat(0)).to_bitmask();
+    if zeros != 0 {
+        return false;
+    }
+    front.copy_to_slice(dest);
+    back.copy_to_slice(&mut dest[at..]);
+    true
+}
+
+/// Copies one, two or three bytes if none is the sentinel, and says whether it did: the first one, the one in the
+/// middle and the last one, some of which may be the same.
+#[inline(always)]
+fn copy_xored_few(source: &[u8], dest: &mut [u8], sentinel: u8) -> bool
+    requires some { 0 < length source.now }
+    requires few { length source.now ≤ 3 }
+    requires room { length source.now ≤ length dest.old }
+    ensures nonzero { IsTrue result → HasNoZero (xor_each sentinel source.now) }
+    ensures copied { IsTrue result
+        → dest.new ≡ xor_each sentinel source.now ++ drop (length source.now) dest.old }
+    ensures kept { result ≡ false → dest.new ≡ dest.old }
+{
+    let half = source.len() / 2;
+    let last = source.len() - 1;
+    let front = source[0] ^ sentinel;
+    let middle = source[half] ^ sentinel;
+    let back = source[last] ^ sentinel;
+    let zeros = (front == 0) as u64
+        | (((middle == 0) as u64) << half)
+        | (((back == 0) as u64) << last);
+    if zeros != 0 {
+        return false;
+    }
+    dest[0] = front;
+    dest[half] = middle;
+    dest[last] = back;
+    true
+}
+
+/// Copies up to 64 bytes if none is the sentinel, and says whether it did.
+#[inline(always)]
+pub(crate) fn copy_xored_short(source: &[u8], dest: &mut [u8], sentinel: u8) -> bool
+    requires some { 0 < length source.now }
+    requires few { length source.now ≤ 64 }
+    requires room { length source.now ≤ length dest.old }
+    ensures nonzero { IsTrue result → HasNoZero (xor_each sentinel source.now) }
+    ensures copied { IsTrue result
+        → dest.new ≡ xor_each sentinel source.now ++ drop (length source.now) dest.old }
+    ensures kept { result ≡ false → dest.new ≡ dest.old }
+{
+    let len = source.len();
+    if len >= 16 {
+        if len >= 32 {
+            copy_xored_two::<32>(source, dest, sentinel)
+        } else {
+            copy_xored_two::<16>(source, dest, sentinel)
+        }
+    } else if len >= 8 {
+        copy_xored_two::<8>(source, dest, sentinel)
+    } else if len >= 4 {
+        copy_xored_two::<4>(source, dest, sentinel)
+    } else {
+        copy_xored_few(source, dest, sentinel)
+    }
+}
