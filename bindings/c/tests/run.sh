@@ -4,13 +4,12 @@
 # Prints a line for each part: 'ok', 'FAILED' with what it said, or 'skipped' with the Debian packages that it lacks. The
 # last line counts them; the status is 0 only if nothing failed.
 #
-# Some words are meant to be split: flags, and the command that runs what was built for another processor.
-# shellcheck disable=SC2046,SC2086,SC2094
+# Some words are meant to be split: flags, and the command that runs what was built for another processor. Some commands
+# are for another shell.
+# shellcheck disable=SC2016,SC2046,SC2086,SC2094
 set -u
 c=$(cd "$(dirname "$0")/.." && pwd)
 cd "$c" || exit 1
-PATH=$PATH:/opt/rattle/bin
-export PATH
 work=$(mktemp -d)
 trap 'rm -rf "$work"' EXIT
 machine=$(uname -m)
@@ -124,27 +123,61 @@ shared() {
         LD_LIBRARY_PATH=$at "$work/calls"
 }
 
-installed() (
-    make install "DESTDIR=$work/root" PREFIX=/usr || return 1
-    PKG_CONFIG_SYSROOT_DIR=$work/root
-    PKG_CONFIG_LIBDIR=$work/root/usr/lib/pkgconfig
-    PKG_CONFIG_ALLOW_SYSTEM_CFLAGS=1
-    PKG_CONFIG_ALLOW_SYSTEM_LIBS=1
-    export PKG_CONFIG_SYSROOT_DIR PKG_CONFIG_LIBDIR PKG_CONFIG_ALLOW_SYSTEM_CFLAGS PKG_CONFIG_ALLOW_SYSTEM_LIBS
-    "${CC:-cc}" "$work/root/usr/share/doc/jcobs/examples/send_lines.c" $(pkg-config --cflags --libs jcobs) -o "$work/installed" || return 1
-    echo hi | LD_LIBRARY_PATH=$work/root/usr/lib "$work/installed" | od -An -tx1
+# An example over the library that pkg-config finds in a prefix, linked statically and shared, and run as it is.
+over() { # PREFIX
+    PKG_CONFIG_LIBDIR=$1/lib/pkgconfig
+    export PKG_CONFIG_LIBDIR
+    cflags=$(pkg-config --cflags jcobs)
+    source=$1/share/doc/jcobs/examples/send_lines.c
+    "${CC:-cc}" "$source" $cflags $(pkg-config --variable=archive jcobs) -o "$work/static" &&
+        "${CC:-cc}" "$source" $cflags $(pkg-config --libs jcobs) -o "$work/shared" || return 1
+    for program in static shared; do
+        prints ' 03 68 69 00' sh -c "echo hi | env -u LD_LIBRARY_PATH '$work/$program' | od -An -tx1" || return 1
+    done
+    ! readelf -d "$work/static" | grep libjcobs && readelf -d "$work/shared" | grep -q 'NEEDED.*libjcobs.so.1'
+}
+
+private_prefix() (
+    make install "PREFIX=$work/prefix" && over "$work/prefix"
 )
 
-# The tarball, unpacked elsewhere: its own pkg-config file finds the rest.
-unpacked() {
-    make dist >"$work/dist" || { cat "$work/dist"; return 1; }
-    tar -C "$work" -xzf "$(tail -1 "$work/dist")" || return 1
+# /usr/local, empty and in a file system of its own, so that nothing of this machine changes.
+usr_local() (
+    export work at
+    unshare -rm sh -c 'mount -t tmpfs none /usr/local && make -o "$at/libjcobs.a" install &&
+        cd "$work" && PKG_CONFIG_LIBDIR=/usr/local/lib/pkgconfig &&
+        export PKG_CONFIG_LIBDIR && cc /usr/local/share/doc/jcobs/examples/send_lines.c \
+        $(pkg-config --cflags --libs jcobs) -o shared && echo hi | env -u LD_LIBRARY_PATH ./shared >sent' &&
+        prints ' 03 68 69 00' od -An -tx1 "$work/sent"
+)
+
+# Packed for /usr, where no run path is needed.
+packed() (
+    make install "DESTDIR=$work/root" PREFIX=/usr && ! grep rpath "$work/root/usr/lib/pkgconfig/jcobs.pc"
+)
+
+# The tarball has the same bytes twice, and unpacked elsewhere its own pkg-config file finds the rest.
+unpacked() (
+    tarball=$(make -s --no-print-directory dist) || return 1
+    cp "$tarball" "$work/first.tar.gz" && touch include/jcobs.h README.md || return 1
+    make -s --no-print-directory dist && cmp "$tarball" "$work/first.tar.gz" || return 1
+    tar -C "$work" -xzf "$tarball" || return 1
     root=$(echo "$work"/jcobs-*-linux)
-    test -f "$root/share/man/man3/jcobs.3" && test -f "$root/share/doc/jcobs/README.md" || return 1
-    "${CC:-cc}" -static "$root/share/doc/jcobs/examples/send_lines.c" \
-        $(PKG_CONFIG_LIBDIR="$root/lib/pkgconfig" pkg-config --cflags --libs jcobs) -o "$work/unpacked" || return 1
-    echo hi | "$work/unpacked" | od -An -tx1
+    test -f "$root/share/man/man3/jcobs.3" && test -f "$root/share/doc/jcobs/README.md" && over "$root"
+)
+
+# The libraries of prebuilt/ are those that the toolchain builds from the crates as they are here.
+rebuilt() {
+    for arch in x86_64 aarch64; do
+        library=build/$arch-unknown-linux-gnu/libjcobs.a
+        make "TARGET=$arch-unknown-linux-gnu" "$library" && cmp "$library" "prebuilt/$arch-linux/libjcobs.a" || return 1
+    done
+    grep -qxF "# toolchain: $(rt version)" prebuilt/SHA256SUMS
 }
+
+sums() (
+    cd prebuilt && sha256sum -c SHA256SUMS
+)
 
 manual() {
     man --warnings -E UTF-8 -l -Tutf8 man/jcobs.3 2>&1 >/dev/null | grep . && return 1
@@ -179,8 +212,19 @@ part 'send_lines' sends
 part 'send_lines, and read_frames behind it' sends_and_reads
 part 'messages in C++17' messages
 if has pkg-config pkg-config 'install and dist'; then
-    part 'install' installed
-    part 'dist' unpacked
+    part 'install to a private prefix' private_prefix
+    part 'install for a package' packed
+    part 'dist: the same bytes twice, unpacked elsewhere' unpacked
+    if unshare -rm true 2>/dev/null; then
+        part 'install to /usr/local' usr_local
+    else
+        skipped=$((skipped + 1))
+        echo 'skipped: install to /usr/local: lacks a namespace of its own (unshare -rm)'
+    fi
+fi
+part 'prebuilt: the sums' sums
+if has rt 'none: the toolchain' 'prebuilt: built again'; then
+    part 'prebuilt: built again' rebuilt
 fi
 if has man man-db 'manual page'; then
     part 'manual page' manual
