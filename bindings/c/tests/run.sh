@@ -217,6 +217,11 @@ rebuilt() {
     grep -qxF "# toolchain: $(rt version)" prebuilt/SHA256SUMS
 }
 
+over_musl() {
+    musl-gcc -static -Iinclude examples/send_lines.c "prebuilt/$machine-linux/libjcobs.a" -o "$work/musl" &&
+        prints ' 03 68 69 00' sh -c "echo hi | '$work/musl' | od -An -tx1"
+}
+
 sums() (
     cd prebuilt && sha256sum -c SHA256SUMS
 )
@@ -278,6 +283,9 @@ fi
 if has cmake cmake 'find_package'; then
     part 'find_package in the repository' found_by_cmake "$c"
     part 'find_package in a prefix' found_by_cmake "$work/prefix"
+fi
+if has musl-gcc musl-tools 'over musl'; then
+    part 'over musl' over_musl
 fi
 part 'prebuilt: the sums' sums
 if has rt 'none: the toolchain' 'prebuilt: built again'; then

@@ -57,39 +57,32 @@ impl DecoderState {
     /// begun.
     #[inline]
     pub fn feed(&mut self, data: u8) -> Result<DecodeResult, DecodeError> {
-        let (result, next) = match (&*self, data) {
-            // A zero inside a block.
-            (Self::Grab(1..) | Self::GrabChain(1..), 0) => (
-                Err(DecodeError::InvalidFrame { decoded_bytes: 0 }),
-                Self::Idle,
-            ),
-            // A byte of the open block.
-            (Self::Grab(lacking @ 1..), _) => (
-                Ok(DecodeResult::DataContinue(data)),
-                Self::Grab(lacking - 1),
-            ),
-            (Self::GrabChain(lacking @ 1..), _) => (
-                Ok(DecodeResult::DataContinue(data)),
-                Self::GrabChain(lacking - 1),
-            ),
-            // A zero after a whole block, or after another zero.
-            (Self::Idle, 0) => (Ok(DecodeResult::NoData), Self::Idle),
-            (_, 0) => (Ok(DecodeResult::DataComplete), Self::Idle),
-            // The code of a block.
-            (Self::Idle, code) => (Ok(DecodeResult::DataStart), Self::in_block(code)),
-            (Self::Grab(0), code) => (Ok(DecodeResult::DataContinue(0)), Self::in_block(code)),
-            (Self::GrabChain(0), code) => (Ok(DecodeResult::NoData), Self::in_block(code)),
+        if let Self::Grab(lacking @ 1..) | Self::GrabChain(lacking @ 1..) = self {
+            if data != 0 {
+                *lacking -= 1;
+                return Ok(DecodeResult::DataContinue(data));
+            }
+            *self = Self::Idle;
+            return Err(DecodeError::InvalidFrame { decoded_bytes: 0 });
+        }
+        // No block is open: the byte is the code of one, or the zero after a frame.
+        let result = match (&*self, data) {
+            (Self::Idle, 0) | (Self::GrabChain(_), 1..) => DecodeResult::NoData,
+            (_, 0) => DecodeResult::DataComplete,
+            (Self::Idle, _) => DecodeResult::DataStart,
+            (Self::Grab(_), _) => DecodeResult::DataContinue(0),
         };
-        *self = next;
-        result
+        *self = Self::after(data);
+        Ok(result)
     }
 
-    /// The state after a block's code, which isn't 0.
+    /// The state after a byte that no open block has: a code, or a zero.
     #[inline]
-    const fn in_block(code: u8) -> Self {
-        match code {
+    const fn after(data: u8) -> Self {
+        match data {
+            0 => Self::Idle,
             0xFF => Self::GrabChain(0xFE),
-            _ => Self::Grab(code - 1),
+            code => Self::Grab(code - 1),
         }
     }
 }
