@@ -1,28 +1,39 @@
 #!/bin/sh
 # Builds and runs the bindings: for each folder of bindings/ its tests/run.sh, whose last line counts what passed, failed and
-# was skipped where a tool is missing. The last line here is their sum; the status is 0 only if nothing failed.
+# was skipped where a tool is missing; then the commands of the READMEs for C and for Rust, in a copy of the repository and
+# without the toolchain. The last line here is their sum; the status is 0 only if nothing failed.
 set -u
 root=$(cd "$(dirname "$0")/.." && pwd)
+# The toolchain, if it is there.
+PATH=$PATH:/opt/rattle/bin
+export PATH
 said=$(mktemp)
 trap 'rm -f "$said"' EXIT
 passed=0
 failed=0
 skipped=0
-for run in "$root"/bindings/*/tests/run.sh; do
-    name=$(basename "$(dirname "$(dirname "$run")")")
-    echo "== bindings/$name"
-    "$run" | tee "$said"
+
+counted() { # NAME COMMAND..
+    name=$1
+    shift
+    echo "== $name"
+    "$@" | tee "$said"
     counts=$(sed -n '$s/^\([0-9]*\) passed, \([0-9]*\) failed\(, \([0-9]*\) skipped\)*$/\1 \2 \4/p' "$said")
     if [ -z "$counts" ]; then
-        echo "FAILED: bindings/$name ended with no count"
+        echo "FAILED: $name ended with no count"
         failed=$((failed + 1))
-        continue
+        return
     fi
     # shellcheck disable=SC2086
     set -- $counts
     passed=$((passed + $1))
     failed=$((failed + $2))
     skipped=$((skipped + ${3:-0}))
+}
+
+for run in "$root"/bindings/*/tests/run.sh; do
+    counted "bindings/$(basename "$(dirname "$(dirname "$run")")")" "$run"
 done
+counted 'the commands of the READMEs' "$root/tests/readme.sh" bindings/c/README.md bindings/rust/README.md
 echo "$passed passed, $failed failed, $skipped skipped"
 [ "$failed" -eq 0 ]

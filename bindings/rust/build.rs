@@ -1,76 +1,122 @@
 //! Finds the static library and links it.
 //!
-//! It is looked for, in this order, in the folder that `JCOBS_LIB_DIR` names; where the repository's `bindings/c` and
-//! `crates/cobs_c` build it; and where `pkg-config` says that it is installed.
+//! It is looked for in the folder that `JCOBS_LIB_DIR` names, and nowhere else if that is set. Otherwise: where `make` in
+//! the repository's `bindings/c` leaves it; in `prebuilt/`, which is part of this package; where `pkg-config` says that
+//! version 1 is installed.
 
 use std::env;
 use std::fs;
 use std::path::{Path, PathBuf};
-use std::process::Command;
+use std::process::{exit, Command};
 
 const VARIABLE: &str = "JCOBS_LIB_DIR";
 
-/// The library's names: as `bindings/c` makes it, and as `rt lib` does.
-const NAMES: [&str; 2] = ["jcobs", "cobs_c"];
+/// The file that is linked.
+const LIBRARY: &str = "libjcobs.a";
 
 fn main() {
     println!("cargo:rerun-if-changed=build.rs");
     println!("cargo:rerun-if-env-changed={VARIABLE}");
     println!("cargo:rerun-if-env-changed=PKG_CONFIG_PATH");
 
-    let target = env::var("TARGET").expect("cargo sets TARGET");
-    let machine = match env::var("CARGO_CFG_TARGET_ARCH").as_deref() {
-        Ok("x86_64") => 62,
-        Ok("aarch64") => 183,
-        _ => panic!("jcobs is built for x86_64 and aarch64, not for {target}"),
-    };
-
-    let folders = match env::var_os(VARIABLE) {
-        Some(folder) => vec![PathBuf::from(folder)],
-        None => default_folders(&target),
-    };
-    for folder in &folders {
-        for name in NAMES {
-            let library = folder.join(format!("lib{name}.a"));
-            if machine_of(&library) == Some(machine) {
-                println!("cargo:rerun-if-changed={}", library.display());
-                println!("cargo:rustc-link-search=native={}", folder.display());
-                println!("cargo:rustc-link-lib=static={name}");
-                return;
-            }
+    // The documentation needs no library.
+    if env::var_os("DOCS_RS").is_some() {
+        return;
+    }
+    match find() {
+        Ok(folder) => {
+            println!("cargo:rustc-link-search=native={}", folder.display());
+            println!("cargo:rustc-link-lib=static=jcobs");
+        }
+        Err(why) => {
+            eprintln!("jcobs: {why}");
+            exit(1);
         }
     }
-    panic!(
-        "no libjcobs.a for {target} in {folders:?}: run `make` in bindings/c, or set {VARIABLE} to the folder that has it"
-    );
 }
 
-fn default_folders(target: &str) -> Vec<PathBuf> {
-    let here = PathBuf::from(env::var_os("CARGO_MANIFEST_DIR").expect("cargo sets it"));
+/// The folder that has the library.
+fn find() -> Result<PathBuf, String> {
+    let arch = supported_arch()?;
+    if let Some(folder) = env::var_os(VARIABLE) {
+        let folder = started_in().join(folder);
+        return check(&folder, &arch)
+            .map(|()| folder)
+            .map_err(|why| format!("{VARIABLE} names a folder that doesn't serve: {why}"));
+    }
+    let here = PathBuf::from(variable("CARGO_MANIFEST_DIR"));
     let mut folders = vec![
-        here.join("../c/build").join(target),
-        here.join("../../crates/cobs_c/out"),
+        here.join(format!("../c/build/{arch}-unknown-linux-gnu")),
+        here.join(format!("prebuilt/{arch}-linux")),
     ];
     folders.extend(installed_folder());
-    folders
+    let mut whys = Vec::new();
+    for folder in folders {
+        match check(&folder, &arch) {
+            Ok(()) => return Ok(folder),
+            Err(why) => whys.push(why),
+        }
+    }
+    Err(format!(
+        "no library: {}. Run `make` in bindings/c, or set {VARIABLE} to the folder that has {LIBRARY}",
+        whys.join("; ")
+    ))
+}
+
+/// The processor, if the library is built for the system that this crate is compiled for.
+fn supported_arch() -> Result<String, String> {
+    let arch = variable("CARGO_CFG_TARGET_ARCH");
+    let is_supported = ["x86_64", "aarch64"].contains(&arch.as_str())
+        && variable("CARGO_CFG_TARGET_OS") == "linux"
+        && variable("CARGO_CFG_TARGET_POINTER_WIDTH") == "64"
+        && variable("CARGO_CFG_TARGET_ENDIAN") == "little";
+    if is_supported {
+        Ok(arch)
+    } else {
+        Err(format!(
+            "the library is built for Linux on x86_64 and aarch64, and not for {}",
+            variable("TARGET")
+        ))
+    }
+}
+
+/// A variable that cargo sets.
+fn variable(name: &str) -> String {
+    env::var(name).unwrap_or_default()
+}
+
+/// Where cargo was started, by the shell's variable for it: a build script runs in its package's folder.
+fn started_in() -> PathBuf {
+    println!("cargo:rerun-if-env-changed=PWD");
+    env::var_os("PWD").map(PathBuf::from).unwrap_or_default()
 }
 
 fn installed_folder() -> Option<PathBuf> {
-    let answer = Command::new("pkg-config")
-        .args(["--variable=libdir", "jcobs"])
-        .output()
-        .ok()
-        .filter(|answer| answer.status.success())?;
-    let folder = String::from_utf8(answer.stdout).ok()?;
+    let pkg_config = |arguments: &[&str]| {
+        let said = Command::new("pkg-config").args(arguments).output().ok()?;
+        said.status.success().then_some(said.stdout)
+    };
+    pkg_config(&["--exists", "jcobs >= 1.0", "jcobs < 2"])?;
+    let folder = String::from_utf8(pkg_config(&["--variable=libdir", "jcobs"])?).ok()?;
     Some(PathBuf::from(folder.trim()))
 }
 
+/// Whether the folder has a library for this processor; if not, why.
+fn check(folder: &Path, arch: &str) -> Result<(), String> {
+    let library = folder.join(LIBRARY);
+    println!("cargo:rerun-if-changed={}", library.display());
+    let bytes =
+        fs::read(&library).map_err(|error| format!("{} isn't read: {error}", library.display()))?;
+    let machine = if arch == "x86_64" { 62 } else { 183 };
+    if machine_of(&bytes) != Some(machine) {
+        return Err(format!("{} isn't for {arch}", library.display()));
+    }
+    Ok(())
+}
+
 /// The processor that the library was built for, as the first ELF object in it numbers it.
-fn machine_of(library: &Path) -> Option<u16> {
-    let bytes = fs::read(library).ok()?;
-    let object = bytes
-        .windows(4)
-        .position(|window| window == b"\x7fELF")
-        .map(|start| &bytes[start..])?;
-    Some(u16::from_le_bytes([*object.get(18)?, *object.get(19)?]))
+fn machine_of(library: &[u8]) -> Option<u16> {
+    let start = library.windows(4).position(|window| window == b"\x7fELF")?;
+    let number = library.get(start + 18..start + 20)?;
+    Some(u16::from_le_bytes([number[0], number[1]]))
 }

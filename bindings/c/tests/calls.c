@@ -80,7 +80,7 @@ static void test_null(void)
     expect(is_answer(jcobs_decode_in_place_with_sentinel(NULL, 0, 7), JCOBS_EMPTY, 0, 0), "in place for a sentinel");
     expect(jcobs_frame_kind(NULL, 0) == JCOBS_NOT_A_FRAME, "kind");
     expect(is_answer(jcobs_decoder_push(&decoder, NULL, 0, NULL, 0), JCOBS_MORE, 0, 0), "decoder");
-    expect(is_answer(jcobs_decoder_push(&decoder, NULL, 0, (const unsigned char *)"\1", 2), JCOBS_OK, 2, 0),
+    expect(is_answer(jcobs_decoder_push(&decoder, NULL, 0, "\1", 2), JCOBS_OK, 2, 0),
            "an empty message needs no buffer");
     expect(is_answer(jcobs_encoder_push(&encoder, NULL, 0, NULL, 0), JCOBS_TOO_SMALL, 0, 0), "encoder");
     expect(is_answer(jcobs_encoder_push(&encoder, room, 2, NULL, 0), JCOBS_OK, 0, 1), "encoder, no bytes");

@@ -1,9 +1,9 @@
-//! Consistent Overhead Byte Stuffing (COBS) with the names and signatures of the crate `cobs` 0.5.1, answered by the
-//! proved library jcobs.
+//! Consistent Overhead Byte Stuffing (COBS) with the names and signatures of the crate `cobs` 0.5.1, over the proved
+//! library jcobs.
 //!
-//! COBS turns a message, any list of bytes, into a frame that lacks one byte, the sentinel. So the sentinel, mostly 0,
-//! can mark where frames end on a serial line, in a stream or in a file. A frame is one byte longer than its message,
-//! and one more for each 254 bytes at most.
+//! COBS encodes a message, any bytes, as a frame that never contains one byte value, the sentinel. So the sentinel, mostly
+//! 0, can mark where frames end on a serial line, in a stream or in a file. A frame is 1 byte longer than a message of up
+//! to 254 bytes, and at most 1 byte more for each 254 bytes after these.
 //!
 //! # Switching from `cobs`
 //!
@@ -41,8 +41,8 @@
 //! # What is proved
 //!
 //! The static library is written in Rattle, Rust with contracts: each of its functions is proved to meet its contract,
-//! to be safe and to end. This crate is a thin layer of Rust round it, which is tested; its README says which calls are
-//! answered by proved code alone, and which by a few lines round it.
+//! to be safe and to return. This crate is a thin layer of Rust round it, which is tested; its README says which calls are
+//! proved code alone, and which have a few lines of Rust.
 //!
 //! # Features
 //!

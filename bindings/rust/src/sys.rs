@@ -50,6 +50,7 @@ impl Decoder {
 
     /// A decoder within a frame whose message has one byte so far. Its open block lacks `lacking` bytes, and a zero
     /// joins the next block to it if `is_joint`.
+    #[cfg(test)]
     pub(crate) const fn within(lacking: u8, is_joint: bool) -> Self {
         Self {
             written: 1,
@@ -60,6 +61,7 @@ impl Decoder {
     }
 
     /// How many bytes the open block lacks, and whether a zero joins the next one to it.
+    #[cfg(test)]
     pub(crate) fn block(&self) -> (u8, bool) {
         (self.lacking, self.joint != 0)
     }
@@ -81,9 +83,14 @@ pub(crate) struct Encoder {
 
 impl Encoder {
     /// Nothing was taken.
-    pub(crate) const START: Self = Self::in_block(0);
+    pub(crate) const START: Self = Self {
+        index: 0,
+        taken: 0,
+        full: 0,
+    };
 
     /// An encoder whose first block is open and has `taken` bytes.
+    #[cfg(test)]
     pub(crate) const fn in_block(taken: u8) -> Self {
         Self {
             index: 0,
@@ -93,16 +100,19 @@ impl Encoder {
     }
 
     /// Where the code of the open block belongs.
+    #[cfg(test)]
     pub(crate) fn code_index(&self) -> usize {
         self.index
     }
 
     /// How many bytes the open block has.
+    #[cfg(test)]
     pub(crate) fn taken(&self) -> u8 {
         self.taken
     }
 
     /// Whether the open block is only the place after a full one.
+    #[cfg(test)]
     pub(crate) fn is_behind_full(&self) -> bool {
         self.full != 0
     }
@@ -150,6 +160,7 @@ extern "C" {
     fn jcobs_decode_in_place_with_sentinel(buffer: *mut u8, buffer_len: usize, sentinel: u8) -> RawAnswer;
     fn jcobs_frame_kind(bytes: *const u8, len: usize) -> c_uint;
     fn jcobs_decoder_push(decoder: *mut Decoder, buffer: *mut u8, buffer_len: usize, bytes: *const u8, len: usize) -> RawAnswer;
+    #[cfg(test)]
     fn jcobs_decoder_is_idle(decoder: *const Decoder) -> c_uint;
     fn jcobs_encoder_push(encoder: *mut Encoder, buffer: *mut u8, buffer_len: usize, bytes: *const u8, len: usize) -> RawAnswer;
     fn jcobs_encoder_finish(encoder: *mut Encoder, buffer: *mut u8, buffer_len: usize) -> RawAnswer;
@@ -265,7 +276,7 @@ pub(crate) fn decoder_push(decoder: &mut Decoder, buffer: &mut [u8], bytes: &[u8
     .into()
 }
 
-#[inline]
+#[cfg(test)]
 pub(crate) fn decoder_is_idle(decoder: &Decoder) -> bool {
     // SAFETY: `decoder` is a state.
     unsafe { jcobs_decoder_is_idle(decoder) == 1 }

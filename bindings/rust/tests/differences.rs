@@ -60,9 +60,12 @@ fn calls_that_panic_where_room_lacks_write_nothing() {
 }
 
 #[test]
-#[should_panic = "no frame fits an empty slice"]
 fn encoder_over_an_empty_slice() {
-    let _ = CobsEncoder::new(&mut []);
+    let mut encoder = CobsEncoder::new(&mut []);
+    for data in [&b"a"[..], b""] {
+        assert_eq!(encoder.push(data), Err(DestBufTooSmallError));
+    }
+    assert_eq!(encoder.finalize(), 0);
 }
 
 #[test]

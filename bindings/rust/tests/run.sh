@@ -10,7 +10,7 @@
 set -u
 rust=$(cd "$(dirname "$0")/.." && pwd)
 cd "$rust" || exit 1
-PATH=$PATH:/opt/rattle/bin:$HOME/.cargo/bin
+PATH=$PATH:$HOME/.cargo/bin
 export PATH
 work=$(mktemp -d)
 trap 'rm -rf "$work"' EXIT
@@ -51,14 +51,9 @@ if [ "${version:-83}" -lt 83 ]; then
     skip 'bindings/rust' "Rust 1.83: this is 1.$version"
     finish
 fi
-if [ -z "${JCOBS_LIB_DIR:-}" ]; then
-    if command -v rt >/dev/null && command -v make >/dev/null; then
-        part 'build: the library' make -C ../c
-    elif ! ls ../c/build/*/libjcobs.a ../../crates/cobs_c/out/libcobs_c.a >/dev/null 2>&1 &&
-        ! pkg-config --exists jcobs 2>/dev/null; then
-        skip 'bindings/rust' "the library: it needs the kit's rt and make, or JCOBS_LIB_DIR"
-        finish
-    fi
+# With the toolchain, the library is proved and built; otherwise it is that of prebuilt/.
+if [ -z "${JCOBS_LIB_DIR:-}" ] && command -v rt >/dev/null && command -v make >/dev/null; then
+    part 'build: the library' make -s -C ../c
 fi
 
 units() { # FEATURES..: the library and its tests in a program of their own, with warnings refused
@@ -69,25 +64,97 @@ documentation() {
     RUSTDOCFLAGS='-D warnings' cargo doc --offline --no-deps
 }
 
-# The crate finds the library where pkg-config says that it is installed.
-installed() (
-    make -C ../c install "DESTDIR=$work/root" PREFIX=/usr || return 1
-    mkdir "$work/copy" && cp -r Cargo.toml build.rs README.md src "$work/copy" || return 1
-    cd "$work/copy" || return 1
-    sed "s|^libdir=.*|libdir=$work/root/usr/lib|" "$work/root/usr/lib/pkgconfig/jcobs.pc" >jcobs.pc
-    PKG_CONFIG_PATH=$work/copy cargo test --offline --lib
+# What build.rs says for a target: TARGET ARCH OS WIDTH ENDIAN, with the environment before it.
+script() {
+    TARGET=$1 CARGO_CFG_TARGET_ARCH=$2 CARGO_CFG_TARGET_OS=$3 CARGO_CFG_TARGET_POINTER_WIDTH=$4 \
+        CARGO_CFG_TARGET_ENDIAN=$5 "$work/build-script"
+}
+
+is_linked_from() { # FOLDER, what build.rs said on standard input
+    tee "$work/script" | grep -qxF "cargo:rustc-link-search=native=$1" || { cat "$work/script"; return 1; }
+}
+
+# A refusal is one sentence on standard error, with these words in it.
+is_refused() { # WORDS COMMAND..
+    words=$1
+    shift
+    if "$@" >"$work/script" 2>"$work/sentence"; then
+        echo "not refused: $*"
+        return 1
+    fi
+    cat "$work/sentence"
+    [ "$(wc -l <"$work/sentence")" -eq 1 ] && grep -q "$words" "$work/sentence"
+}
+
+build_script() (
+    rustc --edition 2021 -o "$work/build-script" build.rs || return 1
+    unset JCOBS_LIB_DIR PKG_CONFIG_PATH
+    mkdir -p "$work/alone/vendor" && ln -sf "$rust/prebuilt" "$work/alone/prebuilt" || return 1
+    CARGO_MANIFEST_DIR=$work/alone
+    PKG_CONFIG_LIBDIR=$work/none
+    export CARGO_MANIFEST_DIR PKG_CONFIG_LIBDIR
+    for arch in x86_64 aarch64; do
+        for env in gnu musl; do
+            script "$arch-unknown-linux-$env" "$arch" linux 64 little | is_linked_from "$work/alone/prebuilt/$arch-linux" || return 1
+        done
+    done
+    only='built for Linux on x86_64 and aarch64'
+    is_refused "$only" script x86_64-apple-darwin x86_64 macos 64 little || return 1
+    is_refused "$only" script x86_64-pc-windows-msvc x86_64 windows 64 little || return 1
+    is_refused "$only" script x86_64-unknown-linux-gnux32 x86_64 linux 32 little || return 1
+    is_refused "$only" script aarch64_be-unknown-linux-gnu aarch64 linux 64 big || return 1
+    is_refused "$only" script riscv64gc-unknown-linux-gnu riscv64 linux 64 little || return 1
+    # A folder that is named is the only one, and a relative one is below where cargo was started.
+    cp prebuilt/x86_64-linux/libjcobs.a "$work/alone/vendor" || return 1
+    PWD=$work/alone JCOBS_LIB_DIR=vendor script x86_64-unknown-linux-gnu x86_64 linux 64 little |
+        is_linked_from "$work/alone/vendor" || return 1
+    JCOBS_LIB_DIR=$work/alone/vendor
+    export JCOBS_LIB_DIR
+    is_refused "isn't for aarch64" script aarch64-unknown-linux-gnu aarch64 linux 64 little || return 1
+    JCOBS_LIB_DIR=$work/none
+    is_refused JCOBS_LIB_DIR script x86_64-unknown-linux-gnu x86_64 linux 64 little || return 1
+    # Without prebuilt/, the installed library, if it is of version 1.
+    unset JCOBS_LIB_DIR
+    rm "$work/alone/prebuilt"
+    is_refused 'no library' script x86_64-unknown-linux-gnu x86_64 linux 64 little || return 1
+    command -v pkg-config >/dev/null || return 0
+    PKG_CONFIG_LIBDIR=$work/alone
+    pc 1.3.0 && script x86_64-unknown-linux-gnu x86_64 linux 64 little | is_linked_from "$work/alone/vendor" || return 1
+    pc 2.0.0 && is_refused 'no library' script x86_64-unknown-linux-gnu x86_64 linux 64 little
 )
+
+pc() { # VERSION: what pkg-config is told of an installed library
+    printf 'libdir=%s\nName: jcobs\nDescription: COBS\nVersion: %s\nLibs: -ljcobs\n' "$work/alone/vendor" "$1" >"$work/alone/jcobs.pc"
+}
+
+# The package that cargo makes has all that it needs: it is built where nothing else of the repository is.
+packaged() {
+    cargo package --offline --allow-dirty --target-dir "$work/package" &&
+        tar -tzf "$work"/package/package/jcobs-*.crate >"$work/files" &&
+        grep -q 'LICENSE-MIT$' "$work/files" && grep -q 'LICENSE-APACHE$' "$work/files"
+}
+
+# The tests of an x86-64 machine, run on aarch64.
+on_aarch64() {
+    CARGO_TARGET_AARCH64_UNKNOWN_LINUX_GNU_LINKER=aarch64-linux-gnu-gcc \
+        CARGO_TARGET_AARCH64_UNKNOWN_LINUX_GNU_RUNNER='qemu-aarch64 -L /usr/aarch64-linux-gnu' \
+        cargo test --offline --target aarch64-unknown-linux-gnu --lib --tests
+}
 
 part 'units, signatures, differences and vectors' units
 part 'without a feature' units --no-default-features
 part 'examples of the documentation' cargo test --offline --doc
 part 'documentation' documentation
-if [ -n "${JCOBS_LIB_DIR:-}" ]; then
-    skip 'over an installed library' 'a free choice: JCOBS_LIB_DIR names the library'
-elif command -v pkg-config >/dev/null && command -v rt >/dev/null && command -v make >/dev/null; then
-    part 'over an installed library' installed
+part 'the build script, for each system and folder' build_script
+part 'the package, built alone' packaged
+if [ "$(uname -m)" = aarch64 ]; then
+    :
+elif ! rustc --print target-libdir --target aarch64-unknown-linux-gnu 2>/dev/null | xargs ls 2>/dev/null | grep -q '^libcore-'; then
+    skip 'on aarch64' 'the target (rustup target add aarch64-unknown-linux-gnu)'
+elif ! command -v aarch64-linux-gnu-gcc >/dev/null || ! command -v qemu-aarch64 >/dev/null; then
+    skip 'on aarch64' 'a compiler or an emulator (Debian packages gcc-aarch64-linux-gnu and qemu-user)'
 else
-    skip 'over an installed library' 'pkg-config, rt or make'
+    part 'on aarch64' on_aarch64
 fi
 if cargo fmt --version >/dev/null 2>&1; then
     part 'layout' cargo fmt --check

@@ -21,14 +21,10 @@ pub struct CobsEncoder<'a> {
 }
 
 impl<'a> CobsEncoder<'a> {
-    /// An encoder that has taken nothing, and writes to `out_buf`.
-    ///
-    /// # Panics
-    ///
-    /// Where `out_buf` is empty: no frame fits it.
-    #[track_caller]
+    /// Makes an encoder that has taken nothing, and writes to `out_buf`. No frame fits an empty slice: then each push is
+    /// an error.
+    #[inline]
     pub fn new(out_buf: &'a mut [u8]) -> CobsEncoder<'a> {
-        assert!(!out_buf.is_empty(), "no frame fits an empty slice");
         CobsEncoder {
             dest: out_buf,
             encoder: sys::Encoder::START,
@@ -45,10 +41,10 @@ impl<'a> CobsEncoder<'a> {
         length_of(sys::encoder_push(&mut self.encoder, self.dest, data)).map(|_| ())
     }
 
-    /// Ends the message: the slice begins with its frame, of the answered length, without a sentinel. It is the frame
-    /// that [`encode`](crate::encode) writes, and the bytes after it are as they were at first.
+    /// Ends the message: the slice begins with its frame, of the returned length, without a sentinel. It is the frame
+    /// that [`encode`](crate::encode) writes, and the bytes after it are as they were at first. The length is 0 if the
+    /// slice is empty, and only then.
     pub fn finalize(mut self) -> usize {
-        length_of(sys::encoder_finish(&mut self.encoder, self.dest))
-            .expect("what push has taken fits the slice")
+        sys::encoder_finish(&mut self.encoder, self.dest).length
     }
 }

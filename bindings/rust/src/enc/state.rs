@@ -1,9 +1,7 @@
 //! A message byte by byte to a frame in any container.
 
-use crate::sys;
-
-/// The code of a block, its 254 bytes, and the place of the next code.
-const ROOM: usize = 256;
+/// How many bytes a full block has after its code.
+const FULL: u8 = 254;
 
 /// Where an encoder stands that writes into a container of the caller's own.
 ///
@@ -59,31 +57,75 @@ pub enum PushResult {
 
 impl EncoderState {
     /// Takes the next byte of the message, and says what it writes.
+    #[inline]
     pub fn push(&mut self, data: u8) -> PushResult {
-        // The open block in a buffer of its own, as if it were the first one.
-        let mut block = [0; ROOM];
-        let end = usize::from(self.taken) + 1;
-        let mut encoder = sys::Encoder::in_block(self.taken);
-        sys::encoder_push(&mut encoder, &mut block, &[data]);
-
+        let code = self.taken + 1;
+        if data != 0 && code < FULL {
+            self.taken = code;
+            return PushResult::AddSingle(data);
+        }
         let at = self.index;
-        self.index += encoder.code_index();
-        self.taken = encoder.taken();
-        if encoder.code_index() == 0 {
-            PushResult::AddSingle(block[end])
-        } else if encoder.is_behind_full() {
-            PushResult::ModifyFromStartAndPushAndSkip((at, block[0], block[end]))
+        self.taken = 0;
+        if data == 0 {
+            self.index = at + usize::from(code);
+            PushResult::ModifyFromStartAndSkip((at, code))
         } else {
-            PushResult::ModifyFromStartAndSkip((at, block[0]))
+            self.index = at + usize::from(FULL) + 1;
+            PushResult::ModifyFromStartAndPushAndSkip((at, FULL + 1, data))
         }
     }
 
     /// Ends the message: where its last code belongs, and that code. What follows the frame, as a sentinel, goes to the
     /// end of the container.
+    #[inline]
     pub fn finalize(self) -> (usize, u8) {
+        (self.index, self.taken + 1)
+    }
+}
+
+#[cfg(test)]
+mod tests {
+    use super::*;
+    use crate::sys;
+
+    /// The code of a block, its 254 bytes, and the place of the next code.
+    const ROOM: usize = 256;
+
+    /// The same by the proved library: a push of one byte, with the open block in a buffer of its own, as if it were the
+    /// first one.
+    fn pushed(state: &EncoderState, data: u8) -> (PushResult, usize, u8) {
         let mut block = [0; ROOM];
-        let mut encoder = sys::Encoder::in_block(self.taken);
-        sys::encoder_finish(&mut encoder, &mut block);
-        (self.index, block[0])
+        let end = usize::from(state.taken) + 1;
+        let mut encoder = sys::Encoder::in_block(state.taken);
+        sys::encoder_push(&mut encoder, &mut block, &[data]);
+        let result = if encoder.code_index() == 0 {
+            PushResult::AddSingle(block[end])
+        } else if encoder.is_behind_full() {
+            PushResult::ModifyFromStartAndPushAndSkip((state.index, block[0], block[end]))
+        } else {
+            PushResult::ModifyFromStartAndSkip((state.index, block[0]))
+        };
+        (result, state.index + encoder.code_index(), encoder.taken())
+    }
+
+    #[test]
+    fn each_step_is_that_of_the_library() {
+        for taken in 0..FULL {
+            for data in 0..=u8::MAX {
+                let before = EncoderState { index: 1000, taken };
+                let mut state = before.clone();
+                let result = state.push(data);
+                assert_eq!(
+                    (result, state.index, state.taken),
+                    pushed(&before, data),
+                    "{taken}, {data}"
+                );
+            }
+            let mut block = [0; ROOM];
+            let mut encoder = sys::Encoder::in_block(taken);
+            sys::encoder_finish(&mut encoder, &mut block);
+            let state = EncoderState { index: 1000, taken };
+            assert_eq!(state.finalize(), (1000, block[0]));
+        }
     }
 }

@@ -1,0 +1,33 @@
+# find_package(jcobs) defines the target jcobs::jcobs: the static library, and where its headers are.
+#
+# This file is installed to lib/cmake/jcobs of a prefix, and finds the library there. In the repository, with
+# CMAKE_PREFIX_PATH naming bindings/c, it takes the one of prebuilt/ for the target's processor.
+foreach(_jcobs_up IN ITEMS .. ../../.. ../../../..)
+    get_filename_component(_jcobs_include "${CMAKE_CURRENT_LIST_DIR}/${_jcobs_up}/include" ABSOLUTE)
+    if(EXISTS "${_jcobs_include}/jcobs.h")
+        break()
+    endif()
+endforeach()
+get_filename_component(_jcobs_library "${CMAKE_CURRENT_LIST_DIR}/../../libjcobs.a" ABSOLUTE)
+if(NOT EXISTS "${_jcobs_library}")
+    string(REPLACE "arm64" "aarch64" _jcobs_processor "${CMAKE_SYSTEM_PROCESSOR}")
+    get_filename_component(_jcobs_library
+        "${CMAKE_CURRENT_LIST_DIR}/../prebuilt/${_jcobs_processor}-linux/libjcobs.a" ABSOLUTE)
+endif()
+if(NOT CMAKE_SYSTEM_NAME STREQUAL "Linux" OR NOT EXISTS "${_jcobs_library}")
+    set(jcobs_FOUND FALSE)
+    set(jcobs_NOT_FOUND_MESSAGE
+        "jcobs is built for Linux on x86_64 and aarch64, and not for ${CMAKE_SYSTEM_NAME} on ${CMAKE_SYSTEM_PROCESSOR}")
+    return()
+endif()
+if(NOT TARGET jcobs::jcobs)
+    add_library(jcobs::jcobs STATIC IMPORTED)
+    set_target_properties(jcobs::jcobs PROPERTIES
+        IMPORTED_LOCATION "${_jcobs_library}"
+        IMPORTED_LINK_INTERFACE_LANGUAGES C
+        INTERFACE_INCLUDE_DIRECTORIES "${_jcobs_include}")
+endif()
+unset(_jcobs_include)
+unset(_jcobs_library)
+unset(_jcobs_processor)
+unset(_jcobs_up)

@@ -1,0 +1,90 @@
+// jcobs.hpp: what views are made of, and messages sent and received. It allocates nothing, and is built without exceptions.
+#include <jcobs.hpp>
+
+#include <array>
+#include <cstddef>
+#include <cstdio>
+#include <cstring>
+#include <string>
+#include <string_view>
+#include <type_traits>
+#include <vector>
+
+using namespace std::string_view_literals;
+
+template <class Range> constexpr bool is_read = std::is_constructible_v<jcobs::view, Range>;
+template <class Range> constexpr bool is_written = std::is_constructible_v<jcobs::buffer, Range>;
+
+static_assert(is_read<std::string_view> && is_read<const std::string &> && is_read<const std::vector<unsigned char> &>);
+static_assert(is_read<const std::array<std::byte, 4> &> && is_read<unsigned char (&)[4]> && is_read<jcobs::buffer>);
+static_assert(!is_read<const char (&)[6]> && !is_read<const std::vector<int> &> && !is_read<int>);
+static_assert(is_written<std::array<std::byte, 4> &> && is_written<unsigned char (&)[4]> && is_written<std::string &>);
+static_assert(!is_written<std::string_view> && !is_written<const std::array<std::byte, 4> &>);
+static_assert(!is_written<jcobs::view> && !is_written<char (&)[6]>);
+static_assert(jcobs::max_length(0) == 1 && jcobs::max_length(254) == 255 && jcobs::max_length(255) == 257);
+static_assert(!std::is_copy_constructible_v<jcobs::receiver> && !std::is_copy_constructible_v<jcobs::sender>);
+
+static int failures = 0;
+
+static void expect(bool holds, const char *what)
+{
+    if (!holds) {
+        std::printf("failed: %s\n", what);
+        failures++;
+    }
+}
+
+static bool equal(jcobs::view bytes, std::string_view text)
+{
+    return bytes.size() == text.size() && (text.empty() || std::memcmp(bytes.data(), text.data(), text.size()) == 0);
+}
+
+static void test_calls()
+{
+    std::array<std::byte, 8> room{};
+    std::array<unsigned char, 8> message{};
+    const jcobs::buffer none;
+
+    expect(jcobs::encode("a\0b"sv, room).length == 4 && equal({room.data(), 4}, "\2a\2b"sv), "encode");
+    expect(jcobs::decode({room.data(), 4}, message).length == 3 && equal({message.data(), 3}, "a\0b"sv), "decode");
+    expect(jcobs::encode_terminated("hi"sv, room, 7).length == 4 && room[3] == std::byte{7}, "for a sentinel");
+    expect(jcobs::decode({room.data(), 4}, message, 7).consumed == 4, "decode for a sentinel");
+    expect(jcobs::decode_in_place({room.data(), 4}, 7).length == 2 && equal({room.data(), 2}, "hi"sv), "in place");
+    expect(jcobs::encode("hi"sv, none).status == JCOBS_TOO_SMALL, "no room");
+    expect(jcobs::decode(none, message).status == JCOBS_EMPTY, "no bytes");
+    expect(jcobs::frame_kind("\3hi"sv) == JCOBS_CANONICAL, "kind");
+}
+
+static void test_streams()
+{
+    std::array<std::byte, 8> frame{};
+    unsigned char messages[4];
+    jcobs::sender sender(frame);
+    jcobs::receiver receiver(messages);
+    int met = 0;
+    int errors = 0;
+
+    expect(sender.push("he"sv) && sender.push("y"sv) && !sender.push("a longer one"sv), "push");
+    expect(equal(sender.finish(), "\4hey"sv), "finish");
+    sender.reset();
+    expect(equal(sender.finish(), "\1"sv), "the empty message");
+    const auto on_message = [&](jcobs::view message) {
+        met++;
+        expect(equal(message, "hey"sv), "the message");
+    };
+    receiver.push("\4h"sv, on_message);
+    expect(!receiver.is_idle(), "a frame is open");
+    receiver.push("ey\0\7toolong\0\5a\0\4hey\0\2"sv, on_message, [&](jcobs_answer) { errors++; });
+    expect(met == 2 && errors == 2, "what is received");
+    receiver.reset();
+    expect(receiver.is_idle(), "reset");
+}
+
+int main()
+{
+    test_calls();
+    test_streams();
+    if (failures == 0)
+        std::puts("all calls of jcobs.hpp returned what they should");
+    return failures == 0 ? 0 : 1;
+}
