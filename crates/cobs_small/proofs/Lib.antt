@@ -1,0 +1,2 @@
+mod BrokenLemmas
+mod EndLemmas
