@@ -14,7 +14,7 @@ pub mod MarkLemmas
 pub mod RowLemmas
 pub mod AfterLemmas
 pub mod ChunkLemmas
-mod CoreLemmas
+pub mod CoreLemmas
 pub mod PlaceLemmas
 pub mod ShortSteps
 pub mod RoomLemmas

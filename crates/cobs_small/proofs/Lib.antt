@@ -1,2 +1,5 @@
+mod BlockLemmas
 mod BrokenLemmas
 mod EndLemmas
+mod FinishLemmas
+mod ReachSteps

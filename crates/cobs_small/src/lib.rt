@@ -4,5 +4,7 @@
 //! them. Of a slice, C passes the pointer and then the length.
 #![tactic(auto)]
 
+mod block;
 mod decoder;
+mod encoder;
 mod piece;

@@ -27,7 +27,7 @@ by_byte-preserved c =
           let n = length c.by_byte.buffer in
           let idle = idle-more n (phase_in c.by_byte.decoder) (sym w.end_status-status.ensures ∙ w.if-status-ne-MORE.false) in
           let f = subst (λ (q : Phase). Feeds c.by_byte.buffer (phase_in c.by_byte.decoder) (get_or c.args.bytes.now c.by_byte.i 0) (end_answer n (phase_in c.by_byte.decoder)) c.by_byte.buffer q) (sym idle)
-              (rw z (Feeds-zero c.by_byte.buffer (phase_in c.by_byte.decoder))) in
+          (rw z (Feeds-zero c.by_byte.buffer (phase_in c.by_byte.decoder))) in
           let none : outcome_told (end_answer n (phase_in c.by_byte.decoder)) c.by_byte.buffer ≡ [] = ap (λ (q : Phase). outcome_told (end_answer n q) c.by_byte.buffer) idle in
           rw (w.buffer-is, w.decoder-is) (record { so_far = step_none _ _ more z none s f; rest = LeavesRest-step _ _ more s l f })
     ]
