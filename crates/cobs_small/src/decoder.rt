@@ -1,12 +1,9 @@
 //! Streams of frames to messages.
-ghost use Rattle.std.specs.Prelude.{◌≡◌, ◌≢◌, ◌≤◌, ◌∷◌, ℕ, List, [], length};
-ghost use Rattle.cobs.specs.Feed.{DecoderAfter, Idle};
-ghost use Rattle.cobs.specs.FeedPiece.{TakesPiece};
-ghost use Rattle.cobs_abi.specs.Answer.{told};
-ghost use Rattle.cobs_abi.specs.State.{held, phase_in};
+ghost use Rattle.std.specs.Prelude.{[], ◌∷◌};
+ghost use Rattle.cobs_abi.specs.Stream.{DecodesNext, IsFreshDecoder, TellsIdle};
 
 use crate::piece::take_piece;
-use cobs_abi::{Answer, BROKEN, Decoder, MORE, TOO_SMALL};
+use cobs_abi::{Answer, Decoder, MORE};
 
 /// A decoder that has taken nothing.
 const START: Decoder = Decoder {
@@ -19,8 +16,7 @@ const START: Decoder = Decoder {
 /// Makes the decoder one that has taken nothing, whatever stood in it.
 #[unsafe(no_mangle)]
 pub extern "C" fn jcobs_decoder_reset(decoder: &mut Decoder)
-    ensures idle { phase_in decoder.new ≡ Idle }
-    ensures after { (buffer : List ℕ) → DecoderAfter buffer (phase_in decoder.new) [] }
+    ensures fresh { IsFreshDecoder decoder.new }
 {
     *decoder = START;
 }
@@ -28,8 +24,7 @@ pub extern "C" fn jcobs_decoder_reset(decoder: &mut Decoder)
 /// Whether no piece is open: 1, or else 0.
 #[unsafe(no_mangle)]
 pub extern "C" fn jcobs_decoder_is_idle(decoder: &Decoder) -> u32
-    ensures idle { phase_in decoder.now ≡ Idle → result ≡ 1 }
-    ensures open { phase_in decoder.now ≢ Idle → result ≡ 0 }
+    ensures idle { TellsIdle decoder.now result }
 {
     let Decoder {
         written,
@@ -52,18 +47,8 @@ pub extern "C" fn jcobs_decoder_push(
     buffer: &mut [u8],
     bytes: &[u8],
 ) -> Answer
-    ensures takes { TakesPiece buffer.old (phase_in decoder.old) bytes.now (told result)
-        buffer.new (phase_in decoder.new) }
-    ensures more { result.status ≡ MORE → result ≡ record {
-      status = MORE;
-      consumed = length bytes.now;
-      length = held (length buffer.old) (phase_in decoder.new);
-    } }
-    ensures too_small { result.status ≡ TOO_SMALL → result.length ≡ length buffer.old }
-    ensures status { result.status ≤ BROKEN }
-    ensures consumed { result.consumed ≤ length bytes.now }
-    ensures bound { result.length ≤ length buffer.old }
-    ensures len { length buffer.new ≡ length buffer.old }
+    ensures decodes { DecodesNext decoder.old buffer.old bytes.now result
+        decoder.new buffer.new }
 {
     let mut here = *decoder;
     let (status, consumed) = take_piece(&mut here, buffer, bytes);
@@ -79,18 +64,8 @@ pub extern "C" fn jcobs_decoder_push(
 /// Takes one byte of the stream, as a push of that byte.
 #[unsafe(no_mangle)]
 pub extern "C" fn jcobs_decoder_feed(decoder: &mut Decoder, buffer: &mut [u8], byte: u8) -> Answer
-    ensures takes { TakesPiece buffer.old (phase_in decoder.old) (byte ∷ []) (told result)
-        buffer.new (phase_in decoder.new) }
-    ensures more { result.status ≡ MORE → result ≡ record {
-      status = MORE;
-      consumed = 1;
-      length = held (length buffer.old) (phase_in decoder.new);
-    } }
-    ensures too_small { result.status ≡ TOO_SMALL → result.length ≡ length buffer.old }
-    ensures status { result.status ≤ BROKEN }
-    ensures consumed { result.consumed ≤ 1 }
-    ensures bound { result.length ≤ length buffer.old }
-    ensures len { length buffer.new ≡ length buffer.old }
+    ensures decodes { DecodesNext decoder.old buffer.old (byte ∷ []) result
+        decoder.new buffer.new }
 {
     jcobs_decoder_push(decoder, buffer, &[byte])
 }

@@ -1,16 +1,15 @@
 //! Messages in pieces to frames.
-ghost use Rattle.std.specs.Prelude.{◌≡◌, ◌≢◌, ◌≤◌, ◌<◌, ◌↔◌, ◌++◌, [], ℕ, List, length, take, drop, false, IsTrue};
-ghost use Rattle.cobs.specs.OpenBlock.{CobsEncoderAfter, end_of};
-ghost use Rattle.cobs.specs.Grammar.{IsEncodedFrame};
-ghost use Rattle.cobs.specs.Length.{encoded_len};
+ghost use Rattle.std.specs.Prelude.{◌↔◌, IsTrue};
 ghost use Rattle.cobs.specs.Fields.Encoders.{IsPlaceIn};
+ghost use Rattle.cobs_abi.specs.Frames.{IsFrameOnWire};
 ghost use Rattle.cobs_abi.specs.State.{reached_in};
+ghost use Rattle.cobs_abi.specs.Stream.{EncodesNext, Finishes, IsFreshEncoder};
 
 use crate::block::{append, fits};
-use cobs_abi::{Answer, Encoder, OK, TOO_SMALL, done, end_of, too_small};
+use cobs_abi::{Answer, Encoder, done, end_of, too_small};
 
 /// An encoder that has taken nothing.
-const START: Encoder = Encoder {
+pub(crate) const START: Encoder = Encoder {
     index: 0,
     taken: 0,
     full: 0,
@@ -19,10 +18,7 @@ const START: Encoder = Encoder {
 /// Makes the encoder one that has taken nothing, whatever stood in it.
 #[unsafe(no_mangle)]
 pub extern "C" fn jcobs_encoder_reset(encoder: &mut Encoder)
-    ensures start { reached_in encoder.new
-        ≡ record { block = record { index = 0; code = 1 }; full = false } }
-    ensures taken { (buffer : List ℕ) → 0 < length buffer
-        → CobsEncoderAfter buffer (reached_in encoder.new) [] }
+    ensures fresh { IsFreshEncoder encoder.new }
 {
     *encoder = START;
 }
@@ -45,23 +41,8 @@ pub extern "C" fn jcobs_encoder_push(
     buffer: &mut [u8],
     bytes: &[u8],
 ) -> Answer
-    ensures fits { (m : List ℕ) → CobsEncoderAfter buffer.old (reached_in encoder.old) m
-        → ((result.status ≡ OK) ↔ (encoded_len (m ++ bytes.now) ≤ length buffer.old)) }
-    ensures taken { result.status ≡ OK → (m : List ℕ)
-        → CobsEncoderAfter buffer.old (reached_in encoder.old) m
-        → CobsEncoderAfter buffer.new (reached_in encoder.new) (m ++ bytes.now) }
-    ensures answer { result.status ≡ OK → result
-        ≡ record {
-          status = OK;
-          consumed = length bytes.now;
-          length = end_of (reached_in encoder.new);
-        } }
-    ensures too_small { result.status ≢ OK → result
-        ≡ record { status = TOO_SMALL; consumed = 0; length = 0 } }
-    ensures refused { result.status ≢ OK → encoder.new ≡ encoder.old }
-    ensures rest { drop result.length buffer.new ≡ drop result.length buffer.old }
-    ensures bound { result.length ≤ length buffer.old }
-    ensures len { length buffer.new ≡ length buffer.old }
+    ensures encodes { EncodesNext encoder.old buffer.old bytes.now result
+        encoder.new buffer.new }
 {
     let room = buffer.len();
     if !is_place(encoder, room) {
@@ -83,21 +64,10 @@ pub extern "C" fn jcobs_encoder_push(
 /// length that is returned stays within it.
 #[unsafe(no_mangle)]
 pub extern "C" fn jcobs_encoder_finish(encoder: &mut Encoder, buffer: &mut [u8]) -> Answer
-    ensures fits { (m : List ℕ) → CobsEncoderAfter buffer.old (reached_in encoder.old) m
-        → result ≡ record { status = OK; consumed = 0; length = encoded_len m } }
-    ensures frame { result.status ≡ OK → (m : List ℕ)
-        → CobsEncoderAfter buffer.old (reached_in encoder.old) m
-        → IsEncodedFrame (take result.length buffer.new) m }
-    ensures start { result.status ≡ OK
-        → reached_in encoder.new ≡ record { block = record { index = 0; code = 1 }; full = false } }
-    ensures too_small { result.status ≢ OK → result
-        ≡ record { status = TOO_SMALL; consumed = 0; length = 0 } }
-    ensures refused { result.status ≢ OK → encoder.new ≡ encoder.old }
-    ensures rest { drop result.length buffer.new ≡ drop result.length buffer.old }
-    ensures bound { result.length ≤ length buffer.old }
-    ensures len { length buffer.new ≡ length buffer.old }
+    ensures finishes { Finishes 0 IsFrameOnWire encoder.old buffer.old result
+        encoder.new buffer.new }
 {
-    if !is_place(encoder, buffer.len()) {
+    if buffer.is_empty() || !is_place(encoder, buffer.len()) {
         return too_small();
     }
     let progress = encoder.progress();

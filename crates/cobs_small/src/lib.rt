@@ -6,5 +6,6 @@
 
 mod block;
 mod decoder;
+mod encode;
 mod encoder;
 mod piece;

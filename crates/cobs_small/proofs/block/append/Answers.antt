@@ -52,15 +52,15 @@ by_byte-preserved c =
           let b = get_or source i 0 in
           let next = c.if-code.index + c.if-code.code in
           rw (w.buffer-is, w.index-is, w.code-is) (
-            Reaches-at H source old (set c.if-code.buffer next b) end (i + 1) c.if-code.index (c.if-code.index + (c.if-code.code + 1)) IsNotFull (λ full. 0 < i + 1 → full ≡ false) (set c.if-code.buffer next b) (i + 1) c.if-code.index (c.if-code.index + (c.if-code.code + 1)) refl refl refl refl (λ full p lt. p)
-                (byte-joined H source old c.if-code.buffer end i c.if-code.index c.if-code.code more fits₁ b refl w.if-byte-ne0.true ready.0 ready.1)
+          Reaches-at H source old (set c.if-code.buffer next b) end (i + 1) c.if-code.index (c.if-code.index + (c.if-code.code + 1)) IsNotFull (λ full. 0 < i + 1 → full ≡ false) (set c.if-code.buffer next b) (i + 1) c.if-code.index (c.if-code.index + (c.if-code.code + 1)) refl refl refl refl (λ full p lt. p)
+          (byte-joined H source old c.if-code.buffer end i c.if-code.index c.if-code.code more fits₁ b refl w.if-byte-ne0.true ready.0 ready.1)
           )
       | else-byte-ne0 w ↦
           let next = c.if-code.index + c.if-code.code in
           let after = set c.if-code.buffer c.if-code.index c.if-code.code in
           rw (w.buffer-is, w.index-is, w.code-is) (
-            Reaches-at H source old after end (i + 1) next (next + 1) IsNotFull (λ full. 0 < i + 1 → full ≡ false) after (i + 1) next (next + 1) refl refl refl refl (λ full p lt. p)
-                (zero-closed H source old c.if-code.buffer end i c.if-code.index c.if-code.code more fits₁ w.if-byte-ne0.false ready.0 ready.1)
+          Reaches-at H source old after end (i + 1) next (next + 1) IsNotFull (λ full. 0 < i + 1 → full ≡ false) after (i + 1) next (next + 1) refl refl refl refl (λ full p lt. p)
+          (zero-closed H source old c.if-code.buffer end i c.if-code.index c.if-code.code more fits₁ w.if-byte-ne0.false ready.0 ready.1)
           )
     ]
 

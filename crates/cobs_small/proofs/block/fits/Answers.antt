@@ -27,7 +27,7 @@ by_byte-preserved c =
     let short = c.by_byte.auto.code-fits in
     let more = c.by_byte-test.true in
     let ready : (0 < c.if-code.code) × (c.if-code.code < 255) × (c.if-code.left ≤ c.args.room)
-        × (open_len c.if-code.code (drop c.by_byte.i c.args.bytes.now) + c.args.room ≡ open_len c.args.code c.args.bytes.now + c.if-code.left) =
+    × (open_len c.if-code.code (drop c.by_byte.i c.args.bytes.now) + c.args.room ≡ open_len c.args.code c.args.bytes.now + c.if-code.left) =
     elim c.if-code.branch [
       | then-code+else-left w ↦
           let full = len-full c.args.bytes.now c.by_byte.i more c.by_byte.code w.if-code.true in

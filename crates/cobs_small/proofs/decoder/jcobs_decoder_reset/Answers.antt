@@ -2,5 +2,5 @@ use Rattle.std.proofs.Common.{refl}
 use Rattle.cobs.proofs.SoFar.{DecoderAfter-idle}
 use Rattle.cobs_small.proofs.decoder.jcobs_decoder_reset.Goals as goal
 
-pub returns-clause-after : goal.returns-clause-after
-returns-clause-after c = λ buffer. DecoderAfter-idle buffer _ refl
+pub returns : goal.returns
+returns c = record { fresh = record { idle = refl; after = λ buffer. DecoderAfter-idle buffer _ refl } }

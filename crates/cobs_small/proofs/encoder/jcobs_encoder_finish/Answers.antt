@@ -1,30 +1,67 @@
-use Rattle.std.proofs.Common.{◌≡◌, not, true, false, ℕ, sym, ap, ◌∙◌, subst, arith}
-use Rattle.std.proofs.lemmas.Bool.{true≢false}
-use Rattle.cobs.specs.Fields.Encoders.{reached_at}
+use Rattle.std.proofs.Common.{◌≡◌, ◌≢◌, ◌≤◌, not, true, false, ℕ, List, length, take, drop, sym, ap, ◌∙◌, subst, arith, refl, rules}
+use Rattle.std.proofs.lemmas.Bool.{true≢false, eqb-true, eqb-false}
+use Rattle.std.proofs.Math.ListN.{set}
+use Rattle.cobs.specs.Fields.Encoders.{IsPlaceIn, reached_at}
+use Rattle.cobs.specs.Grammar.{IsEncodedFrame}
 use Rattle.cobs.specs.OpenBlock.{Reached, CobsEncoderAfter, end_of}
-use Rattle.cobs_abi.specs.declared.answer.TheConstants.{OK}
-use Rattle.cobs_abi.specs.declared.answer.Answer.{Answer}
 use Rattle.cobs.proofs.AfterLemmas.{end-is}
+use Rattle.cobs.proofs.CoreLemmas.{after-fits, after-nothing}
 use Rattle.cobs.proofs.PlaceLemmas.{after-place}
-use Rattle.cobs_small.proofs.FinishLemmas.{closed}
+use Rattle.cobs.proofs.SentinelLemmas.{encoded_nonzero}
+use Rattle.cobs_abi.specs.State.{reached_in}
+use Rattle.cobs_abi.specs.declared.answer.TheConstants.{OK}
+use Rattle.cobs_small.proofs.FinishLemmas.{closed, closed-rest, not_finished}
 use Rattle.cobs_small.proofs.encoder.jcobs_encoder_finish.Goals as goal
-use Rattle.cobs_small.proofs.encoder.jcobs_encoder_finish.Goals.{then-not-progress, else-not-progress}
+use Rattle.cobs_small.proofs.encoder.jcobs_encoder_finish.Goals.{then-not-progress, else-not-progress, then-is_empty-via-then-is_empty, then-is_empty-via-else-is_empty+then-not-is_place}
 
-abbrev finished : ℕ → Answer
-finished len = record { status = OK; consumed = 0; length = len }
+pub returns-then-is_empty : goal.returns-then-is_empty
+returns-then-is_empty c = record {
+  finishes = rw c.too_small.ensures (not_finished c.args.encoder.now c.args.buffer.now (λ m h. elim c.then-is_empty.branch [
+    | then-is_empty-via-then-is_empty w ↦
+        let none = eqb-true _ 0 (sym c.is_empty.ensures ∙ w.if-is_empty.true) in
+        let fits = after-fits c.args.buffer.now m _ h in
+        absurd (omega arith)
+    | then-is_empty-via-else-is_empty+then-not-is_place w ↦
+        let place = w.is_place.ensures.1 (after-place c.args.buffer.now m _ h) in
+        absurd (true≢false (sym place ∙ w.if-not-is_place.true))
+  ]));
+}
 
-pub returns-then-not-is_place-clause-fits : goal.returns-then-not-is_place-clause-fits
-returns-then-not-is_place-clause-fits c = λ m h. let p = c.is_place.ensures.1 (after-place _ m _ h) in let none = c.if-not-is_place.true in absurd cc
-
-pub returns-clause-fits : goal.returns-clause-fits
-returns-clause-fits c = λ m h. c.done.ensures ∙ ap finished (c.end_of.ensures ∙ ap end_of c.progress-progress.ensures ∙ sym (end-is c.args.buffer.now m _ h))
-
-pub returns-clause-frame : goal.returns-clause-frame
-returns-clause-frame c = λ ok m h.
+pub returns : goal.returns
+returns c =
+    let buffer = c.args.buffer.now in
     let r = reached_at c.progress-progress.result in
-    let h' = subst (λ (q : Reached). CobsEncoderAfter c.args.buffer.now q m) (sym c.progress-progress.ensures) h in
-    let some = (after-place c.args.buffer.now m r h').some in
-    rw (c.done.ensures, c.end_of.ensures) (elim c.if-not-progress.branch [
-      | then-not-progress w ↦ closed c.args.buffer.now m c.if-not-progress.buffer r some h' (λ part. w.buffer-is) (λ full. let full' : c.progress-progress.result.is_full ≡ true = full in absurd (true≢false (sym w.if-not-progress.true ∙ ap not full')))
-      | else-not-progress w ↦ closed c.args.buffer.now m c.if-not-progress.buffer r some h' (λ part. let part' : c.progress-progress.result.is_full ≡ false = part in absurd (true≢false (sym (ap not part') ∙ w.if-not-progress.false))) (λ full. w.buffer-is)
-    ])
+    let same = c.progress-progress.ensures in
+    let some : length buffer ≢ 0 = eqb-false _ 0 (sym c.is_empty.ensures ∙ c.if-is_empty.false) in
+    let place : IsPlaceIn (length buffer) r = subst (IsPlaceIn (length buffer)) (sym same) (c.is_place.ensures.0 c.if-not-is_place.false) in
+    let open' : r.full ≡ false → c.if-not-progress.buffer ≡ set buffer r.block.index r.block.code = λ part. elim c.if-not-progress.branch [
+      | then-not-progress w ↦ w.buffer-is
+      | else-not-progress w ↦ absurd (true≢false (sym (ap not part) ∙ w.if-not-progress.false))
+    ] in
+    let full' : r.full ≡ true → c.if-not-progress.buffer ≡ buffer = λ full. elim c.if-not-progress.branch [
+      | then-not-progress w ↦ absurd (true≢false (sym w.if-not-progress.true ∙ ap not full))
+      | else-not-progress w ↦ w.buffer-is
+    ] in
+    let rest = closed-rest buffer c.if-not-progress.buffer r place.some open' full' in
+    record {
+      finishes = rw (c.done.ensures, c.end_of.ensures) (record {
+        writes = λ m h.
+            let h' = subst (λ (q : Reached). CobsEncoderAfter buffer q m) (sym same) h in
+            let e = end-is buffer m r h' in
+            let fits = after-fits buffer m r h' in
+            let f = closed buffer m c.if-not-progress.buffer r place.some h' open' full' in
+            record {
+              fits = λ _. ap (λ (n : ℕ). record { status = OK; consumed = 0; length = n }) (omega (arith, e));
+              wanted = λ _. (f, encoded_nonzero f);
+              too_small = λ long. absurd (omega (arith, fits));
+              rest = rest;
+            };
+        fresh = λ _. record { start = refl; taken = after-nothing };
+        too_small = λ other. absurd (other refl);
+        refused = λ other. absurd (other refl);
+        empty = λ none. absurd (some none);
+        rest = rest;
+        bound = place.fits;
+        len = c.if-not-progress.auto.buffer;
+      });
+    }

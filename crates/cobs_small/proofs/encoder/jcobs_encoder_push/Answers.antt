@@ -1,10 +1,11 @@
-use Rattle.std.proofs.Common.{◌≡◌, ◌≢◌, ◌++◌, ℕ, List, [], ◌∷◌, length, refl, sym, ap, ◌∙◌, subst, arith, append-nil}
+use Rattle.std.proofs.Common.{rules, ◌≡◌, ◌≢◌, ◌++◌, ℕ, List, [], ◌∷◌, length, refl, sym, ap, ◌∙◌, subst, arith, append-nil}
 use Rattle.std.proofs.lemmas.Bool.{eqb-false, eqb-true}
 use Rattle.cobs.specs.Length.{encoded_len}
 use Rattle.cobs.specs.OpenBlock.{Reached, CobsEncoderAfter}
 use Rattle.cobs.specs.Fields.Encoders.{reached_at}
 use Rattle.cobs.proofs.CoreLemmas.{after-len, after-fits}
 use Rattle.cobs.proofs.PlaceLemmas.{after-place}
+use Rattle.cobs_abi.specs.State.{reached_in}
 use Rattle.cobs_abi.specs.declared.answer.Answer.{Answer}
 use Rattle.cobs_small.proofs.FinishLemmas.{nothing, something}
 use Rattle.cobs_small.proofs.encoder.jcobs_encoder_push.Goals as goal
@@ -12,30 +13,76 @@ use Rattle.cobs_small.proofs.encoder.jcobs_encoder_push.Goals as goal
 abbrev status_of : Answer → ℕ
 status_of answer = answer.status
 
-pub returns-then-not-is_place-clause-fits : goal.returns-then-not-is_place-clause-fits
-returns-then-not-is_place-clause-fits c = λ m h. let p = c.is_place.ensures.1 (after-place _ m _ h) in let none = c.if-not-is_place.true in absurd cc
+pub returns-then-not-is_place : goal.returns-then-not-is_place
+returns-then-not-is_place c = record {
+  encodes = record {
+    fits = λ m h. let p = c.is_place.ensures.1 (after-place _ m _ h) in let none = c.if-not-is_place.true in absurd cc;
+    taken = search rules;
+    answer = search rules;
+    too_small = search rules;
+    refused = search rules;
+    rest = search rules;
+    bound = search rules;
+    len = search rules;
+  };
+}
 
-pub returns-then-is_empty-clause-fits : goal.returns-then-is_empty-clause-fits
-returns-then-is_empty-clause-fits c = λ m h.
-    let none = nothing c.args.bytes.now (eqb-true _ 0 (sym c.is_empty.ensures ∙ c.if-is_empty.true)) in
-    let e = ap (λ (x : List ℕ). encoded_len (m ++ x)) none ∙ ap encoded_len (append-nil m) in
-    let le = after-fits c.args.buffer.now m _ h in
-    (λ t. omega arith, λ le'. ap status_of c.done.ensures)
+pub returns-then-is_empty : goal.returns-then-is_empty
+returns-then-is_empty c = record {
+  encodes = record {
+    fits = λ m h.
+        let none = nothing c.args.bytes.now (eqb-true _ 0 (sym c.is_empty.ensures ∙ c.if-is_empty.true)) in
+        let e = ap (λ (x : List ℕ). encoded_len (m ++ x)) none ∙ ap encoded_len (append-nil m) in
+        let le = after-fits c.args.buffer.now m _ h in
+        (λ t. omega arith, λ le'. ap status_of c.done.ensures);
+    taken = λ _ m h.
+        let none = nothing c.args.bytes.now (eqb-true _ 0 (sym c.is_empty.ensures ∙ c.if-is_empty.true)) in
+        subst (λ (x : List ℕ). CobsEncoderAfter c.args.buffer.now (reached_in c.args.encoder.now) x) (sym (ap (λ (x : List ℕ). m ++ x) none ∙ append-nil m)) h;
+    answer = search rules;
+    too_small = search rules;
+    refused = search rules;
+    rest = search rules;
+    bound = search rules;
+    len = search rules;
+  };
+}
 
-pub returns-then-not-fits-clause-fits : goal.returns-then-not-fits-clause-fits
-returns-then-not-fits-clause-fits c = λ m h.
-    let h' = subst (λ (r : Reached). CobsEncoderAfter c.args.buffer.now r m) (sym c.progress-start.ensures) h in
-    let some = something c.args.bytes.now (eqb-false _ 0 (sym c.is_empty.ensures ∙ c.if-is_empty.false)) in
-    let e = after-len c.args.buffer.now m c.args.bytes.now (reached_at c.progress-start.result) some h' in
-    let no = c.if-not-fits.true in
-    let small = ap status_of c.too_small-then-not-fits.ensures in
-    (λ t. absurd cc, λ le. let yes = c.fits.ensures.fits.1 (omega arith) in absurd cc)
+pub returns-then-not-fits : goal.returns-then-not-fits
+returns-then-not-fits c = record {
+  encodes = record {
+    fits = λ m h.
+        let h' = subst (λ (r : Reached). CobsEncoderAfter c.args.buffer.now r m) (sym c.progress-start.ensures) h in
+        let some = something c.args.bytes.now (eqb-false _ 0 (sym c.is_empty.ensures ∙ c.if-is_empty.false)) in
+        let e = after-len c.args.buffer.now m c.args.bytes.now (reached_at c.progress-start.result) some h' in
+        let no = c.if-not-fits.true in
+        let small = ap status_of c.too_small-then-not-fits.ensures in
+        (λ t. absurd cc, λ le. let yes = c.fits.ensures.fits.1 (omega arith) in absurd cc);
+    taken = search rules;
+    answer = search rules;
+    too_small = search rules;
+    refused = search rules;
+    rest = search rules;
+    bound = search rules;
+    len = search rules;
+  };
+}
 
-pub returns-clause-fits : goal.returns-clause-fits
-returns-clause-fits c = λ m h.
-    let h' = subst (λ (r : Reached). CobsEncoderAfter c.args.buffer.now r m) (sym c.progress-start.ensures) h in
-    let some = something c.args.bytes.now (eqb-false _ 0 (sym c.is_empty.ensures ∙ c.if-is_empty.false)) in
-    let e = after-len c.args.buffer.now m c.args.bytes.now (reached_at c.progress-start.result) some h' in
-    let enough = c.fits.ensures.fits.0 c.if-not-fits.false in
-    let place = after-place c.args.buffer.now m _ h' in
-    (λ t. omega arith, λ le. ap status_of c.done-2.ensures)
+pub returns : goal.returns
+returns c = record {
+  encodes = record {
+    fits = λ m h.
+        let h' = subst (λ (r : Reached). CobsEncoderAfter c.args.buffer.now r m) (sym c.progress-start.ensures) h in
+        let some = something c.args.bytes.now (eqb-false _ 0 (sym c.is_empty.ensures ∙ c.if-is_empty.false)) in
+        let e = after-len c.args.buffer.now m c.args.bytes.now (reached_at c.progress-start.result) some h' in
+        let enough = c.fits.ensures.fits.0 c.if-not-fits.false in
+        let place = after-place c.args.buffer.now m _ h' in
+        (λ t. omega arith, λ le. ap status_of c.done-2.ensures);
+    taken = search rules;
+    answer = search rules;
+    too_small = search rules;
+    refused = search rules;
+    rest = search rules;
+    bound = search rules;
+    len = search rules;
+  };
+}

@@ -1,0 +1,17 @@
+use Rattle.std.proofs.Common.{◌≢◌, ◌-◌, ℕ, List, length, length-take-le, refl, sym, ◌∙◌, subst, arith}
+use Rattle.std.proofs.lemmas.Bool.{eqb-false}
+use Rattle.cobs.specs.Grammar.{IsEncodedFrame}
+use Rattle.cobs_abi.proofs.WritesLemmas.{Writes-terminated}
+use Rattle.cobs_small.proofs.FinishLemmas.{xor_each-zero}
+use Rattle.cobs_small.proofs.encode.jcobs_encode_terminated.Goals as goal
+
+pub returns : goal.returns
+returns c =
+    let some : length c.args.frame.now ≢ 0 = eqb-false _ 0 (sym c.is_empty.ensures ∙ c.if-is_empty.false) in
+    let last : ℕ = length c.args.frame.now - 1 in
+    let front = length-take-le last c.args.frame.now (omega arith) in
+    record {
+      encodes = rw c.done.ensures (Writes-terminated last 0 (omega (arith, some)) (omega (arith, front, c.jcobs_encode-answer.auto.frame))
+          c.jcobs_encode-answer.ensures.encodes c.if-answer-ne-OK.false (λ (f : List ℕ) w.
+          (f, (subst (λ (g : List ℕ). IsEncodedFrame g c.args.message.now) (sym (xor_each-zero f)) w.0, w.1), refl)));
+    }
