@@ -1,0 +1,70 @@
+#!/bin/sh
+# Builds build/TARGET/libjcobs.a for each 32-bit target: build.sh [TARGET..]
+#
+# Rattle names no 32-bit target. So `rt` proves and builds crates/cobs_small for x86-64, in a folder of links to the kit in
+# which `clang` is a script that keeps the module that it is given. The kit's own clang then compiles that module, with each
+# file of src/, for a device. It needs the kit's `rt`, in the PATH or in /opt/rattle/bin.
+set -eu
+here=$(cd "$(dirname "$0")" && pwd)
+crate=$here/../../../crates/cobs_small
+build=$here/build
+PATH=$PATH:/opt/rattle/bin
+kit=$(dirname "$(dirname "$(readlink -f "$(command -v rt)")")")
+clang=$kit/toolchain/bin/clang
+[ $# -gt 0 ] || set -- thumbv6m-none-eabi thumbv7em-none-eabi riscv32imac-unknown-none-elf
+
+links() { # FROM TO BUT..: a folder of links to what is in another, but for these names
+    mkdir -p "$2"
+    for it in "$1"/*; do
+        name=${it##*/}
+        case " $3 " in *" $name "*) ;; *) ln -sf "$it" "$2/$name" ;; esac
+    done
+}
+
+rm -rf "$build/kit" "$build/module.bc"
+links "$kit" "$build/kit" 'bin toolchain'
+links "$kit/bin" "$build/kit/bin" 'rt rtlib.py'
+cp "$kit/bin/rt" "$kit/bin/rtlib.py" "$build/kit/bin/"
+links "$kit/toolchain" "$build/kit/toolchain" bin
+links "$kit/toolchain/bin" "$build/kit/toolchain/bin" clang
+cat >"$build/kit/toolchain/bin/clang" <<SCRIPT
+#!/bin/sh
+for word; do case \$word in *.bc) cp "\$word" "$build/module.bc" ;; esac; done
+exec "$clang" "\$@"
+SCRIPT
+chmod +x "$build/kit/toolchain/bin/clang"
+(cd "$crate" && "$build/kit/bin/rt" lib --cpu x86-64) >"$build/rt.log" 2>&1 || { tail "$build/rt.log"; exit 1; }
+rm -rf "$build/kit"
+
+# The proved functions get names of their own, and lose what is said of x86-64.
+"$clang" --no-default-config -S -emit-llvm -Xclang -disable-llvm-passes -x ir "$build/module.bc" -o - |
+    sed -e 's/@jcobs_/@proved_jcobs_/g' -e '/^target /d' \
+        -e 's/ *"target-cpu"="[^"]*"//; s/ *"probe-stack"="[^"]*"//; s/ *"stack-probe-size"="[^"]*"//' >"$build/module.ll"
+
+# Nothing but size_t is taken of a C library.
+mkdir -p "$build/include"
+printf 'typedef __SIZE_TYPE__ size_t;\n#define NULL ((void *)0)\n' >"$build/include/stddef.h"
+
+for target; do
+    case $target in
+    thumbv6m-*) flags="--target=$target -mcpu=cortex-m0plus" ;;
+    thumbv7em-*) flags="--target=$target -mcpu=cortex-m4 -mfloat-abi=soft" ;;
+    riscv32imac-*) flags='--target=riscv32-unknown-none-elf -march=rv32imac -mabi=ilp32' ;;
+    *) echo "build.sh: no target $target" >&2; exit 2 ;;
+    esac
+    flags="--no-default-config $flags -ffreestanding -Oz -ffunction-sections -fdata-sections -fno-unwind-tables"
+    flags="$flags -fno-asynchronous-unwind-tables -Wno-override-module"
+    out=$build/$target
+    rm -rf "$out" && mkdir -p "$out/objects"
+    # shellcheck disable=SC2086 # the flags are words
+    "$clang" $flags -c -emit-llvm -Xclang -disable-llvm-passes -x ir "$build/module.ll" -o "$out/module.bc"
+    for source in "$here"/src/*.c; do
+        name=$(basename "$source" .c)
+        # shellcheck disable=SC2086
+        "$clang" $flags -std=c99 -Wall -Wextra -Werror -I"$build/include" -I"$here/../include" \
+            -Xclang -mlink-builtin-bitcode -Xclang "$out/module.bc" -c "$source" -o "$out/objects/$name.o"
+    done
+    rm "$out/module.bc"
+    (cd "$out/objects" && "$kit/toolchain/bin/llvm-ar" rcD ../libjcobs.a ./*.o)
+    echo "$out/libjcobs.a"
+done

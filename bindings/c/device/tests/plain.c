@@ -1,0 +1,147 @@
+/* plain.c: COBS as one writes it in C, to compare sizes and instructions with. It has the checks of the proved calls:
+ * no byte outside the buffers, whatever the state; a frame that doesn't fit, or is broken, is reported once; and the
+ * encoder writes nothing unless all fits. */
+#include "plain.h"
+
+jcobs_answer plain_decoder_push(jcobs_decoder *decoder, void *buffer, size_t buffer_len, const void *bytes, size_t len)
+{
+    const unsigned char *from = bytes;
+    unsigned char *to = buffer;
+    jcobs_decoder here = *decoder;
+    jcobs_answer answer = {JCOBS_MORE, len, 0};
+    size_t i;
+
+    for (i = 0; i < len; i++) {
+        unsigned char byte = from[i];
+
+        if (byte == 0) {
+            if (here.too_long || (here.lacking == 0 && here.written > buffer_len))
+                answer.status = JCOBS_TOO_SMALL;
+            else if (here.lacking != 0)
+                answer.status = JCOBS_BROKEN;
+            else if (here.written != 0 || here.joint)
+                answer.status = JCOBS_OK;
+            if (answer.status != JCOBS_MORE) {
+                answer.consumed = i + 1;
+                break;
+            }
+        } else if (!here.too_long) {
+            if (here.lacking != 0 || here.joint) {
+                if (here.written >= buffer_len) {
+                    here.too_long = 1;
+                    continue;
+                }
+                to[here.written++] = here.lacking != 0 ? byte : 0;
+            }
+            if (here.lacking != 0) {
+                here.lacking--;
+            } else {
+                here.lacking = (unsigned char)(byte - 1);
+                here.joint = byte != 255;
+            }
+        }
+    }
+    answer.length = here.too_long || here.written > buffer_len ? buffer_len : here.written;
+    if (answer.status != JCOBS_MORE) {
+        here.written = 0;
+        here.lacking = 0;
+        here.joint = 0;
+        here.too_long = 0;
+    }
+    *decoder = here;
+    return answer;
+}
+
+/* The length of the frame from its open block on, once the block has taken these bytes. */
+static size_t open_length(size_t code, const unsigned char *bytes, size_t len)
+{
+    size_t total = 0;
+    size_t i;
+
+    for (i = 0; i < len; i++) {
+        if (code == 255) {
+            total += 255;
+            code = 1;
+        }
+        if (bytes[i] != 0) {
+            code++;
+        } else {
+            total += code;
+            code = 1;
+        }
+    }
+    return total + code;
+}
+
+jcobs_answer plain_encoder_push(jcobs_encoder *encoder, void *buffer, size_t buffer_len, const void *bytes, size_t len)
+{
+    const unsigned char *from = bytes;
+    unsigned char *to = buffer;
+    jcobs_answer answer = {JCOBS_TOO_SMALL, 0, 0};
+    size_t index = encoder->index;
+    size_t code = encoder->taken + 1u;
+    size_t i;
+
+    if (code > 254 || index > buffer_len || (!encoder->full && code > buffer_len - index))
+        return answer;
+    if (len > 0) {
+        if (len > buffer_len - index || open_length(code, from, len) > buffer_len - index)
+            return answer;
+        for (i = 0; i < len; i++) {
+            if (code == 255) {
+                to[index] = 255;
+                index += 255;
+                code = 1;
+            }
+            if (from[i] != 0) {
+                to[index + code++] = from[i];
+            } else {
+                to[index] = (unsigned char)code;
+                index += code;
+                code = 1;
+            }
+        }
+        encoder->full = 0;
+        if (code == 255) {
+            to[index] = 255;
+            index += 255;
+            code = 1;
+            encoder->full = 1;
+        }
+        encoder->index = index;
+        encoder->taken = (unsigned char)(code - 1);
+    }
+    answer.status = JCOBS_OK;
+    answer.consumed = len;
+    answer.length = encoder->full ? index : index + code;
+    return answer;
+}
+
+jcobs_answer plain_encoder_finish(jcobs_encoder *encoder, void *buffer, size_t buffer_len)
+{
+    jcobs_answer answer = plain_encoder_push(encoder, buffer, buffer_len, NULL, 0);
+
+    if (answer.status == JCOBS_OK) {
+        if (!encoder->full)
+            ((unsigned char *)buffer)[encoder->index] = (unsigned char)(encoder->taken + 1);
+        encoder->index = 0;
+        encoder->taken = 0;
+        encoder->full = 0;
+    }
+    return answer;
+}
+
+jcobs_answer plain_encode_terminated(const void *message, size_t message_len, void *frame, size_t frame_len)
+{
+    jcobs_encoder encoder = JCOBS_ENCODER_INIT;
+    jcobs_answer answer = {JCOBS_TOO_SMALL, 0, 0};
+
+    if (frame_len == 0)
+        return answer;
+    answer = plain_encoder_push(&encoder, frame, frame_len - 1, message, message_len);
+    if (answer.status == JCOBS_OK) {
+        plain_encoder_finish(&encoder, frame, frame_len - 1);
+        ((unsigned char *)frame)[answer.length++] = 0;
+    }
+    return answer;
+}

@@ -1,0 +1,11 @@
+#ifndef PLAIN_H
+#define PLAIN_H
+
+#include <jcobs.h>
+
+jcobs_answer plain_decoder_push(jcobs_decoder *decoder, void *buffer, size_t buffer_len, const void *bytes, size_t len);
+jcobs_answer plain_encoder_push(jcobs_encoder *encoder, void *buffer, size_t buffer_len, const void *bytes, size_t len);
+jcobs_answer plain_encoder_finish(jcobs_encoder *encoder, void *buffer, size_t buffer_len);
+jcobs_answer plain_encode_terminated(const void *message, size_t message_len, void *frame, size_t frame_len);
+
+#endif
