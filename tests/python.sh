@@ -71,7 +71,7 @@ mkdir -p "$tree/bindings"
 cp -R "$root/bindings/python" "$tree/bindings"
 (cd "$tree/bindings/python" && rm -rf build dist src/*.egg-info)
 ln -s "$root/bindings/c" "$tree/bindings/c"
-ln -s "$root/conformance" "$tree/conformance"
+ln -s "$root/conformance" "$root"/LICENSE-* "$tree"
 package=$tree/bindings/python
 export PYTHONDONTWRITEBYTECODE=1 PIP_DISABLE_PIP_VERSION_CHECK=1 PIP_NO_INDEX=1
 unset PYTHONPATH PYTHONHOME
@@ -90,7 +90,7 @@ assert decoder.feed(b"\x06hello\x06wor") == []
 assert repr(decoder.feed(b"ld\x00\x03hi\x00")) == repr([jcobs.Message(b"hello\x00world"), jcobs.Message(b"hi")])'
 }
 tests() { # PYTHON FOLDER
-    in_work "$1" -m pytest -q -rs "$2"
+    in_work timeout 300 "$1" -m pytest -q -rs "$2"
 }
 strict() { # PYTHON FILES..
     interpreter=$1

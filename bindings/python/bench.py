@@ -1,5 +1,6 @@
-"""Measures the package beside plain Python code, and the C library that it calls: python bench.py [LENGTH ..]
+"""Measures the package beside plain Python code, and the C library that it calls: python bench.py [--random] [LENGTH ..]
 
+The messages are like records: one byte in 16 is zero, at random places. With --random all bytes are random.
 The C library is measured by a loop in C, which this script compiles over the same libjcobs.a. All times are of the
 processor, the least of several runs, which take turns.
 """
@@ -72,9 +73,17 @@ def timed(call, argument, count):
     return (time.process_time() - begin) / count
 
 
-def measured(program, length):
+def made(length, at_random):
+    """A message of this length."""
+    source = random.Random(length)
+    if at_random:
+        return source.randbytes(length)
+    return bytes(source.randrange(1, 256) * (source.randrange(16) > 0) for _ in range(length))
+
+
+def measured(program, length, at_random):
     """Seconds a call, in two lists, encode and decode: of the package, the C library, plain code."""
-    message = random.Random(length).randbytes(length)
+    message = made(length, at_random)
     frame = jcobs.encode(message)
     count = max(10, 4_000_000 // (length + 400))
     best = [[9e9] * 3, [9e9] * 3]
@@ -95,12 +104,13 @@ def shown(seconds):
 
 
 def main(words):
+    lengths = [int(word) for word in words if word != "--random"] or LENGTHS
     with tempfile.TemporaryDirectory() as folder:
         program = compiled(Path(folder))
         print("| bytes | call | jcobs | C library | plain Python | times C | times as fast as plain |")
         print("|---:|---|---:|---:|---:|---:|---:|")
-        for length in map(int, words or LENGTHS):
-            for name, (ours, c, slow) in zip(("encode", "decode"), measured(program, length)):
+        for length in lengths:
+            for name, (ours, c, slow) in zip(("encode", "decode"), measured(program, length, "--random" in words)):
                 print(
                     f"| {length:,} | {name} | {shown(ours)} | {shown(c)} | {shown(slow)} | {ours / c:.2f} | {slow / ours:,.0f} |",
                     flush=True,

@@ -54,7 +54,7 @@ class BuildOverLibrary(build_ext):
 
 
 class SdistWithLibrary(sdist):
-    """A source distribution that carries the header and the libraries, as bindings/c isn't in it."""
+    """A source distribution that carries the header, the libraries and the licences, as its folder doesn't have them."""
 
     def make_release_tree(self, base_dir, files):
         super().make_release_tree(base_dir, files)
@@ -67,6 +67,8 @@ class SdistWithLibrary(sdist):
                 folder = carried / f"{machine}-linux"
                 folder.mkdir(exist_ok=True)
                 shutil.copy(found, folder)
+        for licence in HERE.parent.parent.glob("LICENSE-*"):
+            shutil.copy(licence, base_dir)
 
 
 if __name__ == "__main__":

@@ -76,7 +76,7 @@ def test_a_coder_in_use_raises(coder, calls):
         worker.start()
         try:
             with pytest.raises(RuntimeError, match="in use by another thread"):
-                end = time.monotonic() + 20
+                end = time.monotonic() + 8
                 while time.monotonic() < end:
                     value = getattr(coder, call)
                     if call != "unfinished":

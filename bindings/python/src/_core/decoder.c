@@ -63,7 +63,8 @@ static int decoder_append(Decoder *self, PyObject *list, PyObject *classes, jcob
     return done;
 }
 
-/* feed(chunk, classes): a list of objects of the three classes. After an error the decoder is as new. */
+/* feed(chunk, classes): a list of objects of the three classes. An error comes at the end of a frame, so the decoder
+ * is then as new; the rest of the chunk is dropped. */
 static PyObject *decoder_feed(PyObject *object, PyObject *args)
 {
     Decoder *self = (Decoder *)object;
@@ -87,10 +88,8 @@ static PyObject *decoder_feed(PyObject *object, PyObject *args)
     while (at < len && list != NULL) {
         jcobs_answer answer = decoder_step(self, bytes + at, len - at);
         at += answer.consumed;
-        if (answer.status != JCOBS_MORE && decoder_append(self, list, classes, answer) < 0) {
-            jcobs_decoder_reset(&self->state);
+        if (answer.status != JCOBS_MORE && decoder_append(self, list, classes, answer) < 0)
             Py_CLEAR(list);
-        }
     }
     self->buffer.busy = 0;
     Py_DECREF(chunk);
