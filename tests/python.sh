@@ -41,7 +41,7 @@ has_module() { # PYTHON MODULE
 missing() { # PYTHON
     "$1" -c 'import sys; sys.exit(sys.version_info < (3, 9))' >/dev/null 2>&1 || { echo "python3"; return; }
     for module in setuptools:python3-setuptools wheel:python3-wheel pytest:python3-pytest hypothesis:python3-hypothesis \
-        pip:python3-pip ensurepip:python3-venv; do
+        ensurepip:python3-venv; do
         has_module "$1" "${module%%:*}" || printf '%s ' "${module#*:}"
     done
     "$1" -c 'import os, sys, sysconfig; sys.exit(not os.path.exists(os.path.join(sysconfig.get_path("include"), "Python.h")))' ||

@@ -126,3 +126,25 @@ def test_a_million_calls_without_growth():
     before = resident()
     some(80_000)  # thirteen calls each
     assert resident() - before < 1_000_000
+
+
+def test_objects_give_their_class_back():
+    class Named(jcobs.Message):
+        pass
+
+    def cycles(count):
+        for _ in range(count):
+            named = Named(b"hi")
+            named.itself = named
+        del named
+        decoder = jcobs.Decoder(10)
+        for _ in range(count):
+            decoder.feed(b"\x03hi\0\x05a\0")
+            jcobs.Encoder(10)
+        gc.collect()
+
+    cycles(10)
+    classes = [Named, jcobs.Message, jcobs.Broken, jcobs._core.Decoder, jcobs._core.Encoder]
+    before = [sys.getrefcount(one) for one in classes]
+    cycles(500)
+    assert [sys.getrefcount(one) for one in classes] == before

@@ -1,4 +1,4 @@
-from typing import Callable, Generic, List, Tuple, Type, TypeVar, Union
+from typing import List, Tuple, Type, TypeVar, Union
 
 from _typeshed import ReadableBuffer
 
