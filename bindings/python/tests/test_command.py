@@ -5,6 +5,7 @@ import os
 import signal
 import subprocess
 import sys
+import time
 
 import pytest
 
@@ -102,20 +103,19 @@ def test_show_a_port(port):
     name, end = port
     words = [sys.executable, "-m", "jcobs", "--port", name, "--baud", "9600"]
     with subprocess.Popen(words, stdout=subprocess.PIPE, stderr=subprocess.PIPE) as shown:
-        lines = []
-        # what comes before the port is open is dropped, so it is sent until a line comes
-        os.set_blocking(shown.stdout.fileno(), False)
-        while not lines:
-            end.write(b"\x00\x03hi\x00")
-            try:
-                shown.wait(0.2)
-            except subprocess.TimeoutExpired:
+        try:
+            # what comes before the port is open is dropped, so it is sent until a line comes
+            os.set_blocking(shown.stdout.fileno(), False)
+            lines = []
+            while not lines and shown.poll() is None:
+                end.write(b"\x00\x03hi\x00")
+                time.sleep(0.1)
                 lines = (shown.stdout.read() or b"").splitlines()
-            else:
-                pytest.fail(shown.stderr.read().decode())
-        assert set(lines) == {b"message 2 hi"}
-        shown.send_signal(signal.SIGINT)
-        assert (shown.wait(20), shown.stderr.read()) == (130, b"")
+            assert set(lines) == {b"message 2 hi"}
+            shown.send_signal(signal.SIGINT)
+            assert (shown.wait(20), shown.stderr.read()) == (130, b"")
+        finally:
+            shown.kill()
 
 
 def test_send_to_a_port(port):
