@@ -2,11 +2,11 @@
 # Tests the binding for Python (bindings/python), in an environment of its own and without a network:
 #   - pip installs it, and the first example of its README runs;
 #   - its tests by pytest, the examples of its documentation and README among them;
-#   - its types, by mypy in strict mode;
+#   - its types, by mypy in strict mode; the layout of its files, by black and clang-format;
 #   - a wheel and a source distribution are built; the latter is built and tested elsewhere;
 #   - the wheel runs on each other CPython from 3.9 on that is there.
-# PYTHON names the interpreter; else it is the first one that has what is needed. A part whose tool is missing is skipped,
-# and the tool named. The last line counts; the status is 0 only if nothing failed.
+# PYTHON names the interpreter; else it is the first one that has what is needed. A part whose tool is missing is
+# skipped, and the tool named. The last line counts; the status is 0 only if nothing failed.
 set -u
 root=$(cd "$(dirname "$0")/.." && pwd)
 work=$(mktemp -d)
@@ -40,12 +40,12 @@ has_module() { # PYTHON MODULE
 # Debian's packages that an interpreter lacks: without the first ones nothing can be tested.
 missing() { # PYTHON
     "$1" -c 'import sys; sys.exit(sys.version_info < (3, 9))' >/dev/null 2>&1 || { echo "python3"; return; }
-    for module in setuptools:python3-setuptools wheel:python3-wheel pytest:python3-pytest hypothesis:python3-hypothesis \
-        ensurepip:python3-venv; do
+    for module in setuptools:python3-setuptools wheel:python3-wheel pytest:python3-pytest \
+        hypothesis:python3-hypothesis ensurepip:python3-venv; do
         has_module "$1" "${module%%:*}" || printf '%s ' "${module#*:}"
     done
-    "$1" -c 'import os, sys, sysconfig; sys.exit(not os.path.exists(os.path.join(sysconfig.get_path("include"), "Python.h")))' ||
-        printf 'python3-dev '
+    headers=$("$1" -c 'import sysconfig; print(sysconfig.get_path("include"))')
+    [ -f "$headers/Python.h" ] || printf 'python3-dev '
 }
 
 finish() {
@@ -107,6 +107,16 @@ check "pytest" tests "$here" "$package/tests"
 grep -h '^SKIPPED' "$work/said" | sed 's/^/    /'
 tail -n 1 "$work/said" | sed 's/^/    /'
 
+if command -v black >/dev/null; then
+    check "layout of the Python files" black -q --check "$package"
+else
+    skip "layout of the Python files" "black is not there: install Debian's black"
+fi
+if command -v clang-format >/dev/null; then
+    check "layout of the C files" clang-format --dry-run -Werror "$root"/bindings/python/src/_core/*.[ch]
+else
+    skip "layout of the C files" "clang-format is not there: install Debian's clang-format"
+fi
 if command -v mypy >/dev/null; then
     check "mypy --strict, the package" strict "$here" src/jcobs
     check "mypy --strict, a user of the installed package" strict "$here" tests/typed.py
@@ -121,8 +131,10 @@ if has_module "$python" build; then
     check "an empty environment elsewhere" environment "$work/second"
     there=$work/second/bin/python
     mkdir "$work/elsewhere"
-    check "the source distribution is unpacked" tar -xzf "$work"/dist/jcobs-*.tar.gz -C "$work/elsewhere" --strip-components 1
-    check "pip install of the source distribution" env -u JCOBS_LIB_DIR "$there" -m pip install -q --no-build-isolation "$work"/dist/jcobs-*.tar.gz
+    archive=$(echo "$work"/dist/jcobs-*.tar.gz)
+    check "the source distribution is unpacked" tar -xzf "$archive" -C "$work/elsewhere" --strip-components 1
+    check "pip install of the source distribution" \
+        env -u JCOBS_LIB_DIR "$there" -m pip install -q --no-build-isolation "$archive"
     check "the first example, elsewhere" first_example "$there"
     check "pytest, elsewhere" tests "$there" "$work/elsewhere/tests/test_calls.py"
 

@@ -1,4 +1,6 @@
-"""Measures the package beside plain Python code, and the C library that it calls: python bench.py [--random] [LENGTH ..]
+"""Measures the package beside plain Python code and the C library that it calls.
+
+usage: python bench.py [--random] [LENGTH ..]
 
 The messages are like records: one byte in 16 is zero, at random places. With --random all bytes are random.
 The C library is measured by a loop in C, which this script compiles over the same libjcobs.a. All times are of the
@@ -90,7 +92,10 @@ def measured(program, length, at_random):
     for _ in range(ROUNDS):
         ran = subprocess.run([program, str(length), str(count)], input=message, stdout=subprocess.PIPE, check=True)
         in_c = [float(word) for word in ran.stdout.split()]
-        for row, call, argument, c in ((best[0], jcobs.encode, message, in_c[0]), (best[1], jcobs.decode, frame, in_c[1])):
+        for row, call, argument, c in (
+            (best[0], jcobs.encode, message, in_c[0]),
+            (best[1], jcobs.decode, frame, in_c[1]),
+        ):
             row[0] = min(row[0], timed(call, argument, count))
             row[1] = min(row[1], c)
     for row, call, argument in ((best[0], plain.encode, message), (best[1], plain.decode, frame)):
@@ -112,7 +117,8 @@ def main(words):
         for length in lengths:
             for name, (ours, c, slow) in zip(("encode", "decode"), measured(program, length, "--random" in words)):
                 print(
-                    f"| {length:,} | {name} | {shown(ours)} | {shown(c)} | {shown(slow)} | {ours / c:.2f} | {slow / ours:,.0f} |",
+                    f"| {length:,} | {name} | {shown(ours)} | {shown(c)} | {shown(slow)} |",
+                    f"{ours / c:.2f} | {slow / ours:,.0f} |",
                     flush=True,
                 )
 

@@ -54,7 +54,7 @@ class BuildOverLibrary(build_ext):
 
 
 class SdistWithLibrary(sdist):
-    """A source distribution that carries the header, the libraries and the licences, as its folder doesn't have them."""
+    """A source distribution that carries the header, the libraries and the licences."""
 
     def make_release_tree(self, base_dir, files):
         super().make_release_tree(base_dir, files)

@@ -33,7 +33,7 @@ def decode(frame):
 
 
 def output(piece):
-    """Returns what a piece decodes to, up to where it ends, and whether it ends with a block. Empty pieces are skipped."""
+    """Returns what a piece decodes to, up to where it ends, and whether it ends with a block."""
     message = bytearray()
     at = 0
     while at < len(piece):

@@ -1,8 +1,8 @@
 """The cases of conformance/ of the repository, as far as the package has calls for them.
 
-Its README says what a line is. Left out are the calls that the package doesn't have (decoding in place, the state machines),
-cases in which a caller's buffer has too little room, and, of the calls with a sentinel, sources that begin with it:
-`jcobs.decode` skips it for every sentinel.
+Its README says what a line is. Left out are the calls that the package doesn't have (decoding in place, the state
+machines), cases in which a caller's buffer has too little room, and, of the calls with a sentinel, sources that begin
+with it: `jcobs.decode` skips it for every sentinel.
 """
 
 import itertools

@@ -64,7 +64,9 @@ def test_readme_commands():
     ran = 0
     for block in readme_blocks("console"):
         for command, output in re.findall(r"\$ (.*)\n((?:(?!\$ ).*\n)*)", block):
-            result = subprocess.run(["sh", "-c", command], stdout=subprocess.PIPE, text=True, env={**os.environ, "PATH": path})
+            result = subprocess.run(
+                ["sh", "-c", command], stdout=subprocess.PIPE, text=True, env={**os.environ, "PATH": path}
+            )
             assert result.stdout == output, command
             ran += 1
     assert ran >= 4

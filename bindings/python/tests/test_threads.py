@@ -221,6 +221,9 @@ INTERPRETERS = """
 def test_subinterpreters():
     pytest.importorskip("_interpreters" if sys.version_info >= (3, 13) else "_xxsubinterpreters")
     ran = subprocess.run(
-        [sys.executable, "-W", "error", "-c", textwrap.dedent(INTERPRETERS)], capture_output=True, text=True, timeout=120
+        [sys.executable, "-W", "error", "-c", textwrap.dedent(INTERPRETERS)],
+        capture_output=True,
+        text=True,
+        timeout=120,
     )
     assert (ran.returncode, ran.stdout, ran.stderr) == (0, "done\n", "")

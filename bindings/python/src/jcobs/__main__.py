@@ -23,7 +23,9 @@ class Fault(Exception):
 
 def arguments() -> argparse.ArgumentParser:
     common = argparse.ArgumentParser(add_help=False)
-    common.add_argument("--port", metavar="P", help="a serial port, as /dev/ttyUSB0, instead of standard input or output")
+    common.add_argument(
+        "--port", metavar="P", help="a serial port, as /dev/ttyUSB0, instead of standard input or output"
+    )
     common.add_argument("--baud", metavar="N", type=int, default=115200, help="its speed (default: %(default)s)")
     common.add_argument("--sentinel", metavar="B", type=int, default=0, help="the byte that ends frames (default: 0)")
     style = common.add_mutually_exclusive_group()

@@ -4,8 +4,8 @@
 >>> cobs.decode(cobs.encode(b"hello"))
 b'hello'
 
-As there, `decode` takes a frame without a sentinel after it, decodes nothing to nothing, and raises `DecodeError`, which
-is an `Exception` of its own with the same texts. Both functions raise TypeError for a str.
+As there, `decode` takes a frame without a sentinel after it, decodes nothing to nothing, and raises `DecodeError`,
+which is an `Exception` of its own with the same texts. Both functions raise TypeError for a str.
 """
 
 from __future__ import annotations
