@@ -1,0 +1,71 @@
+/* jcobs._core: the calls of libjcobs, for the package jcobs.
+ *
+ * It is built for the stable ABI of CPython 3.9, so one file serves 3.9 and later. The module has no state, and its
+ * objects refer to no other: a call that makes objects takes their classes as arguments. So it works in every
+ * subinterpreter.
+ */
+#ifndef JCOBS_CORE_H
+#define JCOBS_CORE_H
+
+#define PY_SSIZE_T_CLEAN
+#include <Python.h>
+#include <structmember.h>
+
+#include "jcobs.h"
+
+/* From this length on a call releases the GIL. A shorter one takes a few microseconds. */
+#define LONG 32768
+
+/* Returns `data` as a bytes object. Bytes are taken as they are; anything else with a buffer is copied, so that no
+ * other thread or process can change the bytes while a call reads them. */
+PyObject *bytes_of(PyObject *data);
+
+/* Returns the bytes of a bytes object, for libjcobs. */
+unsigned char *start_of(PyObject *bytes);
+
+/* Converts an argument to a sentinel, for PyArg_ParseTuple. */
+int sentinel_of(PyObject *number, void *result);
+
+/* Converts an argument to a length, for PyArg_ParseTuple. */
+int length_of(PyObject *number, void *result);
+
+/* Releases the GIL if the input is long. */
+PyThreadState *release(size_t len);
+
+/* Takes the GIL back if it was released. */
+void restore(PyThreadState *thread);
+
+/* Returns a new bytes object of this length, to be written to, or NULL with MemoryError. */
+PyObject *room_of(size_t len);
+
+/* Cuts a bytes object that room_of returned to a length, and returns it, or NULL with MemoryError. */
+PyObject *cut(PyObject *bytes, size_t len);
+
+/* Pushes bytes of a stream of frames for any sentinel. */
+jcobs_answer push(jcobs_decoder *decoder, unsigned char *buffer, size_t room, const unsigned char *bytes, size_t len,
+                  unsigned char sentinel);
+
+/* Returns the object's memory, and then what it held of its class. */
+void free_object(PyObject *self);
+
+/* Returns a new object of the class, zeroed, or NULL with MemoryError. */
+void *new_object(PyTypeObject *type);
+
+/* A buffer of libjcobs, for one message or frame, and whether a call is at work on it. */
+typedef struct {
+    unsigned char *start;
+    size_t len;
+    int busy;
+} Buffer;
+
+/* Makes the buffer, or returns 0 with MemoryError. */
+int buffer_make(Buffer *buffer, size_t len);
+
+/* Takes the buffer for a call, or returns 0 with RuntimeError if another one is at work. The GIL is held. */
+int buffer_take(Buffer *buffer, const char *coder);
+
+extern PyType_Spec outcome_spec;
+extern PyType_Spec decoder_spec;
+extern PyType_Spec encoder_spec;
+
+#endif

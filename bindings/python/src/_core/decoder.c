@@ -1,0 +1,145 @@
+/* The type jcobs._core.Decoder: a streaming decoder with its buffer. */
+#include <string.h>
+
+#include "core.h"
+
+typedef struct {
+    PyObject_HEAD Buffer buffer;
+    jcobs_decoder state;
+    unsigned char sentinel;
+} Decoder;
+
+static PyObject *decoder_new(PyTypeObject *type, PyObject *args, PyObject *kwargs)
+{
+    size_t max_length;
+    unsigned char sentinel;
+    Decoder *self;
+
+    (void)kwargs;
+    if (!PyArg_ParseTuple(args, "O&O&:Decoder", length_of, &max_length, sentinel_of, &sentinel))
+        return NULL;
+    self = new_object(type);
+    if (self == NULL)
+        return NULL;
+    self->sentinel = sentinel;
+    jcobs_decoder_reset(&self->state);
+    if (!buffer_make(&self->buffer, max_length)) {
+        Py_DECREF(self);
+        return NULL;
+    }
+    return (PyObject *)self;
+}
+
+static void decoder_dealloc(PyObject *self)
+{
+    PyMem_Free(((Decoder *)self)->buffer.start);
+    free_object(self);
+}
+
+/* Pushes bytes through the next sentinel, without the GIL if that is far. */
+static jcobs_answer decoder_step(Decoder *self, const unsigned char *bytes, size_t len)
+{
+    int far = len >= LONG && memchr(bytes, self->sentinel, LONG) == NULL;
+    PyThreadState *thread = release(far ? len : 0);
+    jcobs_answer answer = push(&self->state, self->buffer.start, self->buffer.len, bytes, len, self->sentinel);
+
+    restore(thread);
+    return answer;
+}
+
+/* Appends the outcome of a piece to the list, or returns -1 with an error. */
+static int decoder_append(Decoder *self, PyObject *list, PyObject *classes, jcobs_answer answer)
+{
+    int at = answer.status == JCOBS_OK ? 0 : answer.status == JCOBS_BROKEN ? 1 : 2, done = -1;
+    PyObject *class = PyTuple_GetItem(classes, at), *outcome = NULL;
+    PyObject *data = PyBytes_FromStringAndSize((char *)self->buffer.start, (Py_ssize_t)answer.length);
+
+    if (class != NULL && data != NULL)
+        outcome = PyObject_CallFunctionObjArgs(class, data, NULL);
+    if (outcome != NULL)
+        done = PyList_Append(list, outcome);
+    Py_XDECREF(outcome);
+    Py_XDECREF(data);
+    return done;
+}
+
+/* feed(chunk, classes): a list of objects of the three classes. An error comes at the end of a frame, so the decoder
+ * is then as new; the rest of the chunk is dropped. */
+static PyObject *decoder_feed(PyObject *object, PyObject *args)
+{
+    Decoder *self = (Decoder *)object;
+    PyObject *data, *classes, *chunk, *list;
+    size_t at = 0, len;
+    const unsigned char *bytes;
+
+    if (!PyArg_UnpackTuple(args, "feed", 2, 2, &data, &classes))
+        return NULL;
+    chunk = bytes_of(data);
+    if (chunk == NULL)
+        return NULL;
+    list = PyList_New(0);
+    if (list == NULL || !buffer_take(&self->buffer, "decoder")) {
+        Py_XDECREF(list);
+        Py_DECREF(chunk);
+        return NULL;
+    }
+    len = (size_t)PyBytes_Size(chunk);
+    bytes = start_of(chunk);
+    while (at < len && list != NULL) {
+        jcobs_answer answer = decoder_step(self, bytes + at, len - at);
+        at += answer.consumed;
+        if (answer.status != JCOBS_MORE && decoder_append(self, list, classes, answer) < 0)
+            Py_CLEAR(list);
+    }
+    self->buffer.busy = 0;
+    Py_DECREF(chunk);
+    return list;
+}
+
+static PyObject *decoder_reset(PyObject *object, PyObject *none)
+{
+    Decoder *self = (Decoder *)object;
+
+    (void)none;
+    if (!buffer_take(&self->buffer, "decoder"))
+        return NULL;
+    jcobs_decoder_reset(&self->state);
+    self->buffer.busy = 0;
+    Py_RETURN_NONE;
+}
+
+static PyObject *decoder_unfinished(PyObject *object, void *closure)
+{
+    Decoder *self = (Decoder *)object;
+    int idle;
+
+    (void)closure;
+    if (!buffer_take(&self->buffer, "decoder"))
+        return NULL;
+    idle = (int)jcobs_decoder_is_idle(&self->state);
+    self->buffer.busy = 0;
+    return PyBool_FromLong(!idle);
+}
+
+static PyMethodDef decoder_methods[] = {
+    {"feed", decoder_feed, METH_VARARGS, NULL},
+    {"reset", decoder_reset, METH_NOARGS, NULL},
+    {NULL, NULL, 0, NULL},
+};
+
+static PyGetSetDef decoder_getset[] = {
+    {"unfinished", decoder_unfinished, NULL, NULL, NULL},
+    {NULL, NULL, NULL, NULL, NULL},
+};
+
+static PyType_Slot decoder_slots[] = {
+    {Py_tp_new, decoder_new},
+    {Py_tp_dealloc, decoder_dealloc},
+    {Py_tp_methods, decoder_methods},
+    {Py_tp_getset, decoder_getset},
+    {0, NULL},
+};
+
+PyType_Spec decoder_spec = {
+    "jcobs._core.Decoder", sizeof(Decoder), 0, Py_TPFLAGS_DEFAULT, decoder_slots,
+};

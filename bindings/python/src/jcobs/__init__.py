@@ -1,0 +1,38 @@
+"""Consistent Overhead Byte Stuffing (COBS), by proved code.
+
+A message becomes a frame that never contains one byte, the sentinel, so that the sentinel can mark where frames end on
+a serial line, in a stream or in a file:
+
+>>> import jcobs
+>>> jcobs.encode(b"hello\\0world", terminated=True)
+b'\\x06hello\\x06world\\x00'
+>>> decoder = jcobs.Decoder()
+>>> decoder.feed(b"\\x06hello\\x06wor")
+[]
+>>> decoder.feed(b"ld\\x00\\x03hi\\x00")
+[Message(b'hello\\x00world'), Message(b'hi')]
+
+`data`, `frame` and `chunk` are bytes, or any other contiguous bytes-like object: bytearray, memoryview, array.array,
+mmap. Each function and method raises TypeError for other objects, and BufferError if the bytes aren't contiguous.
+"""
+
+from jcobs._frames import DecodeError, decode, encode, frame_kind, max_length
+from jcobs._readers import AsyncFrameReader, FrameReader
+from jcobs._streams import Broken, Decoder, Encoder, Message, Outcome, TooLong
+
+__all__ = [
+    "AsyncFrameReader",
+    "Broken",
+    "DecodeError",
+    "Decoder",
+    "Encoder",
+    "FrameReader",
+    "Message",
+    "Outcome",
+    "TooLong",
+    "decode",
+    "encode",
+    "frame_kind",
+    "max_length",
+]
+__version__ = "1.0.0"

@@ -1,0 +1,131 @@
+"""Shows the frames that come on a serial port or on standard input, or sends lines as frames."""
+
+from __future__ import annotations
+
+import argparse
+import json
+import os
+import sys
+from typing import TYPE_CHECKING, Any, BinaryIO, Iterator, List, Optional, TextIO, cast
+
+import jcobs
+from jcobs import Message, Outcome
+
+if TYPE_CHECKING:
+    from jcobs._readers import Readable
+
+NAMES = {jcobs.Message: "message", jcobs.Broken: "broken", jcobs.TooLong: "too long"}
+
+
+class Fault(Exception):
+    """What the user is told before the program ends with status 1."""
+
+
+def arguments() -> argparse.ArgumentParser:
+    common = argparse.ArgumentParser(add_help=False)
+    common.add_argument(
+        "--port", metavar="P", help="a serial port, as /dev/ttyUSB0, instead of standard input or output"
+    )
+    common.add_argument("--baud", metavar="N", type=int, default=115200, help="its speed (default: %(default)s)")
+    common.add_argument("--sentinel", metavar="B", type=int, default=0, help="the byte that ends frames (default: 0)")
+    style = common.add_mutually_exclusive_group()
+    style.add_argument("--hex", action="store_true", help="messages as hexadecimal digits")
+    style.add_argument("--json", action="store_true", help="a JSON object a line, with the digits as its member hex")
+    parser = argparse.ArgumentParser("python -m jcobs", description=__doc__, parents=[common])
+    parser.add_argument("--version", action="version", version=jcobs.__version__)
+    parser.add_argument("--max-length", metavar="N", type=int, default=65536, help="the longest message that is shown")
+    parser.add_argument("command", nargs="?", choices=["show", "send"], default="show", help="(default: %(default)s)")
+    return parser
+
+
+def open_port(name: str, baud: int) -> Any:
+    try:
+        import serial
+    except ImportError:
+        raise Fault("--port needs pyserial: pip install pyserial") from None
+    try:
+        return serial.serial_for_url(name, baud)
+    except (serial.SerialException, ValueError) as error:
+        raise Fault(str(error)) from None
+
+
+def text_of(message: bytes) -> str:
+    """Returns a message as text if it is UTF-8 without control characters, or else as hexadecimal digits."""
+    try:
+        text = message.decode()
+    except UnicodeDecodeError:
+        return message.hex()
+    return text if text.isprintable() else message.hex()
+
+
+def line_of(outcome: Outcome, options: argparse.Namespace) -> str:
+    """Returns the line that shows an outcome."""
+    name = NAMES[type(outcome)]
+    if options.json:
+        return json.dumps({"outcome": name, "hex": outcome.data.hex()})
+    if isinstance(outcome, Message):
+        shown = outcome.data.hex() if options.hex else text_of(outcome.data)
+        return f"{name} {len(outcome.data)} {shown}" if shown else f"{name} 0"
+    return f"{name} {len(outcome.data)}" if isinstance(outcome, jcobs.Broken) else name
+
+
+def show(source: Readable, output: TextIO, options: argparse.Namespace) -> None:
+    reader = jcobs.FrameReader(source, options.max_length, options.sentinel)
+    for outcome in reader:
+        print(line_of(outcome, options), file=output, flush=True)
+    if reader.unfinished:
+        print(json.dumps({"outcome": "unfinished"}) if options.json else "unfinished", file=output, flush=True)
+
+
+def messages(lines: BinaryIO, options: argparse.Namespace) -> Iterator[bytes]:
+    """Yields the message of each line."""
+    for number, line in enumerate(lines, 1):
+        text = line[:-1] if line.endswith(b"\n") else line
+        try:
+            if options.json:
+                yield bytes.fromhex(json.loads(text)["hex"])
+            elif options.hex:
+                yield bytes.fromhex(text.decode("ascii"))
+            else:
+                yield text
+        except (ValueError, KeyError, TypeError):
+            wanted = "a JSON object with hexadecimal digits as hex" if options.json else "hexadecimal digits"
+            raise Fault(f"line {number} is not {wanted}") from None
+
+
+def send(lines: BinaryIO, port: BinaryIO, options: argparse.Namespace) -> None:
+    for message in messages(lines, options):
+        port.write(jcobs.encode(message, sentinel=options.sentinel, terminated=True))
+        port.flush()
+
+
+def run(options: argparse.Namespace) -> None:
+    port = open_port(options.port, options.baud) if options.port else None
+    if options.command == "send":
+        send(sys.stdin.buffer, port or sys.stdout.buffer, options)
+    else:
+        show(port or cast("Readable", sys.stdin.buffer), sys.stdout, options)
+
+
+def main(words: Optional[List[str]] = None) -> int:
+    parser = arguments()
+    options = parser.parse_args(words)
+    if not 0 <= options.sentinel <= 255:
+        parser.error("--sentinel: must be in 0 to 255")
+    if options.max_length < 0:
+        parser.error("--max-length: must not be negative")
+    try:
+        run(options)
+    except BrokenPipeError:
+        # No one reads the output any more; the interpreter flushes it once more at its end.
+        os.dup2(os.open(os.devnull, os.O_WRONLY), sys.stdout.fileno())
+    except (Fault, OSError, MemoryError) as error:
+        print(f"jcobs: {error or 'out of memory'}", file=sys.stderr)
+        return 1
+    except KeyboardInterrupt:
+        return 130
+    return 0
+
+
+if __name__ == "__main__":
+    sys.exit(main())

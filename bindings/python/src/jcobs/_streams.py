@@ -1,0 +1,130 @@
+"""Streams of frames, and messages in pieces."""
+
+from __future__ import annotations
+
+from typing import TYPE_CHECKING, List, Union
+
+from jcobs import _core
+
+if TYPE_CHECKING:
+    from _typeshed import ReadableBuffer
+
+
+class Message(_core.Outcome):
+    """A message, `data`.
+
+    >>> jcobs.Message(b"hi").data
+    b'hi'
+    """
+
+    __slots__ = ()
+    __match_args__ = ("data",)
+
+
+class Broken(_core.Outcome):
+    """A frame that breaks off inside a block. `data` is what it decodes to, up to where it ends."""
+
+    __slots__ = ()
+    __match_args__ = ("data",)
+
+
+class TooLong(_core.Outcome):
+    """A frame that decodes to more than `max_length` bytes. `data` is the first `max_length` of these."""
+
+    __slots__ = ()
+    __match_args__ = ("data",)
+
+
+_CLASSES = (Message, Broken, TooLong)
+Outcome = Union[Message, Broken, TooLong]
+
+
+class Decoder:
+    """Decodes a stream of frames that comes in chunks of any size.
+
+    `max_length` is the length of the longest message; the decoder allocates so much memory at once. A broken or too
+    long frame never affects the next one.
+
+    A decoder is for one thread at a time: while a call is at work, each method raises RuntimeError in other threads.
+    """
+
+    __slots__ = ("_core",)
+
+    def __init__(self, max_length: int = 65536, sentinel: int = 0) -> None:
+        self._core = _core.Decoder(max_length, sentinel)
+
+    def feed(self, chunk: ReadableBuffer) -> List[Outcome]:
+        """Decodes the next bytes of the stream, and returns the outcome of each frame that ends in them, in order.
+
+        Raises MemoryError if there isn't enough memory for them; these outcomes are then lost, and the decoder is
+        reset.
+
+        >>> decoder = jcobs.Decoder(max_length=5)
+        >>> for outcome in decoder.feed(b"\\x03hi\\x00\\x06hel\\x00\\x07hello!\\x00"):
+        ...     print(outcome)
+        Message(b'hi')
+        Broken(b'hel')
+        TooLong(b'hello')
+        """
+        return self._core.feed(chunk, _CLASSES)
+
+    @property
+    def unfinished(self) -> bool:
+        """Whether a frame has begun and not ended: at the end of a stream, whether its last frame was cut off.
+
+        >>> decoder = jcobs.Decoder()
+        >>> decoder.feed(b"\\x06hel")
+        []
+        >>> decoder.unfinished
+        True
+        """
+        return self._core.unfinished
+
+    def reset(self) -> None:
+        """Forgets the frame that has begun: the next byte begins another one.
+
+        >>> decoder = jcobs.Decoder()
+        >>> decoder.feed(b"\\x06hel")
+        []
+        >>> decoder.reset()
+        >>> decoder.feed(b"\\x03hi\\x00")
+        [Message(b'hi')]
+        """
+        self._core.reset()
+
+
+class Encoder:
+    """Encodes messages that arise in pieces.
+
+    `max_length` is the length of the longest message; the encoder allocates so much memory at once. It is for one
+    thread at a time, as a `Decoder`.
+
+    >>> encoder = jcobs.Encoder()
+    >>> encoder.feed(b"hel")
+    >>> encoder.feed(b"lo")
+    >>> encoder.finish(terminated=True)
+    b'\\x06hello\\x00'
+    """
+
+    __slots__ = ("_core",)
+
+    def __init__(self, max_length: int = 65536, sentinel: int = 0) -> None:
+        self._core = _core.Encoder(max_length, sentinel)
+
+    def feed(self, data: ReadableBuffer) -> None:
+        """Takes the next bytes of the message.
+
+        Raises ValueError if the message would be longer than `max_length`; none of the bytes are taken then.
+        """
+        self._core.feed(data)
+
+    def finish(self, *, terminated: bool = False) -> bytes:
+        """Ends the message, and returns its frame, with the sentinel after it if `terminated` is true.
+
+        The next bytes begin another message, even if this call raises MemoryError.
+        """
+        return self._core.finish(terminated)
+
+    def reset(self) -> None:
+        """Forgets the message that has begun."""
+        self._core.reset()

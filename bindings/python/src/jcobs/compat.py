@@ -1,0 +1,51 @@
+"""The names of the module `cobs.cobs` of the package `cobs`, so that a script switches by its import line:
+
+>>> from jcobs import compat as cobs    # was: from cobs import cobs
+>>> cobs.decode(cobs.encode(b"hello"))
+b'hello'
+
+As there, `decode` takes a frame without a sentinel after it, decodes nothing to nothing, and raises `DecodeError`,
+which is an `Exception` of its own with the same texts. Both functions raise TypeError for a str.
+"""
+
+from __future__ import annotations
+
+from typing import TYPE_CHECKING
+
+import jcobs
+
+if TYPE_CHECKING:
+    from _typeshed import ReadableBuffer
+
+__all__ = ["DecodeError", "decode", "encode"]
+
+
+class DecodeError(Exception):
+    """Raised by `decode` if the bytes contain a zero or break off inside a block."""
+
+
+def encode(in_bytes: ReadableBuffer) -> bytes:
+    """Encodes a message, and returns its frame.
+
+    >>> cobs.encode(b"hello")
+    b'\\x06hello'
+    """
+    return jcobs.encode(in_bytes)
+
+
+def decode(in_bytes: ReadableBuffer) -> bytes:
+    """Decodes a frame, and returns its message.
+
+    >>> cobs.decode(b"\\x06hello")
+    b'hello'
+    >>> cobs.decode(b"\\x06hello\\x00")
+    Traceback (most recent call last):
+        ...
+    jcobs.compat.DecodeError: zero byte found in input
+    """
+    if jcobs.frame_kind(in_bytes) != "not_a_frame":
+        return jcobs.decode(in_bytes)
+    frame = bytes(in_bytes)
+    if not frame:
+        return b""
+    raise DecodeError("zero byte found in input" if 0 in frame else "not enough input bytes for length code")

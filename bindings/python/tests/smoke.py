@@ -1,0 +1,57 @@
+"""What any CPython from 3.9 on is to do, without pytest: python smoke.py"""
+
+import threading
+from array import array
+
+import plain
+
+import jcobs
+
+MESSAGES = [b"\x01" * ones + bytes(zeros) + b"\x02" * 3 for ones in (0, 1, 253, 254, 255, 600) for zeros in range(3)]
+
+
+def check(sentinel):
+    decoder, encoder = jcobs.Decoder(1000, sentinel), jcobs.Encoder(1000, sentinel)
+    for message in MESSAGES:
+        frame = jcobs.encode(message, sentinel=sentinel, terminated=True)
+        assert frame == bytes(byte ^ sentinel for byte in plain.encode(message) + b"\0")
+        assert jcobs.decode(memoryview(frame), sentinel=sentinel) == message
+        encoder.feed(array("B", message))
+        assert encoder.finish(terminated=True) == frame
+        assert decoder.feed(bytearray(frame)) == [jcobs.Message(message)]
+    try:
+        jcobs.decode(b"\x05a")
+    except jcobs.DecodeError as error:
+        assert (error.kind, error.data) == ("broken", b"a")
+    try:
+        jcobs.encode(memoryview(b"abcd")[::2])
+    except BufferError:
+        pass
+    else:
+        raise AssertionError("it took an object that isn't contiguous")
+
+
+INTERPRETER = """if True:
+    import jcobs
+    assert jcobs.Decoder().feed(b"\\x03hi\\0") == [jcobs.Message(b"hi")]
+"""
+
+
+def check_subinterpreters():
+    try:
+        import _interpreters as interpreters
+    except ImportError:
+        import _xxsubinterpreters as interpreters
+    for _ in range(3):
+        interpreter = interpreters.create()
+        assert interpreters.run_string(interpreter, INTERPRETER) is None
+        interpreters.destroy(interpreter)
+
+
+threads = [threading.Thread(target=check, args=(sentinel,)) for sentinel in range(4)]
+for thread in threads:
+    thread.start()
+for thread in threads:
+    thread.join()
+check(0)
+check_subinterpreters()

@@ -1,0 +1,150 @@
+"""Refused memory, and memory that is given back."""
+
+import gc
+import sys
+
+import pytest
+
+import jcobs
+import jcobs.compat
+
+
+def coders():
+    decoder, encoder = jcobs.Decoder(100), jcobs.Encoder(100)
+    encoder.feed(b"hello")
+    return [decoder, encoder, decoder.feed(b"\x03hi\0\x06hel\0\x03ho\0"), encoder.finish()]
+
+
+def broken():
+    try:
+        jcobs.decode(b"\x05a")
+    except jcobs.DecodeError as error:
+        return error.data
+
+
+CALLS = {
+    "encode": lambda: jcobs.encode(b"a" * 5000),
+    "encode a bytearray": lambda: jcobs.encode(bytearray(b"a" * 500)),
+    "encode a memoryview": lambda: jcobs.encode(memoryview(b"a" * 500), sentinel=5),
+    "decode": lambda: jcobs.decode(b"\x06hello\0" + b"a" * 5000),
+    "decode for a sentinel": lambda: jcobs.decode(b"\x07idmmn", sentinel=1),
+    "decode a broken frame": broken,
+    "frame_kind": lambda: jcobs.frame_kind(b"\x07idmmn" * 20, sentinel=1),
+    "max_length": lambda: jcobs.max_length(1 << 50),
+    "coders": coders,
+    "outcomes": lambda: (repr(jcobs.Message(b"hi")), hash(jcobs.Broken(b"hi")), jcobs.TooLong(b"hi") == 5),
+}
+
+
+@pytest.mark.parametrize("name", CALLS)
+def test_each_allocation_refused(name):
+    """Refuses the first allocation of the call, then the second, and so on, until none is left."""
+    testcapi = pytest.importorskip("_testcapi", reason="CPython's own test module refuses the memory")
+    call = CALLS[name]
+    call()
+    gc.collect()
+    gc.disable()
+    refused = 0
+    try:
+        for start in range(400):
+            done = False
+            testcapi.set_nomemory(start, start + 1)
+            try:
+                call()
+                done = True
+            except MemoryError:
+                refused += 1
+            finally:
+                testcapi.remove_mem_hooks()
+            if done and start > 40:
+                break
+        else:
+            pytest.fail("the call never got through")
+    finally:
+        gc.enable()
+    assert refused > 0 or name == "frame_kind"
+    call()
+
+
+def test_decoder_after_refused_memory():
+    testcapi = pytest.importorskip("_testcapi", reason="CPython's own test module refuses the memory")
+    decoder = jcobs.Decoder(100)
+    stream = b"\x03hi\0\x06hel\0\x03ho\0\x03h"
+    refused = 0
+    for start in range(60):
+        decoder.reset()
+        testcapi.set_nomemory(start, start + 1)
+        try:
+            decoder.feed(stream)
+        except MemoryError:
+            testcapi.remove_mem_hooks()
+            refused += 1
+            assert not decoder.unfinished
+        finally:
+            testcapi.remove_mem_hooks()
+        decoder.reset()
+        assert len(decoder.feed(stream)) == 3 and decoder.unfinished
+    assert refused > 5
+
+
+def test_no_room_for_a_buffer():
+    for make in (jcobs.Decoder, jcobs.Encoder):
+        with pytest.raises(MemoryError):
+            make(sys.maxsize - 1)
+
+
+def resident():
+    with open("/proc/self/statm") as file:
+        return int(file.read().split()[1]) * 4096
+
+
+@pytest.mark.skipif(not sys.platform.startswith("linux"), reason="/proc says how much memory there is")
+def test_a_million_calls_without_growth():
+    def some(count):
+        view, frame, wrong = memoryview(bytearray(b"hello" * 20)), jcobs.encode(b"hello" * 20), b"\x05a"
+        decoder, encoder = jcobs.Decoder(100), jcobs.Encoder(100)
+        for _ in range(count):
+            jcobs.encode(view)
+            jcobs.decode(frame)
+            jcobs.frame_kind(frame, sentinel=3)
+            decoder.feed(b"\x03hi\0\x05a\0")
+            encoder.feed(b"hi")
+            encoder.finish()
+            jcobs.Decoder(50), jcobs.Encoder(50)
+            for call in (jcobs.decode, jcobs.compat.decode):
+                try:
+                    call(wrong)
+                except Exception:
+                    pass
+            try:
+                jcobs.encode("text")
+            except TypeError:
+                pass
+            hash(jcobs.Message(b"hi")), repr(jcobs.Broken(b"hi"))
+
+    some(5_000)
+    before = resident()
+    some(80_000)  # thirteen calls each
+    assert resident() - before < 1_000_000
+
+
+def test_objects_give_their_class_back():
+    class Named(jcobs.Message):
+        pass
+
+    def cycles(count):
+        for _ in range(count):
+            named = Named(b"hi")
+            named.itself = named
+        del named
+        decoder = jcobs.Decoder(10)
+        for _ in range(count):
+            decoder.feed(b"\x03hi\0\x05a\0")
+            jcobs.Encoder(10)
+        gc.collect()
+
+    cycles(10)
+    classes = [Named, jcobs.Message, jcobs.Broken, jcobs._core.Decoder, jcobs._core.Encoder]
+    before = [sys.getrefcount(one) for one in classes]
+    cycles(500)
+    assert [sys.getrefcount(one) for one in classes] == before

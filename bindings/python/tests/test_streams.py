@@ -1,0 +1,98 @@
+"""Decoder, Encoder and the outcomes."""
+
+import copy
+import pickle
+import random
+
+import plain
+import pytest
+from hypothesis import given
+from hypothesis import strategies as st
+
+import jcobs
+
+PIECES = st.one_of(st.binary(max_size=8), st.binary(max_size=300).map(jcobs.encode), st.just(jcobs.encode(b"\1" * 509)))
+STREAMS = st.lists(PIECES, max_size=6).map(b"\0".join)
+
+
+def cut(stream, places):
+    ends = sorted(min(place, len(stream)) for place in places)
+    return [stream[start:end] for start, end in zip([0, *ends], [*ends, len(stream)])]
+
+
+@given(STREAMS, st.lists(st.integers(0, 600), max_size=5), st.integers(0, 600), st.integers(0, 255))
+def test_decoder_gives_the_outcome_of_each_piece(stream, places, max_length, sentinel):
+    stream = bytes(byte ^ sentinel for byte in stream)
+    decoder = jcobs.Decoder(max_length, sentinel)
+    found = [outcome for chunk in cut(stream, places) for outcome in decoder.feed(chunk)]
+    assert [(type(outcome).__name__, outcome.data) for outcome in found] == list(
+        plain.outcomes(stream, max_length, sentinel)
+    )
+    assert decoder.unfinished == (len(stream) > 0 and stream[-1] != sentinel)
+    decoder.reset()
+    assert not decoder.unfinished
+    assert decoder.feed(jcobs.encode(b"", sentinel=sentinel, terminated=True)) == [jcobs.Message(b"")]
+
+
+@given(st.lists(st.binary(max_size=300), max_size=5), st.integers(0, 255), st.booleans())
+def test_encoder_gives_the_frame_of_the_pieces(pieces, sentinel, terminated):
+    message = b"".join(pieces)
+    encoder = jcobs.Encoder(len(message), sentinel)
+    for _ in range(2):
+        for piece in pieces:
+            encoder.feed(piece)
+        with pytest.raises(ValueError, match=f"longer than max_length={len(message)}"):
+            encoder.feed(b"!")
+        assert encoder.finish(terminated=terminated) == jcobs.encode(message, sentinel=sentinel, terminated=terminated)
+
+
+def test_encoder_reset():
+    encoder = jcobs.Encoder(5)
+    encoder.feed(b"hello")
+    encoder.reset()
+    encoder.feed(b"world")
+    assert encoder.finish() == b"\x06world"
+    assert encoder.finish() == b"\x01"
+
+
+def test_long_messages():
+    message = random.Random(1).randbytes(3_000_000)
+    for sentinel in (0, 7):
+        decoder = jcobs.Decoder(len(message), sentinel)
+        stream = jcobs.encode(message, sentinel=sentinel, terminated=True)
+        assert decoder.feed(stream[:1_000_000]) == []
+        assert decoder.feed(stream[1_000_000:] + stream) == [jcobs.Message(message)] * 2
+        encoder = jcobs.Encoder(len(message), sentinel)
+        encoder.feed(message[:1_000_000])
+        encoder.feed(bytearray(message[1_000_000:]))
+        assert encoder.finish(terminated=True) == stream
+
+
+def test_many_messages_in_a_long_chunk():
+    messages = [b"%d" % number for number in range(50_000)]
+    stream = b"".join(jcobs.encode(message, terminated=True) for message in messages)
+    assert [outcome.data for outcome in jcobs.Decoder(16).feed(stream)] == messages
+
+
+def test_lengths_of_0():
+    assert jcobs.Decoder(0).feed(b"\x01\0\x02a\0") == [jcobs.Message(b""), jcobs.TooLong(b"")]
+    assert jcobs.Encoder(0).finish(terminated=True) == b"\x01\0"
+
+
+@pytest.mark.parametrize("kind", [jcobs.Message, jcobs.Broken, jcobs.TooLong])
+def test_outcomes(kind):
+    outcome = kind(b"hi")
+    assert repr(outcome) == f"{kind.__name__}(b'hi')"
+    assert outcome == kind(data=b"hi") and outcome != kind(b"ho") and hash(outcome) == hash(kind(b"hi"))
+    assert all(outcome != other(b"hi") for other in {jcobs.Message, jcobs.Broken, jcobs.TooLong} - {kind})
+    assert outcome != b"hi" and kind.__match_args__ == ("data",)
+    assert pickle.loads(pickle.dumps(outcome)) == outcome == copy.deepcopy(outcome)
+    with pytest.raises(AttributeError):
+        outcome.data = b""
+    with pytest.raises(AttributeError):
+        outcome.more = 1
+    for arguments in ((), (b"", b""), ("hi",), (bytearray(b"hi"),)):
+        with pytest.raises(TypeError):
+            kind(*arguments)
+    with pytest.raises(TypeError):
+        outcome < outcome

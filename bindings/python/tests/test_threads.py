@@ -1,0 +1,229 @@
+"""Threads, interruptions and subinterpreters."""
+
+import signal
+import subprocess
+import sys
+import textwrap
+import threading
+import time
+
+import pytest
+
+import jcobs
+
+LONG = b"\x01" * 40_000_000
+
+
+def lets_others_run(call):
+    """Whether another thread got the GIL during the call. It asks for none, so the call has to release it."""
+    interval = sys.getswitchinterval()
+    sys.setswitchinterval(60)
+    try:
+        done = threading.Event()
+        worker = threading.Thread(target=lambda: (call(), done.set()))
+        worker.start()
+        released = not done.is_set()
+        worker.join()
+    finally:
+        sys.setswitchinterval(interval)
+    return released
+
+
+@pytest.mark.parametrize("make", [bytes, bytearray])
+@pytest.mark.parametrize(
+    "call",
+    [
+        jcobs.encode,
+        jcobs.decode,
+        jcobs.frame_kind,
+        lambda data: jcobs.Decoder(len(data)).feed(data),
+        lambda data: jcobs.Encoder(len(data)).feed(data),
+    ],
+    ids=["encode", "decode", "frame_kind", "Decoder.feed", "Encoder.feed"],
+)
+def test_long_calls_release_the_gil(call, make):
+    data = make(LONG)
+    # on a busy machine the other thread may come too late
+    assert any(lets_others_run(lambda: call(data)) for _ in range(10))
+
+
+def test_short_calls_keep_the_gil():
+    assert not lets_others_run(lambda: [jcobs.encode(b"hello") for _ in range(1000)])
+
+
+@pytest.mark.parametrize(
+    "coder, calls",
+    [
+        (jcobs.Decoder(len(LONG)), ["feed", "reset", "unfinished"]),
+        (jcobs.Encoder(1 << 34 if sys.maxsize > 1 << 40 else len(LONG)), ["feed", "finish", "reset"]),
+    ],
+    ids=["Decoder", "Encoder"],
+)
+def test_a_coder_in_use_raises(coder, calls):
+    for call in calls:
+        coder.reset()
+        stop = threading.Event()
+
+        def work():
+            while not stop.is_set():
+                try:
+                    coder.feed(LONG)
+                    coder.reset()
+                except RuntimeError:  # the other thread was faster
+                    pass
+
+        worker = threading.Thread(target=work)
+        worker.start()
+        try:
+            with pytest.raises(RuntimeError, match="in use by another thread"):
+                end = time.monotonic() + 8
+                while time.monotonic() < end:
+                    value = getattr(coder, call)
+                    if call != "unfinished":
+                        value(*[b""] * (call == "feed"))
+        finally:
+            stop.set()
+            worker.join()
+    coder.reset()
+
+
+def test_threads_with_coders_of_their_own():
+    messages = [bytes([number]) * number for number in range(256)] * 20
+    wrong = []
+
+    def work(sentinel):
+        decoder, encoder = jcobs.Decoder(255, sentinel), jcobs.Encoder(255, sentinel)
+        for message in messages:
+            encoder.feed(message)
+            if decoder.feed(encoder.finish(terminated=True)) != [jcobs.Message(message)]:
+                wrong.append((sentinel, message))
+
+    workers = [threading.Thread(target=work, args=(sentinel,)) for sentinel in range(8)]
+    for worker in workers:
+        worker.start()
+    for worker in workers:
+        worker.join()
+    assert not wrong
+
+
+def test_data_that_another_thread_changes():
+    data = bytearray(b"\x01" * 3_000_000)
+    stop = threading.Event()
+
+    def change():
+        at = 0
+        while not stop.is_set():
+            at = (at + 7919) % len(data)
+            data[at] ^= 1
+
+    worker = threading.Thread(target=change)
+    worker.start()
+    try:
+        for _ in range(50):
+            message = jcobs.decode(jcobs.encode(data))
+            assert len(message) == len(data)
+    finally:
+        stop.set()
+        worker.join()
+
+
+class Interruption(Exception):
+    pass
+
+
+@pytest.mark.skipif(not hasattr(signal, "setitimer"), reason="there is no setitimer")
+def test_interrupted_feed_leaves_a_decoder_that_works():
+    stream = b"".join(jcobs.encode(b"%d" % number, terminated=True) for number in range(20_000))
+
+    def interrupt(number, frame):
+        raise Interruption
+
+    decoder = jcobs.Decoder(16)
+    before = signal.signal(signal.SIGALRM, interrupt)
+    interrupted = 0
+    try:
+        for delay in range(1, 60):
+            try:
+                signal.setitimer(signal.ITIMER_REAL, delay / 20_000)
+                while True:
+                    decoder.feed(stream)
+            except Interruption:
+                interrupted += 1
+            assert not decoder.unfinished
+            assert decoder.feed(b"\x03hi\0") == [jcobs.Message(b"hi")]
+    finally:
+        signal.setitimer(signal.ITIMER_REAL, 0)
+        signal.signal(signal.SIGALRM, before)
+    assert interrupted == 59
+
+
+def test_a_decoder_that_is_fed_while_it_makes_outcomes():
+    """A class that calls back into the decoder finds it in use; the error leaves it as new."""
+    from jcobs import _core
+
+    core = _core.Decoder(16, 0)
+
+    class Back:
+        def __init__(self, data):
+            core.feed(b"\x03hi\0", (Back, Back, Back))
+
+    with pytest.raises(RuntimeError, match="in use"):
+        core.feed(b"\x03hi\0\x02", (Back, Back, Back))
+    assert not core.unfinished
+    with pytest.raises(IndexError):
+        core.feed(b"\x03hi\0\x02", ())
+    assert not core.unfinished
+    assert core.feed(b"\x03hi\0", (bytes, bytes, bytes)) == [b"hi"]
+
+
+INTERPRETERS = """
+    try:
+        import _interpreters as interpreters  # CPython 3.13 and later
+    except ImportError:
+        import _xxsubinterpreters as interpreters
+    import threading
+    import jcobs
+
+    CODE = '''if True:
+        import jcobs
+        decoder, encoder = jcobs.Decoder(1000), jcobs.Encoder(1000)
+        for number in range(2000):
+            message = bytes([number % 256]) * (number % 700)
+            encoder.feed(message)
+            assert decoder.feed(encoder.finish(terminated=True)) == [jcobs.Message(message)]
+            try:
+                jcobs.decode(b"\\\\x05a")
+            except jcobs.DecodeError as error:
+                assert error.kind == "broken" and error.data == b"a"
+            else:
+                raise AssertionError
+        done = b"yes"
+    '''
+
+    def work():
+        for _ in range(3):
+            interpreter = interpreters.create()
+            failed = interpreters.run_string(interpreter, CODE)
+            assert failed is None, failed
+            interpreters.destroy(interpreter)
+
+    workers = [threading.Thread(target=work) for _ in range(4)]
+    for worker in workers:
+        worker.start()
+    for worker in workers:
+        worker.join()
+    work()
+    assert jcobs.Decoder().feed(b"\\x03hi\\0") == [jcobs.Message(b"hi")]
+    print("done")
+"""
+
+
+def test_subinterpreters():
+    pytest.importorskip("_interpreters" if sys.version_info >= (3, 13) else "_xxsubinterpreters")
+    ran = subprocess.run(
+        [sys.executable, "-W", "error", "-c", textwrap.dedent(INTERPRETERS)],
+        capture_output=True,
+        text=True,
+        timeout=120,
+    )
+    assert (ran.returncode, ran.stdout, ran.stderr) == (0, "done\n", "")
