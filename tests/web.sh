@@ -72,19 +72,17 @@ else
     skip "building cobs.wasm anew" "$kit/bin/rt is not there: RATTLE names the folder of the Rattle kit"
 fi
 
-flags=
 if ! has "$node"; then
     skip "Node" "$node is not there: install Debian's nodejs"
 else
-    if "$node" --experimental-wasm-memory64 -e 0 2>/dev/null; then flags=--experimental-wasm-memory64; fi
-    if ! "$node" $flags --input-type=module -e "import { isSupported } from '$web/jcobs.js'; process.exit(isSupported() ? 0 : 1)" 2>"$work/said"; then
-        skip "Node" "$("$node" --version) has no 64-bit WebAssembly memory: version 20 or later has it"
+    if ! "$node" --input-type=module -e "import { isSupported } from '$web/jcobs.js'; process.exit(isSupported() ? 0 : 1)" 2>"$work/said"; then
+        skip "Node" "$("$node" --version) is too old: version 20 or later is needed"
     else
-        echo "Node $("$node" --version)"
-        counted "vectors" "$node" $flags "$web/test/vectors.mjs" "$web/cobs.wasm" "$root/conformance"
-        counted "module" "$node" $flags --expose-gc "$web/test/module.mjs" "$web/cobs.wasm"
+        echo "Node $("$node" --version), without a flag"
+        counted "vectors" "$node" "$web/test/vectors.mjs" "$web/cobs.wasm" "$root/conformance"
+        counted "module" "$node" --expose-gc "$web/test/module.mjs" "$web/cobs.wasm"
         mkdir "$work/docs"
-        check "the pictures are drawn" "$node" $flags "$web/figures.mjs" "$work/docs"
+        check "the pictures are drawn" "$node" "$web/figures.mjs" "$work/docs"
         for picture in frame run-of-255 damaged-stream two-frames; do
             check "docs/images/$picture.svg is what figures.mjs draws" cmp "$work/docs/$picture.svg" "$root/docs/images/$picture.svg"
         done
@@ -94,7 +92,7 @@ else
             skip "the types" "tsc is not there: install Debian's node-typescript"
         fi
         if has "$chromium"; then
-            counted "page" "$node" $flags "$web/test/page.mjs"
+            counted "page" "$node" "$web/test/page.mjs"
         else
             skip "the page" "$chromium is not there: install Debian's chromium"
         fi

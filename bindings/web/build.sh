@@ -21,11 +21,6 @@ need() { # COMMAND PACKAGE
     command -v "$1" >/dev/null || { echo "build.sh: $1 is not there: install Debian's $2" >&2; exit 2; }
 }
 
-# Node before 24 has 64-bit memory behind a flag.
-node_flags() {
-    if "$node" --experimental-wasm-memory64 -e 0 2>/dev/null; then echo --experimental-wasm-memory64; fi
-}
-
 build() { # FILE
     need python3 python3
     [ -x "$kit/bin/rt" ] || { echo "build.sh: $kit/bin/rt is not there: set RATTLE to the kit's folder" >&2; exit 2; }
@@ -39,13 +34,14 @@ build() { # FILE
     (cd "$root/crates/$crate" && "$kit/bin/rt" lib --target $target) >"$log" 2>&1 || { cat "$log" >&2; exit 1; }
     "$kit/bin/rattle-link" --target $target --toolchain "$kit/toolchain" --stack $stack -o "$1" "$archive" 2>"$log" \
         || { cat "$log" >&2; exit 1; }
-    python3 "$here/strip.py" "$1"
+    python3 -B "$here/strip.py" "$1"
+    python3 -B "$here/lower.py" "$1"
 }
 
 case ${1:-} in
     '') build "$here/cobs.wasm"; ls -l "$here/cobs.wasm" ;;
     to) build "$2" ;;
-    pictures) need "$node" nodejs; "$node" $(node_flags) "$here/figures.mjs" "$root/docs/images" ;;
+    pictures) need "$node" nodejs; "$node" "$here/figures.mjs" "$root/docs/images" ;;
     screenshots)
         need "$node" nodejs
         need "${CHROMIUM:-chromium}" chromium

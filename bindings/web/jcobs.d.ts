@@ -34,7 +34,7 @@ export type Outcome =
  * Why a call was refused:
  * - "empty": `decode` was given no bytes, or sentinels alone;
  * - "broken": the frame breaks off inside a block;
- * - "unsupported": this engine lacks 64-bit WebAssembly memory.
+ * - "unsupported": this engine is too old to run the module.
  */
 export class CobsError extends Error {
   readonly kind: "empty" | "broken" | "unsupported";
@@ -43,13 +43,13 @@ export class CobsError extends Error {
   constructor(kind: CobsError["kind"], message: string, decodedBytes?: number);
 }
 
-/** Whether this engine has WebAssembly with 64-bit memory. */
+/** Returns whether this engine runs the module. */
 export function isSupported(): boolean;
 
 /**
  * Loads the module. Every other call needs it. Without an argument it is the file cobs.wasm beside this one.
- * A later call changes nothing for streams that are open.
- * @throws CobsError "unsupported"
+ * Once it is loaded, or is being loaded, a further call changes nothing and returns the same promise.
+ * @throws CobsError "unsupported"; or what went wrong with the source, after which `load` can be called again
  */
 export function load(source?: Source): Promise<void>;
 

@@ -5,8 +5,8 @@
 //     const frame = encode(Uint8Array.of(10, 11, 0, 12));            // 3 10 11 2 12
 //     const frames = port.readable.pipeThrough(new FrameDecoderStream({ maxLength: 4096 }));
 //
-// This file moves bytes into the module's memory and answers out of it. Which bytes a frame has and what a
-// stream comes to is decided by the module alone.
+// This file copies bytes into the module's memory and results out of it. Which bytes a frame has and what a stream
+// decodes to is decided by the module alone.
 
 // enum jcobs_status and enum jcobs_kind of jcobs.h
 const OK = 0;
@@ -18,9 +18,24 @@ const WASM_PAGE = 65536;
 const ANSWER_SIZE = 64;              // room for a jcobs_answer, at the front of the free memory
 const SCRATCH_SIZE = 1 << 22;        // for the bytes of a call; a call that needs more has a memory of its own
 const STATE_SIZE = 64;               // room for a jcobs_decoder
-const CHUNK_SIZE = 1 << 14;          // how much of a stream a decoder takes into the module at a time
+const CHUNK_SIZE = 1 << 14;          // how many bytes of a stream are copied into the module at a time
+const MEMORY_LIMIT = 2 ** 32;        // no address from here on is given to the module: in 32 bits it would be another
 
-/** Why a call was refused. `kind` is "empty", "broken" or "unsupported"; with "broken", `decodedBytes` says how much decoded. */
+/** What a module must export to be cobs.wasm. */
+const CALLS = [
+  "memory",
+  "__heap_base",
+  "jcobs_max_length",
+  "jcobs_encode_with_sentinel",
+  "jcobs_encode_terminated_with_sentinel",
+  "jcobs_decode",
+  "jcobs_frame_kind",
+  "jcobs_decoder_reset",
+  "jcobs_decoder_push",
+  "jcobs_decoder_is_idle",
+];
+
+/** Says why a call failed. `kind` is "empty", "broken" or "unsupported"; `decodedBytes` is how much a broken frame decodes to. */
 export class CobsError extends Error {
   constructor(kind, message, decodedBytes = 0) {
     super(message);
@@ -53,9 +68,10 @@ class Machine {
 
   /** Makes the memory so long that `end` is its end or lies in it. */
   reach(end) {
+    if (end > MEMORY_LIMIT) throw new RangeError(`this needs ${end} bytes of memory, and a module has at most ${MEMORY_LIMIT}`);
     const pages = Math.ceil((end - this.#memory.buffer.byteLength) / WASM_PAGE);
     if (pages <= 0) return;
-    grow(this.#memory, pages);
+    this.#memory.grow(pages);
     this.#see();
   }
 
@@ -111,58 +127,63 @@ class Machine {
   }
 }
 
-/** Some engines that had 64-bit memory before it was settled take a number here. */
-function grow(memory, pages) {
-  try {
-    memory.grow(BigInt(pages));
-  } catch (error) {
-    if (!(error instanceof TypeError)) throw error;
-    memory.grow(pages);
-  }
-}
+/** A module with one memory and a function that copies within it: the newest of what cobs.wasm needs. */
+const PROBE = Uint8Array.of(
+  ...[0, 0x61, 0x73, 0x6d, 1, 0, 0, 0, 1, 4, 1, 0x60, 0, 0, 3, 2, 1, 0, 5, 3, 1, 0, 1],
+  ...[10, 14, 1, 12, 0, 0x41, 0, 0x41, 0, 0x41, 0, 0xfc, 10, 0, 0, 0x0b],
+);
 
-/** A memory section with a 64-bit memory, and nothing else: the shortest module that needs what cobs.wasm needs. */
-const MEMORY64_PROBE = Uint8Array.of(0, 0x61, 0x73, 0x6d, 1, 0, 0, 0, 5, 3, 1, 4, 1);
-
-/** Whether this engine has WebAssembly with 64-bit memory. */
+/** Whether this engine runs cobs.wasm. */
 export function isSupported() {
-  return typeof WebAssembly === "object" && WebAssembly.validate(MEMORY64_PROBE);
+  return typeof WebAssembly === "object" && typeof BigInt64Array === "function" && WebAssembly.validate(PROBE);
 }
 
 let compiled;
 let shared;
+let loading;
 
 /**
- * Loads the module, once: from the file beside this one, or from a URL, a Response, the file's bytes or a compiled
- * module. Every other call of this file needs it.
+ * Loads the module: from the file beside this one, or from a URL, a Response, the file's bytes or a compiled module.
+ * Every other call of this file needs it. Once it is loaded, or is being loaded, a further call changes nothing.
  */
-export async function load(source = new URL("cobs.wasm", import.meta.url)) {
+export function load(source = moduleAddress()) {
+  loading ??= loadFrom(source).catch((error) => {
+    loading = undefined;
+    throw error;
+  });
+  return loading;
+}
+
+const moduleAddress = () => new URL("cobs.wasm", import.meta.url);
+
+async function loadFrom(source) {
   if (!isSupported()) {
-    throw new CobsError(
-      "unsupported",
-      "this engine has no 64-bit WebAssembly memory, which cobs.wasm needs: use Chrome or Edge 133, Firefox 134, or later ones (Node 20 and 22: --experimental-wasm-memory64)",
-    );
+    const needed = "this engine lacks the WebAssembly that cobs.wasm needs, which browsers have since 2021 and Node since 16";
+    throw new CobsError("unsupported", needed);
   }
   const module = await moduleOf(source);
+  const names = new Set(WebAssembly.Module.exports(module).map(({ name }) => name));
+  if (!CALLS.every((name) => names.has(name))) throw new TypeError("the module isn't this version's cobs.wasm");
   shared = new Arena(new Machine(module));
   compiled = module;
 }
 
 async function moduleOf(source) {
   if (source instanceof WebAssembly.Module) return source;
-  if (source instanceof ArrayBuffer || ArrayBuffer.isView(source)) return WebAssembly.compile(source);
-  if (source instanceof Response) return WebAssembly.compile(await checked(source).arrayBuffer());
-  const url = new URL(source, import.meta.url);
-  if (url.protocol === "file:" && typeof process === "object") {
-    const { readFile } = await import("node:fs/promises");
-    return WebAssembly.compile(await readFile(url));
+  if (isBytes(source)) return WebAssembly.compile(bytesOf(source));
+  if (typeof Response === "function" && source instanceof Response) return WebAssembly.compile(await bytesOfResponse(source));
+  if (typeof source !== "string" && !(source instanceof URL)) {
+    throw new TypeError("load takes a URL, a Response, bytes, or a compiled module");
   }
-  return WebAssembly.compile(await checked(await fetch(url)).arrayBuffer());
+  const url = new URL(source, import.meta.url);
+  // not `import`, which every bundler for browsers would have to be told to leave alone
+  const files = url.protocol === "file:" ? globalThis.process?.getBuiltinModule?.("node:fs/promises") : undefined;
+  return WebAssembly.compile(files ? await files.readFile(url) : await bytesOfResponse(await fetch(url)));
 }
 
-function checked(response) {
+async function bytesOfResponse(response) {
   if (!response.ok) throw new Error(`${response.url || "cobs.wasm"} could not be loaded: status ${response.status}`);
-  return response;
+  return response.arrayBuffer();
 }
 
 /** The one memory that short calls and all streams share, and which of its places are free. */
@@ -221,11 +242,14 @@ function machineFor(size) {
   return own;
 }
 
+const isBuffer = (source) => /^\[object (Shared)?ArrayBuffer\]$/.test(Object.prototype.toString.call(source)); // of any realm
+const isBytes = (source) => ArrayBuffer.isView(source) || isBuffer(source);
+
 /** The bytes of an ArrayBuffer or of any view of one. */
 function bytesOf(source) {
   if (source instanceof Uint8Array) return source;
   if (ArrayBuffer.isView(source)) return new Uint8Array(source.buffer, source.byteOffset, source.byteLength);
-  if (source instanceof ArrayBuffer) return new Uint8Array(source);
+  if (isBuffer(source)) return new Uint8Array(source);
   throw new TypeError("bytes are wanted: a Uint8Array, another view, or an ArrayBuffer");
 }
 

@@ -1,6 +1,9 @@
 // What jcobs.js adds to the module's calls: node module.mjs COBS.WASM
 import { readFile } from "node:fs/promises";
+import { createServer } from "node:http";
+import { pathToFileURL } from "node:url";
 import * as cobs from "../jcobs.js";
+import { memoryOf } from "./memory.mjs";
 import * as plain from "./plain.js";
 import { check, equal, holds, report, throws } from "./tally.mjs";
 
@@ -8,6 +11,11 @@ const wasm = await readFile(process.argv[2]);
 const bytes = (...values) => Uint8Array.from(values);
 const FRAME = bytes(3, 10, 11, 2, 12);
 const MESSAGE = bytes(10, 11, 0, 12);
+
+let copies = 0;
+
+/** jcobs.js anew, with nothing loaded. */
+const fresh = () => import(`../jcobs.js?copy=${copies++}`);
 
 /** The same bytes at each run. */
 function randomBytes(length, zeros, seed) {
@@ -36,21 +44,65 @@ async function all(stream) {
 }
 
 await check("a call before load says so", () => throws(() => cobs.encode(MESSAGE), (error) => /load/.test(error.message), "encode"));
-await check("the engine has 64-bit memory", () => holds(cobs.isSupported(), "isSupported()"));
-await check("bytes that are no module are refused", () => throws(() => cobs.load(bytes(1, 2, 3)), (error) => error instanceof WebAssembly.CompileError, "load"));
-await check("an address without a file is refused", () => throws(() => cobs.load(new URL("none.wasm", import.meta.url)), () => true, "load"));
+await check("the engine runs the module", () => holds(cobs.isSupported(), "isSupported()"));
+await check("what is no module is an error, and load can be called again", async () => {
+  const own = await fresh();
+  await throws(() => own.load(bytes(1, 2, 3)), (error) => error instanceof WebAssembly.CompileError, "bytes");
+  await throws(() => own.load(bytes(0, 0x61, 0x73, 0x6d, 1, 0, 0, 0)), (error) => /isn't this version's cobs.wasm/.test(error.message), "an empty module");
+  await throws(() => own.load(new URL("none.wasm", import.meta.url)), () => true, "an address without a file");
+  for (const wrong of [null, 5, {}]) await throws(() => own.load(wrong), (error) => error instanceof TypeError, `${wrong}`);
+  await own.load(wasm);
+  equal(own.encode(MESSAGE), FRAME, "the frame");
+});
+await check("a server's error isn't taken for the module", async () => {
+  const server = createServer((request, response) => {
+    response.writeHead(request.url === "/cobs.wasm" ? 200 : 404, { "content-type": "text/plain" });
+    response.end(wasm);
+  });
+  await new Promise((done) => server.listen(0, "127.0.0.1", done));
+  const address = `http://127.0.0.1:${server.address().port}`;
+  const own = await fresh();
+  await throws(() => own.load(`${address}/other.wasm`), (error) => /status 404/.test(error.message), "an address");
+  const response = await fetch(`${address}/other.wasm`);
+  await throws(() => own.load(response), (error) => /status 404/.test(error.message), "a response");
+  await own.load(`${address}/cobs.wasm`); // whatever type the server names
+  equal(own.encode(MESSAGE), FRAME, "the frame");
+  server.close();
+});
+await check("load loads once", () => memoryOf(async (pages, made) => {
+  const own = await fresh();
+  equal(own.load(wasm) === own.load(), true, "the same promise");
+  await own.load(wasm);
+  await own.load();
+  equal(made(), 1, "instances");
+}));
 
 for (const [name, given] of Object.entries({
   "a Buffer": wasm,
   "an ArrayBuffer": wasm.buffer.slice(wasm.byteOffset, wasm.byteOffset + wasm.length),
   "a module": await WebAssembly.compile(wasm),
   "a Response": new Response(wasm),
+  "nothing": undefined,
+  "a URL of a file": pathToFileURL(process.argv[2]),
 })) {
   await check(`load takes ${name}`, async () => {
-    await cobs.load(given);
-    equal(cobs.encode(MESSAGE), FRAME, "the frame");
+    const own = await fresh();
+    await own.load(given);
+    equal(own.encode(MESSAGE), FRAME, "the frame");
   });
 }
+await cobs.load(wasm);
+await check("lengths that a 32-bit memory doesn't hold are refused before the call", async () => {
+  const own = await fresh();
+  await own.load(wasm);
+  const isRange = (error) => error instanceof RangeError && /4294967296/.test(error.message);
+  const long = new Uint8Array(2 ** 31);
+  await throws(() => own.encode(long), isRange, "encode");
+  await throws(() => own.decode(long), isRange, "decode");
+  await throws(() => new own.FrameDecoder({ maxLength: 2 ** 32 }), isRange, "a decoder");
+  equal(own.maxEncodedLength(2 ** 32), 4311876617, "lengths alone are counted");
+  equal(own.encode(MESSAGE), FRAME, "the frame after them");
+});
 
 await check("encode, with each option", () => {
   equal(cobs.encode(bytes()), bytes(1), "the frame of the empty message");
@@ -191,10 +243,10 @@ await check("maxLength 0 lets the empty message through alone", async () => {
   await throws(() => new cobs.FrameDecoderStream({ maxLength: -1 }), (error) => error instanceof RangeError, "-1");
 });
 
-const { memoryOf } = await import("./memory.mjs");
 await check("memory doesn't grow with a stream, nor with the number of streams", async () => {
   const frame = cobs.encode(randomBytes(900, 0.05, 5), { terminated: true });
   await memoryOf(async (pages) => {
+    const cobs = await fresh();
     await cobs.load(wasm);
     const decoder = new cobs.FrameDecoder({ maxLength: 1000 });
     const before = pages();
@@ -212,7 +264,8 @@ await check("memory doesn't grow with a stream, nor with the number of streams",
   });
 });
 await check("places that lie together serve a longer one when they are given back", () => memoryOf(async (pages) => {
-  await cobs.load(wasm);
+  const cobs = await fresh();
+    await cobs.load(wasm);
   const [first, second, last] = [1 << 20, 1 << 20, 10].map((maxLength) => new cobs.FrameDecoder({ maxLength }));
   const before = pages();
   second.close();
@@ -223,6 +276,7 @@ await check("places that lie together serve a longer one when they are given bac
 }));
 if (globalThis.gc) {
   await check("the memory of decoders that were let go is used again", () => memoryOf(async (pages) => {
+    const cobs = await fresh();
     await cobs.load(wasm);
     const before = pages();
     for (let round = 0; round < 20; round++) {

@@ -448,10 +448,10 @@ for (const view of ["message", "stream", "line"]) {
   }
 }
 
-await check("page: an engine without 64-bit memory is told what it lacks", async () => {
+await check("page: an engine that is too old is told so", async () => {
   const page = await browser.open(address, { before: "WebAssembly.validate = () => false" });
   await page.until('!document.getElementById("unsupported").hidden');
-  holds((await page.text("#unsupported")).includes("64-bit WebAssembly memory"), "it says why");
+  holds((await page.text("#unsupported")).includes("lacks the WebAssembly"), "it says why");
   equal(await page.value('document.getElementById("views").hidden'), true, "no view is shown");
   await page.close();
 });
