@@ -1,7 +1,7 @@
 /** Consistent Overhead Byte Stuffing, by the proved code in cobs.wasm. */
 
-/** Bytes as the calls take them: an ArrayBuffer, or any view of one. */
-export type Bytes = ArrayBuffer | ArrayBufferView;
+/** Bytes as the calls take them: an ArrayBuffer, a shared one, or any view of one. */
+export type Bytes = ArrayBuffer | SharedArrayBuffer | ArrayBufferView;
 
 /** Where `load` gets the module from. */
 export type Source = string | URL | Response | Bytes | WebAssembly.Module;
@@ -16,9 +16,16 @@ export interface EncodeOptions extends SentinelOptions {
   terminated?: boolean;
 }
 
-export interface DecoderOptions extends SentinelOptions {
-  /** The length of the longest message that is given out, in bytes. Default 65536. */
+export interface PieceOptions extends SentinelOptions {
+  /** The length of the longest message, in bytes. Default 65536; for `frames`, the length of the bytes. */
   maxLength?: number;
+}
+
+export interface DecoderOptions extends PieceOptions {
+  /**
+   * Whether to begin after the first sentinel, as is right on a line that may be in the middle of a frame. Default false.
+   */
+  skipFirst?: boolean;
 }
 
 /** What a piece of a stream that a sentinel ends comes to. */
@@ -60,6 +67,12 @@ export function maxEncodedLength(length: number): number;
 export function encode(message: Bytes, options?: EncodeOptions): Uint8Array;
 
 /**
+ * Encodes a message to the front of `dest`, changes nothing after the frame, and returns the frame's length.
+ * @throws RangeError if it doesn't fit; `dest` is then as it was
+ */
+export function encodeInto(message: Bytes, dest: Bytes, options?: EncodeOptions): number;
+
+/**
  * The message of the first frame: sentinels in front are skipped, and it ends at the next sentinel or with the
  * bytes. What stands after it isn't read.
  * @throws CobsError "empty" or "broken"
@@ -69,22 +82,54 @@ export function decode(frame: Bytes, options?: SentinelOptions): Uint8Array;
 /** Whether bytes are a frame: the encoded one of its message, or that one with a needless last block 01. */
 export function frameKind(frame: Bytes, options?: SentinelOptions): "canonical" | "longer" | "notAFrame";
 
+/**
+ * Iterates over what each piece of some bytes that a sentinel ends decodes to; `end` is the place after that sentinel.
+ * Bytes after the last sentinel give no outcome.
+ */
+export function frames(bytes: Bytes, options?: DecoderOptions): IterableIterator<Outcome & { end: number }>;
+
 /** Takes a stream in chunks of any size. */
 export class FrameDecoder {
   constructor(options?: DecoderOptions);
-  /** Calls `visit` for each piece that the chunk ends; `end` is the place in the chunk after its sentinel. */
+  /**
+   * Calls `visit` for each piece that the chunk ends; `end` is the place in the chunk after its sentinel. After a visit
+   * that throws or closes the decoder there are no more visits. What a visit throws, `push` throws once the whole chunk is
+   * taken, so that the next chunk is decoded as if nothing had been thrown.
+   */
   push(chunk: Bytes, visit: (outcome: Outcome, end: number) => void): void;
   /** Whether a frame has begun that no sentinel has ended yet. */
   get unfinished(): boolean;
-  /** Gives the decoder's memory back. */
+  /** How many bytes `skipFirst` has left out, the first sentinel among them. */
+  get skipped(): number;
+  /** Gives the decoder's memory back. Without it that happens at some garbage collection. Also `[Symbol.dispose]`. */
+  close(): void;
+}
+
+/** Encodes a message that comes in pieces. */
+export class FrameEncoder {
+  constructor(options?: PieceOptions);
+  /**
+   * Takes the next bytes of the message.
+   * @throws RangeError if the message would be longer than `maxLength`; none of the bytes is then taken
+   */
+  push(piece: Bytes): void;
+  /** How many bytes of the message were taken so far. */
+  get length(): number;
+  /** Returns the frame of all that was taken, and begins the next message. */
+  finish(options?: { terminated?: boolean }): Uint8Array;
+  /** Gives the encoder's memory back. Also `[Symbol.dispose]`. */
   close(): void;
 }
 
 /** Bytes in, outcomes out. What no sentinel has ended when the stream ends gives no outcome. */
-export class FrameDecoderStream extends TransformStream<Bytes, Outcome> {
+export class FrameDecoderStream implements ReadableWritablePair<Outcome, Bytes> {
   constructor(options?: DecoderOptions);
+  readonly readable: ReadableStream<Outcome>;
+  readonly writable: WritableStream<Bytes>;
   /** Whether a frame has begun that no sentinel has ended yet: at the stream's end, one that was cut off. */
   get unfinished(): boolean;
+  /** How many bytes `skipFirst` has left out, the first sentinel among them. */
+  get skipped(): number;
 }
 
 /** Messages in, their frames out, each with a sentinel after it. */

@@ -1,8 +1,8 @@
 #!/usr/bin/env python3
-"""Drops from a WebAssembly module what jcobs.js beside this file doesn't need: strip.py FILE
+"""Drops from a WebAssembly module what machine.js beside this file doesn't need: strip.py FILE
 
 - The custom sections, which name the functions and the compiler.
-- The exports whose names aren't in jcobs.js: the library for C has more calls than that file makes.
+- The exports whose names aren't in machine.js: the library for C has more calls than that file makes.
 - The bodies of the functions that no export is left to reach. Each becomes the instruction `unreachable`, so that every
   function keeps its number.
 
@@ -46,5 +46,5 @@ def stripped(data, words):
 
 if __name__ == "__main__":
     path = Path(sys.argv[1])
-    words = set(re.findall(r"\w+", Path(__file__).with_name("jcobs.js").read_text("utf-8")))
+    words = set(re.findall(r"\w+", Path(__file__).with_name("machine.js").read_text("utf-8")))
     path.write_bytes(stripped(path.read_bytes(), words))

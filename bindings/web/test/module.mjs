@@ -1,7 +1,11 @@
 // What jcobs.js adds to the module's calls: node module.mjs COBS.WASM
-import { readFile } from "node:fs/promises";
+import { rmSync } from "node:fs";
+import { copyFile, mkdir, mkdtemp, readFile, writeFile } from "node:fs/promises";
 import { createServer } from "node:http";
+import { tmpdir } from "node:os";
+import { join } from "node:path";
 import { pathToFileURL } from "node:url";
+import { runInNewContext } from "node:vm";
 import * as cobs from "../jcobs.js";
 import { memoryOf } from "./memory.mjs";
 import * as plain from "./plain.js";
@@ -12,10 +16,18 @@ const bytes = (...values) => Uint8Array.from(values);
 const FRAME = bytes(3, 10, 11, 2, 12);
 const MESSAGE = bytes(10, 11, 0, 12);
 
-let copies = 0;
+const copies = await mkdtemp(join(tmpdir(), "jcobs-copies-"));
+process.on("exit", () => rmSync(copies, { recursive: true }));
+let count = 0;
 
-/** jcobs.js anew, with nothing loaded. */
-const fresh = () => import(`../jcobs.js?copy=${copies++}`);
+/** jcobs.js anew, with nothing loaded: a copy of its files. */
+async function fresh() {
+  const folder = join(copies, String(count++));
+  await mkdir(folder);
+  await writeFile(join(folder, "package.json"), '{ "type": "module" }');
+  for (const name of ["jcobs.js", "machine.js", "cobs.wasm"]) await copyFile(new URL(`../${name}`, import.meta.url), join(folder, name));
+  return import(pathToFileURL(join(folder, "jcobs.js")));
+}
 
 /** The same bytes at each run. */
 function randomBytes(length, zeros, seed) {
@@ -61,13 +73,17 @@ await check("a server's error isn't taken for the module", async () => {
   });
   await new Promise((done) => server.listen(0, "127.0.0.1", done));
   const address = `http://127.0.0.1:${server.address().port}`;
-  const own = await fresh();
-  await throws(() => own.load(`${address}/other.wasm`), (error) => /status 404/.test(error.message), "an address");
-  const response = await fetch(`${address}/other.wasm`);
-  await throws(() => own.load(response), (error) => /status 404/.test(error.message), "a response");
-  await own.load(`${address}/cobs.wasm`); // whatever type the server names
-  equal(own.encode(MESSAGE), FRAME, "the frame");
-  server.close();
+  try {
+    const own = await fresh();
+    await throws(() => own.load(`${address}/other.wasm`), (error) => /status 404/.test(error.message), "an address");
+    const response = await fetch(`${address}/other.wasm`);
+    await throws(() => own.load(response), (error) => /status 404/.test(error.message), "a response");
+    await own.load(`${address}/cobs.wasm`); // whatever type the server names
+    equal(own.encode(MESSAGE), FRAME, "the frame");
+  } finally {
+    server.close();
+    server.closeAllConnections();
+  }
 });
 await check("load loads once", () => memoryOf(async (pages, made) => {
   const own = await fresh();
@@ -230,6 +246,209 @@ await check("many decoders at a time keep apart", () => {
     decoder.close();
   }
 });
+await check("after a visit that throws the next chunk is decoded as if it hadn't", () => {
+  const decoder = new cobs.FrameDecoder({ maxLength: 100 });
+  const seen = [];
+  const push = (...values) => decoder.push(bytes(...values), ({ message, broken }) => {
+    seen.push(message ? [...message] : broken);
+    if (message?.[0] === 7) throw new Error("seven");
+  });
+  let thrown;
+  try {
+    push(2, 7, 0, 2, 8, 0, 5, 1, 2);
+  } catch (error) {
+    thrown = error;
+  }
+  equal(thrown?.message, "seven", "what push throws");
+  equal(decoder.unfinished, true, "unfinished");
+  push(2, 4, 0);
+  equal(seen, [[7], [1, 2, 2, 4]], "the outcomes");
+  decoder.close();
+});
+await check("close within a visit takes effect, and no other decoder gets the place before the push ends", () => {
+  const first = new cobs.FrameDecoder({ maxLength: 100 });
+  const seen = [];
+  let second;
+  first.push(bytes(2, 8, 0, 5, 1, 2, 3, 4, 0, 2, 9), ({ message }) => {
+    seen.push([...message]);
+    first.close();
+    second = new cobs.FrameDecoder({ maxLength: 100 });
+    second.push(bytes(5, 1, 2), () => {});
+  });
+  second.push(bytes(3, 4, 0), (outcome) => equal(outcome, { message: bytes(1, 2, 3, 4) }, "of the other decoder"));
+  equal(seen, [[8]], "the outcomes");
+  equal(first.unfinished, false, "unfinished");
+  holds((() => {
+    try {
+      first.push(bytes(0), () => {});
+    } catch (error) {
+      return /closed/.test(error.message);
+    }
+  })(), "it is closed");
+  second.close();
+});
+await check("a decoder keeps what it has taken over calls that are longer than the shared memory", () => {
+  const message = randomBytes(3_000_000, 0.02, 77);
+  const decoders = Array.from({ length: 8 }, () => new cobs.FrameDecoder({ maxLength: 700_000 }));
+  for (const decoder of decoders) decoder.push(bytes(5, 1, 2), () => {});
+  const frame = cobs.encode(message);
+  equal(Buffer.compare(cobs.decode(frame), message), 0, "comparing");
+  equal(cobs.frameKind(cobs.encode(randomBytes(6_000_000, 0.02, 78))), "canonical");
+  for (const decoder of decoders) {
+    const seen = [];
+    decoder.push(bytes(3, 4, 0), (outcome) => seen.push(outcome));
+    equal(seen, [{ message: bytes(1, 2, 3, 4) }]);
+    decoder.close();
+  }
+});
+await check("skipFirst begins after the first sentinel", async () => {
+  for (const sentinel of [0, 0x55]) {
+    const stream = bytes(9, 9, 2, 9, 0, ...FRAME, 0, 5, 1, 0, 3, 5).map((byte) => byte ^ sentinel);
+    for (let size = 1; size <= stream.length; size++) {
+      const decoder = new cobs.FrameDecoder({ sentinel, skipFirst: true });
+      const seen = [];
+      for (let at = 0; at < stream.length; at += size) decoder.push(stream.subarray(at, at + size), (outcome, end) => seen.push([outcome, at + end]));
+      equal(seen, [[{ message: MESSAGE }, 11], [{ broken: 1 }, 14]], `by ${size}`);
+      equal([decoder.skipped, decoder.unfinished], [5, true], "skipped, unfinished");
+      decoder.close();
+    }
+    const through = new cobs.FrameDecoderStream({ sentinel, skipFirst: true });
+    equal(await all(source([stream]).pipeThrough(through)), [{ message: MESSAGE }, { broken: 1 }], "the stream");
+    equal(through.skipped, 5, "skipped by the stream");
+  }
+});
+await check("unknown options and wrong ones are errors", async () => {
+  const calls = {
+    encode: (options) => cobs.encode(MESSAGE, options),
+    encodeInto: (options) => cobs.encodeInto(MESSAGE, new Uint8Array(9), options),
+    decode: (options) => cobs.decode(bytes(1 ^ (options?.sentinel ?? 0)), options),
+    frameKind: (options) => cobs.frameKind(FRAME, options),
+    frames: (options) => cobs.frames(FRAME, options),
+    FrameDecoder: (options) => new cobs.FrameDecoder(options),
+    FrameEncoder: (options) => new cobs.FrameEncoder(options),
+    FrameDecoderStream: (options) => new cobs.FrameDecoderStream(options),
+    FrameEncoderStream: (options) => new cobs.FrameEncoderStream(options),
+  };
+  for (const [name, call] of Object.entries(calls)) {
+    for (const wrong of [{ sentinal: 10 }, 10, null]) await throws(() => call(wrong), (error) => error instanceof TypeError && /option/.test(error.message), `${name} with ${wrong}`);
+    call({});
+    call({ sentinel: undefined });
+    call({ sentinel: 10 });
+  }
+  await throws(() => cobs.decode(FRAME, { terminated: true }), (error) => error instanceof TypeError, "an option of another call");
+  await throws(() => new cobs.FrameDecoder().push(bytes(1)), (error) => error instanceof TypeError, "push without a function");
+});
+await check("frames of one buffer", async () => {
+  const stream = bytes(0, ...FRAME, 0, 0, 5, 1, 0, 1, 0, 3, 5);
+  const wanted = [{ message: MESSAGE, end: 7 }, { broken: 1, end: 11 }, { message: bytes(), end: 13 }];
+  equal([...cobs.frames(stream)], wanted, "they");
+  equal([...cobs.frames(stream.map((byte) => byte ^ 9), { sentinel: 9 })], wanted, "with another sentinel");
+  equal([...cobs.frames(stream, { maxLength: 3 })][0], { tooLong: true, end: 7 }, "the first, for messages of 3 bytes");
+  for (const outcome of cobs.frames(stream)) {
+    equal(outcome, wanted[0], "the first alone");
+    break;
+  }
+  const messages = Array.from({ length: 300 }, (_, i) => randomBytes(i * 3, 0.1, i + 1));
+  const long = Buffer.concat(messages.map((message) => cobs.encode(message, { terminated: true })));
+  const found = [...cobs.frames(long)];
+  equal(found.map(({ message }) => message), messages, "messages of a long buffer");
+  equal(found.at(-1).end, long.length, "the last end");
+});
+await check("encodeInto writes the frame alone", async () => {
+  const room = new Uint8Array(8).fill(0xee);
+  equal(cobs.encodeInto(MESSAGE, room.subarray(1)), 5, "the length");
+  equal(room, bytes(0xee, ...FRAME, 0xee, 0xee), "the bytes");
+  equal(cobs.encodeInto(MESSAGE, room.buffer, { terminated: true, sentinel: 7 }), 6, "the length");
+  equal(room, bytes(...[...FRAME, 0].map((byte) => byte ^ 7), 0xee, 0xee), "the bytes");
+  for (const [options, length] of [[{}, 4], [{ terminated: true }, 5]]) {
+    const short = new Uint8Array(length).fill(0xee);
+    await throws(() => cobs.encodeInto(MESSAGE, short, options), (error) => error instanceof RangeError, "too short");
+    equal(short, new Uint8Array(length).fill(0xee), "the bytes after it");
+  }
+});
+await check("a message in pieces has the frame of the whole", async () => {
+  const encoder = new cobs.FrameEncoder({ maxLength: 100_000 });
+  for (const [length, zeros, step] of [[0, 0, 1], [1, 0, 1], [254, 0, 100], [255, 0, 7], [508, 0, 254], [40_000, 0.03, 17_001], [100_000, 0, 100_000], [99_999, 0.001, 33_333]]) {
+    const message = randomBytes(length, zeros, length + 1);
+    for (let at = 0; at < length; at += step) encoder.push(message.subarray(at, at + step));
+    equal(encoder.length, length, "the length so far");
+    equal(Buffer.compare(encoder.finish({ terminated: length % 2 === 1 }), cobs.encode(message, { terminated: length % 2 === 1 })), 0, `comparing at ${length}`);
+  }
+  encoder.push(new Uint8Array(60_000));
+  await throws(() => encoder.push(new Uint8Array(40_001)), (error) => error instanceof RangeError, "a message that is too long");
+  equal(encoder.finish(), cobs.encode(new Uint8Array(60_000)), "the frame of what was taken");
+  encoder.close();
+  encoder.close();
+  await throws(() => encoder.push(bytes(1)), (error) => /closed/.test(error.message), "a push after close");
+  await throws(() => encoder.finish(), (error) => /closed/.test(error.message), "a finish after close");
+  const other = new cobs.FrameEncoder({ sentinel: 10 });
+  other.push(MESSAGE);
+  equal(other.finish({ terminated: true }), cobs.encode(MESSAGE, { sentinel: 10, terminated: true }), "with another sentinel");
+  other.close();
+});
+await check("bytes of another realm and shared bytes are taken", () => {
+  equal(cobs.encode(runInNewContext("Uint8Array.of(10, 11, 0, 12).buffer")), FRAME, "of another realm");
+  const sharedBytes = new Uint8Array(new SharedArrayBuffer(4));
+  sharedBytes.set(MESSAGE);
+  equal(cobs.encode(sharedBytes), FRAME, "of shared bytes");
+  equal(cobs.encode(sharedBytes.buffer), FRAME, "of a shared buffer");
+});
+await check("10,000 decoders are closed in any order in no time", () => {
+  const decoders = Array.from({ length: 10_000 }, () => new cobs.FrameDecoder({ maxLength: 10 }));
+  const order = randomBytes(20_000, 0, 5);
+  decoders.forEach((decoder, i) => (decoder.order = order[2 * i] * 256 + order[2 * i + 1]));
+  decoders.sort((a, b) => a.order - b.order);
+  const begun = performance.now();
+  for (const decoder of decoders) decoder.close();
+  const spent = performance.now() - begun;
+  holds(spent < 1000, `it took ${Math.round(spent)} ms`);
+});
+await check("a stream that isn't read to its end gives its memory back at once", () => memoryOf(async (pages) => {
+  const own = await fresh();
+  await own.load(wasm);
+  const before = pages();
+  const chunk = bytes(...FRAME, 0);
+  for (let i = 0; i < 50; i++) {
+    const cancelled = new own.FrameDecoderStream({ maxLength: 1 << 20 });
+    const writer = cancelled.writable.getWriter();
+    const written = writer.write(chunk).catch(() => {});
+    const reader = cancelled.readable.getReader();
+    equal((await reader.read()).value, { message: MESSAGE });
+    await reader.cancel(new Error("no more"));
+    await written;
+    await throws(() => writer.write(chunk), (error) => error.message === "no more", "a write after the reader's cancel");
+    const aborted = new own.FrameDecoderStream({ maxLength: 1 << 20 });
+    await aborted.writable.abort(new Error("enough"));
+    await throws(() => aborted.readable.getReader().read(), (error) => error.message === "enough", "a read after the writer's abort");
+    await throws(() => all(source(["text"]).pipeThrough(new own.FrameDecoderStream({ maxLength: 1 << 20 }))), (error) => error instanceof TypeError, "a chunk that is no bytes");
+    const waiting = new own.FrameDecoderStream({ maxLength: 1 << 20 });
+    const held = waiting.writable.getWriter();
+    const late = held.write(chunk).then(() => "written", () => "failed");
+    await waiting.readable.cancel(new Error("no more"));
+    equal(await Promise.race([late, new Promise((done) => setTimeout(done, 500))]) !== undefined, true, "a write that waits has an end");
+  }
+  holds(pages() <= before + 3 * 17, `memory had ${before} pages and has ${pages()}`);
+}));
+await check("a stream waits until what it gave out is read", async () => {
+  const stream = new cobs.FrameDecoderStream();
+  const writer = stream.writable.getWriter();
+  let count = 0;
+  const writes = Array.from({ length: 5 }, () => writer.write(bytes(2, 7, 0, 2, 8, 0)).then(() => count++));
+  await new Promise((done) => setTimeout(done, 20));
+  equal(count, 0, "writes done before a read");
+  const reader = stream.readable.getReader();
+  for (let i = 0; i < 10; i++) equal((await reader.read()).value, { message: bytes(7 + (i % 2)) });
+  await Promise.all(writes);
+  const last = reader.read();
+  await writer.close();
+  equal((await last).done, true, "the end");
+});
+if (Symbol.dispose) {
+  await check("a decoder is disposed of", () => {
+    const decoder = new cobs.FrameDecoder();
+    decoder[Symbol.dispose]();
+  });
+}
 await check("a decoder refuses a push within a push, and after its close", async () => {
   const decoder = new cobs.FrameDecoder();
   await throws(() => decoder.push(bytes(1, 0), () => decoder.push(bytes(1, 0), () => {})), (error) => /under way/.test(error.message), "a push within");
