@@ -2,6 +2,7 @@
 # Tests the binding for the browser (bindings/web):
 #   - the module is built anew from the proved crate, and compared with the committed cobs.wasm, byte for byte;
 #   - the vectors of conformance/ and the tests of jcobs.js, in Node;
+#   - the package: installed, required, bundled by esbuild and rollup, and the examples of its README;
 #   - the types in jcobs.d.ts, by the TypeScript compiler;
 #   - the page in Chromium, by keys, clicks and pastes;
 #   - the pictures of docs/FORMAT.md, drawn anew and compared.
@@ -81,6 +82,11 @@ else
         echo "Node $("$node" --version), without a flag"
         counted "vectors" "$node" "$web/test/vectors.mjs" "$web/cobs.wasm" "$root/conformance"
         counted "module" "$node" --expose-gc "$web/test/module.mjs" "$web/cobs.wasm"
+        counted "package" "$node" "$web/test/package.mjs"
+        check "the files with the module inside are built" "$node" "$web/pack.mjs" "$work/dist"
+        for file in jcobs.js jcobs.cjs jcobs.d.cts; do
+            check "dist/$file is what pack.mjs writes" cmp "$work/dist/$file" "$web/dist/$file"
+        done
         mkdir "$work/docs"
         check "the pictures are drawn" "$node" "$web/figures.mjs" "$work/docs"
         for picture in frame run-of-255 damaged-stream two-frames; do

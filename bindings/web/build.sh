@@ -1,8 +1,10 @@
 #!/bin/sh
 # The module and what is made from it:
 #
-#     build.sh                 cobs.wasm, from the proved crate (needs the kit of Rattle; RATTLE is its folder)
-#     build.sh to FILE         the same, written to FILE
+#     build.sh                 cobs.wasm, from the proved crate, and dist/ (needs the kit of Rattle; RATTLE is its folder)
+#     build.sh to FILE         cobs.wasm alone, written to FILE
+#     build.sh dist [FOLDER]   the files with the module inside, from cobs.wasm as it is (Node)
+#     build.sh site FOLDER     the page as static files for any host
 #     build.sh pictures        the pictures of docs/FORMAT.md (Node)
 #     build.sh screenshots     the screenshots in docs/images/ (Node and Chromium)
 #     build.sh serve [PORT]    the page, at http://localhost:8000/ or another port (Node)
@@ -39,8 +41,14 @@ build() { # FILE
 }
 
 case ${1:-} in
-    '') build "$here/cobs.wasm"; ls -l "$here/cobs.wasm" ;;
+    '') need "$node" nodejs; build "$here/cobs.wasm"; "$node" "$here/pack.mjs" "$here/dist"; ls -l "$here/cobs.wasm" "$here/dist" ;;
     to) build "$2" ;;
+    dist) need "$node" nodejs; "$node" "$here/pack.mjs" "${2:-$here/dist}" ;;
+    site)
+        mkdir -p "$2/page"
+        cp "$here/index.html" "$here/draw.js" "$here/jcobs.js" "$here/machine.js" "$here/cobs.wasm" "$2"
+        cp "$here"/page/*.js "$here"/page/*.css "$2/page"
+        ;;
     pictures) need "$node" nodejs; "$node" "$here/figures.mjs" "$root/docs/images" ;;
     screenshots)
         need "$node" nodejs
@@ -48,5 +56,5 @@ case ${1:-} in
         "$node" "$here/test/screenshots.mjs" "$root/docs/images"
         ;;
     serve) need "$node" nodejs; exec "$node" "$here/serve.mjs" "${2:-8000}" ;;
-    *) sed -n '2,10s/^# \{0,1\}//p' "$0" >&2; exit 2 ;;
+    *) sed -n '2,12s/^# \{0,1\}//p' "$0" >&2; exit 2 ;;
 esac
