@@ -1,7 +1,7 @@
 // Pictures of frames, as SVG text. The page and figures.mjs draw by this module alone; it needs no DOM.
 //
 // A picture is a row of cells, one for each byte of the frame. Over each byte stands what it is in the
-// message: a data byte is itself, and a code stands where a zero of the message was, but the first one
+// message: a data byte is itself (XORed with the sentinel, which changes nothing for 0), and a code stands where a zero of the message was, but the first one
 // and the one after a full block. Under the cells an arc leads from each code to the next.
 
 export const CELL = 32;          // width of a cell, in pixels
@@ -95,7 +95,8 @@ export function cellsOf(piece, places, from, to, options = {}) {
       bad: part.bad,
       first: isCode,
       last: at + 1 === Math.min(part.end, piece.length),
-      over: isCode ? overCode(piece, places, number, sentinel) : { text: showOver(piece[at]), kind: "over" },
+      over: isCode ? overCode(piece, places, number, sentinel) : { text: showOver(piece[at] ^ sentinel), kind: "over" },
+      value: piece[at] ^ sentinel,
     });
     if (isCode || at === from) {
       const inside = part.end < to || (part.end === to && part.end === piece.length);
@@ -198,9 +199,10 @@ const sentinelCell = (text) => ({ text, first: true, last: true, ending: true, o
 /** A row in words. */
 function words(cells, from) {
   const said = cells.map((cell) => {
-    if (!cell.isCode) return cell.text;
+    const value = hex(cell.value) === cell.text ? cell.text : `${cell.text} for ${hex(cell.value)}`;
+    if (!cell.isCode) return value;
     const joint = cell.over.kind === "zero" ? ", a zero of the message" : cell.over.kind === "note" ? ", no zero" : "";
-    return `${cell.full ? "full block, code" : "code"} ${cell.text}${joint};`;
+    return `${cell.full ? "full block, code" : "code"} ${value}${joint};`;
   });
   return `Bytes ${from} to ${from + cells.length - 1}: ${said.join(" ")}`;
 }

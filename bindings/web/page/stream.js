@@ -16,7 +16,15 @@ const MESSAGE = 0;
 const BROKEN = 1;
 const TOO_LONG = 2;
 const UNFINISHED = 3;
-const BADGES = ["message", "broken", "too long", "unfinished"];
+const IDLE = 4;
+const BADGES = ["message", "broken", "too long", "unfinished", "idle"];
+
+function kindOf({ message, broken, tooLong, isIdle }) {
+  if (message) return MESSAGE;
+  if (broken !== undefined) return BROKEN;
+  if (tooLong) return TOO_LONG;
+  return isIdle ? IDLE : UNFINISHED;
+}
 
 /** What a stream comes to: for each piece where it begins, its first byte that is no sentinel, its end, and its outcome. */
 class Pieces {
@@ -32,8 +40,9 @@ class Pieces {
     const decoder = new FrameDecoder({ maxLength, sentinel });
     decoder.push(stream, (outcome, end) => this.#add(outcome, end));
     this.ended = this.count;
-    if (this.count === 0 ? stream.length > 0 : this.ends[this.count - 1] < stream.length) this.#add({ unfinished: true }, stream.length);
+    this.isUnfinished = decoder.unfinished;
     decoder.close();
+    if (this.start(this.ended) < stream.length) this.#add({ isIdle: !this.isUnfinished }, stream.length);
   }
 
   #add(outcome, end) {
@@ -43,7 +52,7 @@ class Pieces {
     let front = this.start(at);
     while (front < end && this.stream[front] === this.sentinel) front++;
     this.fronts[at] = front;
-    this.kinds[at] = outcome.message ? MESSAGE : outcome.broken !== undefined ? BROKEN : outcome.tooLong ? TOO_LONG : UNFINISHED;
+    this.kinds[at] = kindOf(outcome);
     this.lengths[at] = outcome.message?.length ?? outcome.broken ?? 0;
   }
 
@@ -61,7 +70,7 @@ class Pieces {
 
   /** The bytes of a piece without the sentinels around it. */
   piece(at) {
-    const end = this.kinds[at] === UNFINISHED ? this.ends[at] : this.ends[at] - 1;
+    const end = at >= this.ended ? this.ends[at] : this.ends[at] - 1;
     return this.stream.subarray(this.fronts[at], Math.max(end, this.fronts[at]));
   }
 
@@ -71,24 +80,54 @@ class Pieces {
     return found;
   }
 
-  /** How many ended pieces of this stream stand as they are in `other` too, with none of their bytes damaged. */
-  keptIn(other, damaged) {
-    let kept = 0;
-    let hurt = 0;
-    for (let at = 0, there = 0; at < this.ended; at++) {
-      while (there < other.ended && other.ends[there] < this.ends[at]) there++;
-      if (there === other.ended) break;
-      while (hurt < damaged.length && damaged[hurt] < this.fronts[at]) hurt++;
-      const isHurt = hurt < damaged.length && damaged[hurt] < this.ends[at];
-      if (!isHurt && other.ends[there] === this.ends[at] && other.fronts[there] === this.fronts[at]) kept++;
-    }
-    return kept;
+  /** The last piece that begins at or before a byte. */
+  at(byte) {
+    return lastAtOrBefore((piece) => this.start(piece), byte, this.count);
   }
+
+  /** Whether a piece has the same bytes at the same place in `other`, by the rising list of the bytes that differ. */
+  isIn(other, at, differing) {
+    const there = other.at(this.fronts[at]);
+    if (there >= other.ended || other.ends[there] !== this.ends[at] || other.fronts[there] !== this.fronts[at]) return false;
+    const first = firstFrom(differing, this.fronts[at]);
+    return first === differing.length || differing[first] >= this.ends[at];
+  }
+
+  /** How many ended pieces aren't in `other`: only those near a byte that differs are looked at. */
+  changedFrom(other, differing) {
+    const near = new Set(differing.flatMap((byte) => [this.at(byte), this.at(byte) + 1]));
+    return [...near].filter((at) => at < this.ended && !this.isIn(other, at, differing));
+  }
+}
+
+/** The first place in a rising list whose number is `wanted` or more. */
+function firstFrom(list, wanted) {
+  let low = 0;
+  let high = list.length;
+  while (low < high) {
+    const middle = (low + high) >> 1;
+    if (list[middle] < wanted) low = middle + 1;
+    else high = middle;
+  }
+  return low;
+}
+
+/** The last of `count` things that begins at or before a place, by the rising list of their beginnings. */
+function lastAtOrBefore(startOf, wanted, count) {
+  let low = 0;
+  let high = count;
+  while (high - low > 1) {
+    const middle = (low + high) >> 1;
+    if (startOf(middle) <= wanted) low = middle;
+    else high = middle;
+  }
+  return low;
 }
 
 let original = new Uint8Array();
 let stream = new Uint8Array();
 let damage = new Map();
+let hurt = []; // the places of the damage, rising
 let before;
 let pieces;
 let rowStarts = new Float64Array(1);
@@ -126,6 +165,7 @@ function applyDamage() {
     stream = original.slice();
     for (const [at, byte] of damage) stream[at] = byte;
   }
+  hurt = [...damage.keys()].sort((a, b) => a - b);
   pieces = damage.size > 0 ? new Pieces(stream, before) : before;
   byId("stream-mend").disabled = damage.size === 0;
   draw();
@@ -136,10 +176,12 @@ const say = settled(() => {
   const parts = [MESSAGE, BROKEN, TOO_LONG].map((kind) => [pieces.countOf(kind), BADGES[kind]]);
   const said = parts.filter(([number]) => number > 0).map(([number, name]) => (name === "message" ? counted(number, name) : `${count(number)} ${name}`));
   let text = `${counted(stream.length, "byte")}, ${counted(pieces.ended, "piece")}${said.length > 0 ? `: ${said.join(", ")}` : ""}.`;
-  if (pieces.count > pieces.ended) text += " The last bytes have no sentinel behind them yet.";
+  if (pieces.isUnfinished) text += " The last bytes have no sentinel behind them yet.";
   if (damage.size > 0) {
-    const kept = before.keptIn(pieces, [...damage.keys()].sort((a, b) => a - b));
+    const kept = before.ended - before.changedFrom(pieces, hurt).length;
     text += ` ${counted(damage.size, "byte")} damaged: ${count(kept)} of the ${counted(before.ended, "piece")} came through as before.`;
+    const altered = pieces.changedFrom(before, hurt).filter((at) => pieces.kinds[at] === MESSAGE).length;
+    if (altered > 0) text += ` ${counted(altered, "message")} that nobody sent: COBS doesn't notice such damage, a CRC in the message does.`;
   }
   byId("stream-status").textContent = text;
 }, 250);
@@ -157,20 +199,8 @@ function draw() {
   mark();
 }
 
-/** The last piece that begins at or before a row or byte, by the rising list of their beginnings. */
-function lastAtOrBefore(startOf, wanted) {
-  let low = 0;
-  let high = pieces.count;
-  while (high - low > 1) {
-    const middle = (low + high) >> 1;
-    if (startOf(middle) <= wanted) low = middle;
-    else high = middle;
-  }
-  return low;
-}
-
 function fillRow(element, index) {
-  const piece = lastAtOrBefore((at) => rowStarts[at], index);
+  const piece = lastAtOrBefore((at) => rowStarts[at], index, pieces.count);
   if (index === rowStarts[piece]) fillOutcome(element, piece);
   else fillBytes(element, piece, pieces.start(piece) + (index - rowStarts[piece] - 1) * columns);
 }
@@ -189,9 +219,10 @@ function fillOutcome(element, at) {
   const kind = pieces.kinds[at];
   element.className = "row outcome";
   element.setAttribute("role", "presentation");
+  const isAltered = kind === MESSAGE && damage.size > 0 && !pieces.isIn(before, at, hurt);
   const badge = document.createElement("span");
-  badge.className = `badge ${BADGES[kind].replace(" ", "-")}`;
-  badge.textContent = BADGES[kind];
+  badge.className = `badge ${isAltered ? "altered" : BADGES[kind].replace(" ", "-")}`;
+  badge.textContent = isAltered ? "altered message" : BADGES[kind];
   const words = document.createElement("span");
   words.textContent = outcomeWords(at, kind);
   element.replaceChildren(`${count(at + 1)}`, badge, words);
@@ -208,7 +239,7 @@ function outcomeWords(at, kind) {
   if (kind === MESSAGE) return counted(pieces.lengths[at], "byte");
   if (kind === BROKEN) return `after ${counted(pieces.lengths[at], "byte")} of output`;
   if (kind === TOO_LONG) return `for a buffer of ${counted(pieces.maxLength, "byte")}`;
-  return "no sentinel yet";
+  return kind === IDLE ? "sentinels with nothing between them" : "no sentinel yet";
 }
 
 let placesOf = { front: -1, stream: null, places: null };
@@ -237,10 +268,11 @@ function byteCell(i, at, places) {
   const isCode = !isSentinel && inPiece >= 0 && places[partOf(places, inPiece)] === inPiece;
   const isFull = isCode && (byte ^ pieces.sentinel) === 255;
   const role = isSentinel ? ", sentinel" : isFull ? ", code of a full block" : isCode ? ", code" : "";
+  const outcome = i === pieces.fronts[at] || i === active ? `, piece ${at + 1}: ${BADGES[pieces.kinds[at]]} ${outcomeWords(at, pieces.kinds[at])}` : "";
   const was = damage.has(i) ? `, was ${printHex(original, i, i + 1)}` : "";
   const names = `byte${isSentinel ? " end" : ""}${isCode ? " code" : ""}${isFull ? " full" : ""}${i === active ? " active" : ""}`;
   return `<span role="option" id="byte-${i}" data-at="${i}" class="${names}" aria-selected="${damage.has(i)}" aria-posinset="${i + 1}" aria-setsize="${stream.length}"`
-    + ` aria-label="Byte ${i}: ${printHex(stream, i, i + 1)}${role}${was}"${was ? ` title="${was.slice(2)}"` : ""}>${printHex(stream, i, i + 1)}</span>`;
+    + ` aria-label="Byte ${i}: ${printHex(stream, i, i + 1)}${role}${was}${outcome}"${was ? ` title="${was.slice(2)}"` : ""}>${printHex(stream, i, i + 1)}</span>`;
 }
 
 function damagedByte(byte) {
@@ -259,7 +291,7 @@ function toggle(at) {
 }
 
 function rowOf(at) {
-  const piece = lastAtOrBefore((each) => pieces.start(each), at);
+  const piece = pieces.at(at);
   return rowStarts[piece] + 1 + Math.floor((at - pieces.start(piece)) / columns);
 }
 
