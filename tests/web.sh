@@ -4,7 +4,7 @@
 #   - the vectors of conformance/ and the tests of jcobs.js, in Node;
 #   - the package: installed, required, bundled by esbuild and rollup, and the examples of its README;
 #   - the types in jcobs.d.ts, by the TypeScript compiler;
-#   - the page in Chromium, by keys, clicks and pastes;
+#   - the vectors and the page in Chromium, by keys, clicks and pastes; both in a WebKit engine too;
 #   - the pictures of docs/FORMAT.md, drawn anew and compared.
 # A part whose tool is lacking is skipped, and the tool named. The last line counts; the status is 0 only if nothing failed.
 set -u
@@ -101,6 +101,12 @@ else
             counted "page" "$node" "$web/test/page.mjs"
         else
             skip "the page" "$chromium is not there: install Debian's chromium"
+        fi
+        webkit=${WEBKIT:-$(ls /usr/lib/*/webkit2gtk-4*/MiniBrowser 2>/dev/null | head -n 1)}
+        if [ -n "$webkit" ] && has WebKitWebDriver && has xvfb-run; then
+            counted "webkit" xvfb-run -a "$node" "$web/test/webkit.mjs" "$webkit" "$root/conformance"
+        else
+            skip "WebKit" "MiniBrowser, WebKitWebDriver or xvfb-run is not there: install Debian's webkit2gtk-driver and xvfb"
         fi
     fi
 fi

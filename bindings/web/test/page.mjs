@@ -1,16 +1,17 @@
 // The page in Chromium, driven by keys, clicks and pastes: node page.mjs [PART OF A NAME]
-import { readFile } from "node:fs/promises";
-import { mkdtemp, rm, writeFile } from "node:fs/promises";
+import { mkdtemp, readFile, readdir, rm, writeFile } from "node:fs/promises";
 import { tmpdir } from "node:os";
 import { join } from "node:path";
+import { fileURLToPath, pathToFileURL } from "node:url";
 import { load } from "../jcobs.js";
 import { serve } from "../serve.mjs";
 import { Browser } from "./chromium.mjs";
 import { encode as plainEncode } from "./plain.js";
-import { check as checkAny, equal, holds, report } from "./tally.mjs";
+import { check as checkAny, count as countAny, equal, holds, report } from "./tally.mjs";
 
 await load(await readFile(new URL("../cobs.wasm", import.meta.url)));
-const { server, address } = await serve();
+const conformance = fileURLToPath(new URL("../../../conformance", import.meta.url));
+const { server, address } = await serve(0, { conformance });
 const browser = await Browser.start(process.env.CHROMIUM ?? "chromium");
 const wanted = process.argv[2] ?? ""; // a part of the names of the checks to run
 const check = (name, act) => (name.includes(wanted) ? checkAny(name, act) : undefined);
@@ -667,6 +668,27 @@ await check("page: an engine that is too old is told so", async () => {
   holds((await page.text("#unsupported")).includes("lacks the WebAssembly"), "it says why");
   equal(await page.value('document.getElementById("views").hidden'), true, "no view is shown");
   await page.close();
+});
+
+await check("page: every vector", () => on("message", async (page) => {
+  const names = (await readdir(conformance)).filter((name) => name.endsWith(".txt")).map((name) => `/conformance/${name}`);
+  const { cases, differ, said } = await page.value(`import("/test/cases.js").then(({ runServed }) => runServed("/cobs.wasm", ${JSON.stringify(names)}))`);
+  equal(said.filter((line) => !line.startsWith("left out")), [], "what differs");
+  countAny(cases - differ, differ);
+}));
+
+await check("page: a page that is opened as a file, with dist/jcobs.cjs", async () => {
+  const folder = await mkdtemp(join(tmpdir(), "jcobs-opened-"));
+  try {
+    const script = "jcobs.load().then(() => (document.title = jcobs.encode(Uint8Array.of(10, 11, 0, 12)).join()))";
+    await writeFile(join(folder, "jcobs.cjs"), await readFile(new URL("../dist/jcobs.cjs", import.meta.url)));
+    await writeFile(join(folder, "page.html"), `<!doctype html><script src="jcobs.cjs"></script><script>${script}</script>`);
+    const page = await browser.open(pathToFileURL(join(folder, "page.html")).href);
+    await page.until('document.title === "3,10,11,2,12"');
+    await page.close();
+  } finally {
+    await rm(folder, { recursive: true });
+  }
 });
 
 await check("page: it asks for nothing but its own files", () => on("message", async (page) => {
