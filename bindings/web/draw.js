@@ -223,15 +223,15 @@ function elide({ cells, arcs }, cut) {
  * A picture for a document: one line for each of `lines`, `{label, pieces, cut, note}`, where `pieces` are what
  * stands between sentinels. `cut` leaves out the bytes from `cut.from` up to `cut.to` of the first piece.
  */
-export function figure({ title, lines, show = String }) {
+export function figure({ title, lines, show = String, sentinel = 0 }) {
   const margin = 118;
   const drawn = lines.map((line) => {
     const cells = [];
     const arcs = [];
     for (const piece of line.pieces) {
-      const part = elide(cellsOf(piece, codePlaces(piece), 0, piece.length, { show, showOver: show }), piece === line.pieces[0] ? line.cut : undefined);
+      const part = elide(cellsOf(piece, codePlaces(piece, sentinel), 0, piece.length, { show, showOver: show, sentinel }), piece === line.pieces[0] ? line.cut : undefined);
       for (const arc of part.arcs) arcs.push({ ...arc, from: arc.from + cells.length, to: arc.to + cells.length });
-      cells.push(...part.cells, sentinelCell(show(0)));
+      cells.push(...part.cells, sentinelCell(show(sentinel)));
     }
     return { ...line, cells, arcs };
   });

@@ -1,14 +1,18 @@
 // The view of a stream: its pieces, what each comes to, and what damage does to them.
 import { CobsError, FrameDecoder, decode, encode } from "../jcobs.js";
 import { codePlaces, partOf } from "../draw.js";
+import { keepState } from "./address.js";
+import { parseBytes } from "./bytes.js";
+import { toClipboard } from "./copy.js";
 import { Field } from "./field.js";
-import { parseHex, printHex, printText } from "./hex.js";
+import { printHex, printText } from "./hex.js";
 import { byId, complain, count, counted, once, readRoom, readSentinel, settled } from "./inputs.js";
 import { Rows } from "./rows.js";
 
 const ROW_HEIGHT = 36;
 const BYTE_WIDTH = 32;
 const SHOWN_BYTES = 24;
+const LINKED = 1900; // bytes of a stream in a link
 const FILE_LIMIT = 16 << 20;
 const WIDTHS = [32, 28, 24, 20, 16, 12, 8, 6, 4];
 
@@ -139,7 +143,7 @@ let fromFile = null;
 
 function readStream() {
   if (fromFile) return fromFile;
-  const { bytes, error } = parseHex(field.text);
+  const { bytes, error } = parseBytes(field.text);
   field.complain(error ? `${error} The pieces below are of the last good input.` : null, byId("stream-error"));
   return bytes ?? null;
 }
@@ -168,8 +172,34 @@ function applyDamage() {
   hurt = [...damage.keys()].sort((a, b) => a - b);
   pieces = damage.size > 0 ? new Pieces(stream, before) : before;
   byId("stream-mend").disabled = damage.size === 0;
+  keepState("stream", {
+    hex: printHex(original.subarray(0, LINKED + 1)).replaceAll(" ", ""),
+    sentinel: printHex([before.sentinel]),
+    room: before.maxLength,
+    ...(hurt.length > 0 ? { damage: hurt.slice(0, LINKED).map((at) => `${at}:${printHex(stream, at, at + 1)}`).join() } : {}),
+  });
   draw();
   say();
+}
+
+/** Shows what a link holds: a stream, the sentinel, the buffer, and the damaged bytes. */
+export function setStream(values) {
+  byId("stream-sentinel").value = values.get("sentinel") ?? "00";
+  byId("stream-room").value = values.get("room") ?? "64";
+  fromFile = null;
+  byId("stream-input").placeholder = "";
+  field.text = values.get("hex").replaceAll(" ", "").replace(/..(?=.)/g, "$& ");
+  update();
+  for (const [, at, byte] of (values.get("damage") ?? "").matchAll(/(\d+):([0-9a-f]{2})/g)) {
+    if (Number(at) < original.length) damage.set(Number(at), parseInt(byte, 16));
+  }
+  applyDamage();
+}
+
+async function copyLink() {
+  const isLong = original.length > LINKED;
+  const isCopied = !isLong && (await toClipboard(location.href));
+  byId("stream-copied").textContent = isLong ? "The stream is too long for a link." : isCopied ? "The link is copied." : "The browser refused the clipboard; the address holds the link.";
 }
 
 const say = settled(() => {
@@ -371,6 +401,7 @@ export function startStream() {
   byId("stream-sentinel").addEventListener("input", asked);
   byId("stream-example").addEventListener("click", () => (field.text = example()));
   byId("stream-file").addEventListener("change", (event) => takeFile(event.target.files[0]));
+  byId("stream-link").addEventListener("click", copyLink);
   byId("stream-mend").addEventListener("click", () => {
     damage.clear();
     applyDamage();

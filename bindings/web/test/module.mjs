@@ -7,6 +7,8 @@ import { join } from "node:path";
 import { pathToFileURL } from "node:url";
 import { runInNewContext } from "node:vm";
 import * as cobs from "../jcobs.js";
+import { parseBytes } from "../page/bytes.js";
+import { FORMS } from "../page/copy.js";
 import { memoryOf } from "./memory.mjs";
 import * as plain from "./plain.js";
 import { check, equal, holds, report, throws } from "./tally.mjs";
@@ -506,4 +508,41 @@ if (globalThis.gc) {
     holds(pages() < before + 100 * 17, `memory had ${before} pages and has ${pages()}, and 400 decoders of 17 pages were made`);
   }));
 }
+await check("the page reads bytes in any form", () => {
+  const dump = "00000000  03 0a 0b 02 0c 00 48 65  6c 6c 6f 00 01 02 03 04  |......Hello.....|\n00000010  05                                                |.|\n00000011\n";
+  const xxd = "00000000: 030a 0b02 0c00 4865 6c6c 6f00 0102 0304  ......Hello.....\n00000010: 05                                       .\n";
+  const dumped = bytes(3, 10, 11, 2, 12, 0, 0x48, 0x65, 0x6c, 0x6c, 0x6f, 0, 1, 2, 3, 4, 5);
+  for (const [text, as, wanted] of [
+    ["03 0a 0b 02 0c", "hex", FRAME],
+    ["0A,0b 0x00:0c", "hex", MESSAGE],
+    ["\ufeff0a 0b\u200b 00 0c", "hex", MESSAGE],
+    ["{0x0a, 0x0b, 0x0, 0x0c}", "a list", MESSAGE],
+    ["const unsigned char frame[4] = {\n  0x0a, 0x0b, // first\n  0x00, 0x0c, /* last */\n};", "a list", MESSAGE],
+    ["[10, 11, 0, 12]", "decimal numbers", MESSAGE],
+    ["10, 11, 0, 12", "decimal numbers", MESSAGE],
+    ["[10u8, 11u8]", "decimal numbers", bytes(10, 11)],
+    ["10, 11", "hex", bytes(0x10, 0x11)],
+    ["\\x03\\x0a\\x0b", "a string with escapes", bytes(3, 10, 11)],
+    ["b'\\x03\\nA\\0'", "a string with escapes", bytes(3, 10, 65, 0)],
+    ['"\\x03\\"é"', "a string with escapes", bytes(3, 34, 0xc3, 0xa9)],
+    [dump, "a dump", dumped],
+    [xxd, "a dump", dumped],
+    ["AwoLAgw=", "base64", FRAME],
+  ]) {
+    const { bytes: found, as: name } = parseBytes(text);
+    equal([found, name], [wanted, as], JSON.stringify(text));
+  }
+  for (const text of ["0a 0b\n00 0g", "[256]", "{1.5}", "b'\\x0'", "0a 1"]) holds(parseBytes(text).error, `${text} is an error`);
+});
+await check("a frame is copied for a program", () => {
+  const as = (form, frame = FRAME) => FORMS[form](frame, { sentinel: 0, frame });
+  equal(["hex", "c", "rust", "python"].map((form) => as(form)), [
+    "03 0a 0b 02 0c",
+    "static const unsigned char frame[5] = {0x03, 0x0a, 0x0b, 0x02, 0x0c};\n",
+    "const FRAME: [u8; 5] = [0x03, 0x0a, 0x0b, 0x02, 0x0c];\n",
+    'frame = bytes.fromhex("03 0a 0b 02 0c")\n',
+  ]);
+  holds(/^<svg [\s\S]*<\/svg>\n$/.test(as("svg")), "a picture");
+  equal(as("svg", new Uint8Array(65)), null, "of a long frame");
+});
 report("module");

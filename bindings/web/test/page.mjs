@@ -53,6 +53,8 @@ async function longestPause(page, act) {
 
 // Message
 
+const summary = (page, words) => page.until(`document.getElementById("stream-status").textContent.includes(${JSON.stringify(words)})`);
+
 const facts = async (page) => {
   const read = (name) => page.text(`#message-${name}`);
   return [number(await read("length")), number(await read("frame-length")), number(await read("greatest")), number(await read("blocks")), number(await read("full"))];
@@ -176,9 +178,49 @@ for (const [name, make, how] of [
   }));
 }
 
+await check("message: bytes that are a frame, or a stream, are offered to be read so", () => on("message", async (page) => {
+  await chooseHex(page);
+  await page.fill("#message-input", "{0x03, 0x0a, 0x0b, 0x02, 0x0c}");
+  await page.until('document.getElementById("message-offer-text").textContent.includes("are a frame")');
+  await page.until('document.getElementById("message-status").textContent.includes("Read as a list.")');
+  await page.click("#message-decode");
+  await page.until('document.getElementById("message-frame").textContent === "03 0a 0b 02 0c"');
+  await page.fill("#message-input", "03 0a 0b 00 02 07 00");
+  await page.until('document.getElementById("message-offer-text").textContent.includes("a stream of frames")');
+  await page.click("#message-stream");
+  await page.until('!document.getElementById("stream").hidden');
+  await summary(page, "7 bytes, 2 pieces: 2 messages.");
+}));
+
+await check("message: a link gives the same message, and text becomes bytes and back", () => on("message", async (page) => {
+  await chooseHex(page);
+  await page.fill("#message-input", "68 c3 a9");
+  await page.fill("#message-sentinel", "aa");
+  await page.until('location.hash === "#message&hex=68c3a9&as=hex&sentinel=aa"');
+  await chooseText(page);
+  await page.until('document.getElementById("message-input").value === "hé"');
+  await page.until('location.hash === "#message&hex=68c3a9&as=text&sentinel=aa"');
+  await page.value('document.getElementById("message-form").value = "link"');
+  await page.click("#message-copy");
+  await page.until('document.getElementById("message-copied").textContent === "The link is copied."');
+  const link = await page.value("navigator.clipboard.readText()");
+  const frame = await page.text("#message-frame");
+  const other = await browser.open(link);
+  await other.until(READY);
+  await other.until(`document.getElementById("message-frame").textContent === "${frame}"`);
+  equal(await other.value('document.getElementById("message-input").value'), "hé", "the text");
+  await other.close();
+  await chooseHex(page);
+  await page.until('document.getElementById("message-input").value === "68 c3 a9"');
+  await page.value('document.getElementById("message-form").value = "c"');
+  await page.click("#message-ended");
+  await page.click("#message-copy");
+  await page.until('document.getElementById("message-copied").textContent === "5 bytes copied."');
+  equal(await page.value("navigator.clipboard.readText()"), "static const unsigned char frame[5] = {0xae, 0xc2, 0x69, 0x03, 0xaa};\n", "as C, with the sentinel");
+}));
+
 // Stream
 
-const summary = (page, words) => page.until(`document.getElementById("stream-status").textContent.includes(${JSON.stringify(words)})`);
 const outcomes = (page) => page.value('[...document.querySelectorAll("#stream-pieces .outcome")].map((row) => row.textContent)');
 const badges = (page) => page.value('[...document.querySelectorAll("#stream-pieces .badge")].map((badge) => badge.textContent)');
 const STREAM = "03 0a 0b 02 0c 00 02 07 02 09 00 00 03 05 06 00 05 01 00 07 01 02 03 04 05 06 00 02";
@@ -232,6 +274,7 @@ await check("stream: another sentinel", () => on("stream", async (page) => {
   await summary(page, "5 pieces: 4 messages, 1 broken");
   const before = await outcomes(page);
   await page.fill("#stream-sentinel", "55");
+  await summary(page, "0 pieces");
   await fillStream(page, STREAM.split(" ").map((pair) => (parseInt(pair, 16) ^ 0x55).toString(16).padStart(2, "0")).join(" "));
   await summary(page, "28 bytes, 5 pieces: 4 messages, 1 broken. The last bytes have no sentinel");
   equal(await outcomes(page), before, "the outcomes");
@@ -302,6 +345,22 @@ await check("stream: a list that is higher than browsers draw", () => on("stream
   const rows = await page.value('[...document.querySelectorAll("#stream-pieces .row")].map((row) => row.getBoundingClientRect().top)');
   const steps = new Set(rows.slice(1).map((top, i) => Math.round(top - rows[i])));
   equal([...steps], [36], "how far rows are from each other");
+}));
+
+await check("stream: a link gives the same stream with its damage", () => on("stream", async (page) => {
+  await page.fill("#stream-room", "5");
+  await fillStream(page, STREAM);
+  await summary(page, "1 too long");
+  await page.click("#byte-8");
+  await summary(page, "1 byte damaged");
+  await page.click("#stream-link");
+  await page.until('document.getElementById("stream-copied").textContent === "The link is copied."');
+  const [rows, said] = [await outcomes(page), await page.text("#stream-status")];
+  const other = await browser.open(await page.value("navigator.clipboard.readText()"));
+  await other.until(READY);
+  await other.until(`document.getElementById("stream-status").textContent === ${JSON.stringify(said)}`);
+  equal(await outcomes(other), rows, "the outcomes");
+  await other.close();
 }));
 
 await check("stream: by the keyboard alone", () => on("stream", async (page) => {
