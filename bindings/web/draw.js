@@ -193,6 +193,14 @@ export function rowPicture(piece, places, from, to, options = {}) {
     + `<text class="at" x="${margin / 2}" y="${TOP + 19}">${from}</text>${row(cells, arcs, margin)}</svg>`;
 }
 
+/** The arcs of a row alone, to hang below cells that are `CELL` wide, `shift` pixels from the left. */
+export function arcsPicture(piece, places, from, to, { sentinel = 0, shift = 0 } = {}) {
+  const arcs = cellsOf(piece, places, from, to, { sentinel }).arcs.map((arc) => ({ ...arc, note: "" }));
+  const width = (to - from + 1) * CELL + shift;
+  const paths = arcs.map((arc) => arcPath(arc, shift, shift + (to - from) * CELL)).join("");
+  return `<svg width="${width}" height="${DEPTH + 6}" viewBox="0 ${TOP + HEIGHT} ${width} ${DEPTH + 6}" aria-hidden="true">${paths}</svg>`;
+}
+
 /** The place of the sentinel after a frame. */
 const sentinelCell = (text) => ({ text, first: true, last: true, ending: true, over: { text: "", kind: "over" } });
 

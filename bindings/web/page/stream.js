@@ -1,6 +1,6 @@
 // The view of a stream: its pieces, what each comes to, and what damage does to them.
 import { CobsError, FrameDecoder, decode, encode } from "../jcobs.js";
-import { codePlaces, partOf } from "../draw.js";
+import { arcsPicture, codePlaces, partOf } from "../draw.js";
 import { keepState } from "./address.js";
 import { parseBytes } from "./bytes.js";
 import { toClipboard } from "./copy.js";
@@ -9,7 +9,7 @@ import { printHex, printText } from "./hex.js";
 import { byId, complain, count, counted, once, readRoom, readSentinel, settled } from "./inputs.js";
 import { Rows } from "./rows.js";
 
-const ROW_HEIGHT = 36;
+const ROW_HEIGHT = 52;
 const BYTE_WIDTH = 32;
 const SHOWN_BYTES = 24;
 const LINKED = 1900; // bytes of a stream in a link
@@ -286,9 +286,14 @@ function fillBytes(element, at, from) {
   element.setAttribute("role", "presentation");
   const to = Math.min(pieces.ends[at], from + columns);
   const places = codesOf(at);
-  let html = `<span class="offset" aria-hidden="true">${from}</span>`;
-  for (let i = from; i < to; i++) html += byteCell(i, at, places);
-  element.innerHTML = html;
+  let cells = "";
+  for (let i = from; i < to; i++) cells += byteCell(i, at, places);
+  const front = pieces.fronts[at];
+  const piece = pieces.piece(at);
+  const [first, last] = [Math.max(0, from - front), Math.min(piece.length, to - front)];
+  const shift = (front + first - from) * BYTE_WIDTH;
+  const arcs = first < last ? arcsPicture(piece, places, first, last, { sentinel: pieces.sentinel, shift }) : "";
+  element.innerHTML = `<span class="offset" aria-hidden="true">${from}</span><span class="cells" role="presentation">${cells}<span class="arcs picture">${arcs}</span></span>`;
 }
 
 function byteCell(i, at, places) {
@@ -303,6 +308,25 @@ function byteCell(i, at, places) {
   const names = `byte${isSentinel ? " end" : ""}${isCode ? " code" : ""}${isFull ? " full" : ""}${i === active ? " active" : ""}`;
   return `<span role="option" id="byte-${i}" data-at="${i}" class="${names}" aria-selected="${damage.has(i)}" aria-posinset="${i + 1}" aria-setsize="${stream.length}"`
     + ` aria-label="Byte ${i}: ${printHex(stream, i, i + 1)}${role}${was}${outcome}"${was ? ` title="${was.slice(2)}"` : ""}>${printHex(stream, i, i + 1)}</span>`;
+}
+
+/** What a byte is for, in a sentence. */
+function explanation(i) {
+  const at = pieces.at(i);
+  const [byte, inPiece] = [stream[i] ^ pieces.sentinel, i - pieces.fronts[at]];
+  const name = `Byte ${i}, ${printHex(stream, i, i + 1)}${pieces.sentinel === 0 ? "" : ` (${printHex([byte])} before the XOR with the sentinel)`}`;
+  if (byte === 0) return `${name}: the sentinel. ${i + 1 === pieces.ends[at] && at < pieces.ended ? `It ends piece ${count(at + 1)}.` : "Nothing is before it."}`;
+  const places = codesOf(at);
+  const part = partOf(places, inPiece);
+  if (places[part] !== inPiece) return `${name}: a byte of the message, as it is.`;
+  const isPast = inPiece + byte > pieces.piece(at).length;
+  const isAfterFull = part > 0 && (stream[pieces.fronts[at] + places[part - 1]] ^ pieces.sentinel) === 255;
+  const here = part === 0 ? "the first code" : isAfterFull ? "a code after a full block, so no zero of the message is here" : "a code, in place of a zero of the message";
+  return `${name}: ${here}. ${isPast ? "It leads past the end of the piece, which is broken." : `The next code, or the end, is ${counted(byte, "byte")} on.`}`;
+}
+
+function explain(i) {
+  byId("stream-explained").textContent = i < stream.length ? explanation(i) : "";
 }
 
 function damagedByte(byte) {
@@ -330,6 +354,7 @@ function mark() {
   box.querySelector(".active")?.classList.remove("active");
   const cell = byId(`byte-${active}`);
   cell?.classList.add("active");
+  explain(active);
   if (cell) box.setAttribute("aria-activedescendant", cell.id);
   else box.removeAttribute("aria-activedescendant");
 }
@@ -410,6 +435,10 @@ export function startStream() {
   byId("stream-pieces").addEventListener("click", (event) => {
     const cell = event.target.closest("[data-at]");
     if (cell) toggle(Number(cell.dataset.at));
+  });
+  byId("stream-pieces").addEventListener("mouseover", (event) => {
+    const cell = event.target.closest("[data-at]");
+    if (cell) explain(Number(cell.dataset.at));
   });
   byId("stream-pieces").addEventListener("keydown", onKey);
   byId("stream").querySelector("form").addEventListener("submit", (event) => event.preventDefault());

@@ -344,7 +344,7 @@ await check("stream: a list that is higher than browsers draw", () => on("stream
   await inSight(count);
   const rows = await page.value('[...document.querySelectorAll("#stream-pieces .row")].map((row) => row.getBoundingClientRect().top)');
   const steps = new Set(rows.slice(1).map((top, i) => Math.round(top - rows[i])));
-  equal([...steps], [36], "how far rows are from each other");
+  equal([...steps], [52], "how far rows are from each other");
 }));
 
 await check("stream: a link gives the same stream with its damage", () => on("stream", async (page) => {
@@ -361,6 +361,24 @@ await check("stream: a link gives the same stream with its damage", () => on("st
   await other.until(`document.getElementById("stream-status").textContent === ${JSON.stringify(said)}`);
   equal(await outcomes(other), rows, "the outcomes");
   await other.close();
+}));
+
+await check("stream: arcs lead from code to code, and each byte is explained", () => on("stream", async (page) => {
+  for (const sentinel of [0, 0x55]) {
+    await page.fill("#stream-sentinel", sentinel.toString(16).padStart(2, "0"));
+    await fillStream(page, STREAM.split(" ").map((pair) => hex([parseInt(pair, 16) ^ sentinel])).join(" "));
+    await page.until('document.querySelectorAll("#stream-pieces .byte").length === 28 && document.getElementById("stream-status").textContent.includes("5 pieces")');
+    const arcs = await page.value('[...document.querySelectorAll("#stream-pieces .row")].map((row) => [row.querySelectorAll(".arc:not(.bad)").length, row.querySelectorAll(".arc.bad").length])');
+    equal(arcs.filter(([good, bad]) => good + bad > 0), [[2, 0], [2, 0], [1, 0], [0, 1], [1, 0], [0, 1]], "arcs of each piece, whole and broken");
+    await page.value('document.getElementById("stream-pieces").focus()');
+    await page.press("Home");
+    for (const words of ["the first code. The next code, or the end, is 3 bytes on.", "a byte of the message, as it is.", "a byte of the message", "a code, in place of a zero of the message. The next code, or the end, is 2 bytes on.", "a byte of the message", "the sentinel. It ends piece 1."]) {
+      await page.until(`document.getElementById("stream-explained").textContent.includes(${JSON.stringify(words)})`);
+      await page.press("ArrowRight");
+    }
+    await page.press("End");
+    await page.until('document.getElementById("stream-explained").textContent.includes("It leads past the end of the piece")');
+  }
 }));
 
 await check("stream: by the keyboard alone", () => on("stream", async (page) => {
