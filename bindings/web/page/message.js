@@ -8,6 +8,7 @@ import { Field } from "./field.js";
 import { printHex } from "./hex.js";
 import { byId, count, counted, once, readSentinel, settled } from "./inputs.js";
 import { Rows } from "./rows.js";
+import { LONGEST, setSteps, startSteps } from "./steps.js";
 
 const HEX_SHOWN = 2048;
 const LINKED = 2000;      // bytes of a message in a link
@@ -70,10 +71,13 @@ function update() {
   byId("message-frame").textContent = printHex(frame, 0, Math.min(frame.length, HEX_SHOWN)) + (left > 0 ? ` … and ${counted(left, "more byte")}, which Copy takes too` : "");
   byId("message-copied").textContent = "";
   offer();
+  steps();
   keepState("message", { hex: printHex(message.subarray(0, LINKED + 1)).replaceAll(" ", ""), as: kind(), sentinel: printHex([sentinel]) });
   draw();
   say();
 }
+
+const steps = () => setSteps(message, message.length <= LONGEST ? encode(message) : null);
 
 /** Offers to read bytes that are a frame, or a stream of frames, as such. */
 function offer() {
@@ -167,6 +171,7 @@ function sample({ hex, text, run, zeros }) {
 export function startMessage() {
   const asked = once(update);
   field = new Field(byId("message-input"), asked);
+  startSteps(steps);
   rows = new Rows(byId("message-drawing"), { height: ROW_HEIGHT, fill: fillRow });
   let width = 0;
   new ResizeObserver(([{ contentRect }]) => {

@@ -9,6 +9,7 @@ import { runInNewContext } from "node:vm";
 import * as cobs from "../jcobs.js";
 import { parseBytes } from "../page/bytes.js";
 import { FORMS } from "../page/copy.js";
+import { DECODER, ENCODER, decoderSteps, encoderSteps } from "../page/steps.js";
 import { memoryOf } from "./memory.mjs";
 import * as plain from "./plain.js";
 import { check, equal, holds, report, throws } from "./tally.mjs";
@@ -484,16 +485,18 @@ await check("memory doesn't grow with a stream, nor with the number of streams",
     holds(pages() <= before + 3, `memory had ${before} pages and has ${pages()}`);
   });
 });
-await check("places that lie together serve a longer one when they are given back", () => memoryOf(async (pages) => {
+await check("places that lie together serve a longer one when they are given back, in any order", () => memoryOf(async (pages) => {
   const cobs = await fresh();
-    await cobs.load(wasm);
-  const [first, second, last] = [1 << 20, 1 << 20, 10].map((maxLength) => new cobs.FrameDecoder({ maxLength }));
-  const before = pages();
-  second.close();
-  first.close();
-  new cobs.FrameDecoder({ maxLength: 2 << 20 }).close();
-  equal(pages(), before, "pages");
-  last.close();
+  await cobs.load(wasm);
+  for (const order of [[0, 1, 2], [0, 2, 1], [1, 0, 2], [1, 2, 0], [2, 0, 1], [2, 1, 0]]) {
+    const held = [1 << 20, 1 << 20, 1 << 20, 10].map((maxLength) => new cobs.FrameDecoder({ maxLength }));
+    const before = pages();
+    for (const at of order) held[at].close();
+    const longer = new cobs.FrameDecoder({ maxLength: 3 << 20 });
+    equal(pages(), before, `pages after ${order}`);
+    longer.close();
+    held[3].close();
+  }
 }));
 if (globalThis.gc) {
   await check("the memory of decoders that were let go is used again", () => memoryOf(async (pages) => {
@@ -533,6 +536,18 @@ await check("the page reads bytes in any form", () => {
     equal([found, name], [wanted, as], JSON.stringify(text));
   }
   for (const text of ["0a 0b\n00 0g", "[256]", "{1.5}", "b'\\x0'", "0a 1"]) holds(parseBytes(text).error, `${text} is an error`);
+});
+await check("the steps of encoder and decoder end in what the module gives", () => {
+  for (const length of [0, 1, 5, 253, 254, 255, 300]) {
+    for (const zeros of [0, 0.1, 1]) {
+      const message = randomBytes(length, zeros, length + 1);
+      const frame = cobs.encode(message);
+      for (const [made, lines, wanted] of [[encoderSteps(message), ENCODER, frame], [decoderSteps(frame), DECODER, message]]) {
+        equal(Uint8Array.from(made.at(-1).out), wanted, `of ${length} bytes`);
+        holds(made.every(({ line }) => line in lines), "each step has a line");
+      }
+    }
+  }
 });
 await check("a frame is copied for a program", () => {
   const as = (form, frame = FRAME) => FORMS[form](frame, { sentinel: 0, frame });

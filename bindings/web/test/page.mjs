@@ -1,4 +1,5 @@
 // The page in Chromium, driven by keys, clicks and pastes: node page.mjs [PART OF A NAME]
+import { execFileSync } from "node:child_process";
 import { mkdtemp, readFile, readdir, rm, writeFile } from "node:fs/promises";
 import { tmpdir } from "node:os";
 import { join } from "node:path";
@@ -217,6 +218,25 @@ await check("message: a link gives the same message, and text becomes bytes and 
   await page.click("#message-copy");
   await page.until('document.getElementById("message-copied").textContent === "5 bytes copied."');
   equal(await page.value("navigator.clipboard.readText()"), "static const unsigned char frame[5] = {0xae, 0xc2, 0x69, 0x03, 0xaa};\n", "as C, with the sentinel");
+}));
+
+await check("message: step by step", () => on("message", async (page) => {
+  await page.click("#message-steps summary");
+  const bytes = (name) => page.value(`document.getElementById("steps-${name}").textContent`);
+  const last = async () => {
+    for (let i = 0; i < 12; i++) if (!(await page.value('document.getElementById("steps-next").disabled'))) await page.click("#steps-next");
+  };
+  equal(await bytes("in"), "0a0b000c", "the message");
+  await page.click("#steps-next");
+  equal([await bytes("out"), await page.text("#steps-code .on")], ["000a", "    out.push(byte); code += 1"], "after a step");
+  await last();
+  equal(await bytes("out"), "030a0b020c", "the frame");
+  await page.value('(() => { const which = document.getElementById("steps-which"); which.value = "decoder"; which.dispatchEvent(new Event("change")); })()');
+  equal([await bytes("in"), await bytes("out")], ["030a0b020c", ""], "the decoder");
+  await last();
+  equal(await bytes("out"), "0a0b000c", "the message");
+  await page.click('[data-run="255"]');
+  await page.until('document.getElementById("steps-in").textContent.length === 2 * 257');
 }));
 
 // Stream
@@ -753,6 +773,26 @@ await check("page: every vector", () => on("message", async (page) => {
   equal(said.filter((line) => !line.startsWith("left out")), [], "what differs");
   countAny(cases - differ, differ);
 }));
+
+await check("page: the folder that build.sh makes serves it, under its content security policy", async () => {
+  const folder = await mkdtemp(join(tmpdir(), "jcobs-site-"));
+  try {
+    execFileSync(fileURLToPath(new URL("../build.sh", import.meta.url)), ["site", folder]);
+    const site = await serve(0, { site: folder });
+    const page = await browser.open(`${site.address}site/index.html#message&hex=0a00&sentinel=00`);
+    await page.until(READY);
+    await page.until('document.getElementById("message-frame").textContent === "02 0a 01"');
+    await page.until('getComputedStyle(document.querySelector("#message-drawing text.on")).fontWeight === "700"');
+    equal(await page.value('performance.getEntriesByType("resource").filter(({ name }) => !name.includes("/site/")).map(({ name }) => name)'), [], "requests beside the folder");
+    const policy = await page.value(`document.querySelector("meta[http-equiv]").content`);
+    holds(!policy.includes("unsafe-inline") && policy.startsWith("default-src 'none'"), "the policy is strict");
+    equal(page.faults, [], "what the page complained of on its console");
+    await page.close();
+    site.server.close();
+  } finally {
+    await rm(folder, { recursive: true });
+  }
+});
 
 await check("page: a page that is opened as a file, with dist/jcobs.cjs", async () => {
   const folder = await mkdtemp(join(tmpdir(), "jcobs-opened-"));
