@@ -6,11 +6,12 @@ import { parseBytes } from "./bytes.js";
 import { FORMS, toClipboard } from "./copy.js";
 import { Field } from "./field.js";
 import { printHex } from "./hex.js";
-import { byId, count, counted, once, readSentinel, settled } from "./inputs.js";
+import { byId, complain, count, counted, once, readSentinel, settled } from "./inputs.js";
 import { Rows } from "./rows.js";
 import { LONGEST, setSteps, startSteps } from "./steps.js";
 
 const HEX_SHOWN = 2048;
+const EDITED = 600;       // bytes of a frame in its field
 const LINKED = 2000;      // bytes of a message in a link
 const OFFERED = 1 << 20;  // bytes that are looked at for a frame or a stream
 const WIDTHS = [32, 28, 24, 20, 16, 12, 8, 4];
@@ -72,12 +73,36 @@ function update() {
   byId("message-copied").textContent = "";
   offer();
   steps();
+  showEditable();
   keepState("message", { hex: printHex(message.subarray(0, LINKED + 1)).replaceAll(" ", ""), as: kind(), sentinel: printHex([sentinel]) });
   draw();
   say();
 }
 
 const steps = () => setSteps(message, message.length <= LONGEST ? encode(message) : null);
+
+/** The frame in its field, but for while it is typed there. */
+function showEditable() {
+  const input = byId("message-frame-edit");
+  byId("message-frame-box").hidden = frame.length > EDITED;
+  if (document.activeElement === input) return;
+  input.value = frame.length > EDITED ? "" : printHex(frame);
+  complain(input, null, byId("message-frame-error"));
+}
+
+/** Takes a frame that is typed: its message is that of the field above. */
+function editFrame() {
+  const input = byId("message-frame-edit");
+  const { bytes, error } = parseBytes(input.value);
+  const place = byId("message-frame-error");
+  if (!bytes) return complain(input, error, place);
+  const kindOfFrame = frameKind(bytes, { sentinel });
+  const wrong = bytes.includes(sentinel) ? `A frame has no sentinel ${printHex([sentinel])} in it.` : "The frame breaks off inside a block.";
+  if (kindOfFrame === "notAFrame") return complain(input, bytes.length === 0 ? "A frame has at least one byte." : wrong, place);
+  complain(input, null, place);
+  setInput("hex", printHex(decode(bytes, { sentinel })));
+  byId("message-copied").textContent = kindOfFrame === "longer" ? "This is the longer of two frames of the message: encoders leave out its last 01." : "";
+}
 
 /** Offers to read bytes that are a frame, or a stream of frames, as such. */
 function offer() {
@@ -185,6 +210,8 @@ export function startMessage() {
   });
   byId("message-sentinel").addEventListener("input", asked);
   byId("message-copy").addEventListener("click", copy);
+  byId("message-frame-edit").addEventListener("input", editFrame);
+  byId("message-frame-edit").addEventListener("blur", showEditable);
   byId("message-decode").addEventListener("click", () => {
     setInput("hex", printHex(decode(message, { sentinel })));
     byId("message-input").focus();

@@ -55,6 +55,7 @@ const pictureStyle = new CSSStyleSheet();
 pictureStyle.replaceSync(style(".picture svg"));
 document.adoptedStyleSheets = [...document.adoptedStyleSheets, pictureStyle];
 
+document.getElementById("loading").hidden = true;
 try {
   await load();
   document.getElementById("views").hidden = false;

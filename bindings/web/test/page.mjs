@@ -220,6 +220,26 @@ await check("message: a link gives the same message, and text becomes bytes and 
   equal(await page.value("navigator.clipboard.readText()"), "static const unsigned char frame[5] = {0xae, 0xc2, 0x69, 0x03, 0xaa};\n", "as C, with the sentinel");
 }));
 
+await check("message: a frame that is edited changes its message", () => on("message", async (page) => {
+  for (const [sentinel, frame] of [["00", "03 0a 0b 02 0c"], ["aa", "a9 a0 a1 a8 a6"]]) {
+    await page.fill("#message-sentinel", sentinel);
+    await page.until(`document.getElementById("message-frame-edit").value === "${frame}"`);
+    const changed = `${frame.slice(0, -2)}${sentinel === "00" ? "0d" : "a7"}`;
+    await page.fill("#message-frame-edit", changed);
+    await page.until('document.getElementById("message-input").value === "0a 0b 00 0d"');
+    await page.until(`document.getElementById("message-frame").textContent === "${changed}"`);
+    await page.fill("#message-frame-edit", sentinel === "00" ? "05 0a" : "af a0");
+    await page.until('document.getElementById("message-frame-error").textContent.includes("breaks off")');
+    equal(await page.value('document.getElementById("message-input").value'), "0a 0b 00 0d", "the message stays");
+    await page.fill("#message-frame-edit", `a0 ${sentinel} a1`);
+    await page.until('document.getElementById("message-frame-error").textContent.includes("has no sentinel")');
+    await page.click("#message-input");
+    await page.until(`document.getElementById("message-frame-edit").value === "${changed}" && document.getElementById("message-frame-error").hidden`);
+    await page.fill("#message-input", "0a 0b 00 0c");
+    await page.until(`document.getElementById("message-frame").textContent === "${frame}"`);
+  }
+}));
+
 await check("message: step by step", () => on("message", async (page) => {
   await page.click("#message-steps summary");
   const bytes = (name) => page.value(`document.getElementById("steps-${name}").textContent`);
@@ -807,6 +827,19 @@ await check("page: a page that is opened as a file, with dist/jcobs.cjs", async 
     await rm(folder, { recursive: true });
   }
 });
+
+await check("page: opened as a file it says why nothing is there", async () => {
+  const page = await browser.open(new URL("../index.html", import.meta.url).href);
+  await page.until('document.getElementById("loading")?.getClientRects().length === 1');
+  holds((await page.text("#loading")).includes("opened as a file"), "it says why");
+  await page.close();
+});
+
+await check("page: in forced colours", () => on("stream", async (page) => {
+  await page.send("Emulation.setEmulatedMedia", { features: [{ name: "forced-colors", value: "active" }] });
+  const seen = await page.value('(() => { const { backgroundColor, color } = getComputedStyle(document.querySelector(".byte.code")); return backgroundColor !== color && backgroundColor !== getComputedStyle(document.querySelector(".byte:not(.code)")).backgroundColor; })()');
+  holds(seen, "codes differ from other bytes");
+}));
 
 await check("page: it asks for nothing but its own files", () => on("message", async (page) => {
   const asked = await page.value('performance.getEntriesByType("resource").map((each) => each.name)');
