@@ -2,8 +2,9 @@
 # Tests the binding for the browser (bindings/web):
 #   - the module is built anew from the proved crate, and compared with the committed cobs.wasm, byte for byte;
 #   - the vectors of conformance/ and the tests of jcobs.js, in Node;
+#   - the package: installed, required, bundled by esbuild and rollup, and the examples of its README;
 #   - the types in jcobs.d.ts, by the TypeScript compiler;
-#   - the page in Chromium, by keys, clicks and pastes;
+#   - the vectors and the page in Chromium, by keys, clicks and pastes; both in a WebKit engine too;
 #   - the pictures of docs/FORMAT.md, drawn anew and compared.
 # A part whose tool is lacking is skipped, and the tool named. The last line counts; the status is 0 only if nothing failed.
 set -u
@@ -72,19 +73,22 @@ else
     skip "building cobs.wasm anew" "$kit/bin/rt is not there: RATTLE names the folder of the Rattle kit"
 fi
 
-flags=
 if ! has "$node"; then
     skip "Node" "$node is not there: install Debian's nodejs"
 else
-    if "$node" --experimental-wasm-memory64 -e 0 2>/dev/null; then flags=--experimental-wasm-memory64; fi
-    if ! "$node" $flags --input-type=module -e "import { isSupported } from '$web/jcobs.js'; process.exit(isSupported() ? 0 : 1)" 2>"$work/said"; then
-        skip "Node" "$("$node" --version) has no 64-bit WebAssembly memory: version 20 or later has it"
+    if ! "$node" --input-type=module -e "import { isSupported } from '$web/jcobs.js'; process.exit(isSupported() ? 0 : 1)" 2>"$work/said"; then
+        skip "Node" "$("$node" --version) is too old: version 20 or later is needed"
     else
-        echo "Node $("$node" --version)"
-        counted "vectors" "$node" $flags "$web/test/vectors.mjs" "$web/cobs.wasm" "$root/conformance"
-        counted "module" "$node" $flags --expose-gc "$web/test/module.mjs" "$web/cobs.wasm"
+        echo "Node $("$node" --version), without a flag"
+        counted "vectors" "$node" "$web/test/vectors.mjs" "$web/cobs.wasm" "$root/conformance"
+        counted "module" "$node" --expose-gc "$web/test/module.mjs" "$web/cobs.wasm"
+        counted "package" "$node" "$web/test/package.mjs"
+        check "the files with the module inside are built" "$node" "$web/pack.mjs" "$work/dist"
+        for file in jcobs.js jcobs.cjs jcobs.d.cts; do
+            check "dist/$file is what pack.mjs writes" cmp "$work/dist/$file" "$web/dist/$file"
+        done
         mkdir "$work/docs"
-        check "the pictures are drawn" "$node" $flags "$web/figures.mjs" "$work/docs"
+        check "the pictures are drawn" "$node" "$web/figures.mjs" "$work/docs"
         for picture in frame run-of-255 damaged-stream two-frames; do
             check "docs/images/$picture.svg is what figures.mjs draws" cmp "$work/docs/$picture.svg" "$root/docs/images/$picture.svg"
         done
@@ -94,9 +98,15 @@ else
             skip "the types" "tsc is not there: install Debian's node-typescript"
         fi
         if has "$chromium"; then
-            counted "page" "$node" $flags "$web/test/page.mjs"
+            counted "page" "$node" "$web/test/page.mjs"
         else
             skip "the page" "$chromium is not there: install Debian's chromium"
+        fi
+        webkit=${WEBKIT:-$(ls /usr/lib/*/webkit2gtk-4*/MiniBrowser 2>/dev/null | head -n 1)}
+        if [ -n "$webkit" ] && has WebKitWebDriver && has xvfb-run; then
+            counted "webkit" xvfb-run -a "$node" "$web/test/webkit.mjs" "$webkit" "$root/conformance"
+        else
+            skip "WebKit" "MiniBrowser, WebKitWebDriver or xvfb-run is not there: install Debian's webkit2gtk-driver and xvfb"
         fi
     fi
 fi

@@ -1,8 +1,10 @@
 #!/bin/sh
 # The module and what is made from it:
 #
-#     build.sh                 cobs.wasm, from the proved crate (needs the kit of Rattle; RATTLE is its folder)
-#     build.sh to FILE         the same, written to FILE
+#     build.sh                 cobs.wasm, from the proved crate, and dist/ (needs the kit of Rattle; RATTLE is its folder)
+#     build.sh to FILE         cobs.wasm alone, written to FILE
+#     build.sh dist [FOLDER]   the files with the module inside, from cobs.wasm as it is (Node)
+#     build.sh site FOLDER     the page as static files for any host
 #     build.sh pictures        the pictures of docs/FORMAT.md (Node)
 #     build.sh screenshots     the screenshots in docs/images/ (Node and Chromium)
 #     build.sh serve [PORT]    the page, at http://localhost:8000/ or another port (Node)
@@ -21,11 +23,6 @@ need() { # COMMAND PACKAGE
     command -v "$1" >/dev/null || { echo "build.sh: $1 is not there: install Debian's $2" >&2; exit 2; }
 }
 
-# Node before 24 has 64-bit memory behind a flag.
-node_flags() {
-    if "$node" --experimental-wasm-memory64 -e 0 2>/dev/null; then echo --experimental-wasm-memory64; fi
-}
-
 build() { # FILE
     need python3 python3
     [ -x "$kit/bin/rt" ] || { echo "build.sh: $kit/bin/rt is not there: set RATTLE to the kit's folder" >&2; exit 2; }
@@ -39,18 +36,25 @@ build() { # FILE
     (cd "$root/crates/$crate" && "$kit/bin/rt" lib --target $target) >"$log" 2>&1 || { cat "$log" >&2; exit 1; }
     "$kit/bin/rattle-link" --target $target --toolchain "$kit/toolchain" --stack $stack -o "$1" "$archive" 2>"$log" \
         || { cat "$log" >&2; exit 1; }
-    python3 "$here/strip.py" "$1"
+    python3 -B "$here/strip.py" "$1"
+    python3 -B "$here/lower.py" "$1"
 }
 
 case ${1:-} in
-    '') build "$here/cobs.wasm"; ls -l "$here/cobs.wasm" ;;
+    '') need "$node" nodejs; build "$here/cobs.wasm"; "$node" "$here/pack.mjs" "$here/dist"; ls -l "$here/cobs.wasm" "$here/dist" ;;
     to) build "$2" ;;
-    pictures) need "$node" nodejs; "$node" $(node_flags) "$here/figures.mjs" "$root/docs/images" ;;
+    dist) need "$node" nodejs; "$node" "$here/pack.mjs" "${2:-$here/dist}" ;;
+    site)
+        mkdir -p "$2/page"
+        cp "$here/index.html" "$here/draw.js" "$here/jcobs.js" "$here/machine.js" "$here/cobs.wasm" "$2"
+        cp "$here"/page/*.js "$here"/page/*.css "$2/page"
+        ;;
+    pictures) need "$node" nodejs; "$node" "$here/figures.mjs" "$root/docs/images" ;;
     screenshots)
         need "$node" nodejs
         need "${CHROMIUM:-chromium}" chromium
         "$node" "$here/test/screenshots.mjs" "$root/docs/images"
         ;;
     serve) need "$node" nodejs; exec "$node" "$here/serve.mjs" "${2:-8000}" ;;
-    *) sed -n '2,10s/^# \{0,1\}//p' "$0" >&2; exit 2 ;;
+    *) sed -n '2,12s/^# \{0,1\}//p' "$0" >&2; exit 2 ;;
 esac

@@ -1,7 +1,7 @@
 // Pictures of frames, as SVG text. The page and figures.mjs draw by this module alone; it needs no DOM.
 //
 // A picture is a row of cells, one for each byte of the frame. Over each byte stands what it is in the
-// message: a data byte is itself, and a code stands where a zero of the message was, but the first one
+// message: a data byte is itself (XORed with the sentinel, which changes nothing for 0), and a code stands where a zero of the message was, but the first one
 // and the one after a full block. Under the cells an arc leads from each code to the next.
 
 export const CELL = 32;          // width of a cell, in pixels
@@ -95,7 +95,8 @@ export function cellsOf(piece, places, from, to, options = {}) {
       bad: part.bad,
       first: isCode,
       last: at + 1 === Math.min(part.end, piece.length),
-      over: isCode ? overCode(piece, places, number, sentinel) : { text: showOver(piece[at]), kind: "over" },
+      over: isCode ? overCode(piece, places, number, sentinel) : { text: showOver(piece[at] ^ sentinel), kind: "over" },
+      value: piece[at] ^ sentinel,
     });
     if (isCode || at === from) {
       const inside = part.end < to || (part.end === to && part.end === piece.length);
@@ -192,15 +193,24 @@ export function rowPicture(piece, places, from, to, options = {}) {
     + `<text class="at" x="${margin / 2}" y="${TOP + 19}">${from}</text>${row(cells, arcs, margin)}</svg>`;
 }
 
+/** The arcs of a row alone, to hang below cells that are `CELL` wide, `shift` pixels from the left. */
+export function arcsPicture(piece, places, from, to, { sentinel = 0, shift = 0 } = {}) {
+  const arcs = cellsOf(piece, places, from, to, { sentinel }).arcs.map((arc) => ({ ...arc, note: "" }));
+  const width = (to - from + 1) * CELL + shift;
+  const paths = arcs.map((arc) => arcPath(arc, shift, shift + (to - from) * CELL)).join("");
+  return `<svg width="${width}" height="${DEPTH + 6}" viewBox="0 ${TOP + HEIGHT} ${width} ${DEPTH + 6}" aria-hidden="true">${paths}</svg>`;
+}
+
 /** The place of the sentinel after a frame. */
 const sentinelCell = (text) => ({ text, first: true, last: true, ending: true, over: { text: "", kind: "over" } });
 
 /** A row in words. */
 function words(cells, from) {
   const said = cells.map((cell) => {
-    if (!cell.isCode) return cell.text;
+    const value = hex(cell.value) === cell.text ? cell.text : `${cell.text} for ${hex(cell.value)}`;
+    if (!cell.isCode) return value;
     const joint = cell.over.kind === "zero" ? ", a zero of the message" : cell.over.kind === "note" ? ", no zero" : "";
-    return `${cell.full ? "full block, code" : "code"} ${cell.text}${joint};`;
+    return `${cell.full ? "full block, code" : "code"} ${value}${joint};`;
   });
   return `Bytes ${from} to ${from + cells.length - 1}: ${said.join(" ")}`;
 }
@@ -221,15 +231,15 @@ function elide({ cells, arcs }, cut) {
  * A picture for a document: one line for each of `lines`, `{label, pieces, cut, note}`, where `pieces` are what
  * stands between sentinels. `cut` leaves out the bytes from `cut.from` up to `cut.to` of the first piece.
  */
-export function figure({ title, lines, show = String }) {
+export function figure({ title, lines, show = String, sentinel = 0 }) {
   const margin = 118;
   const drawn = lines.map((line) => {
     const cells = [];
     const arcs = [];
     for (const piece of line.pieces) {
-      const part = elide(cellsOf(piece, codePlaces(piece), 0, piece.length, { show, showOver: show }), piece === line.pieces[0] ? line.cut : undefined);
+      const part = elide(cellsOf(piece, codePlaces(piece, sentinel), 0, piece.length, { show, showOver: show, sentinel }), piece === line.pieces[0] ? line.cut : undefined);
       for (const arc of part.arcs) arcs.push({ ...arc, from: arc.from + cells.length, to: arc.to + cells.length });
-      cells.push(...part.cells, sentinelCell(show(0)));
+      cells.push(...part.cells, sentinelCell(show(sentinel)));
     }
     return { ...line, cells, arcs };
   });

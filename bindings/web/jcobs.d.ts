@@ -1,7 +1,7 @@
 /** Consistent Overhead Byte Stuffing, by the proved code in cobs.wasm. */
 
-/** Bytes as the calls take them: an ArrayBuffer, or any view of one. */
-export type Bytes = ArrayBuffer | ArrayBufferView;
+/** Bytes as the calls take them: an ArrayBuffer, a shared one, or any view of one. */
+export type Bytes = ArrayBuffer | SharedArrayBuffer | ArrayBufferView;
 
 /** Where `load` gets the module from. */
 export type Source = string | URL | Response | Bytes | WebAssembly.Module;
@@ -16,9 +16,16 @@ export interface EncodeOptions extends SentinelOptions {
   terminated?: boolean;
 }
 
-export interface DecoderOptions extends SentinelOptions {
-  /** The length of the longest message that is given out, in bytes. Default 65536. */
+export interface PieceOptions extends SentinelOptions {
+  /** The length of the longest message, in bytes. Default 65536; for `frames`, the length of the bytes. */
   maxLength?: number;
+}
+
+export interface DecoderOptions extends PieceOptions {
+  /**
+   * Whether to begin after the first sentinel, as is right on a line that may be in the middle of a frame. Default false.
+   */
+  skipFirst?: boolean;
 }
 
 /** What a piece of a stream that a sentinel ends comes to. */
@@ -34,7 +41,7 @@ export type Outcome =
  * Why a call was refused:
  * - "empty": `decode` was given no bytes, or sentinels alone;
  * - "broken": the frame breaks off inside a block;
- * - "unsupported": this engine lacks 64-bit WebAssembly memory.
+ * - "unsupported": this engine is too old to run the module.
  */
 export class CobsError extends Error {
   readonly kind: "empty" | "broken" | "unsupported";
@@ -43,13 +50,13 @@ export class CobsError extends Error {
   constructor(kind: CobsError["kind"], message: string, decodedBytes?: number);
 }
 
-/** Whether this engine has WebAssembly with 64-bit memory. */
+/** Returns whether this engine runs the module. */
 export function isSupported(): boolean;
 
 /**
  * Loads the module. Every other call needs it. Without an argument it is the file cobs.wasm beside this one.
- * A later call changes nothing for streams that are open.
- * @throws CobsError "unsupported"
+ * Once it is loaded, or is being loaded, a further call changes nothing and returns the same promise.
+ * @throws CobsError "unsupported"; or what went wrong with the source, after which `load` can be called again
  */
 export function load(source?: Source): Promise<void>;
 
@@ -58,6 +65,12 @@ export function maxEncodedLength(length: number): number;
 
 /** The frame of a message. */
 export function encode(message: Bytes, options?: EncodeOptions): Uint8Array;
+
+/**
+ * Encodes a message to the front of `dest`, changes nothing after the frame, and returns the frame's length.
+ * @throws RangeError if it doesn't fit; `dest` is then as it was
+ */
+export function encodeInto(message: Bytes, dest: Bytes, options?: EncodeOptions): number;
 
 /**
  * The message of the first frame: sentinels in front are skipped, and it ends at the next sentinel or with the
@@ -69,22 +82,54 @@ export function decode(frame: Bytes, options?: SentinelOptions): Uint8Array;
 /** Whether bytes are a frame: the encoded one of its message, or that one with a needless last block 01. */
 export function frameKind(frame: Bytes, options?: SentinelOptions): "canonical" | "longer" | "notAFrame";
 
+/**
+ * Iterates over what each piece of some bytes that a sentinel ends decodes to; `end` is the place after that sentinel.
+ * Bytes after the last sentinel give no outcome.
+ */
+export function frames(bytes: Bytes, options?: DecoderOptions): IterableIterator<Outcome & { end: number }>;
+
 /** Takes a stream in chunks of any size. */
 export class FrameDecoder {
   constructor(options?: DecoderOptions);
-  /** Calls `visit` for each piece that the chunk ends; `end` is the place in the chunk after its sentinel. */
+  /**
+   * Calls `visit` for each piece that the chunk ends; `end` is the place in the chunk after its sentinel. After a visit
+   * that throws or closes the decoder there are no more visits. What a visit throws, `push` throws once the whole chunk is
+   * taken, so that the next chunk is decoded as if nothing had been thrown.
+   */
   push(chunk: Bytes, visit: (outcome: Outcome, end: number) => void): void;
   /** Whether a frame has begun that no sentinel has ended yet. */
   get unfinished(): boolean;
-  /** Gives the decoder's memory back. */
+  /** How many bytes `skipFirst` has left out, the first sentinel among them. */
+  get skipped(): number;
+  /** Gives the decoder's memory back. Without it that happens at some garbage collection. Also `[Symbol.dispose]`. */
+  close(): void;
+}
+
+/** Encodes a message that comes in pieces. */
+export class FrameEncoder {
+  constructor(options?: PieceOptions);
+  /**
+   * Takes the next bytes of the message.
+   * @throws RangeError if the message would be longer than `maxLength`; none of the bytes is then taken
+   */
+  push(piece: Bytes): void;
+  /** How many bytes of the message were taken so far. */
+  get length(): number;
+  /** Returns the frame of all that was taken, and begins the next message. */
+  finish(options?: { terminated?: boolean }): Uint8Array;
+  /** Gives the encoder's memory back. Also `[Symbol.dispose]`. */
   close(): void;
 }
 
 /** Bytes in, outcomes out. What no sentinel has ended when the stream ends gives no outcome. */
-export class FrameDecoderStream extends TransformStream<Bytes, Outcome> {
+export class FrameDecoderStream implements ReadableWritablePair<Outcome, Bytes> {
   constructor(options?: DecoderOptions);
+  readonly readable: ReadableStream<Outcome>;
+  readonly writable: WritableStream<Bytes>;
   /** Whether a frame has begun that no sentinel has ended yet: at the stream's end, one that was cut off. */
   get unfinished(): boolean;
+  /** How many bytes `skipFirst` has left out, the first sentinel among them. */
+  get skipped(): number;
 }
 
 /** Messages in, their frames out, each with a sentinel after it. */

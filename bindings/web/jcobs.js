@@ -5,366 +5,381 @@
 //     const frame = encode(Uint8Array.of(10, 11, 0, 12));            // 3 10 11 2 12
 //     const frames = port.readable.pipeThrough(new FrameDecoderStream({ maxLength: 4096 }));
 //
-// This file moves bytes into the module's memory and answers out of it. Which bytes a frame has and what a
-// stream comes to is decided by the module alone.
+// This file copies bytes into the module's memory and results out of it. Which bytes a frame has and what a stream
+// decodes to is decided by the module alone.
+import { BROKEN, CHUNK_SIZE, CobsError, KINDS, OK, STATE_SIZE, TOO_SMALL, bytesOf, loaded, machineFor } from "./machine.js";
 
-// enum jcobs_status and enum jcobs_kind of jcobs.h
-const OK = 0;
-const TOO_SMALL = 2;
-const BROKEN = 3;
-const KINDS = ["notAFrame", "canonical", "longer"];
+export { CobsError, isSupported, load } from "./machine.js";
 
-const WASM_PAGE = 65536;
-const ANSWER_SIZE = 64;              // room for a jcobs_answer, at the front of the free memory
-const SCRATCH_SIZE = 1 << 22;        // for the bytes of a call; a call that needs more has a memory of its own
-const STATE_SIZE = 64;               // room for a jcobs_decoder
-const CHUNK_SIZE = 1 << 14;          // how much of a stream a decoder takes into the module at a time
-
-/** Why a call was refused. `kind` is "empty", "broken" or "unsupported"; with "broken", `decodedBytes` says how much decoded. */
-export class CobsError extends Error {
-  constructor(kind, message, decodedBytes = 0) {
-    super(message);
-    this.name = "CobsError";
-    this.kind = kind;
-    this.decodedBytes = decodedBytes;
+/** The options of a call, each its default if left out. One that the call doesn't have is an error. */
+function optionsOf(given, defaults) {
+  if (given === undefined) return checked(defaults);
+  if (typeof given !== "object" || given === null) throw new TypeError(`options are wanted, as { ${Object.keys(defaults).join(", ")} }`);
+  for (const name of Object.keys(given)) {
+    if (!(name in defaults)) throw new TypeError(`there is no option “${name}” here, but ${Object.keys(defaults).join(", ")}`);
   }
+  const options = { ...defaults };
+  for (const name of Object.keys(defaults)) if (given[name] !== undefined) options[name] = given[name];
+  return checked(options);
 }
 
-/** An instance of the module: its calls over places in its memory. Nothing above this class knows the module's names. */
-class Machine {
-  #calls;
-  #memory;
-  #bytes;
-  #words;
-
-  constructor(module) {
-    this.#calls = new WebAssembly.Instance(module, {}).exports;
-    this.#memory = this.#calls.memory;
-    this.answerAt = Math.ceil(Number(this.#calls.__heap_base.value) / ANSWER_SIZE) * ANSWER_SIZE;
-    this.scratchAt = this.answerAt + ANSWER_SIZE;
-    this.reach(this.scratchAt);
-    this.#see();
-  }
-
-  #see() {
-    this.#bytes = new Uint8Array(this.#memory.buffer);
-    this.#words = new Uint32Array(this.#memory.buffer, this.answerAt, 6);
-  }
-
-  /** Makes the memory so long that `end` is its end or lies in it. */
-  reach(end) {
-    const pages = Math.ceil((end - this.#memory.buffer.byteLength) / WASM_PAGE);
-    if (pages <= 0) return;
-    grow(this.#memory, pages);
-    this.#see();
-  }
-
-  /** Puts bytes at a place, each changed for a sentinel. */
-  write(bytes, at, sentinel = 0) {
-    const memory = this.#bytes;
-    memory.set(bytes, at);
-    if (sentinel !== 0) for (let i = at; i < at + bytes.length; i++) memory[i] ^= sentinel;
-  }
-
-  /** A copy of the bytes at a place. */
-  read(at, length) {
-    return this.#bytes.slice(at, at + length);
-  }
-
-  maxLength(length) {
-    return Number(this.#calls.jcobs_max_length(BigInt(length)));
-  }
-
-  encode(source, sourceLength, dest, room, sentinel, terminated) {
-    const call = terminated ? this.#calls.jcobs_encode_terminated_with_sentinel : this.#calls.jcobs_encode_with_sentinel;
-    call(BigInt(this.answerAt), BigInt(source), BigInt(sourceLength), BigInt(dest), BigInt(room), sentinel);
-    return this.#answer();
-  }
-
-  decode(source, sourceLength, dest, room) {
-    this.#calls.jcobs_decode(BigInt(this.answerAt), BigInt(source), BigInt(sourceLength), BigInt(dest), BigInt(room));
-    return this.#answer();
-  }
-
-  frameKind(at, length) {
-    return this.#calls.jcobs_frame_kind(BigInt(at), BigInt(length));
-  }
-
-  /** A decoder that has taken nothing, with its state and buffer at these places. */
-  decoder(state, buffer, room) {
-    const calls = this.#calls;
-    const [answerWord, stateWord, bufferWord, roomWord] = [this.answerAt, state, buffer, room].map(BigInt);
-    calls.jcobs_decoder_reset(stateWord);
-    return {
-      push: (at, length) => {
-        calls.jcobs_decoder_push(answerWord, stateWord, bufferWord, roomWord, BigInt(at), BigInt(length));
-        return this.#answer();
-      },
-      isIdle: () => calls.jcobs_decoder_is_idle(stateWord) !== 0,
-    };
-  }
-
-  /** The jcobs_answer of the call just made: a 32-bit number, and two of 64 bits after it, low half first. */
-  #answer() {
-    const words = this.#words;
-    return { status: words[0], consumed: words[2] + words[3] * 0x100000000, length: words[4] + words[5] * 0x100000000 };
-  }
-}
-
-/** Some engines that had 64-bit memory before it was settled take a number here. */
-function grow(memory, pages) {
-  try {
-    memory.grow(BigInt(pages));
-  } catch (error) {
-    if (!(error instanceof TypeError)) throw error;
-    memory.grow(pages);
-  }
-}
-
-/** A memory section with a 64-bit memory, and nothing else: the shortest module that needs what cobs.wasm needs. */
-const MEMORY64_PROBE = Uint8Array.of(0, 0x61, 0x73, 0x6d, 1, 0, 0, 0, 5, 3, 1, 4, 1);
-
-/** Whether this engine has WebAssembly with 64-bit memory. */
-export function isSupported() {
-  return typeof WebAssembly === "object" && WebAssembly.validate(MEMORY64_PROBE);
-}
-
-let compiled;
-let shared;
-
-/**
- * Loads the module, once: from the file beside this one, or from a URL, a Response, the file's bytes or a compiled
- * module. Every other call of this file needs it.
- */
-export async function load(source = new URL("cobs.wasm", import.meta.url)) {
-  if (!isSupported()) {
-    throw new CobsError(
-      "unsupported",
-      "this engine has no 64-bit WebAssembly memory, which cobs.wasm needs: use Chrome or Edge 133, Firefox 134, or later ones (Node 20 and 22: --experimental-wasm-memory64)",
-    );
-  }
-  const module = await moduleOf(source);
-  shared = new Arena(new Machine(module));
-  compiled = module;
-}
-
-async function moduleOf(source) {
-  if (source instanceof WebAssembly.Module) return source;
-  if (source instanceof ArrayBuffer || ArrayBuffer.isView(source)) return WebAssembly.compile(source);
-  if (source instanceof Response) return WebAssembly.compile(await checked(source).arrayBuffer());
-  const url = new URL(source, import.meta.url);
-  if (url.protocol === "file:" && typeof process === "object") {
-    const { readFile } = await import("node:fs/promises");
-    return WebAssembly.compile(await readFile(url));
-  }
-  return WebAssembly.compile(await checked(await fetch(url)).arrayBuffer());
-}
-
-function checked(response) {
-  if (!response.ok) throw new Error(`${response.url || "cobs.wasm"} could not be loaded: status ${response.status}`);
-  return response;
-}
-
-/** The one memory that short calls and all streams share, and which of its places are free. */
-class Arena {
-  #free = [];
-
-  constructor(machine) {
-    this.machine = machine;
-    this.end = machine.scratchAt + SCRATCH_SIZE;
-    machine.reach(this.end);
-  }
-
-  /** A place of so many bytes: one that was given back, or a new one at the memory's end. */
-  take(size) {
-    const wanted = Math.ceil(size / 64) * 64;
-    const found = this.#free.findIndex((place) => place.size >= wanted);
-    if (found >= 0) {
-      const place = this.#free[found];
-      if (place.size === wanted) this.#free.splice(found, 1);
-      else this.#free[found] = { at: place.at + wanted, size: place.size - wanted };
-      return { at: place.at, size: wanted };
-    }
-    const place = { at: this.end, size: wanted };
-    this.machine.reach(place.at + wanted);
-    this.end += wanted;
-    return place;
-  }
-
-  /** Neighbouring free places become one, so that what was given back serves any size that fits in it. */
-  give(place) {
-    this.#free.push(place);
-    this.#free.sort((a, b) => a.at - b.at);
-    const joined = [];
-    for (const { at, size } of this.#free) {
-      const last = joined[joined.length - 1];
-      if (last && last.at + last.size === at) last.size += size;
-      else joined.push({ at, size });
-    }
-    const last = joined[joined.length - 1];
-    if (last.at + last.size === this.end) this.end = joined.pop().at;
-    this.#free = joined;
-  }
-}
-
-function loaded() {
-  if (!shared) throw new Error("cobs.wasm is not loaded: await load() first");
-  return shared;
-}
-
-/** A machine with `size` bytes free at its scratch place: the shared one, or for long bytes one that goes with the call. */
-function machineFor(size) {
-  const { machine } = loaded();
-  if (size <= SCRATCH_SIZE) return machine;
-  const own = new Machine(compiled);
-  own.reach(own.scratchAt + size);
-  return own;
-}
-
-/** The bytes of an ArrayBuffer or of any view of one. */
-function bytesOf(source) {
-  if (source instanceof Uint8Array) return source;
-  if (ArrayBuffer.isView(source)) return new Uint8Array(source.buffer, source.byteOffset, source.byteLength);
-  if (source instanceof ArrayBuffer) return new Uint8Array(source);
-  throw new TypeError("bytes are wanted: a Uint8Array, another view, or an ArrayBuffer");
-}
-
-function sentinelOf(sentinel) {
+function checked(options) {
+  const { sentinel = 0, maxLength } = options;
   if (!Number.isInteger(sentinel) || sentinel < 0 || sentinel > 255) throw new RangeError("the sentinel is a byte, 0 to 255");
-  return sentinel;
+  if ("maxLength" in options && (!Number.isSafeInteger(maxLength) || maxLength < 0)) {
+    throw new RangeError("maxLength is a whole number, 0 or more");
+  }
+  return options;
 }
 
-/** The length of the longest frame of a message of `length` bytes, without sentinels. */
+const DECODING = { sentinel: 0 };
+const ENCODING = { sentinel: 0, terminated: false };
+const STREAM = { maxLength: 65536, sentinel: 0, skipFirst: false };
+const PIECEWISE = { maxLength: 65536, sentinel: 0 };
+
+/** Returns the length of the longest frame of a message of `length` bytes, without sentinels. */
 export function maxEncodedLength(length) {
   if (!Number.isSafeInteger(length) || length < 0) throw new RangeError("a length is a whole number, 0 or more");
   return loaded().machine.maxLength(length);
 }
 
-/** The frame of a message, with a sentinel after it where `terminated` is true. */
-export function encode(message, { sentinel = 0, terminated = false } = {}) {
+/** Encodes a message within a machine, over as much room as `limit` allows. */
+function encoded(message, limit, { sentinel, terminated }) {
   const bytes = bytesOf(message);
-  sentinelOf(sentinel);
-  const room = maxEncodedLength(bytes.length) + 1;
+  const room = Math.min(limit, maxEncodedLength(bytes.length) + 1);
   const machine = machineFor(bytes.length + room);
-  const dest = machine.scratchAt + bytes.length;
+  const at = machine.scratchAt + bytes.length;
   machine.write(bytes, machine.scratchAt);
-  const { length } = machine.encode(machine.scratchAt, bytes.length, dest, room, sentinel, terminated);
-  return machine.read(dest, length);
+  return { machine, at, ...machine.encode(machine.scratchAt, bytes.length, at, room, sentinel, terminated) };
 }
 
-/** The message of a frame, up to its sentinel or its end; sentinels in front are skipped. */
-export function decode(frame, { sentinel = 0 } = {}) {
+/** Returns the frame of a message, with a sentinel after it if `terminated` is true. */
+export function encode(message, options) {
+  const { machine, at, length } = encoded(message, Infinity, optionsOf(options, ENCODING));
+  return machine.read(at, length);
+}
+
+/** Encodes a message to the front of `dest` and returns the frame's length. If it doesn't fit, nothing is changed. */
+export function encodeInto(message, dest, options) {
+  const room = bytesOf(dest);
+  const { machine, at, status, length } = encoded(message, room.length, optionsOf(options, ENCODING));
+  if (status === TOO_SMALL) throw new RangeError(`the frame is longer than the ${room.length} bytes that it may have`);
+  machine.readInto(room, at, length);
+  return length;
+}
+
+/** Returns the message of a frame, up to its sentinel or its end; sentinels in front are skipped. */
+export function decode(frame, options) {
   const bytes = bytesOf(frame);
+  const { sentinel } = optionsOf(options, DECODING);
   const machine = machineFor(2 * bytes.length);
   const dest = machine.scratchAt + bytes.length;
-  machine.write(bytes, machine.scratchAt, sentinelOf(sentinel));
+  machine.write(bytes, machine.scratchAt, sentinel);
   const { status, length } = machine.decode(machine.scratchAt, bytes.length, dest, bytes.length);
   if (status === OK) return machine.read(dest, length);
   if (status === BROKEN) throw new CobsError("broken", `the frame breaks off inside a block; it decodes to ${length} bytes up to there`, length);
   throw new CobsError("empty", "there is no frame to decode: no bytes, or sentinels alone");
 }
 
-/** "canonical" for an encoded frame, "longer" for one with a needless last block 01, "notAFrame" for all else. */
-export function frameKind(frame, { sentinel = 0 } = {}) {
+/** Returns "canonical" for an encoded frame, "longer" for one with a needless last block 01, "notAFrame" for all else. */
+export function frameKind(frame, options) {
   const bytes = bytesOf(frame);
+  const { sentinel } = optionsOf(options, DECODING);
   const machine = machineFor(bytes.length);
-  machine.write(bytes, machine.scratchAt, sentinelOf(sentinel));
+  machine.write(bytes, machine.scratchAt, sentinel);
   return KINDS[machine.frameKind(machine.scratchAt, bytes.length)];
 }
 
 const abandoned = typeof FinalizationRegistry === "function" ? new FinalizationRegistry(({ arena, place }) => arena.give(place)) : null;
 
-/** Takes a stream in chunks of any size and tells what each of its pieces comes to, over a buffer of `maxLength` bytes. */
-export class FrameDecoder {
-  #arena;
+/** A place in the shared memory with a state, room for a chunk, and a buffer. It is freed by `close`, or once its owner is gone. */
+class Held {
   #place;
-  #decoder;
-  #chunk;
-  #buffer;
-  #sentinel;
-  #isPushing = false;
-  #wasUnfinished = false;
 
-  constructor({ maxLength = 65536, sentinel = 0 } = {}) {
-    if (!Number.isSafeInteger(maxLength) || maxLength < 0) throw new RangeError("maxLength is a whole number, 0 or more");
-    this.#arena = loaded();
-    this.#sentinel = sentinelOf(sentinel);
-    this.#place = this.#arena.take(STATE_SIZE + CHUNK_SIZE + maxLength);
-    this.#chunk = this.#place.at + STATE_SIZE;
-    this.#buffer = this.#chunk + CHUNK_SIZE;
-    this.#decoder = this.#arena.machine.decoder(this.#place.at, this.#buffer, maxLength);
-    abandoned?.register(this, { arena: this.#arena, place: this.#place }, this);
+  constructor(owner, length) {
+    this.arena = loaded();
+    this.#place = this.arena.take(STATE_SIZE + CHUNK_SIZE + length);
+    this.state = this.#place.at;
+    this.chunk = this.state + STATE_SIZE;
+    this.buffer = this.chunk + CHUNK_SIZE;
+    abandoned?.register(owner, { arena: this.arena, place: this.#place }, this);
   }
 
-  /** Whether a frame has begun that no sentinel has ended yet. */
-  get unfinished() {
-    return this.#place ? !this.#decoder.isIdle() : this.#wasUnfinished;
+  get isOpen() {
+    return this.#place !== null;
   }
 
-  /** Calls `visit(outcome, end)` for each piece that `chunk` ends; `end` is the place in the chunk after its sentinel. */
-  push(chunk, visit) {
-    if (!this.#place) throw new Error("the decoder is closed");
-    if (this.#isPushing) throw new Error("a push is under way");
-    const bytes = bytesOf(chunk);
-    this.#isPushing = true;
-    try {
-      if (bytes.length <= CHUNK_SIZE) this.#pushSome(bytes, 0, visit);
-      else for (let at = 0; at < bytes.length; at += CHUNK_SIZE) this.#pushSome(bytes.subarray(at, at + CHUNK_SIZE), at, visit);
-    } finally {
-      this.#isPushing = false;
-    }
-  }
-
-  #pushSome(bytes, offset, visit) {
-    const { machine } = this.#arena;
-    machine.write(bytes, this.#chunk, this.#sentinel);
-    for (let at = 0; at < bytes.length; ) {
-      const answer = this.#decoder.push(this.#chunk + at, bytes.length - at);
-      at += answer.consumed;
-      if (answer.status === OK) visit({ message: machine.read(this.#buffer, answer.length) }, offset + at);
-      else if (answer.status === BROKEN) visit({ broken: answer.length }, offset + at);
-      else if (answer.status === TOO_SMALL) visit({ tooLong: true }, offset + at);
-    }
-  }
-
-  /** Gives the decoder's memory back. */
   close() {
-    if (!this.#place) return;
-    this.#wasUnfinished = this.unfinished;
     abandoned?.unregister(this);
-    this.#arena.give(this.#place);
+    this.arena.give(this.#place);
     this.#place = null;
   }
 }
 
+const DISPOSE = Symbol.dispose ?? Symbol("dispose");
+
+/** Decodes a stream in chunks of any size, with messages of up to `maxLength` bytes. */
+export class FrameDecoder {
+  #held;
+  #decoder;
+  #sentinel;
+  #isSkipping;
+  #skipped = 0;
+  #isPushing = false;
+  #isClosing = false;
+  #wasUnfinished = false;
+
+  constructor(options) {
+    const { maxLength, sentinel, skipFirst } = optionsOf(options, STREAM);
+    this.#sentinel = sentinel;
+    this.#isSkipping = Boolean(skipFirst);
+    this.#held = new Held(this, maxLength);
+    this.#decoder = this.#held.arena.machine.decoder(this.#held.state, this.#held.buffer, maxLength);
+  }
+
+  /** Whether a frame has begun that no sentinel has ended yet. */
+  get unfinished() {
+    return this.#held.isOpen ? !this.#decoder.isIdle() : this.#wasUnfinished;
+  }
+
+  /** How many bytes `skipFirst` has left out, the first sentinel among them. */
+  get skipped() {
+    return this.#skipped;
+  }
+
+  /**
+   * Calls `visit(outcome, end)` for each piece that `chunk` ends; `end` is the place in the chunk after its sentinel.
+   * After a visit that throws or closes the decoder there are no more. What was thrown is thrown on once the whole chunk
+   * is taken, so that the next chunk is decoded as if nothing had been thrown.
+   */
+  push(chunk, visit) {
+    if (!this.#held.isOpen || this.#isClosing) throw new Error("the decoder is closed");
+    if (this.#isPushing) throw new Error("a push is under way");
+    if (typeof visit !== "function") throw new TypeError("push takes a function, which is called with each outcome");
+    const bytes = bytesOf(chunk);
+    const fault = { thrown: undefined, isThrown: false };
+    this.#isPushing = true;
+    try {
+      for (let at = this.#skip(bytes); at < bytes.length && !this.#isClosing; at += CHUNK_SIZE) {
+        this.#pushSome(bytes.subarray(at, at + CHUNK_SIZE), at, visit, fault);
+      }
+    } finally {
+      this.#isPushing = false;
+      if (this.#isClosing) this.#close();
+    }
+    if (fault.isThrown) throw fault.thrown;
+  }
+
+  /** How many bytes of a chunk are before the place where decoding begins. */
+  #skip(bytes) {
+    if (!this.#isSkipping) return 0;
+    const at = bytes.indexOf(this.#sentinel);
+    this.#isSkipping = at < 0;
+    const count = at < 0 ? bytes.length : at + 1;
+    this.#skipped += count;
+    return count;
+  }
+
+  #pushSome(bytes, offset, visit, fault) {
+    const { arena, chunk, buffer } = this.#held;
+    arena.machine.write(bytes, chunk, this.#sentinel);
+    for (let at = 0; at < bytes.length && !this.#isClosing; ) {
+      const { status, consumed, length } = this.#decoder.push(chunk + at, bytes.length - at);
+      at += consumed;
+      if (fault.isThrown) continue;
+      try {
+        if (status === OK) visit({ message: arena.machine.read(buffer, length) }, offset + at);
+        else if (status === BROKEN) visit({ broken: length }, offset + at);
+        else if (status === TOO_SMALL) visit({ tooLong: true }, offset + at);
+      } catch (thrown) {
+        fault.thrown = thrown;
+        fault.isThrown = true;
+      }
+    }
+  }
+
+  /** Frees the decoder's memory: within a push, at its end. */
+  close() {
+    if (this.#isPushing) this.#isClosing = true;
+    else this.#close();
+  }
+
+  #close() {
+    if (!this.#held.isOpen) return;
+    this.#wasUnfinished = this.unfinished;
+    this.#held.close();
+  }
+
+  [DISPOSE]() {
+    this.close();
+  }
+}
+
+/** Returns an iterator over what each piece of `bytes` that a sentinel ends decodes to, with `end`, the place after that sentinel. */
+export function frames(bytes, options) {
+  const view = bytesOf(bytes);
+  return outcomesOf(view, new FrameDecoder(optionsOf(options, { ...STREAM, maxLength: view.length })));
+}
+
+function* outcomesOf(bytes, decoder) {
+  try {
+    for (let at = 0; at < bytes.length; at += CHUNK_SIZE) {
+      const found = [];
+      decoder.push(bytes.subarray(at, at + CHUNK_SIZE), (outcome, end) => found.push({ ...outcome, end: at + end }));
+      yield* found;
+    }
+  } finally {
+    decoder.close();
+  }
+}
+
+/** Encodes a message that comes in pieces, of up to `maxLength` bytes. */
+export class FrameEncoder {
+  #held;
+  #encoder;
+  #maxLength;
+  #sentinel;
+  #taken = 0;
+
+  constructor(options) {
+    const { maxLength, sentinel } = optionsOf(options, PIECEWISE);
+    this.#maxLength = maxLength;
+    this.#sentinel = sentinel;
+    const room = maxEncodedLength(maxLength) + 1;
+    this.#held = new Held(this, room);
+    this.#encoder = this.#held.arena.machine.encoder(this.#held.state, this.#held.buffer, room);
+  }
+
+  /** How many bytes of the message were taken so far. */
+  get length() {
+    return this.#taken;
+  }
+
+  /** Takes the next bytes of the message. If it would be longer than `maxLength`, none is taken. */
+  push(piece) {
+    this.#demandOpen();
+    const bytes = bytesOf(piece);
+    if (bytes.length > this.#maxLength - this.#taken) throw new RangeError(`the message is longer than ${this.#maxLength} bytes`);
+    const { arena, chunk } = this.#held;
+    for (let at = 0; at < bytes.length; at += CHUNK_SIZE) {
+      const some = bytes.subarray(at, at + CHUNK_SIZE);
+      arena.machine.write(some, chunk);
+      this.#encoder.push(chunk, some.length);
+    }
+    this.#taken += bytes.length;
+  }
+
+  /** Returns the frame of all that was taken, with a sentinel after it if `terminated` is true. The next message begins. */
+  finish(options) {
+    this.#demandOpen();
+    const { terminated } = optionsOf(options, { terminated: false });
+    const { length } = this.#encoder.finish();
+    this.#taken = 0;
+    const frame = this.#held.arena.machine.read(this.#held.buffer, length + (terminated ? 1 : 0));
+    if (terminated) frame[length] = 0;
+    if (this.#sentinel !== 0) for (let at = 0; at < frame.length; at++) frame[at] ^= this.#sentinel;
+    return frame;
+  }
+
+  #demandOpen() {
+    if (!this.#held.isOpen) throw new Error("the encoder is closed");
+  }
+
+  /** Frees the encoder's memory. */
+  close() {
+    if (this.#held.isOpen) this.#held.close();
+  }
+
+  [DISPOSE]() {
+    this.close();
+  }
+}
+
+/**
+ * The two ends of a stream that `take(chunk, give)` carries each chunk through, as a TransformStream has them. `close` is
+ * called once, however it ends: engines don't tell a TransformStream of every way.
+ */
+function ends(take, close) {
+  let out;
+  let into;
+  let wake = () => {};
+  let isWanted = false;
+  let isOver = false;
+  const fail = (end, reason) => {
+    isOver = true;
+    close();
+    end.error(reason);
+    wake();
+  };
+  const readable = new ReadableStream(
+    {
+      start: (controller) => void (out = controller),
+      pull() {
+        isWanted = true;
+        wake();
+      },
+      cancel: (reason) => fail(into, reason),
+    },
+    { highWaterMark: 0 },
+  );
+  const writable = new WritableStream({
+    start: (controller) => void (into = controller),
+    async write(chunk) {
+      while (!isWanted && !isOver) await new Promise((done) => (wake = done));
+      if (isOver) return;
+      let count = 0;
+      isWanted = false;
+      try {
+        take(chunk, (value) => {
+          count++;
+          out.enqueue(value);
+        });
+      } catch (error) {
+        fail(out, error);
+        throw error;
+      }
+      if (count === 0) isWanted = true;
+    },
+    close() {
+      close();
+      out.close();
+    },
+    abort: (reason) => fail(out, reason),
+  });
+  return { readable, writable };
+}
+
 /** Bytes in, outcomes out: `{message}`, `{broken: n}` or `{tooLong: true}` for each piece that a sentinel ends. */
-export class FrameDecoderStream extends TransformStream {
+export class FrameDecoderStream {
   #decoder;
 
-  constructor(options = {}) {
+  constructor(options) {
     const decoder = new FrameDecoder(options);
-    const close = () => decoder.close();
-    super({
-      transform(chunk, controller) {
-        decoder.push(chunk, (outcome) => controller.enqueue(outcome));
-      },
-      flush: close,
-      cancel: close,
-    });
+    const { readable, writable } = ends(
+      (chunk, give) => decoder.push(chunk, give),
+      () => decoder.close(),
+    );
     this.#decoder = decoder;
+    this.readable = readable;
+    this.writable = writable;
   }
 
   /** Whether a frame has begun that no sentinel has ended yet: at the stream's end, one that was cut off. */
   get unfinished() {
     return this.#decoder.unfinished;
   }
+
+  /** How many bytes `skipFirst` has left out, the first sentinel among them. */
+  get skipped() {
+    return this.#decoder.skipped;
+  }
 }
 
 /** Messages in, their frames out, each with a sentinel after it. */
 export class FrameEncoderStream extends TransformStream {
-  constructor({ sentinel = 0 } = {}) {
+  constructor(options) {
     loaded();
-    sentinelOf(sentinel);
+    const { sentinel } = optionsOf(options, DECODING);
     super({
       transform(message, controller) {
         controller.enqueue(encode(message, { sentinel, terminated: true }));

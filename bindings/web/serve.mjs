@@ -14,11 +14,12 @@ const TYPES = {
   ".svg": "image/svg+xml",
 };
 
-async function answer(request, response) {
+async function answer(request, response, folders) {
   const { pathname } = new URL(request.url, "http://localhost");
   const path = normalize(decodeURIComponent(pathname === "/" ? "/index.html" : pathname));
+  const [, first, rest] = path.match(/^\/([^/]*)(\/.*)?$/);
   try {
-    const body = await readFile(join(ROOT, path));
+    const body = await readFile(folders[first] ? join(folders[first], rest) : join(ROOT, path));
     response.writeHead(200, { "content-type": TYPES[extname(path)] ?? "application/octet-stream", "cache-control": "no-store" });
     response.end(body);
   } catch {
@@ -27,14 +28,20 @@ async function answer(request, response) {
   }
 }
 
-/** Starts serving, and gives the server and its address. Port 0 is any free one. */
-export async function serve(port = 0) {
-  const server = createServer((request, response) => answer(request, response).catch(() => response.destroy()));
+/** Starts serving, and returns the server and its address. Port 0 is any free one. `folders` are others, by their names. */
+export async function serve(port = 0, folders = {}) {
+  const server = createServer((request, response) => answer(request, response, folders).catch(() => response.destroy()));
   await new Promise((done, failed) => server.once("error", failed).listen(port, "127.0.0.1", done));
   return { server, address: `http://localhost:${server.address().port}/` };
 }
 
 if (process.argv[1] && import.meta.url === pathToFileURL(process.argv[1]).href) {
-  const { address } = await serve(Number(process.argv[2] ?? 8000));
-  console.log(`${address} (Ctrl+C ends it)`);
+  const port = Number(process.argv[2] ?? 8000);
+  try {
+    const { address } = await serve(port);
+    console.log(`${address} (Ctrl+C ends it)`);
+  } catch (error) {
+    console.error(`serve.mjs: port ${port} can't be used: ${error.message}`);
+    process.exitCode = 1;
+  }
 }

@@ -9,11 +9,16 @@ export function printHex(bytes, from = 0, to = bytes.length) {
   return pairs.join(" ");
 }
 
-/** Bytes as text: printable ASCII as it is, all else as a middle dot. */
+/** Bytes as text: UTF-8 if they are, else printable ASCII; all that has no sign as a middle dot. */
 export function printText(bytes) {
-  let text = "";
-  for (const byte of bytes) text += byte >= 32 && byte < 127 ? String.fromCharCode(byte) : "·";
-  return text;
+  try {
+    // a sign that the end cuts is left out
+    return new TextDecoder("utf-8", { fatal: true, ignoreBOM: true }).decode(bytes, { stream: true }).replace(/\p{C}/gu, "·");
+  } catch {
+    let text = "";
+    for (const byte of bytes) text += byte >= 32 && byte < 127 ? String.fromCharCode(byte) : "·";
+    return text;
+  }
 }
 
 const SEPARATOR = -2;

@@ -55,3 +55,12 @@ export function settled(act, milliseconds = 400) {
     timer = setTimeout(act, milliseconds);
   };
 }
+
+/** Offers a text as a file. */
+export function save(name, text, type = "text/plain") {
+  const link = document.createElement("a");
+  link.href = URL.createObjectURL(new Blob([text], { type }));
+  link.download = name;
+  link.click();
+  setTimeout(() => URL.revokeObjectURL(link.href), 1000);
+}

@@ -1,22 +1,26 @@
 // The view of a line: a device by Web Serial, or the loop; what comes in, and what is sent.
-import { FrameDecoderStream, encode } from "../jcobs.js";
+import { Connection } from "./connection.js";
 import { parseHex, printHex, printText } from "./hex.js";
-import { byId, complain, count, counted, once, readRoom, readSentinel, settled } from "./inputs.js";
+import { byId, complain, count, counted, once, readRoom, readSentinel, save, settled } from "./inputs.js";
+import { Log, readLog, writeLog } from "./log.js";
 import { LoopPort } from "./loop.js";
 import { Rows } from "./rows.js";
 
-const KEPT = 1000;
 const SHOWN_BYTES = 64;
+const OPENED_BYTES = 4096;
 const ROW_HEIGHT = 30;
+const PORT_BUFFER = 65_536; // of Web Serial, whose own 255 bytes are few at high rates
+const SETTINGS = ["line-baud", "line-data", "line-parity", "line-stop", "line-flow", "line-room", "line-sentinel", "line-known"];
 
-const totals = { messages: 0, broken: 0, tooLong: 0, bytes: 0 };
-const log = [];
-let number = 0;
+const totals = { messages: 0, broken: 0, tooLong: 0, bytes: 0, sent: 0 };
+const log = new Log();
 let rows;
-let port = null;
-let reader = null;
-let sentinel = 0;
-let isClosing = false;
+let connection = null;
+let connectedPort = null;
+let isBusy = false;
+let isPaused = false;
+let chosen = -1; // the number of the row that the keyboard is at
+let known = [];
 
 const status = (text) => (byId("line-status").textContent = text);
 const fault = (text) => complain(byId("line-connect"), text, byId("line-error"));
@@ -26,103 +30,150 @@ function counters() {
   byId("line-broken").textContent = count(totals.broken);
   byId("line-too-long").textContent = count(totals.tooLong);
   byId("line-bytes").textContent = count(totals.bytes);
+  byId("line-sent").textContent = count(totals.sent);
 }
 
 const paint = once(() => {
   counters();
+  if (isPaused) return;
   const box = byId("line-log");
   const isAtEnd = box.scrollTop + box.clientHeight >= box.scrollHeight - ROW_HEIGHT;
-  box.style.height = `${Math.max(4, Math.min(log.length, 10)) * ROW_HEIGHT + 2}px`;
-  rows.reset(log.length);
-  if (isAtEnd && log.length > 0) rows.reveal(log.length - 1);
+  box.style.height = `${Math.max(4, Math.min(log.entries.length, 10)) * ROW_HEIGHT + 2}px`;
+  rows.reset(log.entries.length);
+  if (isAtEnd && log.entries.length > 0) rows.reveal(log.entries.length - 1);
 });
 
 const say = settled(() => {
-  if (port) status(`Connected. ${counted(totals.messages, "message")}, ${count(totals.broken)} broken, ${count(totals.tooLong)} too long.`);
+  if (connection) status(`Connected. ${counted(totals.messages, "message")}, ${count(totals.broken)} broken, ${count(totals.tooLong)} too long.`);
 }, 800);
 
-function note({ message, broken, tooLong }) {
-  number++;
-  const entry = { number, text: "", digits: "", kind: "message" };
-  if (message) {
-    totals.messages++;
-    totals.bytes += message.length;
-    const front = message.subarray(0, SHOWN_BYTES);
-    entry.text = printText(front);
-    entry.digits = printHex(front) + (message.length > SHOWN_BYTES ? ` … ${counted(message.length, "byte")}` : "");
-  } else if (tooLong) {
-    totals.tooLong++;
-    entry.kind = "too-long";
-  } else {
-    totals.broken++;
-    entry.kind = "broken";
-    entry.digits = `after ${counted(broken, "byte")} of output`;
-  }
-  log.push(entry);
-  if (log.length > KEPT) log.splice(0, log.length - KEPT);
+function add(entry) {
+  const box = byId("line-log");
+  const isAtEnd = box.scrollTop + box.clientHeight >= box.scrollHeight - ROW_HEIGHT;
+  const dropped = log.add(entry);
+  if (dropped > 0 && !isAtEnd && !isPaused) box.scrollTop -= dropped * ROW_HEIGHT; // the rows in sight stay where they are
   paint();
   say();
 }
 
+function receive({ message, broken, tooLong }) {
+  if (message) {
+    totals.messages++;
+    totals.bytes += message.length;
+    add({ way: "in", kind: "message", message });
+  } else if (tooLong) {
+    totals.tooLong++;
+    add({ way: "in", kind: "too long", note: "for the buffer" });
+  } else {
+    totals.broken++;
+    add({ way: "in", kind: "broken", note: `after ${counted(broken, "byte")} of output` });
+  }
+}
+
+const clock = (time) => time.toTimeString().slice(0, 8) + `.${String(time.getMilliseconds()).padStart(3, "0")}`;
+
 function fillRow(element, index) {
-  const entry = log[index];
+  const { number, time, way, kind, message, note } = log.entries[index];
   const span = (name, text) => Object.assign(document.createElement("span"), { className: name, textContent: text });
-  const badge = entry.kind === "message" ? span("text", entry.text) : span(`badge ${entry.kind}`, entry.kind.replace("-", " "));
-  element.replaceChildren(span("number", String(entry.number)), badge, span("digits", entry.digits));
+  const front = message?.subarray(0, SHOWN_BYTES);
+  const isCut = message && message.length > SHOWN_BYTES;
+  const what = message ? span("text", printText(front)) : span(`badge ${kind.replace(" ", "-")}`, kind);
+  const digits = message ? printHex(front) + (isCut ? ` … ${counted(message.length, "byte")}` : "") : note;
+  element.className = `row${number === chosen ? " active" : ""}`;
+  element.id = `line-row-${number}`;
+  element.setAttribute("role", "option");
+  element.setAttribute("aria-selected", String(number === chosen));
+  element.dataset.number = number;
+  element.replaceChildren(span("number", String(number)), span("time", clock(time)), span("way", way === "out" ? "→" : "←"), what, span("digits", digits));
+  element.setAttribute("aria-label", `${way === "out" ? "sent" : "received"} ${kind}, ${message ? `${what.textContent}, ${digits}` : digits}`);
+}
+
+/** Shows all of a row below the log. */
+function open(number) {
+  chosen = number;
+  const at = log.entries.findIndex((entry) => entry.number === number);
+  if (at < 0) return;
+  const { message, kind, note, time, way } = log.entries[at];
+  const more = message && message.length > OPENED_BYTES ? `\n… and ${counted(message.length - OPENED_BYTES, "more byte")}` : "";
+  byId("line-opened").hidden = false;
+  byId("line-opened-title").textContent = `${way === "out" ? "Sent" : "Received"} at ${clock(time)}: ${message ? counted(message.length, "byte") : `${kind} ${note}`}`;
+  byId("line-opened-text").textContent = message ? printText(message.subarray(0, OPENED_BYTES)) : "";
+  byId("line-opened-hex").textContent = message ? printHex(message.subarray(0, OPENED_BYTES)) + more : "";
+  rows.refresh();
+  rows.reveal(at);
+  byId("line-log").setAttribute("aria-activedescendant", `line-row-${number}`);
+}
+
+function onKey(event) {
+  const last = log.entries.length - 1;
+  const at = log.entries.findIndex((entry) => entry.number === chosen);
+  const to = { ArrowUp: at < 0 ? last : at - 1, ArrowDown: at < 0 ? last : at + 1, Home: 0, End: last }[event.key];
+  if (to === undefined || last < 0) return;
+  event.preventDefault();
+  open(log.entries[Math.min(last, Math.max(0, to))].number);
 }
 
 function setConnected(isConnected) {
-  for (const id of ["line-loop", "line-baud", "line-room", "line-sentinel"]) byId(id).disabled = isConnected;
-  byId("line-connect").disabled = isConnected || !("serial" in navigator);
-  byId("line-close").disabled = !isConnected;
-  byId("line-submit").disabled = !isConnected;
+  for (const id of [...SETTINGS, "line-loop"]) byId(id).disabled = isConnected || isBusy;
+  byId("line-connect").disabled = isConnected || isBusy || !("serial" in navigator);
+  byId("line-close").disabled = !isConnected || isBusy;
+  byId("line-submit").disabled = !isConnected || isBusy;
+  for (const id of ["line-dtr", "line-rts"]) byId(id).disabled = !isConnected || !connectedPort?.setSignals;
 }
 
-async function connect(choose, name) {
+const settings = () => ({
+  baudRate: byId("line-baud").valueAsNumber,
+  dataBits: Number(byId("line-data").value),
+  parity: byId("line-parity").value,
+  stopBits: Number(byId("line-stop").value),
+  flowControl: byId("line-flow").value,
+  bufferSize: PORT_BUFFER,
+});
+
+async function connect(choose, name, skipFirst) {
+  if (connection || isBusy) return;
   const maxLength = readRoom(byId("line-room"), byId("line-error"));
-  const byte = maxLength === null ? null : readSentinel(byId("line-sentinel"), byId("line-error"));
-  if (byte === null) return;
+  const sentinel = maxLength === null ? null : readSentinel(byId("line-sentinel"), byId("line-error"));
+  if (sentinel === null) return;
   fault(null);
+  isBusy = true;
+  setConnected(false);
   try {
-    const chosen = await choose();
-    await chosen.open({ baudRate: byId("line-baud").valueAsNumber });
-    port = chosen;
+    connectedPort = await choose();
+    await connectedPort.open(settings());
+    connection = new Connection(connectedPort, { maxLength, sentinel, skipFirst }, {
+      outcome: receive,
+      left: (bytes) => add({ way: "in", kind: "left out", note: `${counted(bytes, "byte")} through the first sentinel, where a frame may have begun before` }),
+      fault: (error) => fault(`The line reported: ${error.message}`),
+    });
   } catch (error) {
     fault(error.name === "NotFoundError" ? "No device was chosen." : `The device could not be opened: ${error.message}`);
-    return;
   }
-  sentinel = byte;
-  isClosing = false;
-  setConnected(true);
+  isBusy = false;
+  setConnected(connection !== null);
+  if (connection === null) return;
+  byId("line-close").focus();
   status(`Connected to ${name}.`);
-  await receive(maxLength);
-  await disconnect();
-}
-
-/** Reads until the port closes. A fault of the line ends one stream, and the port then has another. */
-async function receive(maxLength) {
-  while (port?.readable && !isClosing) {
-    reader = port.readable.pipeThrough(new FrameDecoderStream({ maxLength, sentinel })).getReader();
-    try {
-      for (let next = await reader.read(); !next.done; next = await reader.read()) note(next.value);
-      return;
-    } catch (error) {
-      if (isClosing) return;
-      fault(`The line reported: ${error.message}`);
-      if (error.name === "NetworkError") return;
-    }
-  }
+  const own = connection;
+  await own.receive();
+  if (connection === own) await disconnect();
 }
 
 async function disconnect() {
-  if (!port) return;
-  const closed = port;
-  port = null;
-  isClosing = true;
-  await reader?.cancel().catch(() => {});
-  await closed.close().catch((error) => fault(`The device could not be closed: ${error.message}`));
+  if (!connection || isBusy) return;
+  isBusy = true;
+  setConnected(true);
+  const closed = connection;
+  const wasHere = document.activeElement === byId("line-close") || document.activeElement === document.body;
+  // a device that was pulled out is closed already, and its fault is in sight
+  await closed.close().catch((error) => byId("line-error").hidden && fault(`The device could not be closed: ${error.message}`));
+  connection = null;
+  connectedPort = null;
+  isBusy = false;
   setConnected(false);
   status("Not connected.");
+  if (wasHere) byId(byId("line-connect").disabled ? "line-loop" : "line-connect").focus();
+  listKnown();
 }
 
 async function send() {
@@ -130,37 +181,90 @@ async function send() {
   const isHex = document.querySelector('input[name="line-kind"]:checked').value === "hex";
   const { bytes, error } = isHex ? parseHex(input.value) : { bytes: new TextEncoder().encode(input.value) };
   complain(input, error ?? null, byId("line-text-error"));
-  if (error || !port?.writable) return;
-  const writer = port.writable.getWriter();
+  if (error || !connection) return;
+  input.select();
   try {
-    await writer.write(encode(bytes, { sentinel, terminated: true }));
-    input.select();
+    await connection.send(bytes);
+    totals.sent++;
+    add({ way: "out", kind: "message", message: bytes });
   } catch (refused) {
-    complain(input, `It was not sent: ${refused.message}`, byId("line-text-error"));
-  } finally {
-    writer.releaseLock();
+    complain(input, `“${input.value.slice(0, 40)}” was not sent: ${refused.message}`, byId("line-text-error"));
   }
 }
 
 function clear() {
-  log.length = 0;
-  Object.assign(totals, { messages: 0, broken: 0, tooLong: 0, bytes: 0 });
-  number = 0;
+  log.clear();
+  Object.assign(totals, { messages: 0, broken: 0, tooLong: 0, bytes: 0, sent: 0 });
+  chosen = -1;
+  byId("line-opened").hidden = true;
+  byId("line-log").removeAttribute("aria-activedescendant");
   paint();
 }
+
+function pause() {
+  isPaused = !isPaused;
+  byId("line-pause").setAttribute("aria-pressed", String(isPaused));
+  byId("line-pause").textContent = isPaused ? "Go on" : "Pause";
+  paint();
+}
+
+async function loadLog(file) {
+  if (!file) return;
+  const { entries, error } = readLog(await file.text());
+  fault(error ?? null);
+  if (error) return;
+  clear();
+  for (const entry of entries) add(entry);
+  status(`${counted(entries.length, "row")} of ${file.name}.`);
+}
+
+/** Lists the devices that were chosen before, which need no question. */
+async function listKnown() {
+  known = (await navigator.serial?.getPorts?.()) ?? [];
+  const hex4 = (number) => number.toString(16).padStart(4, "0");
+  const name = ({ usbVendorId, usbProductId }) => (usbVendorId === undefined ? "a port without USB" : `USB ${hex4(usbVendorId)}:${hex4(usbProductId)}`);
+  const options = [new Option("ask", ""), ...known.map((port, i) => new Option(name(port.getInfo()), String(i)))];
+  byId("line-known").replaceChildren(...options);
+  byId("line-known").closest("label").hidden = known.length === 0;
+}
+
+function choosePort() {
+  const port = known[byId("line-known").value === "" ? -1 : Number(byId("line-known").value)];
+  return port ?? navigator.serial.requestPort();
+}
+
+const setSignal = (name, isOn) => connectedPort?.setSignals?.({ [name]: isOn }).catch((error) => fault(`The signal could not be set: ${error.message}`));
 
 export function startLine() {
   rows = new Rows(byId("line-log"), { height: ROW_HEIGHT, fill: fillRow });
   byId("line-lacking").hidden = "serial" in navigator;
-  byId("line-connect").addEventListener("click", () => connect(() => navigator.serial.requestPort(), "the device"));
-  byId("line-loop").addEventListener("click", () => connect(async () => new LoopPort(() => byId("line-noise").checked), "the loop"));
+  byId("line-connect").addEventListener("click", () => connect(choosePort, "the device", true));
+  byId("line-loop").addEventListener("click", () => connect(async () => new LoopPort(() => byId("line-noise").checked), "the loop", false));
   byId("line-close").addEventListener("click", disconnect);
   byId("line-clear").addEventListener("click", clear);
+  byId("line-pause").addEventListener("click", pause);
+  byId("line-save").addEventListener("click", () => save("line.log", writeLog(log.entries)));
+  byId("line-load").addEventListener("change", async ({ target }) => {
+    await loadLog(target.files[0]);
+    target.value = ""; // so that the same file can be loaded again
+  });
+  byId("line-dtr").addEventListener("change", (event) => setSignal("dataTerminalReady", event.target.checked));
+  byId("line-rts").addEventListener("change", (event) => setSignal("requestToSend", event.target.checked));
+  byId("line-log").addEventListener("click", (event) => {
+    const row = event.target.closest("[data-number]");
+    if (row) open(Number(row.dataset.number));
+  });
+  byId("line-log").addEventListener("keydown", onKey);
+  navigator.serial?.addEventListener?.("connect", (event) => {
+    listKnown();
+    if (byId("line-again").checked) connect(async () => event.target, "the device", true);
+  });
   byId("line-port").addEventListener("submit", (event) => event.preventDefault());
   byId("line-send").addEventListener("submit", (event) => {
     event.preventDefault();
     send();
   });
   setConnected(false);
+  listKnown();
   paint();
 }

@@ -1,11 +1,11 @@
 // The page: it loads the module, and then shows one of three views at a time.
 import { load } from "../jcobs.js";
 import { style } from "../draw.js";
+import { VIEWS, hashOf, readAddress } from "./address.js";
 import { startLine } from "./line.js";
-import { startMessage } from "./message.js";
-import { startStream } from "./stream.js";
+import { setMessage, startMessage } from "./message.js";
+import { setStream, startStream } from "./stream.js";
 
-const VIEWS = ["message", "stream", "line"];
 const tab = (view) => document.getElementById(`tab-${view}`);
 
 function show(view) {
@@ -19,13 +19,8 @@ function show(view) {
 
 /** Shows a view and names it in the address, which setting the hash would do with a jump of the page. */
 function goTo(view) {
-  if (view !== viewOfHash()) history.pushState(null, "", `#${view}`);
+  if (view !== readAddress().view) history.pushState(null, "", hashOf(view));
   show(view);
-}
-
-function viewOfHash() {
-  const named = location.hash.slice(1);
-  return VIEWS.includes(named) ? named : VIEWS[0];
 }
 
 function startTabs() {
@@ -40,21 +35,34 @@ function startTabs() {
       tab(next).focus();
     });
   }
-  for (const event of ["hashchange", "popstate"]) addEventListener(event, () => show(viewOfHash()));
-  show(viewOfHash());
+  const take = () => {
+    const { view, values } = readAddress();
+    show(view);
+    if (values.has("hex")) ({ message: setMessage, stream: setStream })[view]?.(values);
+  };
+  addEventListener("hashchange", take);
+  addEventListener("popstate", () => show(readAddress().view));
+  addEventListener("jcobs-open", ({ detail: { view, values } }) => {
+    goTo(view);
+    setStream(values);
+    tab(view).focus();
+  });
+  take();
 }
 
-const pictureStyle = document.createElement("style");
-pictureStyle.textContent = style(".picture svg");
-document.head.append(pictureStyle);
+// not an element, which the content security policy would have to allow
+const pictureStyle = new CSSStyleSheet();
+pictureStyle.replaceSync(style(".picture svg"));
+document.adoptedStyleSheets = [...document.adoptedStyleSheets, pictureStyle];
 
+document.getElementById("loading").hidden = true;
 try {
   await load();
   document.getElementById("views").hidden = false;
-  startTabs();
   startMessage();
   startStream();
   startLine();
+  startTabs();
   document.documentElement.dataset.ready = "yes";
 } catch (error) {
   const place = document.getElementById("unsupported");

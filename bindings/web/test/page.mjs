@@ -1,17 +1,21 @@
-// The page in Chromium, driven by keys, clicks and pastes: node page.mjs
-import { readFile } from "node:fs/promises";
-import { mkdtemp, rm, writeFile } from "node:fs/promises";
+// The page in Chromium, driven by keys, clicks and pastes: node page.mjs [PART OF A NAME]
+import { execFileSync } from "node:child_process";
+import { mkdtemp, readFile, readdir, rm, writeFile } from "node:fs/promises";
 import { tmpdir } from "node:os";
 import { join } from "node:path";
+import { fileURLToPath, pathToFileURL } from "node:url";
 import { load } from "../jcobs.js";
 import { serve } from "../serve.mjs";
 import { Browser } from "./chromium.mjs";
 import { encode as plainEncode } from "./plain.js";
-import { check, equal, holds, report } from "./tally.mjs";
+import { check as checkAny, count as countAny, equal, holds, report } from "./tally.mjs";
 
 await load(await readFile(new URL("../cobs.wasm", import.meta.url)));
-const { server, address } = await serve();
+const conformance = fileURLToPath(new URL("../../../conformance", import.meta.url));
+const { server, address } = await serve(0, { conformance });
 const browser = await Browser.start(process.env.CHROMIUM ?? "chromium");
+const wanted = process.argv[2] ?? ""; // a part of the names of the checks to run
+const check = (name, act) => (name.includes(wanted) ? checkAny(name, act) : undefined);
 console.log(`page: in ${await browser.version()}`);
 
 const READY = "document.documentElement.dataset.ready === 'yes'";
@@ -49,6 +53,8 @@ async function longestPause(page, act) {
 }
 
 // Message
+
+const summary = (page, words) => page.until(`document.getElementById("stream-status").textContent.includes(${JSON.stringify(words)})`);
 
 const facts = async (page) => {
   const read = (name) => page.text(`#message-${name}`);
@@ -97,6 +103,20 @@ await check("message: another sentinel", () => on("message", async (page) => {
   await page.fill("#message-sentinel", "zz");
   await page.until('document.getElementById("message-sentinel-error").textContent.includes("zz")');
   equal(await page.text("#message-frame"), "a9 a0 a1 a8 a6", "the frame of the last good sentinel");
+}));
+
+await check("message: over the bytes are those of the message, whatever the sentinel", () => on("message", async (page) => {
+  const over = () => page.value('[...document.querySelectorAll("#message-drawing text.over, #message-drawing text.zero")].map((each) => each.textContent).filter((text) => text)');
+  for (const [sentinel, codes] of [["00", ["03", "02"]], ["aa", ["a9", "a8"]], ["03", ["00", "01"]]]) {
+    await page.fill("#message-sentinel", sentinel);
+    await page.until(`document.querySelector("#message-drawing text.on").textContent === "${codes[0]}"`);
+    equal((await over()).slice(0, 4), ["0a", "0b", "0", "0c"], `with the sentinel ${sentinel}`);
+    equal(await page.value('[...document.querySelectorAll("#message-drawing text.on")].map((each) => each.textContent)'), codes, "the codes");
+  }
+  await page.fill("#message-sentinel", "20");
+  await page.click('[data-text="hello world"]');
+  await page.until('[...document.querySelectorAll("#message-drawing text.over")].map((each) => each.textContent).join("").startsWith("hello20world")');
+  holds((await page.value('document.querySelector("#message-drawing svg").getAttribute("aria-label")')).includes("48 for 68"), "a screen reader hears both bytes");
 }));
 
 await check("message: bad hex is named, and nothing is lost", () => on("message", async (page) => {
@@ -159,9 +179,88 @@ for (const [name, make, how] of [
   }));
 }
 
+await check("message: bytes that are a frame, or a stream, are offered to be read so", () => on("message", async (page) => {
+  await chooseHex(page);
+  await page.fill("#message-input", "{0x03, 0x0a, 0x0b, 0x02, 0x0c}");
+  await page.until('document.getElementById("message-offer-text").textContent.includes("are a frame")');
+  await page.until('document.getElementById("message-status").textContent.includes("Read as a list.")');
+  await page.click("#message-decode");
+  await page.until('document.getElementById("message-frame").textContent === "03 0a 0b 02 0c"');
+  await page.fill("#message-input", "03 0a 0b 00 02 07 00");
+  await page.until('document.getElementById("message-offer-text").textContent.includes("a stream of frames")');
+  await page.click("#message-stream");
+  await page.until('!document.getElementById("stream").hidden');
+  await summary(page, "7 bytes, 2 pieces: 2 messages.");
+}));
+
+await check("message: a link gives the same message, and text becomes bytes and back", () => on("message", async (page) => {
+  await chooseHex(page);
+  await page.fill("#message-input", "68 c3 a9");
+  await page.fill("#message-sentinel", "aa");
+  await page.until('location.hash === "#message&hex=68c3a9&as=hex&sentinel=aa"');
+  await chooseText(page);
+  await page.until('document.getElementById("message-input").value === "hé"');
+  await page.until('location.hash === "#message&hex=68c3a9&as=text&sentinel=aa"');
+  await page.value('document.getElementById("message-form").value = "link"');
+  await page.click("#message-copy");
+  await page.until('document.getElementById("message-copied").textContent === "The link is copied."');
+  const link = await page.value("navigator.clipboard.readText()");
+  const frame = await page.text("#message-frame");
+  const other = await browser.open(link);
+  await other.until(READY);
+  await other.until(`document.getElementById("message-frame").textContent === "${frame}"`);
+  equal(await other.value('document.getElementById("message-input").value'), "hé", "the text");
+  await other.close();
+  await chooseHex(page);
+  await page.until('document.getElementById("message-input").value === "68 c3 a9"');
+  await page.value('document.getElementById("message-form").value = "c"');
+  await page.click("#message-ended");
+  await page.click("#message-copy");
+  await page.until('document.getElementById("message-copied").textContent === "5 bytes copied."');
+  equal(await page.value("navigator.clipboard.readText()"), "static const unsigned char frame[5] = {0xae, 0xc2, 0x69, 0x03, 0xaa};\n", "as C, with the sentinel");
+}));
+
+await check("message: a frame that is edited changes its message", () => on("message", async (page) => {
+  for (const [sentinel, frame] of [["00", "03 0a 0b 02 0c"], ["aa", "a9 a0 a1 a8 a6"]]) {
+    await page.fill("#message-sentinel", sentinel);
+    await page.until(`document.getElementById("message-frame-edit").value === "${frame}"`);
+    const changed = `${frame.slice(0, -2)}${sentinel === "00" ? "0d" : "a7"}`;
+    await page.fill("#message-frame-edit", changed);
+    await page.until('document.getElementById("message-input").value === "0a 0b 00 0d"');
+    await page.until(`document.getElementById("message-frame").textContent === "${changed}"`);
+    await page.fill("#message-frame-edit", sentinel === "00" ? "05 0a" : "af a0");
+    await page.until('document.getElementById("message-frame-error").textContent.includes("breaks off")');
+    equal(await page.value('document.getElementById("message-input").value'), "0a 0b 00 0d", "the message stays");
+    await page.fill("#message-frame-edit", `a0 ${sentinel} a1`);
+    await page.until('document.getElementById("message-frame-error").textContent.includes("has no sentinel")');
+    await page.click("#message-input");
+    await page.until(`document.getElementById("message-frame-edit").value === "${changed}" && document.getElementById("message-frame-error").hidden`);
+    await page.fill("#message-input", "0a 0b 00 0c");
+    await page.until(`document.getElementById("message-frame").textContent === "${frame}"`);
+  }
+}));
+
+await check("message: step by step", () => on("message", async (page) => {
+  await page.click("#message-steps summary");
+  const bytes = (name) => page.value(`document.getElementById("steps-${name}").textContent`);
+  const last = async () => {
+    for (let i = 0; i < 12; i++) if (!(await page.value('document.getElementById("steps-next").disabled'))) await page.click("#steps-next");
+  };
+  equal(await bytes("in"), "0a0b000c", "the message");
+  await page.click("#steps-next");
+  equal([await bytes("out"), await page.text("#steps-code .on")], ["000a", "    out.push(byte); code += 1"], "after a step");
+  await last();
+  equal(await bytes("out"), "030a0b020c", "the frame");
+  await page.value('(() => { const which = document.getElementById("steps-which"); which.value = "decoder"; which.dispatchEvent(new Event("change")); })()');
+  equal([await bytes("in"), await bytes("out")], ["030a0b020c", ""], "the decoder");
+  await last();
+  equal(await bytes("out"), "0a0b000c", "the message");
+  await page.click('[data-run="255"]');
+  await page.until('document.getElementById("steps-in").textContent.length === 2 * 257');
+}));
+
 // Stream
 
-const summary = (page, words) => page.until(`document.getElementById("stream-status").textContent.includes(${JSON.stringify(words)})`);
 const outcomes = (page) => page.value('[...document.querySelectorAll("#stream-pieces .outcome")].map((row) => row.textContent)');
 const badges = (page) => page.value('[...document.querySelectorAll("#stream-pieces .badge")].map((badge) => badge.textContent)');
 const STREAM = "03 0a 0b 02 0c 00 02 07 02 09 00 00 03 05 06 00 05 01 00 07 01 02 03 04 05 06 00 02";
@@ -210,6 +309,118 @@ await check("stream: a damaged sentinel joins two pieces", () => on("stream", as
   await summary(page, "1 byte damaged: 3 of the 5 pieces came through as before");
 }));
 
+await check("stream: another sentinel", () => on("stream", async (page) => {
+  await fillStream(page, STREAM);
+  await summary(page, "5 pieces: 4 messages, 1 broken");
+  const before = await outcomes(page);
+  await page.fill("#stream-sentinel", "55");
+  await summary(page, "0 pieces");
+  await fillStream(page, STREAM.split(" ").map((pair) => (parseInt(pair, 16) ^ 0x55).toString(16).padStart(2, "0")).join(" "));
+  await summary(page, "28 bytes, 5 pieces: 4 messages, 1 broken. The last bytes have no sentinel");
+  equal(await outcomes(page), before, "the outcomes");
+  const marked = (name) => page.value(`[...document.querySelectorAll("#stream-pieces .byte.${name}")].map((each) => Number(each.dataset.at))`);
+  equal(await marked("end"), [5, 10, 11, 15, 18, 26], "the sentinels");
+  equal(await marked("code"), [0, 3, 6, 8, 12, 16, 19, 27], "the codes");
+  await page.value('document.getElementById("stream-damage").value = "sentinel"');
+  await page.click("#byte-1");
+  await page.until('document.getElementById("byte-1").textContent === "55"');
+  await summary(page, "1 byte damaged");
+}));
+
+await check("stream: sentinels after the last frame are no unfinished piece", () => on("stream", async (page) => {
+  for (const [text, said, wanted] of [
+    ["03 0a 0b 00 00", "1 piece: 1 message.", ["message", "idle"]],
+    ["00 00", "0 pieces.", ["idle"]],
+    ["00 00 01 00 00 02", "1 piece: 1 message. The last bytes have no sentinel", ["message", "unfinished"]],
+    ["05 00 05 01 00", "2 pieces: 2 broken.", ["broken", "broken"]],
+  ]) {
+    await fillStream(page, text);
+    await summary(page, said);
+    equal(await badges(page), wanted, `the badges of ${text}`);
+    equal((await page.text("#stream-status")).includes("no sentinel"), wanted.includes("unfinished"), "what the line above says of its end");
+  }
+  equal((await outcomes(page)).map((row) => row.replace(/^\d+/, "")), ["brokenafter 0 bytes of output", "brokenafter 1 byte of output"], "the outcomes");
+}));
+
+await check("stream: each kind of damage writes what it says", () => on("stream", async (page) => {
+  await fillStream(page, STREAM);
+  await summary(page, "5 pieces");
+  for (const [how, at, wanted] of [["flip", 1, "0b"], ["zero", 2, "00"], ["ff", 4, "ff"], ["sentinel", 9, "00"]]) {
+    await page.value(`document.getElementById("stream-damage").value = "${how}"`);
+    await page.click(`#byte-${at}`);
+    await page.until(`document.getElementById("byte-${at}").textContent === "${wanted}"`);
+  }
+}));
+
+await check("stream: damage that makes another message is called so", () => on("stream", async (page) => {
+  await fillStream(page, STREAM);
+  await summary(page, "5 pieces");
+  await page.click("#byte-1");
+  await summary(page, "4 of the 5 pieces came through as before. 1 message that nobody sent");
+  equal(await badges(page), ["altered message", "message", "message", "broken", "message", "unfinished"], "the badges");
+  await page.click("#byte-1");
+  await summary(page, "4 messages, 1 broken");
+  await page.click("#byte-5"); // a sentinel becomes 01: two frames become one message
+  await summary(page, "3 of the 5 pieces came through as before. 1 message that nobody sent");
+  equal((await badges(page))[0], "altered message", "the first badge");
+}));
+
+await check("stream: a list that is higher than browsers draw", () => on("stream", async (page) => {
+  const count = 120_000; // of 2 rows each, 36 pixels high
+  await fillStream(page, "01 00 ".repeat(count));
+  await summary(page, `${count.toLocaleString("en")} pieces: ${count.toLocaleString("en")} messages`);
+  const inSight = (at) => page.until(`(() => {
+    const box = document.getElementById("stream-pieces").getBoundingClientRect();
+    const cell = document.getElementById("byte-${at}")?.getBoundingClientRect();
+    return cell && cell.top >= box.top - 1 && cell.bottom <= box.bottom + 1;
+  })()`);
+  await page.click("#stream-pieces");
+  await page.press("End");
+  await inSight(2 * count - 1);
+  await page.press("ArrowUp");
+  await page.press("Home");
+  await inSight(0);
+  await page.value('(() => { const box = document.getElementById("stream-pieces"); box.scrollTop = (box.scrollHeight - box.clientHeight) / 2; })()');
+  await inSight(count);
+  const rows = await page.value('[...document.querySelectorAll("#stream-pieces .row")].map((row) => row.getBoundingClientRect().top)');
+  const steps = new Set(rows.slice(1).map((top, i) => Math.round(top - rows[i])));
+  equal([...steps], [52], "how far rows are from each other");
+}));
+
+await check("stream: a link gives the same stream with its damage", () => on("stream", async (page) => {
+  await page.fill("#stream-room", "5");
+  await fillStream(page, STREAM);
+  await summary(page, "1 too long");
+  await page.click("#byte-8");
+  await summary(page, "1 byte damaged");
+  await page.click("#stream-link");
+  await page.until('document.getElementById("stream-copied").textContent === "The link is copied."');
+  const [rows, said] = [await outcomes(page), await page.text("#stream-status")];
+  const other = await browser.open(await page.value("navigator.clipboard.readText()"));
+  await other.until(READY);
+  await other.until(`document.getElementById("stream-status").textContent === ${JSON.stringify(said)}`);
+  equal(await outcomes(other), rows, "the outcomes");
+  await other.close();
+}));
+
+await check("stream: arcs lead from code to code, and each byte is explained", () => on("stream", async (page) => {
+  for (const sentinel of [0, 0x55]) {
+    await page.fill("#stream-sentinel", sentinel.toString(16).padStart(2, "0"));
+    await fillStream(page, STREAM.split(" ").map((pair) => hex([parseInt(pair, 16) ^ sentinel])).join(" "));
+    await page.until('document.querySelectorAll("#stream-pieces .byte").length === 28 && document.getElementById("stream-status").textContent.includes("5 pieces")');
+    const arcs = await page.value('[...document.querySelectorAll("#stream-pieces .row")].map((row) => [row.querySelectorAll(".arc:not(.bad)").length, row.querySelectorAll(".arc.bad").length])');
+    equal(arcs.filter(([good, bad]) => good + bad > 0), [[2, 0], [2, 0], [1, 0], [0, 1], [1, 0], [0, 1]], "arcs of each piece, whole and broken");
+    await page.value('document.getElementById("stream-pieces").focus()');
+    await page.press("Home");
+    for (const words of ["the first code. The next code, or the end, is 3 bytes on.", "a byte of the message, as it is.", "a byte of the message", "a code, in place of a zero of the message. The next code, or the end, is 2 bytes on.", "a byte of the message", "the sentinel. It ends piece 1."]) {
+      await page.until(`document.getElementById("stream-explained").textContent.includes(${JSON.stringify(words)})`);
+      await page.press("ArrowRight");
+    }
+    await page.press("End");
+    await page.until('document.getElementById("stream-explained").textContent.includes("It leads past the end of the piece")');
+  }
+}));
+
 await check("stream: by the keyboard alone", () => on("stream", async (page) => {
   await fillStream(page, STREAM);
   await summary(page, "5 pieces");
@@ -225,7 +436,7 @@ await check("stream: by the keyboard alone", () => on("stream", async (page) => 
   await page.press(" ");
   await page.press("End");
   equal(await page.value('document.getElementById("stream-pieces").getAttribute("aria-activedescendant")'), "byte-27", "the last byte");
-  holds((await page.value('document.getElementById("byte-27").getAttribute("aria-label")')) === "Byte 27: 02, code", "what it is called");
+  holds((await page.value('document.getElementById("byte-27").getAttribute("aria-label")')) === "Byte 27: 02, code, piece 6: unfinished no sentinel yet", "what it is called");
 }));
 
 await check("stream: bad hex is named, and nothing is lost", () => on("stream", async (page) => {
@@ -303,6 +514,9 @@ await check("stream: a file", async () => {
 const counter = (page, name, wanted) => page.until(`document.getElementById("line-${name}").textContent === "${wanted}"`);
 const logged = (page) => page.value('[...document.querySelectorAll("#line-log .row")].map((row) => [...row.children].slice(1).map((each) => each.textContent))');
 
+/** The rows of the log that came in, each as what it is and its digits. */
+const cameIn = async (page) => (await logged(page)).filter(([, way]) => way === "←").map(([, , ...rest]) => rest);
+
 await check("line: the loop gives back what is sent, as text and hex", () => on("line", async (page) => {
   equal(await page.value('document.getElementById("line-submit").disabled'), true, "nothing to send to yet");
   await page.click("#line-loop");
@@ -314,8 +528,8 @@ await check("line: the loop gives back what is sent, as text and hex", () => on(
   await page.fill("#line-text", "00 01 00");
   await page.click("#line-submit");
   await counter(page, "messages", 2);
-  await page.until('document.querySelectorAll("#line-log .row").length === 2');
-  equal(await logged(page), [["hello", "68 65 6c 6c 6f"], ["···", "00 01 00"]], "what came in");
+  await page.until('document.querySelectorAll("#line-log .row").length === 4');
+  equal((await cameIn(page)), [["hello", "68 65 6c 6c 6f"], ["···", "00 01 00"]], "what came in");
   equal(await page.text("#line-bytes"), "8", "bytes");
   await page.fill("#line-text", "0g");
   await page.press("Enter");
@@ -340,51 +554,167 @@ await check("line: broken and too long frames are counted, and the next comes th
   await counter(page, "messages", 3);
   await counter(page, "broken", 1);
   await counter(page, "too-long", 1);
-  await page.until('document.querySelectorAll("#line-log .row").length === 5');
-  equal((await logged(page)).map(([first]) => first), ["one", "two", "broken", "too long", "five"], "what came in");
+  await page.until('document.querySelectorAll("#line-log .row").length === 10');
+  equal((await cameIn(page)).map(([first]) => first), ["one", "two", "broken", "too long", "five"], "what came in");
 }));
 
-/** A device with Web Serial's interface: it sends its frames one byte a time, breaks the line off once, and keeps what it is sent. */
-const DEVICE = `
-  const device = (globalThis.device = { opened: null, sent: [], openings: 0 });
-  const frames = [3, 104, 105, 0, 5, 1, 0, 2];
-  const port = {
-    async open(options) {
-      device.opened = options;
-      this.readable = line(false);
-      this.writable = new WritableStream({ write: (bytes) => void device.sent.push(...bytes) });
-    },
-    async close() {
-      this.readable = this.writable = null;
-      device.opened = null;
-    },
-  };
-  const line = (isSecond) => new ReadableStream({
-    start(controller) {
-      for (const byte of isSecond ? [33, 0, 3, 111, 107, 0] : frames) controller.enqueue(Uint8Array.of(byte));
-      if (isSecond) return;
-      setTimeout(() => {
-        port.readable = line(true);
-        controller.error(new DOMException("Framing error", "FramingError"));
-      }, 200);
-    },
-  });
-  Object.defineProperty(navigator, "serial", { value: { requestPort: async () => (device.openings++, port) }, configurable: true });
-`;
+const counts = (page) => page.value('["messages", "broken", "too-long", "sent"].map((name) => Number(document.getElementById(`line-${name}`).textContent))');
+const isConnected = '!document.getElementById("line-submit").disabled';
+const isNotConnected = 'document.getElementById("line-status").textContent === "Not connected."';
+const said = (page) => page.text("#line-error");
+const xored = (bytes, sentinel) => bytes.map((byte) => byte ^ sentinel).join();
 
-await check("line: a device by Web Serial", () => on("line", async (page) => {
-  await page.fill("#line-baud", "57600");
+/** test/port.js in the page, as the port that Web Serial gives. */
+const DEVICE = (await readFile(new URL("port.js", import.meta.url), "utf8")).replace("export class", "class") + `
+  const port = (globalThis.port = new FakePort());
+  Object.defineProperty(navigator, "serial", { value: { requestPort: async () => port, getPorts: async () => [port], addEventListener() {} }, configurable: true });
+`;
+const withDevice = { before: DEVICE };
+
+for (const sentinel of [0, 0x55]) {
+  await check(`line: a device with the sentinel ${sentinel}, sending and receiving`, () => on("line", async (page) => {
+    await page.fill("#line-baud", "57600");
+    await page.fill("#line-sentinel", sentinel.toString(16).padStart(2, "0"));
+    await page.click("#line-port summary");
+    await page.value('document.getElementById("line-parity").value = "even"');
+    await page.click("#line-connect");
+    await page.until(isConnected);
+    equal(await page.value("[port.opened.baudRate, port.opened.parity, port.opened.dataBits, port.opened.stopBits, port.opened.flowControl]"), [57600, "even", 8, 1, "none"], "the settings");
+    await page.value(`port.give(${xored([9, 9, 0, 3, 104], sentinel)})`);
+    await page.value(`port.give(${xored([105, 0, 5, 1, 0], sentinel)})`);
+    await counter(page, "broken", 1);
+    equal(await counts(page), [1, 1, 0, 0], "messages, broken, too long, sent");
+    await page.fill("#line-text", "hi");
+    await page.press("Enter");
+    await page.until(`port.sent.join() === '${xored([3, 104, 105, 0], sentinel)}'`);
+    await counter(page, "sent", 1);
+    await page.until('document.querySelectorAll("#line-log .row").length === 4');
+    equal((await logged(page)).map((row) => row.slice(1)), [
+      ["←", "left out", "3 bytes through the first sentinel, where a frame may have begun before"],
+      ["←", "hi", "68 69"],
+      ["←", "broken", "after 1 byte of output"],
+      ["→", "hi", "68 69"],
+    ], "the rows");
+    await page.click("#line-dtr");
+    await page.until("port.signals?.dataTerminalReady === false");
+  }, withDevice));
+}
+
+await check("line: Disconnect closes the device, and Connect opens it again", () => on("line", async (page) => {
+  for (const milliseconds of [0, 1, 50]) {
+    await page.value(`port.cancelMilliseconds = ${milliseconds}`);
+    await page.click("#line-connect");
+    await page.until(isConnected);
+    await page.value("port.give(0, 2, 9, 0)");
+    await page.until('document.getElementById("line-messages").textContent !== "0"');
+    await page.click("#line-close");
+    await page.until(isNotConnected);
+    equal(await page.value("port.opened"), null, "the port");
+    equal(await said(page), "", "what is wrong");
+    equal(await page.value("document.activeElement.id"), "line-connect", "the focus");
+  }
+}, withDevice));
+
+await check("line: messages that are sent while one is under way go out too, and Disconnect waits for nothing", () => on("line", async (page) => {
+  await page.value("port.writeMilliseconds = 300");
   await page.click("#line-connect");
-  await page.until("device.opened?.baudRate === 57600");
-  await counter(page, "messages", 2);
-  await counter(page, "broken", 2);
-  await page.until('document.getElementById("line-error").textContent.includes("Framing error")');
-  await page.fill("#line-text", "hi");
+  await page.until(isConnected);
+  for (const text of ["one", "two", "three"]) {
+    await page.fill("#line-text", text);
+    await page.press("Enter");
+  }
+  await page.until("port.sent.join() === '4,111,110,101,0,4,116,119,111,0,6,116,104,114,101,101,0'");
+  await counter(page, "sent", 3);
+  await page.value("port.writeMilliseconds = 700");
+  await page.fill("#line-text", "four");
   await page.press("Enter");
-  await page.until("device.sent.join() === '3,104,105,0'");
   await page.click("#line-close");
-  await page.until("device.opened === null");
-}, { before: DEVICE }));
+  await page.until(isNotConnected);
+  equal(await page.value("port.opened"), null, "the port");
+  equal(await said(page), "", "what is wrong");
+}, withDevice));
+
+await check("line: after a fault of the line the rest of the frame isn't taken for a message", () => on("line", async (page) => {
+  await page.click("#line-connect");
+  await page.until(isConnected);
+  await page.value("port.give(0, 2, 7, 0, 5, 1, 2)");
+  await counter(page, "messages", 1);
+  await page.value('port.fail("BreakError")');
+  await page.until('document.getElementById("line-error").textContent.includes("the BreakError")');
+  await page.value("port.give(2, 9, 0, 2, 8, 0)");
+  await counter(page, "messages", 2);
+  equal((await logged(page)).map(([, , what]) => what), ["·", "left out", "·"], "the rows");
+  equal(await counts(page), [2, 0, 0, 0], "messages, broken, too long, sent");
+  await page.value('port.fail("NetworkError")');
+  await page.until(isNotConnected);
+  holds((await said(page)).includes("the NetworkError"), "the reason stays");
+}, withDevice));
+
+await check("line: the newest 1,000 rows are kept, and rows in sight stay while others come", () => on("line", async (page) => {
+  await page.click("#line-connect");
+  await page.until(isConnected);
+  await page.value("port.give(0); for (let i = 1; i <= 1200; i++) port.give(3, 1 + (i >> 8), 1 + (i & 127), 0)");
+  await counter(page, "messages", "1,200");
+  const numbers = () => page.value('[...document.querySelectorAll("#line-log .row .number")].map((each) => Number(each.textContent))');
+  await page.until('[...document.querySelectorAll("#line-log .row .number")].at(-1).textContent === "1200"');
+  await page.value('document.getElementById("line-log").scrollTop = 0');
+  await page.until('document.querySelector("#line-log .row .number").textContent === "201"');
+  await page.value('document.getElementById("line-log").scrollTop = 6000');
+  await page.until('document.querySelector("#line-log .row .number").textContent === "398"');
+  await page.value("port.give(2, 9, 0, 2, 9, 0, 2, 9, 0)");
+  await counter(page, "messages", "1,203");
+  await page.until('document.getElementById("line-log").scrollTop === 6000 - 90');
+  equal((await numbers())[0], 398, "the first row in the document");
+  await page.click("#line-pause");
+  await page.value("port.give(2, 9, 0)");
+  await counter(page, "messages", "1,204");
+  equal((await numbers())[0], 398, "the first row in the document, in a pause");
+  await page.click("#line-clear");
+  await page.click("#line-pause");
+  await page.until('document.querySelectorAll("#line-log .row").length === 0');
+}, withDevice));
+
+await check("line: a row opens, UTF-8 is text, and a log is saved and loaded", () => on("line", async (page) => {
+  await page.click("#line-loop");
+  await page.until(isConnected);
+  await page.fill("#line-text", "héllo wörld ✓");
+  await page.press("Enter");
+  await counter(page, "messages", 1);
+  await page.fill("#line-text", "x".repeat(100));
+  await page.press("Enter");
+  await counter(page, "messages", 2);
+  await page.until('document.querySelectorAll("#line-log .row").length === 4');
+  holds((await logged(page)).some(([, , text]) => text === "héllo wörld ✓"), "UTF-8 is shown as text");
+  await page.click("#line-log");
+  await page.press("Home");
+  await page.press("End");
+  await page.until('document.getElementById("line-opened-text").textContent.length === 100');
+  equal(await page.value('document.getElementById("line-log").getAttribute("aria-activedescendant")'), "line-row-4", "the row that is named");
+  await page.click("#line-row-1 .text");
+  await page.until('document.getElementById("line-opened-text").textContent === "héllo wörld ✓"');
+  const rows = await logged(page);
+  await page.value("URL.createObjectURL = (blob) => (globalThis.saved = blob.text(), 'data:,')");
+  await page.value("HTMLAnchorElement.prototype.click = () => {}");
+  await page.click("#line-save");
+  const text = await page.value("saved");
+  equal(text.split("\n").length, 5, "lines");
+  const folder = await mkdtemp(join(tmpdir(), "jcobs-log-"));
+  try {
+    await writeFile(join(folder, "line.log"), `${text}2026-11-23T10:00:00.000Z in # broken: after 3 bytes of output\n`);
+    await page.click("#line-clear");
+    const { root } = await page.send("DOM.getDocument");
+    const { nodeId } = await page.send("DOM.querySelector", { nodeId: root.nodeId, selector: "#line-load" });
+    await page.send("DOM.setFileInputFiles", { files: [join(folder, "line.log")], nodeId });
+    await page.until('document.querySelectorAll("#line-log .row").length === 5');
+    equal((await logged(page)).slice(0, 4), rows, "the rows");
+    equal((await logged(page))[4].slice(1), ["←", "broken", "after 3 bytes of output"], "the last");
+    await writeFile(join(folder, "line.log"), "nonsense\n");
+    await page.send("DOM.setFileInputFiles", { files: [join(folder, "line.log")], nodeId });
+    await page.until('document.getElementById("line-error").textContent.includes("Line 1 is no line of a log")');
+  } finally {
+    await rm(folder, { recursive: true });
+  }
+}));
 
 await check("line: a browser without Web Serial is told so, and has the loop", () => on("line", async (page) => {
   equal(await page.value('document.getElementById("line-connect").disabled'), true, "Connect is off");
@@ -407,6 +737,7 @@ await check("page: the tabs by the keyboard", () => on("message", async (page) =
 
 for (const view of ["message", "stream", "line"]) {
   await check(`page: every control of ${view} has a name, and Tab reaches it`, () => on(view, async (page) => {
+    await page.value('document.querySelectorAll("details").forEach((each) => (each.open = true))');
     const { nodes } = await page.send("Accessibility.getFullAXTree");
     const roles = new Set(["button", "textbox", "radio", "checkbox", "combobox", "spinbutton", "tab", "listbox", "option", "group", "log", "tabpanel", "tablist", "image"]);
     const nameless = nodes.filter((node) => !node.ignored && roles.has(node.role?.value) && !node.name?.value);
@@ -448,13 +779,67 @@ for (const view of ["message", "stream", "line"]) {
   }
 }
 
-await check("page: an engine without 64-bit memory is told what it lacks", async () => {
+await check("page: an engine that is too old is told so", async () => {
   const page = await browser.open(address, { before: "WebAssembly.validate = () => false" });
   await page.until('!document.getElementById("unsupported").hidden');
-  holds((await page.text("#unsupported")).includes("64-bit WebAssembly memory"), "it says why");
+  holds((await page.text("#unsupported")).includes("lacks the WebAssembly"), "it says why");
   equal(await page.value('document.getElementById("views").hidden'), true, "no view is shown");
   await page.close();
 });
+
+await check("page: every vector", () => on("message", async (page) => {
+  const names = (await readdir(conformance)).filter((name) => name.endsWith(".txt")).map((name) => `/conformance/${name}`);
+  const { cases, differ, said } = await page.value(`import("/test/cases.js").then(({ runServed }) => runServed("/cobs.wasm", ${JSON.stringify(names)}))`);
+  equal(said.filter((line) => !line.startsWith("left out")), [], "what differs");
+  countAny(cases - differ, differ);
+}));
+
+await check("page: the folder that build.sh makes serves it, under its content security policy", async () => {
+  const folder = await mkdtemp(join(tmpdir(), "jcobs-site-"));
+  try {
+    execFileSync(fileURLToPath(new URL("../build.sh", import.meta.url)), ["site", folder]);
+    const site = await serve(0, { site: folder });
+    const page = await browser.open(`${site.address}site/index.html#message&hex=0a00&sentinel=00`);
+    await page.until(READY);
+    await page.until('document.getElementById("message-frame").textContent === "02 0a 01"');
+    await page.until('getComputedStyle(document.querySelector("#message-drawing text.on")).fontWeight === "700"');
+    equal(await page.value('performance.getEntriesByType("resource").filter(({ name }) => !name.includes("/site/")).map(({ name }) => name)'), [], "requests beside the folder");
+    const policy = await page.value(`document.querySelector("meta[http-equiv]").content`);
+    holds(!policy.includes("unsafe-inline") && policy.startsWith("default-src 'none'"), "the policy is strict");
+    equal(page.faults, [], "what the page complained of on its console");
+    await page.close();
+    site.server.close();
+  } finally {
+    await rm(folder, { recursive: true });
+  }
+});
+
+await check("page: a page that is opened as a file, with dist/jcobs.cjs", async () => {
+  const folder = await mkdtemp(join(tmpdir(), "jcobs-opened-"));
+  try {
+    const script = "jcobs.load().then(() => (document.title = jcobs.encode(Uint8Array.of(10, 11, 0, 12)).join()))";
+    await writeFile(join(folder, "jcobs.cjs"), await readFile(new URL("../dist/jcobs.cjs", import.meta.url)));
+    await writeFile(join(folder, "page.html"), `<!doctype html><script src="jcobs.cjs"></script><script>${script}</script>`);
+    const page = await browser.open(pathToFileURL(join(folder, "page.html")).href);
+    await page.until('document.title === "3,10,11,2,12"');
+    await page.close();
+  } finally {
+    await rm(folder, { recursive: true });
+  }
+});
+
+await check("page: opened as a file it says why nothing is there", async () => {
+  const page = await browser.open(new URL("../index.html", import.meta.url).href);
+  await page.until('document.getElementById("loading")?.getClientRects().length === 1');
+  holds((await page.text("#loading")).includes("opened as a file"), "it says why");
+  await page.close();
+});
+
+await check("page: in forced colours", () => on("stream", async (page) => {
+  await page.send("Emulation.setEmulatedMedia", { features: [{ name: "forced-colors", value: "active" }] });
+  const seen = await page.value('(() => { const { backgroundColor, color } = getComputedStyle(document.querySelector(".byte.code")); return backgroundColor !== color && backgroundColor !== getComputedStyle(document.querySelector(".byte:not(.code)")).backgroundColor; })()');
+  holds(seen, "codes differ from other bytes");
+}));
 
 await check("page: it asks for nothing but its own files", () => on("message", async (page) => {
   const asked = await page.value('performance.getEntriesByType("resource").map((each) => each.name)');

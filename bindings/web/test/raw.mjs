@@ -1,6 +1,4 @@
 // The module's calls with nothing between: each buffer stands between guard bytes, which a call must leave alone.
-import { equal } from "./tally.mjs";
-
 const GUARD = 64;
 const GUARD_BYTE = 0xa5;
 const STATUS = ["ok", "more", "too_small", "invalid", "empty"];
@@ -28,19 +26,11 @@ export class Raw {
     const place = { at: this.end + GUARD, length: bytes.length };
     this.end = Math.ceil((place.at + bytes.length + GUARD) / 16) * 16;
     const missing = Math.ceil((this.end - this.#bytes.length) / 65536);
-    if (missing > 0) this.#grow(missing);
+    if (missing > 0) this.calls.memory.grow(missing);
     this.#bytes.fill(GUARD_BYTE, place.at - GUARD, this.end);
     this.#bytes.set(bytes, place.at);
     this.#places.push(place);
     return place;
-  }
-
-  #grow(pages) {
-    try {
-      this.calls.memory.grow(BigInt(pages));
-    } catch {
-      this.calls.memory.grow(pages);
-    }
   }
 
   read({ at, length }, count = length) {
@@ -71,8 +61,8 @@ export class Raw {
     for (const { at, length } of this.#places) {
       const bytes = this.#bytes;
       for (let i = 1; i <= GUARD; i++) {
-        const around = [bytes[at - i], bytes[at + length + i - 1]];
-        if (around[0] !== GUARD_BYTE || around[1] !== GUARD_BYTE) equal(around, [GUARD_BYTE, GUARD_BYTE], `a guard of ${name}`);
+        const isWhole = bytes[at - i] === GUARD_BYTE && bytes[at + length + i - 1] === GUARD_BYTE;
+        if (!isWhole) throw new Error(`${name} wrote outside of its buffer`);
       }
     }
   }

@@ -23,7 +23,9 @@ async function message(page) {
 }
 
 async function stream(page) {
+  await page.click("#byte-3");
   await page.click("#byte-24");
+  await page.value('document.getElementById("stream-pieces").scrollTop = 0');
 }
 
 async function line(page) {
@@ -33,15 +35,22 @@ async function line(page) {
   for (const text of ["hello", "temp=21.5", "temp=21.6", "temp=21.7"]) {
     await page.fill("#line-text", text);
     await page.press("Enter");
+    await new Promise((done) => setTimeout(done, 60));
   }
 }
 
+const VIEWS = { message, stream, line };
+const DEVICES = {
+  "": { width: 900, height: 1000 },
+  "-dark": { width: 900, height: 1000, isDark: true },
+  "-phone": { width: 390, height: 1000, isPhone: true, scale: 1 },
+  "-phone-dark": { width: 390, height: 1000, isPhone: true, isDark: true, scale: 1 },
+};
+
 try {
-  const desktop = { width: 900, height: 780 };
-  await shot("page-message.png", "message", desktop, message);
-  await shot("page-stream.png", "stream", { ...desktop, height: 900 }, stream);
-  await shot("page-line.png", "line", { ...desktop, height: 700 }, line);
-  await shot("page-phone.png", "message", { width: 390, height: 1000, isPhone: true, isDark: true, scale: 1 }, (page) => page.click('[data-run="255"]'));
+  for (const [view, act] of Object.entries(VIEWS)) {
+    for (const [name, device] of Object.entries(DEVICES)) await shot(`page-${view}${name}.png`, view, device, act);
+  }
 } finally {
   await browser.close();
   server.close();

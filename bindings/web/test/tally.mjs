@@ -15,6 +15,12 @@ export async function check(name, act) {
   }
 }
 
+/** Counts checks that were made elsewhere. */
+export function count(good, bad) {
+  passed += good;
+  failed += bad;
+}
+
 export function equal(found, wanted, what = "it") {
   if (isDeepStrictEqual(found, wanted)) return;
   const shown = (value) => inspect(value, { maxArrayLength: 40, maxStringLength: 300, breakLength: 200 });

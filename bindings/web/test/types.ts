@@ -1,5 +1,5 @@
 // What a user of the types may write; tests/web.sh has the TypeScript compiler read it.
-import { CobsError, FrameDecoder, FrameDecoderStream, FrameEncoderStream, type Outcome, decode, encode, frameKind, isSupported, load, maxEncodedLength } from "../jcobs.js";
+import { CobsError, FrameDecoder, FrameDecoderStream, FrameEncoder, FrameEncoderStream, type Outcome, decode, encode, encodeInto, frameKind, frames, isSupported, load, maxEncodedLength } from "../jcobs.js";
 
 export async function use(port: { readable: ReadableStream<Uint8Array>; writable: WritableStream<Uint8Array> }): Promise<number> {
   if (!isSupported()) return 0;
@@ -18,6 +18,12 @@ export async function use(port: { readable: ReadableStream<Uint8Array>; writable
     else if (outcome.tooLong) lengths.push(-1);
     else lengths.push(outcome.broken);
   };
+  for (const outcome of frames(frame, { skipFirst: true })) lengths.push(outcome.end);
+  lengths.push(encodeInto(frame, new ArrayBuffer(100)));
+  const encoder = new FrameEncoder({ maxLength: 100, sentinel: 3 });
+  encoder.push(frame);
+  lengths.push(encoder.length, encoder.finish({ terminated: true }).length);
+  encoder.close();
   const decoder = new FrameDecoder({ maxLength: 100 });
   decoder.push(frame, (outcome, end) => count(end > 0 ? outcome : { tooLong: true }));
   decoder.close();

@@ -1,0 +1,37 @@
+import { FrameDecoderStream, encode, load } from "jcobs";
+
+await load();
+
+/**
+ * Calls `show` with each message of an open serial port, and returns what sends a message and what closes the port.
+ * @param {{ readable: ReadableStream<Uint8Array>, writable: WritableStream<Uint8Array>, close(): Promise<void> }} port
+ * @param {(message: Uint8Array) => void} show
+ */
+export function talk(port, show) {
+  const frames = new FrameDecoderStream({ maxLength: 4096, skipFirst: true }); // the line may be in mid-frame
+  const piped = port.readable.pipeTo(frames.writable).catch(() => {}); // a fault of the line ends `read` too
+  const reader = frames.readable.getReader();
+  const writer = port.writable.getWriter();
+
+  async function read() {
+    for (;;) {
+      const { value, done } = await reader.read();
+      if (done) return;
+      if (value.message) show(value.message);
+      else console.warn(value.tooLong ? "a message is too long" : `a frame breaks off after ${value.broken} bytes`);
+    }
+  }
+
+  return {
+    /** Settles at the end of the line, and rejects if it fails. */
+    ended: read(),
+    send: (/** @type {Uint8Array} */ message) => writer.write(encode(message, { terminated: true })),
+    async close() {
+      await reader.cancel();
+      await piped; // until then the pipe locks the port's stream, and the port can't be closed
+      await writer.ready.catch(() => {});
+      writer.releaseLock();
+      await port.close();
+    },
+  };
+}

@@ -1,0 +1,155 @@
+#!/usr/bin/env python3
+"""Gives a WebAssembly module with 64-bit memory a 32-bit one, which every browser has: lower.py FILE
+
+The types of functions, variables and globals stay, so addresses stay 64-bit numbers. What changes is the instructions that
+use one:
+
+- before a load, `i32.wrap_i64` makes the address on the stack a 32-bit number;
+- for a store it does so as soon as the address is on the stack, which is before the value; if it isn't known which
+  instructions make the value, a variable of the function holds the value meanwhile;
+- memory.copy and memory.fill get 32-bit addresses and lengths by such variables;
+- the memory itself, and the address of each piece of data.
+
+An address below 4 GiB is the same number in 32 bits, so an access within a memory of at most 4 GiB reads and writes what it
+did. One outside of it, which a 64-bit memory traps, may not trap here: jcobs.js gives out no place beyond 4 GiB. Nothing
+else is changed. An offset of 2 GiB or more, a memory with a maximum, and instructions that ask for the memory's size or
+make it longer are errors."""
+import sys
+from pathlib import Path
+
+from wasm import CODE, COPY, DATA, FUNCTIONS, I32_CONST, I64_CONST, LOADS, MEMORY, PREFIX, STORES, TYPES
+from wasm import bodies, counted, instructions, leb, module, number, sections, sized, variables
+
+I32, I64 = 0x7F, 0x7E
+HAS_64_BITS = 4  # the flag of a memory without a maximum whose addresses have 64 bits
+WRAP = bytes([0xA7])  # i32.wrap_i64
+I32_STORES, FLOAT_STORES = {0x36, 0x3A, 0x3B}, {0x38, 0x39}
+FAR = 1 << 31
+
+# How many values an instruction takes off the stack and leaves on it. One that isn't here branches, calls, or ends a block.
+STACK = dict.fromkeys([0x20, 0x23, I32_CONST, I64_CONST], (0, 1))  # local.get, global.get
+STACK |= dict.fromkeys([0x1A, 0x21, 0x24], (1, 0))  # drop, local.set, global.set
+STACK |= dict.fromkeys([0x22, *LOADS], (1, 1))  # local.tee
+STACK |= dict.fromkeys(STORES, (2, 0))
+STACK |= dict.fromkeys([0x45, 0x50, *range(0x67, 0x6A), *range(0x79, 0x7C), 0xA7, 0xAC, 0xAD, *range(0xC0, 0xC5)], (1, 1))
+STACK |= dict.fromkeys([*range(0x46, 0x50), *range(0x51, 0x5B), *range(0x6A, 0x79), *range(0x7C, 0x8B)], (2, 1))
+STACK |= {0x1B: (3, 1)}  # select
+
+
+def put_by(variable):
+    return b"\x21" + leb(variable)  # local.set
+
+
+def taken_back(variable):
+    return b"\x20" + leb(variable)  # local.get
+
+
+class Narrowing:
+    """The instructions of a function as they become. For the topmost values of the stack, `starts` has where in `code` the
+    instructions begin that make each."""
+
+    def __init__(self, first):
+        self.narrow, self.second, self.wide = first, first + 1, first + 2  # new variables, of 32, 32 and 64 bits
+        self.needs_variables = False
+        self.code = []
+        self.starts = []
+
+    def take(self, each):
+        start = len(self.code)
+        if each.code in LOADS:
+            self.code.append(WRAP)
+        elif each.code in STORES and self.starts:
+            self.code.insert(self.starts[-1], WRAP)
+        elif each.code in STORES:
+            self.narrow_below(self.narrow if each.code in I32_STORES else self.wide)
+        elif each.code == PREFIX:
+            # the addresses to and from, or the address and a byte; on top of them the length
+            self.code += [WRAP, put_by(self.narrow)] + ([WRAP] if each.which == COPY else [])
+            self.narrow_below(self.second)
+            self.code.append(taken_back(self.narrow))
+        self.code.append(each.written)
+        self.follow(STACK.get(each.code), start)
+
+    def narrow_below(self, variable):
+        """Makes the value under the topmost one a 32-bit number."""
+        self.code += [put_by(variable), WRAP, taken_back(variable)]
+        self.needs_variables = True
+
+    def follow(self, counts, start):
+        """Keeps `starts` true after an instruction with these counts, of which the code begins at `start`."""
+        if counts is None or counts[0] > len(self.starts):
+            self.starts = []
+            return
+        pops, pushes = counts
+        kept = len(self.starts) - pops
+        first = (self.starts[kept:] + [start])[0]
+        self.starts = self.starts[:kept] + [first] * pushes
+
+
+def lowered(body, parameters):
+    """Returns the body of a function with so many parameters, with 32-bit addresses."""
+    groups, at = variables(body)
+    narrowing = Narrowing(parameters + sum(size for size, _ in groups))
+    for each in instructions(body, at):
+        if each.code in (*LOADS, *STORES) and (each.numbers[1] >= FAR or each.code in FLOAT_STORES):
+            sys.exit(f"lower.py: there is an instruction {each.code:#x} with the offset {each.numbers[1]}")
+        narrowing.take(each)
+    if narrowing.needs_variables:
+        groups += [(2, I32), (1, I64)]
+    return counted([leb(size) + bytes([kind]) for size, kind in groups]) + b"".join(narrowing.code)
+
+
+def parameters_of(types):
+    """Returns how many parameters each type of function has."""
+    found = []
+    count, at = number(types, 0)
+    for _ in range(count):
+        at += 1  # the sign of a function's type
+        parameters, at = number(types, at)
+        results, at = number(types, at + parameters)
+        at += results
+        found.append(parameters)
+    return found
+
+
+def memory_of(section):
+    count, at = number(section, 0)
+    if count != 1 or section[at] != HAS_64_BITS:
+        sys.exit("lower.py: the module hasn't got one 64-bit memory without a maximum")
+    return leb(1) + bytes([0]) + section[at + 1 :]
+
+
+def data_of(section):
+    """Returns the pieces of data, each `0, i64.const ADDRESS, end, LENGTH, BYTES`, with i32.const."""
+    pieces = []
+    count, at = number(section, 0)
+    for _ in range(count):
+        if section[at] != 0 or section[at + 1] != I64_CONST:
+            sys.exit("lower.py: there is a piece of data without a constant address")
+        address, end = number(section, at + 2)
+        if address >= FAR:
+            sys.exit(f"lower.py: there is data at {address}")
+        size, start = number(section, end + 1)
+        pieces.append(bytes([0, I32_CONST]) + section[at + 2 : start + size])
+        at = start + size
+    return counted(pieces)
+
+
+def lower(data):
+    found = sections(data)
+    parameters = parameters_of(found[TYPES])
+    count, at = number(found[FUNCTIONS], 0)
+    kinds = []
+    for _ in range(count):
+        kind, at = number(found[FUNCTIONS], at)
+        kinds.append(kind)
+    found[MEMORY] = memory_of(found[MEMORY])
+    found[DATA] = data_of(found[DATA])
+    functions = zip(kinds, bodies(found[CODE]), strict=True)
+    found[CODE] = counted([sized(lowered(body, parameters[kind])) for kind, body in functions])
+    return module(data, found)
+
+
+if __name__ == "__main__":
+    path = Path(sys.argv[1])
+    path.write_bytes(lower(path.read_bytes()))

@@ -1,0 +1,284 @@
+// The proved module, loaded: its calls over places in its memory, and which places are free. Nothing but this file knows
+// the module's names. jcobs.js has what a user calls.
+
+// enum jcobs_status and enum jcobs_kind of jcobs.h
+export const OK = 0;
+export const TOO_SMALL = 2;
+export const BROKEN = 3;
+export const KINDS = ["notAFrame", "canonical", "longer"];
+
+const WASM_PAGE = 65536;
+const ANSWER_SIZE = 64;              // room for a jcobs_answer, at the front of the free memory
+const SCRATCH_SIZE = 1 << 22;        // for the bytes of a call; a call that needs more has a memory of its own
+export const STATE_SIZE = 64;        // room for a jcobs_decoder or a jcobs_encoder
+export const CHUNK_SIZE = 1 << 14;          // how many bytes of a stream are copied into the module at a time
+const MEMORY_LIMIT = 2 ** 32;        // no address from here on is given to the module: in 32 bits it would be another
+
+/** What a module must export to be cobs.wasm. */
+const CALLS = [
+  "memory",
+  "__heap_base",
+  "jcobs_max_length",
+  "jcobs_encode_with_sentinel",
+  "jcobs_encode_terminated_with_sentinel",
+  "jcobs_decode",
+  "jcobs_frame_kind",
+  "jcobs_decoder_reset",
+  "jcobs_decoder_push",
+  "jcobs_decoder_is_idle",
+  "jcobs_encoder_reset",
+  "jcobs_encoder_push",
+  "jcobs_encoder_finish",
+];
+
+/** Says why a call failed. `kind` is "empty", "broken" or "unsupported"; `decodedBytes` is how much a broken frame decodes to. */
+export class CobsError extends Error {
+  constructor(kind, message, decodedBytes = 0) {
+    super(message);
+    this.name = "CobsError";
+    this.kind = kind;
+    this.decodedBytes = decodedBytes;
+  }
+}
+
+/** An instance of the module: its calls over places in its memory. */
+class Machine {
+  #calls;
+  #memory;
+  #bytes;
+  #words;
+
+  constructor(module) {
+    this.#calls = new WebAssembly.Instance(module, {}).exports;
+    this.#memory = this.#calls.memory;
+    this.answerAt = Math.ceil(Number(this.#calls.__heap_base.value) / ANSWER_SIZE) * ANSWER_SIZE;
+    this.scratchAt = this.answerAt + ANSWER_SIZE;
+    this.reach(this.scratchAt);
+    this.#see();
+  }
+
+  #see() {
+    this.#bytes = new Uint8Array(this.#memory.buffer);
+    this.#words = new Uint32Array(this.#memory.buffer, this.answerAt, 6);
+  }
+
+  /** Makes the memory so long that `end` is its end or lies in it. */
+  reach(end) {
+    if (end > MEMORY_LIMIT) throw new RangeError(`this needs ${end} bytes of memory, and a module has at most ${MEMORY_LIMIT}`);
+    const pages = Math.ceil((end - this.#memory.buffer.byteLength) / WASM_PAGE);
+    if (pages <= 0) return;
+    this.#memory.grow(pages);
+    this.#see();
+  }
+
+  /** Puts bytes at a place, each changed for a sentinel. */
+  write(bytes, at, sentinel = 0) {
+    const memory = this.#bytes;
+    memory.set(bytes, at);
+    if (sentinel !== 0) for (let i = at; i < at + bytes.length; i++) memory[i] ^= sentinel;
+  }
+
+  /** A copy of the bytes at a place. */
+  read(at, length) {
+    return this.#bytes.slice(at, at + length);
+  }
+
+  /** Copies the bytes at a place to the front of `dest`. */
+  readInto(dest, at, length) {
+    dest.set(this.#bytes.subarray(at, at + length));
+  }
+
+  maxLength(length) {
+    return Number(this.#calls.jcobs_max_length(BigInt(length)));
+  }
+
+  encode(source, sourceLength, dest, room, sentinel, terminated) {
+    const call = terminated ? this.#calls.jcobs_encode_terminated_with_sentinel : this.#calls.jcobs_encode_with_sentinel;
+    call(BigInt(this.answerAt), BigInt(source), BigInt(sourceLength), BigInt(dest), BigInt(room), sentinel);
+    return this.#answer();
+  }
+
+  decode(source, sourceLength, dest, room) {
+    this.#calls.jcobs_decode(BigInt(this.answerAt), BigInt(source), BigInt(sourceLength), BigInt(dest), BigInt(room));
+    return this.#answer();
+  }
+
+  frameKind(at, length) {
+    return this.#calls.jcobs_frame_kind(BigInt(at), BigInt(length));
+  }
+
+  /** A decoder that has taken nothing, with its state and buffer at these places. */
+  decoder(state, buffer, room) {
+    const calls = this.#calls;
+    const [answerWord, stateWord, bufferWord, roomWord] = [this.answerAt, state, buffer, room].map(BigInt);
+    calls.jcobs_decoder_reset(stateWord);
+    return {
+      push: (at, length) => {
+        calls.jcobs_decoder_push(answerWord, stateWord, bufferWord, roomWord, BigInt(at), BigInt(length));
+        return this.#answer();
+      },
+      isIdle: () => calls.jcobs_decoder_is_idle(stateWord) !== 0,
+    };
+  }
+
+  /** An encoder that has taken nothing, with its state and buffer at these places. */
+  encoder(state, buffer, room) {
+    const calls = this.#calls;
+    const [answerWord, stateWord, bufferWord, roomWord] = [this.answerAt, state, buffer, room].map(BigInt);
+    calls.jcobs_encoder_reset(stateWord);
+    return {
+      push: (at, length) => {
+        calls.jcobs_encoder_push(answerWord, stateWord, bufferWord, roomWord, BigInt(at), BigInt(length));
+        return this.#answer();
+      },
+      finish: () => {
+        calls.jcobs_encoder_finish(answerWord, stateWord, bufferWord, roomWord);
+        return this.#answer();
+      },
+    };
+  }
+
+  /** The jcobs_answer of the call just made: a 32-bit number, and two of 64 bits after it, low half first. */
+  #answer() {
+    const words = this.#words;
+    return { status: words[0], consumed: words[2] + words[3] * 0x100000000, length: words[4] + words[5] * 0x100000000 };
+  }
+}
+
+/** A module with one memory and a function that copies within it: the newest of what cobs.wasm needs. */
+const PROBE = Uint8Array.of(
+  ...[0, 0x61, 0x73, 0x6d, 1, 0, 0, 0, 1, 4, 1, 0x60, 0, 0, 3, 2, 1, 0, 5, 3, 1, 0, 1],
+  ...[10, 14, 1, 12, 0, 0x41, 0, 0x41, 0, 0x41, 0, 0xfc, 10, 0, 0, 0x0b],
+);
+
+/** Whether this engine runs cobs.wasm. */
+export function isSupported() {
+  return typeof WebAssembly === "object" && typeof BigInt64Array === "function" && WebAssembly.validate(PROBE);
+}
+
+let compiled;
+let shared;
+let loading;
+
+/**
+ * Loads the module: from the file beside this one, or from a URL, a Response, the file's bytes or a compiled module.
+ * Every other call of this file needs it. Once it is loaded, or is being loaded, a further call changes nothing.
+ */
+export function load(source = moduleAddress()) {
+  loading ??= loadFrom(source).catch((error) => {
+    loading = undefined;
+    throw error;
+  });
+  return loading;
+}
+
+const moduleAddress = () => new URL("cobs.wasm", import.meta.url);
+
+async function loadFrom(source) {
+  if (!isSupported()) {
+    const needed = "this engine lacks the WebAssembly that cobs.wasm needs, which browsers have since 2021 and Node since 16";
+    throw new CobsError("unsupported", needed);
+  }
+  const module = await moduleOf(source);
+  const names = new Set(WebAssembly.Module.exports(module).map(({ name }) => name));
+  if (!CALLS.every((name) => names.has(name))) throw new TypeError("the module isn't this version's cobs.wasm");
+  shared = new Arena(new Machine(module));
+  compiled = module;
+}
+
+async function moduleOf(source) {
+  if (source instanceof WebAssembly.Module) return source;
+  if (isBytes(source)) return WebAssembly.compile(bytesOf(source));
+  if (typeof Response === "function" && source instanceof Response) return WebAssembly.compile(await bytesOfResponse(source));
+  if (typeof source !== "string" && !(source instanceof URL)) {
+    throw new TypeError("load takes a URL, a Response, bytes, or a compiled module");
+  }
+  const url = new URL(source, import.meta.url);
+  // not `import`, which every bundler for browsers would have to be told to leave alone
+  const files = url.protocol === "file:" ? globalThis.process?.getBuiltinModule?.("node:fs/promises") : undefined;
+  return WebAssembly.compile(files ? await files.readFile(url) : await bytesOfResponse(await fetch(url)));
+}
+
+async function bytesOfResponse(response) {
+  if (!response.ok) throw new Error(`${response.url || "cobs.wasm"} could not be loaded: status ${response.status}`);
+  return response.arrayBuffer();
+}
+
+/** The one memory that short calls and all streams share, and which of its places are free. */
+class Arena {
+  #free = []; // in the order of their addresses, and no two of them touch
+
+  constructor(machine) {
+    this.machine = machine;
+    this.end = machine.scratchAt + SCRATCH_SIZE;
+    machine.reach(this.end);
+  }
+
+  /** A place of so many bytes: one that was given back, or a new one at the memory's end. */
+  take(size) {
+    const wanted = Math.ceil(size / 64) * 64;
+    const found = this.#free.findIndex((place) => place.size >= wanted);
+    if (found >= 0) {
+      const place = this.#free[found];
+      if (place.size === wanted) this.#free.splice(found, 1);
+      else this.#free[found] = { at: place.at + wanted, size: place.size - wanted };
+      return { at: place.at, size: wanted };
+    }
+    const place = { at: this.end, size: wanted };
+    this.machine.reach(place.at + wanted);
+    this.end += wanted;
+    return place;
+  }
+
+  /** Frees a place. Neighbouring free places become one, so that what was given back serves any size that fits in it. */
+  give({ at, size }) {
+    const free = this.#free;
+    let next = this.#firstAfter(at);
+    if (next < free.length && at + size === free[next].at) size += free.splice(next, 1)[0].size;
+    if (next > 0 && free[next - 1].at + free[next - 1].size === at) {
+      next--;
+      size += free[next].size;
+      at = free.splice(next, 1)[0].at;
+    }
+    if (at + size === this.end) this.end = at;
+    else free.splice(next, 0, { at, size });
+  }
+
+  /** The number of the first free place after an address. */
+  #firstAfter(at) {
+    let low = 0;
+    let high = this.#free.length;
+    while (low < high) {
+      const middle = (low + high) >> 1;
+      if (this.#free[middle].at < at) low = middle + 1;
+      else high = middle;
+    }
+    return low;
+  }
+}
+
+/** The memory that all calls share. */
+export function loaded() {
+  if (!shared) throw new Error("cobs.wasm is not loaded: await load() first");
+  return shared;
+}
+
+/** A machine with `size` bytes free at its scratch place: the shared one, or for long bytes one that goes with the call. */
+export function machineFor(size) {
+  const { machine } = loaded();
+  if (size <= SCRATCH_SIZE) return machine;
+  const own = new Machine(compiled);
+  own.reach(own.scratchAt + size);
+  return own;
+}
+
+const isBuffer = (source) => /^\[object (Shared)?ArrayBuffer\]$/.test(Object.prototype.toString.call(source)); // of any realm
+const isBytes = (source) => ArrayBuffer.isView(source) || isBuffer(source);
+
+/** The bytes of an ArrayBuffer or of any view of one. */
+export function bytesOf(source) {
+  if (source instanceof Uint8Array) return source;
+  if (ArrayBuffer.isView(source)) return new Uint8Array(source.buffer, source.byteOffset, source.byteLength);
+  if (isBuffer(source)) return new Uint8Array(source);
+  throw new TypeError("bytes are wanted: a Uint8Array, another view, or an ArrayBuffer");
+}

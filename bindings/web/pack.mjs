@@ -1,0 +1,41 @@
+// Writes jcobs.js, machine.js and cobs.wasm as one file each for `import` and for `require` or a <script>:
+//
+//     node pack.mjs FOLDER        # FOLDER/jcobs.js, FOLDER/jcobs.cjs, and the types of the second
+//
+// Only the lines that import, export or find cobs.wasm change, and each must be there as this file knows it.
+import { copyFile, mkdir, readFile, writeFile } from "node:fs/promises";
+import { join } from "node:path";
+
+const read = (name, encoding = "utf8") => readFile(new URL(name, import.meta.url), encoding);
+
+/** `text` with the one place where `pattern` matches replaced. */
+function replaced(text, pattern, by) {
+  const found = text.match(new RegExp(pattern, "gm")) ?? [];
+  if (found.length !== 1) throw new Error(`pack.mjs: ${pattern} matches ${found.length} times`);
+  return text.replace(found[0], () => by);
+}
+
+const { version } = JSON.parse(await read("package.json"));
+const base64 = await read("cobs.wasm", "base64");
+const embedded = `const moduleAddress = () => Uint8Array.from(atob(EMBEDDED), (sign) => sign.charCodeAt(0));
+const EMBEDDED =
+  "${base64}";`;
+
+let machine = replaced(await read("machine.js"), "^const moduleAddress = .*;$", embedded);
+machine = replaced(machine, "new URL\\(source, import\\.meta\\.url\\)", "new URL(source, globalThis.document?.baseURI)");
+let calls = replaced(await read("jcobs.js"), '^import \\{.*\\} from "\\./machine\\.js";\n', "");
+calls = replaced(calls, '^export \\{.*\\} from "\\./machine\\.js";\n', "");
+const names = [...calls.matchAll(/^export (?:async )?(?:function\*?|class|const) (\w+)/gm)].map(([, name]) => name);
+names.push("CobsError", "isSupported", "load");
+const body = [machine, calls].map((text) => text.replace(/^export /gm, "")).join("\n");
+const head = `// jcobs ${version}, with the module inside. Written by pack.mjs from jcobs.js, machine.js and cobs.wasm; edit those.\n`;
+const list = names.sort().join(", ");
+
+const folder = process.argv[2];
+await mkdir(folder, { recursive: true });
+await writeFile(join(folder, "jcobs.js"), `${head}${body}\nexport { ${list} };\n`);
+await writeFile(
+  join(folder, "jcobs.cjs"),
+  `${head}var jcobs = (() => {\n"use strict";\n${body}\nreturn { ${list} };\n})();\nif (typeof module === "object") module.exports = jcobs;\n`,
+);
+await copyFile(new URL("jcobs.d.ts", import.meta.url), join(folder, "jcobs.d.cts"));

@@ -1,0 +1,242 @@
+// The vectors of conformance/ through the module, in any engine: by its calls as they are, and if a line fits by jcobs.js too.
+//
+// conformance/README.md says what a line is. Left out are the calls that the module lacks, since machine.js makes none of
+// them: decoding in place, `next_frame` and the two state machines. If this library returns something else than the crate's
+// own names say, the comment at the call has it.
+import { CobsError, FrameDecoderStream, FrameEncoder, FrameEncoderStream, decode, encode, frameKind, load, maxEncodedLength } from "../jcobs.js";
+import { Raw } from "./raw.mjs";
+
+let raw;
+
+const bytesOf = (word) => (word === "-" ? new Uint8Array() : Uint8Array.from(word.match(/../g), (pair) => parseInt(pair, 16)));
+const wordOf = (bytes) => (bytes.length === 0 ? "-" : Array.from(bytes, (byte) => byte.toString(16).padStart(2, "0")).join(""));
+const joined = (parts) => Uint8Array.from(parts.flatMap((part) => [...part]));
+const sentinelOf = (word) => ({ byte: bytesOf(word)[0] });
+const ZERO = { byte: 0 };
+
+/** What encoding into a buffer answers: the length where it fits, and all of the buffer. */
+function encoded(call, message, room, sentinel) {
+  const buffer = raw.place(room);
+  const { status, consumed, length } = raw.answer(call, raw.place(message), buffer, sentinel);
+  if (consumed !== (status === "ok" ? message.length : 0)) throw new Error(`${consumed} bytes are consumed`);
+  return { status, length: status === "ok" ? String(length) : "-", after: wordOf(raw.read(buffer)) };
+}
+
+/** A sentinel in front by hand, as no call of the module writes one. */
+function wrapped(message, room) {
+  if (room.length === 0) return { status: "too_small", length: "-", after: "-" };
+  const { status, length, after } = encoded("jcobs_encode_terminated_with_sentinel", message, room.subarray(1), ZERO);
+  if (status !== "ok") return { status, length, after: wordOf(room) };
+  return { status, length: String(Number(length) + 1), after: `00${after === "-" ? "" : after}` };
+}
+
+/** In `decode` zeros alone are `empty` here, and a refused frame of 0 bytes by the crate's names. */
+const named = (status, source) => (status === "empty" && source.length > 0 ? "invalid" : status);
+const countWord = (status, length) => (status === "ok" || status === "invalid" ? String(length) : "-");
+
+function decoded(source, room) {
+  const buffer = raw.place(room);
+  const answer = raw.answer("jcobs_decode", raw.place(source), buffer);
+  const status = named(answer.status, source);
+  return { status, length: countWord(status, answer.length), consumed: status === "ok" ? String(answer.consumed) : "-", after: wordOf(raw.read(buffer)), message: wordOf(raw.read(buffer, answer.length)) };
+}
+
+/** What `decode` of jcobs.js answers, in the words of the vectors. */
+function decodedByModule(source, sentinel = 0) {
+  try {
+    const message = decode(source, { sentinel });
+    return ["ok", String(message.length), wordOf(message)];
+  } catch (error) {
+    if (!(error instanceof CobsError)) throw error;
+    const status = named({ empty: "empty", broken: "invalid" }[error.kind], source);
+    return [status, status === "empty" ? "-" : String(error.decodedBytes), "-"];
+  }
+}
+
+/** The answers of a streaming decoder of the module's calls: the buffer at the end, and three words for each piece. */
+function decodedByPieces(room, pieces) {
+  const buffer = raw.place(room);
+  const state = { state: raw.place(new Uint8Array(16).fill(0x77)) };
+  raw.call("jcobs_decoder_reset", state);
+  const said = [];
+  let taken = 0;
+  for (const piece of pieces) {
+    if (piece === "reset") {
+      raw.call("jcobs_decoder_reset", state);
+      continue;
+    }
+    const source = raw.place(bytesOf(piece));
+    for (let at = 0; at < source.length; ) {
+      const { status, consumed, length } = raw.answer("jcobs_decoder_push", state, buffer, { at: source.at + at, length: source.length - at });
+      at += consumed;
+      taken += consumed;
+      if (status !== "more") said.push(String(taken), { ok: "message", invalid: "broken" }[status] ?? status, wordOf(raw.read(buffer, length)));
+    }
+  }
+  return { after: wordOf(raw.read(buffer)), said };
+}
+
+/** The crate answers `too_small` to each byte from the overflow on; the module once, at the zero. */
+function withoutRepeats(wanted, pieces) {
+  const stream = joined(pieces.filter((piece) => piece !== "reset").map(bytesOf));
+  const kept = [];
+  for (let i = 0; i < wanted.length; i += 3) {
+    if (wanted[i + 1] !== "too_small" || stream[Number(wanted[i]) - 1] === 0) kept.push(...wanted.slice(i, i + 3));
+  }
+  return kept;
+}
+
+async function throughStream(stream, chunks) {
+  const given = new ReadableStream({
+    start(controller) {
+      for (const chunk of chunks) controller.enqueue(chunk);
+      controller.close();
+    },
+  });
+  const taken = [];
+  const reader = given.pipeThrough(stream).getReader();
+  for (let next = await reader.read(); !next.done; next = await reader.read()) taken.push(next.value);
+  return taken;
+}
+
+const outcomeWords = ({ message, broken }) => (message ? ["message", wordOf(message)] : broken !== undefined ? ["broken", String(broken)] : ["too_long", "-"]);
+
+/** The results of a streaming encoder of the module's calls: the length of the frame, the buffer, and a word for each piece. */
+function encodedByPieces(room, pieces) {
+  const buffer = raw.place(room);
+  const state = { state: raw.place(new Uint8Array(16).fill(0x77)) };
+  raw.call("jcobs_encoder_reset", state);
+  const said = pieces.map((piece) => raw.answer("jcobs_encoder_push", state, buffer, raw.place(bytesOf(piece))).status);
+  const { status, length } = raw.answer("jcobs_encoder_finish", state, buffer);
+  return { status, length: String(length), after: wordOf(raw.read(buffer)), said };
+}
+
+/** The frame of pieces by jcobs.js. */
+function encodedByModule(pieces) {
+  const encoder = new FrameEncoder();
+  for (const piece of pieces) encoder.push(bytesOf(piece));
+  const frame = encoder.finish();
+  encoder.close();
+  return frame;
+}
+
+/** For each call, all answers that are to be the line's: one for each way to make it. None: the line is left out. */
+const calls = {
+  max_encoding_length: ([length]) => [[String(maxEncodedLength(Number(length)))], [String(raw.call("jcobs_max_length", Number(length)))]],
+  max_encoding_overhead: ([length]) => [[String(maxEncodedLength(Number(length)) - Number(length))]],
+  encode_vec: ([message]) => [[wordOf(encode(bytesOf(message)))]],
+  encode_vec_including_sentinels: ([message]) => [[wordOf(Uint8Array.of(0, ...encode(bytesOf(message), { terminated: true })))]],
+  encode_vec_with_sentinel: ([sentinel, message]) => [[wordOf(encode(bytesOf(message), { sentinel: bytesOf(sentinel)[0] }))]],
+  encode([message, room]) {
+    const { length, after } = encoded("jcobs_encode_with_sentinel", bytesOf(message), bytesOf(room), ZERO);
+    return [[length, after]];
+  },
+  encode_including_sentinels([message, room]) {
+    const { length, after } = wrapped(bytesOf(message), bytesOf(room));
+    return [[length, after]];
+  },
+  encode_with_sentinel([sentinel, message, room]) {
+    const { length, after } = encoded("jcobs_encode_with_sentinel", bytesOf(message), bytesOf(room), sentinelOf(sentinel));
+    return [[length, after]];
+  },
+  try_encode([message, room]) {
+    const { status, length, after } = encoded("jcobs_encode_with_sentinel", bytesOf(message), bytesOf(room), ZERO);
+    return [[status, length, after]];
+  },
+  try_encode_with_sentinel([sentinel, message, room]) {
+    const { status, length, after } = encoded("jcobs_encode_with_sentinel", bytesOf(message), bytesOf(room), sentinelOf(sentinel));
+    return [[status, length, after]];
+  },
+  try_encode_including_sentinels([message, room]) {
+    const { status, length, after } = wrapped(bytesOf(message), bytesOf(room));
+    return [[status, length, after]];
+  },
+  async encode_frames(messages) {
+    return [[wordOf(joined(await throughStream(new FrameEncoderStream(), messages.map(bytesOf))))]];
+  },
+  decode_vec([source]) {
+    const bytes = bytesOf(source);
+    const { status, length, message } = decoded(bytes, new Uint8Array(bytes.length));
+    return [[status, length, status === "ok" ? message : "-"], decodedByModule(bytes)];
+  },
+  decode_vec_with_sentinel([sentinel, source], level) {
+    // `decode` of jcobs.js skips sentinels in front for every sentinel, so it is held to frames alone
+    return level === "owed" ? [decodedByModule(bytesOf(source), bytesOf(sentinel)[0])] : [];
+  },
+  decode([source, room]) {
+    const { status, consumed, length, after } = decoded(bytesOf(source), bytesOf(room));
+    return [[status, consumed, length, after]];
+  },
+  encoder([room, ...pieces]) {
+    const { length, after, said } = encodedByPieces(bytesOf(room), pieces);
+    const isWhole = said.every((status) => status === "ok");
+    const byModule = isWhole ? wordOf(encodedByModule(pieces)) : "";
+    if (isWhole && !after.startsWith(byModule)) return [[`jcobs.js gave ${byModule}`]];
+    return [[length, after, ...said]];
+  },
+  decoder([room, ...pieces]) {
+    const { after, said } = decodedByPieces(bytesOf(room), pieces);
+    return [[after, ...said]];
+  },
+  async decode_stream([room, ...pieces]) {
+    const outcomes = await throughStream(new FrameDecoderStream({ maxLength: Number(room) }), pieces.map(bytesOf));
+    return [outcomes.flatMap(outcomeWords)];
+  },
+  frame_kind([source]) {
+    const bytes = bytesOf(source);
+    const own = ["not_a_frame", "canonical", "longer"][raw.call("jcobs_frame_kind", raw.place(bytes))];
+    return [[own], [{ notAFrame: "not_a_frame", canonical: "canonical", longer: "longer" }[frameKind(bytes)]]];
+  },
+};
+
+/** Whether an answer is the one that a line wants. `refused` is any refusal, and what stands after it is free. */
+function agrees(found, wanted) {
+  if (found.length !== wanted.length) return false;
+  return wanted.every((word, i) => word === "?" || word === found[i] || (word === "refused" && found[i] !== "ok" && found[i] !== "message"));
+}
+
+/** Runs the cases of these texts, and returns how many there were, how many differ, and what is to be said of both. */
+export async function runCases(module, texts) {
+  await load(module);
+  raw = new Raw(module);
+  const counts = { cases: 0, differ: 0, said: [] };
+  const leftOut = new Map();
+  for (const line of texts.flatMap((text) => text.split("\n"))) {
+    if (line === "" || line.startsWith("#")) continue;
+    const call = line.split(" ", 3)[2];
+    const said = await runCase(line);
+    if (said === undefined) leftOut.set(call, (leftOut.get(call) ?? 0) + 1);
+    else counts.cases++;
+    if (said) {
+      counts.differ++;
+      counts.said.push(said);
+    }
+  }
+  for (const [call, lines] of leftOut) counts.said.push(`left out: ${lines} lines of ${call}, which the module lacks`);
+  return counts;
+}
+
+/** The difference that a line shows, or "" if it shows none, or undefined if it is left out. */
+async function runCase(line) {
+  const [left, right] = line.split(" ->").map((words) => words.trim());
+  const [name, level, call, ...args] = left.split(" ");
+  raw.clear();
+  let wanted = right === "" ? [] : right.split(" ");
+  if (call === "decoder") wanted = [wanted[0], ...withoutRepeats(wanted.slice(1), args.slice(1))];
+  let answers;
+  try {
+    answers = (await calls[call]?.(args, level)) ?? [];
+  } catch (error) {
+    answers = [[`threw ${error.message}`]];
+  }
+  if (answers.length === 0) return undefined;
+  const wrong = answers.find((found) => !agrees(found, wanted));
+  const short = (words, length) => words.join(" ").slice(0, length);
+  return wrong ? `${name}: ${call} ${short(args, 200)}\n  gave   ${short(wrong, 300)}\n  wanted ${short(wanted, 300)}` : "";
+}
+
+/** The same in a page: the module and the vectors from addresses. */
+export async function runServed(module, vectors) {
+  const texts = await Promise.all(vectors.map(async (address) => (await fetch(address)).text()));
+  return runCases(await WebAssembly.compile(await (await fetch(module)).arrayBuffer()), texts);
+}

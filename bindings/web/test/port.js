@@ -1,0 +1,81 @@
+// A serial port without a device, with Web Serial's interface and its rules: a stream is made when it is asked for,
+// `close` rejects while either stream is locked, `cancel` and writes take time, and a fault of the line ends one stream
+// after which there is another.
+
+export class FakePort {
+  opened = null;
+  sent = [];
+  cancelMilliseconds = 20;
+  writeMilliseconds = 0;
+  #readable = null;
+  #writable = null;
+  #controller = null;
+  #waiting = [];
+
+  async open(options) {
+    if (this.opened) throw new DOMException("The port is already open.", "InvalidStateError");
+    this.opened = options;
+  }
+
+  get readable() {
+    if (!this.opened) return null;
+    this.#readable ??= new ReadableStream({
+      start: (controller) => {
+        this.#controller = controller;
+        for (const bytes of this.#waiting.splice(0)) controller.enqueue(bytes);
+      },
+      cancel: async () => {
+        await pause(this.cancelMilliseconds);
+        this.#readable = null;
+      },
+    });
+    return this.#readable;
+  }
+
+  get writable() {
+    if (!this.opened) return null;
+    this.#writable ??= new WritableStream({
+      write: async (bytes) => {
+        await pause(this.writeMilliseconds);
+        this.sent.push(...bytes);
+      },
+      abort: () => void (this.#writable = null),
+      close: () => void (this.#writable = null),
+    });
+    return this.#writable;
+  }
+
+  async close() {
+    if (!this.opened) throw new DOMException("The port is already closed.", "InvalidStateError");
+    await Promise.all([this.#readable?.cancel(), this.#writable?.abort()]);
+    this.#readable = this.#writable = null;
+    this.opened = null;
+  }
+
+  async getSignals() {
+    return {};
+  }
+
+  async setSignals(signals) {
+    this.signals = { ...this.signals, ...signals };
+  }
+
+  getInfo() {
+    return { usbVendorId: 0x2341, usbProductId: 0x43 };
+  }
+
+  /** Bytes from the device. */
+  give(...bytes) {
+    if (this.#readable) this.#controller.enqueue(Uint8Array.from(bytes));
+    else this.#waiting.push(Uint8Array.from(bytes));
+  }
+
+  /** A fault of the line: "FramingError", "BreakError", or "NetworkError" when the device is pulled out. */
+  fail(name) {
+    const controller = this.#controller;
+    this.#readable = null;
+    controller.error(new DOMException(`the ${name}`, name));
+  }
+}
+
+const pause = (milliseconds) => new Promise((done) => setTimeout(done, milliseconds));

@@ -1,0 +1,94 @@
+// The vectors, the streams and the page in a WebKit engine, driven by WebDriver: node webkit.mjs MINIBROWSER CONFORMANCE
+//
+// It needs a display: xvfb-run gives one.
+import { spawn } from "node:child_process";
+import { readdir } from "node:fs/promises";
+import { createServer } from "node:net";
+import { serve } from "../serve.mjs";
+import { check, count, equal, holds, report } from "./tally.mjs";
+
+const [, , browser, folder] = process.argv;
+const { server, address } = await serve(0, { conformance: folder });
+const port = await new Promise((done) => {
+  const probe = createServer().listen(0, "127.0.0.1", () => {
+    const { port: free } = probe.address();
+    probe.close(() => done(free));
+  });
+});
+const env = { ...process.env, WEBKIT_DISABLE_SANDBOX_THIS_IS_DANGEROUS: "1", WEBKIT_DISABLE_COMPOSITING_MODE: "1" };
+const driver = spawn("WebKitWebDriver", [`--port=${port}`], { env, stdio: "ignore" });
+
+async function call(method, path, body) {
+  const response = await fetch(`http://127.0.0.1:${port}${path}`, { method, body: body && JSON.stringify(body), signal: AbortSignal.timeout(120_000) });
+  const { value } = await response.json();
+  if (value?.error) throw new Error(`${path}: ${value.error}: ${value.message}`);
+  return value;
+}
+
+async function until(act) {
+  const end = Date.now() + 20_000;
+  for (;;) {
+    try {
+      const found = await act();
+      if (found) return found;
+    } catch (error) {
+      if (Date.now() > end) throw error;
+    }
+    if (Date.now() > end) throw new Error(`this never came true: ${act}`);
+    await new Promise((done) => setTimeout(done, 50));
+  }
+}
+
+let session;
+/** The value of an expression in the page, which may be a promise. */
+const value = (expression) => call("POST", `/session/${session}/execute/async`, {
+  script: `const done = arguments[0]; Promise.resolve().then(() => (${expression})).then(done, (error) => done({ threw: String(error) }))`,
+  args: [],
+});
+const go = (path) => call("POST", `/session/${session}/url`, { url: address + path });
+
+try {
+  await until(() => call("GET", "/status"));
+  const options = { binary: browser, args: ["--automation"] };
+  const started = await call("POST", "/session", { capabilities: { alwaysMatch: { "webkitgtk:browserOptions": options } } });
+  session = started.sessionId;
+  console.log(`webkit: in ${started.capabilities.browserName} ${started.capabilities.browserVersion}`);
+  await call("POST", `/session/${session}/timeouts`, { script: 100_000 });
+  const names = (await readdir(folder)).filter((name) => name.endsWith(".txt")).sort();
+
+  await go("test/speed.html");
+  const ran = await value(`import("/test/cases.js").then(({ runServed }) => runServed("/cobs.wasm", ${JSON.stringify(names.map((name) => `/conformance/${name}`))}))`);
+  for (const line of ran.said ?? [JSON.stringify(ran)]) if (!line.startsWith("left out")) console.log(line);
+  count(ran.cases - ran.differ || 0, ran.differ ?? 1);
+
+  await check("webkit: the page is drawn", async () => {
+    await go("#message");
+    await until(() => value("document.documentElement.dataset.ready === 'yes'"));
+    equal(await value("document.querySelector('#message-frame').textContent"), "03 0a 0b 02 0c", "the frame");
+    await until(() => value("document.querySelectorAll('#message-drawing .arc').length === 2"));
+    await value("document.getElementById('tab-stream').click()");
+    await until(() => value("document.getElementById('stream-status').textContent.includes('7 pieces: 5 messages')"));
+    await value("document.getElementById('byte-1').click()");
+    await until(() => value("document.querySelector('#stream-pieces .badge').textContent === 'altered message'"));
+  });
+  await check("webkit: the loop gives back what is sent", async () => {
+    await value("document.getElementById('tab-line').click()");
+    await value("document.getElementById('line-loop').click()");
+    await until(() => value("!document.getElementById('line-submit').disabled"));
+    await value("(document.getElementById('line-text').value = 'hello', document.getElementById('line-submit').click())");
+    await until(() => value("document.getElementById('line-messages').textContent === '1'"));
+    await value("document.getElementById('line-close').click()");
+    await until(() => value("document.getElementById('line-status').textContent === 'Not connected.'"));
+  });
+  await check("webkit: dist/jcobs.js has the module inside", async () => {
+    const said = await value('import("/dist/jcobs.js").then(async (cobs) => (await cobs.load(), [...cobs.encode(Uint8Array.of(10, 11, 0, 12))].join(" ")))');
+    equal(said, "3 10 11 2 12", "the frame");
+  });
+  holds(session, "a session");
+} finally {
+  if (session) await call("DELETE", `/session/${session}`).catch(() => {});
+  driver.kill();
+  server.close();
+  server.closeAllConnections();
+}
+report("webkit");
