@@ -1,3 +1,5 @@
+pub mod Shim
+pub mod TallyLemmas
 pub mod ShowLemmas
 pub mod RunLemmas
 pub mod SendLemmas
