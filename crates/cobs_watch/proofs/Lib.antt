@@ -1,3 +1,4 @@
+pub mod TallyLemmas
 pub mod ShowLemmas
 pub mod RunLemmas
 pub mod SendLemmas

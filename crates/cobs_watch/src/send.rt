@@ -1,14 +1,16 @@
 //! Sending lines as frames.
-ghost use Rattle.std.specs.Prelude.{◌≡◌, ◌≢◌, ◌↔◌, List, OnOk, IfOk, IfErr, IsOk, IsTrue, ℕ, true};
+ghost use Rattle.std.specs.Prelude.{◌≡◌, ◌≢◌, ◌↔◌, List, [], OnOk, IfOk, IfErr, IsOk, IsTrue, ℕ, true};
+ghost use Rattle.std.specs.Io.Buffered.{writer_buffer, writer_inner};
 ghost use Rattle.std.specs.Io.KnownBytes.{Appends, Keeps};
 ghost use Rattle.hex.specs.Hex.{decode_of};
 ghost use Rattle.cobs_watch.specs.Sent.{HasSent, IsSendable, IsSent, SendsAs, SendsText, text_of};
+ghost use Rattle.cobs_watch.specs.Watched.{IsFlushed};
 
 use crate::fault::WatchFault;
 use cobs::encode_vec_with_sentinel;
 use hex::FromHexError;
 use std::alloc::{AllocError, Global};
-use std::io::{BufRead, Write};
+use std::io::{BufRead, BufWriter, Write};
 
 /// How lines are sent.
 #[derive(Debug, PartialEq, Eq, Clone, Copy)]
@@ -30,15 +32,17 @@ pub struct Settings {
 /// - `WriteFailed`: a write or a flush failed. How much of it went out is not known.
 /// - `OutputClosed`: the same, since nobody reads the output any more.
 /// - `OutOfMemory`: memory was refused for a frame. All lines before it were sent.
-pub fn run_send<B: BufRead, W: Write, E: Write>(
+pub fn run_send<B: BufRead, W: Write + Drop, E: Write>(
     alloc: Global,
     settings: &Settings,
     input: &mut B,
-    output: &mut W,
+    output: &mut BufWriter<W>,
     errors: &mut E,
 ) -> Result<bool, WatchFault>
+    requires flushed { writer_buffer output.old ≡ [] }
     ensures sent { HasSent settings.now result (B.remaining input.old) (B.remaining input.new)
-        (W.contents output.old) (W.contents output.new) }
+        (W.contents (writer_inner output.old)) (W.contents (writer_inner output.new)) }
+    ensures flushed { IsFlushed result (writer_buffer output.new) }
 {
     let mut line = Vec::new(alloc);
     let mut all_sent = true;
@@ -70,18 +74,20 @@ fn without_newline(line: &[u8]) -> &[u8]
 }
 
 /// Sends the text of a line, and answers whether it was sent.
-fn send_text<W: Write>(
+fn send_text<W: Write + Drop>(
     alloc: Global,
     settings: &Settings,
     text: &[u8],
-    output: &mut W,
+    output: &mut BufWriter<W>,
 ) -> Result<bool, WatchFault>
+    requires flushed { writer_buffer output.old ≡ [] }
     ensures sent { OnOk result ((bytes : List ℕ) × SendsText settings.now text.now bytes
-        × Appends (W.contents output.old) (W.contents output.new) bytes) }
+        × Appends (W.contents (writer_inner output.old)) (W.contents (writer_inner output.new)) bytes) }
     ensures answer { IfOk result (λ sent. IsTrue sent ↔ IsSendable settings.now text.now) }
     ensures fault { IfErr result (λ fault. fault ≢ WatchFault.ReadFailed) }
     ensures unwritten { IfErr result (λ fault. fault ≡ WatchFault.OutOfMemory
-        → Keeps (W.contents output.old) (W.contents output.new)) }
+        → Keeps (W.contents (writer_inner output.old)) (W.contents (writer_inner output.new))) }
+    ensures flushed { IsFlushed result (writer_buffer output.new) }
 {
     if settings.hex {
         send_digits(alloc, settings.sentinel, text, output)
@@ -92,18 +98,20 @@ fn send_text<W: Write>(
 }
 
 /// Sends the message whose hexadecimal digits the text has, and answers whether it has some.
-fn send_digits<W: Write>(
+fn send_digits<W: Write + Drop>(
     alloc: Global,
     sentinel: u8,
     text: &[u8],
-    output: &mut W,
+    output: &mut BufWriter<W>,
 ) -> Result<bool, WatchFault>
+    requires flushed { writer_buffer output.old ≡ [] }
     ensures sent { OnOk result ((bytes : List ℕ) × SendsAs true sentinel text.now bytes
-        × Appends (W.contents output.old) (W.contents output.new) bytes) }
+        × Appends (W.contents (writer_inner output.old)) (W.contents (writer_inner output.new)) bytes) }
     ensures answer { IfOk result (λ sent. IsTrue sent ↔ IsOk (decode_of text.now)) }
     ensures fault { IfErr result (λ fault. fault ≢ WatchFault.ReadFailed) }
     ensures unwritten { IfErr result (λ fault. fault ≡ WatchFault.OutOfMemory
-        → Keeps (W.contents output.old) (W.contents output.new)) }
+        → Keeps (W.contents (writer_inner output.old)) (W.contents (writer_inner output.new))) }
+    ensures flushed { IsFlushed result (writer_buffer output.new) }
 {
     match hex::decode(alloc, text) {
         Ok(message) => {
@@ -120,17 +128,19 @@ fn send_digits<W: Write>(
 }
 
 /// Sends a message.
-fn send_message<W: Write>(
+fn send_message<W: Write + Drop>(
     alloc: Global,
     sentinel: u8,
     message: &[u8],
-    output: &mut W,
+    output: &mut BufWriter<W>,
 ) -> Result<(), WatchFault>
+    requires flushed { writer_buffer output.old ≡ [] }
     ensures sent { OnOk result ((bytes : List ℕ) × IsSent sentinel message.now bytes
-        × Appends (W.contents output.old) (W.contents output.new) bytes) }
+        × Appends (W.contents (writer_inner output.old)) (W.contents (writer_inner output.new)) bytes) }
     ensures fault { IfErr result (λ fault. fault ≢ WatchFault.ReadFailed) }
     ensures unwritten { IfErr result (λ fault. fault ≡ WatchFault.OutOfMemory
-        → Keeps (W.contents output.old) (W.contents output.new)) }
+        → Keeps (W.contents (writer_inner output.old)) (W.contents (writer_inner output.new))) }
+    ensures flushed { IsFlushed result (writer_buffer output.new) }
 {
     let bytes = ended_frame(alloc, sentinel, message)?;
     output.write_all(&bytes)?;

@@ -1,66 +1,149 @@
 //! Showing a stream as it comes.
-ghost use Rattle.std.specs.Prelude.{◌≡◌, ◌≢◌, ◌≤◌, ◌<◌, ℕ, List, [], length, take, OnOk, IfOk, IfErr, OnErr, Ok, Err};
-ghost use Rattle.std.specs.Io.KnownBytes.{Consumes, IsAtEnd, Keeps};
-ghost use Rattle.cobs.specs.Fields.Decoders.{owned_buffer, owned_phase};
-ghost use Rattle.cobs.specs.Fields.Reader.{decoder_of, kept_of, reader_state};
-ghost use Rattle.cobs.specs.NextFrame.{ReaderAfter};
+ghost use Rattle.std.specs.Prelude.{◌≡◌, ◌≢◌, ◌≤◌, ◌<◌, ◌↔◌, ◌++◌, ℕ, List, [], length, take, OnOk, IfOk, IfErr, Option, Ok, Err, false};
+ghost use Rattle.std.specs.Io.KnownBytes.{Appends, Consumes, IsAtEnd, Keeps};
+ghost use Rattle.std.specs.Io.Buffered.{writer_buffer, writer_inner};
+ghost use Rattle.cobs.specs.Feed.{DecoderAfter, Idle};
+ghost use Rattle.cobs.specs.FeedPiece.{IsWithin, outcome_at};
+ghost use Rattle.cobs.specs.Fields.Decoders.{phase_at, phase_of};
 ghost use Rattle.cobs.specs.Sentinel.{xor_each};
-ghost use Rattle.cobs_watch.specs.Watched.{HasShown, ShowsBytes};
+ghost use Rattle.cobs.specs.Stream.{Outcome, stream_outcomes, unended};
+ghost use Rattle.cobs_watch.specs.Counted.{IsTallyOf};
+ghost use Rattle.cobs_watch.specs.declared.shown.Settings.{Settings};
+ghost use Rattle.cobs_watch.specs.Shown.{shown, shown_pieces};
+ghost use Rattle.cobs_watch.specs.Watched.{HasShown, IsFlushed};
 
 use crate::fault::WatchFault;
 use crate::shown::{Settings, Style, show_broken, show_end, show_message, show_too_long};
 use crate::tally::Tally;
 use cobs::laws::law_9;
-use cobs::{CobsDecoderOwned, FrameReader, Next};
-use cobs_lines::InMemory;
-use std::alloc::Global;
-use std::io::{ErrorKind, Read, Write};
+use cobs::{DecoderPhase, PieceEnd, UnbufferedDecoder};
+use std::alloc::{AllocError, Global};
+use std::io::{self, BufWriter, ErrorKind, Read, Write};
 
 /// How many bytes are read at once, 64 KiB. What a read gives less is shown at once.
 pub const CHUNK_LEN: usize = 65_536;
 
 /// Shows each piece of the input as its sentinel comes, and at the end of the input whether a piece has begun.
 ///
-/// Memory is taken before the first read alone: for a message of the greatest length, and for a chunk of the input. The
-/// output is flushed before each read, so whatever has ended in the bytes that came is out while the next ones are
-/// waited for. An interrupted read is tried again.
+/// This is one [`Watch::show_next`] after another: each reads once, and before it the output has been flushed. So
+/// whatever has ended in the bytes that came has left the program while the next ones are waited for. Memory is
+/// allocated before the first read alone: for a message of the greatest length, and for a chunk of the input.
 ///
 /// - `ReadFailed`: a read failed. What had ended in all bytes before it is shown.
 /// - `WriteFailed`: a write or a flush failed. How much of it went out is not known.
 /// - `OutputClosed`: the same, since nobody reads the output any more.
-/// - `OutOfMemory`: memory was refused. Nothing was read, and nothing written.
-pub fn run_show<R: Read, W: Write>(
+/// - `OutOfMemory`: memory ran out. Nothing was read, and nothing written.
+pub fn run_show<R: Read, W: Write + Drop>(
     alloc: Global,
     settings: &Settings,
     input: &mut R,
-    output: &mut W,
+    output: &mut BufWriter<W>,
 ) -> Result<Tally, WatchFault>
+    requires flushed { writer_buffer output.old ≡ [] }
     ensures shown { HasShown settings.now result (R.remaining input.old) (R.remaining input.new)
-        (W.contents output.old) (W.contents output.new) }
+        (W.contents (writer_inner output.old)) (W.contents (writer_inner output.new)) }
+    ensures flushed { IsFlushed result (writer_buffer output.new) }
 {
-    law_9();
-    let mut frames = FrameReader::new(CobsDecoderOwned::new(alloc, settings.length)?);
+    let mut watch = Watch::new(alloc, *settings)?;
     let mut chunk = vec![in alloc; 0; CHUNK_LEN]?;
-    let mut tally = Tally::new();
-    let mut unfinished = false;
     'by_read: for _read in 0..usize::MAX {
-        let count = read_chunk(input, &mut chunk)?;
-        if count == 0 {
-            show_end(output, settings.style, unfinished)?;
-            output.flush()?;
-            return Ok(tally);
+        if !watch.show_next(&mut chunk, input, output)? {
+            return Ok(watch.tally);
         }
-        tally.bytes = tally.bytes.saturating_add(count as u64);
-        let bytes = &mut chunk[..count];
-        change_each(bytes, settings.sentinel);
-        unfinished = show_bytes(&mut frames, bytes, settings.style, &mut tally, output)?;
-        output.flush()?;
     }
     Err(WatchFault::ReadFailed)
 }
 
-/// Reads once into the chunk, and again where the read was interrupted: so many bytes came, none at the end of the input.
-fn read_chunk<R: Read>(input: &mut R, chunk: &mut [u8]) -> Result<usize, WatchFault>
+/// A stream that is being shown.
+#[derive(Drop)]
+pub struct Watch {
+    settings: Settings,
+    decoder: UnbufferedDecoder,
+
+    /// The message that the decoder writes.
+    message: Vec<u8>,
+
+    tally: Tally,
+}
+
+impl Watch {
+    ghost use Rattle.cobs_watch.specs.Live.{HasShownSoFar, ShowsNext};
+
+    /// Shows nothing yet.
+    ///
+    /// # Errors
+    /// `AllocError` if memory for a message of the greatest length runs out.
+    pub fn new(alloc: Global, settings: Settings) -> Result<Self, AllocError>
+        ensures start { IfOk result (λ watch. (from before : Option (List ℕ)) →
+            HasShownSoFar settings from from before before watch) }
+    {
+        law_9();
+        let message = vec![in alloc; 0; settings.length]?;
+        Ok(Watch {
+            settings,
+            decoder: UnbufferedDecoder::new(),
+            message,
+            tally: Tally::new(),
+        })
+    }
+
+    /// Reads once into `chunk`, shows each piece that ended in the bytes that came, flushes the output, and returns whether
+    /// the input goes on. At its end, shows whether a piece has begun that no sentinel ended.
+    ///
+    /// Nothing is written before the read, and when it begins the output holds nothing back (`flushed`): what had ended
+    /// has been shown. An interrupted read is tried again.
+    ///
+    /// # Errors
+    /// `ReadFailed` if the read failed; nothing has changed then. `WriteFailed` if a write or a flush failed, and
+    /// `OutputClosed` if that was since nobody reads the output any more.
+    pub fn show_next<R: Read, W: Write + Drop>(
+        &mut self,
+        chunk: &mut [u8],
+        input: &mut R,
+        output: &mut BufWriter<W>,
+    ) -> Result<bool, WatchFault>
+        requires some { 0 < length chunk.old }
+        requires flushed { writer_buffer output.old ≡ [] }
+        ensures shown { (settings : Settings) (from before : Option (List ℕ)) → HasShownSoFar settings from
+            (R.remaining input.old) before (W.contents (writer_inner output.old)) self.old
+            → ShowsNext settings result from (R.remaining input.new) before
+            (W.contents (writer_inner output.new)) self.new }
+        ensures flushed { IsFlushed result (writer_buffer output.new) }
+        ensures fault { IfErr result (λ fault. fault ≢ WatchFault.OutOfMemory) }
+        ensures len { length chunk.new ≡ length chunk.old }
+    {
+        law_9();
+        let count = read_chunk(input, output, chunk)?;
+        if count == 0 {
+            let unfinished = has_begun(self.decoder.phase());
+            show_end(output, self.settings.style, unfinished)?;
+            output.flush()?;
+            return Ok(false);
+        }
+        let bytes = &mut chunk[..count];
+        self.tally.count_bytes(count);
+        xor_bytes(bytes, self.settings.sentinel);
+        show_bytes(
+            &mut self.decoder,
+            &mut self.message,
+            bytes,
+            self.settings.style,
+            &mut self.tally,
+            output,
+        )?;
+        output.flush()?;
+        Ok(true)
+    }
+}
+
+/// Reads once into the chunk, and again if the read was interrupted, and returns how many bytes came, 0 at the end of the
+/// input. Every read of a run is made here, where the output holds nothing back.
+fn read_chunk<R: Read, W: Write + Drop>(
+    input: &mut R,
+    _output: &BufWriter<W>,
+    chunk: &mut [u8],
+) -> Result<usize, WatchFault>
+    requires flushed { writer_buffer _output.now ≡ [] }
     ensures within { IfOk result (λ n. n ≤ length chunk.new) }
     ensures read { IfOk result
         (λ n. Consumes (R.remaining input.old) (R.remaining input.new) (take n chunk.new)) }
@@ -83,8 +166,23 @@ fn read_chunk<R: Read>(input: &mut R, chunk: &mut [u8]) -> Result<usize, WatchFa
     Err(WatchFault::ReadFailed)
 }
 
-/// Changes each byte by exclusive or with the sentinel, so that frames for that sentinel are frames for 0.
-fn change_each(bytes: &mut [u8], sentinel: u8)
+/// Whether a piece has begun.
+fn has_begun(phase: DecoderPhase) -> bool
+    ensures idle { (result ≡ false) ↔ (phase_at phase ≡ Idle) }
+{
+    match phase {
+        DecoderPhase::Idle => false,
+        DecoderPhase::Within {
+            is_full,
+            lacking,
+            written,
+        } => !is_full || lacking != 0 || written != 0,
+        DecoderPhase::TooLong => true,
+    }
+}
+
+/// XORs each byte with the sentinel, so that frames for that sentinel are frames for 0.
+fn xor_bytes(bytes: &mut [u8], sentinel: u8)
     ensures { bytes.new ≡ xor_each sentinel bytes.old }
 {
     for byte in bytes.iter_mut() {
@@ -92,46 +190,51 @@ fn change_each(bytes: &mut [u8], sentinel: u8)
     }
 }
 
-/// Shows the pieces that end in the bytes, and answers whether a piece has begun after them.
+/// Shows the pieces that end in the bytes.
 fn show_bytes<W: Write>(
-    frames: &mut FrameReader<CobsDecoderOwned>,
+    decoder: &mut UnbufferedDecoder,
+    message: &mut [u8],
     bytes: &[u8],
     style: Style,
     tally: &mut Tally,
     output: &mut W,
-) -> Result<bool, WatchFault>
-    requires few { length bytes.now ≤ CHUNK_LEN }
-    requires kept { kept_of frames.old ≡ [] }
-    requires after { (p : List ℕ) × ReaderAfter (reader_state owned_buffer owned_phase frames.old) p }
-    ensures shows { IfOk result (λ unfinished. (p : List ℕ) →
-        ReaderAfter (reader_state owned_buffer owned_phase frames.old) p → ShowsBytes style
-        (reader_state owned_buffer owned_phase frames.old)
-        (reader_state owned_buffer owned_phase frames.new)
-        bytes.now (W.contents output.old) (W.contents output.new) unfinished p) }
-    ensures kept { OnOk result (kept_of frames.new ≡ []) }
-    ensures len { length (owned_buffer (decoder_of frames.new))
-        ≡ length (owned_buffer (decoder_of frames.old)) }
-    ensures written { IfErr result
+) -> Result<(), WatchFault>
+    ensures written { (p : List ℕ) → DecoderAfter message.old (phase_of decoder.old) p → OnOk result
+        (Appends (W.contents output.old) (W.contents output.new)
+        (shown_pieces style (length message.old) (p ++ bytes.now))) }
+    ensures after { (p : List ℕ) → DecoderAfter message.old (phase_of decoder.old) p → OnOk result
+        (DecoderAfter message.new (phase_of decoder.new) (unended (p ++ bytes.now))) }
+    ensures tallied { (p : List ℕ) → DecoderAfter message.old (phase_of decoder.old) p
+        → (outcomes : List Outcome) (read : ℕ) → IsTallyOf tally.old outcomes read → OnOk result
+        (IsTallyOf tally.new (outcomes ++ stream_outcomes (p ++ bytes.now) (length message.old)) read) }
+    ensures len { length message.new ≡ length message.old }
+    ensures fault { IfErr result
         (λ fault. (fault ≢ WatchFault.ReadFailed) × (fault ≢ WatchFault.OutOfMemory)) }
 {
     law_9();
-    let mut source = InMemory::new(bytes);
-    'by_piece: loop {
-        match frames.next_frame(&mut source) {
-            Ok(Next::Message(len)) => {
-                tally.messages = tally.messages.saturating_add(1);
-                show_message(output, style, &frames.decoder().dest()[..len])?;
-            }
-            Ok(Next::Broken(count)) => {
-                tally.broken = tally.broken.saturating_add(1);
-                show_broken(output, style, count)?;
-            }
-            Ok(Next::TooLong) => {
-                tally.too_long = tally.too_long.saturating_add(1);
-                show_too_long(output, style)?;
-            }
-            Ok(Next::End { unfinished }) => return Ok(unfinished),
-            Err(_) => unreachable!(),
-        }
+    let mut at = 0;
+    'by_piece: while let Some((end, count)) = decoder.feed_piece(message, &bytes[at..]) {
+        tally.count_piece(&end);
+        show_piece(output, style, end, message)?;
+        at += count;
+    }
+    Ok(())
+}
+
+/// Shows a piece that ended so, over the buffer that it left.
+fn show_piece<W: Write>(
+    output: &mut W,
+    style: Style,
+    end: PieceEnd,
+    buffer: &[u8],
+) -> io::Result<()>
+    requires within { IsWithin (length buffer.now) end }
+    ensures shown { OnOk result (Appends (W.contents output.old) (W.contents output.new)
+        (shown style (outcome_at end buffer.now))) }
+{
+    match end {
+        PieceEnd::Message(len) => show_message(output, style, &buffer[..len]),
+        PieceEnd::Broken(count) => show_broken(output, style, count),
+        PieceEnd::TooLong => show_too_long(output, style),
     }
 }

@@ -1,10 +1,13 @@
 //! How much came.
-ghost use Rattle.std.specs.Prelude.{◌≡◌};
+ghost use Rattle.cobs.specs.FeedPiece.{outcome_at};
+ghost use Rattle.cobs.specs.Stream.{Outcome};
+ghost use Rattle.cobs_watch.specs.Counted.{IsTallyOf};
 
+use cobs::PieceEnd;
 use std::fmt;
 
 /// How many messages, broken pieces, pieces that were too long, and bytes came. Each number stops at `u64::MAX`.
-#[derive(Debug, PartialEq, Eq, Drop)]
+#[derive(Debug, PartialEq, Eq, Clone, Copy)]
 pub struct Tally {
     pub messages: u64,
     pub broken: u64,
@@ -13,9 +16,11 @@ pub struct Tally {
 }
 
 impl Tally {
+    ghost use Rattle.std.specs.Prelude.{List, ℕ, [], ◌∷◌, ◌++◌, ◌+◌};
+
     /// Nothing has come.
     pub fn new() -> Self
-        ensures none { result ≡ record { messages = 0; broken = 0; too_long = 0; bytes = 0 } }
+        ensures none { IsTallyOf result [] 0 }
     {
         Tally {
             messages: 0,
@@ -23,6 +28,26 @@ impl Tally {
             too_long: 0,
             bytes: 0,
         }
+    }
+
+    /// Counts a piece that ended so.
+    pub fn count_piece(&mut self, end: &PieceEnd)
+        ensures one_more { (outcomes : List Outcome) (read : ℕ) (buffer : List ℕ) → IsTallyOf self.old outcomes read
+            → IsTallyOf self.new (outcomes ++ outcome_at end.now buffer ∷ []) read }
+    {
+        match end {
+            PieceEnd::Message(_) => self.messages = self.messages.saturating_add(1),
+            PieceEnd::Broken(_) => self.broken = self.broken.saturating_add(1),
+            PieceEnd::TooLong => self.too_long = self.too_long.saturating_add(1),
+        }
+    }
+
+    /// Counts `count` bytes that were read.
+    pub fn count_bytes(&mut self, count: usize)
+        ensures more { (outcomes : List Outcome) (read : ℕ) → IsTallyOf self.old outcomes read
+            → IsTallyOf self.new outcomes (read + count) }
+    {
+        self.bytes = self.bytes.saturating_add(count as u64);
     }
 }
 

@@ -6,7 +6,7 @@ use crate::show::run_show;
 use crate::shown::{Settings, Style};
 use crate::tally::Tally;
 use std::alloc::Global;
-use std::io::{self, BufReader, ErrorKind, Read, Write};
+use std::io::{self, BufReader, BufWriter, ErrorKind, Read, Write};
 use std::test::Fail;
 
 /// Four pieces over a buffer of four bytes, and the begin of a fifth.
@@ -123,9 +123,9 @@ fn a_stream_is_shown_in_each_style(rt: HostRuntime) -> Result<(), Fail> {
     let alloc = rt.alloc();
     for (style, shown) in SHOWN {
         let mut input = STREAM;
-        let mut output = Vec::new(alloc);
+        let mut output = BufWriter::new(alloc, Vec::new(alloc))?;
         let tally = run_show(alloc, &settings(style), &mut input, &mut output);
-        assert_eq!(rt; output.as_slice(), shown);
+        assert_eq!(rt; output.get_ref().as_slice(), shown);
         assert_eq!(rt;
             tally,
             Ok(Tally {
@@ -144,10 +144,10 @@ fn one_byte_a_read_and_a_write_shows_the_same(rt: HostRuntime) -> Result<(), Fai
     let alloc = rt.alloc();
     for interrupted in 0..22 {
         let mut input = reader(STREAM, interrupted, ErrorKind::Interrupted);
-        let mut output = writer(alloc, interrupted, ErrorKind::Interrupted);
+        let mut output = BufWriter::new(alloc, writer(alloc, interrupted, ErrorKind::Interrupted))?;
         let shown = run_show(alloc, &settings(Style::Hex), &mut input, &mut output);
         assert!(rt; shown.is_ok());
-        assert_eq!(rt; output.bytes.as_slice(), SHOWN[0].1);
+        assert_eq!(rt; output.get_ref().bytes.as_slice(), SHOWN[0].1);
     }
     Ok(())
 }
@@ -159,7 +159,7 @@ fn a_failed_read_loses_no_piece_that_had_ended(rt: HostRuntime) -> Result<(), Fa
     let ended: [(usize, usize); 5] = [(0, 0), (5, 15), (8, 24), (15, 33), (19, 48)];
     for failing in 0..20 {
         let mut input = reader(STREAM, failing, ErrorKind::Other);
-        let mut output = Vec::new(alloc);
+        let mut output = BufWriter::new(alloc, Vec::new(alloc))?;
         let shown = run_show(alloc, &settings(Style::Hex), &mut input, &mut output);
         assert_eq!(rt; shown, Err(WatchFault::ReadFailed));
         let mut out = 0;
@@ -169,7 +169,7 @@ fn a_failed_read_loses_no_piece_that_had_ended(rt: HostRuntime) -> Result<(), Fa
             }
         }
         let text = SHOWN[0].1;
-        assert_eq!(rt; output.as_slice(), &text[..out.min(text.len())]);
+        assert_eq!(rt; output.get_ref().as_slice(), &text[..out.min(text.len())]);
     }
     Ok(())
 }
@@ -184,10 +184,10 @@ fn a_failed_write_ends_a_run(rt: HostRuntime) -> Result<(), Fail> {
     for (kind, fault) in faults {
         for failing in 0..58 {
             let mut input = STREAM;
-            let mut output = writer(alloc, failing, kind);
+            let mut output = BufWriter::new(alloc, writer(alloc, failing, kind))?;
             let shown = run_show(alloc, &settings(Style::Hex), &mut input, &mut output);
             assert!(rt; shown.is_err_and(|found| found == fault));
-            assert_eq!(rt; output.bytes.as_slice(), &SHOWN[0].1[..failing]);
+            assert_eq!(rt; output.get_ref().bytes.as_slice(), &SHOWN[0].1[..failing]);
         }
     }
     Ok(())
@@ -199,11 +199,11 @@ fn lines_are_sent(rt: HostRuntime) -> Result<(), Fail> {
     for (hex, lines, sent, all) in SENT {
         let how = send::Settings { hex, sentinel: 0 };
         let mut input = BufReader::new(alloc, reader(lines, usize::MAX, ErrorKind::Other))?;
-        let mut output = Vec::new(alloc);
+        let mut output = BufWriter::new(alloc, Vec::new(alloc))?;
         let mut errors = Vec::new(alloc);
         let done = run_send(alloc, &how, &mut input, &mut output, &mut errors);
         assert_eq!(rt; done, Ok(all));
-        assert_eq!(rt; output.as_slice(), sent);
+        assert_eq!(rt; output.get_ref().as_slice(), sent);
         assert_eq!(rt; errors.is_empty(), all);
     }
     Ok(())

@@ -1,6 +1,10 @@
-use Rattle.cobs_watch.specs.Sent.{HasSentAll}
+use Rattle.std.proofs.Common.{◌≡◌, []}
+use Rattle.std.specs.Io.Buffered.{writer_buffer, writer_inner}
+use Rattle.cobs_watch.proofs.SendLemmas.{SentSoFar}
 use Rattle.cobs_watch.proofs.send.run_send.Given as goal
 
 abbrev pub invariant-by_line : goal.invariant-by_line
-invariant-by_line g l =
-    HasSentAll l.settings l.all_sent (g.B.Read.remaining l.fn.input) (g.B.Read.remaining l.input) (g.W.Write.contents l.fn.output) (g.W.Write.contents l.output)
+invariant-by_line g l = record {
+  so_far : SentSoFar l.settings l.all_sent (g.B.Read.remaining l.fn.input) (g.B.Read.remaining l.input) (g.W.Write.contents (writer_inner l.fn.output)) (g.W.Write.contents (writer_inner l.output));
+  flushed : writer_buffer l.output ≡ [];
+}
