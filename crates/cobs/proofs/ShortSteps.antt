@@ -145,7 +145,7 @@ module _ (H : List ℕ → Type 0) (source old slice : List ℕ) (end read len i
 
 -- a source that can't fill the open block, copied
 module _ (source old slice : List ℕ) (r : Reached) (index next : ℕ) (full : Bool) (mask : ℕ) (is : at index (next - index) full ≡ r) (ordered : index < next) (short : next < index + 255)
-    (some : 0 < length source) (few : length source < 32) (open' : r.block.code + length source < 255) (fits : end_with r source ≤ length old)
+    (some : 0 < length source) (few : length source ≤ 32) (open' : r.block.code + length source < 255) (fits : end_with r source ≤ length old)
     (copied : slice ≡ take next old ++ (take (length source) (drop 0 source) ++ drop (next + length source) old)) (bits : mask ≡ zero_mask (take (length source) (drop 0 source))) where
   abbrev H : List ℕ → Type 0
   H = CobsEncoderAfter old r

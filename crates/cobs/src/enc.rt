@@ -14,7 +14,7 @@ mod vector;
 
 use crate::window::WINDOW;
 pub(crate) use blocks::FULL_CODE;
-use blocks::{Progress, append, append_last, close};
+use blocks::{Progress, append, append_short, close};
 pub use encoder::CobsEncoder;
 pub use error::DestBufTooSmallError;
 use room::fits_any;
@@ -50,15 +50,15 @@ pub fn encode(source: &[u8], dest: &mut [u8]) -> usize
     ensures len { result ≡ encoded_len source.now }
     ensures rest { drop result dest.new ≡ drop result dest.old }
 {
-    if source.len() > WINDOW {
-        return encode_long(source, dest);
+    if 0 < source.len() && source.len() <= WINDOW {
+        let mut progress = Progress::new();
+        append_short(source, dest, &mut progress, false);
+        return close(dest, progress);
     }
-    let mut progress = Progress::new();
-    append_last(source, dest, &mut progress);
-    close(dest, progress)
+    encode_long(source, dest)
 }
 
-/// Does what [`encode`] does, for messages of more than one window: a function of its own, so that a short message
+/// Does what [`encode`] does, for messages of any length: a function of its own, so that a message of one window
 /// doesn't pay for the registers that the loop over windows takes.
 #[inline(never)]
 fn encode_long(source: &[u8], dest: &mut [u8]) -> usize

@@ -1,13 +1,15 @@
 //! How a message is cut into blocks: the core that every encoder into a slice stands on.
-ghost use Rattle.std.specs.Prelude.{◌≡◌, ◌≢◌, ◌<◌, ◌≤◌, ◌+◌, ◌-◌, ◌%◌, ◌^◌, ◌++◌, [], ℕ, IsTrue, List, false, length, take, drop, replicate, slice_set};
-ghost use Rattle.cobs.specs.Grammar.{IsEncodedFrame};
+ghost use Rattle.std.specs.Prelude.{◌≡◌, ◌≢◌, ◌<◌, ◌≤◌, ◌+◌, ◌-◌, ◌%◌, ◌^◌, ◌++◌, [], ℕ, IsTrue, List, false, length, take, drop, replicate, slice_index, slice_set};
+ghost use Rattle.cobs.specs.Grammar.{HasNoZero, IsEncodedFrame};
 ghost use Rattle.cobs.specs.OpenBlock.{CobsEncoderAfter, end_of};
 ghost use Rattle.cobs.specs.Internal.OpenLen.{open_len};
 ghost use Rattle.cobs.specs.Internal.Mask.{lowest, without_lowest};
 
 use crate::window::{
-    WINDOW, copy_at, copy_window, is_all_zeros, write_ones, write_some_ones, zeros_at,
+    WINDOW, copy_at, copy_window, first_zero_of_few, is_all_zeros, write_ones, write_some_ones,
+    zeros_at,
 };
+use memchr::memchr;
 use std::marker::Model;
 
 /// The code of a full block, which is how many bytes the block has with its code.
@@ -131,13 +133,13 @@ fn mark_first(dest: &mut [u8], index: usize, next: usize, zeros: u64) -> (usize,
     (index, zeros & zeros.wrapping_sub(1))
 }
 
-/// Takes a `source` of fewer than 32 bytes that can't fill the open block, by few branches that could be guessed wrong:
+/// Takes a `source` of up to 32 bytes that can't fill the open block, by few branches that could be guessed wrong:
 /// two zeros are marked before the first question is how many there are. With `few_zeros` a source without zeros is
 /// asked for before that.
 #[inline(always)]
 pub(crate) fn append_short(source: &[u8], dest: &mut [u8], progress: &mut Progress, few_zeros: bool)
     requires some { 0 < length source.now }
-    requires few { length source.now < 32 }
+    requires few { length source.now ≤ 32 }
     requires open_block { progress.old.block.code + length source.now < 255 }
     requires fits { progress.old.block.index + open_len progress.old.block.code source.now
         ≤ length dest.old }
@@ -236,7 +238,7 @@ pub(crate) fn append_last(source: &[u8], dest: &mut [u8], progress: &mut Progres
     ensures rest { drop (end_of progress.new) dest.new ≡ drop (end_of progress.new) dest.old }
 {
     let len = source.len();
-    if len > 0 && len < WINDOW && progress.code() + len < FULL_CODE {
+    if len > 0 && len <= WINDOW && progress.code() + len < FULL_CODE {
         append_short(source, dest, progress, false);
     } else {
         append_windows(source, dest, progress);
@@ -359,6 +361,19 @@ pub(crate) fn append(source: &[u8], dest: &mut [u8], progress: &mut Progress)
         let read = append_whole_windows(source, dest, progress);
         append_last(&source[read..], dest, progress);
     }
+}
+
+/// How many nonzero bytes `source` begins with: those before its next zero, which `memchr` finds.
+pub(crate) fn run_len(source: &[u8]) -> usize
+    requires some { 0 < length source.now }
+    ensures within { result ≤ length source.now }
+    ensures nonzero { HasNoZero (take result source.now) }
+    ensures stop { result < length source.now → slice_index source.now result ≡ 0 }
+{
+    if source.len() > WINDOW {
+        return memchr(0, source).unwrap_or(source.len());
+    }
+    first_zero_of_few(source)
 }
 
 /// Writes the code of the open block where that block is part of the frame, and answers where the frame ends.

@@ -3,9 +3,9 @@ ghost use Rattle.std.specs.Prelude.{◌≡◌, ◌<◌, ◌≤◌, ◌+◌, ◌-
 ghost use Rattle.cobs.specs.Internal.OpenLen.{open_len};
 ghost use Rattle.cobs.specs.Length.{full_blocks, runs};
 
-use crate::enc::blocks::FULL_CODE;
+use crate::enc::blocks::{FULL_CODE, run_len};
 use crate::max_encoding_overhead;
-use crate::window::{WINDOW, zeros_at};
+use memchr::memrchr;
 
 /// How many bytes a full block has after its code.
 const FULL_BLOCK_BYTES: usize = 254;
@@ -47,33 +47,30 @@ pub(crate) fn fits_any(code: usize, source: &[u8], room: usize) -> bool
     code + count_full_blocks(taken, source) <= spare
 }
 
-/// How many full blocks the encoded frame of `run` nonzero bytes and then `source` has, but for a last one: each run of
-/// nonzero bytes fills a block with each 254 of them. Whole windows are counted by the mask of their zeros.
+/// How many full blocks the encoded frame of `run` nonzero bytes and then `source` has, but for a last one. A block
+/// can't be full if one of its next 254 bytes is a zero: the last such zero is as far as a search goes at once. A run
+/// that fills a block is searched for its end, as by the encoder, and has a full block for each 254 of its bytes.
 fn count_full_blocks(run: usize, source: &[u8]) -> usize
-    requires { run < 255 }
+    requires { run < 254 }
     ensures count { result ≡ full_blocks (runs (replicate run 1 ++ source.now)) }
 {
     let mut run = run;
     let mut counted = 0;
     let mut read = 0;
-    'by_window: while source.len() - read >= WINDOW {
-        let zeros = zeros_at::<32>(source, read);
-        if zeros == 0 {
-            run += WINDOW;
+    'by_run: while FULL_BLOCK_BYTES - run < source.len() - read {
+        let end = read + (FULL_BLOCK_BYTES - run);
+        if let Some(zero) = memrchr(0, &source[read..end]) {
+            read += zero + 1;
         } else {
-            counted += (run + zeros.trailing_zeros() as usize) / FULL_BLOCK_BYTES;
-            run = zeros.leading_zeros() as usize - WINDOW;
+            let more = run_len(&source[read..]);
+            read += more;
+            if read == source.len() {
+                return counted + (run + more - 1) / FULL_BLOCK_BYTES;
+            }
+            counted += (run + more) / FULL_BLOCK_BYTES;
+            read += 1;
         }
-        read += WINDOW;
+        run = 0;
     }
-    'by_byte: while read < source.len() {
-        if source[read] == 0 {
-            counted += run / FULL_BLOCK_BYTES;
-            run = 0;
-        } else {
-            run += 1;
-        }
-        read += 1;
-    }
-    counted + run.saturating_sub(1) / FULL_BLOCK_BYTES
+    counted
 }

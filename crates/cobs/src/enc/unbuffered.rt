@@ -245,6 +245,8 @@ impl UnbufferedEncoder {
         ensures buffer_len { length dest.new ≡ length dest.old }
         ensures start { OnOk result (reached_by self.new
             ≡ record { block = record { index = 0; code = 1 }; full = false }) }
+        ensures taken { OnOk result ((buffer : List ℕ) → 0 < length buffer
+            → CobsEncoderAfter buffer (reached_by self.new) []) }
         ensures refused { OnErr result
             ((dest.new ≡ dest.old) × (reached_by self.new ≡ reached_by self.old)) }
     {

@@ -1,87 +1,84 @@
-use Rattle.std.proofs.Common.{◌≡◌, ◌≢◌, ℕ, ◌+◌, ◌≤◌, List, [], take, drop, sym, ap, ◌∙◌, arith}
-use Rattle.std.proofs.lemmas.List.{drop_all}
-use Rattle.cobs.specs.Internal.Mask.{zero_mask}
-use Rattle.cobs.proofs.RoomLemmas.{blocks_in, behind, blocks-le, blocks-end, window-none, window-some, leading-range, byte-zero, byte-other}
-use Rattle.cobs.proofs.enc.room.count_full_blocks.Goals.{then-zeros-eq0, else-zeros-eq0, then-source-read-eq0, else-source-read-eq0}
+use Rattle.std.proofs.Common.{◌≡◌, ◌<◌, ◌+◌, ◌-◌, ◌/◌, ℕ, List, [], length, drop, take, get_or, sym, ap, ◌∙◌, subst, arith, length-drop, length-take-le}
+use Rattle.std.proofs.lemmas.Bool.{eqb-true}
+use Rattle.std.proofs.lemmas.List.{drop_all, get_or-take, get_or-drop, take_rest}
+use Rattle.cobs.specs.Grammar.{HasNoZero}
+use Rattle.cobs.proofs.RoomLemmas.{blocks_in, behind, blocks-le, blocks-end, blocks-none, skipped, run-more, byte-zero}
 use Rattle.cobs.proofs.enc.room.count_full_blocks.Goals as goal
 
-pub overflow_add-counted-else-zeros-eq0 : goal.overflow_add-counted-else-zeros-eq0
-overflow_add-counted-else-zeros-eq0 c =
+-- the source ends with the run
+ended : (c : goal.Then-read-source) → c.by_run.counted + (c.by_run.run + c.run_len-more.result - 1) / 254 ≡ blocks_in (behind c.args.run c.args.source.now)
+ended c =
     let source : List ℕ = c.args.source.now in
-    let read : ℕ = c.by_window.read in
-    let z : zero_mask (take 32 (drop read source)) ≡ c.zeros_at-zeros.result = sym c.zeros_at-zeros.ensures in
-    let s = rw z at (window-some source read c.by_window.run (omega arith) (λ e. c.if-zeros-eq0.false (sym z ∙ e))) in
-    let le = blocks-le c.args.run source in
-    let counted = c.by_window.invariant.counted in
+    let read : ℕ = c.by_run.read in
+    let run : ℕ = c.by_run.run in
+    let more : ℕ = c.run_len-more.result in
+    let nonzero = subst HasNoZero (ap (take more) (take_rest source read)) c.run_len-more.ensures.nonzero in
+    let all = run-more source read run more (omega arith) nonzero in
+    let none : drop (read + more) source ≡ [] = drop_all (read + more) source (omega arith) in
+    let end = ap (λ (x : List ℕ). blocks_in (behind (run + more) x)) none ∙ blocks-end (run + more) in
+    let counted = c.by_run.invariant.counted in
     omega arith
 
-pub overflow_sub-run : goal.overflow_sub-run
-overflow_sub-run c =
-    let source : List ℕ = c.args.source.now in
-    let read : ℕ = c.by_window.read in
-    let z : zero_mask (take 32 (drop read source)) ≡ c.zeros_at-zeros.result = sym c.zeros_at-zeros.ensures in
-    (rw z at (leading-range source read c.by_window.run (omega arith) (λ e. c.if-zeros-eq0.false (sym z ∙ e)))).0
+pub overflow_add-result-then-read-source : goal.overflow_add-result-then-read-source
+overflow_add-result-then-read-source c = let le = blocks-le c.args.run c.args.source.now in let e = ended c in omega arith
 
-pub by_window-preserved : goal.by_window-preserved
-by_window-preserved c =
-    let source : List ℕ = c.args.source.now in
-    let read : ℕ = c.by_window.read in
-    let run' : ℕ = c.if-zeros-eq0.run in
-    let counted = c.by_window.invariant.counted in
-    let z : zero_mask (take 32 (drop read source)) ≡ c.zeros_at-zeros.result = sym c.zeros_at-zeros.ensures in
-    let both : (run' ≤ read + 32 + 254) × (c.if-zeros-eq0.counted + blocks_in (behind run' (drop (read + 32) source)) ≡ blocks_in (behind c.args.run source)) = elim c.if-zeros-eq0.branch [
-      | then-zeros-eq0 w ↦ (let s = window-none source read c.by_window.run (omega arith) (z ∙ w.if-zeros-eq0.true) in
-          let e = ap (λ (n : ℕ). blocks_in (behind n (drop (read + 32) source))) w.run-is in
-          let r = w.run-is in let k = w.counted-is in
-          (omega arith, omega arith))
-      | else-zeros-eq0 w ↦ (let some : zero_mask (take 32 (drop read source)) ≢ 0 = λ e. w.if-zeros-eq0.false (sym z ∙ e) in
-          let s = rw z at (window-some source read c.by_window.run (omega arith) some) in
-          let l = rw z at (leading-range source read c.by_window.run (omega arith) some) in
-          let e = ap (λ (n : ℕ). blocks_in (behind n (drop (read + 32) source))) w.run-is in
-          let r = w.run-is in let k = w.counted-is in
-          (omega arith, omega arith))
-    ] in
-    record { within = omega arith; run = both.0; counted = both.1 }
+pub returns-then-read-source : goal.returns-then-read-source
+returns-then-read-source c = record { count = ended c }
 
-pub overflow_add-counted-then-source-read-eq0 : goal.overflow_add-counted-then-source-read-eq0
-overflow_add-counted-then-source-read-eq0 c =
+-- a zero ends the run
+stopped : (c : goal.Else-read-source) → c.by_run.counted + (c.by_run.run + c.run_len-more.result) / 254 + blocks_in (behind 0 (drop (c.by_run.read + c.run_len-more.result + 1) c.args.source.now))
+    ≡ blocks_in (behind c.args.run c.args.source.now)
+stopped c =
     let source : List ℕ = c.args.source.now in
-    let s = byte-zero source c.by_byte.read c.by_byte.run (omega arith) c.if-source-read-eq0.true in
-    let le = blocks-le c.args.run source in
-    let counted = c.by_byte.invariant.counted in
+    let read : ℕ = c.by_run.read in
+    let run : ℕ = c.by_run.run in
+    let more : ℕ = c.run_len-more.result in
+    let rest = take_rest source read in
+    let long = ap length rest ∙ length-drop read source in
+    let within = c.run_len-more.ensures.within in
+    let w = c.by_run.invariant.within in
+    let other = c.if-read-source.false in
+    let lt : read + more < length source = omega arith in
+    let nonzero = subst HasNoZero (ap (take more) rest) c.run_len-more.ensures.nonzero in
+    let all = run-more source read run more (omega arith) nonzero in
+    let is : get_or source (read + more) 0 ≡ 0 = sym (get_or-drop read source more 0) ∙ sym (ap (λ (x : List ℕ). get_or x more 0) rest) ∙ c.run_len-more.ensures.stop (omega arith) in
+    let zero = byte-zero source (read + more) (run + more) lt is in
+    let counted = c.by_run.invariant.counted in
     omega arith
 
-pub by_byte-preserved : goal.by_byte-preserved
-by_byte-preserved c =
-    let source : List ℕ = c.args.source.now in
-    let read : ℕ = c.by_byte.read in
-    let run' : ℕ = c.if-source-read-eq0.run in
-    let counted = c.by_byte.invariant.counted in
-    let both : (run' ≤ read + 1 + 254) × (c.if-source-read-eq0.counted + blocks_in (behind run' (drop (read + 1) source)) ≡ blocks_in (behind c.args.run source)) = elim c.if-source-read-eq0.branch [
-      | then-source-read-eq0 w ↦ (let s = byte-zero source read c.by_byte.run (omega arith) w.if-source-read-eq0.true in
-          let e = ap (λ (n : ℕ). blocks_in (behind n (drop (read + 1) source))) w.run-is in
-          let r = w.run-is in let k = w.counted-is in
-          (omega arith, omega arith))
-      | else-source-read-eq0 w ↦ (let s = byte-other source read c.by_byte.run (omega arith) w.if-source-read-eq0.false in
-          let e = ap (λ (n : ℕ). blocks_in (behind n (drop (read + 1) source))) w.run-is in
-          let r = w.run-is in let k = w.counted-is in
-          (omega arith, omega arith))
-    ] in
-    record { within = omega arith; run = both.0; counted = both.1 }
+pub overflow_add-counted-in_default : goal.overflow_add-counted-in_default
+overflow_add-counted-in_default c = let le = blocks-le c.args.run c.args.source.now in let e = stopped c in omega arith
 
-pub overflow_add-result : goal.overflow_add-result
-overflow_add-result c =
+pub by_run-preserved-in-Some : goal.by_run-preserved-in-Some
+by_run-preserved-in-Some c =
     let source : List ℕ = c.args.source.now in
-    let none : drop c.by_byte.read source ≡ [] = drop_all c.by_byte.read source (omega arith) in
-    let e = ap (λ (x : List ℕ). blocks_in (behind c.by_byte.run x)) none ∙ blocks-end c.by_byte.run in
-    let le = blocks-le c.args.run source in
-    let counted = c.by_byte.invariant.counted in
-    omega arith
+    let read : ℕ = c.by_run.read in
+    let run : ℕ = c.by_run.run in
+    let zero : ℕ = c.in-Some.zero in
+    let n : ℕ = read + (254 - run) - read in
+    let short = c.by_run.invariant.run in
+    let w = c.by_run.invariant.within in
+    let test = c.by_run-test.true in
+    let d = length-drop read source in
+    let long : length (take n (drop read source)) ≡ n = length-take-le n (drop read source) (omega arith) in
+    let lt = c.in-Some.ensures.0.high in
+    let is : get_or source (read + zero) 0 ≡ 0 = sym (get_or-drop read source zero 0) ∙ sym (get_or-take n (drop read source) zero 0 (omega arith)) ∙ eqb-true _ 0 c.in-Some.ensures.1 in
+    let skip = skipped source read run zero (omega arith) (omega arith) is in
+    let counted = c.by_run.invariant.counted in
+    record { within = omega arith; run = omega arith; counted = omega arith }
+
+pub by_run-preserved : goal.by_run-preserved
+by_run-preserved c =
+    let e = stopped c in
+    let long = ap length (take_rest c.args.source.now c.by_run.read) ∙ length-drop c.by_run.read c.args.source.now in
+    let within = c.run_len-more.ensures.within in
+    let w = c.by_run.invariant.within in
+    let other = c.if-read-source.false in
+    record { within = omega arith; run = omega arith; counted = e }
 
 pub returns : goal.returns
 returns c =
-    let source : List ℕ = c.args.source.now in
-    let none : drop c.by_byte.read source ≡ [] = drop_all c.by_byte.read source (omega arith) in
-    let e = ap (λ (x : List ℕ). blocks_in (behind c.by_byte.run x)) none ∙ blocks-end c.by_byte.run in
-    let counted = c.by_byte.invariant.counted in
+    let d = length-drop c.by_run.read c.args.source.now in
+    let none = blocks-none c.by_run.run (drop c.by_run.read c.args.source.now) (let w = c.by_run.invariant.within in let test = c.by_run-test.false in omega arith) in
+    let counted = c.by_run.invariant.counted in
     record { count = omega arith }
