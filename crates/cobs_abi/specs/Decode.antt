@@ -1,5 +1,5 @@
 -- What the calls that decode whole frames ensure.
-use Rattle.std.specs.Prelude.{◌≡◌, ◌↔◌, ◌++◌, ℕ, List, length, drop, Some, None}
+use Rattle.std.specs.Prelude.{◌≡◌, ◌≢◌, ◌≤◌, ◌↔◌, ◌++◌, ℕ, List, length, drop, Some, None}
 use Rattle.cobs.specs.Decode.{first_output, in_place, in_place_answer, len_through_piece, sized, source_answer}
 use Rattle.cobs.specs.Grammar.{IsCanonical, IsFrame}
 use Rattle.cobs.specs.Overwritten.{overwritten}
@@ -8,7 +8,7 @@ use Rattle.cobs.specs.Sentinel.{xor_each}
 use Rattle.cobs.specs.Stream.{first_piece, head, outcome_of}
 use Rattle.cobs_abi.specs.Answer.{answer_by, head_end}
 use Rattle.cobs_abi.specs.declared.answer.Answer.{Answer}
-use Rattle.cobs_abi.specs.declared.answer.TheConstants.{EMPTY}
+use Rattle.cobs_abi.specs.declared.answer.TheConstants.{EMPTY, TOO_SMALL}
 use Rattle.cobs_abi.specs.declared.kind.TheConstants.{CANONICAL, LONGER, NOT_A_FRAME}
 
 -- `jcobs_decode`: the first piece of the source is decoded to the front of the buffer `message`
@@ -17,6 +17,8 @@ pub record Decodes (source message : List ℕ) (result : Answer) (message' : Lis
   pub some : (p : List ℕ) → first_piece source ≡ Some p
       → result ≡ answer_by (len_through_piece source p) (length message) (sized (outcome_of p (length message)))
   pub buffer : message' ≡ overwritten message (first_output source)
+  -- a buffer as long as the source suffices
+  pub room : length source ≤ length message → result.status ≢ TOO_SMALL
 
 -- `jcobs_decode_with_sentinel`: so is what is in front of the first sentinel s
 pub record DecodesFor (s : ℕ) (source message : List ℕ) (result : Answer) (message' : List ℕ) : Type 0 where

@@ -8,6 +8,7 @@ ghost use Rattle.cobs_abi.specs.Answer.{head_end};
 ghost use Rattle.cobs_abi.specs.Decode.{Decodes, DecodesFor, DecodesInPlace, DecodesInPlaceFor, IsKindOf};
 
 use cobs::FrameKind;
+use cobs::laws::law_1;
 use cobs_abi::{Answer, CANONICAL, EMPTY, LONGER, NOT_A_FRAME, answer_by, done};
 use memchr::memchr;
 
@@ -47,7 +48,7 @@ fn first_piece_end(source: &[u8]) -> Option<usize>
     ensures none { result ≡ None → first_piece source.now ≡ None }
     ensures some { IfSome result
         (λ end. (p : List ℕ) × (first_piece source.now ≡ Some p)
-        × (end ≡ len_through_piece source.now p)) }
+        × (end ≡ len_through_piece source.now p) × (length p ≤ length source.now)) }
 {
     let start = leading_zeros(source);
     let rest = &source[start..];
@@ -64,6 +65,7 @@ fn first_piece_end(source: &[u8]) -> Option<usize>
 pub extern "C" fn jcobs_decode(source: &[u8], message: &mut [u8]) -> Answer
     ensures decodes { Decodes source.now message.old result message.new }
 {
+    law_1();
     let room = message.len();
     match cobs::decode(source, message) {
         Ok(report) => answer_by(report.parsed_size(), room, Ok(report.frame_size())),

@@ -17,7 +17,8 @@ returns-then-end-source-clause-some c =
     let rest : List ℕ = take (length c.args.source.now - c.leading_zeros-start.result) (drop c.leading_zeros-start.result c.args.source.now) in
     let long = length-take-le c.first_sentinel-len.result rest e.within in
     let start = c.leading_zeros-start.ensures.count in
-    (take c.first_sentinel-len.result rest, first_piece_some c.args.source.now _ c.first_sentinel-len.result rest-is e.within e.before e.stop (omega arith), omega arith)
+    let len-rest = ap length (take_rest c.args.source.now c.leading_zeros-start.result) ∙ length-drop c.leading_zeros-start.result c.args.source.now in
+    (take c.first_sentinel-len.result rest, first_piece_some c.args.source.now _ c.first_sentinel-len.result rest-is e.within e.before e.stop (omega arith), omega arith, omega (arith, len-rest))
 
 pub returns-else-end-source-clause-some : goal.returns-else-end-source-clause-some
 returns-else-end-source-clause-some c =
@@ -28,4 +29,5 @@ returns-else-end-source-clause-some c =
     let long = length-take-le c.first_sentinel-len.result rest e.within in
     let r = ap length (take_rest c.args.source.now c.leading_zeros-start.result) ∙ length-drop c.leading_zeros-start.result c.args.source.now in
     let start = c.leading_zeros-start.ensures.count in
-    (take c.first_sentinel-len.result rest, first_piece_some c.args.source.now _ c.first_sentinel-len.result rest-is e.within e.before e.stop (omega arith), omega arith)
+    let len-rest = ap length (take_rest c.args.source.now c.leading_zeros-start.result) ∙ length-drop c.leading_zeros-start.result c.args.source.now in
+    (take c.first_sentinel-len.result rest, first_piece_some c.args.source.now _ c.first_sentinel-len.result rest-is e.within e.before e.stop (omega arith), omega arith, omega (arith, len-rest))

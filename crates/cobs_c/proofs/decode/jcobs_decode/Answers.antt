@@ -1,8 +1,9 @@
-use Rattle.std.proofs.Common.{◌≡◌, ℕ, List, Err, sym, ap, ◌∙◌, length}
+use Rattle.std.proofs.Common.{◌≡◌, ℕ, List, Err, sym, ap, ◌∙◌, length, arith}
 use Rattle.cobs.specs.Decode.{len_through_piece, sized}
 use Rattle.cobs.specs.Stream.{outcome_of}
 use Rattle.cobs_abi.specs.Answer.{answer_by}
-use Rattle.cobs_c.proofs.SourceLemmas.{answer-some, reported-err}
+use Rattle.cobs_abi.specs.declared.answer.Answer.{Answer}
+use Rattle.cobs_c.proofs.SourceLemmas.{answer-some, reported-err, too_long-output, too_small-only}
 use Rattle.cobs_c.proofs.decode.jcobs_decode.Goals as goal
 
 pub returns-in-Some : goal.returns-in-Some
@@ -18,5 +19,11 @@ returns-in-Some c =
             let refused = reported-err (len_through_piece source p) (sized (outcome_of p n)) c.in-Err.error (c.in-Err.ensures.answer ∙ answer-some source p n is) in
             c.answer_by-in-Some.ensures ∙ ap (λ (k : ℕ). answer_by k n (Err c.in-Err.error)) (found.2 ∙ ap (len_through_piece source) same) ∙ ap (answer_by (len_through_piece source p) n) refused;
         buffer = c.decode.ensures.buffer;
+        room = λ long small.
+            let p : List ℕ = found.0 in
+            let refused = reported-err (len_through_piece source p) (sized (outcome_of p n)) c.in-Err.error (c.in-Err.ensures.answer ∙ answer-some source p n found.1) in
+            let error = too_small-only c.in-Some.end n c.in-Err.error (sym (ap (λ (a : Answer). a.status) c.answer_by-in-Some.ensures) ∙ small) in
+            let longer = too_long-output p n (sym (ap Err error) ∙ refused) in
+            absurd (omega (arith, longer, c.law_1.ensures.within p, found.3, long));
       };
     }
