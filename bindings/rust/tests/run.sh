@@ -89,7 +89,7 @@ is_refused() { # WORDS COMMAND..
 build_script() (
     rustc --edition 2021 -o "$work/build-script" build.rs || return 1
     unset JCOBS_LIB_DIR PKG_CONFIG_PATH
-    mkdir -p "$work/alone/vendor" && ln -sf "$rust/prebuilt" "$work/alone/prebuilt" || return 1
+    mkdir -p "$work/alone/vendor" && cp -r "$rust/prebuilt" "$work/alone/prebuilt" || return 1
     CARGO_MANIFEST_DIR=$work/alone
     PKG_CONFIG_LIBDIR=$work/none
     export CARGO_MANIFEST_DIR PKG_CONFIG_LIBDIR
@@ -115,7 +115,7 @@ build_script() (
     is_refused JCOBS_LIB_DIR script x86_64-unknown-linux-gnu x86_64 linux 64 little || return 1
     # Without prebuilt/, the installed library, if it is of version 1.
     unset JCOBS_LIB_DIR
-    rm "$work/alone/prebuilt"
+    rm -r "$work/alone/prebuilt"
     is_refused 'no library' script x86_64-unknown-linux-gnu x86_64 linux 64 little || return 1
     command -v pkg-config >/dev/null || return 0
     PKG_CONFIG_LIBDIR=$work/alone

@@ -1,0 +1,253 @@
+// jcobs.hpp: jcobs.h for C++17. It has only inline functions, throws nothing and allocates nothing.
+//
+// To receive, in reads of any size:
+//
+//     unsigned char buffer[1024];
+//     unsigned char bytes[256];
+//     jcobs::receiver receiver(buffer);
+//     ssize_t n;
+//
+//     while ((n = read(fd, bytes, sizeof bytes)) > 0)
+//         receiver.push({bytes, static_cast<std::size_t>(n)},
+//                       [](jcobs::view message) { handle(message.data(), message.size()); },
+//                       [](jcobs_answer answer) { complain(answer.status); });
+//
+// To send:
+//
+//     std::array<unsigned char, jcobs::max_length(1024) + 1> frame;
+//     const jcobs_answer answer = jcobs::encode_terminated(std::string_view(text), frame);
+//
+//     if (answer.status == JCOBS_OK)
+//         transmit(frame.data(), answer.length);
+//
+// To send a message that comes in pieces:
+//
+//     std::array<std::byte, jcobs::max_length(1024)> room;
+//     jcobs::sender sender(room);
+//
+//     if (sender.push(std::string_view("id: ")) && sender.push(std::string_view(text))) {
+//         const jcobs::view frame = sender.finish();
+//         transmit(frame.data(), frame.size());
+//     }
+//
+// The table in jcobs.h says what status, consumed and length are, and its preconditions hold here too, but that a view
+// always has a length. Buffers must not overlap, and nothing else may change them while a call runs.
+#ifndef JCOBS_HPP
+#define JCOBS_HPP
+
+#include <jcobs.h>
+
+#include <array>
+#include <cstddef>
+#include <iterator>
+#include <string_view>
+#include <type_traits>
+#include <utility>
+
+namespace jcobs
+{
+
+namespace detail
+{
+
+// Whether a range's elements are contiguous bytes of any type. An array of char isn't taken, since it would be with its '\0'.
+template <class Range, class Byte, class = void> struct is_bytes : std::false_type {
+};
+template <class Range, class Byte>
+struct is_bytes<
+    Range, Byte,
+    std::void_t<decltype(std::data(std::declval<Range &>())), decltype(std::size(std::declval<Range &>()))>> {
+    using element = std::remove_pointer_t<decltype(std::data(std::declval<Range &>()))>;
+    static constexpr bool value =
+        sizeof(element) == 1 && std::is_trivially_copyable_v<element> &&
+        (std::is_const_v<Byte> || !std::is_const_v<element>)&&!(std::is_array_v<std::remove_reference_t<Range>> &&
+                                                                std::is_same_v<std::remove_const_t<element>, char>);
+};
+
+} // namespace detail
+
+// Bytes that are elsewhere, by a pointer and a length, as std::span of C++20. A view is made of any container or view
+// of bytes: unsigned char, char, std::byte.
+template <class Byte> class basic_view
+{
+    using anything = std::conditional_t<std::is_const_v<Byte>, const void, void>;
+
+  public:
+    constexpr basic_view() noexcept = default;
+    basic_view(anything *data, std::size_t size) noexcept : data_(static_cast<Byte *>(data)), size_(size)
+    {
+    }
+    template <class Range, std::enable_if_t<detail::is_bytes<Range, Byte>::value, int> = 0>
+    basic_view(Range &&range) noexcept : basic_view(std::data(range), std::size(range))
+    {
+    }
+
+    constexpr Byte *data() const noexcept
+    {
+        return data_;
+    }
+    constexpr std::size_t size() const noexcept
+    {
+        return size_;
+    }
+    constexpr bool empty() const noexcept
+    {
+        return size_ == 0;
+    }
+    constexpr Byte *begin() const noexcept
+    {
+        return data_;
+    }
+    constexpr Byte *end() const noexcept
+    {
+        return data_ + size_;
+    }
+    constexpr Byte &operator[](std::size_t index) const noexcept
+    {
+        return data_[index];
+    }
+
+  private:
+    Byte *data_ = nullptr; // may be null if there are no bytes
+    std::size_t size_ = 0;
+};
+
+using view = basic_view<const unsigned char>; // bytes that are read
+using buffer = basic_view<unsigned char>;     // bytes that are written
+
+// Returns the length of the longest frame of a message of this length, without a terminator.
+constexpr std::size_t max_length(std::size_t message_len) noexcept
+{
+    return JCOBS_MAX_LENGTH(message_len);
+}
+
+// Encode a message to the front of a buffer, without a terminator or with one.
+inline jcobs_answer encode(view message, buffer frame) noexcept
+{
+    return jcobs_encode(message.data(), message.size(), frame.data(), frame.size());
+}
+inline jcobs_answer encode(view message, buffer frame, unsigned char sentinel) noexcept
+{
+    return jcobs_encode_with_sentinel(message.data(), message.size(), frame.data(), frame.size(), sentinel);
+}
+inline jcobs_answer encode_terminated(view message, buffer frame) noexcept
+{
+    return jcobs_encode_terminated(message.data(), message.size(), frame.data(), frame.size());
+}
+inline jcobs_answer encode_terminated(view message, buffer frame, unsigned char sentinel) noexcept
+{
+    return jcobs_encode_terminated_with_sentinel(message.data(), message.size(), frame.data(), frame.size(), sentinel);
+}
+
+// Decode a frame of the source to the front of a buffer. Without a sentinel, zeros in front of it are skipped.
+inline jcobs_answer decode(view source, buffer message) noexcept
+{
+    return jcobs_decode(source.data(), source.size(), message.data(), message.size());
+}
+inline jcobs_answer decode(view source, buffer message, unsigned char sentinel) noexcept
+{
+    return jcobs_decode_with_sentinel(source.data(), source.size(), message.data(), message.size(), sentinel);
+}
+
+// Decode the frame at the front of a buffer in place.
+inline jcobs_answer decode_in_place(buffer bytes) noexcept
+{
+    return jcobs_decode_in_place(bytes.data(), bytes.size());
+}
+inline jcobs_answer decode_in_place(buffer bytes, unsigned char sentinel) noexcept
+{
+    return jcobs_decode_in_place_with_sentinel(bytes.data(), bytes.size(), sentinel);
+}
+
+// Returns what bytes without sentinels around them are.
+inline jcobs_kind frame_kind(view bytes) noexcept
+{
+    return static_cast<jcobs_kind>(jcobs_frame_kind(bytes.data(), bytes.size()));
+}
+
+// Receives a stream of frames in pieces of any size, and keeps the open message in a buffer, which must outlive it.
+class receiver
+{
+  public:
+    explicit receiver(buffer messages) noexcept : buffer_(messages)
+    {
+    }
+    receiver(const receiver &) = delete;
+    receiver &operator=(const receiver &) = delete;
+
+    // Calls on_message(view) for each message that ends in these bytes, and on_error(jcobs_answer) for each frame that
+    // is broken or too long. The message is in the buffer until the next push.
+    template <class OnMessage, class OnError> void push(view bytes, OnMessage &&on_message, OnError &&on_error)
+    {
+        for (std::size_t at = 0; at < bytes.size();) {
+            const jcobs_answer answer =
+                jcobs_decoder_push(&decoder_, buffer_.data(), buffer_.size(), bytes.data() + at, bytes.size() - at);
+            at += answer.consumed;
+            if (answer.status == JCOBS_OK)
+                on_message(view(buffer_.data(), answer.length));
+            else if (answer.status != JCOBS_MORE)
+                on_error(answer);
+        }
+    }
+
+    // Does the same, and ignores frames that are broken or too long.
+    template <class OnMessage> void push(view bytes, OnMessage &&on_message)
+    {
+        push(bytes, std::forward<OnMessage>(on_message), [](jcobs_answer) {});
+    }
+
+    // Returns whether no frame is open.
+    bool is_idle() const noexcept
+    {
+        return jcobs_decoder_is_idle(&decoder_) == 1;
+    }
+
+    // Forgets the open frame.
+    void reset() noexcept
+    {
+        jcobs_decoder_reset(&decoder_);
+    }
+
+  private:
+    jcobs_decoder decoder_ = JCOBS_DECODER_INIT;
+    buffer buffer_;
+};
+
+// Encodes messages that come in pieces, each to the front of a buffer, which must outlive it.
+class sender
+{
+  public:
+    explicit sender(buffer frame) noexcept : buffer_(frame)
+    {
+    }
+    sender(const sender &) = delete;
+    sender &operator=(const sender &) = delete;
+
+    // Takes the next bytes of the message. Returns false if the frame with them doesn't fit; then nothing has changed.
+    [[nodiscard]] bool push(view bytes) noexcept
+    {
+        return jcobs_encoder_push(&encoder_, buffer_.data(), buffer_.size(), bytes.data(), bytes.size()).status ==
+               JCOBS_OK;
+    }
+
+    // Ends the message and returns its frame, which is in the buffer until the next push. It is empty only if the
+    // buffer is.
+    [[nodiscard]] view finish() noexcept
+    {
+        return {buffer_.data(), jcobs_encoder_finish(&encoder_, buffer_.data(), buffer_.size()).length};
+    }
+
+    // Forgets the message.
+    void reset() noexcept
+    {
+        jcobs_encoder_reset(&encoder_);
+    }
+
+  private:
+    jcobs_encoder encoder_ = JCOBS_ENCODER_INIT;
+    buffer buffer_;
+};
+
+} // namespace jcobs
+
+#endif
