@@ -32,7 +32,7 @@ FILES = """lib enc enc/sentinel enc/vector enc/encoder enc/state enc/unbuffered 
     dec/blocks dec/error dec/report dec/state dec/frame_decoder dec/borrowed dec/owned dec/heapless dec/unbuffered
     stream framed laws""".split()
 HEADING = "## Contracts\n"
-# Crates whose proofs still cite lemmas of cobs: the two libraries for C, of which cobs_small has bodies of its own.
+# Crates whose proofs still cite lemmas of cobs.
 NOT_YET = ["cobs_c", "cobs_small"]
 
 
