@@ -135,7 +135,7 @@ impl From<RawAnswer> for Answer {
             2 => Status::TooSmall,
             3 => Status::Broken,
             4 => Status::Empty,
-            other => unreachable!("jcobs has no status {other}"),
+            other => unknown(other),
         };
         Self {
             status,
@@ -151,6 +151,7 @@ extern "C" {
     fn jcobs_max_length(message_len: usize) -> usize;
     #[cfg(test)]
     fn jcobs_version() -> c_uint;
+    fn jcobs_abi_1() -> c_uint;
     fn jcobs_encode(message: *const u8, message_len: usize, frame: *mut u8, frame_len: usize) -> RawAnswer;
     fn jcobs_encode_terminated(message: *const u8, message_len: usize, frame: *mut u8, frame_len: usize) -> RawAnswer;
     fn jcobs_encode_with_sentinel(message: *const u8, message_len: usize, frame: *mut u8, frame_len: usize, sentinel: u8) -> RawAnswer;
@@ -160,10 +161,21 @@ extern "C" {
     fn jcobs_decode_in_place_with_sentinel(buffer: *mut u8, buffer_len: usize, sentinel: u8) -> RawAnswer;
     fn jcobs_frame_kind(bytes: *const u8, len: usize) -> c_uint;
     fn jcobs_decoder_push(decoder: *mut Decoder, buffer: *mut u8, buffer_len: usize, bytes: *const u8, len: usize) -> RawAnswer;
+    fn jcobs_decoder_feed(decoder: *mut Decoder, buffer: *mut u8, buffer_len: usize, byte: u8) -> RawAnswer;
     #[cfg(test)]
     fn jcobs_decoder_is_idle(decoder: *const Decoder) -> c_uint;
     fn jcobs_encoder_push(encoder: *mut Encoder, buffer: *mut u8, buffer_len: usize, bytes: *const u8, len: usize) -> RawAnswer;
+    fn jcobs_encoder_feed(encoder: *mut Encoder, buffer: *mut u8, buffer_len: usize, byte: u8) -> RawAnswer;
     fn jcobs_encoder_finish(encoder: *mut Encoder, buffer: *mut u8, buffer_len: usize) -> RawAnswer;
+}
+
+/// The end of a call that returned a number that the library doesn't have. No call does; but so every caller needs the
+/// symbol `jcobs_abi_1`, and isn't linked with a library of another major version, which lacks it.
+#[cold]
+pub(crate) fn unknown(number: c_uint) -> ! {
+    // SAFETY: this call has no precondition.
+    let abi = unsafe { jcobs_abi_1() };
+    unreachable!("jcobs, ABI {abi}, has no {number}")
 }
 
 #[cfg(test)]
@@ -276,6 +288,12 @@ pub(crate) fn decoder_push(decoder: &mut Decoder, buffer: &mut [u8], bytes: &[u8
     .into()
 }
 
+#[inline]
+pub(crate) fn decoder_feed(decoder: &mut Decoder, buffer: &mut [u8], byte: u8) -> Answer {
+    // SAFETY: `decoder` is a state, the pointer comes with its slice's length, and they don't overlap.
+    unsafe { jcobs_decoder_feed(decoder, buffer.as_mut_ptr(), buffer.len(), byte) }.into()
+}
+
 #[cfg(test)]
 pub(crate) fn decoder_is_idle(decoder: &Decoder) -> bool {
     // SAFETY: `decoder` is a state.
@@ -296,6 +314,12 @@ pub(crate) fn encoder_push(encoder: &mut Encoder, buffer: &mut [u8], bytes: &[u8
         )
     }
     .into()
+}
+
+#[inline]
+pub(crate) fn encoder_feed(encoder: &mut Encoder, buffer: &mut [u8], byte: u8) -> Answer {
+    // SAFETY: `encoder` is a state, the pointer comes with its slice's length, and they don't overlap.
+    unsafe { jcobs_encoder_feed(encoder, buffer.as_mut_ptr(), buffer.len(), byte) }.into()
 }
 
 #[inline]
