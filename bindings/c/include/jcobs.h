@@ -136,8 +136,21 @@ extern "C" {
 #define JCOBS_VERSION_PATCH 0
 #define JCOBS_VERSION (JCOBS_VERSION_MAJOR * 10000 + JCOBS_VERSION_MINOR * 100 + JCOBS_VERSION_PATCH)
 
-/* What became of a call. The type is as large as an unsigned int, and a switch over it can be tested by -Wswitch. */
-typedef enum jcobs_status {
+/* What became of a call. In an answer it is as large as an unsigned int in every language and on every target. So its
+ * type is given where the language can; and where enums may be shorter, as for ARM without a system, an answer has an
+ * unsigned int. Elsewhere -Wswitch tests a switch over it. */
+#if (defined(__cplusplus) && __cplusplus >= 201103L) || (defined(__STDC_VERSION__) && __STDC_VERSION__ >= 202311L)
+#define JCOBS_ENUM(name) enum name : unsigned int
+#define JCOBS_STATUS jcobs_status
+#else
+#define JCOBS_ENUM(name) enum name
+#if defined(__ARM_SIZEOF_MINIMAL_ENUM) && __ARM_SIZEOF_MINIMAL_ENUM < 4
+#define JCOBS_STATUS unsigned int
+#else
+#define JCOBS_STATUS jcobs_status
+#endif
+#endif
+typedef JCOBS_ENUM(jcobs_status){
     JCOBS_OK = 0,        /* done */
     JCOBS_MORE = 1,      /* all bytes were taken, and no frame has ended in them */
     JCOBS_TOO_SMALL = 2, /* the buffer is too short */
@@ -145,15 +158,15 @@ typedef enum jcobs_status {
     JCOBS_EMPTY = 4      /* there is no frame */
 } jcobs_status;
 
-/* This doesn't compile if enums are shorter, as by -fshort-enums: then the library can't be called. */
-typedef char jcobs_status_is_an_unsigned_int[sizeof(jcobs_status) == sizeof(unsigned int) ? 1 : -1];
-
 /* The result of a call, by the table above. */
 typedef struct jcobs_answer {
-    jcobs_status status; /* what became of it */
+    JCOBS_STATUS status; /* what became of it: a jcobs_status */
     size_t consumed;     /* how many bytes were taken */
     size_t length;       /* how many bytes at the front of the buffer it is about */
 } jcobs_answer;
+
+/* This doesn't compile if the status is shorter, as by -fshort-enums elsewhere: then the library can't be called. */
+typedef char jcobs_status_is_an_unsigned_int[sizeof(JCOBS_STATUS) == sizeof(unsigned int) ? 1 : -1];
 
 /* What bytes are, without sentinels around them. */
 enum jcobs_kind {
