@@ -27,6 +27,10 @@ impl Progress {
 
     #[inline]
     fn feed(&mut self, dest: &mut [u8], data: u8) -> Result<Option<usize>, DecodeError> {
+        if self.decoder.take_inside(dest, data) {
+            self.parsed_size = 1;
+            return Ok(None);
+        }
         let answer = sys::decoder_feed(&mut self.decoder, dest, data);
         self.take(answer)
     }

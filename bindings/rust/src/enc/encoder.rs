@@ -37,8 +37,10 @@ impl<'a> CobsEncoder<'a> {
     ///
     /// Where the frame of all that was taken and these bytes doesn't fit, and only there. Then nothing has changed, so
     /// the frame of what was taken before can still be had, or fewer bytes be pushed.
+    #[inline]
     pub fn push(&mut self, data: &[u8]) -> Result<(), DestBufTooSmallError> {
         let answer = match *data {
+            [byte] if self.encoder.take_inside(self.dest, byte) => return Ok(()),
             [byte] => sys::encoder_feed(&mut self.encoder, self.dest, byte),
             _ => sys::encoder_push(&mut self.encoder, self.dest, data),
         };
