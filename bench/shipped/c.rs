@@ -19,6 +19,8 @@ type PlainTake = unsafe extern "C" fn(*mut State, *mut u8, usize, *const u8, usi
 #[rustfmt::skip]
 unsafe extern "C" {
     fn jcobs_decoder_push(decoder: *mut State, buffer: *mut u8, room: usize, bytes: *const u8, len: usize) -> Answer;
+    fn jcobs_decoder_feed(decoder: *mut State, buffer: *mut u8, room: usize, byte: u8) -> Answer;
+    fn jcobs_encoder_feed(encoder: *mut State, buffer: *mut u8, room: usize, byte: u8) -> Answer;
     fn jcobs_encoder_push(encoder: *mut State, buffer: *mut u8, room: usize, bytes: *const u8, len: usize) -> Answer;
     fn jcobs_encoder_finish(encoder: *mut State, buffer: *mut u8, room: usize) -> Answer;
     fn bytewise_decoder_push(decoder: *mut State, buffer: *mut u8, room: usize, bytes: *const u8, len: usize, status: *mut c_int, length: *mut usize) -> usize;
@@ -48,7 +50,12 @@ fn ours(stream: &[u8], chunk: usize) -> impl FnMut() -> usize + '_ {
         through(stream, chunk, |piece| {
             let (room, len) = (buffer.len(), piece.len());
             // SAFETY: the state is large enough, zeros at first, and each pointer comes with its slice's length.
-            let answer = unsafe { jcobs_decoder_push(&mut state, buffer.as_mut_ptr(), room, piece.as_ptr(), len) };
+            let answer = unsafe {
+                match *piece {
+                    [byte] => jcobs_decoder_feed(&mut state, buffer.as_mut_ptr(), room, byte),
+                    _ => jcobs_decoder_push(&mut state, buffer.as_mut_ptr(), room, piece.as_ptr(), len),
+                }
+            };
             (answer.consumed, (answer.status == 0).then_some(answer.length))
         })
     }
@@ -113,8 +120,13 @@ fn our_encoder(all: &[u8], length: usize, chunk: usize) -> impl FnMut() -> usize
         let state: *mut State = &mut [0; 4];
         let (room, buffer) = (buffer.len(), buffer.as_mut_ptr());
         // SAFETY: as above.
-        let push =
-            |piece: &[u8]| unsafe { jcobs_encoder_push(state, buffer, room, piece.as_ptr(), piece.len()).status == 0 };
+        let push = |piece: &[u8]| unsafe {
+            let answer = match *piece {
+                [byte] => jcobs_encoder_feed(state, buffer, room, byte),
+                _ => jcobs_encoder_push(state, buffer, room, piece.as_ptr(), piece.len()),
+            };
+            answer.status == 0
+        };
         let finish = || unsafe {
             black_box(jcobs_encoder_finish(state, buffer, room).length);
         };

@@ -1,10 +1,21 @@
 //! Measures libjcobs and the Rust crate over it as a program links them, beside other code. `run.sh` builds and runs it.
+//!
+//!     shipped run REPEATS        prints the least time of each measurement, in nanoseconds a byte
+//!     shipped report FILE..      the tables, by the least of what `run` printed at several places in memory
 
 mod c;
 
+use std::arch::global_asm;
 use std::fmt::Write as _;
 use std::hint::black_box;
 use std::time::Instant;
+
+// All code after this is so many bytes further on in memory.
+global_asm!(
+    ".pushsection .text.place, \"axR\"",
+    concat!(".skip ", env!("PLACE")),
+    ".popsection"
+);
 
 /// How many bytes of messages a measurement takes.
 const TOTAL: usize = 1 << 15;
@@ -35,6 +46,9 @@ fn measure(repeats: usize, ways: &mut [Way]) -> Vec<f64> {
 struct Table {
     text: String,
     repeats: usize,
+    /// What was measured before, if this is a report.
+    known: Option<std::vec::IntoIter<f64>>,
+    measured: Vec<f64>,
 }
 
 impl Table {
@@ -50,7 +64,11 @@ impl Table {
     fn row<'a>(&mut self, name: &str, cells: impl IntoIterator<Item = Vec<Way<'a>>>) {
         let _ = write!(self.text, "| {name} |");
         for mut ways in cells {
-            let times = measure(self.repeats, &mut ways);
+            let times = match &mut self.known {
+                Some(known) => known.take(ways.len()).collect(),
+                None => measure(self.repeats, &mut ways),
+            };
+            self.measured.extend(&times);
             let _ = write!(self.text, " {:.0}", 1000.0 / times[0]);
             for time in &times[1..] {
                 let _ = write!(self.text, "; {:.2}", time / times[0]);
@@ -188,6 +206,17 @@ macro_rules! whole {
     }};
 }
 
+/// The least of the times on each line of these files.
+fn least(files: &[String]) -> Vec<f64> {
+    let times = |file: &String| -> Vec<f64> {
+        let text = std::fs::read_to_string(file).expect("a file of times");
+        text.lines().map(|line| line.parse().expect("a time")).collect()
+    };
+    let all = files.iter().map(times);
+    all.reduce(|a, b| a.iter().zip(&b).map(|(a, b)| a.min(*b)).collect())
+        .expect("files")
+}
+
 /// The columns: lengths of messages.
 const COLUMNS: [&str; 4] = ["16", "64", "256", "4096"];
 
@@ -240,10 +269,17 @@ fn c_rows(table: &mut Table, kind: &str) {
 }
 
 fn main() {
-    let repeats = std::env::args().nth(1).and_then(|word| word.parse().ok()).unwrap_or(60);
+    let words: Vec<String> = std::env::args().skip(1).collect();
+    let (repeats, known) = match words.split_first() {
+        Some((word, files)) if word == "report" => (0, Some(least(files).into_iter())),
+        _ => (words[1].parse().expect("repeats"), None),
+    };
+    let is_report = known.is_some();
     let mut table = Table {
         text: String::new(),
         repeats,
+        known,
+        measured: Vec::new(),
     };
     let kinds = ["random", "int32"];
     for kind in kinds {
@@ -259,5 +295,9 @@ fn main() {
     for kind in kinds {
         rust_rows(&mut table, kind);
     }
-    print!("{}", table.text.trim_start());
+    if is_report {
+        print!("{}", table.text.trim_start());
+    } else {
+        table.measured.iter().for_each(|time| println!("{time}"));
+    }
 }

@@ -3,14 +3,15 @@
 #
 # libjcobs.a, as `make` in bindings/c has it, by 1, 8, 64 and 4,096 bytes a call, beside plain.c; and the Rust crate over
 # it, beside the crate `cobs` 0.5.1 if FOLDER has its sources, as cargo downloads them. --docs writes the tables into
-# docs/PERFORMANCE.md. All is built with -O, for any x86-64.
+# docs/PERFORMANCE.md. All is built with -O, for any x86-64, and the driver at four places in memory, as bench/run.sh does:
+# the best one of each counts.
 set -eu
 here=$(cd "$(dirname "$0")" && pwd)
 top=$(cd "$here/../.." && pwd)
 out=$here/out
 crate=
 docs=
-repeats=60
+repeats=20
 while [ $# -gt 0 ]; do
     case $1 in
     --crate) crate=$(cd "$2" && pwd); shift ;;
@@ -39,10 +40,14 @@ if [ -n "$crate" ]; then
         --extern "thiserror=$out/libthiserror.so" --extern "heapless=$out/libheapless.rlib" "$crate/src/lib.rs"
     with="--cfg with_crate --extern cobs=$out/libcobs.rlib"
 fi
-# shellcheck disable=SC2086
-rustc $flags --check-cfg 'cfg(with_crate)' --crate-name shipped $with --extern "jcobs=$out/libjcobs.rlib" -L "$out" \
-    -L "native=$library" -L "native=$out" -l static=plain "$here/main.rs"
-"$out/shipped" "$repeats" >"$out/tables.md"
+rm -f "$out"/*.times
+for place in 0 16 32 48; do
+    # shellcheck disable=SC2086
+    PLACE=$place rustc $flags -C codegen-units=1 --check-cfg 'cfg(with_crate)' --crate-name shipped $with \
+        --extern "jcobs=$out/libjcobs.rlib" -L "$out" -L "native=$library" -L "native=$out" -l static=plain "$here/main.rs"
+    "$out/shipped" run "$repeats" >"$out/$place.times"
+done
+"$out/shipped" report "$out"/*.times >"$out/tables.md"
 cat "$out/tables.md"
 if [ -n "$docs" ]; then
     {

@@ -14,6 +14,9 @@ const VARIABLE: &str = "JCOBS_LIB_DIR";
 /// The file that is linked.
 const LIBRARY: &str = "libjcobs.a";
 
+/// The symbol that a library of version 1 has, and one of another major version lacks.
+const ABI: &[u8] = b"jcobs_abi_1\0";
+
 fn main() {
     println!("cargo:rerun-if-changed=build.rs");
     println!("cargo:rerun-if-env-changed={VARIABLE}");
@@ -101,7 +104,7 @@ fn installed_folder() -> Option<PathBuf> {
     Some(PathBuf::from(folder.trim()))
 }
 
-/// Whether the folder has a library for this processor; if not, why.
+/// Whether the folder has a library for this processor and of this version; if not, why.
 fn check(folder: &Path, arch: &str) -> Result<(), String> {
     let library = folder.join(LIBRARY);
     println!("cargo:rerun-if-changed={}", library.display());
@@ -110,6 +113,9 @@ fn check(folder: &Path, arch: &str) -> Result<(), String> {
     let machine = if arch == "x86_64" { 62 } else { 183 };
     if machine_of(&bytes) != Some(machine) {
         return Err(format!("{} isn't for {arch}", library.display()));
+    }
+    if !bytes.windows(ABI.len()).any(|window| window == ABI) {
+        return Err(format!("{} isn't of version 1", library.display()));
     }
     Ok(())
 }

@@ -11,15 +11,12 @@
 /* The frame of the longest line, and the zero behind it. */
 static unsigned char frame[JCOBS_MAX_LENGTH(LONGEST) + 1];
 
-/* Ends the frame of a line and sends it; 0 where that failed. */
+/* Ends the frame of a line and sends it; returns 0 if that failed. */
 static int send_frame(jcobs_encoder *encoder)
 {
-    jcobs_answer answer = jcobs_encoder_finish(encoder, frame, sizeof frame - 1);
+    jcobs_answer answer = jcobs_encoder_finish_terminated(encoder, frame, sizeof frame);
 
-    if (answer.status != JCOBS_OK)
-        return 0;
-    frame[answer.length] = 0;
-    return fwrite(frame, 1, answer.length + 1, stdout) == answer.length + 1 && fflush(stdout) == 0;
+    return answer.status == JCOBS_OK && fwrite(frame, 1, answer.length, stdout) == answer.length && fflush(stdout) == 0;
 }
 
 int main(void)

@@ -29,11 +29,17 @@ static void test_constants(void)
     jcobs_encoder encoder = JCOBS_ENCODER_INIT;
     jcobs_encoder begun;
     unsigned char room[1];
+    unsigned char byte = 255;
+    unsigned int word = 4294967295u;
 
     expect(sizeof at_compile_time == 257, "JCOBS_MAX_LENGTH(255) is 257");
     expect(JCOBS_MAX_LENGTH(0) == 1 && JCOBS_MAX_LENGTH(254) == 255, "JCOBS_MAX_LENGTH of 0 and of 254");
+    expect(JCOBS_MAX_LENGTH(byte) == 257 && JCOBS_MAX_LENGTH(word) == jcobs_max_length(word) &&
+               JCOBS_MAX_LENGTH(4294967295u) == 4311876616ul && JCOBS_MAX_LENGTH(2147483647) == 2155938308ul,
+           "JCOBS_MAX_LENGTH of each type");
     expect(jcobs_max_length((size_t)-1) == 0, "no length that doesn't fit");
     expect(jcobs_version() == JCOBS_VERSION, "the version is the header's");
+    expect(jcobs_abi_1() == JCOBS_VERSION_MAJOR, "the version of the ABI");
     memset(&reset, 0xff, sizeof reset);
     jcobs_decoder_reset(&reset);
     expect(jcobs_decoder_is_idle(&decoder) == 1 && jcobs_decoder_is_idle(&reset) == 1, "a decoder begins idle");
@@ -86,6 +92,123 @@ static void test_null(void)
     expect(is_answer(jcobs_encoder_push(&encoder, room, 2, NULL, 0), JCOBS_OK, 0, 1), "encoder, no bytes");
 }
 
+/* A message in pieces, ended in each of the four ways, is what encoding it at once is; a byte is a push of one. */
+static void test_finish(void)
+{
+    static const unsigned char sentinels[] = {0, 7, 255};
+    unsigned char message[600];
+    size_t length;
+    size_t s;
+
+    for (length = 0; length < sizeof message; length += length < 4 || length % 254 < 3 || length % 254 > 250 ? 1 : 83)
+        for (s = 0; s < sizeof sentinels; s++) {
+            unsigned char at_once[700];
+            unsigned char in_pieces[700];
+            jcobs_encoder encoder = JCOBS_ENCODER_INIT;
+            jcobs_encoder kept;
+            jcobs_answer answer;
+            size_t whole;
+            size_t i;
+
+            for (i = 0; i < length; i++)
+                message[i] = (unsigned char)(i % 300 == 299 ? 0 : i % 7 + 1);
+            memset(at_once, 0xaa, sizeof at_once);
+            memset(in_pieces, 0xaa, sizeof in_pieces);
+            answer = jcobs_encode_terminated_with_sentinel(message, length, at_once, sizeof at_once, sentinels[s]);
+            whole = answer.length;
+            for (i = 0; i < length; i++)
+                expect(jcobs_encoder_feed(&encoder, in_pieces, whole - 1, message[i]).consumed == 1, "feed");
+            kept = encoder;
+            answer = jcobs_encoder_finish_terminated_with_sentinel(&encoder, in_pieces, whole - 1, sentinels[s]);
+            expect(is_answer(answer, JCOBS_TOO_SMALL, 0, 0), "no room for the terminator");
+            expect(encoder.index == kept.index && encoder.taken == kept.taken && encoder.full == kept.full,
+                   "as it was");
+            answer = jcobs_encoder_finish_terminated_with_sentinel(&encoder, in_pieces, whole, sentinels[s]);
+            expect(is_answer(answer, JCOBS_OK, 0, whole), "with a terminator");
+            expect(memcmp(at_once, in_pieces, sizeof at_once) == 0, "the frame, and nothing after it");
+            expect(encoder.index == 0 && encoder.taken == 0 && encoder.full == 0, "the start");
+            memset(in_pieces, 0xaa, sizeof in_pieces);
+            expect(jcobs_encoder_push(&encoder, in_pieces, whole, message, length).status == JCOBS_OK, "push");
+            answer = jcobs_encoder_finish_with_sentinel(&encoder, in_pieces, whole, sentinels[s]);
+            expect(is_answer(answer, JCOBS_OK, 0, whole - 1), "for a sentinel");
+            expect(memcmp(at_once, in_pieces, whole - 1) == 0 && in_pieces[whole - 1] == 0xaa, "the frame alone");
+            if (sentinels[s] == 0) {
+                jcobs_encoder_push(&encoder, in_pieces, whole, message, length);
+                answer = jcobs_encoder_finish_terminated(&encoder, in_pieces, whole);
+                expect(is_answer(answer, JCOBS_OK, 0, whole) && in_pieces[whole - 1] == 0, "with a zero");
+            }
+        }
+}
+
+/* A stream by bytes, and one for another sentinel, give what pushes give: each result, state and buffer. */
+static void test_streams(void)
+{
+    static const unsigned char sentinels[] = {0, 7, 255};
+    unsigned char stream[900];
+    size_t rooms;
+    size_t s;
+    size_t i;
+
+    for (i = 0; i < sizeof stream; i++)
+        stream[i] = (unsigned char)(i < 300   ? i * i % 7
+                                    : i < 600 ? (i == 300 || i == 555 ? 255
+                                                 : i % 256 == 44      ? 0
+                                                                      : 9)
+                                              : i % 5);
+    for (rooms = 0; rooms < 300; rooms += rooms < 8 ? 1 : 97)
+        for (s = 0; s < sizeof sentinels; s++) {
+            jcobs_decoder pushed = JCOBS_DECODER_INIT;
+            jcobs_decoder other = JCOBS_DECODER_INIT;
+            unsigned char buffer[400];
+            unsigned char other_buffer[400];
+            unsigned char changed[1];
+
+            memset(buffer, 0xaa, sizeof buffer);
+            memset(other_buffer, 0xaa, sizeof other_buffer);
+            for (i = 0; i < sizeof stream; i++) {
+                jcobs_answer answer = jcobs_decoder_push(&pushed, buffer, rooms, stream + i, 1);
+                jcobs_answer by_byte;
+
+                changed[0] = (unsigned char)(stream[i] ^ sentinels[s]);
+                if (sentinels[s] == 0)
+                    by_byte = jcobs_decoder_feed(&other, other_buffer, rooms, stream[i]);
+                else
+                    by_byte = jcobs_decoder_push_with_sentinel(&other, other_buffer, rooms, changed, 1, sentinels[s]);
+                expect(is_answer(by_byte, answer.status, answer.consumed, answer.length), "the same result");
+                expect(pushed.written == other.written && pushed.lacking == other.lacking &&
+                           pushed.joint == other.joint && pushed.too_long == other.too_long,
+                       "the same state");
+                expect(memcmp(buffer, other_buffer, sizeof buffer) == 0, "the same buffer");
+            }
+        }
+}
+
+/* Frames one after another in a buffer are decoded in place, from consumed on, for any sentinel. */
+static void test_in_place(void)
+{
+    unsigned int sentinel;
+
+    for (sentinel = 0; sentinel < 256; sentinel++) {
+        unsigned char bytes[32];
+        size_t end = 0;
+        size_t at = 0;
+        size_t count = 0;
+
+        for (count = 0; count < 4; count++)
+            end += jcobs_encode_terminated_with_sentinel("a\0b", count, bytes + end, sizeof bytes - end,
+                                                         (unsigned char)sentinel)
+                       .length;
+        for (count = 0; at < end; count++) {
+            jcobs_answer answer = jcobs_decode_in_place_with_sentinel(bytes + at, end - at, (unsigned char)sentinel);
+            expect(answer.status == JCOBS_OK && answer.length == count && memcmp(bytes + at, "a\0b", count) == 0,
+                   "a frame in place");
+            at += answer.consumed;
+            expect(bytes[at - 1] == sentinel, "its sentinel");
+        }
+        expect(count == 4, "four frames in place");
+    }
+}
+
 /* The loops that a caller writes end, and meet each frame once. */
 static void test_loops(void)
 {
@@ -120,6 +243,9 @@ int main(void)
     test_constants();
     test_texts();
     test_null();
+    test_finish();
+    test_streams();
+    test_in_place();
     test_loops();
     if (failures == 0)
         puts("all calls answered as they should");

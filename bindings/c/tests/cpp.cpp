@@ -66,6 +66,9 @@ static void test_streams()
 
     expect(sender.push("he"sv) && sender.push("y"sv) && !sender.push("a longer one"sv), "push");
     expect(equal(sender.finish(), "\4hey"sv), "finish");
+    expect(sender.feed('a') && sender.push("bcdef"sv) && sender.finish_terminated().size() == 8, "with a terminator");
+    expect(sender.push("abcdefg"sv) && sender.finish_terminated().empty(), "no room for the terminator");
+    expect(sender.finish(7).size() == 8 && frame[0] == std::byte{8 ^ 7}, "for a sentinel");
     sender.reset();
     expect(equal(sender.finish(), "\1"sv), "the empty message");
     const auto on_message = [&](jcobs::view message) {
@@ -78,6 +81,15 @@ static void test_streams()
     expect(met == 2 && errors == 2, "what is received");
     receiver.reset();
     expect(receiver.is_idle(), "reset");
+    for (const char byte : "\4he"sv)
+        expect(receiver.feed(static_cast<unsigned char>(byte)).status == JCOBS_MORE, "more");
+    receiver.feed('y');
+    expect(receiver.feed(0).length == 3 && equal({messages, 3}, "hey"sv), "byte by byte");
+
+    jcobs::receiver lines(messages, '\n');
+    lines.push("\x0ebos\n\x0e"sv, [&](jcobs::view message) { expect(equal(message, "hey"sv), "for a newline"); });
+    expect(!lines.is_idle(), "a frame is open, for a newline");
+    expect(lines.feed('\n').status == JCOBS_BROKEN, "byte by byte, for a newline");
 }
 
 int main()

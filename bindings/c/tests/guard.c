@@ -117,6 +117,36 @@ static size_t some_length(void)
     }
 }
 
+/* Decodes by one of the three calls. */
+static jcobs_answer decode_some(jcobs_decoder *decoder, placed out, placed in, unsigned char sentinel)
+{
+    switch (random_word() % 3) {
+    case 0:
+        return jcobs_decoder_push(decoder, out.data, out.len, in.data, in.len);
+    case 1:
+        return jcobs_decoder_push_with_sentinel(decoder, out.data, out.len, in.data, in.len, sentinel);
+    default:
+        if (in.len == 0)
+            return jcobs_decoder_push(decoder, out.data, out.len, NULL, 0);
+        return jcobs_decoder_feed(decoder, out.data, out.len, in.data[0]);
+    }
+}
+
+/* Ends a message by one of the four calls. */
+static jcobs_answer finish(jcobs_encoder *encoder, placed out, unsigned char sentinel)
+{
+    switch (random_word() % 4) {
+    case 0:
+        return jcobs_encoder_finish(encoder, out.data, out.len);
+    case 1:
+        return jcobs_encoder_finish_terminated(encoder, out.data, out.len);
+    case 2:
+        return jcobs_encoder_finish_with_sentinel(encoder, out.data, out.len, sentinel);
+    default:
+        return jcobs_encoder_finish_terminated_with_sentinel(encoder, out.data, out.len, sentinel);
+    }
+}
+
 int main(int argc, char **argv)
 {
     unsigned long calls = argc > 1 ? strtoul(argv[1], NULL, 10) : 1000000;
@@ -150,7 +180,7 @@ int main(int argc, char **argv)
         fill(in.data, in.len);
         if ((random_word() & 3) == 0)
             fill(out.data, out.len);
-        switch (random_word() % 12) {
+        switch (random_word() % 16) {
         case 0:
             answer = jcobs_encode(in.data, in.len, out.data, out.len);
             break;
@@ -188,7 +218,7 @@ int main(int argc, char **argv)
                 fill(state_bytes, sizeof decoder);
             else
                 memcpy(state_bytes, &decoder, sizeof decoder);
-            answer = jcobs_decoder_push((jcobs_decoder *)(void *)state_bytes, out.data, out.len, in.data, in.len);
+            answer = decode_some((jcobs_decoder *)(void *)state_bytes, out, in, sentinel);
             memcpy(&decoder, state_bytes, sizeof decoder);
             if (jcobs_decoder_is_idle(&decoder) > 1)
                 stop("neither idle nor not", call);
@@ -201,12 +231,21 @@ int main(int argc, char **argv)
             answer = jcobs_encoder_push((jcobs_encoder *)(void *)state_bytes, out.data, out.len, in.data, in.len);
             memcpy(&encoder, state_bytes, sizeof encoder);
             break;
+        case 11:
+            if (garbage)
+                fill(state_bytes, sizeof encoder);
+            else
+                memcpy(state_bytes, &encoder, sizeof encoder);
+            answer = jcobs_encoder_feed((jcobs_encoder *)(void *)state_bytes, out.data, out.len, sentinel);
+            taken = 1;
+            memcpy(&encoder, state_bytes, sizeof encoder);
+            break;
         default:
             if (garbage)
                 fill(state_bytes, sizeof encoder);
             else
                 memcpy(state_bytes, &encoder, sizeof encoder);
-            answer = jcobs_encoder_finish((jcobs_encoder *)(void *)state_bytes, out.data, out.len);
+            answer = finish((jcobs_encoder *)(void *)state_bytes, out, sentinel);
             memcpy(&encoder, state_bytes, sizeof encoder);
             taken = 0;
             if (garbage)

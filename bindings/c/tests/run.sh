@@ -251,6 +251,10 @@ if has clang clang 'header by clang'; then
     part 'header by clang, C90 to C23' header clang c c90 c99 c11 c17 c23
     part 'header by clang++, C++98 to C++20' header clang++ cpp c++98 c++11 c++14 c++17 c++20
 fi
+# Enums are shorter there.
+if has arm-none-eabi-gcc gcc-arm-none-eabi 'header for ARM without a system'; then
+    part 'header for ARM without a system' header arm-none-eabi-gcc c c90 c99
+fi
 part 'examples of the header, the README and the manual' tests/examples.sh \
     include/jcobs.h include/jcobs.hpp README.md man/jcobs.3
 part 'versions' versions

@@ -359,6 +359,7 @@ static void run_in_place(int with_sentinel, int with_consumed)
     unsigned char sentinel = 0;
     size_t consumed;
     size_t terminator;
+    size_t i;
     jcobs_answer answer;
 
     if (with_sentinel) {
@@ -379,6 +380,9 @@ static void run_in_place(int with_sentinel, int with_consumed)
             expect_word("consumed", "-");
     }
     expect_length(answer);
+    /* The cases change every byte of the buffer by the sentinel, the library none after the frame. */
+    for (i = consumed - terminator; with_sentinel && i < buffer.len; i++)
+        buffer.data[i] ^= sentinel;
     expect_bytes("buffer", buffer.data, buffer.len);
     free(buffer.data);
 }

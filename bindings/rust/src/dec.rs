@@ -129,8 +129,8 @@ pub fn decode_with_sentinel(
     length_of(sys::decode_with_sentinel(source, dest, sentinel))
 }
 
-/// As [`decode_in_place`], for the given sentinel. Each byte of `buff`, those after the frame too, is first changed by
-/// exclusive or with it.
+/// As [`decode_in_place`], for the given sentinel. Each byte of `buff`, those after the frame too, is first XORed with it,
+/// as the crate `cobs` does.
 ///
 /// ```
 /// let mut buff = [0; 3];
@@ -143,7 +143,14 @@ pub fn decode_with_sentinel(
 ///
 /// Those of [`decode_in_place`].
 pub fn decode_in_place_with_sentinel(buff: &mut [u8], sentinel: u8) -> Result<usize, DecodeError> {
-    length_of(sys::decode_in_place_with_sentinel(buff, sentinel))
+    let ends_with_sentinel = buff.last() == Some(&sentinel);
+    let answer = sys::decode_in_place_with_sentinel(buff, sentinel);
+    // The library leaves the sentinel after the frame, and what follows it, as they were.
+    let has_sentinel = answer.consumed < buff.len() || ends_with_sentinel;
+    for byte in &mut buff[answer.consumed - usize::from(has_sentinel)..] {
+        *byte ^= sentinel;
+    }
+    length_of(answer)
 }
 
 /// The message of the first frame of `source`, found as [`decode`] finds it.

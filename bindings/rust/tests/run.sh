@@ -111,6 +111,12 @@ build_script() (
     JCOBS_LIB_DIR=$work/alone/vendor
     export JCOBS_LIB_DIR
     is_refused "isn't for aarch64" script aarch64-unknown-linux-gnu aarch64 linux 64 little || return 1
+    # Nor is a library of another major version, even where nothing but the linker looks.
+    mkdir "$work/second" &&
+        LC_ALL=C sed 's/jcobs_abi_1/jcobs_abi_2/g' prebuilt/x86_64-linux/libjcobs.a >"$work/second/libjcobs.a" || return 1
+    JCOBS_LIB_DIR=$work/second
+    is_refused "isn't of version 1" script x86_64-unknown-linux-gnu x86_64 linux 64 little || return 1
+    [ "$(uname -m)" != x86_64 ] || isnt_linked || return 1
     JCOBS_LIB_DIR=$work/none
     is_refused JCOBS_LIB_DIR script x86_64-unknown-linux-gnu x86_64 linux 64 little || return 1
     # Without prebuilt/, the installed library, if it is of version 1.
@@ -122,6 +128,14 @@ build_script() (
     pc 1.3.0 && script x86_64-unknown-linux-gnu x86_64 linux 64 little | is_linked_from "$work/alone/vendor" || return 1
     pc 2.0.0 && is_refused 'no library' script x86_64-unknown-linux-gnu x86_64 linux 64 little
 )
+
+isnt_linked() {
+    echo 'fn main() { println!("{}", jcobs::encode_vec(b"x").len()); }' >"$work/second/main.rs"
+    rustc --edition 2021 -O --crate-type rlib --crate-name jcobs --cfg 'feature="alloc"' -L "native=$work/second" \
+        -l static=jcobs --out-dir "$work/second" src/lib.rs || return 1
+    ! rustc --edition 2021 -O --extern "jcobs=$work/second/libjcobs.rlib" "$work/second/main.rs" -o "$work/second/main" \
+        2>"$work/second/said" && grep -q 'undefined.*jcobs_abi_1' "$work/second/said"
+}
 
 pc() { # VERSION: what pkg-config is told of an installed library
     printf 'libdir=%s\nName: jcobs\nDescription: COBS\nVersion: %s\nLibs: -ljcobs\n' "$work/alone/vendor" "$1" >"$work/alone/jcobs.pc"

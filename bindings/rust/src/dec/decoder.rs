@@ -3,7 +3,7 @@
 //! The three decoders differ in whose the buffer is.
 
 use crate::dec::{DecodeError, DecodeReport};
-use crate::sys::{self, Status};
+use crate::sys::{self, Answer, Status};
 
 /// What the three decoders share: all but the buffer.
 #[derive(Debug)]
@@ -21,24 +21,36 @@ impl Progress {
 
     fn push(&mut self, dest: &mut [u8], data: &[u8]) -> Result<Option<DecodeReport>, DecodeError> {
         let answer = sys::decoder_push(&mut self.decoder, dest, data);
+        let length = self.take(answer)?;
+        Ok(length.map(|length| DecodeReport::new(answer.consumed, length)))
+    }
+
+    #[inline]
+    fn feed(&mut self, dest: &mut [u8], data: u8) -> Result<Option<usize>, DecodeError> {
+        if self.decoder.take_inside(dest, data) {
+            self.parsed_size = 1;
+            return Ok(None);
+        }
+        let answer = sys::decoder_feed(&mut self.decoder, dest, data);
+        self.take(answer)
+    }
+
+    /// The length of the message that has ended, if one has.
+    #[inline]
+    fn take(&mut self, answer: Answer) -> Result<Option<usize>, DecodeError> {
         self.parsed_size = answer.consumed;
         match answer.status {
-            Status::Ok => Ok(Some(DecodeReport::new(answer.consumed, answer.length))),
+            Status::Ok => Ok(Some(answer.length)),
             Status::Broken => Err(DecodeError::InvalidFrame {
                 decoded_bytes: answer.length,
             }),
             Status::TooSmall => Err(DecodeError::TargetBufTooSmall),
             // The library says so at the zero that ends the frame; here it is said at once, and until then.
-            _ if self.decoder.is_too_long() && !data.is_empty() => {
+            _ if self.decoder.is_too_long() && answer.consumed > 0 => {
                 Err(DecodeError::TargetBufTooSmall)
             }
             _ => Ok(None),
         }
-    }
-
-    fn feed(&mut self, dest: &mut [u8], data: u8) -> Result<Option<usize>, DecodeError> {
-        let report = self.push(dest, &[data])?;
-        Ok(report.map(|report| report.frame_size()))
     }
 }
 
@@ -55,6 +67,7 @@ macro_rules! decoder_methods {
         /// - [`DecodeError::InvalidFrame`]: the byte is a zero inside a block. The next byte begins a frame.
         /// - [`DecodeError::TargetBufTooSmall`]: the message is longer than the buffer. It is answered to the byte that
         ///   no longer fits, and to each further one, through the zero that ends the frame.
+        #[inline]
         pub fn feed(&mut self, data: u8) -> Result<Option<usize>, DecodeError> {
             self.progress.feed(&mut self.dest[..], data)
         }

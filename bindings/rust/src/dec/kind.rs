@@ -24,8 +24,9 @@ pub enum FrameKind {
 #[must_use]
 pub fn frame_kind(bytes: &[u8]) -> FrameKind {
     match sys::frame_kind(bytes) {
+        0 => FrameKind::NotAFrame,
         1 => FrameKind::Canonical,
         2 => FrameKind::Longer,
-        _ => FrameKind::NotAFrame,
+        other => sys::unknown(other),
     }
 }

@@ -37,8 +37,14 @@ impl<'a> CobsEncoder<'a> {
     ///
     /// Where the frame of all that was taken and these bytes doesn't fit, and only there. Then nothing has changed, so
     /// the frame of what was taken before can still be had, or fewer bytes be pushed.
+    #[inline]
     pub fn push(&mut self, data: &[u8]) -> Result<(), DestBufTooSmallError> {
-        length_of(sys::encoder_push(&mut self.encoder, self.dest, data)).map(|_| ())
+        let answer = match *data {
+            [byte] if self.encoder.take_inside(self.dest, byte) => return Ok(()),
+            [byte] => sys::encoder_feed(&mut self.encoder, self.dest, byte),
+            _ => sys::encoder_push(&mut self.encoder, self.dest, data),
+        };
+        length_of(answer).map(|_| ())
     }
 
     /// Ends the message: the slice begins with its frame, of the returned length, without a sentinel. It is the frame

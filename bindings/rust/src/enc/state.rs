@@ -33,12 +33,20 @@ const FULL: u8 = 254;
 ///
 /// Where the message ends in a full block, the place after that block is left over: it is the last byte, and the frame
 /// without it is the encoded one. Both stand for the same message.
-#[derive(Debug, Clone, Default)]
+#[derive(Debug, Clone)]
 pub struct EncoderState {
     /// Where the code of the open block belongs.
     index: usize,
-    /// How many bytes the open block has.
-    taken: u8,
+    /// The code of the open block, if it ends here.
+    code: u8,
+}
+
+impl Default for EncoderState {
+    /// The state in which nothing was taken.
+    #[inline]
+    fn default() -> Self {
+        Self { index: 0, code: 1 }
+    }
 }
 
 /// What a byte that was pushed to an [`EncoderState`] writes.
@@ -59,18 +67,17 @@ impl EncoderState {
     /// Takes the next byte of the message, and says what it writes.
     #[inline]
     pub fn push(&mut self, data: u8) -> PushResult {
-        let code = self.taken + 1;
-        if data != 0 && code < FULL {
-            self.taken = code;
-            return PushResult::AddSingle(data);
-        }
-        let at = self.index;
-        self.taken = 0;
+        let Self { index: at, code } = *self;
         if data == 0 {
             self.index = at + usize::from(code);
+            self.code = 1;
             PushResult::ModifyFromStartAndSkip((at, code))
+        } else if code < FULL {
+            self.code = code + 1;
+            PushResult::AddSingle(data)
         } else {
             self.index = at + usize::from(FULL) + 1;
+            self.code = 1;
             PushResult::ModifyFromStartAndPushAndSkip((at, FULL + 1, data))
         }
     }
@@ -79,7 +86,7 @@ impl EncoderState {
     /// end of the container.
     #[inline]
     pub fn finalize(self) -> (usize, u8) {
-        (self.index, self.taken + 1)
+        (self.index, self.code)
     }
 }
 
@@ -95,8 +102,8 @@ mod tests {
     /// first one.
     fn pushed(state: &EncoderState, data: u8) -> (PushResult, usize, u8) {
         let mut block = [0; ROOM];
-        let end = usize::from(state.taken) + 1;
-        let mut encoder = sys::Encoder::in_block(state.taken);
+        let end = usize::from(state.code);
+        let mut encoder = sys::Encoder::in_block(state.code - 1);
         sys::encoder_push(&mut encoder, &mut block, &[data]);
         let result = if encoder.code_index() == 0 {
             PushResult::AddSingle(block[end])
@@ -105,26 +112,30 @@ mod tests {
         } else {
             PushResult::ModifyFromStartAndSkip((state.index, block[0]))
         };
-        (result, state.index + encoder.code_index(), encoder.taken())
+        (
+            result,
+            state.index + encoder.code_index(),
+            encoder.taken() + 1,
+        )
     }
 
     #[test]
     fn each_step_is_that_of_the_library() {
-        for taken in 0..FULL {
+        for code in 1..=FULL {
             for data in 0..=u8::MAX {
-                let before = EncoderState { index: 1000, taken };
+                let before = EncoderState { index: 1000, code };
                 let mut state = before.clone();
                 let result = state.push(data);
                 assert_eq!(
-                    (result, state.index, state.taken),
+                    (result, state.index, state.code),
                     pushed(&before, data),
-                    "{taken}, {data}"
+                    "{code}, {data}"
                 );
             }
             let mut block = [0; ROOM];
-            let mut encoder = sys::Encoder::in_block(taken);
+            let mut encoder = sys::Encoder::in_block(code - 1);
             sys::encoder_finish(&mut encoder, &mut block);
-            let state = EncoderState { index: 1000, taken };
+            let state = EncoderState { index: 1000, code };
             assert_eq!(state.finalize(), (1000, block[0]));
         }
     }
