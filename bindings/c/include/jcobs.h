@@ -112,7 +112,7 @@ extern "C" {
 #define JCOBS_VERSION_PATCH 0
 #define JCOBS_VERSION (JCOBS_VERSION_MAJOR * 10000 + JCOBS_VERSION_MINOR * 100 + JCOBS_VERSION_PATCH)
 
-/* What became of a call. The type is as large as an unsigned int, and a switch over it can be tested by -Wswitch. */
+/* What became of a call. A switch over it can be tested by -Wswitch. */
 typedef enum jcobs_status {
     JCOBS_OK = 0,        /* done */
     JCOBS_MORE = 1,      /* all bytes were taken, and no frame has ended in them */
@@ -121,15 +121,19 @@ typedef enum jcobs_status {
     JCOBS_EMPTY = 4      /* there is no frame */
 } jcobs_status;
 
-/* This doesn't compile if enums are shorter, as by -fshort-enums: then the library can't be called. */
-typedef char jcobs_status_is_an_unsigned_int[sizeof(jcobs_status) == sizeof(unsigned int) ? 1 : -1];
-
 /* The result of a call, by the table above. */
 typedef struct jcobs_answer {
+#if defined(__ARM_SIZEOF_MINIMAL_ENUM) && __ARM_SIZEOF_MINIMAL_ENUM < 4
+    unsigned int status; /* what became of it: on such an ARM an enum is shorter */
+#else
     jcobs_status status; /* what became of it */
-    size_t consumed;     /* how many bytes were taken */
-    size_t length;       /* how many bytes at the front of the buffer it is about */
+#endif
+    size_t consumed; /* how many bytes were taken */
+    size_t length;   /* how many bytes at the front of the buffer it is about */
 } jcobs_answer;
+
+/* This doesn't compile if enums are shorter elsewhere, as by -fshort-enums: then the library can't be called. */
+typedef char jcobs_status_is_an_unsigned_int[sizeof(((jcobs_answer *)0)->status) == sizeof(unsigned int) ? 1 : -1];
 
 /* What bytes are, without sentinels around them. */
 enum jcobs_kind {
