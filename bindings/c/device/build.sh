@@ -2,8 +2,8 @@
 # Builds build/TARGET/libjcobs.a for each 32-bit target: build.sh [TARGET..]
 #
 # Rattle names no 32-bit target. So `rt` proves and builds crates/cobs_small for x86-64, in a folder of links to the kit
-# in which `clang` is a script that keeps the module that it is given. The kit's own clang then compiles that module, with
-# each file of calls/, for a device. It needs the kit's `rt`, in the PATH or in /opt/rattle/bin. With PREBUILT=1 the
+# in which `clang` is a script that keeps the module that it is given. The kit's own clang then compiles that module,
+# with each file of calls/, for a device. It needs the kit's `rt`, in the PATH or in /opt/rattle/bin. With PREBUILT=1 the
 # archives are also put into src/, where they are kept for those who have no kit.
 set -eu
 here=$(cd "$(dirname "$0")" && pwd)

@@ -23,16 +23,26 @@ void uart_send(unsigned char byte)
     UART[DATA] = byte;
 }
 
-void uart_wait(void)
+void interrupts_off(void)
 {
-    __asm__ volatile("wfi");
+    __asm__ volatile("cpsid i" ::: "memory");
+}
+
+void interrupts_on(void)
+{
+    __asm__ volatile("cpsie i" ::: "memory");
+}
+
+void wait_for_interrupt(void)
+{
+    __asm__ volatile("wfi" ::: "memory");
 }
 
 static void uart_interrupt(void)
 {
+    UART[INTERRUPT] = 2; /* first: a byte that comes from here on interrupts again */
     while (UART[STATE] & 2)
         uart_received((unsigned char)UART[DATA]);
-    UART[INTERRUPT] = 2;
 }
 
 static void stop(void)

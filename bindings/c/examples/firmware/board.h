@@ -4,7 +4,9 @@
 
 void uart_start(void);
 void uart_send(unsigned char byte);
-void uart_wait(void);                   /* until an interrupt comes */
+void interrupts_off(void);
+void interrupts_on(void);
+void wait_for_interrupt(void);          /* also wakes while interrupts are off, and then handles none */
 void uart_received(unsigned char byte); /* the program's own, called by the interrupt */
 
 #endif

@@ -102,7 +102,10 @@ int main(void)
 {
     uart_start();
     for (;;) {
+        interrupts_off(); /* so that no byte comes between the question and the wait */
+        if (ring_tail == ring_head)
+            wait_for_interrupt();
+        interrupts_on();
         receive();
-        uart_wait();
     }
 }
