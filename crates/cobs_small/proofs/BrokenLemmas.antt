@@ -57,6 +57,7 @@ broken-within {buffer} count consumed h =
     record {
       takes = record {
         len = h.takes.len;
+        feeds = h.takes.feeds;
         after = h.takes.after;
         outcomes = λ p a. same-count _ count n (h.takes.outcomes p a);
         phased = h.takes.phased;
@@ -64,7 +65,9 @@ broken-within {buffer} count consumed h =
         after_zero = h.takes.after_zero;
       };
       ends = h.ends;
+      holds = h.holds;
       untouched = h.untouched;
+      bound = λ p a. omega arith;
       idle = h.idle;
       within = h.within;
     }

@@ -51,6 +51,7 @@ pub not_finished : (encoder : Encoder) (buffer : List ℕ) → ((m : List ℕ) �
     → Finishes 0 IsFrameOnWire encoder buffer (record { status = TOO_SMALL; consumed = 0; length = 0 }) encoder buffer
 not_finished encoder buffer none = record {
   writes = λ m h. absurd (none m h);
+  place = λ ok. absurd (omega (arith, ok));
   fresh = λ ok. absurd (omega (arith, ok));
   too_small = λ _. refl;
   refused = λ _. refl;

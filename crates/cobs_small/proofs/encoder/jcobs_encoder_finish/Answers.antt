@@ -56,6 +56,7 @@ returns c =
               too_small = λ long. absurd (omega (arith, fits));
               rest = rest;
             };
+        place = λ _. omega (arith, ap end_of same);
         fresh = λ _. record { start = refl; taken = after-nothing };
         too_small = λ other. absurd (other refl);
         refused = λ other. absurd (other refl);
