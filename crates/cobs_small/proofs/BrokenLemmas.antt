@@ -1,12 +1,11 @@
 -- What a broken piece decodes to is within the buffer.
-use Rattle.std.proofs.Common.{◌≡◌, ℕ, ◌≤◌, nat_le, min, Bool, true, false, cond, List, [], ◌∷◌, length, map, Option, Some, sym, ap, ◌∙◌, subst, arith, ⊎_elim}
+use Rattle.std.proofs.Common.{◌≡◌, ℕ, ◌≤◌, nat_le, min, Bool, true, false, cond, List, [], ◌∷◌, length, map, Some, sym, ap, ◌∙◌, subst, arith, ⊎_elim}
 use Rattle.std.proofs.lemmas.Bool.{leb-true, cases_Bool}
 use Rattle.std.proofs.Math.Nat.{min-eq_left}
 use Rattle.cobs.specs.Piece.{output, is_whole}
 use Rattle.cobs.specs.Stream.{Outcome, Message, Broken, TooLong, outcome_of, stream_outcomes, ended_pieces}
 use Rattle.cobs.specs.Feed.{Phase}
 use Rattle.cobs.specs.FeedPiece.{AreAlikeAtFirst, TakesPiece}
-use Rattle.cobs.specs.declared.dec.frame_decoder.PieceEnd.{PieceEnd}
 use Rattle.cobs.specs.declared.dec.frame_decoder.PieceEnd.TheVariants as ends
 
 fits-outcome : (p : List ℕ) (count n : ℕ) → Broken count ≡ outcome_of p n → count ≤ n
