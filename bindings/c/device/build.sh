@@ -1,9 +1,10 @@
 #!/bin/sh
 # Builds build/TARGET/libjcobs.a for each 32-bit target: build.sh [TARGET..]
 #
-# Rattle names no 32-bit target. So `rt` proves and builds crates/cobs_small for x86-64, in a folder of links to the kit in
-# which `clang` is a script that keeps the module that it is given. The kit's own clang then compiles that module, with each
-# file of src/, for a device. It needs the kit's `rt`, in the PATH or in /opt/rattle/bin.
+# Rattle names no 32-bit target. So `rt` proves and builds crates/cobs_small for x86-64, in a folder of links to the kit
+# in which `clang` is a script that keeps the module that it is given. The kit's own clang then compiles that module,
+# with each file of calls/, for a device. It needs the kit's `rt`, in the PATH or in /opt/rattle/bin. With PREBUILT=1 the
+# archives are also put into src/, where they are kept for those who have no kit.
 set -eu
 here=$(cd "$(dirname "$0")" && pwd)
 crate=$here/../../../crates/cobs_small
@@ -33,7 +34,10 @@ for word; do case \$word in *.bc) cp "\$word" "$build/module.bc" ;; esac; done
 exec "$clang" "\$@"
 SCRIPT
 chmod +x "$build/kit/toolchain/bin/clang"
-(cd "$crate" && "$build/kit/bin/rt" lib --cpu x86-64) >"$build/rt.log" 2>&1 || { tail "$build/rt.log"; exit 1; }
+(cd "$crate" && "$build/kit/bin/rt" lib --cpu x86-64) >"$build/rt.log" 2>&1 || {
+    tail "$build/rt.log"
+    exit 1
+}
 rm -rf "$build/kit"
 
 # The proved functions get names of their own, and lose what is said of x86-64.
@@ -47,24 +51,30 @@ printf 'typedef __SIZE_TYPE__ size_t;\n#define NULL ((void *)0)\n' >"$build/incl
 
 for target; do
     case $target in
-    thumbv6m-*) flags="--target=$target -mcpu=cortex-m0plus" ;;
-    thumbv7em-*) flags="--target=$target -mcpu=cortex-m4 -mfloat-abi=soft" ;;
-    riscv32imac-*) flags='--target=riscv32-unknown-none-elf -march=rv32imac -mabi=ilp32' ;;
+    thumbv6m-*) kept=cortex-m0plus flags="--target=$target -mcpu=cortex-m0plus -fshort-enums" ;;
+    thumbv7em-*) kept=cortex-m4 flags="--target=$target -mcpu=cortex-m4 -mfloat-abi=soft -fshort-enums" ;;
+    riscv32imac-*) kept=riscv32imac flags='--target=riscv32-unknown-none-elf -march=rv32imac -mabi=ilp32' ;;
     *) echo "build.sh: no target $target" >&2; exit 2 ;;
     esac
     flags="--no-default-config $flags -ffreestanding -Oz -ffunction-sections -fdata-sections -fno-unwind-tables"
-    flags="$flags -fno-asynchronous-unwind-tables -Wno-override-module"
+    flags="$flags -fno-asynchronous-unwind-tables -Wno-override-module -fstack-usage"
     out=$build/$target
     rm -rf "$out" && mkdir -p "$out/objects"
     # shellcheck disable=SC2086 # the flags are words
     "$clang" $flags -c -emit-llvm -Xclang -disable-llvm-passes -x ir "$build/module.ll" -o "$out/module.bc"
-    for source in "$here"/src/*.c; do
-        name=$(basename "$source" .c)
+    cd "$here/calls" # so that no object has the path of this folder
+    for source in *.c; do
         # shellcheck disable=SC2086
         "$clang" $flags -std=c99 -Wall -Wextra -Werror -I"$build/include" -I"$here/../include" \
-            -Xclang -mlink-builtin-bitcode -Xclang "$out/module.bc" -c "$source" -o "$out/objects/$name.o"
+            -Xclang -mlink-builtin-bitcode -Xclang "$out/module.bc" -c "$source" -o "$out/objects/${source%.c}.o"
     done
     rm "$out/module.bc"
     (cd "$out/objects" && "$kit/toolchain/bin/llvm-ar" rcD ../libjcobs.a ./*.o)
+    if [ "${PREBUILT:-}" = 1 ]; then
+        mkdir -p "$here/src/$kept" && cp "$out/libjcobs.a" "$here/src/$kept/"
+    elif [ -e "$here/src/$kept/libjcobs.a" ] && ! cmp "$out/libjcobs.a" "$here/src/$kept/libjcobs.a"; then
+        echo "build.sh: src/$kept/libjcobs.a is another one: PREBUILT=1 build.sh" >&2
+        exit 1
+    fi
     echo "$out/libjcobs.a"
 done

@@ -1,12 +1,11 @@
 -- The zero that ends a piece, by the status that is returned for it.
-use Rattle.std.proofs.Common.{◌≡◌, ◌≢◌, ℕ, zero, suc, ◌+◌, ◌<◌, ◌≤◌, nat_le, min, Bool, true, false, cond, List, [], ◌∷◌, length, take, get_or, Option, Some, None, Ok, Err, Result, IfOk, IfSome, refl, sym, ap, ◌∙◌, subst}
+use Rattle.std.proofs.Common.{◌≡◌, ◌≢◌, ℕ, zero, suc, ◌+◌, ◌<◌, ◌≤◌, nat_le, min, Bool, true, false, cond, List, [], length, take, get_or, Option, Some, Ok, Err, Result, IfOk, IfSome, refl, sym, ap, ◌∙◌, subst}
 use Rattle.std.proofs.lemmas.Bool.{leb-true, ne_eqb}
 use Rattle.std.proofs.Math.Nat.{min-eq_left}
 use Rattle.cobs.specs.Feed.{Phase, Idle, Within, Over, Feeds}
 use Rattle.cobs.specs.FeedPiece.{TakesPiece}
 use Rattle.cobs.specs.Internal.PieceEnds.{LeavesRest}
 use Rattle.cobs.specs.Internal.Step.{end_answer, if_over, next_answer, next_buffer, next_phase}
-use Rattle.cobs.specs.declared.dec.frame_decoder.PieceEnd.{PieceEnd}
 use Rattle.cobs.specs.declared.dec.frame_decoder.PieceEnd.TheVariants as ends
 use Rattle.cobs.specs.declared.dec.error.DecodeError.{DecodeError}
 use Rattle.cobs.specs.declared.dec.error.DecodeError.TheVariants.{TargetBufTooSmall}

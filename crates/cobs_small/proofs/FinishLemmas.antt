@@ -1,11 +1,9 @@
 -- Where an encoder is, and the frame that it ends.
-use Rattle.std.proofs.Common.{◌≡◌, ◌≢◌, ℕ, ◌<◌, if◌then◌else◌, Bool, true, false, List, [], ◌∷◌, length, take, drop, ◌≤◌, sym, ap, ◌∙◌, subst, arith, ⊎_elim, refl}
+use Rattle.std.proofs.Common.{◌≡◌, ◌≢◌, ℕ, ◌<◌, if◌then◌else◌, Bool, true, false, List, [], ◌∷◌, length, take, drop, sym, ap, ◌∙◌, subst, arith, ⊎_elim, refl}
 use Rattle.std.proofs.Math.ListN.{set}
 use Rattle.std.proofs.lemmas.Bool.{cases_Bool}
 use Rattle.std.proofs.lemmas.List.{drop-set-lt}
-use Rattle.std.specs.Int.Bits.{xor_zero_r}
 use Rattle.cobs.specs.Grammar.{IsEncodedFrame}
-use Rattle.cobs.specs.Sentinel.{xor_each}
 use Rattle.cobs.specs.OpenBlock.{Reached, CobsEncoderAfter, end_of, next_of}
 use Rattle.cobs_abi.specs.Frames.{IsFrameOnWire}
 use Rattle.cobs_abi.specs.State.{reached_in}
@@ -31,11 +29,6 @@ nothing (b ∷ bytes) e = absurd (omega arith)
 pub something : (bytes : List ℕ) → length bytes ≢ 0 → bytes ≢ []
 something bytes some e = some (ap length e)
 
--- XOR with 0 changes nothing
-pub xor_each-zero : (xs : List ℕ) → xor_each 0 xs ≡ xs
-xor_each-zero [] = refl
-xor_each-zero (x ∷ xs) = ap (λ (y : ℕ). y ∷ xor_each 0 xs) (xor_zero_r x) ∙ ap (λ (ys : List ℕ). x ∷ ys) (xor_each-zero xs)
-
 -- behind the frame it is as it was
 pub closed-rest : (slice after : List ℕ) (r : Reached) → 0 < r.block.code → (r.full ≡ false → after ≡ set slice r.block.index r.block.code) → (r.full ≡ true → after ≡ slice)
     → drop (end_of r) after ≡ drop (end_of r) slice
@@ -51,6 +44,7 @@ pub not_finished : (encoder : Encoder) (buffer : List ℕ) → ((m : List ℕ) �
     → Finishes 0 IsFrameOnWire encoder buffer (record { status = TOO_SMALL; consumed = 0; length = 0 }) encoder buffer
 not_finished encoder buffer none = record {
   writes = λ m h. absurd (none m h);
+  place = λ ok. absurd (omega (arith, ok));
   fresh = λ ok. absurd (omega (arith, ok));
   too_small = λ _. refl;
   refused = λ _. refl;

@@ -1,8 +1,22 @@
-//! Whole messages to frames.
+//! Whole messages to frames, and how long these are at most.
+ghost use Rattle.std.specs.Prelude.{◌≡◌, ◌≤◌, ◌<◌, ◌^◌};
+ghost use Rattle.cobs.specs.Length.{max_encoded_len};
 ghost use Rattle.cobs_abi.specs.Encode.{Encodes, EncodesTerminated};
 
 use crate::encoder::{START, jcobs_encoder_finish, jcobs_encoder_push};
+use cobs::max_encoding_overhead;
 use cobs_abi::{Answer, OK, done, too_small};
+
+/// Returns how many bytes the longest frame of a message of `message_len` bytes has, or 0 if that number doesn't fit.
+#[unsafe(no_mangle)]
+pub extern "C" fn jcobs_max_length(message_len: usize) -> usize
+    ensures fits { max_encoded_len message_len < 2 ^ 64 → result ≡ max_encoded_len message_len }
+    ensures too_long { 2 ^ 64 ≤ max_encoded_len message_len → result ≡ 0 }
+{
+    message_len
+        .checked_add(max_encoding_overhead(message_len))
+        .unwrap_or(0)
+}
 
 /// Writes the frame of the message to the front of the buffer `frame`, if it fits. Otherwise nothing is written.
 #[unsafe(no_mangle)]

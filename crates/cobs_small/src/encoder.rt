@@ -24,6 +24,7 @@ pub extern "C" fn jcobs_encoder_reset(encoder: &mut Encoder)
 }
 
 /// Whether a frame can have come so far in a buffer of `room` bytes.
+#[inline(always)]
 fn is_place(encoder: &Encoder, room: usize) -> bool
     ensures { IsTrue result ↔ IsPlaceIn room (reached_in encoder.now) }
 {

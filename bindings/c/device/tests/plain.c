@@ -119,8 +119,11 @@ jcobs_answer plain_encoder_push(jcobs_encoder *encoder, void *buffer, size_t buf
 
 jcobs_answer plain_encoder_finish(jcobs_encoder *encoder, void *buffer, size_t buffer_len)
 {
-    jcobs_answer answer = plain_encoder_push(encoder, buffer, buffer_len, NULL, 0);
+    jcobs_answer answer = {JCOBS_TOO_SMALL, 0, 0};
 
+    if (buffer_len == 0)
+        return answer;
+    answer = plain_encoder_push(encoder, buffer, buffer_len, NULL, 0);
     if (answer.status == JCOBS_OK) {
         if (!encoder->full)
             ((unsigned char *)buffer)[encoder->index] = (unsigned char)(encoder->taken + 1);

@@ -1,6 +1,5 @@
-use Rattle.std.proofs.Common.{◌+◌, ◌-◌, ◌≡◌, ◌≢◌, ◌<◌, ◌≤◌, Bool, false, arith, refl, sym, ap, ◌∙◌, List, [], ◌∷◌, length, get_or, ℕ}
+use Rattle.std.proofs.Common.{◌+◌, ◌-◌, ◌≡◌, ◌≢◌, ◌<◌, ◌≤◌, false, arith, refl, ap, List, [], ◌∷◌, length, get_or, ℕ}
 use Rattle.std.proofs.Math.ListN.{set}
-use Rattle.std.proofs.lemmas.List.{length-set}
 use Rattle.cobs.specs.OpenBlock.{CobsEncoderAfter}
 use Rattle.cobs.specs.Fields.Encoders.{reached_at}
 use Rattle.cobs.specs.Internal.OpenLen.{open_len}

@@ -1,4 +1,4 @@
-use Rattle.std.proofs.Common.{◌≡◌, ◌+◌, ◌<◌, ◌≤◌, Bool, false, List, ℕ}
+use Rattle.std.proofs.Common.{◌≡◌, ◌+◌, ◌<◌, false}
 use Rattle.cobs.specs.Internal.OpenLen.{open_len}
 use Rattle.cobs.specs.OpenBlock.{CobsEncoderAfter}
 use Rattle.cobs.specs.Fields.Encoders.{reached_at}

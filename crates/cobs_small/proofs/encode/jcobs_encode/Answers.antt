@@ -1,10 +1,9 @@
-use Rattle.std.proofs.Common.{◌≡◌, ◌≢◌, ◌<◌, ◌≤◌, ◌+◌, refl, false, ℕ, List, [], length, drop, sym, ap, ◌∙◌, subst, arith}
+use Rattle.std.proofs.Common.{◌≡◌, ◌≢◌, ◌≤◌, ◌+◌, refl, false, ℕ, [], length, drop, sym, ap, ◌∙◌, subst, arith}
 use Rattle.std.proofs.lemmas.Bool.{eqb-false, eqb-true}
 use Rattle.cobs.specs.Length.{encoded_len}
 use Rattle.cobs.specs.OpenBlock.{CobsEncoderAfter}
 use Rattle.cobs.proofs.AfterLemmas.{at, end-is}
 use Rattle.cobs.proofs.CoreLemmas.{after-nothing}
-use Rattle.cobs_abi.specs.State.{reached_in}
 use Rattle.cobs_abi.specs.declared.answer.Answer.{Answer}
 use Rattle.cobs_abi.specs.declared.answer.TheConstants.{OK}
 use Rattle.cobs_small.proofs.encode.jcobs_encode.Goals as goal
@@ -32,12 +31,10 @@ returns c =
     let e = c.jcobs_encoder_push-pushed.ensures.encodes in
     let ok = c.if-pushed-ne-OK.false in
     let start : CobsEncoderAfter c.args.frame.now (at 0 1 false) [] = after-nothing c.args.frame.now (omega (arith, some)) in
-    let le = (e.fits [] start).0 ok in
-    let taken = e.taken ok [] start in
+    let le = (e.fits [] start).0 ok in let taken = e.taken ok [] start in
     let f = c.jcobs_encoder_finish-finished.ensures.finishes in
     let w = f.writes c.args.message.now taken in
-    let len = e.len in
-    let fits : encoded_len c.args.message.now + 0 ≤ length c.jcobs_encoder_push-pushed.new.buffer = omega (arith, le, len) in
+    let len = e.len in let fits : encoded_len c.args.message.now + 0 ≤ length c.jcobs_encoder_push-pushed.new.buffer = omega (arith, le, len) in
     let long = ap length_of (w.fits fits) in
     let end = end-is c.jcobs_encoder_push-pushed.new.buffer c.args.message.now _ taken in
     let pushed = ap length_of (e.answer ok) in

@@ -1,14 +1,12 @@
-use Rattle.std.proofs.Common.{◌≡◌, ◌≢◌, ◌≤◌, not, true, false, ℕ, List, length, take, drop, sym, ap, ◌∙◌, subst, arith, refl, rules}
+use Rattle.std.proofs.Common.{◌≡◌, ◌≢◌, not, true, false, ℕ, length, sym, ap, ◌∙◌, subst, arith, refl}
 use Rattle.std.proofs.lemmas.Bool.{true≢false, eqb-true, eqb-false}
 use Rattle.std.proofs.Math.ListN.{set}
 use Rattle.cobs.specs.Fields.Encoders.{IsPlaceIn, reached_at}
-use Rattle.cobs.specs.Grammar.{IsEncodedFrame}
 use Rattle.cobs.specs.OpenBlock.{Reached, CobsEncoderAfter, end_of}
 use Rattle.cobs.proofs.AfterLemmas.{end-is}
 use Rattle.cobs.proofs.CoreLemmas.{after-fits, after-nothing}
 use Rattle.cobs.proofs.PlaceLemmas.{after-place}
 use Rattle.cobs.proofs.SentinelLemmas.{encoded_nonzero}
-use Rattle.cobs_abi.specs.State.{reached_in}
 use Rattle.cobs_abi.specs.declared.answer.TheConstants.{OK}
 use Rattle.cobs_small.proofs.FinishLemmas.{closed, closed-rest, not_finished}
 use Rattle.cobs_small.proofs.encoder.jcobs_encoder_finish.Goals as goal
@@ -56,6 +54,7 @@ returns c =
               too_small = λ long. absurd (omega (arith, fits));
               rest = rest;
             };
+        place = λ _. omega (arith, ap end_of same);
         fresh = λ _. record { start = refl; taken = after-nothing };
         too_small = λ other. absurd (other refl);
         refused = λ other. absurd (other refl);

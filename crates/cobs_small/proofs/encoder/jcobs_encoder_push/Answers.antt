@@ -1,14 +1,18 @@
-use Rattle.std.proofs.Common.{rules, ◌≡◌, ◌≢◌, ◌++◌, ℕ, List, [], ◌∷◌, length, refl, sym, ap, ◌∙◌, subst, arith, append-nil}
+use Rattle.std.proofs.Common.{rules, ◌++◌, ℕ, List, length, sym, ap, ◌∙◌, subst, arith, append-nil}
 use Rattle.std.proofs.lemmas.Bool.{eqb-false, eqb-true}
 use Rattle.cobs.specs.Length.{encoded_len}
-use Rattle.cobs.specs.OpenBlock.{Reached, CobsEncoderAfter}
+use Rattle.cobs.specs.OpenBlock.{Reached, CobsEncoderAfter, end_of}
 use Rattle.cobs.specs.Fields.Encoders.{reached_at}
+use Rattle.cobs.proofs.AfterLemmas.{end-is}
 use Rattle.cobs.proofs.CoreLemmas.{after-len, after-fits}
 use Rattle.cobs.proofs.PlaceLemmas.{after-place}
 use Rattle.cobs_abi.specs.State.{reached_in}
 use Rattle.cobs_abi.specs.declared.answer.Answer.{Answer}
 use Rattle.cobs_small.proofs.FinishLemmas.{nothing, something}
 use Rattle.cobs_small.proofs.encoder.jcobs_encoder_push.Goals as goal
+
+abbrev length_of : Answer → ℕ
+length_of answer = answer.length
 
 abbrev status_of : Answer → ℕ
 status_of answer = answer.status
@@ -18,6 +22,7 @@ returns-then-not-is_place c = record {
   encodes = record {
     fits = λ m h. let p = c.is_place.ensures.1 (after-place _ m _ h) in let none = c.if-not-is_place.true in absurd cc;
     taken = search rules;
+    counted = λ ok. absurd (omega (arith, ok, ap status_of c.too_small.ensures));
     answer = search rules;
     too_small = search rules;
     refused = search rules;
@@ -38,6 +43,11 @@ returns-then-is_empty c = record {
     taken = λ _ m h.
         let none = nothing c.args.bytes.now (eqb-true _ 0 (sym c.is_empty.ensures ∙ c.if-is_empty.true)) in
         subst (λ (x : List ℕ). CobsEncoderAfter c.args.buffer.now (reached_in c.args.encoder.now) x) (sym (ap (λ (x : List ℕ). m ++ x) none ∙ append-nil m)) h;
+    counted = λ _ m h.
+        let none = nothing c.args.bytes.now (eqb-true _ 0 (sym c.is_empty.ensures ∙ c.if-is_empty.true)) in
+        let e = ap (λ (x : List ℕ). encoded_len (m ++ x)) none ∙ ap encoded_len (append-nil m) in
+        let end = end-is c.args.buffer.now m _ h in
+        omega (arith, ap length_of c.done.ensures, c.end_of.ensures, ap end_of c.progress-start.ensures, e, end);
     answer = search rules;
     too_small = search rules;
     refused = search rules;
@@ -58,6 +68,7 @@ returns-then-not-fits c = record {
         let small = ap status_of c.too_small-then-not-fits.ensures in
         (λ t. absurd cc, λ le. let yes = c.fits.ensures.fits.1 (omega arith) in absurd cc);
     taken = search rules;
+    counted = λ ok. absurd (omega (arith, ok, ap status_of c.too_small-then-not-fits.ensures));
     answer = search rules;
     too_small = search rules;
     refused = search rules;
@@ -78,6 +89,10 @@ returns c = record {
         let place = after-place c.args.buffer.now m _ h' in
         (λ t. omega arith, λ le. ap status_of c.done-2.ensures);
     taken = search rules;
+    counted = λ _ m h.
+        let h' = subst (λ (r : Reached). CobsEncoderAfter c.args.buffer.now r m) (sym c.progress-start.ensures) h in
+        let end = end-is c.append-progress.new.buffer _ _ (c.append-progress.ensures.taken m h') in
+        omega (arith, ap length_of c.done-2.ensures, c.end_of-2.ensures, end);
     answer = search rules;
     too_small = search rules;
     refused = search rules;

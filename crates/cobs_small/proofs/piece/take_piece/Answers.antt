@@ -1,6 +1,6 @@
-use Rattle.std.proofs.Common.{◌≡◌, List, [], length, ℕ, take, get_or, arith, sym, ap, ◌∙◌, subst, refl}
+use Rattle.std.proofs.Common.{◌≡◌, [], length, take, get_or, arith, sym, ap, ◌∙◌, subst}
 use Rattle.std.proofs.lemmas.List.{take_all}
-use Rattle.cobs.specs.Feed.{Phase, Feeds, Idle}
+use Rattle.cobs.specs.Feed.{Phase, Feeds}
 use Rattle.cobs.specs.Internal.PieceEnds.{outcome_told}
 use Rattle.cobs.specs.Internal.Step.{end_answer}
 use Rattle.cobs.proofs.SoFar.{LeavesRest-start, LeavesRest-step, SoFar-start, TakesPiece-none, step_none, step_nonzero}

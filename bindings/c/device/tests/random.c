@@ -1,0 +1,136 @@
+/* Random calls of the library on a device, each compared with the same call of plain.c: random CALLS
+ *
+ * The buffers have bytes around them that no call may change. Half of the states are those that calls before made, with
+ * the buffer as it was; the others are random bytes. */
+#include "plain.h"
+
+#include <stdio.h>
+#include <stdlib.h>
+#include <string.h>
+
+#define ROOM 300
+#define AROUND 16
+
+jcobs_answer jcobs_decoder_feed(jcobs_decoder *decoder, void *buffer, size_t buffer_len, unsigned char byte);
+
+static unsigned long seed = 1;
+static unsigned char mine[AROUND + ROOM + AROUND];
+static unsigned char theirs[AROUND + ROOM + AROUND];
+static unsigned char bytes[ROOM];
+
+static unsigned int any(unsigned int below)
+{
+    seed = seed * 1664525u + 1013904223u;
+    return (unsigned int)((seed >> 8) & 0xffffff) % below;
+}
+
+static void fill(unsigned char *at, size_t len, unsigned int zeros)
+{
+    size_t i;
+
+    for (i = 0; i < len; i++)
+        at[i] = any(zeros) == 0 ? 0 : (unsigned char)(any(8) == 0 ? 255 : any(256));
+}
+
+static int same(jcobs_answer a, jcobs_answer b)
+{
+    return a.status == b.status && a.consumed == b.consumed && a.length == b.length &&
+           memcmp(mine, theirs, sizeof mine) == 0;
+}
+
+static int decodes(jcobs_decoder *decoder, size_t room, size_t len)
+{
+    jcobs_decoder other = *decoder;
+    unsigned char *to = mine + AROUND;
+    int is_idle = other.written == 0 && other.lacking == 0 && other.joint == 0 && other.too_long == 0;
+    jcobs_answer answer;
+
+    if (jcobs_decoder_is_idle(decoder) != (unsigned int)is_idle)
+        return 0;
+    answer = len == 1 && any(2) ? jcobs_decoder_feed(decoder, to, room, bytes[0])
+                                : jcobs_decoder_push(decoder, room ? to : NULL, room, len ? bytes : NULL, len);
+    if (!same(answer, plain_decoder_push(&other, theirs + AROUND, room, bytes, len)))
+        return 0;
+    return decoder->written == other.written && decoder->lacking == other.lacking && decoder->joint == other.joint &&
+           decoder->too_long == other.too_long;
+}
+
+static int encodes(jcobs_encoder *encoder, size_t room, size_t len)
+{
+    jcobs_encoder other = *encoder;
+    unsigned char *to = mine + AROUND;
+    jcobs_answer answer;
+    jcobs_answer plain;
+
+    if (any(4) == 0) {
+        answer = jcobs_encoder_finish(encoder, to, room);
+        plain = plain_encoder_finish(&other, theirs + AROUND, room);
+    } else {
+        answer = jcobs_encoder_push(encoder, room ? to : NULL, room, len ? bytes : NULL, len);
+        plain = plain_encoder_push(&other, theirs + AROUND, room, bytes, len);
+    }
+    return same(answer, plain) && encoder->index == other.index && encoder->taken == other.taken &&
+           encoder->full == other.full;
+}
+
+static int encodes_whole(size_t room, size_t len)
+{
+    jcobs_answer answer = jcobs_encode_terminated(bytes, len, mine + AROUND, room);
+    jcobs_answer plain = plain_encode_terminated(bytes, len, theirs + AROUND, room);
+
+    if (!same(answer, plain))
+        return 0;
+    if (answer.status == JCOBS_OK) {
+        answer = jcobs_encode(bytes, len, mine + AROUND, room);
+        if (answer.status != JCOBS_OK || answer.length + 1 != plain.length || mine[AROUND + answer.length] != 0)
+            return 0;
+    }
+    return memcmp(mine, theirs, sizeof mine) == 0;
+}
+
+static int run(unsigned long calls)
+{
+    jcobs_decoder decoder = JCOBS_DECODER_INIT;
+    jcobs_encoder encoder = JCOBS_ENCODER_INIT;
+    size_t room = ROOM;
+    unsigned long i;
+
+    for (i = 0; i < calls; i++) {
+        size_t len = any(4) ? any(40) : any(ROOM + 1);
+        unsigned int kind = any(3);
+        int holds;
+
+        if (any(8) == 0) {
+            room = any(2) ? ROOM : any(ROOM + 1);
+            fill(mine, sizeof mine, 5);
+            memcpy(theirs, mine, sizeof mine);
+            fill((unsigned char *)&decoder, sizeof decoder, 3);
+            fill((unsigned char *)&encoder, sizeof encoder, 3);
+            if (any(2)) {
+                decoder.written %= ROOM + 1;
+                encoder.index %= ROOM + 1;
+            }
+            if (any(3) == 0) {
+                jcobs_decoder_reset(&decoder);
+                jcobs_encoder_reset(&encoder);
+            }
+        }
+        fill(bytes, len, any(3) ? 300 : 4);
+        if (any(6) == 0)
+            memset(bytes, 1 + (int)any(255), len);
+        holds = kind == 0   ? decodes(&decoder, room, len)
+                : kind == 1 ? encodes(&encoder, room, len)
+                            : encodes_whole(room, len);
+        if (!holds) {
+            printf("call %lu of kind %u differs: room %u, %u bytes\n", i, kind, (unsigned)room, (unsigned)len);
+            return 1;
+        }
+    }
+    printf("%lu random calls, none differs\n", calls);
+    return 0;
+}
+
+int main(int argc, char **argv)
+{
+    return run(argc > 1 ? strtoul(argv[argc - 1], NULL, 10) : 100000);
+}

@@ -1,0 +1,113 @@
+#!/usr/bin/env python3
+"""Builds the firmware, runs it on QEMU's mps2-an386, and talks to it over the pseudo-terminal of its UART.
+
+usage: test.py [WATCH]
+
+Commands go out as frames, whole and damaged, and what comes back is compared. WATCH is a built cobs_watch, which then
+shows what comes back; without it this program decodes it.
+"""
+import os
+import re
+import select
+import subprocess
+import sys
+import tempfile
+import time
+import tty
+from pathlib import Path
+
+HERE = Path(__file__).resolve().parent
+LIBRARY = HERE.parent.parent / "device/build/thumbv7em-none-eabi/libjcobs.a"
+FLAGS = """-mcpu=cortex-m4 -mthumb -Os -std=c99 -ffreestanding -Wall -Wextra -Werror -ffunction-sections
+    -Wl,--gc-sections -nostdlib""".split()
+
+
+def frame(message):
+    out, block = bytearray(), bytearray()
+    for byte in message:
+        if byte == 0:
+            out += bytes([len(block) + 1]) + block
+            block.clear()
+        else:
+            block.append(byte)
+            if len(block) == 254:
+                raise ValueError("longer than this test needs")
+    return bytes(out + bytes([len(block) + 1]) + block + b"\0")
+
+
+def message(piece):
+    out = bytearray()
+    at = 0
+    while at < len(piece):
+        code = piece[at]
+        out += piece[at + 1 : at + code]
+        at += code
+        if at < len(piece):
+            out.append(0)
+    return bytes(out)
+
+
+def lines_of(terminal, watch, count):
+    """The first lines that cobs_watch shows of what comes, or would show."""
+    if watch:
+        shown = subprocess.Popen([watch], stdin=terminal, stdout=subprocess.PIPE, text=True)
+        for _ in range(count):
+            yield shown.stdout.readline().rstrip("\n")
+        shown.kill()
+        return
+    held = b""
+    end = time.monotonic() + 20
+    while count and time.monotonic() < end:
+        if select.select([terminal], [], [], 1)[0]:
+            held += os.read(terminal, 4096)
+        *pieces, held = held.split(b"\0")
+        for piece in pieces[:count]:
+            count -= 1
+            text = message(piece)
+            yield f"message {len(text)}" + (f" {text.hex()}" if text else "")
+
+
+def main():
+    watch = sys.argv[1] if len(sys.argv) > 1 else None
+    good = [b"e", b"ehello", bytes([101, 0, 0, 255, 0]), b"a\1\2\3\4", b"a" + bytes([255] * 40)]
+    stream = frame(good[0])
+    stream += b"\x09broken\0"  # says nine bytes, and has six
+    stream += frame(good[1]) + b"\0\0" + frame(good[2])
+    stream += frame(b"e" + bytes([7] * 100))  # longer than a command may be
+    stream += frame(good[3])
+    cut = frame(b"ecut off in the middle")
+    stream += cut[:9] + b"\0"  # cut off by a zero
+    stream += frame(good[4]) + frame(b"s")
+    sums = [b"a\0\x0a", b"a" + (255 * 40).to_bytes(2, "big")]
+    wanted = [*good[:3], *sums, bytes([ord("s"), 6, 2, 1])]
+    with tempfile.TemporaryDirectory() as work:
+        program = f"{work}/firmware"
+        sources = [HERE / "firmware.c", HERE / "board.c", LIBRARY, "-lgcc"]
+        build = ["arm-none-eabi-gcc", *FLAGS, f"-I{HERE.parent.parent}/include", "-T", HERE / "mps2.ld", *sources]
+        build += ["-o", program]
+        subprocess.run(build, check=True)
+        qemu = "qemu-system-arm -M mps2-an386 -display none -monitor none -serial pty -kernel".split() + [program]
+        machine = subprocess.Popen(qemu, stdout=subprocess.PIPE, stderr=subprocess.STDOUT, text=True)
+        try:
+            said = machine.stdout.readline()
+            path = re.search(r"/dev/\S+", said)
+            if not path:
+                sys.exit(f"QEMU: {said}")
+            terminal = os.open(path[0], os.O_RDWR | os.O_NOCTTY)
+            tty.setraw(terminal)
+            time.sleep(1.5)  # until QEMU has seen that the terminal is open
+            for at in range(0, len(stream), 16):  # as slowly as a serial line
+                os.write(terminal, stream[at : at + 16])
+                time.sleep(0.02)
+            found = list(lines_of(terminal, watch, len(wanted)))
+        finally:
+            machine.kill()
+    lines = [f"message {len(it)} {it.hex()}" for it in wanted]
+    for line in found:
+        print(line)
+    if found != lines:
+        print("wanted:", *lines, sep="\n")
+        sys.exit(1)
+
+
+main()

@@ -1,0 +1,217 @@
+#!/bin/sh
+# Builds the library for 32-bit controllers, runs it in QEMU, and measures it.
+#
+# On each target: the vectors of the calls that it has, through the C interface; random calls, each compared with plain C,
+# with bytes around the buffers that no call may change, and states of random bytes. On a Cortex-M4: flash, stack and
+# instructions a byte, each with its limit; and the firmware of bindings/c/examples/firmware, on a serial line.
+# Prints a line for each part; the last line counts them. The status is 0 only if nothing failed.
+#
+# Lists of flags are meant to be split.
+# shellcheck disable=SC2086,SC2317
+set -u
+top=$(cd "$(dirname "$0")/.." && pwd)
+device=$top/bindings/c/device
+include=$top/bindings/c/include
+work=$(mktemp -d)
+trap 'rm -rf "$work"' EXIT
+PATH=$PATH:/opt/rattle/bin
+passed=0
+failed=0
+skipped=0
+
+part() { # NAME COMMAND..
+    name=$1
+    shift
+    if "$@" >"$work/said" 2>&1; then
+        passed=$((passed + 1))
+        echo "ok: $name$(sed -n '/^= /{s/^= /: /p;q}' "$work/said")"
+    else
+        failed=$((failed + 1))
+        echo "FAILED: $name"
+        tail -20 "$work/said" | sed 's/^/    /'
+    fi
+}
+
+has() { # FILE-OR-TOOL PACKAGE PART
+    if command -v "$1" >/dev/null || [ -e "$1" ]; then return 0; fi
+    skipped=$((skipped + 1))
+    echo "skipped: $3: lacks Debian's $2"
+    return 1
+}
+
+finish() {
+    echo "$passed passed, $failed failed, $skipped skipped"
+    [ "$failed" -eq 0 ]
+    exit
+}
+
+# The cases whose calls the library has.
+awk '$3 ~ /^(encode_vec|encode|try_encode|encoder|encode_frames|decoder|decode_stream|max_encoding_length|max_encoding_overhead)$/' \
+    "$top"/conformance/*.txt >"$work/cases"
+
+arm() { # CPU OUTPUT SOURCE..
+    cpu=$1
+    output=$2
+    shift 2
+    arm-none-eabi-gcc -mcpu="$cpu" -mthumb -Os -std=c99 -Wall -Wextra -Werror -I"$include" -I"$device/tests" --specs=rdimon.specs \
+        -T "$device/tests/mps2.ld" "$device/tests/start_arm.c" "$@" -o "$output"
+}
+
+on_arm() { # MACHINE PROGRAM ARGUMENT..: its flags for QEMU are in $icount
+    machine=$1
+    program=$2
+    shift 2
+    arguments=arg=program
+    for it; do arguments=$arguments,arg=$it; done
+    timeout 120 qemu-system-arm -M "$machine" ${icount:-} -nographic -monitor none -serial null \
+        -semihosting-config "enable=on,target=native,$arguments" -kernel "$program"
+}
+
+riscv() { # OUTPUT SOURCE..
+    output=$1
+    shift
+    riscv64-unknown-elf-gcc --specs=picolibc.specs -march=rv32imac -mabi=ilp32 -Os -std=c99 -Wall -Wextra -Werror -I"$include" \
+        -I"$device/tests" --oslib=semihost --crt0=semihost -Wl,--defsym=__flash=0x80000000 -Wl,--defsym=__flash_size=0x800000 \
+        -Wl,--defsym=__ram=0x80800000 -Wl,--defsym=__ram_size=0x800000 "$@" -o "$output"
+}
+
+# What is printed comes on standard error, and the status says nothing: the last line decides.
+on_riscv() { # PROGRAM ARGUMENT..
+    program=$1
+    shift
+    arguments=
+    for it; do arguments=$arguments,arg=$it; done
+    timeout 120 qemu-system-riscv32 -M virt -bios none -nographic -monitor none -serial null \
+        -semihosting-config "enable=on,target=native$arguments" -kernel "$program" 2>&1 || :
+}
+
+archive() { # TARGET
+    echo "$device/build/$1/libjcobs.a"
+}
+
+# Each case that is run passes, and so many are run.
+vectors_pass() { # COMMAND..
+    "$@" >"$work/vectors" || { cat "$work/vectors"; return 1; }
+    sed 's/^/= /' "$work/vectors"
+    grep -q "^$(wc -l <"$work/cases") cases run, 0 of .*, 0 failed" "$work/vectors"
+}
+
+random_pass() { # COMMAND..
+    "$@" >"$work/random" || { cat "$work/random"; return 1; }
+    cat "$work/random"
+    grep -q '^100000 random calls, none differs' "$work/random"
+}
+
+arm_target() { # TARGET CPU MACHINE
+    part "$1: build the tests" arm "$2" "$work/$1.vectors" "$top/bindings/c/tests/vectors.c" "$device/tests/absent.c" "$(archive "$1")"
+    part "$1: vectors" vectors_pass on_arm "$3" "$work/$1.vectors" "$work/cases"
+    part "$1: build random calls" arm "$2" "$work/$1.random" "$device/tests/random.c" "$device/tests/plain.c" "$(archive "$1")"
+    part "$1: random calls" random_pass on_arm "$3" "$work/$1.random" 100000
+}
+
+riscv_target() { # TARGET
+    part "$1: build the tests" riscv "$work/$1.vectors" "$top/bindings/c/tests/vectors.c" "$device/tests/absent.c" "$(archive "$1")"
+    part "$1: vectors" vectors_pass on_riscv "$work/$1.vectors" "$work/cases"
+    part "$1: build random calls" riscv "$work/$1.random" "$device/tests/random.c" "$device/tests/plain.c" "$(archive "$1")"
+    part "$1: random calls" random_pass on_riscv "$work/$1.random" 100000
+}
+
+# The flash of a program that has these calls and nothing else.
+flash() { # LIMIT CALL..
+    limit=$1
+    shift
+    wanted=
+    for it; do wanted="$wanted -u jcobs_$it"; done
+    arm-none-eabi-ld --gc-sections -e "jcobs_$1" $wanted "$(archive thumbv7em-none-eabi)" \
+        "$(arm-none-eabi-gcc -mcpu=cortex-m4 -mthumb -print-libgcc-file-name)" -o "$work/flash" || return 1
+    taken=$(arm-none-eabi-size "$work/flash" | awk 'NR == 2 { print $1 + $2 }')
+    echo "= $taken bytes of at most $limit"
+    [ "$taken" -le "$limit" ]
+}
+
+plain_flash() { # CALL..: the same of plain C, for comparison
+    arm-none-eabi-gcc -mcpu=cortex-m4 -mthumb -Os -std=c99 -ffunction-sections -I"$include" -c "$device/tests/plain.c" -o "$work/plain.o" || return 1
+    wanted=
+    for it; do wanted="$wanted -u plain_$it"; done
+    arm-none-eabi-ld --gc-sections -e "plain_$1" $wanted "$work/plain.o" -o "$work/flash" || return 1
+    echo "= $(arm-none-eabi-size "$work/flash" | awk 'NR == 2 { print $1 + $2 }') bytes"
+}
+
+# A call's stack: all functions of its object, and for a feed those of the push that it makes.
+stack() {
+    most=0
+    for usage in "$device"/build/*/objects/*.su; do
+        taken=$(awk -F '\t' '{ n += $2 } END { print n }' "$usage")
+        case $usage in
+        */decoder_feed.su) taken=$((taken + $(awk -F '\t' '{ n += $2 } END { print n }' "${usage%feed.su}push.su"))) ;;
+        esac
+        [ "$taken" -le "$most" ] || most=$taken
+        echo "$taken $usage"
+    done
+    echo "= at most $most bytes a call, of 96"
+    [ "$most" -gt 0 ] && [ "$most" -le 96 ]
+}
+
+state() {
+    printf '#include <jcobs.h>\nchar fits[sizeof(jcobs_decoder) <= 16 && sizeof(jcobs_encoder) <= 16 ? 1 : -1];\n' >"$work/state.c"
+    arm-none-eabi-gcc -mcpu=cortex-m4 -mthumb -I"$include" -c "$work/state.c" -o "$work/state.o"
+}
+
+# At most twice the instructions of plain C, for each call and kind of message.
+instructions() {
+    arm cortex-m4 "$work/measure" "$device/tests/measure.c" "$device/tests/plain.c" "$(archive thumbv7em-none-eabi)" || return 1
+    icount='-icount shift=0' on_arm mps2-an386 "$work/measure" >"$work/instructions" || return 1
+    cat "$work/instructions"
+    awk '/^instructions/ { n++; if ($NF > most) most = $NF } END { print "= at most " most " hundredths of those of plain C"; exit !(n == 9 && most <= 200) }' \
+        "$work/instructions"
+}
+
+# The toolchain file and the target, from a project elsewhere.
+cmake_example() {
+    mkdir -p "$work/project"
+    printf 'cmake_minimum_required(VERSION 3.16)\nproject(example C)\ninclude(%s/cmake/jcobs.cmake)\nadd_library(uses uses.c)\ntarget_link_libraries(uses jcobs::jcobs)\nadd_executable(program main.c)\ntarget_link_libraries(program uses)\ntarget_link_options(program PRIVATE --specs=nosys.specs)\n' \
+        "$device" >"$work/project/CMakeLists.txt"
+    printf '#include <jcobs.h>\nunsigned int idle(const jcobs_decoder *d);\nunsigned int idle(const jcobs_decoder *d)\n{\n    return jcobs_decoder_is_idle(d);\n}\n' >"$work/project/uses.c"
+    printf '#include <jcobs.h>\nunsigned int idle(const jcobs_decoder *d);\nint main(void)\n{\n    jcobs_decoder d = JCOBS_DECODER_INIT;\n    return (int)idle(&d);\n}\n' >"$work/project/main.c"
+    cmake -S "$work/project" -B "$work/project/build" -DCMAKE_TOOLCHAIN_FILE="$device/cmake/toolchain-cortex-m4.cmake" &&
+        cmake --build "$work/project/build"
+}
+
+if ! command -v rt >/dev/null; then
+    echo "skipped tests/device.sh: it needs Rattle's toolchain"
+    exit 0
+fi
+has arm-none-eabi-gcc gcc-arm-none-eabi 'the device' || finish
+has /usr/lib/arm-none-eabi/include/stdio.h libnewlib-arm-none-eabi 'the device' || finish
+has qemu-system-arm qemu-system-arm 'the device' || finish
+part 'build' "$device/build.sh"
+arm_target thumbv6m-none-eabi cortex-m0plus mps2-an385
+arm_target thumbv7em-none-eabi cortex-m4 mps2-an386
+if has riscv64-unknown-elf-gcc gcc-riscv64-unknown-elf riscv32imac && has qemu-system-riscv32 qemu-system-misc riscv32imac &&
+    has /usr/lib/picolibc/riscv64-unknown-elf/picolibc.specs picolibc-riscv64-unknown-elf riscv32imac; then
+    riscv_target riscv32imac-unknown-none-elf
+fi
+part 'flash: decoder push and feed' flash 450 decoder_push decoder_feed
+part 'flash: the same in plain C' plain_flash decoder_push
+part 'flash: streaming encoder' flash 700 encoder_push encoder_finish encoder_reset
+part 'flash: the same in plain C' plain_flash encoder_push encoder_finish
+part 'flash: decoder and encode_terminated' flash 1000 decoder_push decoder_feed decoder_reset decoder_is_idle encode_terminated
+part 'flash: the same in plain C' plain_flash decoder_push encode_terminated
+part 'flash: everything' flash 2500 decoder_push decoder_feed decoder_reset decoder_is_idle encoder_push encoder_finish encoder_reset \
+    encode encode_terminated max_length
+part 'stack' stack
+part 'state: at most 16 bytes' state
+part 'instructions a byte' instructions
+firmware=$top/bindings/c/examples/firmware/test.py
+part 'firmware on a serial line' "$firmware"
+watch=$top/crates/cobs_watch/out/cobs_watch
+if [ -x "$watch" ]; then
+    part 'firmware on a serial line, shown by cobs_watch' "$firmware" "$watch"
+else
+    skipped=$((skipped + 1))
+    echo "skipped: firmware shown by cobs_watch: it is not built (rt run in crates/cobs_watch)"
+fi
+if has cmake cmake 'the CMake example'; then
+    part 'the CMake example' cmake_example
+fi
+finish
