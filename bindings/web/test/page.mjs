@@ -567,7 +567,7 @@ const xored = (bytes, sentinel) => bytes.map((byte) => byte ^ sentinel).join();
 /** test/port.js in the page, as the port that Web Serial gives. */
 const DEVICE = (await readFile(new URL("port.js", import.meta.url), "utf8")).replace("export class", "class") + `
   const port = (globalThis.port = new FakePort());
-  Object.defineProperty(navigator, "serial", { value: { requestPort: async () => port, getPorts: async () => [port], addEventListener() {} }, configurable: true });
+  Object.defineProperty(navigator, "serial", { value: { requestPort: async () => port, getPorts: async () => [port], addEventListener: (name, act) => (globalThis["serial_" + name] = act) }, configurable: true });
 `;
 const withDevice = { before: DEVICE };
 
@@ -599,6 +599,24 @@ for (const sentinel of [0, 0x55]) {
     await page.until("port.signals?.dataTerminalReady === false");
   }, withDevice));
 }
+
+await check("line: a device that was chosen before is connected without a question, and again when it comes back", () => on("line", async (page) => {
+  await page.until('document.getElementById("line-known").options.length === 2');
+  equal(await page.value('document.getElementById("line-known").options[1].text'), "USB 2341:0043", "its name");
+  await page.value("navigator.serial.requestPort = () => Promise.reject(new DOMException('asked', 'NotFoundError'))");
+  await page.click("#line-connect");
+  await page.until('document.getElementById("line-error").textContent === "No device was chosen."');
+  await page.value('document.getElementById("line-known").value = "0"');
+  await page.click("#line-connect");
+  await page.until(isConnected);
+  await page.value('port.fail("NetworkError"), port.opened = null');
+  await page.until(isNotConnected);
+  await page.value("serial_connect({ target: port })");
+  equal(await page.value(isConnected), false, "it isn't asked to connect again");
+  await page.value('document.getElementById("line-again").checked = true');
+  await page.value("serial_connect({ target: port })");
+  await page.until(isConnected);
+}, withDevice));
 
 await check("line: Disconnect closes the device, and Connect opens it again", () => on("line", async (page) => {
   for (const milliseconds of [0, 1, 50]) {
