@@ -7,8 +7,12 @@ const folder = process.argv[2];
 const { server, address } = await serve();
 const browser = await Browser.start(process.env.CHROMIUM ?? "chromium");
 
+/** A clock that goes on by 37 ms each time it is read, so that the pictures are the same at each run. */
+const CLOCK = "{ let now = Date.UTC(2026, 10, 23, 10); const Clock = Date; Date = class extends Clock { constructor(...given) { super(...(given.length > 0 ? given : [(now += 37)])); } }; }";
+
 async function shot(name, view, options, act) {
-  const page = await browser.open(`${address}#${view}`, options);
+  const page = await browser.open(`${address}#${view}`, { ...options, before: CLOCK });
+  await page.send("Emulation.setTimezoneOverride", { timezoneId: "UTC" });
   await page.until("document.documentElement.dataset.ready === 'yes'");
   await act(page);
   await new Promise((done) => setTimeout(done, 1200)); // until the status lines have been set

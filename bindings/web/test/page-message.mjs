@@ -1,0 +1,205 @@
+// The view of a message, in Chromium.
+import { encode as plainEncode } from "./plain.js";
+import { equal, holds } from "./tally.mjs";
+import { READY, browser, check, chooseHex, chooseText, hex, longestPause, number, on, summary } from "./page-setup.mjs";
+
+const facts = async (page) => {
+  const read = (name) => page.text(`#message-${name}`);
+  return [number(await read("length")), number(await read("frame-length")), number(await read("greatest")), number(await read("blocks")), number(await read("full"))];
+};
+
+await check("message: text that is typed", () => on("message", async (page) => {
+  await chooseText(page);
+  await page.fill("#message-input", "hello");
+  await page.until('document.getElementById("message-frame").textContent === "06 68 65 6c 6c 6f"');
+  equal(await facts(page), [5, 6, 6, 1, 0], "the lengths");
+  await page.until('document.getElementById("message-status").textContent.includes("5 bytes in a frame of 6 bytes: one block")');
+}));
+
+await check("message: hex that is typed, and its drawing", () => on("message", async (page) => {
+  await chooseHex(page);
+  await page.fill("#message-input", "0A,0b 0x00:0c");
+  await page.until('document.getElementById("message-frame").textContent === "03 0a 0b 02 0c"');
+  equal(await facts(page), [4, 5, 5, 2, 0], "the lengths");
+  const drawn = await page.value(`(() => {
+    const svg = document.querySelector("#message-drawing svg");
+    const texts = (selector) => [...svg.querySelectorAll(selector)].map((each) => each.textContent);
+    return { codes: texts("text.on"), joints: texts("text.zero"), arcs: svg.querySelectorAll(".arc").length, blocks: svg.querySelectorAll(".edge").length, words: svg.getAttribute("aria-label") };
+  })()`);
+  equal(drawn, { codes: ["03", "02"], joints: ["0"], arcs: 2, blocks: 2, words: "Bytes 0 to 4: code 03; 0a 0b code 02, a zero of the message; 0c" });
+}));
+
+await check("message: a full block is marked, and the joint behind it stands for no zero", () => on("message", async (page) => {
+  await page.click('[data-run="255"]');
+  await page.until('document.getElementById("message-full").textContent === "1"');
+  equal(await facts(page), [255, 257, 257, 2, 1], "the lengths");
+  await page.click("#message-drawing");
+  for (let i = 0; i < 6; i++) await page.press("PageDown");
+  await page.until('[...document.querySelectorAll("#message-drawing text.note")].some((each) => each.textContent === "no 0")');
+  equal(await page.value('document.querySelectorAll("#message-drawing text.zero").length'), 0, "joints with a zero in sight");
+  await page.press("Home");
+  await page.until('document.querySelector("#message-drawing .code.full") !== null');
+}));
+
+await check("message: another sentinel", () => on("message", async (page) => {
+  await page.fill("#message-sentinel", "aa");
+  await page.until('document.getElementById("message-frame").textContent === "a9 a0 a1 a8 a6"');
+  equal(await facts(page), [4, 5, 5, 2, 0], "the lengths");
+  await page.fill("#message-sentinel", "zz");
+  await page.until('document.getElementById("message-sentinel-error").textContent.includes("zz")');
+  equal(await page.text("#message-frame"), "a9 a0 a1 a8 a6", "the frame of the last good sentinel");
+}));
+
+await check("message: over the bytes are those of the message, whatever the sentinel", () => on("message", async (page) => {
+  const over = () => page.value('[...document.querySelectorAll("#message-drawing text.over, #message-drawing text.zero")].map((each) => each.textContent).filter((text) => text)');
+  for (const [sentinel, codes] of [["00", ["03", "02"]], ["aa", ["a9", "a8"]], ["03", ["00", "01"]]]) {
+    await page.fill("#message-sentinel", sentinel);
+    await page.until(`document.querySelector("#message-drawing text.on").textContent === "${codes[0]}"`);
+    equal((await over()).slice(0, 4), ["0a", "0b", "0", "0c"], `with the sentinel ${sentinel}`);
+    equal(await page.value('[...document.querySelectorAll("#message-drawing text.on")].map((each) => each.textContent)'), codes, "the codes");
+  }
+  await page.fill("#message-sentinel", "20");
+  await page.click('[data-text="hello world"]');
+  await page.until('[...document.querySelectorAll("#message-drawing text.over")].map((each) => each.textContent).join("").startsWith("hello20world")');
+  holds((await page.value('document.querySelector("#message-drawing svg").getAttribute("aria-label")')).includes("48 for 68"), "a screen reader hears both bytes");
+}));
+
+await check("message: bad hex is named, and nothing is lost", () => on("message", async (page) => {
+  await chooseHex(page);
+  const cases = [["0a 0b\n00 0g", "line 2, column 5", "g"], ["0a 0b 1", "line 1, column 7", "01"], ["0a 0x", "0x", "digits"], ["0a 123", "odd number", "123"]];
+  for (const [text, ...words] of cases) {
+    await page.click("#message-input");
+    await page.selectAll();
+    await page.paste(text);
+    await page.until(`document.getElementById("message-input").value === ${JSON.stringify(text)}`);
+    for (const word of words) await page.until(`document.getElementById("message-error").textContent.includes(${JSON.stringify(word)})`);
+    equal(await page.value('document.getElementById("message-input").getAttribute("aria-invalid")'), "true", "aria-invalid");
+    equal(await page.text("#message-frame"), "03 0a 0b 02 0c", "the frame of the last good input");
+  }
+  await page.press("Backspace");
+  await page.type("4");
+  await page.until('document.getElementById("message-error").hidden === false');
+  await page.fill("#message-input", "0a 01");
+  await page.until('document.getElementById("message-frame").textContent === "03 0a 01"');
+  equal(await page.value('document.getElementById("message-error").hidden'), true, "no complaint");
+}));
+
+await check("message: Copy gives the whole frame", () => on("message", async (page) => {
+  await page.click('[data-text="hello world"]');
+  await page.until('document.getElementById("message-frame").textContent.startsWith("0c 68")');
+  await page.click("#message-copy");
+  await page.until('document.getElementById("message-copied").textContent.includes("12 bytes copied")');
+  equal(await page.value("navigator.clipboard.readText()"), hex(plainEncode(Buffer.from("hello world"))));
+}));
+
+for (const [name, make, how] of [
+  ["1 MB of text without line ends", () => "abcdefghij".repeat(104858).slice(0, 1 << 20), "text"],
+  ["1 MB as hex, with zeros", () => "00 ff 01 02 ".repeat(1 << 18), "hex"],
+]) {
+  await check(`message: ${name} is pasted`, () => on("message", async (page) => {
+    const text = make();
+    const message = how === "text" ? Buffer.from(text) : Buffer.from(text.replace(/ /g, ""), "hex");
+    const frame = plainEncode(message);
+    await (how === "text" ? chooseText(page) : chooseHex(page));
+    await page.click("#message-input");
+    await page.selectAll();
+    await page.value(`navigator.clipboard.writeText(${JSON.stringify(text)})`);
+    const pause = await longestPause(page, async () => {
+      await page.send("Input.dispatchKeyEvent", { type: "keyDown", key: "v", code: "KeyV", windowsVirtualKeyCode: 86, modifiers: 2, commands: ["paste"] });
+      await page.until(`document.getElementById("message-length").dataset.bytes === "${message.length}"`);
+      await page.click("#message-drawing");
+      await page.press("End");
+      await page.until(`[...document.querySelectorAll("#message-drawing svg")].some((each) => each.getAttribute("aria-label").includes(" to ${frame.length - 1}:"))`);
+    });
+    console.log(`page: ${name}: the longest pause between two frames was ${Math.round(pause)} ms`);
+    holds(pause < 2500, `a pause of ${pause} ms`);
+    equal((await facts(page)).slice(0, 2), [message.length, frame.length], "the lengths");
+    const rows = await page.value('document.querySelectorAll("#message-drawing .row").length');
+    holds(rows > 0 && rows < 40, `${rows} rows are in the document`);
+    await page.click("#message-copy");
+    await page.until('document.getElementById("message-copied").textContent.includes("copied")');
+    equal((await page.value("navigator.clipboard.readText()")) === hex(frame), true, "the whole frame is on the clipboard");
+    await page.click(".held button:nth-of-type(2)");
+    equal(await page.value(`document.getElementById("message-input").value.length`), text.length, "what the field holds when it is edited");
+  }));
+}
+
+await check("message: bytes that are a frame, or a stream, are offered to be read so", () => on("message", async (page) => {
+  await chooseHex(page);
+  await page.fill("#message-input", "{0x03, 0x0a, 0x0b, 0x02, 0x0c}");
+  await page.until('document.getElementById("message-offer-text").textContent.includes("are a frame")');
+  await page.until('document.getElementById("message-status").textContent.includes("Read as a list.")');
+  await page.click("#message-decode");
+  await page.until('document.getElementById("message-frame").textContent === "03 0a 0b 02 0c"');
+  await page.fill("#message-input", "03 0a 0b 00 02 07 00");
+  await page.until('document.getElementById("message-offer-text").textContent.includes("a stream of frames")');
+  await page.click("#message-stream");
+  await page.until('!document.getElementById("stream").hidden');
+  await summary(page, "7 bytes, 2 pieces: 2 messages.");
+}));
+
+await check("message: a link gives the same message, and text becomes bytes and back", () => on("message", async (page) => {
+  await chooseHex(page);
+  await page.fill("#message-input", "68 c3 a9");
+  await page.fill("#message-sentinel", "aa");
+  await page.until('location.hash === "#message&hex=68c3a9&as=hex&sentinel=aa"');
+  await chooseText(page);
+  await page.until('document.getElementById("message-input").value === "hé"');
+  await page.until('location.hash === "#message&hex=68c3a9&as=text&sentinel=aa"');
+  await page.value('document.getElementById("message-form").value = "link"');
+  await page.click("#message-copy");
+  await page.until('document.getElementById("message-copied").textContent === "The link is copied."');
+  const link = await page.value("navigator.clipboard.readText()");
+  const frame = await page.text("#message-frame");
+  const other = await browser.open(link);
+  await other.until(READY);
+  await other.until(`document.getElementById("message-frame").textContent === "${frame}"`);
+  equal(await other.value('document.getElementById("message-input").value'), "hé", "the text");
+  await other.close();
+  await chooseHex(page);
+  await page.until('document.getElementById("message-input").value === "68 c3 a9"');
+  await page.value('document.getElementById("message-form").value = "c"');
+  await page.click("#message-ended");
+  await page.click("#message-copy");
+  await page.until('document.getElementById("message-copied").textContent === "5 bytes copied."');
+  equal(await page.value("navigator.clipboard.readText()"), "static const unsigned char frame[5] = {0xae, 0xc2, 0x69, 0x03, 0xaa};\n", "as C, with the sentinel");
+}));
+
+await check("message: a frame that is edited changes its message", () => on("message", async (page) => {
+  for (const [sentinel, frame] of [["00", "03 0a 0b 02 0c"], ["aa", "a9 a0 a1 a8 a6"]]) {
+    await page.fill("#message-sentinel", sentinel);
+    await page.until(`document.getElementById("message-frame-edit").value === "${frame}"`);
+    const changed = `${frame.slice(0, -2)}${sentinel === "00" ? "0d" : "a7"}`;
+    await page.fill("#message-frame-edit", changed);
+    await page.until('document.getElementById("message-input").value === "0a 0b 00 0d"');
+    await page.until(`document.getElementById("message-frame").textContent === "${changed}"`);
+    await page.fill("#message-frame-edit", sentinel === "00" ? "05 0a" : "af a0");
+    await page.until('document.getElementById("message-frame-error").textContent.includes("breaks off")');
+    equal(await page.value('document.getElementById("message-input").value'), "0a 0b 00 0d", "the message stays");
+    await page.fill("#message-frame-edit", `a0 ${sentinel} a1`);
+    await page.until('document.getElementById("message-frame-error").textContent.includes("has no sentinel")');
+    await page.click("#message-input");
+    await page.until(`document.getElementById("message-frame-edit").value === "${changed}" && document.getElementById("message-frame-error").hidden`);
+    await page.fill("#message-input", "0a 0b 00 0c");
+    await page.until(`document.getElementById("message-frame").textContent === "${frame}"`);
+  }
+}));
+
+await check("message: step by step", () => on("message", async (page) => {
+  await page.click("#message-steps summary");
+  const bytes = (name) => page.value(`document.getElementById("steps-${name}").textContent`);
+  const last = async () => {
+    for (let i = 0; i < 12; i++) if (!(await page.value('document.getElementById("steps-next").disabled'))) await page.click("#steps-next");
+  };
+  equal(await bytes("in"), "0a0b000c", "the message");
+  await page.click("#steps-next");
+  equal([await bytes("out"), await page.text("#steps-code .on")], ["000a", "    out.push(byte); code += 1"], "after a step");
+  await last();
+  equal(await bytes("out"), "030a0b020c", "the frame");
+  await page.value('(() => { const which = document.getElementById("steps-which"); which.value = "decoder"; which.dispatchEvent(new Event("change")); })()');
+  equal([await bytes("in"), await bytes("out")], ["030a0b020c", ""], "the decoder");
+  await last();
+  equal(await bytes("out"), "0a0b000c", "the message");
+  await page.click('[data-run="255"]');
+  await page.until('document.getElementById("steps-in").textContent.length === 2 * 257');
+}));

@@ -1,0 +1,245 @@
+// The view of a stream, in Chromium.
+import { mkdtemp, rm, writeFile } from "node:fs/promises";
+import { tmpdir } from "node:os";
+import { join } from "node:path";
+import { encode as plainEncode } from "./plain.js";
+import { equal, holds } from "./tally.mjs";
+import { READY, STREAM, badges, browser, check, fillStream, hex, longestPause, on, outcomes, summary } from "./page-setup.mjs";
+
+await check("stream: pieces and their outcomes over a buffer", () => on("stream", async (page) => {
+  await page.fill("#stream-room", "5");
+  await fillStream(page, STREAM);
+  await summary(page, "28 bytes, 5 pieces: 3 messages, 1 broken, 1 too long. The last bytes have no sentinel");
+  equal(await badges(page), ["message", "message", "message", "broken", "too long", "unfinished"], "the badges");
+  holds((await outcomes(page))[0].includes("4 bytes") && (await outcomes(page))[0].includes("0a 0b 00 0c"), "the first message is shown");
+  await page.fill("#stream-room", "6");
+  await summary(page, "5 pieces: 4 messages, 1 broken.");
+}));
+
+await check("stream: a damaged byte changes its piece alone, and is mended", () => on("stream", async (page) => {
+  await fillStream(page, STREAM);
+  await summary(page, "5 pieces: 4 messages, 1 broken");
+  const before = await outcomes(page);
+  await page.click("#byte-8");
+  await summary(page, "1 byte damaged: 4 of the 5 pieces came through as before");
+  const after = await outcomes(page);
+  equal(after.filter((row, i) => row !== before[i]).length, 1, "changed rows");
+  holds(after[1].includes("broken"), "a code that is one too great breaks its piece");
+  equal(await page.value('document.getElementById("byte-8").getAttribute("aria-selected")'), "true", "the byte is marked");
+  await page.click("#byte-8");
+  await summary(page, "4 messages, 1 broken");
+  equal(await outcomes(page), before, "all is as before");
+  await page.value('document.getElementById("stream-damage").value = "zero"');
+  await page.click("#byte-3");
+  await summary(page, "4 of the 5 pieces came through as before");
+  await page.click("#stream-mend");
+  await page.until('document.getElementById("stream-mend").disabled');
+  equal(await outcomes(page), before, "all is mended");
+}));
+
+await check("stream: a damaged sentinel joins two pieces", () => on("stream", async (page) => {
+  await fillStream(page, STREAM);
+  await summary(page, "5 pieces");
+  await page.click("#byte-5");
+  await summary(page, "1 byte damaged: 3 of the 5 pieces came through as before");
+}));
+
+await check("stream: another sentinel", () => on("stream", async (page) => {
+  await fillStream(page, STREAM);
+  await summary(page, "5 pieces: 4 messages, 1 broken");
+  const before = await outcomes(page);
+  await page.fill("#stream-sentinel", "55");
+  await summary(page, "0 pieces");
+  await fillStream(page, STREAM.split(" ").map((pair) => (parseInt(pair, 16) ^ 0x55).toString(16).padStart(2, "0")).join(" "));
+  await summary(page, "28 bytes, 5 pieces: 4 messages, 1 broken. The last bytes have no sentinel");
+  equal(await outcomes(page), before, "the outcomes");
+  const marked = (name) => page.value(`[...document.querySelectorAll("#stream-pieces .byte.${name}")].map((each) => Number(each.dataset.at))`);
+  equal(await marked("end"), [5, 10, 11, 15, 18, 26], "the sentinels");
+  equal(await marked("code"), [0, 3, 6, 8, 12, 16, 19, 27], "the codes");
+  await page.value('document.getElementById("stream-damage").value = "sentinel"');
+  await page.click("#byte-1");
+  await page.until('document.getElementById("byte-1").textContent === "55"');
+  await summary(page, "1 byte damaged");
+}));
+
+await check("stream: sentinels after the last frame are no unfinished piece", () => on("stream", async (page) => {
+  for (const [text, said, wanted] of [
+    ["03 0a 0b 00 00", "1 piece: 1 message.", ["message", "idle"]],
+    ["00 00", "0 pieces.", ["idle"]],
+    ["00 00 01 00 00 02", "1 piece: 1 message. The last bytes have no sentinel", ["message", "unfinished"]],
+    ["05 00 05 01 00", "2 pieces: 2 broken.", ["broken", "broken"]],
+  ]) {
+    await fillStream(page, text);
+    await summary(page, said);
+    equal(await badges(page), wanted, `the badges of ${text}`);
+    equal((await page.text("#stream-status")).includes("no sentinel"), wanted.includes("unfinished"), "what the line above says of its end");
+  }
+  equal((await outcomes(page)).map((row) => row.replace(/^\d+/, "")), ["brokenafter 0 bytes of output", "brokenafter 1 byte of output"], "the outcomes");
+}));
+
+await check("stream: each kind of damage writes what it says", () => on("stream", async (page) => {
+  await fillStream(page, STREAM);
+  await summary(page, "5 pieces");
+  for (const [how, at, wanted] of [["flip", 1, "0b"], ["zero", 2, "00"], ["ff", 4, "ff"], ["sentinel", 9, "00"]]) {
+    await page.value(`document.getElementById("stream-damage").value = "${how}"`);
+    await page.click(`#byte-${at}`);
+    await page.until(`document.getElementById("byte-${at}").textContent === "${wanted}"`);
+  }
+}));
+
+await check("stream: damage that makes another message is called so", () => on("stream", async (page) => {
+  await fillStream(page, STREAM);
+  await summary(page, "5 pieces");
+  await page.click("#byte-1");
+  await summary(page, "4 of the 5 pieces came through as before. 1 message that nobody sent");
+  equal(await badges(page), ["altered message", "message", "message", "broken", "message", "unfinished"], "the badges");
+  await page.click("#byte-1");
+  await summary(page, "4 messages, 1 broken");
+  await page.click("#byte-5"); // a sentinel becomes 01: two frames become one message
+  await summary(page, "3 of the 5 pieces came through as before. 1 message that nobody sent");
+  equal((await badges(page))[0], "altered message", "the first badge");
+}));
+
+await check("stream: a list that is higher than browsers draw", () => on("stream", async (page) => {
+  const count = 120_000; // of 2 rows each, 36 pixels high
+  await fillStream(page, "01 00 ".repeat(count));
+  await summary(page, `${count.toLocaleString("en")} pieces: ${count.toLocaleString("en")} messages`);
+  const inSight = (at) => page.until(`(() => {
+    const box = document.getElementById("stream-pieces").getBoundingClientRect();
+    const cell = document.getElementById("byte-${at}")?.getBoundingClientRect();
+    return cell && cell.top >= box.top - 1 && cell.bottom <= box.bottom + 1;
+  })()`);
+  await page.click("#stream-pieces");
+  await page.press("End");
+  await inSight(2 * count - 1);
+  await page.press("ArrowUp");
+  await page.press("Home");
+  await inSight(0);
+  await page.value('(() => { const box = document.getElementById("stream-pieces"); box.scrollTop = (box.scrollHeight - box.clientHeight) / 2; })()');
+  await inSight(count);
+  const rows = await page.value('[...document.querySelectorAll("#stream-pieces .row")].map((row) => row.getBoundingClientRect().top)');
+  const steps = new Set(rows.slice(1).map((top, i) => Math.round(top - rows[i])));
+  equal([...steps], [52], "how far rows are from each other");
+}));
+
+await check("stream: a link gives the same stream with its damage", () => on("stream", async (page) => {
+  await page.fill("#stream-room", "5");
+  await fillStream(page, STREAM);
+  await summary(page, "1 too long");
+  await page.click("#byte-8");
+  await summary(page, "1 byte damaged");
+  await page.click("#stream-link");
+  await page.until('document.getElementById("stream-copied").textContent === "The link is copied."');
+  const [rows, said] = [await outcomes(page), await page.text("#stream-status")];
+  const other = await browser.open(await page.value("navigator.clipboard.readText()"));
+  await other.until(READY);
+  await other.until(`document.getElementById("stream-status").textContent === ${JSON.stringify(said)}`);
+  equal(await outcomes(other), rows, "the outcomes");
+  await other.close();
+}));
+
+await check("stream: arcs lead from code to code, and each byte is explained", () => on("stream", async (page) => {
+  for (const sentinel of [0, 0x55]) {
+    await page.fill("#stream-sentinel", sentinel.toString(16).padStart(2, "0"));
+    await fillStream(page, STREAM.split(" ").map((pair) => hex([parseInt(pair, 16) ^ sentinel])).join(" "));
+    await page.until('document.querySelectorAll("#stream-pieces .byte").length === 28 && document.getElementById("stream-status").textContent.includes("5 pieces")');
+    const arcs = await page.value('[...document.querySelectorAll("#stream-pieces .row")].map((row) => [row.querySelectorAll(".arc:not(.bad)").length, row.querySelectorAll(".arc.bad").length])');
+    equal(arcs.filter(([good, bad]) => good + bad > 0), [[2, 0], [2, 0], [1, 0], [0, 1], [1, 0], [0, 1]], "arcs of each piece, whole and broken");
+    await page.value('document.getElementById("stream-pieces").focus()');
+    await page.press("Home");
+    for (const words of ["the first code. The next code, or the end, is 3 bytes on.", "a byte of the message, as it is.", "a byte of the message", "a code, in place of a zero of the message. The next code, or the end, is 2 bytes on.", "a byte of the message", "the sentinel. It ends piece 1."]) {
+      await page.until(`document.getElementById("stream-explained").textContent.includes(${JSON.stringify(words)})`);
+      await page.press("ArrowRight");
+    }
+    await page.press("End");
+    await page.until('document.getElementById("stream-explained").textContent.includes("It leads past the end of the piece")');
+  }
+}));
+
+await check("stream: by the keyboard alone", () => on("stream", async (page) => {
+  await fillStream(page, STREAM);
+  await summary(page, "5 pieces");
+  for (let i = 0; i < 20; i++) {
+    if ((await page.value("document.activeElement.id")) === "stream-pieces") break;
+    await page.press("Tab");
+  }
+  equal(await page.value("document.activeElement.id"), "stream-pieces", "Tab leads to the pieces");
+  for (let i = 0; i < 8; i++) await page.press("ArrowRight");
+  equal(await page.value('document.getElementById("stream-pieces").getAttribute("aria-activedescendant")'), "byte-8", "the byte that is named");
+  await page.press("Enter");
+  await summary(page, "1 byte damaged: 4 of the 5 pieces");
+  await page.press(" ");
+  await page.press("End");
+  equal(await page.value('document.getElementById("stream-pieces").getAttribute("aria-activedescendant")'), "byte-27", "the last byte");
+  holds((await page.value('document.getElementById("byte-27").getAttribute("aria-label")')) === "Byte 27: 02, code, piece 6: unfinished no sentinel yet", "what it is called");
+}));
+
+await check("stream: bad hex is named, and nothing is lost", () => on("stream", async (page) => {
+  await fillStream(page, STREAM);
+  await summary(page, "5 pieces");
+  await page.click("#byte-8");
+  await summary(page, "1 byte damaged");
+  const before = await outcomes(page);
+  await page.click("#stream-input");
+  await page.press("End", 2);
+  await page.type(" 0q");
+  await page.until('document.getElementById("stream-error").textContent.includes("“q” is no hexadecimal digit")');
+  equal(await page.value('document.getElementById("stream-input").value'), `${STREAM} 0q`, "what the field holds");
+  equal(await outcomes(page), before, "the pieces, damage too, stand as before");
+  await page.press("Backspace");
+  await page.press("Backspace");
+  await page.press("Backspace");
+  await page.until('document.getElementById("stream-error").hidden');
+  equal(await outcomes(page), before, "and the damage is still there");
+  await page.fill("#stream-room", "");
+  await page.until('document.getElementById("stream-room-error").textContent.includes("whole number")');
+}));
+
+await check("stream: 1 MB is pasted, and a byte at its end damaged", () => on("stream", async (page) => {
+  const frame = [...plainEncode(Buffer.from("0123456789abc")), 0];
+  const count = Math.floor((1 << 20) / frame.length);
+  const text = `${hex(frame)} `.repeat(count);
+  await page.value(`navigator.clipboard.writeText(${JSON.stringify(text)})`);
+  await page.click("#stream-input");
+  await page.selectAll();
+  const pause = await longestPause(page, async () => {
+    await page.send("Input.dispatchKeyEvent", { type: "keyDown", key: "v", code: "KeyV", windowsVirtualKeyCode: 86, modifiers: 2, commands: ["paste"] });
+    await summary(page, `${count.toLocaleString("en")} pieces: ${count.toLocaleString("en")} messages`);
+    await page.click("#stream-pieces");
+    await summary(page, "1 byte damaged");
+    await page.press("End");
+    await page.press("ArrowLeft");
+    await page.press("Enter");
+    await summary(page, "2 bytes damaged");
+    await page.press("Home");
+    await page.until(`(() => {
+      const box = document.getElementById("stream-pieces").getBoundingClientRect();
+      const { top, bottom } = document.getElementById("byte-0").getBoundingClientRect();
+      return top >= box.top && bottom <= box.bottom;
+    })()`);
+  });
+  console.log(`page: 1 MB in ${count} pieces: the longest pause between two frames was ${Math.round(pause)} ms`);
+  holds(pause < 2500, `a pause of ${pause} ms`);
+  const rows = await page.value('document.querySelectorAll("#stream-pieces .row").length');
+  holds(rows > 0 && rows < 80, `${rows} rows are in the document`);
+}));
+
+await check("stream: a file", async () => {
+  const folder = await mkdtemp(join(tmpdir(), "jcobs-file-"));
+  try {
+    await writeFile(join(folder, "stream.bin"), Buffer.from("030a0b020c00020700", "hex"));
+    await on("stream", async (page) => {
+      const { root } = await page.send("DOM.getDocument");
+      const { nodeId } = await page.send("DOM.querySelector", { nodeId: root.nodeId, selector: "#stream-file" });
+      await page.send("DOM.setFileInputFiles", { files: [join(folder, "stream.bin")], nodeId });
+      await summary(page, "9 bytes, 2 pieces: 2 messages.");
+      const drop = async (type) => page.send("Input.dispatchDragEvent", { type, x: 300, y: 300, data: { items: [], files: [join(folder, "stream.bin")], dragOperationsMask: 1 } });
+      await fillStream(page, "01 00");
+      await summary(page, "2 bytes, 1 piece: 1 message.");
+      for (const type of ["dragEnter", "dragOver", "drop"]) await drop(type);
+      await summary(page, "9 bytes, 2 pieces: 2 messages.");
+    });
+  } finally {
+    await rm(folder, { recursive: true });
+  }
+});

@@ -1,0 +1,131 @@
+// The page as a whole, in Chromium.
+import { execFileSync } from "node:child_process";
+import { mkdtemp, readFile, readdir, rm, writeFile } from "node:fs/promises";
+import { tmpdir } from "node:os";
+import { join } from "node:path";
+import { fileURLToPath, pathToFileURL } from "node:url";
+import { serve } from "../serve.mjs";
+import { count as countAny, equal, holds } from "./tally.mjs";
+import { READY, address, browser, check, conformance, hex, on, server } from "./page-setup.mjs";
+
+await check("page: the tabs by the keyboard", () => on("message", async (page) => {
+  await page.click("#tab-message");
+  for (const [key, view] of [["ArrowRight", "stream"], ["ArrowRight", "line"], ["ArrowRight", "message"], ["ArrowLeft", "line"], ["Home", "message"], ["End", "line"]]) {
+    await page.press(key);
+    await page.until(`document.activeElement.id === "tab-${view}" && !document.getElementById("${view}").hidden`);
+    equal(await page.value('[...document.querySelectorAll("[role=tabpanel]")].filter((each) => !each.hidden).length'), 1, "views in sight");
+  }
+  await page.value("history.back()");
+  await page.until('!document.getElementById("message").hidden');
+}));
+
+for (const view of ["message", "stream", "line"]) {
+  await check(`page: every control of ${view} has a name, and Tab reaches it`, () => on(view, async (page) => {
+    await page.value('document.querySelectorAll("details").forEach((each) => (each.open = true))');
+    const { nodes } = await page.send("Accessibility.getFullAXTree");
+    const roles = new Set(["button", "textbox", "radio", "checkbox", "combobox", "spinbutton", "tab", "listbox", "option", "group", "log", "tabpanel", "tablist", "image"]);
+    const nameless = nodes.filter((node) => !node.ignored && roles.has(node.role?.value) && !node.name?.value);
+    equal(nameless.map((node) => node.role.value), [], "controls without a name");
+    const wanted = await page.value(`[...document.querySelectorAll("#${view} :is(button, input, textarea, select, [tabindex])")].filter((each) => !each.disabled && each.tabIndex >= 0 && each.getClientRects().length > 0 && each.type !== "radio").map((each) => each.id || each.textContent)`);
+    const reached = new Set();
+    await page.click(`#tab-${view}`);
+    for (let i = 0; i < wanted.length + 8; i++) {
+      await page.press("Tab");
+      reached.add(await page.value("document.activeElement.id || document.activeElement.textContent"));
+    }
+    equal(wanted.filter((each) => !reached.has(each)), [], "what Tab doesn't reach");
+  }));
+  for (const [width, isDark] of [[360, false], [360, true], [1100, true]]) {
+    await check(`page: ${view} fits ${width} pixels${isDark ? " in the dark" : ""}, and its text stands out`, () => on(view, async (page) => {
+      holds((await page.value("document.documentElement.scrollWidth")) <= width, "nothing is wider than the window");
+      const faint = await page.value(`(() => {
+        const parse = (color) => color.match(/[0-9.]+/g).map(Number);
+        const shine = ([r, g, b]) => [r, g, b].map((c) => c / 255).map((c) => (c <= 0.03928 ? c / 12.92 : ((c + 0.055) / 1.055) ** 2.4)).reduce((sum, c, i) => sum + c * [0.2126, 0.7152, 0.0722][i], 0);
+        const ground = (element) => {
+          for (let each = element; each; each = each.parentElement) {
+            const color = parse(getComputedStyle(each).backgroundColor);
+            if (color[3] === undefined || color[3] > 0) return color;
+          }
+          return [255, 255, 255];
+        };
+        const faint = [];
+        for (const element of document.querySelectorAll("main *, header *, footer *")) {
+          if (element.closest("svg") || element.closest(":disabled") || element.getClientRects().length === 0) continue;
+          if (![...element.childNodes].some((node) => node.nodeType === 3 && node.textContent.trim())) continue;
+          const [a, b] = [shine(parse(getComputedStyle(element).color)), shine(ground(element))].sort((x, y) => y - x);
+          const contrast = (a + 0.05) / (b + 0.05);
+          if (contrast < 4.5) faint.push(element.outerHTML.slice(0, 80) + " " + contrast.toFixed(2));
+        }
+        return faint;
+      })()`);
+      equal(faint, [], "text whose contrast is under 4.5");
+    }, { width, height: 800, isDark, isPhone: width < 500 }));
+  }
+}
+
+await check("page: an engine that is too old is told so", async () => {
+  const page = await browser.open(address, { before: "WebAssembly.validate = () => false" });
+  await page.until('!document.getElementById("unsupported").hidden');
+  holds((await page.text("#unsupported")).includes("lacks the WebAssembly"), "it says why");
+  equal(await page.value('document.getElementById("views").hidden'), true, "no view is shown");
+  await page.close();
+});
+
+await check("page: every vector", () => on("message", async (page) => {
+  const names = (await readdir(conformance)).filter((name) => name.endsWith(".txt")).map((name) => `/conformance/${name}`);
+  const { cases, differ, said } = await page.value(`import("/test/cases.js").then(({ runServed }) => runServed("/cobs.wasm", ${JSON.stringify(names)}))`);
+  equal(said.filter((line) => !line.startsWith("left out")), [], "what differs");
+  countAny(cases - differ, differ);
+}));
+
+await check("page: the folder that build.sh makes serves it, under its content security policy", async () => {
+  const folder = await mkdtemp(join(tmpdir(), "jcobs-site-"));
+  try {
+    execFileSync(fileURLToPath(new URL("../build.sh", import.meta.url)), ["site", folder]);
+    const site = await serve(0, { site: folder });
+    const page = await browser.open(`${site.address}site/index.html#message&hex=0a00&sentinel=00`);
+    await page.until(READY);
+    await page.until('document.getElementById("message-frame").textContent === "02 0a 01"');
+    await page.until('getComputedStyle(document.querySelector("#message-drawing text.on")).fontWeight === "700"');
+    equal(await page.value('performance.getEntriesByType("resource").filter(({ name }) => !name.includes("/site/")).map(({ name }) => name)'), [], "requests beside the folder");
+    const policy = await page.value(`document.querySelector("meta[http-equiv]").content`);
+    holds(!policy.includes("unsafe-inline") && policy.startsWith("default-src 'none'"), "the policy is strict");
+    equal(page.faults, [], "what the page complained of on its console");
+    await page.close();
+    site.server.close();
+  } finally {
+    await rm(folder, { recursive: true });
+  }
+});
+
+await check("page: a page that is opened as a file, with dist/jcobs.cjs", async () => {
+  const folder = await mkdtemp(join(tmpdir(), "jcobs-opened-"));
+  try {
+    const script = "jcobs.load().then(() => (document.title = jcobs.encode(Uint8Array.of(10, 11, 0, 12)).join()))";
+    await writeFile(join(folder, "jcobs.cjs"), await readFile(new URL("../dist/jcobs.cjs", import.meta.url)));
+    await writeFile(join(folder, "page.html"), `<!doctype html><script src="jcobs.cjs"></script><script>${script}</script>`);
+    const page = await browser.open(pathToFileURL(join(folder, "page.html")).href);
+    await page.until('document.title === "3,10,11,2,12"');
+    await page.close();
+  } finally {
+    await rm(folder, { recursive: true });
+  }
+});
+
+await check("page: opened as a file it says why nothing is there", async () => {
+  const page = await browser.open(new URL("../index.html", import.meta.url).href);
+  await page.until('document.getElementById("loading")?.getClientRects().length === 1');
+  holds((await page.text("#loading")).includes("opened as a file"), "it says why");
+  await page.close();
+});
+
+await check("page: in forced colours", () => on("stream", async (page) => {
+  await page.send("Emulation.setEmulatedMedia", { features: [{ name: "forced-colors", value: "active" }] });
+  const seen = await page.value('(() => { const { backgroundColor, color } = getComputedStyle(document.querySelector(".byte.code")); return backgroundColor !== color && backgroundColor !== getComputedStyle(document.querySelector(".byte:not(.code)")).backgroundColor; })()');
+  holds(seen, "codes differ from other bytes");
+}));
+
+await check("page: it asks for nothing but its own files", () => on("message", async (page) => {
+  const asked = await page.value('performance.getEntriesByType("resource").map((each) => each.name)');
+  equal(asked.filter((name) => !name.startsWith(address) && !name.startsWith("data:")), [], "requests to other places");
+}));
