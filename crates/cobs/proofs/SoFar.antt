@@ -325,8 +325,8 @@ TakesPiece-at_zero {buffer₀} {buffer} {buffer'} {phase₀} bytes i within z s 
     = λ p h. nil-alike (stream_outcomes (p ++ take i bytes) (length buffer₀)) (s.alike p h) in
     let last : (p : List ℕ) → PhaseAfter (length buffer₀) phase₀ p → last_piece (p ++ take (i + 1) bytes) ≡ unended (p ++ take i bytes)
     = λ p h.
-        ap last_piece (ap (λ (x : List ℕ). p ++ x) (take_more bytes i 0 within ∙ ap (λ (x : ℕ). take i bytes ++ x ∷ []) z) ∙ sym (append_assoc p (take i bytes) (0 ∷ [])))
-        ∙ last_piece-zero (p ++ take i bytes) (no_outcomes _ _ (none p h)) in
+    ap last_piece (ap (λ (x : List ℕ). p ++ x) (take_more bytes i 0 within ∙ ap (λ (x : ℕ). take i bytes ++ x ∷ []) z) ∙ sym (append_assoc p (take i bytes) (0 ∷ [])))
+    ∙ last_piece-zero (p ++ take i bytes) (no_outcomes _ _ (none p h)) in
     let takes : TakesBytes buffer₀ phase₀ (take (i + 1) bytes) (outcome_at end buffer' ∷ []) buffer' _ = rw e at (step_zero bytes i within z s f) in
     record {
       holds = λ p h.

@@ -81,7 +81,10 @@ pub fn resync<D: FrameDecoder>(decoder: &mut D)
 }
 
 /// All frames of a reader: how many bytes their messages have, each sliced out of the decoder's buffer.
-pub fn total<D: FrameDecoder, S: FrameSource>(reader: &mut FrameReader<D>, source: &mut S) -> usize {
+pub fn total<D: FrameDecoder, S: FrameSource>(
+    reader: &mut FrameReader<D>,
+    source: &mut S,
+) -> usize {
     let mut total = 0usize;
     'by_call: for _ in 0..1000 {
         match reader.next_frame(source) {
