@@ -25,11 +25,35 @@
  *         }
  *     }
  *
+ * To receive byte by byte:
+ *
+ *     jcobs_decoder decoder = JCOBS_DECODER_INIT;
+ *     unsigned char message[64];
+ *     int byte;
+ *
+ *     while ((byte = next_byte()) >= 0) {
+ *         jcobs_answer answer = jcobs_decoder_feed(&decoder, message, sizeof message, (unsigned char)byte);
+ *         if (answer.status == JCOBS_OK)
+ *             handle(message, answer.length);
+ *     }
+ *
  * To send:
  *
  *     unsigned char frame[JCOBS_MAX_LENGTH(1024) + 1];
  *     jcobs_answer answer = jcobs_encode_terminated(text, strlen(text), frame, sizeof frame);
  *
+ *     if (answer.status == JCOBS_OK)
+ *         transmit(frame, answer.length);
+ *
+ * To send a message that comes in pieces:
+ *
+ *     jcobs_encoder encoder = JCOBS_ENCODER_INIT;
+ *     unsigned char frame[JCOBS_MAX_LENGTH(1024) + 1];
+ *     jcobs_answer answer;
+ *
+ *     jcobs_encoder_push(&encoder, frame, sizeof frame, "id: ", 4);
+ *     jcobs_encoder_push(&encoder, frame, sizeof frame, text, strlen(text));
+ *     answer = jcobs_encoder_finish_terminated(&encoder, frame, sizeof frame);
  *     if (answer.status == JCOBS_OK)
  *         transmit(frame, answer.length);
  *
@@ -55,7 +79,7 @@
  *
  * consumed is how many bytes were taken of the message, the source or the bytes pushed. length is how many bytes at
  * the front of the buffer the row is about. Bytes after these are as they were before the call, or for a
- * streaming call as they were before the frame or message began.
+ * streaming call as they were before the frame or message began; decode_in_place_with_sentinel is different there.
  *
  * call                      status     consumed              length
  * ------------------------  ---------  --------------------  --------------------------------------------
@@ -76,23 +100,23 @@
  *   and .._with_sentinel               sentinel after it
  *                           BROKEN     the same              the output of the whole blocks
  *                           EMPTY      0                     0: there are no bytes
- * decoder_push              OK         through the zero      the message
- *                                      that ends a frame
+ * decoder_push..            OK         through the sentinel  the message
+ *   and _feed                          that ends a frame
  *                           BROKEN     the same              the output of the frame, up to where it ends
  *                           TOO_SMALL  the same              the whole buffer: the output's first bytes
  *                           MORE       all bytes             what the buffer has of an unfinished message
  * encoder_push              OK         all bytes             the frame's length so far: the frame itself is
- *                                                            there only after finish, which writes the code
+ *   and _feed                                                there only after finish, which writes the code
  *                                                            of the open block
  *                           TOO_SMALL  0                     0; the state and the buffer are as they were
- * encoder_finish            OK         0                     the frame, without a terminator
+ * encoder_finish..          OK         0                     the frame, and its terminator if asked for
  *                           TOO_SMALL  0                     0; the state and the buffer are as they were
  *
  * In the source of decode, decode_with_sentinel and decode_in_place no sentinel has to follow the frame: without
  * one the frame ends with the source, and consumed is the source's length. A frame that was cut off between two of
- * its blocks is a frame too, with status OK: if a sentinel has to follow, test source[consumed - 1]. (In place too:
- * no call changes a byte after the message, except that with a sentinel other than 0 each byte of the buffer is
- * XORed with it first, so that a sentinel becomes 0.) The streaming decoder reports a frame only at its zero. COBS has no checksum: damage that turns a frame into another one isn't noticed.
+ * its blocks is a frame too, with status OK: if a sentinel has to follow, test source[consumed - 1]. In
+ * place too: no call changes the sentinel or what follows it. The streaming decoder reports a frame only
+ * at its sentinel. COBS has no checksum: damage that turns a frame into another one isn't noticed.
  *
  * Built for x86-64, the library needs x86-64-v2 (SSE4.2 and POPCNT: Intel since 2009, AMD since 2011); for
  * aarch64, ARMv8-A. It has no unwind tables, and no call throws or unwinds. It calls only memcpy and memmove.
@@ -112,8 +136,21 @@ extern "C" {
 #define JCOBS_VERSION_PATCH 0
 #define JCOBS_VERSION (JCOBS_VERSION_MAJOR * 10000 + JCOBS_VERSION_MINOR * 100 + JCOBS_VERSION_PATCH)
 
-/* What became of a call. The type is as large as an unsigned int, and a switch over it can be tested by -Wswitch. */
-typedef enum jcobs_status {
+/* What became of a call. In an answer it is as large as an unsigned int in every language and on every target. So its
+ * type is given where the language can; and where enums may be shorter, as for ARM without a system, an answer has an
+ * unsigned int. Elsewhere -Wswitch tests a switch over it. */
+#if (defined(__cplusplus) && __cplusplus >= 201103L) || (defined(__STDC_VERSION__) && __STDC_VERSION__ >= 202311L)
+#define JCOBS_ENUM(name) enum name : unsigned int
+#define JCOBS_STATUS jcobs_status
+#else
+#define JCOBS_ENUM(name) enum name
+#if defined(__ARM_SIZEOF_MINIMAL_ENUM) && __ARM_SIZEOF_MINIMAL_ENUM < 4
+#define JCOBS_STATUS unsigned int
+#else
+#define JCOBS_STATUS jcobs_status
+#endif
+#endif
+typedef JCOBS_ENUM(jcobs_status){
     JCOBS_OK = 0,        /* done */
     JCOBS_MORE = 1,      /* all bytes were taken, and no frame has ended in them */
     JCOBS_TOO_SMALL = 2, /* the buffer is too short */
@@ -121,15 +158,15 @@ typedef enum jcobs_status {
     JCOBS_EMPTY = 4      /* there is no frame */
 } jcobs_status;
 
-/* This doesn't compile if enums are shorter, as by -fshort-enums: then the library can't be called. */
-typedef char jcobs_status_is_an_unsigned_int[sizeof(jcobs_status) == sizeof(unsigned int) ? 1 : -1];
-
 /* The result of a call, by the table above. */
 typedef struct jcobs_answer {
-    jcobs_status status; /* what became of it */
+    JCOBS_STATUS status; /* what became of it: a jcobs_status */
     size_t consumed;     /* how many bytes were taken */
     size_t length;       /* how many bytes at the front of the buffer it is about */
 } jcobs_answer;
+
+/* This doesn't compile if the status is shorter, as by -fshort-enums elsewhere: then the library can't be called. */
+typedef char jcobs_status_is_an_unsigned_int[sizeof(JCOBS_STATUS) == sizeof(unsigned int) ? 1 : -1];
 
 /* What bytes are, without sentinels around them. */
 enum jcobs_kind {
@@ -199,7 +236,8 @@ jcobs_answer jcobs_decode_with_sentinel(const void *source, size_t source_len, v
  * skipped: one in front is an empty message. There is always room. */
 jcobs_answer jcobs_decode_in_place(void *buffer, size_t buffer_len);
 
-/* Does the same for this sentinel. Each byte of the buffer, those after the frame too, is XORed with it first. */
+/* Does the same for this sentinel. In the rest of the frame after the message, each byte is XORed with the sentinel;
+ * the sentinel and what follows it aren't changed, so that the next frame begins at buffer + consumed. */
 jcobs_answer jcobs_decode_in_place_with_sentinel(void *buffer, size_t buffer_len, unsigned char sentinel);
 
 /* Returns whether the bytes are a frame for the sentinel 0, and which one of its message: one of enum jcobs_kind. */
@@ -217,6 +255,14 @@ void jcobs_decoder_reset(jcobs_decoder *decoder);
  * of that frame and the contents of the buffer are unspecified. */
 jcobs_answer jcobs_decoder_push(jcobs_decoder *decoder, void *buffer, size_t buffer_len, const void *bytes, size_t len);
 
+/* Takes one byte: as jcobs_decoder_push of that byte, but faster. */
+jcobs_answer jcobs_decoder_feed(jcobs_decoder *decoder, void *buffer, size_t buffer_len, unsigned char byte);
+
+/* Takes bytes of a stream of frames for this sentinel, each followed by one, as jcobs_decoder_push does for 0, but slower,
+ * byte by byte. */
+jcobs_answer jcobs_decoder_push_with_sentinel(jcobs_decoder *decoder, void *buffer, size_t buffer_len,
+                                              const void *bytes, size_t len, unsigned char sentinel);
+
 /* Returns 1 if no frame is open, that is if all that was pushed is reported, and 0 if a frame has begun. At the end of
  * a stream, 0 says that the last frame has no sentinel. */
 unsigned int jcobs_decoder_is_idle(const jcobs_decoder *decoder);
@@ -231,10 +277,23 @@ void jcobs_encoder_reset(jcobs_encoder *encoder);
  * Otherwise the contents of the buffer are unspecified. */
 jcobs_answer jcobs_encoder_push(jcobs_encoder *encoder, void *buffer, size_t buffer_len, const void *bytes, size_t len);
 
+/* Takes one byte, as jcobs_encoder_push of that byte does. */
+jcobs_answer jcobs_encoder_feed(jcobs_encoder *encoder, void *buffer, size_t buffer_len, unsigned char byte);
+
 /* Ends the message: the buffer then begins with its frame, the one that jcobs_encode writes, and the encoder is at
  * the start. The status is TOO_SMALL only if not even that frame fits: if the buffer is empty, or isn't the one that
  * was pushed to. */
 jcobs_answer jcobs_encoder_finish(jcobs_encoder *encoder, void *buffer, size_t buffer_len);
+
+/* Does the same, with a zero after the frame, which needs one byte more. If only that byte doesn't fit, nothing has
+ * changed. */
+jcobs_answer jcobs_encoder_finish_terminated(jcobs_encoder *encoder, void *buffer, size_t buffer_len);
+
+/* Do the same for another sentinel: each byte of the frame is XORed with it. The pushes are those for 0. */
+jcobs_answer jcobs_encoder_finish_with_sentinel(jcobs_encoder *encoder, void *buffer, size_t buffer_len,
+                                                unsigned char sentinel);
+jcobs_answer jcobs_encoder_finish_terminated_with_sentinel(jcobs_encoder *encoder, void *buffer, size_t buffer_len,
+                                                           unsigned char sentinel);
 
 /* Writes a short English description of a status to `text`, with a '\0' after it, cut to fit, and returns the length
  * of the whole description; JCOBS_TEXT_LENGTH bytes are room for it. If text_len is 0, nothing is written. A number
@@ -244,6 +303,10 @@ size_t jcobs_strerror(unsigned int status, char *text, size_t text_len);
 
 /* Returns the version of the library, as JCOBS_VERSION. */
 unsigned int jcobs_version(void);
+
+/* Returns 1. A library of another major version has no function of this name, so a program that refers to it can't be
+ * linked with one. */
+unsigned int jcobs_abi_1(void);
 
 #ifdef __cplusplus
 }
