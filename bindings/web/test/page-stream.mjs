@@ -143,8 +143,9 @@ await check("stream: arcs lead from code to code, and each byte is explained", (
     await page.fill("#stream-sentinel", sentinel.toString(16).padStart(2, "0"));
     await fillStream(page, STREAM.split(" ").map((pair) => hex([parseInt(pair, 16) ^ sentinel])).join(" "));
     await page.until('document.querySelectorAll("#stream-pieces .byte").length === 28 && document.getElementById("stream-status").textContent.includes("5 pieces")');
-    const arcs = await page.value('[...document.querySelectorAll("#stream-pieces .row")].map((row) => [row.querySelectorAll(".arc:not(.bad)").length, row.querySelectorAll(".arc.bad").length])');
-    equal(arcs.filter(([good, bad]) => good + bad > 0), [[2, 0], [2, 0], [1, 0], [0, 1], [1, 0], [0, 1]], "arcs of each piece, whole and broken");
+    const arcs = '[...document.querySelectorAll("#stream-pieces .row")].map((row) => [row.querySelectorAll(".arc:not(.bad)").length, row.querySelectorAll(".arc.bad").length])';
+    const wanted = JSON.stringify([[2, 0], [2, 0], [1, 0], [0, 1], [1, 0], [0, 1]]); // whole and broken ones, of each piece
+    await page.until(`JSON.stringify(${arcs}.filter(([good, bad]) => good + bad > 0)) === ${JSON.stringify(wanted)}`);
     await page.value('document.getElementById("stream-pieces").focus()');
     await page.press("Home");
     for (const words of ["the first code. The next code, or the end, is 3 bytes on.", "a byte of the message, as it is.", "a byte of the message", "a code, in place of a zero of the message. The next code, or the end, is 2 bytes on.", "a byte of the message", "the sentinel. It ends piece 1."]) {
