@@ -1,1 +1,315 @@
-../../include/jcobs.h
+/* jcobs.h: Consistent Overhead Byte Stuffing (COBS).
+ *
+ * COBS encodes a message, any bytes, as a frame that never contains one byte value, the sentinel. So the sentinel
+ * can mark where frames end on a serial line, in a stream or in a file. The sentinel is 0, or the one that is
+ * passed to a call. A frame is 1 byte longer than a message of up to 254 bytes, and at most 1 byte more for each
+ * 254 bytes after these.
+ *
+ * To receive, in reads of any size:
+ *
+ *     jcobs_decoder decoder = JCOBS_DECODER_INIT;
+ *     unsigned char message[1024];
+ *     unsigned char bytes[256];
+ *     ssize_t n;
+ *
+ *     while ((n = read(fd, bytes, sizeof bytes)) > 0) {
+ *         size_t at = 0;
+ *         while (at < (size_t)n) {
+ *             jcobs_answer answer =
+ *                 jcobs_decoder_push(&decoder, message, sizeof message, bytes + at, (size_t)n - at);
+ *             at += answer.consumed;
+ *             if (answer.status == JCOBS_OK)
+ *                 handle(message, answer.length);
+ *             else if (answer.status != JCOBS_MORE)
+ *                 complain(answer.status);
+ *         }
+ *     }
+ *
+ * To receive byte by byte:
+ *
+ *     jcobs_decoder decoder = JCOBS_DECODER_INIT;
+ *     unsigned char message[64];
+ *     int byte;
+ *
+ *     while ((byte = next_byte()) >= 0) {
+ *         jcobs_answer answer = jcobs_decoder_feed(&decoder, message, sizeof message, (unsigned char)byte);
+ *         if (answer.status == JCOBS_OK)
+ *             handle(message, answer.length);
+ *     }
+ *
+ * To send:
+ *
+ *     unsigned char frame[JCOBS_MAX_LENGTH(1024) + 1];
+ *     jcobs_answer answer = jcobs_encode_terminated(text, strlen(text), frame, sizeof frame);
+ *
+ *     if (answer.status == JCOBS_OK)
+ *         transmit(frame, answer.length);
+ *
+ * To send a message that comes in pieces:
+ *
+ *     jcobs_encoder encoder = JCOBS_ENCODER_INIT;
+ *     unsigned char frame[JCOBS_MAX_LENGTH(1024) + 1];
+ *     jcobs_answer answer;
+ *
+ *     jcobs_encoder_push(&encoder, frame, sizeof frame, "id: ", 4);
+ *     jcobs_encoder_push(&encoder, frame, sizeof frame, text, strlen(text));
+ *     answer = jcobs_encoder_finish_terminated(&encoder, frame, sizeof frame);
+ *     if (answer.status == JCOBS_OK)
+ *         transmit(frame, answer.length);
+ *
+ * Preconditions
+ *
+ * A pointer that comes with a length must be valid for reads of that many bytes, and for writes unless it is
+ * const. If the length is 0, the pointer isn't used and may be NULL. Lengths count bytes and are at most
+ * PTRDIFF_MAX. The buffers of a call must not overlap each other or the state: to decode in place, use
+ * jcobs_decode_in_place.
+ *
+ * A pointer to a state must be valid. The state's contents may be anything: even if they are corrupt, no call
+ * accesses memory outside the buffers, each call returns, and consumed and length are within the buffers.
+ *
+ * While a call runs, nothing else may change its buffers or its state: no other thread or process, no interrupt or
+ * signal handler, no DMA transfer. The library may read a byte twice, and if the byte has changed in between, the
+ * call may access memory outside the buffers or never return. Pass what a transfer has finished, or a copy.
+ *
+ * No function allocates, locks, or keeps a pointer or anything else from one call to the next: what a call does
+ * depends on its arguments alone. So calls on different buffers and states may run at the same time, in signal
+ * handlers too.
+ *
+ * Results
+ *
+ * consumed is how many bytes were taken of the message, the source or the bytes pushed. length is how many bytes at
+ * the front of the buffer the row is about. Bytes after these are as they were before the call, or for a
+ * streaming call as they were before the frame or message began; decode_in_place_with_sentinel is different there.
+ *
+ * call                      status     consumed              length
+ * ------------------------  ---------  --------------------  --------------------------------------------
+ * encode..                  OK         the whole message     the frame, and its terminator if asked for
+ *                           TOO_SMALL  0                     0; the buffer is as it was
+ * decode                    OK         zeros in front, the   the message
+ *                                      frame, and the zero
+ *                                      after it
+ *                           BROKEN     the same              the output of the frame, up to where it ends
+ *                           TOO_SMALL  the same              the whole buffer: the output's first bytes
+ *                           EMPTY      the whole source      0: there are no bytes, or only zeros
+ * decode_with_sentinel      OK         the frame, and the    the message
+ *                                      sentinel after it
+ *                           BROKEN     the same              the output of the whole blocks
+ *                           TOO_SMALL  the same              the whole buffer: the first bytes of these
+ *                           EMPTY      0                     0: there are no bytes
+ * decode_in_place           OK         the frame, and the    the message
+ *   and .._with_sentinel               sentinel after it
+ *                           BROKEN     the same              the output of the whole blocks
+ *                           EMPTY      0                     0: there are no bytes
+ * decoder_push..            OK         through the sentinel  the message
+ *   and _feed                          that ends a frame
+ *                           BROKEN     the same              the output of the frame, up to where it ends
+ *                           TOO_SMALL  the same              the whole buffer: the output's first bytes
+ *                           MORE       all bytes             what the buffer has of an unfinished message
+ * encoder_push              OK         all bytes             the frame's length so far: the frame itself is
+ *   and _feed                                                there only after finish, which writes the code
+ *                                                            of the open block
+ *                           TOO_SMALL  0                     0; the state and the buffer are as they were
+ * encoder_finish..          OK         0                     the frame, and its terminator if asked for
+ *                           TOO_SMALL  0                     0; the state and the buffer are as they were
+ *
+ * In the source of decode, decode_with_sentinel and decode_in_place no sentinel has to follow the frame: without
+ * one the frame ends with the source, and consumed is the source's length. A frame that was cut off between two of
+ * its blocks is a frame too, with status OK: if a sentinel has to follow, test source[consumed - 1]. In
+ * place too: no call changes the sentinel or what follows it. The streaming decoder reports a frame only
+ * at its sentinel. COBS has no checksum: damage that turns a frame into another one isn't noticed.
+ *
+ * Built for x86-64, the library needs x86-64-v2 (SSE4.2 and POPCNT: Intel since 2009, AMD since 2011); for
+ * aarch64, ARMv8-A. It has no unwind tables, and no call throws or unwinds. It calls only memcpy and memmove.
+ */
+#ifndef JCOBS_H
+#define JCOBS_H
+
+#include <stddef.h>
+
+#ifdef __cplusplus
+extern "C" {
+#endif
+
+/* The version of this header. The library's own is jcobs_version(). */
+#define JCOBS_VERSION_MAJOR 1
+#define JCOBS_VERSION_MINOR 0
+#define JCOBS_VERSION_PATCH 0
+#define JCOBS_VERSION (JCOBS_VERSION_MAJOR * 10000 + JCOBS_VERSION_MINOR * 100 + JCOBS_VERSION_PATCH)
+
+/* What became of a call. In an answer it is as large as an unsigned int in every language and on every target. So its
+ * type is given where the language can; and where enums may be shorter, as for ARM without a system, an answer has an
+ * unsigned int. Elsewhere -Wswitch tests a switch over it. */
+#if (defined(__cplusplus) && __cplusplus >= 201103L) || (defined(__STDC_VERSION__) && __STDC_VERSION__ >= 202311L)
+#define JCOBS_ENUM(name) enum name : unsigned int
+#define JCOBS_STATUS jcobs_status
+#else
+#define JCOBS_ENUM(name) enum name
+#if defined(__ARM_SIZEOF_MINIMAL_ENUM) && __ARM_SIZEOF_MINIMAL_ENUM < 4
+#define JCOBS_STATUS unsigned int
+#else
+#define JCOBS_STATUS jcobs_status
+#endif
+#endif
+typedef JCOBS_ENUM(jcobs_status){
+    JCOBS_OK = 0,        /* done */
+    JCOBS_MORE = 1,      /* all bytes were taken, and no frame has ended in them */
+    JCOBS_TOO_SMALL = 2, /* the buffer is too short */
+    JCOBS_BROKEN = 3,    /* the frame breaks off inside a block */
+    JCOBS_EMPTY = 4      /* there is no frame */
+} jcobs_status;
+
+/* The result of a call, by the table above. */
+typedef struct jcobs_answer {
+    JCOBS_STATUS status; /* what became of it: a jcobs_status */
+    size_t consumed;     /* how many bytes were taken */
+    size_t length;       /* how many bytes at the front of the buffer it is about */
+} jcobs_answer;
+
+/* This doesn't compile if the status is shorter, as by -fshort-enums elsewhere: then the library can't be called. */
+typedef char jcobs_status_is_an_unsigned_int[sizeof(JCOBS_STATUS) == sizeof(unsigned int) ? 1 : -1];
+
+/* What bytes are, without sentinels around them. */
+enum jcobs_kind {
+    JCOBS_NOT_A_FRAME = 0, /* there are none, one is 0, or they break off inside a block */
+    JCOBS_CANONICAL = 1,   /* the frame that encoders write for its message */
+    JCOBS_LONGER = 2       /* that frame with a 1 after it, which decodes to the same message */
+};
+
+/* The state of a streaming decoder. The members are for the library only. */
+typedef struct jcobs_decoder {
+    size_t written;         /* bytes of the open message in the buffer */
+    unsigned char lacking;  /* bytes that the open block lacks */
+    unsigned char joint;    /* whether a zero joins the next block to the open one */
+    unsigned char too_long; /* whether the open message was too long for the buffer */
+} jcobs_decoder;
+
+/* The start, when no frame has begun: all zeros, as jcobs_decoder_reset makes it. */
+/* clang-format off */
+#define JCOBS_DECODER_INIT {0, 0, 0, 0}
+/* clang-format on */
+
+/* The state of a streaming encoder. The members are for the library only. */
+typedef struct jcobs_encoder {
+    size_t index;        /* where the code of the open block belongs */
+    unsigned char taken; /* bytes that the open block has */
+    unsigned char full;  /* whether the open block is only the place after a full one */
+} jcobs_encoder;
+
+/* The start, when nothing was taken: all zeros, as jcobs_encoder_reset makes it. */
+/* clang-format off */
+#define JCOBS_ENCODER_INIT {0, 0, 0}
+/* clang-format on */
+
+/* Returns the length of the longest frame of a message of this length, without a terminator: the length, and 1 for
+ * each 254 bytes begun, and 1 for the empty message. If that doesn't fit a size_t, the function returns 0.
+ *
+ * The macro is the same as a constant expression, as for the length of an array. Its type is size_t, whatever
+ * unsigned type the argument has; it evaluates its argument more than once, and doesn't serve in #if. */
+#define JCOBS_MAX_LENGTH(message_len)                                                                                  \
+    (sizeof(char) * (message_len) + sizeof(char) * (message_len) / 254 +                                               \
+     (sizeof(char) * (message_len) % 254 != 0 || (message_len) == 0 ? 1 : 0))
+size_t jcobs_max_length(size_t message_len);
+
+/* Writes the frame of the message to the front of `frame`. Room for jcobs_max_length(message_len) bytes always
+ * suffices; the status is TOO_SMALL exactly if the frame itself doesn't fit. */
+jcobs_answer jcobs_encode(const void *message, size_t message_len, void *frame, size_t frame_len);
+
+/* Does the same, with a zero after the frame, which needs one byte more. */
+jcobs_answer jcobs_encode_terminated(const void *message, size_t message_len, void *frame, size_t frame_len);
+
+/* Do the same for another sentinel: each byte of the frame is XORed with it. The terminator is the sentinel. */
+jcobs_answer jcobs_encode_with_sentinel(const void *message, size_t message_len, void *frame, size_t frame_len,
+                                        unsigned char sentinel);
+jcobs_answer jcobs_encode_terminated_with_sentinel(const void *message, size_t message_len, void *frame,
+                                                   size_t frame_len, unsigned char sentinel);
+
+/* Decodes the first frame of the source to the front of `message`. Zeros in front of the frame are skipped, and it
+ * ends at the next zero or with the source. A buffer as long as the source always suffices. */
+jcobs_answer jcobs_decode(const void *source, size_t source_len, void *message, size_t message_len);
+
+/* Decodes the frame at the front of the source, for this sentinel, to the front of `message`. The frame ends at the
+ * first sentinel or with the source. No sentinel is skipped: one in front is an empty message. */
+jcobs_answer jcobs_decode_with_sentinel(const void *source, size_t source_len, void *message, size_t message_len,
+                                        unsigned char sentinel);
+
+/* Decodes the frame at the front of the buffer in place. It ends at the first zero or with the buffer. No zero is
+ * skipped: one in front is an empty message. There is always room. */
+jcobs_answer jcobs_decode_in_place(void *buffer, size_t buffer_len);
+
+/* Does the same for this sentinel. In the rest of the frame after the message, each byte is XORed with the sentinel;
+ * the sentinel and what follows it aren't changed, so that the next frame begins at buffer + consumed. */
+jcobs_answer jcobs_decode_in_place_with_sentinel(void *buffer, size_t buffer_len, unsigned char sentinel);
+
+/* Returns whether the bytes are a frame for the sentinel 0, and which one of its message: one of enum jcobs_kind. */
+unsigned int jcobs_frame_kind(const void *bytes, size_t len);
+
+/* Resets the decoder to the start, whatever the state was. */
+void jcobs_decoder_reset(jcobs_decoder *decoder);
+
+/* Takes bytes of a stream of frames, each followed by a zero, through the zero that ends the first one. The message
+ * is then at the front of the buffer until the next call; bytes after that zero aren't read: push them next. Every
+ * frame is reported once, at its zero: OK, BROKEN, or TOO_SMALL if its output is longer than the buffer. Zeros
+ * between frames are skipped. A broken or oversized frame never affects the next.
+ *
+ * While a frame is open, pass the same buffer with the same length, as the last call left it. Otherwise the status
+ * of that frame and the contents of the buffer are unspecified. */
+jcobs_answer jcobs_decoder_push(jcobs_decoder *decoder, void *buffer, size_t buffer_len, const void *bytes, size_t len);
+
+/* Takes one byte: as jcobs_decoder_push of that byte, but faster. */
+jcobs_answer jcobs_decoder_feed(jcobs_decoder *decoder, void *buffer, size_t buffer_len, unsigned char byte);
+
+/* Takes bytes of a stream of frames for this sentinel, each followed by one, as jcobs_decoder_push does for 0, but slower,
+ * byte by byte. */
+jcobs_answer jcobs_decoder_push_with_sentinel(jcobs_decoder *decoder, void *buffer, size_t buffer_len,
+                                              const void *bytes, size_t len, unsigned char sentinel);
+
+/* Returns 1 if no frame is open, that is if all that was pushed is reported, and 0 if a frame has begun. At the end of
+ * a stream, 0 says that the last frame has no sentinel. */
+unsigned int jcobs_decoder_is_idle(const jcobs_decoder *decoder);
+
+/* Resets the encoder to the start, whatever the state was. */
+void jcobs_encoder_reset(jcobs_encoder *encoder);
+
+/* Takes the next bytes of a message, whose frame is made in the buffer. The status is TOO_SMALL exactly if the frame
+ * of all that was taken and these bytes doesn't fit; then finish the frame, or push fewer bytes.
+ *
+ * From the first push to the finish, pass the same buffer with the same length, as the last call left it.
+ * Otherwise the contents of the buffer are unspecified. */
+jcobs_answer jcobs_encoder_push(jcobs_encoder *encoder, void *buffer, size_t buffer_len, const void *bytes, size_t len);
+
+/* Takes one byte, as jcobs_encoder_push of that byte does. */
+jcobs_answer jcobs_encoder_feed(jcobs_encoder *encoder, void *buffer, size_t buffer_len, unsigned char byte);
+
+/* Ends the message: the buffer then begins with its frame, the one that jcobs_encode writes, and the encoder is at
+ * the start. The status is TOO_SMALL only if not even that frame fits: if the buffer is empty, or isn't the one that
+ * was pushed to. */
+jcobs_answer jcobs_encoder_finish(jcobs_encoder *encoder, void *buffer, size_t buffer_len);
+
+/* Does the same, with a zero after the frame, which needs one byte more. If only that byte doesn't fit, nothing has
+ * changed. */
+jcobs_answer jcobs_encoder_finish_terminated(jcobs_encoder *encoder, void *buffer, size_t buffer_len);
+
+/* Do the same for another sentinel: each byte of the frame is XORed with it. The pushes are those for 0. */
+jcobs_answer jcobs_encoder_finish_with_sentinel(jcobs_encoder *encoder, void *buffer, size_t buffer_len,
+                                                unsigned char sentinel);
+jcobs_answer jcobs_encoder_finish_terminated_with_sentinel(jcobs_encoder *encoder, void *buffer, size_t buffer_len,
+                                                           unsigned char sentinel);
+
+/* Writes a short English description of a status to `text`, with a '\0' after it, cut to fit, and returns the length
+ * of the whole description; JCOBS_TEXT_LENGTH bytes are room for it. If text_len is 0, nothing is written. A number
+ * that is no status is "unknown status". */
+#define JCOBS_TEXT_LENGTH 48
+size_t jcobs_strerror(unsigned int status, char *text, size_t text_len);
+
+/* Returns the version of the library, as JCOBS_VERSION. */
+unsigned int jcobs_version(void);
+
+/* Returns 1. A library of another major version has no function of this name, so a program that refers to it can't be
+ * linked with one. */
+unsigned int jcobs_abi_1(void);
+
+#ifdef __cplusplus
+}
+#endif
+
+#endif
