@@ -223,6 +223,13 @@ over_musl() {
 }
 
 sums() (
+    cmp include/jcobs.h device/src/jcobs.h || return 1
+    for header in jcobs.h jcobs.hpp; do
+        cmp "include/$header" "prebuilt/include/$header" || return 1
+    done
+    for arch in x86_64 aarch64; do
+        cmp "prebuilt/$arch-linux/libjcobs.a" "../rust/prebuilt/$arch-linux/libjcobs.a" || return 1
+    done
     cd prebuilt && sha256sum -c SHA256SUMS
 )
 
