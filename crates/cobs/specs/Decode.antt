@@ -1,4 +1,4 @@
--- What the free decoders answer, and what their buffers hold then.
+-- What the free decoders return, and what their buffers hold then.
 use Rattle.std.specs.Prelude.{◌≡◌, ⊤, ℕ, ◌+◌, ◌==◌, nat_le, min, List, [], ◌∷◌, length, Option, Some, None, Result, Ok, Err, if◌then◌else◌}
 use Rattle.std.specs.List.{prefix_len}
 use Rattle.std.specs.Result.{result_map_both}
@@ -6,37 +6,37 @@ use Rattle.cobs.specs.Overwritten.{overwritten}
 use Rattle.cobs.specs.Piece.{output, kept_output, is_whole}
 use Rattle.cobs.specs.Stream.{Outcome, Message, Broken, TooLong, outcome_of, first_piece, head}
 use Rattle.cobs.specs.Fields.Report.{report_of}
-use Rattle.cobs.specs.declared.dec.report.DecodeReport.{DecodeReport}
-use Rattle.cobs.specs.declared.dec.error.DecodeError.{DecodeError}
-use Rattle.cobs.specs.declared.dec.error.DecodeError.TheVariants.{EmptyFrame, InvalidFrame, TargetBufTooSmall}
-use Rattle.cobs.specs.declared.dec.error.DecodeVecError.{DecodeVecError}
-use Rattle.cobs.specs.declared.dec.error.DecodeVecError.TheVariants.{Decode, Memory}
+use Rattle.cobs.specs.declared.dec.DecodeReport.{DecodeReport}
+use Rattle.cobs.specs.declared.dec.DecodeError.{DecodeError}
+use Rattle.cobs.specs.declared.dec.DecodeError.TheVariants.{EmptyFrame, InvalidFrame, TargetBufTooSmall}
+use Rattle.cobs.specs.declared.dec.DecodeVecError.{DecodeVecError}
+use Rattle.cobs.specs.declared.dec.DecodeVecError.TheVariants.{Decode, Memory}
 
 -- how many zeros a source begins with
 abbrev pub leading_zeros : List ℕ → ℕ
 leading_zeros source = prefix_len (λ byte. byte == 0) source
 
--- how many bytes of a source stand up to the end of its first piece p, with the zero after it where there is one
+-- how many bytes a source has up to the end of its first piece p, with the zero after it if there is one
 abbrev pub len_through_piece : List ℕ → List ℕ → ℕ
 len_through_piece source p = min (length source) (leading_zeros source + length p + 1)
 
--- how an outcome is answered: by the message's length
+-- the result for an outcome: the message's length
 abbrev pub sized : Outcome → Result ℕ DecodeError
 sized (Message message) = Ok (length message)
 sized (Broken count) = Err (InvalidFrame count)
 sized TooLong = Err TargetBufTooSmall
 
--- how it is answered with the count of bytes that were consumed
+-- the same with the count of bytes that were consumed
 abbrev pub reported : ℕ → Result ℕ DecodeError → Result DecodeReport DecodeError
 reported parsed (Ok size) = Ok (report_of parsed size)
 reported parsed (Err error) = Err error
 
--- the answer to a source that isn't empty, by its first piece, over a buffer of n bytes
+-- the result for a source that isn't empty, by its first piece, over a buffer of n bytes
 abbrev pub answer_by_piece : List ℕ → Option (List ℕ) → ℕ → Result DecodeReport DecodeError
 answer_by_piece source None n = Err (InvalidFrame 0)
 answer_by_piece source (Some p) n = reported (len_through_piece source p) (sized (outcome_of p n))
 
--- the answer of `decode` to a source, over a buffer of n bytes
+-- the result of `decode` for a source, over a buffer of n bytes
 abbrev pub decode_answer : List ℕ → ℕ → Result DecodeReport DecodeError
 decode_answer [] n = Err EmptyFrame
 decode_answer (byte ∷ bytes) n = answer_by_piece (byte ∷ bytes) (first_piece (byte ∷ bytes)) n
@@ -50,23 +50,23 @@ output_of (Some p) = output p
 abbrev pub first_output : List ℕ → List ℕ
 first_output source = output_of (first_piece source)
 
--- the message of what stands before the first zero of a list, or why there is none
+-- the message of what is before the first zero of a list, or why there is none
 abbrev pub message_of_head : List ℕ → Result (List ℕ) DecodeError
 message_of_head [] = Ok []
 message_of_head (byte ∷ bytes) =
     let h = byte ∷ bytes in
     if is_whole h then Ok (output h) else Err (InvalidFrame (length (kept_output h)))
 
--- the answer to what stands before the first zero of a list: the length of its message, or else of its kept output
+-- the result for what is before the first zero of a list: the length of its message, or else of its kept output
 abbrev pub head_answer : List ℕ → Result ℕ DecodeError
 head_answer h = result_map_both length (λ error. error) (message_of_head h)
 
--- the answer of `decode_in_place` to a buffer
+-- the result of `decode_in_place` for a buffer
 abbrev pub in_place_answer : List ℕ → Result ℕ DecodeError
 in_place_answer [] = Err EmptyFrame
 in_place_answer (byte ∷ bytes) = head_answer (head (byte ∷ bytes))
 
--- the answer of `decode_in_place_report`: with the length of what stands before the first zero
+-- the result of `decode_in_place_report`: with the length of what is before the first zero
 abbrev pub in_place_report : List ℕ → Result DecodeReport DecodeError
 in_place_report buffer = reported (length (head buffer)) (in_place_answer buffer)
 
@@ -74,11 +74,11 @@ in_place_report buffer = reported (length (head buffer)) (in_place_answer buffer
 abbrev pub in_place : List ℕ → List ℕ
 in_place buffer = overwritten buffer (kept_output (head buffer))
 
--- the answer to what stands before the first zero, over a buffer of n bytes
+-- the result for what is before the first zero, over a buffer of n bytes
 abbrev pub head_answer_within : List ℕ → ℕ → Result ℕ DecodeError
 head_answer_within h n = if nat_le (length (kept_output h)) n then head_answer h else Err TargetBufTooSmall
 
--- the answer of `decode_with_sentinel` to a source for the sentinel 0, over a buffer of n bytes
+-- the result of `decode_with_sentinel` for a source for the sentinel 0, over a buffer of n bytes
 abbrev pub source_answer : List ℕ → ℕ → Result ℕ DecodeError
 source_answer [] n = Err EmptyFrame
 source_answer (byte ∷ bytes) n = head_answer_within (head (byte ∷ bytes)) n
@@ -93,12 +93,12 @@ abbrev pub decoded : List ℕ → Result (List ℕ) DecodeError
 decoded [] = Err EmptyFrame
 decoded (byte ∷ bytes) = message_of_piece (first_piece (byte ∷ bytes))
 
--- the message of a source for the sentinel 0, by what stands before its first zero, or why there is none
+-- the message of a source for the sentinel 0, by what is before its first zero, or why there is none
 abbrev pub decoded_head : List ℕ → Result (List ℕ) DecodeError
 decoded_head [] = Err EmptyFrame
 decoded_head (byte ∷ bytes) = message_of_head (head (byte ∷ bytes))
 
--- an error of a vector form is the refusal of the source, or out of memory
+-- an error of a vector form is that of the source, or out of memory
 abbrev pub IsRefusal : Result (List ℕ) DecodeError → DecodeVecError → Type 0
 IsRefusal answer (Decode error) = answer ≡ Err error
 IsRefusal answer (Memory error) = ⊤

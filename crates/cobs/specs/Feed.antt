@@ -1,4 +1,4 @@
--- What a streaming decoder answers, and where it stands, after the front of a piece.
+-- What a streaming decoder returns, and where it is, after the front of a piece.
 use Rattle.std.specs.Prelude.{ℕ, ◌≡◌, ◌≢◌, ◌≤◌, ◌==◌, nat_le, Bool, true, false, List, [], ◌∷◌, ◌++◌, length, take, drop, Option, Some, None, Result, Ok, Err, IfOk, IfSome, if◌then◌else◌}
 use Rattle.std.specs.Result.{result_map_both}
 use Rattle.cobs.specs.Grammar.{HasNoZero, is_full}
@@ -6,21 +6,21 @@ use Rattle.cobs.specs.Piece.{output, last_part, lacks}
 use Rattle.cobs.specs.Table.{table_state}
 use Rattle.cobs.specs.Stream.{Outcome, outcome_of}
 use Rattle.cobs.specs.Decode.{sized}
-use Rattle.cobs.specs.declared.dec.error.DecodeError.{DecodeError}
+use Rattle.cobs.specs.declared.dec.DecodeError.{DecodeError}
 use Rattle.cobs.specs.declared.dec.state.DecoderState.{DecoderState}
 use Rattle.cobs.specs.declared.dec.state.DecoderState.TheVariants as states
-use Rattle.cobs.specs.declared.dec.error.DecodeError.TheVariants.{TargetBufTooSmall}
+use Rattle.cobs.specs.declared.dec.DecodeError.TheVariants.{TargetBufTooSmall}
 
--- how a streaming decoder answers an outcome: as the free decoders do, in an option
+-- how a streaming decoder reports an outcome: as the free decoders do, in an option
 abbrev pub told : Outcome → Result (Option ℕ) DecodeError
 told outcome = result_map_both Some (λ error. error) (sized outcome)
 
--- the answer to the zero after the front p of a piece, over a buffer of n bytes: where p is empty no piece has ended
+-- the result for the zero after the front p of a piece, over a buffer of n bytes: where p is empty no piece has ended
 unfoldable pub answer_at_end : List ℕ → ℕ → Result (Option ℕ) DecodeError
 answer_at_end [] n = Ok None
 answer_at_end (byte ∷ bytes) n = told (outcome_of (byte ∷ bytes) n)
 
--- the answer to a byte after the front p of a piece, over a buffer of n bytes
+-- the result for a byte after the front p of a piece, over a buffer of n bytes
 unfoldable pub answer_to : List ℕ → ℕ → ℕ → Result (Option ℕ) DecodeError
 answer_to p byte n =
     if byte == 0 then answer_at_end p n
@@ -30,14 +30,14 @@ answer_to p byte n =
 abbrev pub fed : List ℕ → ℕ → List ℕ
 fed p byte = if byte == 0 then [] else p ++ byte ∷ []
 
--- where a decoder stands: no piece has begun; in a block, full or not, that lacks so many bytes, with so many bytes
--- written; or the output was too long for the buffer
+-- where a decoder is: no piece has begun; in a block, full or not, of which this many bytes are missing, with this many
+-- bytes written; or the output was too long for the buffer
 pub data Phase : Type 0 where
   Idle : Phase
   Within : (full : Bool) (left count : ℕ) → Phase
   Over : Phase
 
--- the state of the table of `DecoderState` in which a decoder stands; none where the output was too long
+-- a decoder's state in the table of `DecoderState`; none if the output was too long
 abbrev pub state_in : Phase → Option DecoderState
 state_in Idle = Some states.Idle
 state_in (Within false left count) = Some (states.Grab left)
@@ -61,7 +61,7 @@ pub record DecoderAfter (buffer : List ℕ) (phase : Phase) (p : List ℕ) : Typ
   pub phased : PhaseAfter (length buffer) phase p
   pub begins : take (length (output p)) buffer ≡ take (length buffer) (output p)
 
--- feeding a byte takes a decoder from the one buffer and phase to the other, with this answer
+-- feeding a byte takes a decoder from the one buffer and phase to the other, with this result
 pub record Feeds (buffer : List ℕ) (phase : Phase) (byte : ℕ) (result : Result (Option ℕ) DecodeError) (buffer' : List ℕ) (phase' : Phase) : Type 0 where
   pub answer : (p : List ℕ) → PhaseAfter (length buffer) phase p → result ≡ answer_to p byte (length buffer)
   pub phased : (p : List ℕ) → PhaseAfter (length buffer) phase p → PhaseAfter (length buffer) phase' (fed p byte)

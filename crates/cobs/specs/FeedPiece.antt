@@ -1,12 +1,13 @@
 -- What a streaming decoder makes of the bytes through the end of a piece.
-use Rattle.std.specs.Prelude.{ℕ, ◌≡◌, ◌≤◌, List, [], ◌∷◌, ◌++◌, length, take, drop, Option, Some, None, Result, IfSome}
+use Rattle.std.specs.Prelude.{ℕ, ◌≡◌, ◌≤◌, List, [], ◌∷◌, ◌++◌, length, take, drop, Option, Some, None, Result, Ok, Err, IfSome}
 use Rattle.std.specs.List.{Contains}
 use Rattle.cobs.specs.Stream.{Outcome, Message, Broken, TooLong, stream_outcomes, unended}
 use Rattle.cobs.specs.Feed.{Phase, Idle, PhaseAfter, DecoderAfter, Feeds}
 use Rattle.cobs.specs.Overwritten.{overwritten}
 use Rattle.cobs.specs.Piece.{output}
 use Rattle.cobs.specs.Push.{last_piece}
-use Rattle.cobs.specs.declared.dec.error.DecodeError.{DecodeError}
+use Rattle.cobs.specs.declared.dec.DecodeError.{DecodeError}
+use Rattle.cobs.specs.declared.dec.DecodeError.TheVariants.{EmptyFrame, InvalidFrame, TargetBufTooSmall}
 use Rattle.cobs.specs.declared.dec.frame_decoder.PieceEnd.{PieceEnd}
 use Rattle.cobs.specs.declared.dec.frame_decoder.PieceEnd.TheVariants as ends
 
@@ -25,14 +26,14 @@ AreAlikeAtFirst [] (y ∷ ys) = ⊥
 AreAlikeAtFirst (x ∷ xs) [] = ⊥
 AreAlikeAtFirst (x ∷ xs) (y ∷ ys) = AreAlike x y × (xs ≡ ys)
 
--- the bytes are fed one after another, from the one buffer and phase to the other, whatever each is answered by
+-- the bytes are fed one after another, from the one buffer and phase to the other, whatever each returns
 abbrev pub FeedsEach : List ℕ → Phase → List ℕ → List ℕ → Phase → Type 0
 FeedsEach buffer phase [] buffer' phase' = (buffer' ≡ buffer) × (phase' ≡ phase)
 FeedsEach buffer phase (byte ∷ bytes) buffer' phase' =
     (answer : Result (Option ℕ) DecodeError) × (between : List ℕ) × (phase_between : Phase) × Feeds buffer phase byte answer between phase_between
     × FeedsEach between phase_between bytes buffer' phase'
 
--- a decoder that takes these bytes goes from the one buffer and phase to the other, and tells these outcomes of the
+-- a decoder that takes these bytes goes from the one buffer and phase to the other, and reports these outcomes of the
 -- pieces that end in them
 pub record TakesBytes (buffer : List ℕ) (phase : Phase) (bytes : List ℕ) (told : List Outcome) (buffer' : List ℕ) (phase' : Phase) : Type 0 where
   pub len : length buffer' ≡ length buffer
@@ -45,11 +46,19 @@ pub record TakesBytes (buffer : List ℕ) (phase : Phase) (bytes : List ℕ) (to
   pub alike : (p : List ℕ) → PhaseAfter (length buffer) phase p → AreAlikeAtFirst told (stream_outcomes (p ++ bytes) (length buffer))
   pub after_zero : (p : List ℕ) → PhaseAfter (length buffer) phase p → Contains bytes 0 → DecoderAfter buffer' phase' (unended (p ++ bytes))
 
--- the outcome that a `PieceEnd` tells, over the buffer after the piece
+-- the outcome that a `PieceEnd` means, over the buffer after the piece
 abbrev pub outcome_at : PieceEnd → List ℕ → Outcome
 outcome_at (ends.Message n) buffer = Message (take n buffer)
 outcome_at (ends.Broken count) buffer = Broken count
 outcome_at ends.TooLong buffer = TooLong
+
+-- the end of a piece that the result for its zero means; none if no piece has ended
+abbrev pub end_told : Result (Option ℕ) DecodeError → Option PieceEnd
+end_told (Ok None) = None
+end_told (Ok (Some n)) = Some (ends.Message n)
+end_told (Err EmptyFrame) = None
+end_told (Err (InvalidFrame count)) = Some (ends.Broken count)
+end_told (Err TargetBufTooSmall) = Some ends.TooLong
 
 -- its message is within a buffer of this length
 abbrev pub IsWithin : ℕ → PieceEnd → Type 0
@@ -68,18 +77,18 @@ abbrev pub bytes_taken : List ℕ → Option (PieceEnd × ℕ) → List ℕ
 bytes_taken bytes None = bytes
 bytes_taken bytes (Some (end, count)) = take count bytes
 
--- what was told of them
+-- what was reported of them
 abbrev pub outcomes_taken : Option (PieceEnd × ℕ) → List ℕ → List Outcome
 outcomes_taken None buffer = []
 outcomes_taken (Some (end, count)) buffer = outcome_at end buffer ∷ []
 
--- the last of the first bytes, so many, is the first zero that ends a piece, for a decoder over n bytes in this phase
+-- of the first bytes, this many, the last is the first zero that ends a piece, for a decoder over n bytes in this phase
 pub record EndsPiece (n : ℕ) (phase : Phase) (bytes : List ℕ) (count : ℕ) : Type 0 where
   pub front : List ℕ
   pub taken : take count bytes ≡ front ++ 0 ∷ []
   pub none_before : (p : List ℕ) → PhaseAfter n phase p → stream_outcomes (p ++ front) n ≡ []
 
--- a decoder takes the bytes through the first zero that ends a piece, or all of them, and this is its answer
+-- a decoder takes the bytes through the first zero that ends a piece, or all of them, and this is its result
 pub record TakesPiece (buffer : List ℕ) (phase : Phase) (bytes : List ℕ) (result : Option (PieceEnd × ℕ)) (buffer' : List ℕ) (phase' : Phase) : Type 0 where
   pub takes : TakesBytes buffer phase (bytes_taken bytes result) (outcomes_taken result buffer') buffer' phase'
   pub ends : IfSome result (λ found. EndsPiece (length buffer) phase bytes found.1)

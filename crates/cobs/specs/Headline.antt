@@ -1,12 +1,12 @@
--- The words of the headline: a decoder that is given all of a list answers a message.
+-- The words of the headline: a decoder that is given all of a list returns a message.
 use Rattle.std.specs.Prelude.{◌≡◌, ◌≢◌, ℕ, List, [], length, take, Option, Result, IsOkAnd, IsSomeAnd, IfErr, ⊤}
 use Rattle.cobs.specs.Grammar.{HasNoZero}
 use Rattle.cobs.specs.Fields.Report.{frame_size_of}
-use Rattle.cobs.specs.declared.dec.report.DecodeReport.{DecodeReport}
-use Rattle.cobs.specs.declared.dec.error.DecodeError.{DecodeError}
-use Rattle.cobs.specs.declared.dec.error.PushError.{PushError}
-use Rattle.cobs.specs.declared.dec.error.DecodeVecError.{DecodeVecError}
-use Rattle.cobs.specs.declared.dec.error.DecodeVecError.TheVariants.{Decode, Memory}
+use Rattle.cobs.specs.declared.dec.DecodeReport.{DecodeReport}
+use Rattle.cobs.specs.declared.dec.DecodeError.{DecodeError}
+use Rattle.cobs.specs.declared.dec.PushError.{PushError}
+use Rattle.cobs.specs.declared.dec.DecodeVecError.{DecodeVecError}
+use Rattle.cobs.specs.declared.dec.DecodeVecError.TheVariants.{Decode, Memory}
 
 -- a list that may be a frame: it isn't empty, and the sentinel 0 isn't in it
 abbrev pub IsPiece : List ℕ → Type 0
@@ -16,11 +16,11 @@ IsPiece p = (p ≢ []) × HasNoZero p
 abbrev pub BeginsWith : List ℕ → ℕ → List ℕ → Type 0
 BeginsWith buffer n m = (n ≡ length m) × (take n buffer ≡ m)
 
--- the answer is the message's length, and the buffer begins with the message
+-- the result is the message's length, and the buffer begins with the message
 abbrev pub AnswersMessage : Result ℕ DecodeError → List ℕ → List ℕ → Type 0
 AnswersMessage result buffer m = IsOkAnd result (λ n. BeginsWith buffer n m)
 
--- the same of an answer that also says how many bytes were consumed
+-- the same of a result that also says how many bytes were consumed
 abbrev pub ReportsMessage : Result DecodeReport DecodeError → List ℕ → List ℕ → Type 0
 ReportsMessage result buffer m = IsOkAnd result (λ report. BeginsWith buffer (frame_size_of report) m)
 
@@ -28,7 +28,7 @@ ReportsMessage result buffer m = IsOkAnd result (λ report. BeginsWith buffer (f
 abbrev pub PushesMessage : Result (Option DecodeReport) PushError → List ℕ → List ℕ → Type 0
 PushesMessage result buffer m = IsOkAnd result (λ found. IsSomeAnd found (λ report. BeginsWith buffer (frame_size_of report) m))
 
--- a vector form that gave no vector was refused no memory
+-- a vector form that returned no vector had memory
 abbrev pub IsNotOutOfMemory : DecodeVecError → Type 0
 IsNotOutOfMemory (Decode error) = ⊤
 IsNotOutOfMemory (Memory error) = ⊥

@@ -1,7 +1,7 @@
 -- Words that contracts of private functions alone cite.
 pub mod Mask
-pub mod OpenLen
+pub mod Taking
 pub mod Decoded
-pub mod Step
+pub mod FedInTurn
 pub mod PieceEnds
 pub mod KeptBytes

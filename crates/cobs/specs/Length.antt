@@ -1,5 +1,5 @@
 -- How long frames are.
-use Rattle.std.specs.Prelude.{◌≡◌, ◌<◌, ◌%◌, ℕ, ◌+◌, ◌-◌, ◌/◌, List, [], ◌∷◌, length, map, max}
+use Rattle.std.specs.Prelude.{◌≡◌, ◌<◌, ◌%◌, ℕ, ◌+◌, ◌-◌, ◌/◌, List, [], ◌∷◌, ◌++◌, length, map, max, replicate}
 use Rattle.cobs.specs.Stream.{stretches}
 
 -- the lengths of a message's runs: the stretches of nonzero bytes between its zeros and its ends, empty ones too
@@ -16,6 +16,11 @@ full_blocks (run ∷ next ∷ more) = run / 254 + full_blocks (next ∷ more)
 -- the length of a message's encoded frame
 abbrev pub encoded_len : List ℕ → ℕ
 encoded_len m = length m + 1 + full_blocks (runs m)
+
+-- the same counted from an open block, once the block with this code has taken these bytes: the bytes that it had are as
+-- good as ones
+abbrev pub open_len : ℕ → List ℕ → ℕ
+open_len code bytes = encoded_len (replicate (code - 1) 1 ++ bytes)
 
 -- n / 254 rounded up, and 1 for the empty message
 abbrev pub max_overhead : ℕ → ℕ

@@ -7,6 +7,7 @@ pub mod Overwritten
 pub mod OpenBlock
 pub mod Table
 pub mod Feed
+pub mod Step
 pub mod Fields
 pub mod Push
 pub mod FeedPiece

@@ -28,6 +28,6 @@ pub record AreFrames (messages : List (List ℕ)) (bytes : List ℕ) : Type 0 wh
   pub each : AllZip IsEncodedFrame frames messages
   pub joined : bytes ≡ flat_map (λ frame. frame ++ 0 ∷ []) frames
 
--- how many bytes have room for the frames of the messages and their zeros, by the messages' lengths alone
+-- how many bytes have room for the frames of the messages and their zeros, which depends only on the messages' lengths
 abbrev pub room_for_frames : List (List ℕ) → ℕ
 room_for_frames messages = sum_by (λ message. max_encoded_len (length message) + 1) messages

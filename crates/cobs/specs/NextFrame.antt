@@ -36,7 +36,7 @@ abbrev pub Runs : {S : Type 0} → (S → Read → S → Type 0) → S → List 
 Runs step from [] to = from ≡ to
 Runs {S} step from (read ∷ reads) to = (next : S) × step from read next × Runs step next reads to
 
--- a read from a reader that has these bytes left, before and after, where it tells them: a failure, or at most 64
+-- a read from a reader that has these bytes left, before and after, if they are known: a failure, or at most 64
 -- bytes, exactly those that the reader gave
 abbrev pub IsReadOf : Option (List ℕ) → Read → Option (List ℕ) → Type 0
 IsReadOf before None after = Unit {0}
@@ -56,9 +56,9 @@ abbrev pub EachCalledFor : List ℕ → ℕ → List Read → Type 0
 EachCalledFor front n reads =
     (earlier later : List Read) (read : Read) → reads ≡ earlier ++ read ∷ later → CallsForMore front n earlier
 
--- WHAT AN ANSWER TELLS
+-- WHAT A RESULT MEANS
 
--- the first piece that ends in the stream t comes to this outcome, in a buffer of n bytes, and these bytes stand
+-- the first piece that ends in the stream t comes to this outcome, in a buffer of n bytes, and these bytes are
 -- after the zero that ends it
 pub record EndsFirst (t : List ℕ) (n : ℕ) (outcome : Outcome) (rest : List ℕ) : Type 0 where
   pub front : List ℕ
@@ -76,19 +76,19 @@ pub record ReaderState : Type 0 where
 abbrev pub ReaderAfter : ReaderState → List ℕ → Type 0
 ReaderAfter reader p = DecoderAfter reader.buffer reader.phase p
 
--- a piece has ended in the stream t, and the reader stands at its end: the decoder is idle, and what follows is kept
+-- a piece has ended in the stream t, and the reader is at its end: the decoder is idle, and what follows is kept
 pub record AtPieceEnd (t : List ℕ) (outcome : Outcome) (reader : ReaderState) : Type 0 where
   pub first : EndsFirst t (length reader.buffer) outcome reader.kept
   pub idle : ReaderAfter reader []
 
--- no piece has ended in the stream t, and the reader stands at the end of t: the decoder has taken it, and nothing is
+-- no piece has ended in the stream t, and the reader is at the end of t: the decoder has taken it, and nothing is
 -- kept
 pub record AtStreamEnd (t : List ℕ) (reader : ReaderState) : Type 0 where
   pub none_ended : stream_outcomes t (length reader.buffer) ≡ []
   pub after : ReaderAfter reader (unended t)
   pub nothing_kept : reader.kept ≡ []
 
--- what an answer tells of the reads and of the stream t that they brought, and how it leaves the reader
+-- what a result says of the reads and of the stream t that they brought, and how it leaves the reader
 abbrev pub Tells : Result Next ReadFault → List Read → List ℕ → ReaderState → Type 0
 Tells (Ok (nexts.Message n)) reads t reader =
     AtPieceEnd t (Message (take n reader.buffer)) reader × (n ≤ length reader.buffer)
@@ -107,7 +107,7 @@ IsNextWithin len (nexts.Broken count) = Unit {0}
 IsNextWithin len nexts.TooLong = Unit {0}
 IsNextWithin len (nexts.End unfinished) = Unit {0}
 
--- a call that takes the source and the reader from the one state to the other, with this answer
+-- a call that takes the source and the reader from the one state to the other, with this result
 pub record ReadsNext {S : Type 0} (step : S → Read → S → Type 0) (source source' : S)
     (reader : ReaderState) (result : Result Next ReadFault) (reader' : ReaderState) : Type 0 where
   -- the reads of this call

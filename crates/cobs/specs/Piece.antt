@@ -1,8 +1,9 @@
--- A piece is a nonempty stretch of a stream without a zero. It is read in parts: blocks, of which the last may be cut short.
+-- A piece is a nonempty stretch of a stream without a zero. It is read in parts: blocks, of which the last may be cut
+-- short.
 use Rattle.std.specs.Prelude.{ℕ, zero, suc, ◌-◌, ◌==◌, Bool, false, List, [], ◌∷◌, length, take, if◌then◌else◌, IsTrue}
 use Rattle.cobs.specs.Grammar.{code_of, bytes_of, message_of, last_of}
 
--- the parts of what stands after the first n bytes: a part is as many bytes as its code says, or what is left
+-- the parts of what is after the first n bytes: a part is as many bytes as its code says, or what is left
 unfoldable pub parts_after : ℕ → List ℕ → List (List ℕ)
 parts_after n [] = []
 parts_after (suc n) (byte ∷ bytes) = parts_after n bytes
@@ -16,11 +17,11 @@ parts p = parts_after 0 p
 unfoldable pub last_part : List ℕ → List ℕ
 last_part p = last_of (parts p)
 
--- how many bytes a part lacks of those that its code counts
+-- how many bytes of a part are missing
 abbrev pub lacks : List ℕ → ℕ
 lacks part = code_of part - length part
 
--- whether the last part of a nonempty piece lacks nothing
+-- whether the last part of a nonempty piece is complete
 unfoldable pub is_whole : List ℕ → Bool
 is_whole [] = false
 is_whole (byte ∷ bytes) = lacks (last_part (byte ∷ bytes)) == 0

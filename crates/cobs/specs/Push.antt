@@ -1,4 +1,4 @@
--- What a push of bytes to a streaming decoder answers, and how it leaves the decoder.
+-- What a push of bytes to a streaming decoder returns, and how it leaves the decoder.
 use Rattle.std.specs.Prelude.{ℕ, ◌≡◌, ◌+◌, ◌-◌, ◌<◌, ◌≤◌, ◌==◌, List, [], ◌∷◌, ◌++◌, length, take, drop, filter, slice_index, Option, Some, None, Result, Ok, Err, IfOk, IfSome, if◌then◌else◌}
 use Rattle.cobs.specs.Grammar.{last_of}
 use Rattle.cobs.specs.Piece.{output}
@@ -6,24 +6,24 @@ use Rattle.cobs.specs.Stream.{stretches, is_nonempty, unended, Outcome, Message,
 use Rattle.cobs.specs.Feed.{Phase, Idle, PhaseAfter, DecoderAfter, Feeds, answer_to}
 use Rattle.cobs.specs.Overwritten.{overwritten}
 use Rattle.cobs.specs.Fields.Report.{parsed_size_of, frame_size_of}
-use Rattle.cobs.specs.declared.dec.report.DecodeReport.{DecodeReport}
-use Rattle.cobs.specs.declared.dec.error.PushError.{PushError}
-use Rattle.cobs.specs.declared.dec.error.DecodeError.{DecodeError}
-use Rattle.cobs.specs.declared.dec.error.DecodeError.TheVariants.{EmptyFrame, InvalidFrame, TargetBufTooSmall}
+use Rattle.cobs.specs.declared.dec.DecodeReport.{DecodeReport}
+use Rattle.cobs.specs.declared.dec.PushError.{PushError}
+use Rattle.cobs.specs.declared.dec.DecodeError.{DecodeError}
+use Rattle.cobs.specs.declared.dec.DecodeError.TheVariants.{EmptyFrame, InvalidFrame, TargetBufTooSmall}
 
 -- the last piece of a stream, whether a zero ends it or the stream does; the empty list where there is none
 unfoldable pub last_piece : List ℕ → List ℕ
 last_piece t = last_of (filter is_nonempty (stretches t))
 
--- the answer to the byte at this place, where a decoder over n bytes after the front p is fed the bytes one by one
+-- the result for the byte at this place, where a decoder over n bytes after the front p is fed the bytes one by one
 abbrev pub answer_at : List ℕ → List ℕ → ℕ → ℕ → Result (Option ℕ) DecodeError
 answer_at p bytes n place = answer_to (unended (p ++ take place bytes)) (slice_index bytes place) n
 
--- the first bytes, so many, are each answered by `Ok(None)`
+-- the first bytes, this many, each return `Ok(None)`
 abbrev pub IsQuiet : List ℕ → List ℕ → ℕ → ℕ → Type 0
 IsQuiet p bytes n count = (place : ℕ) → place < count → answer_at p bytes n place ≡ Ok None
 
--- the bytes but the last of the first so many are each answered by `Ok(None)`, and that last one is answered so
+-- of the first bytes, this many, each but the last returns `Ok(None)`, and the last one returns this
 pub record StopsAfter (p bytes : List ℕ) (n count : ℕ) (answer : Result (Option ℕ) DecodeError) : Type 0 where
   pub place : ℕ
   pub within : place < length bytes
@@ -31,14 +31,14 @@ pub record StopsAfter (p bytes : List ℕ) (n count : ℕ) (answer : Result (Opt
   pub quiet : IsQuiet p bytes n place
   pub answered : answer_at p bytes n place ≡ answer
 
--- a push after the front p answers what the first byte is answered that isn't answered by `Ok(None)`, with the
+-- a push after the front p returns the result of the first byte that doesn't return `Ok(None)`, with the
 -- count of bytes through that one
 abbrev pub Answers : List ℕ → List ℕ → ℕ → Result (Option DecodeReport) PushError → Type 0
 Answers p bytes n (Ok None) = IsQuiet p bytes n (length bytes)
 Answers p bytes n (Ok (Some report)) = StopsAfter p bytes n (parsed_size_of report) (Ok (Some (frame_size_of report)))
 Answers p bytes n (Err refusal) = StopsAfter p bytes n refusal.parsed_size (Err refusal.error)
 
--- how many bytes a push consumed: so many as it says, or all
+-- how many bytes a push consumed: this many as it says, or all
 abbrev pub consumed_size : List ℕ → Result (Option DecodeReport) PushError → ℕ
 consumed_size bytes (Ok None) = length bytes
 consumed_size bytes (Ok (Some report)) = parsed_size_of report
@@ -48,13 +48,13 @@ consumed_size bytes (Err refusal) = refusal.parsed_size
 abbrev pub consumed : List ℕ → Result (Option DecodeReport) PushError → List ℕ
 consumed bytes result = take (consumed_size bytes result) bytes
 
--- what the error that a zero is answered with tells of the piece that it ends
+-- what the error that a zero returns says of the piece that it ends
 abbrev pub refused_outcomes : DecodeError → List Outcome
 refused_outcomes EmptyFrame = []
 refused_outcomes (InvalidFrame count) = Broken count ∷ []
 refused_outcomes TargetBufTooSmall = TooLong ∷ []
 
--- the outcomes that a push tells of: the message at the buffer's front; for an error the outcome of its piece, where
+-- the outcomes that a push reports: the message at the buffer's front; for an error the outcome of its piece, where
 -- the last byte consumed is a zero
 abbrev pub pushed_outcomes : List ℕ → Result (Option DecodeReport) PushError → List ℕ → List Outcome
 pushed_outcomes bytes (Ok None) buffer = []
@@ -62,7 +62,7 @@ pushed_outcomes bytes (Ok (Some report)) buffer = Message (take (frame_size_of r
 pushed_outcomes bytes (Err refusal) buffer =
     if slice_index bytes (refusal.parsed_size - 1) == 0 then refused_outcomes refusal.error else []
 
--- the bytes are fed one after another, from the one buffer and phase to the other: each but the last is answered by
+-- the bytes are fed one after another, from the one buffer and phase to the other: each but the last returns
 -- `Ok(None)`, and the last one so
 abbrev pub FeedsInTurn : List ℕ → Phase → List ℕ → Result (Option ℕ) DecodeError → List ℕ → Phase → Type 0
 FeedsInTurn buffer phase [] answer buffer' phase' = (answer ≡ Ok None) × (buffer' ≡ buffer) × (phase' ≡ phase)
@@ -71,13 +71,13 @@ FeedsInTurn buffer phase (byte ∷ next ∷ bytes) answer buffer' phase' =
     (between : List ℕ) × (phase_between : Phase) × Feeds buffer phase byte (Ok None) between phase_between
     × FeedsInTurn between phase_between (next ∷ bytes) answer buffer' phase'
 
--- what the last byte that a push consumed is answered by `feed`
+-- what `feed` returns for the last byte that a push consumed
 abbrev pub last_answer : Result (Option DecodeReport) PushError → Result (Option ℕ) DecodeError
 last_answer (Ok None) = Ok None
 last_answer (Ok (Some report)) = Ok (Some (frame_size_of report))
 last_answer (Err refusal) = Err refusal.error
 
--- a push of the bytes takes a decoder from the one buffer and phase to the other, and this is its answer
+-- a push of the bytes takes a decoder from the one buffer and phase to the other, and this is its result
 pub record PushesBytes (buffer : List ℕ) (phase : Phase) (bytes : List ℕ)
     (result : Result (Option DecodeReport) PushError) (buffer' : List ℕ) (phase' : Phase) : Type 0 where
   pub answer : (p : List ℕ) → PhaseAfter (length buffer) phase p → Answers p bytes (length buffer) result
@@ -90,7 +90,7 @@ pub record PushesBytes (buffer : List ℕ) (phase : Phase) (bytes : List ℕ)
       → buffer' ≡ overwritten buffer (output (last_piece (p ++ consumed bytes result)))
   pub untouched : (p : List ℕ) → PhaseAfter (length buffer) phase p
       → let written = length (output (last_piece (p ++ consumed bytes result))) in drop written buffer' ≡ drop written buffer
-  -- it tells of each piece that ended in these bytes
+  -- it reports each piece that ended in these bytes
   pub outcomes : (p : List ℕ) → DecoderAfter buffer phase p
       → stream_outcomes (p ++ consumed bytes result) (length buffer) ≡ pushed_outcomes bytes result buffer'
   -- in every phase: it feeds the bytes that were consumed

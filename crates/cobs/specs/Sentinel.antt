@@ -3,7 +3,7 @@ use Rattle.std.specs.Prelude.{◌≡◌, ◌≢◌, ◌-◌, ℕ, List, [], ◌�
 use Rattle.std.specs.List.{slice_range}
 use Rattle.cobs.specs.Grammar.{IsEncodedFrame}
 
--- each byte changed by exclusive or with s; a frame for the sentinel s is a frame for 0 so changed, and the other way round
+-- each byte XORed with s; a frame for the sentinel s is a frame for 0 so changed, and the other way round
 abbrev pub xor_each : ℕ → List ℕ → List ℕ
 xor_each s bytes = map (λ byte. bit_xor byte s) bytes
 
@@ -19,6 +19,6 @@ IsEncodedFrameFor s f m = IsEncodedFrame (xor_each s f) m
 abbrev pub IsDelimitedFrame : List ℕ → List ℕ → Type 0
 IsDelimitedFrame bytes m = (f : List ℕ) × IsEncodedFrame f m × (bytes ≡ 0 ∷ f ++ 0 ∷ [])
 
--- what stands between the first byte of a list and its last
+-- what is between the first byte of a list and its last
 abbrev pub between_ends : List ℕ → List ℕ
 between_ends bytes = slice_range bytes 1 (length bytes - 1)

@@ -4,7 +4,7 @@ use Rattle.std.specs.List.{slice_split}
 use Rattle.cobs.specs.Grammar.{last_of}
 use Rattle.cobs.specs.Piece.{output, is_whole}
 
--- what stands between the zeros and the ends of a list, empty stretches too
+-- what is between the zeros and the ends of a list, empty stretches too
 abbrev pub stretches : List ℕ → List (List ℕ)
 stretches t = slice_split (λ byte. byte == 0) t
 
@@ -39,7 +39,7 @@ unended t = last_of (stretches t)
 unfoldable pub first_piece : List ℕ → Option (List ℕ)
 first_piece t = first_found (filter is_nonempty (stretches t))
 
--- what stands before the first zero, or all of the stream
+-- what is before the first zero, or all of the stream
 unfoldable pub head : List ℕ → List ℕ
 head t = first_of (stretches t)
 

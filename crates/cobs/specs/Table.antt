@@ -1,4 +1,5 @@
--- The table of `DecoderState`: what each state answers to a byte, and the state after it; and what that means of a piece.
+-- The table of `DecoderState`: what each state returns to a byte, and the state after it; and what that means of a
+-- piece.
 use Rattle.std.specs.Prelude.{ℕ, zero, suc, ◌≡◌, ◌<◌, ◌-◌, ◌==◌, List, [], ◌∷◌, All, Result, Ok, Err, if◌then◌else◌}
 use Rattle.cobs.specs.Grammar.{HasNoZero, is_full}
 use Rattle.cobs.specs.Piece.{last_part, lacks, output}
@@ -6,14 +7,14 @@ use Rattle.cobs.specs.declared.dec.state.DecoderState.{DecoderState}
 use Rattle.cobs.specs.declared.dec.state.DecoderState.TheVariants.{Idle, Grab, GrabChain}
 use Rattle.cobs.specs.declared.dec.state.DecodeResult.{DecodeResult}
 use Rattle.cobs.specs.declared.dec.state.DecodeResult.TheVariants.{NoData, DataStart, DataComplete, DataContinue}
-use Rattle.cobs.specs.declared.dec.error.DecodeError.{DecodeError}
-use Rattle.cobs.specs.declared.dec.error.DecodeError.TheVariants.{InvalidFrame}
+use Rattle.cobs.specs.declared.dec.DecodeError.{DecodeError}
+use Rattle.cobs.specs.declared.dec.DecodeError.TheVariants.{InvalidFrame}
 
--- the state after a code: in a block that lacks all the bytes that the code counts
+-- the state after a code: in a block of which all the bytes that the code counts are missing
 abbrev pub opened_by : ℕ → DecoderState
 opened_by code = if code == 255 then GrabChain 254 else Grab (code - 1)
 
--- the answer
+-- the result
 abbrev pub table_answer : DecoderState → ℕ → Result DecodeResult DecodeError
 table_answer Idle byte = if byte == 0 then Ok NoData else Ok DataStart
 table_answer (Grab (suc left)) byte = if byte == 0 then Err (InvalidFrame 0) else Ok (DataContinue byte)
@@ -29,7 +30,7 @@ table_state (GrabChain (suc left)) byte = if byte == 0 then Idle else GrabChain 
 table_state (Grab zero) byte = if byte == 0 then Idle else opened_by byte
 table_state (GrabChain zero) byte = if byte == 0 then Idle else opened_by byte
 
--- the bytes of the message that an answer gives
+-- the bytes of the message that a result gives
 abbrev pub data_of : Result DecodeResult DecodeError → List ℕ
 data_of (Ok NoData) = []
 data_of (Ok DataStart) = []
@@ -37,14 +38,14 @@ data_of (Ok DataComplete) = []
 data_of (Ok (DataContinue byte)) = byte ∷ []
 data_of (Err error) = []
 
--- the state after the front p of a piece: in its last part, full or not, which lacks so many bytes
+-- the state after the front p of a piece: in its last part, full or not, of which this many bytes are missing
 abbrev pub state_after : List ℕ → DecoderState
 state_after [] = Idle
 state_after (byte ∷ bytes) =
     let part = last_part (byte ∷ bytes) in
     if is_full part then GrabChain (lacks part) else Grab (lacks part)
 
--- the state has taken the front p of a piece, and these are the bytes that its answers gave so far: what p decodes to
+-- the state has taken the front p of a piece, and these are the bytes that its results gave so far: what p decodes to
 pub record StateAfter (state : DecoderState) (p so_far : List ℕ) : Type 0 where
   pub piece : HasNoZero p
   pub bytes : All (λ byte. byte < 256) p

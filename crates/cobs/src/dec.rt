@@ -1,40 +1,37 @@
 //! Decoding: from frames to messages.
-ghost use Rattle.std.specs.Prelude.{◌≡◌, ◌↔◌, ◌<◌, ◌≤◌, List, length, ℕ};
+ghost use Rattle.std.specs.Prelude.{◌≡◌, ◌<◌, ◌≤◌, List, length, ℕ};
 ghost use Rattle.cobs.specs.Overwritten.{overwritten};
 ghost use Rattle.cobs.specs.Decode.{decode_answer, first_output, sized};
 ghost use Rattle.cobs.specs.Grammar.{Reads};
 ghost use Rattle.cobs.specs.Headline.{IsPiece, ReportsMessage};
 ghost use Rattle.cobs.specs.Piece.{output};
 ghost use Rattle.cobs.specs.Stream.{head, outcome_of};
+ghost use Rattle.cobs.specs.Fields.Report.{frame_size_of, parsed_size_of, report_of};
 
 mod blocks;
-mod borrowed;
-mod error;
+mod buffered;
 mod forms;
 mod frame_decoder;
 mod front;
 mod heapless;
 mod in_place;
-mod owned;
 mod piece;
-mod report;
-mod runs;
 mod state;
 mod unbuffered;
 
 pub use blocks::{FrameKind, frame_kind};
-pub use borrowed::CobsDecoder;
-pub use error::{DecodeError, DecodeVecError, PushError};
+pub use buffered::{CobsDecoder, CobsDecoderOwned};
 pub use forms::{decode_vec, decode_vec_with_sentinel, decode_with_sentinel};
 pub(crate) use frame_decoder::piece_end;
 pub use frame_decoder::{FrameDecoder, PieceEnd, WriteBuffer};
 use front::decode_front;
 pub use heapless::CobsDecoderHeapless;
 pub use in_place::{decode_in_place, decode_in_place_report, decode_in_place_with_sentinel};
-pub use owned::CobsDecoderOwned;
-use piece::{copy_short, decode_copied, finish_piece, leading_zeros, piece_len};
-pub use report::{DecodeReport, DecodingResult};
+use piece::{copy_short, decode_copied, finish_piece, leading_zeros};
+use serde::{Deserialize, Serialize};
 pub use state::{DecodeResult, DecoderState};
+use std::alloc::AllocError;
+use thiserror::Error;
 pub use unbuffered::{DecoderPhase, UnbufferedDecoder};
 
 // The lengths at which another way takes over. Up to 64 bytes (`WIDE_WINDOW`) each call has a way of its own.
@@ -42,16 +39,12 @@ pub use unbuffered::{DecoderPhase, UnbufferedDecoder};
 /// So few bytes are pushed by a step each: a run takes some 130 instructions, however short it is.
 const FEW: usize = 4;
 
-/// A source of up to so many bytes is searched and copied as a whole; a longer one is decoded in one pass, which takes
-/// 0.4 instructions a byte if it has no zeros.
-const SHORT: usize = 96;
-
-/// So many bytes at least are decoded by windows, and are worth a search for the end of their piece: of a telemetry stream
-/// `push` takes 4.9 instructions a byte so, and 7.0 in chunks of 64 bytes.
+/// At least this many bytes are decoded by windows, and are worth a search for the end of their piece: of a telemetry
+/// stream `push` takes 4.9 instructions a byte so, and 7.0 in chunks of 64 bytes.
 const MANY: usize = 128;
 
-/// If no zero is found in so many bytes, it is sought while they are decoded. For pieces of 70 to 600 bytes the search by
-/// itself is faster.
+/// If no zero is found in this many bytes, it is searched for while they are decoded. For pieces of 70 to 600 bytes the
+/// search by itself is faster.
 const LONG: usize = 1024;
 
 /// Decodes what a source has in front of its first zero, where that begins with a code; returns how many bytes that is,
@@ -66,29 +59,28 @@ fn decode_begun(source: &[u8], dest: &mut [u8]) -> (usize, Result<usize, DecodeE
     if copy_short(source, dest) {
         return (source.len(), decode_copied(source, dest));
     }
-    let front = decode_front(source, dest);
-    let len = front.read + piece_len(&source[front.read..]);
+    let (front, len) = decode_front(source, dest);
     (
         len,
         finish_piece(&source[..len], dest, front.read, front.written),
     )
 }
 
-/// Decodes the first frame of the source into `dest`, and answers how many bytes were consumed and how many the
+/// Decodes the first frame of the source into `dest`, and returns how many bytes were consumed and how many the
 /// message has.
 ///
-/// Zeros in front of the frame are skipped. The frame ends at the next zero or with the source, and what stands after
+/// Zeros in front of the frame are skipped. The frame ends at the next zero or with the source, and what is after
 /// that zero isn't read. The first `frame_size` bytes of `dest` are the message, and the others are as they were.
 /// `parsed_size` counts the skipped zeros, the frame, and the zero after it where there is one.
 ///
 /// # Errors
 ///
-/// - `EmptyFrame` where the source is empty, and `InvalidFrame` with 0 where it has zeros alone; `dest` is as it was.
+/// - `EmptyFrame` if the source is empty, and `InvalidFrame` with 0 if it has only zeros; `dest` is as it was.
 /// - `TargetBufTooSmall` where `dest` is shorter than what the frame decodes to; it then holds the first bytes of that.
-/// - `InvalidFrame` where the frame breaks off inside a block: `dest` begins with what was decoded, the bytes of the
+/// - `InvalidFrame` if the frame breaks off inside a block: `dest` begins with what was decoded, the bytes of the
 ///   broken block included, `decoded_bytes` says how many these are, and the others are as they were.
 ///
-/// The format is that of Cheshire and Baker's paper; how a broken frame is answered is a choice of this library.
+/// The format is that of Cheshire and Baker's paper; what a broken frame returns is a choice of this library.
 ///
 /// ```
 /// let mut dest = [170; 12];
@@ -105,8 +97,10 @@ fn decode_begun(source: &[u8], dest: &mut [u8]) -> (usize, Result<usize, DecodeE
 pub fn decode(source: &[u8], dest: &mut [u8]) -> Result<DecodeReport, DecodeError>
     ensures answer { result ≡ decode_answer source.now (length dest.old) }
     ensures buffer { dest.new ≡ overwritten dest.old (first_output source.now) }
-    ensures reads { IsPiece source.now → (m : List ℕ)
-        → (ReportsMessage result dest.new m ↔ (Reads source.now m × (length m ≤ length dest.old))) }
+    ensures reads { (m : List ℕ) → Reads source.now m → length m ≤ length dest.old
+        → ReportsMessage result dest.new m }
+    ensures only { IsPiece source.now → (m : List ℕ) → ReportsMessage result dest.new m
+        → Reads source.now m × (length m ≤ length dest.old) }
 {
     if source.is_empty() {
         return Err(DecodeError::EmptyFrame);
@@ -122,3 +116,130 @@ pub fn decode(source: &[u8], dest: &mut [u8]) -> Result<DecodeReport, DecodeErro
     let parsed_size = if end < source.len() { end + 1 } else { end };
     Ok(DecodeReport::new(parsed_size, frame_size))
 }
+
+/// Why a frame is rejected. The names are those of the crate `cobs`.
+///
+/// ```
+/// assert_eq!(rt; decode(&[], &mut [0; 4]), Err(DecodeError::EmptyFrame));
+/// assert_eq!(rt;
+///     decode(&[3, 1, 2], &mut [0; 1]),
+///     Err(DecodeError::TargetBufTooSmall)
+/// );
+/// ```
+#[derive(Debug, Drop, PartialEq, Eq, Error, Serialize, Deserialize)]
+pub enum DecodeError {
+    /// There was no byte to decode.
+    #[error("empty input frame")]
+    EmptyFrame,
+
+    /// The frame breaks off inside a block, or no frame is there.
+    #[error("frame with invalid format, written {decoded_bytes} to decoded buffer")]
+    InvalidFrame {
+        /// How many decoded bytes are at the front of the buffer.
+        decoded_bytes: usize,
+    },
+
+    /// The buffer is shorter than what the frame decodes to.
+    #[error("target buffer too small")]
+    TargetBufTooSmall,
+}
+
+/// Why a `push` of a streaming decoder found no message, and after how many bytes. (A choice of this library.)
+///
+/// The decoder has taken these bytes and none after them, so the caller goes on by pushing the others.
+///
+/// ```
+/// let mut buffer = [0; 4];
+/// let mut decoder = CobsDecoder::new(&mut buffer);
+/// let refused = PushError {
+///     error: DecodeError::InvalidFrame { decoded_bytes: 1 },
+///     parsed_size: 3,
+/// };
+/// assert_eq!(rt; decoder.push(&[3, 7, 0, 2, 9, 0]), Err(refused));
+/// ```
+#[derive(Debug, Drop, PartialEq, Eq, Error)]
+#[error("{error}")]
+pub struct PushError {
+    /// The result for the last byte that was consumed.
+    pub error: DecodeError,
+
+    /// How many bytes were consumed, the one that raised the error included.
+    pub parsed_size: usize,
+}
+
+/// Why a source gave no vector. (A choice of this library: memory may run out, and nothing aborts.)
+///
+/// ```
+/// let refused = decode_vec(alloc, &[]);
+/// assert_eq!(rt;
+///     refused,
+///     Err(DecodeVecError::Decode(DecodeError::EmptyFrame))
+/// );
+/// ```
+#[derive(Debug, Drop, PartialEq, Eq, Error)]
+pub enum DecodeVecError {
+    /// The source has no message.
+    #[error("{0}")]
+    Decode(DecodeError),
+
+    /// There was no memory for the vector.
+    #[error("out of memory")]
+    Memory(AllocError),
+}
+
+/// The sizes of a decoded message: how many bytes were consumed for it, and how many it has. The names are those of the
+/// crate `cobs`.
+///
+/// ```
+/// let report = decode(&[0, 3, 1, 2, 0, 1], &mut [0; 4])?;
+/// assert_eq!(rt; report.parsed_size(), 5);
+/// assert_eq!(rt; report.frame_size(), 2);
+/// ```
+#[derive(Clone, Copy, Debug, PartialEq, Eq, Serialize, Deserialize)]
+pub struct DecodeReport {
+    pub(crate) parsed_size: usize,
+    pub(crate) frame_size: usize,
+}
+
+impl DecodeReport {
+    /// The report of these sizes.
+    pub(crate) fn new(parsed_size: usize, frame_size: usize) -> Self
+        ensures { result ≡ report_of parsed_size frame_size }
+    {
+        DecodeReport {
+            parsed_size,
+            frame_size,
+        }
+    }
+
+    /// Returns how many bytes of the source were consumed. The call that made the report says whether leading sentinels
+    /// and the one after the frame are among them.
+    ///
+    /// ```
+    /// assert_eq!(rt; decode(&[0, 1, 0], &mut [])?.parsed_size(), 3);
+    /// ```
+    pub fn parsed_size(&self) -> usize
+        ensures size { result ≡ parsed_size_of self.now }
+    {
+        self.parsed_size
+    }
+
+    /// Returns how many bytes the message has; they are at the front of the buffer.
+    ///
+    /// ```
+    /// assert_eq!(rt; decode(&[0, 2, 7], &mut [0; 4])?.frame_size(), 1);
+    /// ```
+    pub fn frame_size(&self) -> usize
+        ensures size { result ≡ frame_size_of self.now }
+    {
+        self.frame_size
+    }
+}
+
+/// The name that [`DecodeReport`] had. It is deprecated since version 0.5.0: use `DecodeReport`.
+///
+/// ```
+/// let report: DecodingResult = decode(&[2, 7, 0], &mut [0; 4])?;
+/// assert_eq!(rt; report.parsed_size(), 3);
+/// ```
+pub type DecodingResult = DecodeReport;

@@ -14,7 +14,7 @@ mod vector;
 
 use crate::window::WINDOW;
 pub(crate) use blocks::FULL_CODE;
-use blocks::{Progress, append, append_short, close};
+use blocks::{append_short, append_windows, close, close_runs, is_short};
 pub use encoder::CobsEncoder;
 pub use error::DestBufTooSmallError;
 use room::fits_any;
@@ -27,9 +27,9 @@ pub use state::{EncoderState, PushResult};
 pub use unbuffered::{EncoderProgress, UnbufferedEncoder};
 pub use vector::{encode_vec, encode_vec_including_sentinels, encode_vec_with_sentinel};
 
-/// Writes the encoded frame of `source` to the front of `dest`, and answers its length in bytes.
+/// Writes the encoded frame of `source` to the front of `dest`, and returns its length in bytes.
 ///
-/// A frame is made of blocks, as Cheshire and Baker's paper has them. Where the message's last run of nonzero bytes
+/// A frame is made of blocks, as Cheshire and Baker's paper has them. If the message's last run of nonzero bytes
 /// has a positive length divisible by 254, two frames stand for the message, one of them with a `1` more at its end:
 /// this writes the shorter one, which is a choice of ours. No byte of the frame is the sentinel 0, and no sentinel is
 /// written. The bytes of `dest` after the frame stay as they were.
@@ -51,8 +51,8 @@ pub fn encode(source: &[u8], dest: &mut [u8]) -> usize
     ensures rest { drop result dest.new ≡ drop result dest.old }
 {
     if 0 < source.len() && source.len() <= WINDOW {
-        let mut progress = Progress::new();
-        append_short(source, dest, &mut progress, false);
+        let start = EncoderProgress::start();
+        let progress = append_short(source, dest, start, false);
         return close(dest, progress);
     }
     encode_long(source, dest)
@@ -67,15 +67,34 @@ fn encode_long(source: &[u8], dest: &mut [u8]) -> usize
     ensures len { result ≡ encoded_len source.now }
     ensures rest { drop result dest.new ≡ drop result dest.old }
 {
-    let mut progress = Progress::new();
-    append(source, dest, &mut progress);
+    let start = EncoderProgress::start();
+    if source.len() <= WINDOW {
+        return close_runs(source, dest, start);
+    }
+    let (read, progress) = append_windows(source, dest, start);
+    let left = &source[read..];
+    if !is_short(progress, left.len()) {
+        // Anew from its fields, so that the short way keeps them in registers.
+        let EncoderProgress {
+            index,
+            code,
+            is_full,
+        } = progress;
+        let behind = EncoderProgress {
+            index,
+            code,
+            is_full,
+        };
+        return close_runs(left, dest, behind);
+    }
+    let progress = append_short(left, dest, progress, false);
     close(dest, progress)
 }
 
-/// Does what [`encode`] does, where the frame fits `dest`.
+/// Does what [`encode`] does, if the frame fits `dest`.
 ///
 /// # Errors
-/// `DestBufTooSmallError` exactly where the frame is longer than `dest`. Then no byte of `dest` has changed, which is a
+/// `DestBufTooSmallError` exactly if the frame is longer than `dest`. Then no byte of `dest` has changed, which is a
 /// choice of this library.
 ///
 /// ```

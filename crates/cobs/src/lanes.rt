@@ -1,8 +1,9 @@
 //! Stretches of bytes of other lengths than a window's: copied up to a zero, copied or moved if none is a zero or a
-//! sentinel, and moved within one buffer, where the places may overlap. All of a part is loaded before any of it is stored.
+//! sentinel, and moved within one buffer, where the places may overlap. All of a part is loaded before any of it is
+//! stored.
 //!
-//! `copy_to_zero` is for chunks of 64 bytes of a stream, `copy_xored_short` and `move_nonzero_short` are for messages of
-//! up to 64 bytes, as telemetry has, and `move_to_front` is for long ones in place.
+//! `copy_to_zero` is for chunks of 64 bytes of a stream, `copy_xored_short` and `move_nonzero_short` are for messages
+//! of up to 64 bytes, as telemetry has, and `move_to_front` is for long ones in place.
 ghost use Rattle.std.specs.Prelude.{◌≡◌, ◌<◌, ◌≤◌, ◌+◌, ◌++◌, length, take, drop, IsTrue, false};
 ghost use Rattle.cobs.specs.Grammar.{HasNoZero};
 ghost use Rattle.cobs.specs.Sentinel.{xor_each};
@@ -31,7 +32,7 @@ fn copy_first(window: &[u8], len: usize, dest: &mut [u8], at: usize)
         .copy_to_slice(&mut dest[at..]);
 }
 
-/// Copies the first of 32 bytes, up to a zero, and answers how many.
+/// Copies the first of 32 bytes, up to a zero, and returns how many.
 #[inline(always)]
 fn copy_window_to_zero(window: &[u8], dest: &mut [u8], at: usize) -> usize
     requires source { 32 ≤ length window.now }
@@ -46,7 +47,7 @@ fn copy_window_to_zero(window: &[u8], dest: &mut [u8], at: usize) -> usize
     len
 }
 
-/// Copies the first of 64 bytes, up to a zero, and answers how many.
+/// Copies the first of 64 bytes, up to a zero, and returns how many.
 #[inline(always)]
 fn copy_wide_to_zero(wide: &[u8], dest: &mut [u8], at: usize) -> usize
     requires source { 64 ≤ length wide.now }
@@ -63,7 +64,7 @@ fn copy_wide_to_zero(wide: &[u8], dest: &mut [u8], at: usize) -> usize
     WINDOW + copy_window_to_zero(&wide[WINDOW..], dest, at + WINDOW)
 }
 
-/// Copies the first of fewer than 32 bytes, up to a zero, and answers how many.
+/// Copies the first of fewer than 32 bytes, up to a zero, and returns how many.
 fn copy_few_to_zero(few: &[u8], dest: &mut [u8], at: usize) -> usize
     requires some { 0 < length few.now }
     requires few { length few.now ≤ 32 }
@@ -80,7 +81,7 @@ fn copy_few_to_zero(few: &[u8], dest: &mut [u8], at: usize) -> usize
     len
 }
 
-/// Copies the first bytes of a chunk, up to a zero: up to 64 of them, or up to 32 of a shorter chunk; and answers how
+/// Copies the first bytes of a chunk, up to a zero: up to 64 of them, or up to 32 of a shorter chunk; and returns how
 /// many.
 #[inline(always)]
 pub(crate) fn copy_to_zero(chunk: &[u8], dest: &mut [u8], at: usize) -> usize

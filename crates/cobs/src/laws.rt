@@ -1,6 +1,6 @@
 //! What holds of messages, frames, pieces and streams. These functions do nothing when they run: their contracts are
-//! the laws, and a caller who calls one may use it in its own proof. Each has such a caller as its example; `reads_as` in
-//! some of them is the one of CALLING.md.
+//! the laws, and a caller who calls one may use it in its own proof. Each has such a caller as its example; `reads_as`
+//! in some of them is the one of CALLING.md.
 //!
 //! ```
 //! fn encode_by_longest(source: &[u8], dest: &mut [u8]) -> usize
@@ -11,7 +11,7 @@
 //!     encode(source, dest)
 //! }
 //! ```
-ghost use Rattle.std.specs.Prelude.{◌≡◌, ◌≢◌, ◌↔◌, ◌<◌, ◌≤◌, ◌+◌, ℕ, List, [], ◌∷◌, ◌++◌, length, take, drop, slice_index, All};
+ghost use Rattle.std.specs.Prelude.{◌≡◌, ◌≢◌, ◌↔◌, ◌<◌, ◌≤◌, ◌+◌, ℕ, List, [], ◌∷◌, ◌++◌, length, take, drop, slice_index, All, Some, None};
 ghost use Rattle.cobs.specs.Decode.{leading_zeros};
 ghost use Rattle.cobs.specs.Feed.{DecoderAfter, Idle, Phase};
 ghost use Rattle.cobs.specs.Grammar.{HasNoZero, IsEncodedFrame, IsFrame, IsOpenFrame, Reads, joint, last_of, lone_block};
@@ -19,14 +19,21 @@ ghost use Rattle.cobs.specs.Laws.{EndsAtBlock, IsAtSentinel, IsFrameFor, IsFront
 ghost use Rattle.cobs.specs.Length.{EndsInFullRun, encoded_len, max_encoded_len};
 ghost use Rattle.cobs.specs.OpenBlock.{CobsEncoderAfter, IsOpenOutput, OpenBlock, Reached, end_of};
 ghost use Rattle.cobs.specs.Piece.{IsWhole, output};
+ghost use Rattle.cobs.specs.Push.{last_piece};
 ghost use Rattle.cobs.specs.Sentinel.{IsFreeOf, xor_each};
 ghost use Rattle.cobs.specs.Stream.{Message, first_piece, head, outcome_of, stream_outcomes, unended};
 
-/// A frame reads as its output: a list of bytes reads as a message exactly where it isn't empty, has no zero, its last
-/// block has all the bytes that its code counts, and the message is what it decodes to. No output is longer than its
+mod blocks;
+mod coders;
+
+pub use blocks::{law_19, law_20};
+pub use coders::{law_15, law_16, law_17, law_18};
+
+/// A frame reads as its output: bytes read as a message exactly if there are some, none is a zero, their last
+/// block has all the bytes that its code counts, and the message is what they decode to. No output is longer than its
 /// piece, and with one more byte of the piece it gets no shorter.
 ///
-/// So whether a list is a frame, and of what, can be told by cutting it at its codes. Each decoder does so, and its
+/// Cutting bytes at their codes shows whether they are a frame, and of what. Each decoder does so, and its
 /// users know by this law that what it accepts are the frames and nothing else.
 ///
 /// ```
@@ -51,7 +58,7 @@ pub fn law_1()
 ///
 /// So what encoders give may be compared byte by byte, be it to find a message in a store or to check a signature, and
 /// two encoders that keep to the definition agree. Its length is that by which `try_encode` and `CobsEncoder` accept
-/// and refuse. Where the message is one of bytes, so is its frame.
+/// and an error. If the message is one of bytes, so is its frame.
 ///
 /// ```
 /// fn encode_again(message: &[u8], frame: &[u8], dest: &mut [u8]) -> usize
@@ -71,10 +78,10 @@ pub fn law_2()
         → All (λ byte. byte < 256) f }
 {}
 
-/// All frames of a message: the encoded one and, only where the message ends in a full run, that one followed by 01.
+/// All frames of a message: the encoded one and, only if the message ends in a full run, that one followed by 01.
 ///
 /// The second is one byte longer. A receiver that wants one frame a message, as a request protocol that compares
-/// frames, refuses just this second one; [`frame_kind`](crate::frame_kind) tells them apart.
+/// frames, rejects just this second one; [`frame_kind`](crate::frame_kind) distinguishes them.
 ///
 /// ```
 /// fn is_frame_for(piece: &[u8], message: &[u8], buffer: &mut [u8]) -> bool
@@ -91,7 +98,7 @@ pub fn law_3()
         → length (f ++ lone_block) ≡ encoded_len m + 1 }
 {}
 
-/// The bounds of an encoded frame's length: it is longer than its message, and at most as long as
+/// Bounds an encoded frame's length: it is longer than its message, and at most as long as
 /// [`max_encoding_length`](crate::max_encoding_length) says. A message without zeros reaches that bound, so each
 /// length of a message does. With more bytes a message's frame gets no shorter.
 ///
@@ -134,10 +141,11 @@ pub fn law_5()
     ensures encoded { (f g m k : List ℕ) → IsEncodedFrame f m → IsEncodedFrame g k → f ≡ g → m ≡ k }
 {}
 
-/// No byte of a frame for a sentinel is that sentinel, and a second exclusive or gives the frame for 0 back.
+/// No byte of a frame for a sentinel is that sentinel, and a second XOR gives the frame for 0 back.
 ///
-/// This is what COBS is for: whoever puts the sentinel between frames can find their ends by it alone. `free` is said of
-/// a frame that is sent, `received` of one that has come.
+/// This is what COBS is for: whoever puts the sentinel between frames can find their ends by looking for it. `free` is
+/// said of a frame that is sent, `received` of one that has come. Bytes without the sentinel have no zero after the
+/// XOR, and an XOR with 0 changes nothing.
 ///
 /// ```
 /// fn change_sentinel(frame: &mut [u8], sentinel: u8)
@@ -154,9 +162,11 @@ pub fn law_6()
     ensures free { (f : List ℕ) (s : ℕ) → IsFrame f → All (λ byte. byte ≢ s) (xor_each s f) }
     ensures received { (f : List ℕ) (s : ℕ) → IsFrame (xor_each s f) → IsFreeOf s f }
     ensures back { (f : List ℕ) (s : ℕ) → xor_each s (xor_each s f) ≡ f }
+    ensures coded { (f : List ℕ) (s : ℕ) → IsFreeOf s f → HasNoZero (xor_each s f) }
+    ensures zero { (f : List ℕ) → xor_each 0 f ≡ f }
 {}
 
-/// A front of a frame, unless it is empty, is a frame exactly where it ends at a block's end, and its message is then a
+/// A front of a frame, unless it is empty, is a frame exactly if it ends at a block's end, and its message is then a
 /// front of the frame's message.
 ///
 /// So a frame that was cut short, as by a lost link, is noticed unless the cut fell between two blocks, and then what
@@ -181,8 +191,8 @@ pub fn law_7()
 /// Frames joined without a sentinel read as their messages joined, with a zero between them unless the first frame ends
 /// in a full block.
 ///
-/// So a sentinel that was lost between two frames makes them one message, which a receiver can't tell from one that
-/// was sent so: what must be told apart needs a check of its own in the message.
+/// So a sentinel that was lost between two frames makes them one message, which a receiver can't distinguish from one
+/// that was sent so: to notice it, put a check of your own into the message.
 ///
 /// ```
 /// fn join(alloc: Global, first: &[u8], second: &[u8]) -> Result<Vec<u8>, AllocError>
@@ -234,7 +244,7 @@ pub fn law_9()
 {}
 
 /// Damage between two sentinels stays between them: what is changed, lost or added there, sentinels too, leaves the
-/// outcomes before the first and after the second as they are. Where no sentinel stands between them, one piece
+/// outcomes before the first and after the second as they are. If no sentinel is between them, one piece
 /// does, with one outcome; two sentinels side by side have none between them.
 ///
 /// So a receiver of a noisy link, or a reader of a damaged file of records, loses no message but those that the damage
@@ -285,11 +295,14 @@ pub fn law_11()
         → outcome_of f n ≡ Message m }
 {}
 
-/// In a stream that begins with a nonzero byte the first piece is what stands before the first zero, and, in a buffer
-/// of the stream's length, it comes to a message exactly where it reads as that message. Zeros before the first piece
-/// are skipped. What stands before the first zero is found by its end.
+/// In a stream that begins with a nonzero byte the first piece is the bytes before the first zero, and, in a buffer
+/// of the stream's length, it comes to a message exactly if it reads as that message. Zeros before the first piece
+/// are skipped: behind them the first piece ends where the next zero is, and if nothing is behind them, there is none.
+/// What is before the first zero, or before the first sentinel, is found by its end. Until a piece has ended, the last
+/// piece is what is left unended, and it still is once a zero has ended it.
 ///
-/// So `decode`, into a buffer as long as its source, and `decode_in_place` both refuse, or both give the same message.
+/// So `decode`, into a buffer as long as its source, and `decode_in_place` both return an error, or both the same
+/// message.
 ///
 /// ```
 /// fn begins_with_piece(stream: &[u8]) -> bool
@@ -311,6 +324,16 @@ pub fn law_12()
     ensures behind { (t : List ℕ) → first_piece t ≡ first_piece (drop (leading_zeros t) t) }
     ensures head { (t : List ℕ) (n : ℕ) → n ≤ length t → HasNoZero (take n t)
         → (n < length t → slice_index t n ≡ 0) → take n t ≡ head t }
+    ensures head_for { (t : List ℕ) (n s : ℕ) → n ≤ length t → IsFreeOf s (take n t)
+        → (n < length t → slice_index t n ≡ s) → xor_each s (take n t) ≡ head (xor_each s t) }
+    ensures found { (t : List ℕ) (n : ℕ) → let rest = drop (leading_zeros t) t in
+        0 < n → n ≤ length rest → HasNoZero (take n rest)
+        → (n < length rest → slice_index rest n ≡ 0) → first_piece t ≡ Some (take n rest) }
+    ensures none { (t : List ℕ) → let rest = drop (leading_zeros t) t in
+        (0 < length rest → slice_index rest 0 ≡ 0) → first_piece t ≡ None }
+    ensures last { (t : List ℕ) (n : ℕ) → stream_outcomes t n ≡ [] → last_piece t ≡ unended t }
+    ensures last_ended { (t : List ℕ) (n : ℕ) → stream_outcomes t n ≡ []
+        → last_piece (t ++ 0 ∷ []) ≡ unended t }
 {}
 
 /// What a streaming encoder has come to: where the frame so far ends, and how the open frame of an
@@ -340,7 +363,7 @@ pub fn law_13()
         → end_of reached ≡ encoded_len m }
 {}
 
-/// A decoder has taken nothing of a piece exactly where it is idle.
+/// A decoder has taken nothing of a piece exactly if it is idle.
 ///
 /// So a decoder that a zero has left idle is one that [`FrameReader::new`](crate::FrameReader::new) accepts, and a new
 /// one is one that reads a frame and its zero by `push`.

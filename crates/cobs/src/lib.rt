@@ -1,11 +1,12 @@
 //! Consistent Overhead Byte Stuffing (COBS), after the crate `cobs` 0.5.1.
 //!
-//! COBS turns a message, any list of bytes, into a frame without zeros. A zero, the sentinel, then marks where frames
-//! end on a serial line, in a stream or in a file, and after damage a receiver finds the next frame at the next zero.
-//! A frame is a list of blocks: a code, which says how many bytes the block has with the code itself, and the nonzero
-//! bytes that it counts. Between two blocks stands a zero of the message, unless the first is a full block, with the
-//! code 255. So a frame is one byte longer than its message, and one more for each 254 bytes at most. The format is
-//! that of the paper "Consistent Overhead Byte Stuffing" by Stuart Cheshire and Mary Baker.
+//! COBS turns a message, any bytes, into a frame that never contains one byte value, the sentinel, usually 0. So the
+//! sentinel can mark where frames end on a serial line, in a stream or in a file, and after damage a receiver finds the
+//! next frame at the next sentinel. A frame is a list of blocks: a code, which counts the block's bytes including
+//! itself, and nonzero bytes. Between two blocks is a zero of the message, unless the first is a full block, with the
+//! code 255. So a frame is one byte longer than a message of up to 254 bytes, and at most one more for each 254 bytes,
+//! or part, beyond. The format is that of the paper "Consistent Overhead Byte Stuffing" by Stuart Cheshire and Mary
+//! Baker.
 //!
 //! A message, there and back:
 //!
@@ -39,21 +40,21 @@
 //!
 //! # Which call for what
 //!
-//! - A message at hand: [`encode`] into a slice with room, [`try_encode`] where it may lack, [`encode_vec`] into a
-//!   vector. The forms `.._with_sentinel` take another sentinel than 0, and the forms `.._including_sentinels` write
-//!   one on each side.
-//! - A message that comes in pieces: [`CobsEncoder`] over a slice, [`UnbufferedEncoder`] where the buffer is passed to
-//!   each call, [`EncoderState`] into a container of your own.
-//! - A frame at hand: [`decode`] into a slice, [`decode_vec`] into a vector, [`decode_in_place`] where it lies.
-//! - Frames that come from a line: [`CobsDecoder`] over a slice, [`CobsDecoderOwned`] over memory that is taken once,
-//!   [`CobsDecoderHeapless`] with its buffer inside, [`UnbufferedDecoder`] where the buffer is passed to each call,
+//! - A whole message: [`encode`] into a slice with room, [`try_encode`] if it may not fit, [`encode_vec`] into a
+//!   vector. The forms `.._with_sentinel` use another sentinel than 0, and the forms `.._including_sentinels` write a
+//!   sentinel on each side.
+//! - A message that comes in pieces: [`CobsEncoder`] over a slice, [`UnbufferedEncoder`] with a buffer that is passed
+//!   to each call, [`EncoderState`] into a container of your own.
+//! - A whole frame: [`decode`] into a slice, [`decode_vec`] into a vector, [`decode_in_place`] in its own buffer.
+//! - Frames from a line: [`CobsDecoder`] over a slice, [`CobsDecoderOwned`] over a vector that is allocated once,
+//!   [`CobsDecoderHeapless`] with its buffer inside, [`UnbufferedDecoder`] with a buffer that is passed to each call,
 //!   [`DecoderState`] into a container of your own. [`FrameReader`] reads them from any reader.
 //! - A recorded stream: [`decode_stream`], and [`encode_frames`] to make one.
 //! - The size of a buffer: [`max_encoding_length`]. Whether bytes are a frame: [`frame_kind`].
 //! - A fact to cite in a proof of your own: [`laws`].
 //!
-//! A call that takes memory is passed an allocator first and answers a `Result`. Each call is proved to meet its
-//! contract, to be safe and to end. In the examples `rt` is the argument of `main`, and `alloc` is `rt.alloc()`.
+//! A call that allocates takes an allocator first and returns a `Result`. Each call is proved to meet its contract, to
+//! be safe and to end. In the examples `rt` is the argument of `main`, and `alloc` is `rt.alloc()`.
 #![tactic(auto)]
 
 ghost use Rattle.std.specs.Prelude.{◌≡◌, ◌<◌, ◌^◌};
@@ -83,10 +84,10 @@ pub use enc::{
 pub use framed::{FrameReader, FrameSource, Next, ReadFault, Recorded};
 pub use stream::{FrameOutcome, decode_stream, encode_frames, encode_frames_room};
 
-/// How many bytes longer than its message an encoded frame is at most, for a message of `source_len` bytes.
+/// Returns how many bytes longer than its message an encoded frame is at most, for a message of `source_len` bytes.
 ///
 /// This is `source_len / 254` rounded up, and 1 for the empty message: each block of 254 bytes has a code of its own,
-/// and a frame has at least one block. A message without zeros reaches it. Sentinels round the frame aren't counted.
+/// and a frame has at least one block. A message without zeros reaches it. Sentinels around the frame aren't counted.
 /// The bound is that of the paper by Cheshire and Baker.
 ///
 /// ```
@@ -103,8 +104,8 @@ pub fn max_encoding_overhead(source_len: usize) -> usize
     source_len.div_ceil(254)
 }
 
-/// How many bytes the longest encoded frame of a message of `source_len` bytes has, sentinels not counted: a buffer of
-/// this length has room for each message of that length.
+/// Returns the length of the longest encoded frame of a message of `source_len` bytes, without sentinels: a buffer of
+/// this length has room for the frame of each such message.
 ///
 /// Precondition: this number fits a `usize`, as it does for each `source_len` up to `isize::MAX`.
 ///

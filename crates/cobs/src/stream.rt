@@ -1,9 +1,9 @@
 //! Whole streams: the outcomes of all pieces that end in some bytes, and frames one after another.
 //!
-//! A stream is cut at its zeros. What stands between two of them is a piece, and each nonempty piece is judged by
+//! A stream is cut at its zeros. What is between two of them is a piece, and each nonempty piece is judged by
 //! itself: it is a message, or it breaks off inside a block, or it decodes to more than the buffer holds. So what
 //! is damaged in one piece is gone at the next zero. (That a zero ends each frame is Cheshire and Baker's; how broken
-//! and too long pieces are told is a choice of this library.)
+//! and too long pieces are reported is a choice of this library.)
 ghost use Rattle.std.specs.Prelude.{◌≡◌, ℕ, ◌+◌, ◌<◌, ◌≤◌, ◌^◌, List, [], ◌++◌, All, length, map, take, option_to_list, IfOk, IfSome, IsOk, IsSome, ◌↔◌, OnOk, OnErr, Contains};
 ghost use Rattle.std.specs.Option.{SomeIff};
 ghost use Rattle.cobs.specs.Feed.{DecoderAfter, PhaseAfter};
@@ -52,16 +52,16 @@ fn frame_outcome(alloc: Global, end: PieceEnd, buffer: &[u8]) -> Result<FrameOut
 /// Decodes a part of a stream: one outcome for each piece that ends in the bytes, in order.
 ///
 /// The first of these pieces may have begun before this call, and what no zero has ended yet is kept for the next
-/// one: the decoder goes on from where it stands. So a stream can be given in parts, cut anywhere, and the answers
+/// one: the decoder goes on from where it is. So a stream can be given in parts, cut anywhere, and the results
 /// joined are those of the whole stream. Leading and doubled zeros make no piece.
 ///
-/// Where the decoder's buffer was written to inside a piece, the bytes of that piece's message, the first that
+/// If the decoder's buffer was written to inside a piece, the bytes of that piece's message, the first that
 /// comes out, aren't determined; its length is, and so is everything after it.
 ///
 /// # Errors
-/// `AllocError` where memory for an outcome is refused. The outcomes are lost then, and the decoder is idle, so the
+/// `AllocError` if memory for an outcome runs out. The outcomes are lost then, and the decoder is idle, so the
 /// next byte begins a new piece. Memory is taken for messages and for the list of outcomes alone: where no piece
-/// ends, the answer is `Ok`.
+/// ends, the result is `Ok`.
 ///
 /// ```
 /// let mut buffer = [0; 4];
@@ -88,7 +88,7 @@ pub fn decode_stream<D: FrameDecoder>(
         → PhaseAfter (length (D.bytes decoder.old)) (D.phase decoder.old) p
         → stream_outcomes (p ++ bytes.now) (length (D.bytes decoder.old)) ≡ [] → IsOk result }
 
-    // Where the buffer was written to inside p, the same but for the bytes of the first message.
+    // If the buffer was written to inside p, the same but for the bytes of the first message.
     ensures alike { (p : List ℕ)
         → PhaseAfter (length (D.bytes decoder.old)) (D.phase decoder.old) p
         → IfOk result (λ found. AreAlikeAtFirst (outcomes_in found.items)
@@ -117,16 +117,16 @@ pub fn decode_stream<D: FrameDecoder>(
     Ok(outcomes)
 }
 
-/// The stream of some messages: the encoded frame of each one and a zero after it, in order.
+/// Makes the stream of some messages: the encoded frame of each one and a zero after it, in order.
 ///
 /// Whoever feeds these bytes to an idle decoder whose buffer holds each message gets exactly the messages back. For
 /// no messages the stream is empty.
 ///
 /// Precondition: the sum of [`max_encoding_length`](crate::max_encoding_length) plus 1 over the messages fits a
-/// `usize`, as [`encode_frames_room`] tells. Memory is asked for once, for that many bytes.
+/// `usize`, as [`encode_frames_room`] says. Memory is allocated once, for that many bytes.
 ///
 /// # Errors
-/// `AllocError` where that memory is refused.
+/// `AllocError` if that memory runs out.
 ///
 /// ```
 /// let messages = [b"hi".to_vec(alloc)?, Vec::new(alloc)];
@@ -148,7 +148,7 @@ pub fn encode_frames(alloc: Global, messages: &[Vec<u8>]) -> Result<Vec<u8>, All
     Ok(frames)
 }
 
-/// How many bytes have room for the frames of the messages and a zero after each: the sum of
+/// Returns how many bytes have room for the frames of the messages and a zero after each: the sum of
 /// [`max_encoding_length`](crate::max_encoding_length) plus 1 over the messages. `None` where that is no `usize`.
 ///
 /// This is the test for what [`encode_frames`] asks of its caller, and how many bytes that call then asks memory for.
@@ -178,7 +178,7 @@ fn room_with(room: usize, len: usize) -> Option<usize>
         .checked_add(1)
 }
 
-/// How many bytes have room for the frames of the messages and their zeros.
+/// Returns how many bytes have room for the frames of the messages and their zeros.
 fn room_for(messages: &[Vec<u8>]) -> usize
     requires { room_for_frames (messages_in messages.now) < 2 ^ 64 }
     ensures { result ≡ room_for_frames (messages_in messages.now) }
@@ -190,7 +190,7 @@ fn room_for(messages: &[Vec<u8>]) -> usize
     room
 }
 
-/// Writes the frames of the messages and their zeros to the front of `dest`, and answers their length in bytes.
+/// Writes the frames of the messages and their zeros to the front of `dest`, and returns their length in bytes.
 fn write_frames(messages: &[Vec<u8>], dest: &mut [u8]) -> usize
     requires { room_for_frames (messages_in messages.now) ≤ length dest.old }
     ensures frames { AreFrames (messages_in messages.now) (take result dest.new) }

@@ -70,7 +70,7 @@ fn zeros_of(bytes: &[u8]) -> u64
     }
 }
 
-/// Where the first zero of up to 32 bytes stands, or their number where none is a zero.
+/// The place of the first zero of up to 32 bytes, or their number if none is a zero.
 #[inline(always)]
 pub(crate) fn first_zero_of_few(bytes: &[u8]) -> usize
     requires some { 0 < length bytes.now }
@@ -82,7 +82,7 @@ pub(crate) fn first_zero_of_few(bytes: &[u8]) -> usize
     (zeros_of(bytes).trailing_zeros() as usize).min(bytes.len())
 }
 
-/// Copies the `N` bytes from `read` on, and answers which of them are zeros.
+/// Copies the `N` bytes from `read` on, and returns which of them are zeros.
 #[inline(always)]
 pub(crate) fn copy_at<const N: usize>(source: &[u8], read: usize, dest: &mut [u8], at: usize) -> u64
     requires lanes { N ≤ 64 }
@@ -120,7 +120,7 @@ fn copy_few(source: &[u8], read: usize, len: usize, dest: &mut [u8], at: usize) 
     (front == 0) as u64 | (((middle == 0) as u64) << half) | (((back == 0) as u64) << last)
 }
 
-/// Copies the `len` bytes from `read` on to `dest`, from `at` on, and answers which of them are zeros: bit `i` is set
+/// Copies the `len` bytes from `read` on to `dest`, from `at` on, and returns which of them are zeros: bit `i` is set
 /// where byte `i` of them is one. A window that isn't whole is copied as two parts that may overlap.
 #[inline(always)]
 pub(crate) fn copy_window(source: &[u8], read: usize, len: usize, dest: &mut [u8], at: usize) -> u64
@@ -203,7 +203,7 @@ pub(crate) fn copy_nonzero_two<const N: usize>(
     true
 }
 
-/// Copies the `len` bytes from `read` on, at least 64 of them, up to the first 64 of which one is a zero, and answers
+/// Copies the `len` bytes from `read` on, at least 64 of them, up to the first 64 of which one is a zero, and returns
 /// how many: in windows of 64 bytes, of which the last may overlap the one before it.
 #[inline(always)]
 pub(crate) fn copy_nonzero(

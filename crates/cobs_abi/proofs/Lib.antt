@@ -1,1 +1,7 @@
+mod BlockLemmas
+mod BlockSteps
+mod CoderLaws
+pub mod FinishLemmas
+mod PlaceLemmas
+pub mod RoomLemmas
 pub mod WritesLemmas

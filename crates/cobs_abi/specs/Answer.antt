@@ -1,25 +1,26 @@
--- The answers of the library's calls, as C sees them.
+-- The results of the library's calls, as C sees them.
 use Rattle.std.specs.Prelude.{ℕ, ◌+◌, ◌==◌, min, List, length, Option, Some, None, Result, Ok, Err, if◌then◌else◌}
 use Rattle.cobs.specs.Stream.{head}
 use Rattle.cobs.specs.declared.dec.frame_decoder.PieceEnd.{PieceEnd}
 use Rattle.cobs.specs.declared.dec.frame_decoder.PieceEnd.TheVariants.{Message, Broken, TooLong}
-use Rattle.cobs.specs.declared.dec.error.DecodeError.{DecodeError}
-use Rattle.cobs.specs.declared.dec.error.DecodeError.TheVariants.{EmptyFrame, InvalidFrame, TargetBufTooSmall}
+use Rattle.cobs.specs.declared.dec.DecodeError.{DecodeError}
+use Rattle.cobs.specs.declared.dec.DecodeError.TheVariants.{EmptyFrame, InvalidFrame, TargetBufTooSmall}
 use Rattle.cobs_abi.specs.declared.answer.Answer.{Answer}
 use Rattle.cobs_abi.specs.declared.answer.TheConstants.{OK, TOO_SMALL, BROKEN, EMPTY}
 
--- the answer of a decoding call that took so many bytes, into a buffer of n bytes, by the message's length or the refusal
+-- the result of a decoding call that took this many bytes, into a buffer of n bytes, by the message's length or the
+-- error
 abbrev pub answer_by : ℕ → ℕ → Result ℕ DecodeError → Answer
 answer_by consumed n (Ok size) = record { status = OK; consumed = consumed; length = size }
 answer_by consumed n (Err EmptyFrame) = record { status = EMPTY; consumed = consumed; length = 0 }
 answer_by consumed n (Err (InvalidFrame count)) = record { status = BROKEN; consumed = consumed; length = count }
 answer_by consumed n (Err TargetBufTooSmall) = record { status = TOO_SMALL; consumed = consumed; length = n }
 
--- how many bytes of a source stand up to its first zero, with that zero where there is one
+-- how many bytes a source has up to its first zero, with that zero if there is one
 abbrev pub head_end : List ℕ → ℕ
 head_end source = min (length source) (length (head source) + 1)
 
--- what the answer of a push tells: how a piece of the stream ended, and after how many bytes
+-- what the result of a push says: how a piece of the stream ended, and after how many bytes
 abbrev pub told : Answer → Option (PieceEnd × ℕ)
 told answer =
     if answer.status == OK then Some (Message answer.length, answer.consumed)

@@ -5,8 +5,8 @@ use Rattle.cobs_abi.specs.Frames.{IsFrameOnWire, IsFrameOnWireFor, IsTerminatedF
 use Rattle.cobs_abi.specs.declared.answer.Answer.{Answer}
 use Rattle.cobs_abi.specs.declared.answer.TheConstants.{OK, TOO_SMALL}
 
--- If `size` bytes fit the buffer, it begins with bytes of which the fact holds, so many, and the call has taken `taken`
--- bytes. Otherwise the call takes and changes nothing.
+-- If `size` bytes fit the buffer, it begins with that many bytes of which the fact holds, and the call has taken
+-- `taken` bytes. Otherwise the call takes and changes nothing.
 pub record Writes (size taken : ℕ) (IsWanted : List ℕ → Type 0) (buffer : List ℕ) (result : Answer) (buffer' : List ℕ) : Type 0 where
   pub fits : size ≤ length buffer → result ≡ record { status = OK; consumed = taken; length = size }
   pub wanted : size ≤ length buffer → IsWanted (take result.length buffer')

@@ -1,4 +1,4 @@
--- Where the coders stand whose state is C's.
+-- The coders whose state is C's.
 use Rattle.std.specs.Prelude.{ℕ, ◌+◌, ◌==◌, not, min, if◌then◌else◌}
 use Rattle.cobs.specs.Fields.Decoders.{phase_with}
 use Rattle.cobs.specs.Feed.{Phase, Idle, Within, Over}
@@ -6,7 +6,7 @@ use Rattle.cobs.specs.OpenBlock.{Reached}
 use Rattle.cobs_abi.specs.declared.decoder.Decoder.{Decoder}
 use Rattle.cobs_abi.specs.declared.encoder.Encoder.{Encoder}
 
--- where a decoder stands, whatever its numbers are
+-- where a decoder is, whatever its numbers are
 abbrev pub phase_in : Decoder → Phase
 phase_in decoder = if decoder.too_long == 0 then phase_with (decoder.joint == 0) decoder.lacking decoder.written else Over
 

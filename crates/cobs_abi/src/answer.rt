@@ -1,4 +1,4 @@
-//! What a call answers, as C sees it.
+//! What a call returns, as C sees it.
 ghost use Rattle.std.specs.Prelude.{◌≡◌};
 ghost use Rattle.cobs_abi.specs.Answer.{answer_by};
 
@@ -19,7 +19,7 @@ pub const BROKEN: u32 = 3;
 /// There is no frame.
 pub const EMPTY: u32 = 4;
 
-/// A status, how many bytes were taken, and how many bytes stand at the front of the buffer.
+/// A status, how many bytes were taken, and how many bytes are at the front of the buffer.
 #[repr(C)]
 #[derive(Clone, Copy)]
 pub struct Answer {
@@ -28,7 +28,7 @@ pub struct Answer {
     pub length: usize,
 }
 
-/// The answer of a call that did what it is for: so many bytes taken, and so many at the front of the buffer.
+/// The result of a call that did what it is for: this many bytes taken, and this many at the front of the buffer.
 pub fn done(consumed: usize, length: usize) -> Answer
     ensures { result ≡ record { status = OK; consumed = consumed; length = length } }
 {
@@ -39,7 +39,7 @@ pub fn done(consumed: usize, length: usize) -> Answer
     }
 }
 
-/// The answer of a call that took and left nothing, since the buffer is too short.
+/// The result of a call that took and left nothing, since the buffer is too short.
 pub fn too_small() -> Answer
     ensures { result ≡ record { status = TOO_SMALL; consumed = 0; length = 0 } }
 {
@@ -50,8 +50,8 @@ pub fn too_small() -> Answer
     }
 }
 
-/// The answer of a decoding call that took so many bytes, into a buffer of `room` bytes, by the message's length or the
-/// refusal.
+/// The result of a decoding call that took this many bytes, into a buffer of `room` bytes, by the message's length or
+/// the error.
 pub fn answer_by(consumed: usize, room: usize, size: Result<usize, DecodeError>) -> Answer
     ensures { result ≡ answer_by consumed room size }
 {

@@ -1,11 +1,12 @@
-//! Where a streaming decoder stands whose state is C's.
-ghost use Rattle.std.specs.Prelude.{◌≡◌};
+//! A streaming decoder whose state is C's.
+ghost use Rattle.std.specs.Prelude.{◌≡◌, ◌↔◌, IsTrue};
+ghost use Rattle.cobs.specs.Feed.{Idle};
 ghost use Rattle.cobs.specs.Fields.Decoders.{phase_at};
 ghost use Rattle.cobs_abi.specs.State.{held, phase_in};
 
 use cobs::DecoderPhase;
 
-/// Where a decoder stands. Each number may be any: zeros alone are the start.
+/// A decoder's state. Each number may be any: zeros alone are the start.
 #[repr(C)]
 #[derive(Clone, Copy)]
 pub struct Decoder {
@@ -15,8 +16,16 @@ pub struct Decoder {
     pub too_long: u8,
 }
 
+/// A decoder that has taken nothing.
+pub const DECODER_START: Decoder = Decoder {
+    written: 0,
+    lacking: 0,
+    joint: 0,
+    too_long: 0,
+};
+
 impl Decoder {
-    /// Makes the numbers of a decoder that stands there.
+    /// Makes the numbers of a decoder in this phase.
     pub fn at(phase: DecoderPhase) -> Self
         ensures { phase_in result ≡ phase_at phase }
     {
@@ -37,7 +46,7 @@ impl Decoder {
         }
     }
 
-    /// Returns where a decoder with these numbers stands.
+    /// Returns the phase of a decoder with these numbers.
     pub fn phase(&self) -> DecoderPhase
         ensures { phase_at result ≡ phase_in self.now }
     {
@@ -49,6 +58,14 @@ impl Decoder {
             lacking: self.lacking,
             written: self.written,
         }
+    }
+
+    /// Whether no piece is open.
+    #[inline(always)]
+    pub fn is_idle(&self) -> bool
+        ensures { IsTrue result ↔ (phase_in self.now ≡ Idle) }
+    {
+        self.written == 0 && self.lacking == 0 && self.joint == 0 && self.too_long == 0
     }
 
     /// Returns how many bytes of an open message a buffer of `room` bytes holds.

@@ -1,4 +1,4 @@
-//! Where a streaming encoder stands whose state is C's.
+//! A streaming encoder whose state is C's.
 ghost use Rattle.std.specs.Prelude.{◌≡◌, ◌<◌, ◌^◌};
 ghost use Rattle.cobs.specs.Fields.Encoders.{reached_at};
 ghost use Rattle.cobs.specs.OpenBlock.{end_of};
@@ -6,7 +6,7 @@ ghost use Rattle.cobs_abi.specs.State.{reached_in};
 
 use cobs::EncoderProgress;
 
-/// Where an encoder stands. Each number may be any: zeros alone are the start.
+/// An encoder's state. Each number may be any: zeros alone are the start.
 #[repr(C)]
 #[derive(Clone, Copy)]
 pub struct Encoder {
@@ -14,6 +14,13 @@ pub struct Encoder {
     pub taken: u8,
     pub full: u8,
 }
+
+/// An encoder that has taken nothing.
+pub const ENCODER_START: Encoder = Encoder {
+    index: 0,
+    taken: 0,
+    full: 0,
+};
 
 impl Encoder {
     /// Makes the numbers of an encoder that has come so far.

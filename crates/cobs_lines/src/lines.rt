@@ -28,9 +28,12 @@ pub fn write_message<W: Write>(output: &mut W, message: &[u8]) -> io::Result<()>
     output.write_all(b"\n")
 }
 
-/// Writes the bytes as lower-case hexadecimal digits.
-fn write_digits<W: Write>(output: &mut W, bytes: &[u8]) -> io::Result<()>
-    ensures { OnOk result
+/// Writes the bytes as lower-case hexadecimal digits. Allocates nothing.
+///
+/// # Errors
+/// The error of the write that failed. How many of the digits went out is not known then.
+pub fn write_digits<W: Write>(output: &mut W, bytes: &[u8]) -> io::Result<()>
+    ensures written { OnOk result
         (Appends (W.contents output.old) (W.contents output.new) (encode_lower bytes.now)) }
 {
     let mut digits = [0; 2 * AT_ONCE];

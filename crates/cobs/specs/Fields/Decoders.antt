@@ -1,4 +1,4 @@
--- What contracts see of the streaming decoders: their buffers, and where they stand.
+-- What contracts see of the streaming decoders: their buffers and phases.
 use Rattle.std.specs.Prelude.{length, ℕ, zero, suc, ◌==◌, Bool, true, false, List, [], if◌then◌else◌}
 use Rattle.std.specs.List.{length_refill}
 use Rattle.std.proofs.Common.{refl, sym, ◌∙◌}
@@ -7,18 +7,18 @@ use Rattle.std.specs.Vec.{with_items}
 use denote.Param.{value_of}
 use mir.Syntax.{named}
 use Rattle.arrayvec.specs.ArrayVec.{with_items as refilled}
-use Rattle.cobs.specs.declared.dec.borrowed.CobsDecoder.{CobsDecoder}
-use Rattle.cobs.specs.declared.dec.owned.CobsDecoderOwned.{CobsDecoderOwned}
+use Rattle.cobs.specs.declared.dec.buffered.CobsDecoder.{CobsDecoder}
+use Rattle.cobs.specs.declared.dec.buffered.CobsDecoderOwned.{CobsDecoderOwned}
 use Rattle.cobs.specs.declared.dec.heapless.CobsDecoderHeapless.{CobsDecoderHeapless}
-use Rattle.cobs.specs.contracts.dec.borrowed.CobsDecoder.{the_row as borrowed_row}
-use Rattle.cobs.specs.contracts.dec.owned.CobsDecoderOwned.{the_row as owned_row}
+use Rattle.cobs.specs.contracts.dec.buffered.CobsDecoder.{the_row as borrowed_row}
+use Rattle.cobs.specs.contracts.dec.buffered.CobsDecoderOwned.{the_row as owned_row}
 use Rattle.cobs.specs.contracts.dec.heapless.CobsDecoderHeapless.{the_row as heapless_row}
 use Rattle.cobs.specs.Feed.{Phase, Idle, Within, Over}
 use Rattle.cobs.specs.declared.dec.unbuffered.UnbufferedDecoder.{UnbufferedDecoder}
 use Rattle.cobs.specs.declared.dec.unbuffered.DecoderPhase.{DecoderPhase}
 use Rattle.cobs.specs.declared.dec.unbuffered.DecoderPhase.TheVariants.{Idle as TheIdle, Within as TheWithin, TooLong}
 
--- the phase by the block, full or not, that lacks so many bytes, with so many bytes written: before a piece begins, it
+-- the phase by the block, full or not, with this many bytes missing and this many written: before a piece begins, it
 -- is as after a full block, with nothing written
 abbrev pub phase_with : Bool → ℕ → ℕ → Phase
 phase_with false left count = Within false left count
@@ -32,8 +32,8 @@ phase_at TheIdle = Idle
 phase_at (TheWithin is_full lacking written) = phase_with is_full lacking written
 phase_at TooLong = Over
 
--- where a decoder stands whose buffer is passed to each call, as the three others do by the one in them. It reads the
--- private fields: contracts name where a decoder stands by this word, and know nothing else of those fields.
+-- where a decoder is whose buffer is passed to each call, as the three others do by the one in them. It reads the
+-- private fields: contracts name where a decoder is by this word, and know nothing else of those fields.
 abbrev pub phase_of : UnbufferedDecoder → Phase
 phase_of inner = if inner.over then Over else phase_with (inner.code == 255) inner.left inner.dest_idx
 
@@ -41,7 +41,7 @@ phase_of inner = if inner.over then Over else phase_with (inner.code == 255) inn
 abbrev pub borrowed_buffer : CobsDecoder → List ℕ
 borrowed_buffer decoder = decoder.dest.now
 
--- where it stands
+-- where it is
 abbrev pub borrowed_phase : CobsDecoder → Phase
 borrowed_phase decoder = phase_of decoder.inner
 
@@ -61,7 +61,7 @@ LendsSlice decoder bytes = Lends (borrowed_row (record { mir = named 1; lft = []
 abbrev pub owned_buffer : CobsDecoderOwned → List ℕ
 owned_buffer decoder = decoder.dest.items
 
--- where it stands
+-- where it is
 abbrev pub owned_phase : CobsDecoderOwned → Phase
 owned_phase decoder = phase_of decoder.inner
 
@@ -78,7 +78,7 @@ module _ {N : ℕ} where
   abbrev pub heapless_buffer : CobsDecoderHeapless N → List ℕ
   heapless_buffer decoder = decoder.dest.items
 
-  -- where it stands
+  -- where it is
   abbrev pub heapless_phase : CobsDecoderHeapless N → Phase
   heapless_phase decoder = phase_of decoder.inner
 

@@ -1,6 +1,6 @@
--- What a report of a decoded message tells.
+-- What a report of a decoded message says.
 use Rattle.std.specs.Prelude.{ℕ}
-use Rattle.cobs.specs.declared.dec.report.DecodeReport.{DecodeReport}
+use Rattle.cobs.specs.declared.dec.DecodeReport.{DecodeReport}
 
 -- how many bytes of the source were consumed
 abbrev pub parsed_size_of : DecodeReport → ℕ

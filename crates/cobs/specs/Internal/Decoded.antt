@@ -9,7 +9,7 @@ pub record IsFlat (p : List ℕ) : Type 0 where
   pub whole : lacks (last_part p) ≡ 0
 
 -- How far a piece is decoded into a buffer: read bytes of it, up to a code, have become the first written bytes of the
--- buffer, which lacks the output of what is left. Behind the output the buffer is as it was.
+-- buffer, without the output of what is left. Behind the output the buffer is as it was.
 pub record Decoded (piece old new : List ℕ) (read written : ℕ) : Type 0 where
   pub within : read < length piece
   pub left : written + length (output (drop read piece)) ≡ length (output piece)

@@ -11,7 +11,7 @@ pub record DecoderHasTaken (buffer : List ℕ) (phase : Phase) (unfinished : Boo
   pub after : DecoderAfter buffer phase p
   pub flag : unfinished ≡ is_nonempty p
 
--- the outcome of an answer, over the buffer
+-- the outcome of a result, over the buffer
 abbrev pub IsOutcome : Next → List ℕ → Outcome → Type 0
 IsOutcome (nexts.Message n) buffer outcome = (outcome ≡ Message (take n buffer)) × (n ≤ length buffer)
 IsOutcome (nexts.Broken count) buffer outcome = outcome ≡ Broken count
@@ -25,7 +25,7 @@ pub record EndsFirstIn (p bytes : List ℕ) (n : ℕ) (outcome : Outcome) (rest 
   pub none_before : stream_outcomes (p ++ front) n ≡ []
   pub here : stream_outcomes (p ++ (front ++ 0 ∷ [])) n ≡ outcome ∷ []
 
--- the answer tells of that piece, over the buffer
+-- the result reports that piece, over the buffer
 pub record TellsFirst (next : Next) (p bytes buffer rest : List ℕ) : Type 0 where
   pub outcome : Outcome
   pub is : IsOutcome next buffer outcome

@@ -7,7 +7,7 @@ abbrev pub zero_mask : List ℕ → ℕ
 zero_mask [] = 0
 zero_mask (byte ∷ bytes) = (if byte == 0 then 1 else 0) + 2 * zero_mask bytes
 
--- where the first zero of a mask stands, or 64 where it has none
+-- the place of the first zero of a mask, or 64 if it has none
 abbrev pub lowest : ℕ → ℕ
 lowest mask = count_trailing_zeros 64 mask
 

@@ -1,12 +1,12 @@
--- What the answer to a zero tells, and what a decoder leaves as it was inside a piece.
+-- What the result for a zero means, and what a decoder leaves as it was inside a piece.
 use Rattle.std.specs.Prelude.{ℕ, ◌≡◌, List, [], ◌∷◌, ◌++◌, length, take, drop, Option, Some, None, Result, Ok, Err}
 use Rattle.cobs.specs.Stream.{Outcome, Message, stream_outcomes, unended}
 use Rattle.cobs.specs.Feed.{Phase, PhaseAfter}
 use Rattle.cobs.specs.Push.{refused_outcomes}
 use Rattle.cobs.specs.Piece.{output}
-use Rattle.cobs.specs.declared.dec.error.DecodeError.{DecodeError}
+use Rattle.cobs.specs.declared.dec.DecodeError.{DecodeError}
 
--- the outcome that the answer to a zero tells, over the buffer after it; none where no piece has ended
+-- the outcome that the result for a zero means, over the buffer after it; none if no piece has ended
 abbrev pub outcome_told : Result (Option ℕ) DecodeError → List ℕ → List Outcome
 outcome_told (Ok None) buffer = []
 outcome_told (Ok (Some n)) buffer = Message (take n buffer) ∷ []

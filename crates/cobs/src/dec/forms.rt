@@ -1,5 +1,5 @@
 //! The other decode forms from a source that stays as it is: for any sentinel, and into a vector.
-ghost use Rattle.std.specs.Prelude.{◌≡◌, IsTrue, false, ◌≢◌, ◌+◌, ◌-◌, if◌then◌else◌, ◌++◌, ◌<◌, ◌≤◌, length, take, drop, ◌↔◌, List, ℕ, [], IfOk, IfErr, IsOkAnd};
+ghost use Rattle.std.specs.Prelude.{◌≡◌, IsTrue, false, ◌≢◌, ◌+◌, ◌-◌, if◌then◌else◌, ◌++◌, ◌<◌, ◌≤◌, length, take, drop, List, ℕ, [], IfOk, IfErr, IsOkAnd};
 ghost use Rattle.cobs.specs.Overwritten.{overwritten};
 ghost use Rattle.cobs.specs.Decode.{head_answer_within, source_answer, decoded, decoded_head, IsRefusal};
 ghost use Rattle.cobs.specs.Grammar.{HasNoZero, Reads};
@@ -8,17 +8,16 @@ ghost use Rattle.cobs.specs.Piece.{kept_output, output};
 ghost use Rattle.cobs.specs.Internal.Decoded.{IsFlat};
 ghost use Rattle.cobs.specs.Sentinel.{xor_each};
 ghost use Rattle.cobs.specs.Stream.{head};
-ghost use Rattle.cobs.specs.declared.dec.error.DecodeError.TheVariants.{EmptyFrame, TargetBufTooSmall};
+ghost use Rattle.cobs.specs.declared.dec.DecodeError.TheVariants.{EmptyFrame, TargetBufTooSmall};
 
 use crate::dec::blocks::{flat_front, is_flat, write_joints};
-use crate::dec::decode;
-use crate::dec::error::{DecodeError, DecodeVecError};
 use crate::dec::piece::{first_of, len_without};
+use crate::dec::{DecodeError, DecodeVecError, decode};
 use crate::lanes::copy_xored_short;
 use crate::window::WIDE_WINDOW;
 use std::alloc::Global;
 
-/// Writes the bytes of the source, each changed by exclusive or with the sentinel, to where `at` says.
+/// Writes the bytes of the source, each XORed with the sentinel, to where `at` says.
 #[inline(never)]
 fn copy_xored(source: &[u8], dest: &mut [u8], at: usize, sentinel: u8)
     requires { at + length source.now ≤ length dest.old }
@@ -46,7 +45,7 @@ fn decode_xored_flat(source: &[u8], dest: &mut [u8], sentinel: u8)
     write_joints(dest, first, source.len());
 }
 
-/// Decodes the blocks of a source that has no sentinel, and answers how many bytes they give.
+/// Decodes the blocks of a source that has no sentinel, and returns how many bytes they give.
 ///
 /// The whole blocks through each full one are decoded by one copy; if their bytes don't fit, those of them that do.
 fn decode_fronts(source: &[u8], dest: &mut [u8], sentinel: u8) -> Result<usize, DecodeError>
@@ -103,21 +102,21 @@ fn decode_xored_short(source: &[u8], dest: &mut [u8], sentinel: u8) -> bool
     true
 }
 
-/// Decodes the frame at the front of the source, where the sentinel may be any byte, and answers the message's length.
+/// Decodes the frame at the front of the source, where the sentinel may be any byte, and returns the message's length.
 ///
-/// The source alone is read, up to its first sentinel or its end; each byte is taken by exclusive or with the sentinel.
-/// The message then stands at the front of `dest`, and every byte after it is as it was. Unlike `decode`, this reads a
-/// leading sentinel as an empty message, and answers 0.
+/// Only the source is read, up to its first sentinel or its end; each byte is XORed with the sentinel.
+/// The message is then at the front of `dest`, and every byte after it is as it was. Unlike `decode`, this reads a
+/// leading sentinel as an empty message, and returns 0.
 ///
 /// # Errors
 ///
-/// - `EmptyFrame` where the source is empty; `dest` is as it was.
+/// - `EmptyFrame` if the source is empty; `dest` is as it was.
 /// - `TargetBufTooSmall` where the message, or what the whole blocks of a frame give that breaks off inside a block, is
 ///   longer than `dest`, which then holds the first bytes of it.
-/// - `InvalidFrame` where the frame breaks off inside a block and that does fit: `dest` begins with what the whole blocks
-///   before it gave, `decoded_bytes` says how many bytes these are, and every byte after them is as it was.
+/// - `InvalidFrame` if the frame breaks off inside a block and that does fit: `dest` begins with what the whole
+///   blocks before it gave, `decoded_bytes` says how many bytes these are, and every byte after them is as it was.
 ///
-/// Frames for another sentinel than 0 are Cheshire and Baker's; the answers to broken ones are a choice of this
+/// Frames for another sentinel than 0 are Cheshire and Baker's; the results for broken ones are a choice of this
 /// library.
 ///
 /// ```
@@ -134,8 +133,10 @@ pub fn decode_with_sentinel(
     ensures answer { result ≡ source_answer (xor_each sentinel source.now) (length dest.old) }
     ensures buffer { dest.new ≡ overwritten dest.old
         (kept_output (head (xor_each sentinel source.now))) }
-    ensures reads { let f = xor_each sentinel source.now in IsPiece f → (m : List ℕ)
-        → (AnswersMessage result dest.new m ↔ (Reads f m × (length m ≤ length dest.old))) }
+    ensures reads { (m : List ℕ) → Reads (xor_each sentinel source.now) m
+        → length m ≤ length dest.old → AnswersMessage result dest.new m }
+    ensures only { let f = xor_each sentinel source.now in IsPiece f → (m : List ℕ)
+        → AnswersMessage result dest.new m → Reads f m × (length m ≤ length dest.old) }
 {
     if source.is_empty() {
         return Err(DecodeError::EmptyFrame);
@@ -148,15 +149,15 @@ pub fn decode_with_sentinel(
     decode_fronts(&source[..end], dest, sentinel)
 }
 
-/// The message of the first frame of the source, in a vector of exactly its bytes.
+/// Returns the message of the first frame of the source, in a vector of exactly its bytes.
 ///
-/// The frame is found and read as by [`decode`]. Memory is asked for once, for as many bytes as the source has, so a
+/// The frame is found and read as by [`decode`]. Memory is allocated once, for as many bytes as the source has, so a
 /// message always fits and `TargetBufTooSmall` never comes.
 ///
 /// # Errors
 ///
-/// `Decode(EmptyFrame)` where the source is empty, and then no memory is asked for; else `Memory` where memory was
-/// refused; else `Decode` with the refusal of [`decode`].
+/// `Decode(EmptyFrame)` if the source is empty, and then nothing is allocated; else `Memory` if memory ran
+/// out; else `Decode` with the error of [`decode`].
 ///
 /// ```
 /// let message = decode_vec(alloc, b"\x06hello\0")?;
@@ -167,8 +168,10 @@ pub fn decode_vec(alloc: Global, source: &[u8]) -> Result<Vec<u8>, DecodeVecErro
     ensures refused { IfErr result (λ error. IsRefusal (decoded source.now) error) }
     ensures empty { source.now ≡ [] → result ≡ Err (DecodeVecError.Decode EmptyFrame) }
     ensures room { IfErr result (λ error. error ≢ DecodeVecError.Decode TargetBufTooSmall) }
-    ensures reads { IsPiece source.now → FoundMemory result → (m : List ℕ)
-        → (IsOkAnd result (λ message. message.items ≡ m) ↔ Reads source.now m) }
+    ensures reads { FoundMemory result → (m : List ℕ) → Reads source.now m
+        → IsOkAnd result (λ message. message.items ≡ m) }
+    ensures only { IsPiece source.now → (m : List ℕ)
+        → IsOkAnd result (λ message. message.items ≡ m) → Reads source.now m }
 {
     if source.is_empty() {
         return Err(DecodeVecError::Decode(DecodeError::EmptyFrame));
@@ -183,17 +186,17 @@ pub fn decode_vec(alloc: Global, source: &[u8]) -> Result<Vec<u8>, DecodeVecErro
     }
 }
 
-/// The message of the frame at the front of the source, where the sentinel may be any byte, in a vector of exactly its
-/// bytes.
+/// Returns the message of the frame at the front of the source, where the sentinel may be any byte, in a vector of
+/// exactly its bytes.
 ///
 /// The frame is read as by [`decode_with_sentinel`], up to the first sentinel or the source's end; a leading sentinel
-/// gives an empty vector. Memory is asked for once, for as many bytes as the source has, so a message always fits and
+/// gives an empty vector. Memory is allocated once, for as many bytes as the source has, so a message always fits and
 /// `TargetBufTooSmall` never comes.
 ///
 /// # Errors
 ///
-/// `Decode(EmptyFrame)` where the source is empty, and then no memory is asked for; else `Memory` where memory was
-/// refused; else `Decode` with the refusal of [`decode_with_sentinel`].
+/// `Decode(EmptyFrame)` if the source is empty, and then nothing is allocated; else `Memory` if memory ran
+/// out; else `Decode` with the error of [`decode_with_sentinel`].
 ///
 /// ```
 /// let message = decode_vec_with_sentinel(alloc, &[252, 245, 244, 253, 243], 255)?;
@@ -210,9 +213,10 @@ pub fn decode_vec_with_sentinel(
         (λ error. IsRefusal (decoded_head (xor_each sentinel source.now)) error) }
     ensures empty { source.now ≡ [] → result ≡ Err (DecodeVecError.Decode EmptyFrame) }
     ensures room { IfErr result (λ error. error ≢ DecodeVecError.Decode TargetBufTooSmall) }
-    ensures reads { let f = xor_each sentinel source.now in
-        IsPiece f → FoundMemory result → (m : List ℕ)
-        → (IsOkAnd result (λ message. message.items ≡ m) ↔ Reads f m) }
+    ensures reads { FoundMemory result → (m : List ℕ) → Reads (xor_each sentinel source.now) m
+        → IsOkAnd result (λ message. message.items ≡ m) }
+    ensures only { let f = xor_each sentinel source.now in IsPiece f → (m : List ℕ)
+        → IsOkAnd result (λ message. message.items ≡ m) → Reads f m }
 {
     if source.is_empty() {
         return Err(DecodeVecError::Decode(DecodeError::EmptyFrame));

@@ -7,7 +7,7 @@ ghost use Rattle.std.specs.Borrow.{sem};
 ghost use Rattle.cobs.specs.Overwritten.{written_at};
 ghost use Rattle.cobs.specs.Fields.Decoders.{LendsBytes};
 
-use crate::dec::error::DecodeError;
+use crate::dec::DecodeError;
 
 /// How a piece of a stream ended. (The names are this library's own.)
 ///
@@ -17,18 +17,10 @@ use crate::dec::error::DecodeError;
 ///     decoder.feed_piece(&[2, 7, 0]),
 ///     Some((PieceEnd::Message(1), 3))
 /// );
-/// assert_eq!(rt;
-///     decoder.feed_piece(&[3, 7, 0]),
-///     Some((PieceEnd::Broken(1), 3))
-/// );
-/// assert_eq!(rt;
-///     decoder.feed_piece(&[3, 7, 8, 0]),
-///     Some((PieceEnd::TooLong, 4))
-/// );
 /// ```
 #[derive(Debug, Clone, Copy, PartialEq, Eq)]
 pub enum PieceEnd {
-    /// The piece is a frame. Its message is the first so many bytes of the decoder's buffer.
+    /// The piece is a frame. Its message is this many bytes at the front of the decoder's buffer.
     Message(usize),
 
     /// The piece breaks off inside a block. It decodes to this many bytes, those of the broken block included.
@@ -38,7 +30,7 @@ pub enum PieceEnd {
     TooLong,
 }
 
-/// What the answer to a zero tells: nothing where no piece has ended.
+/// What the result for a zero means: nothing if no piece has ended.
 pub(crate) fn piece_end(answer: Result<Option<usize>, DecodeError>) -> Option<PieceEnd>
     ensures { (buffer : List ℕ) → IfOk answer (λ found. IfSome found (λ n. n ≤ length buffer)) →
         MatchOption result (outcome_told answer buffer ≡ []) (λ end.
@@ -54,36 +46,27 @@ pub(crate) fn piece_end(answer: Result<Option<usize>, DecodeError>) -> Option<Pi
 
 /// A decoder that is fed one byte of a stream after another, and owns or borrows the buffer of its output.
 ///
-/// Contracts see it as the bytes of its buffer and the phase in which it stands. (The trait is this library's own.)
+/// Contracts see it as the bytes of its buffer and its phase. (The trait is this library's own.)
 ///
 /// ```
 /// let mut decoder = CobsDecoderHeapless::<4>::new();
 /// let stream = [3, 7, 0, 2, 9, 0];
 /// assert_eq!(rt; decoder.feed_piece(&stream), Some((PieceEnd::Broken(1), 3)));
-/// assert_eq!(rt;
-///     decoder.feed_piece(&stream[3..]),
-///     Some((PieceEnd::Message(1), 3))
-/// );
-/// assert_eq!(rt; decoder.buffer(), [9, 0, 0, 0].as_slice());
 /// ```
 pub trait FrameDecoder {
     /// The bytes of its buffer.
     ghost bytes: { Self → List ℕ };
 
-    /// Where it stands.
+    /// The phase that it is in.
     ghost phase: { Self → Phase };
 
     /// Which slice its buffer is, where it borrows one.
     ghost loan: { Self → ℕ };
 
-    /// Takes the next byte of the stream.
-    ///
-    /// `Ok(None)` says that no piece ended, `Ok(Some(n))` that one did and its message is the first `n` bytes of
-    /// the buffer.
+    /// Takes the next byte of the stream, as [`CobsDecoder::feed`](crate::CobsDecoder::feed) does.
     ///
     /// # Errors
-    /// `InvalidFrame` where the piece broke off inside a block, and `TargetBufTooSmall` where its output is longer than
-    /// the buffer; that is then the answer to every byte through the sentinel.
+    /// `InvalidFrame` and `TargetBufTooSmall`, as there.
     ///
     /// ```
     /// let mut decoder = CobsDecoderHeapless::<1>::new();
@@ -98,8 +81,9 @@ pub trait FrameDecoder {
     /// Takes bytes of the stream through the first zero that ends a piece.
     ///
     /// `None` says that no piece ended in these bytes, and that all were taken. `Some((end, count))` says that a piece
-    /// ended with the byte at index `count - 1`, and how; the bytes after it were not looked at. A piece that is too
-    /// long for the buffer ends at its zero, as every other: so no byte has to be given one by one.
+    /// ended with the byte at index `count - 1`, and how; the bytes after it were not looked at, and those of the
+    /// buffer after the output are as they were. A piece that is too long for the buffer ends at its zero, as every
+    /// other: so no byte has to be given one by one.
     ///
     /// An implementation has no need to write this method, which feeds one byte after another; the decoders of this
     /// library copy whole blocks instead.
@@ -128,7 +112,7 @@ pub trait FrameDecoder {
         None
     }
 
-    /// The whole buffer.
+    /// Returns the whole buffer.
     ///
     /// ```
     /// assert_eq!(rt; CobsDecoderHeapless::<2>::new().buffer(), [0, 0].as_slice());
@@ -139,12 +123,12 @@ pub trait FrameDecoder {
 
 /// A decoder whose buffer can be borrowed to be written to.
 ///
-/// Writing changes the buffer's bytes to those that were written, and neither where the decoder stands nor which
-/// slice its buffer is. So a decoder that has taken the front of a piece (`PhaseAfter`) still has: each answer that
+/// Writing changes the buffer's bytes to those that were written, and neither where the decoder is nor which
+/// slice its buffer is. So a decoder that has taken the front of a piece (`PhaseAfter`) still has: each result that
 /// this piece gets is the same, and only the bytes of its message are then not known.
 ///
 /// Each streaming decoder has a method `dest_mut` of its own too. Of a `CobsDecoder`, whose slice is itself borrowed, a
-/// caller's proof learns through that method only what stands in the slice meanwhile. Such a caller writes by
+/// caller's proof learns through that method only what is in the slice meanwhile. Such a caller writes by
 /// [`write_dest`](WriteBuffer::write_dest), or in code that is generic over this trait. (The trait is this library's
 /// own.)
 ///
@@ -161,7 +145,7 @@ pub trait WriteBuffer: FrameDecoder {
     /// The decoder with other bytes in its buffer.
     ghost with_bytes: { Self → List ℕ → Self };
 
-    /// The whole buffer, to be written to: the decoder ends with the bytes that are left there.
+    /// Returns the whole buffer, to be written to: the decoder ends with the bytes that are left there.
     ///
     /// ```
     /// let mut decoder = CobsDecoderHeapless::<2>::new();
@@ -196,7 +180,7 @@ pub trait WriteBuffer: FrameDecoder {
         → length written ≡ length (Self.bytes decoder)
         → Self.bytes (with_bytes decoder written) ≡ written };
 
-    /// The decoder stands where it stood.
+    /// The decoder's phase is unchanged.
     ghost phase_stays: { (decoder : Self) (written : List ℕ)
         → Self.phase (with_bytes decoder written) ≡ Self.phase decoder };
 

@@ -5,7 +5,7 @@ ghost use Rattle.cobs.specs.Grammar.{HasNoZero};
 ghost use Rattle.cobs.specs.Internal.Decoded.{Decoded};
 ghost use Rattle.cobs.specs.Stream.{head};
 
-use crate::dec::SHORT;
+use crate::dec::piece::piece_len;
 use crate::enc::FULL_CODE;
 use crate::window::{WINDOW, copy_nonzero, copy_nonzero_32, copy_nonzero_two, is_all, write_zeros};
 
@@ -21,7 +21,7 @@ pub(crate) struct Cursor {
     pub(crate) written: usize,
 }
 
-/// Decodes the codes that stand within the first 33 bytes of a source, and answers how many bytes it has read and
+/// Decodes the codes that are within the first 33 bytes of a source, and returns how many bytes it has read and
 /// written: none where one of the 33 is a zero.
 ///
 /// Codes of one value in a row go by a loop of their own, which needn't wait for each code to know where the next is.
@@ -84,7 +84,7 @@ fn decode_full(source: &[u8], dest: &mut [u8]) -> Cursor
 }
 
 /// Decodes the block at the front of a source, one with 32 bytes or more that isn't full, if neither it nor the code
-/// after it has a zero; answers how many bytes it has read and written.
+/// after it has a zero; returns how many bytes it has read and written.
 #[inline(always)]
 fn decode_long(source: &[u8], dest: &mut [u8]) -> usize
     requires begun { 0 < length (head source.now) }
@@ -108,7 +108,7 @@ fn decode_long(source: &[u8], dest: &mut [u8]) -> usize
     code
 }
 
-/// Decodes what stands at the front of a source up to a code: a block, or those of a window. It has read nothing where
+/// Decodes what is at the front of a source up to a code: a block, or those of a window. It has read nothing where
 /// a zero is near.
 #[inline(always)]
 fn decode_step(source: &[u8], dest: &mut [u8]) -> Cursor
@@ -138,6 +138,7 @@ fn decode_step(source: &[u8], dest: &mut [u8]) -> Cursor
 /// near.
 ///
 /// One bound covers both, since no step writes more than it reads.
+#[inline(never)]
 fn decode_blocks(source: &[u8], dest: &mut [u8]) -> Cursor
     requires begun { 0 < length (head source.now) }
     ensures decoded { Decoded (head source.now) dest.old dest.new result.read result.written }
@@ -163,56 +164,23 @@ fn decode_blocks(source: &[u8], dest: &mut [u8]) -> Cursor
     }
 }
 
-/// Decodes the front of a source, as long as a window of it and the room for one are left, no zero is near, and no long
-/// block begins.
+/// Decodes the front of a source, which begins with a code, to the last bytes of the source or of the room, or near to
+/// the first zero, and finds that zero. Returns how far it has come, and how many bytes are in front of the zero. A
+/// short source has no such front.
 #[inline(always)]
-fn decode_windows(source: &[u8], dest: &mut [u8]) -> usize
+pub(crate) fn decode_front(source: &[u8], dest: &mut [u8]) -> (Cursor, usize)
     requires begun { 0 < length (head source.now) }
-    ensures decoded { Decoded (head source.now) dest.old dest.new result result }
-    ensures within { result ≤ length dest.old }
+    ensures decoded { Decoded (head source.now) dest.old dest.new result.0.read result.0.written }
+    ensures within { result.0.written ≤ length dest.old }
+    ensures end { result.1 ≡ length (head source.now) }
 {
-    let mut at = 0;
-    'by_window: while WINDOW < source.len() - at
-        && WINDOW <= dest.len() - at
-        && source[at] as usize <= WINDOW
-    {
-        let step = decode_window(&source[at..], &mut dest[at..]);
-        at += step;
-        if step == 0 {
-            return at;
-        }
-    }
-    at
-}
-
-/// Decodes the front of a long source by steps.
-#[inline(never)]
-fn decode_steps(source: &[u8], dest: &mut [u8]) -> Cursor
-    requires begun { 0 < length (head source.now) }
-    ensures decoded { Decoded (head source.now) dest.old dest.new result.read result.written }
-    ensures within { result.written ≤ length dest.old }
-{
-    let front = decode_blocks(source, dest);
-    let step = decode_windows(&source[front.read..], &mut dest[front.written..]);
-    Cursor {
-        read: front.read + step,
-        written: front.written + step,
-    }
-}
-
-/// Decodes the front of a source, which begins with a code, and answers how far it has come: to the last bytes of the
-/// source or of the room, or near to the first zero. A short source has no such front.
-#[inline(always)]
-pub(crate) fn decode_front(source: &[u8], dest: &mut [u8]) -> Cursor
-    requires begun { 0 < length (head source.now) }
-    ensures decoded { Decoded (head source.now) dest.old dest.new result.read result.written }
-    ensures within { result.written ≤ length dest.old }
-{
-    if source.len() <= SHORT {
-        return Cursor {
+    if source.len() < 2 * LONGEST_STEP {
+        let none = Cursor {
             read: 0,
             written: 0,
         };
+        return (none, piece_len(source));
     }
-    decode_steps(source, dest)
+    let front = decode_blocks(source, dest);
+    (front, front.read + piece_len(&source[front.read..]))
 }

@@ -1,5 +1,5 @@
 //! The streaming decoder over a buffer that lies in the value itself.
-ghost use Rattle.std.specs.Prelude.{◌≡◌, ◌-◌, ◌++◌, [], replicate, ◌↔◌, ◌≤◌, ◌∷◌, List, length, ℕ};
+ghost use Rattle.std.specs.Prelude.{◌≡◌, ◌-◌, ◌++◌, [], replicate, ◌≤◌, ◌∷◌, List, length, ℕ};
 ghost use Rattle.std.specs.Borrow.{sem};
 ghost use Rattle.arrayvec.specs.ArrayVec.{array_vec_len};
 ghost use Rattle.cobs.specs.Feed.{DecoderAfter, Feeds, Idle};
@@ -7,16 +7,15 @@ ghost use Rattle.cobs.specs.Grammar.{Reads};
 ghost use Rattle.cobs.specs.Headline.{IsPiece, PushesMessage};
 ghost use Rattle.cobs.specs.Push.{PushesBytes};
 
-use crate::dec::error::{DecodeError, PushError};
 use crate::dec::frame_decoder::{FrameDecoder, PieceEnd, WriteBuffer};
-use crate::dec::report::DecodeReport;
 use crate::dec::unbuffered::UnbufferedDecoder;
+use crate::dec::{DecodeError, DecodeReport, PushError};
 use arrayvec::ArrayVec;
 
 /// Decodes a stream of frames, each ended by a zero, into a buffer of `N` bytes that lies in the value itself.
 ///
-/// It answers as [`CobsDecoder`](crate::CobsDecoder) does, and takes no memory. That a zero ends each frame is Cheshire
-/// and Baker's; the calls are those of the crate `cobs`.
+/// It returns what [`CobsDecoder`](crate::CobsDecoder) does, and doesn't allocate. That a zero ends each frame is
+/// Cheshire and Baker's; the calls are those of the crate `cobs`.
 ///
 /// ```
 /// let mut decoder = CobsDecoderHeapless::<2>::new();
@@ -35,7 +34,7 @@ pub struct CobsDecoderHeapless<const N: usize> {
 impl<const N: usize> CobsDecoderHeapless<N> {
     ghost use Rattle.cobs.specs.Fields.Decoders.{heapless_buffer, heapless_phase, LendsHeapless};
 
-    /// An idle decoder over `N` zeros.
+    /// Makes an idle decoder over `N` zeros.
     ///
     /// ```
     /// assert_eq!(rt; CobsDecoderHeapless::<2>::new().dest(), [0, 0].as_slice());
@@ -48,7 +47,7 @@ impl<const N: usize> CobsDecoderHeapless<N> {
         CobsDecoderHeapless::new_with_vec(ArrayVec::new())
     }
 
-    /// An idle decoder over the vector, which keeps what stands in it and is filled with zeros to its capacity,
+    /// Makes an idle decoder over the vector, which keeps what is in it and is filled with zeros to its capacity,
     /// `N` bytes.
     ///
     /// ```
@@ -73,15 +72,10 @@ impl<const N: usize> CobsDecoderHeapless<N> {
         }
     }
 
-    /// Takes the next byte of the stream, as `CobsDecoder::feed` does.
-    ///
-    /// `Ok(None)`: no piece has ended. `Ok(Some(n))`: a whole frame has, and its message is the buffer's first `n`
-    /// bytes.
+    /// Takes the next byte of the stream, as [`CobsDecoder::feed`](crate::CobsDecoder::feed) does.
     ///
     /// # Errors
-    /// `InvalidFrame`: a zero came inside a block; `decoded_bytes` counts the piece's output, which stands at the
-    /// front of the buffer. `TargetBufTooSmall`: the piece's output is longer than the buffer; so is each further
-    /// byte answered, through the zero.
+    /// `InvalidFrame` and `TargetBufTooSmall`, as there.
     ///
     /// ```
     /// let mut decoder = CobsDecoderHeapless::<4>::new();
@@ -97,16 +91,11 @@ impl<const N: usize> CobsDecoderHeapless<N> {
         self.inner.feed(self.dest.as_mut_slice(), byte)
     }
 
-    /// Takes bytes of the stream, up to the first one whose answer by `feed` isn't `Ok(None)`.
-    ///
-    /// `Ok(None)`: all bytes were taken, and no piece has ended in them. `Ok(Some(report))`: a whole frame has ended;
-    /// `frame_size` is the length of its message, which stands at the front of the buffer, and `parsed_size` counts
-    /// the bytes that were taken, the zero after the frame included. The others are not looked at: push them next.
+    /// Takes bytes of the stream up to the first one whose result by `feed` isn't `Ok(None)`, as
+    /// [`CobsDecoder::push`](crate::CobsDecoder::push) does.
     ///
     /// # Errors
     /// A `PushError` has the error of `feed` and how many bytes were taken, the one that raised it included.
-    /// Pushing the bytes after these goes on with the stream: a piece whose zero raised the error is over, and
-    /// while a piece is too long for the buffer, each push of its bytes takes one, through its zero.
     ///
     /// ```
     /// let mut decoder = CobsDecoderHeapless::<8>::new();
@@ -121,8 +110,11 @@ impl<const N: usize> CobsDecoderHeapless<N> {
         ensures pushes { PushesBytes (heapless_buffer self.old) (heapless_phase self.old)
             bytes.now result (heapless_buffer self.new) (heapless_phase self.new) }
         ensures reads { (f m : List ℕ) → heapless_phase self.old ≡ Idle → bytes.now ≡ f ++ 0 ∷ []
-            → IsPiece f → (PushesMessage result (heapless_buffer self.new) m
-            ↔ (Reads f m × (length m ≤ length (heapless_buffer self.old)))) }
+            → Reads f m → length m ≤ length (heapless_buffer self.old)
+            → PushesMessage result (heapless_buffer self.new) m }
+        ensures only { (f m : List ℕ) → heapless_phase self.old ≡ Idle → bytes.now ≡ f ++ 0 ∷ []
+            → IsPiece f → PushesMessage result (heapless_buffer self.new) m
+            → Reads f m × (length m ≤ length (heapless_buffer self.old)) }
     {
         self.inner.push(self.dest.as_mut_slice(), bytes)
     }
@@ -146,7 +138,7 @@ impl<const N: usize> CobsDecoderHeapless<N> {
         self.inner = UnbufferedDecoder::new();
     }
 
-    /// The whole buffer, `N` bytes.
+    /// Returns the whole buffer, `N` bytes.
     ///
     /// ```
     /// assert_eq!(rt; CobsDecoderHeapless::<3>::new().dest().len(), 3);
@@ -158,10 +150,7 @@ impl<const N: usize> CobsDecoderHeapless<N> {
         self.dest.as_slice()
     }
 
-    /// The whole buffer, to be written to.
-    ///
-    /// What is written inside a piece changes no answer that this piece gets: only the bytes of its message are
-    /// then not known.
+    /// Returns the whole buffer, to be written to, as [`CobsDecoder::dest_mut`](crate::CobsDecoder::dest_mut) does.
     ///
     /// ```
     /// let mut decoder = CobsDecoderHeapless::<2>::new();
@@ -179,7 +168,7 @@ impl<const N: usize> CobsDecoderHeapless<N> {
 impl<const N: usize> Default for CobsDecoderHeapless<N> {
     ghost use Rattle.cobs.specs.Fields.Decoders.{heapless_buffer, heapless_phase};
 
-    /// An idle decoder over `N` zeros, as `new` makes it.
+    /// Makes an idle decoder over `N` zeros, as `new` does.
     ///
     /// ```
     /// let decoder = CobsDecoderHeapless::<2>::default();

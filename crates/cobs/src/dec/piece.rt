@@ -7,9 +7,8 @@ ghost use Rattle.cobs.specs.Internal.Decoded.{Decoded};
 ghost use Rattle.cobs.specs.Piece.{output, last_part, lacks};
 ghost use Rattle.cobs.specs.Stream.{head, outcome_of};
 
-use crate::dec::MANY;
-use crate::dec::error::DecodeError;
 use crate::dec::front::{decode_front, decode_window};
+use crate::dec::{DecodeError, MANY};
 use crate::enc::FULL_CODE;
 use crate::lanes::copy_xored_short;
 use crate::window::{WIDE_WINDOW, WINDOW, copy_window, first_zero_of_few};
@@ -22,7 +21,7 @@ pub(crate) struct PieceOutput {
     pub(crate) written: usize,
     /// The code of the last part.
     pub(crate) code: usize,
-    /// How many bytes the last part lacks of those that its code counts.
+    /// How many bytes of the last part are missing.
     pub(crate) left: usize,
 }
 
@@ -37,7 +36,7 @@ pub(crate) fn first_of(source: &[u8], byte: u8) -> usize
 
 /// How many bytes of a source come before such a byte at its end; all of them if its last byte is another.
 ///
-/// The clause `bytes` is for a caller that writes the source afterwards, whose type tells only of what it holds at last.
+/// The clause `bytes` is for a caller that writes the source afterwards, whose type says only what it holds at last.
 #[inline(always)]
 pub(crate) fn len_without(source: &[u8], byte: u8) -> usize
     ensures within { result ≤ length source.now }
@@ -51,7 +50,7 @@ pub(crate) fn len_without(source: &[u8], byte: u8) -> usize
     len
 }
 
-/// Where the first zero of the source stands, or the source's length where it has none.
+/// The place of the first zero of the source, or the source's length if it has none.
 pub(crate) fn piece_len(source: &[u8]) -> usize
     ensures within { result ≤ length source.now }
     ensures nonzero { HasNoZero (take result source.now) }
@@ -79,7 +78,7 @@ pub(crate) fn leading_zeros(source: &[u8]) -> usize
     source.len()
 }
 
-/// Copies what stands after the first code of a piece.
+/// Copies what is after the first code of a piece.
 #[inline(always)]
 fn copy_after_code(piece: &[u8], dest: &mut [u8])
     requires some { 0 < length piece.now }
@@ -94,11 +93,10 @@ fn copy_after_code(piece: &[u8], dest: &mut [u8])
     }
 }
 
-/// Writes a zero at each code of a piece but the first, over a copy of what follows that one, where no code follows a full
-/// part. `alike` says that codes of one value in a row are worth a loop of their own, which needn't wait for each code to
-/// know where the next is.
+/// Writes a zero at each code of a piece but the first, over a copy of what follows that one, where no code follows a
+/// full part.
 #[inline(always)]
-fn write_codes(piece: &[u8], dest: &mut [u8], alike: bool) -> PieceOutput
+fn write_codes(piece: &[u8], dest: &mut [u8]) -> PieceOutput
     requires some { 0 < length piece.now }
     requires nonzero { HasNoZero piece.now }
     requires flat { length (output piece.now) + 1 ≡ length piece.now }
@@ -113,13 +111,8 @@ fn write_codes(piece: &[u8], dest: &mut [u8], alike: bool) -> PieceOutput
     let mut read = 0;
     let mut code = piece[0] as usize;
     'by_code: while code < piece.len() - read {
-        'alike: loop {
-            dest[read + (code - 1)] = 0;
-            read += code;
-            if !alike || piece[read] as usize != code || piece.len() - read <= code {
-                break;
-            }
-        }
+        dest[read + (code - 1)] = 0;
+        read += code;
         code = piece[read] as usize;
     }
     PieceOutput {
@@ -129,7 +122,7 @@ fn write_codes(piece: &[u8], dest: &mut [u8], alike: bool) -> PieceOutput
     }
 }
 
-/// Decodes a piece in which no code stands after a full part: one copy, and a zero at each code.
+/// Decodes a piece in which no code is after a full part: one copy, and a zero at each code.
 fn decode_flat_piece(piece: &[u8], dest: &mut [u8]) -> PieceOutput
     requires some { 0 < length piece.now }
     requires nonzero { HasNoZero piece.now }
@@ -142,10 +135,10 @@ fn decode_flat_piece(piece: &[u8], dest: &mut [u8]) -> PieceOutput
     ensures left { result.left ≡ lacks (last_part piece.now) }
 {
     copy_after_code(piece, dest);
-    write_codes(piece, dest, true)
+    write_codes(piece, dest)
 }
 
-/// Copies what stands after the first byte of a source, if that is some bytes, at most 64, they fit, and none is a
+/// Copies what is after the first byte of a source, if that is some bytes, at most 64, they fit, and none is a
 /// zero; says whether it did.
 #[inline(always)]
 pub(crate) fn copy_short(source: &[u8], dest: &mut [u8]) -> bool
@@ -164,7 +157,7 @@ pub(crate) fn copy_short(source: &[u8], dest: &mut [u8]) -> bool
     copy_xored_short(&source[1..], dest, 0)
 }
 
-/// Decodes a short piece, of which all but the first code is copied already, and answers its message's length.
+/// Decodes a short piece, of which all but the first code is copied already, and returns its message's length.
 #[inline(always)]
 pub(crate) fn decode_copied(piece: &[u8], dest: &mut [u8]) -> Result<usize, DecodeError>
     requires some { 0 < length piece.now }
@@ -175,7 +168,7 @@ pub(crate) fn decode_copied(piece: &[u8], dest: &mut [u8]) -> Result<usize, Deco
     ensures answer { result ≡ sized (outcome_of piece.now (length dest.old)) }
     ensures buffer { dest.new ≡ overwritten dest.old (output piece.now) }
 {
-    let end = write_codes(piece, dest, false);
+    let end = write_codes(piece, dest);
     if end.left == 0 {
         Ok(end.written)
     } else {
@@ -185,7 +178,7 @@ pub(crate) fn decode_copied(piece: &[u8], dest: &mut [u8]) -> Result<usize, Deco
     }
 }
 
-/// Writes the output of a piece at the front of `dest`, and answers its length and what its last part is.
+/// Writes the output of a piece at the front of `dest`, and returns its length and what its last part is.
 ///
 /// Precondition: the output fits. No byte after it is written.
 pub(crate) fn decode_piece(piece: &[u8], dest: &mut [u8]) -> PieceOutput
@@ -226,7 +219,7 @@ pub(crate) fn decode_piece(piece: &[u8], dest: &mut [u8]) -> PieceOutput
     }
 }
 
-/// Decodes what a source has in front of its first zero, or all of it, and answers how many bytes that is, and what is
+/// Decodes what a source has in front of its first zero, or all of it, and returns how many bytes that is, and what is
 /// to be known of it. `clean` says that no byte is a zero.
 ///
 /// Precondition: as much room as the source has bytes. No byte after the output is written.
@@ -244,8 +237,7 @@ pub(crate) fn decode_head(source: &[u8], dest: &mut [u8], clean: bool) -> (usize
     if clean {
         return (source.len(), decode_piece(source, dest));
     }
-    let front = decode_front(source, dest);
-    let end = front.read + piece_len(&source[front.read..]);
+    let (front, end) = decode_front(source, dest);
     let rest = decode_piece(&source[front.read..end], &mut dest[front.written..]);
     let all = PieceOutput {
         written: front.written + rest.written,
@@ -255,8 +247,8 @@ pub(crate) fn decode_head(source: &[u8], dest: &mut [u8], clean: bool) -> (usize
     (end, all)
 }
 
-/// How many of the first bytes of a piece have an output that fits `room` bytes: all of them exactly where the whole
-/// output does, and else so many that the output fills the room.
+/// How many of the first bytes of a piece have an output that fits `room` bytes: all of them exactly if the whole
+/// output does, otherwise as many as fill the room.
 ///
 /// It takes one step for each code, and none where the room is enough for any piece of this length.
 pub(crate) fn fitting_len(piece: &[u8], room: usize) -> usize
@@ -286,9 +278,9 @@ pub(crate) fn fitting_len(piece: &[u8], room: usize) -> usize
 }
 
 /// Decodes what is left of a piece that has ended, where `read` bytes of it have become the first `written` bytes of
-/// `dest`, and answers its message's length.
+/// `dest`, and returns its message's length.
 ///
-/// Where the output is longer than `dest`, its first bytes fill `dest`; else it stands at the front of `dest`, whole
+/// If the output is longer than `dest`, its first bytes fill `dest`; else it is at the front of `dest`, whole
 /// or broken off, and no byte after it is written.
 #[inline(always)]
 pub(crate) fn finish_piece(

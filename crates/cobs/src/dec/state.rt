@@ -4,9 +4,9 @@ ghost use Rattle.cobs.specs.Grammar.{Reads};
 ghost use Rattle.cobs.specs.Table.{data_of, opened_by, table_answer, table_state, StateAfter};
 ghost use Rattle.cobs.specs.declared.dec.state.DecodeResult.TheVariants.{DataComplete};
 
-use crate::dec::error::DecodeError;
+use crate::dec::DecodeError;
 
-/// Where a decoder stands in a frame.
+/// A decoder's state within a frame.
 ///
 /// The state holds no output, so a caller can stream the decoded bytes into a container of its own.
 ///
@@ -22,10 +22,10 @@ pub enum DecoderState {
     /// No nonzero byte has come since the last sentinel.
     Idle,
 
-    /// In a block with a code from 1 to 254, which lacks this many bytes.
+    /// In a block with a code from 1 to 254, with this many bytes missing.
     Grab(u8),
 
-    /// In a full block, one with the code 255, which lacks this many bytes.
+    /// In a full block, one with the code 255, with this many bytes missing.
     GrabChain(u8),
 }
 
@@ -57,7 +57,7 @@ impl Default for DecoderState {
 
     ghost is_default = { λ state. state ≡ Idle };
 
-    /// The start: no byte has come.
+    /// Makes the start: no byte has come.
     ///
     /// ```
     /// assert!(rt; matches!(DecoderState::default(), DecoderState::Idle));
@@ -71,7 +71,7 @@ impl Default for DecoderState {
 }
 
 impl DecoderState {
-    /// The state after a code, which lacks all the bytes that the code counts.
+    /// The state after a code: all the bytes that it counts are missing.
     fn opened(code: u8) -> DecoderState
         requires { code ≢ 0 }
         ensures opened { result ≡ opened_by code }
@@ -83,7 +83,7 @@ impl DecoderState {
         }
     }
 
-    /// What the table has for this state and this byte: the answer, and the state after it.
+    /// Returns what the table has for this state and this byte: the result, and the state after it.
     fn row(&self, byte: u8) -> (Result<DecodeResult, DecodeError>, DecoderState)
         ensures answer { result.0 ≡ table_answer self.now byte }
         ensures state { result.1 ≡ table_state self.now byte }
@@ -124,7 +124,7 @@ impl DecoderState {
         }
     }
 
-    /// Takes the next byte of a frame, and answers what it brought.
+    /// Takes the next byte of a frame, and returns what it brought.
     ///
     /// A sentinel, the byte 0, is `DataComplete` where the last block has all the bytes that its code counts,
     /// and `NoData` where no frame has begun. After each sentinel the state is `Idle`.
@@ -133,8 +133,8 @@ impl DecoderState {
     /// block, and after any other block `DataContinue(0)`, the zero that joins the two blocks. Inside a block it
     /// is `DataContinue` of the byte itself.
     ///
-    /// Every state has an answer to every byte, also one that no frame leads to, such as `Grab(255)`. These are
-    /// the block rules of the paper by Cheshire and Baker; the names of the answers are those of the crate `cobs`.
+    /// Every state has a result for every byte, also one that no frame leads to, such as `Grab(255)`. These are
+    /// the block rules of the paper by Cheshire and Baker; the names of the results are those of the crate `cobs`.
     ///
     /// # Errors
     /// `InvalidFrame` for a sentinel inside a block. Its `decoded_bytes` is always 0 here, since the state counts no
@@ -144,18 +144,12 @@ impl DecoderState {
     /// let mut state = DecoderState::GrabChain(1);
     /// assert!(rt; matches!(state.feed(7), Ok(DecodeResult::DataContinue(7))));
     /// assert!(rt; matches!(state.feed(9), Ok(DecodeResult::NoData)));
-    /// assert!(rt;
-    ///     matches!(
-    ///         state.feed(0),
-    ///         Err(DecodeError::InvalidFrame { decoded_bytes: 0 })
-    ///     )
-    /// );
     /// ```
     pub fn feed(&mut self, byte: u8) -> Result<DecodeResult, DecodeError>
         ensures answer { result ≡ table_answer self.old byte }
         ensures state { self.new ≡ table_state self.old byte }
 
-        // After the front p of a piece, with the bytes that the answers gave so far.
+        // After the front p of a piece, with the bytes that the results gave so far.
         ensures after { (p so_far : List ℕ) → StateAfter self.old p so_far → byte ≢ 0
             → StateAfter self.new (p ++ byte ∷ []) (so_far ++ data_of result) }
         ensures message { (p so_far m : List ℕ) → StateAfter self.old p so_far → byte ≡ 0

@@ -1,25 +1,23 @@
-//! The streaming decoder whose buffer is passed to each call. The three others stand on it.
+//! The streaming decoder whose buffer is passed to each call. The three others are built on it.
 ghost use Rattle.std.specs.Prelude.{◌≡◌, ◌<◌, ◌≤◌, ◌+◌, ℕ, false, List, [], length, take, Err, IfOk, IfSome, ◌++◌};
 ghost use Rattle.cobs.specs.Feed.{DecoderAfter, Feeds, Idle, Over, Phase};
-ghost use Rattle.cobs.specs.declared.dec.error.DecodeError.TheVariants.{TargetBufTooSmall};
+ghost use Rattle.cobs.specs.declared.dec.DecodeError.TheVariants.{TargetBufTooSmall};
 ghost use Rattle.cobs.specs.Fields.Decoders.{phase_at, phase_of};
-ghost use Rattle.cobs.specs.Internal.Step.{next_phase, next_buffer, next_answer, end_answer};
+ghost use Rattle.cobs.specs.Step.{next_phase, next_buffer, next_answer, end_answer};
 ghost use Rattle.cobs.specs.Push.{PushesBytes};
 ghost use Rattle.cobs.specs.Internal.PieceEnds.{LeavesRest};
 ghost use Rattle.cobs.specs.FeedPiece.{TakesBytes, TakesPiece};
 
-use crate::dec::FEW;
-use crate::dec::error::{DecodeError, PushError};
 use crate::dec::frame_decoder::{PieceEnd, piece_end};
 use crate::dec::piece::piece_len;
-use crate::dec::report::DecodeReport;
+use crate::dec::{DecodeError, DecodeReport, FEW, PushError};
 use crate::enc::FULL_CODE;
 use std::mem;
 
 /// The code of a full block, as a byte.
 pub(crate) const FULL: u8 = FULL_CODE as u8;
 
-/// Where an [`UnbufferedDecoder`] stands. (A choice of this library.)
+/// The state of an [`UnbufferedDecoder`]. (A choice of this library.)
 ///
 /// ```
 /// let mut buffer = [0; 8];
@@ -43,7 +41,7 @@ pub enum DecoderPhase {
         /// Whether the open block is a full one, which no zero joins to the next.
         is_full: bool,
 
-        /// How many bytes the open block lacks.
+        /// How many bytes of the open block are missing.
         lacking: u8,
 
         /// How many bytes of the piece's output are written.
@@ -56,13 +54,13 @@ pub enum DecoderPhase {
 
 /// Decodes a stream of frames, each ended by a zero, into a buffer that the caller passes to each call.
 ///
-/// It answers as [`CobsDecoder`](crate::CobsDecoder) does, and has no buffer of its own: a few words say where it
-/// stands. So one buffer can serve what else a program does between two calls, and a decoder can lie in a struct
+/// It returns what [`CobsDecoder`](crate::CobsDecoder) does, and has no buffer of its own, only a few words of
+/// state. So one buffer can serve what else a program does between two calls, and a decoder can lie in a struct
 /// beside its buffer, or cross to another language.
 ///
 /// As long as a piece is open, that is from its first byte to the zero that ends it, the caller passes one buffer, as
-/// the call before left it. Any other buffer is safe too, of whatever length: no call panics, or answers a message
-/// that is longer than the buffer. But what the piece is answered then, and which bytes the buffer holds, isn't said.
+/// the call before left it. Any other buffer is safe too, of whatever length: no call panics, or returns a message
+/// that is longer than the buffer. But the results for the piece then, and the bytes of the buffer, are not specified.
 ///
 /// ```
 /// let mut decoder = UnbufferedDecoder::new();
@@ -72,14 +70,13 @@ pub enum DecoderPhase {
 /// assert!(rt; buffer.starts_with(b"hello"));
 /// ```
 // No field says whether a piece has begun: a code at its front is taken as one after a full block is, which no zero
-// joins to anything. So a byte that is no zero asks what its block lacks and, where it is a code, whether the block
-// before it was full, and nothing else. It is `repr(C)`, so that a function for C can take one by reference.
-#[repr(C)]
+// joins to anything. So a nonzero byte asks how much of its block is missing and, if it is a code, whether the block
+// before it was full, and nothing else.
 #[derive(Debug, Drop)]
 pub struct UnbufferedDecoder {
     /// How many bytes of this piece's output are written.
     pub(crate) dest_idx: usize,
-    /// How many bytes the block lacks.
+    /// How many bytes of the block are missing.
     pub(crate) left: u8,
     /// The code of the block; before a piece begins, that of a full one.
     pub(crate) code: u8,
@@ -88,7 +85,7 @@ pub struct UnbufferedDecoder {
 }
 
 impl UnbufferedDecoder {
-    /// An idle decoder, for a buffer of any length, also an empty one.
+    /// Makes an idle decoder, for a buffer of any length, also an empty one.
     ///
     /// ```
     /// let mut decoder = UnbufferedDecoder::new();
@@ -111,7 +108,7 @@ impl UnbufferedDecoder {
         }
     }
 
-    /// The zero that ends a piece, or stands where none has begun, over a buffer of this length.
+    /// Takes a zero, which ends a piece if one has begun, over a buffer of this length.
     #[inline(always)]
     fn end(&mut self, len: usize) -> Result<Option<usize>, DecodeError>
         ensures answer { result ≡ end_answer len (phase_of self.old) }
@@ -138,7 +135,7 @@ impl UnbufferedDecoder {
         }
     }
 
-    /// Where a byte of the output finds no room.
+    /// The state when a byte of the output doesn't fit.
     #[inline(always)]
     fn overflow(&mut self) -> Result<Option<usize>, DecodeError>
         ensures answer { result ≡ Err TargetBufTooSmall }
@@ -148,7 +145,7 @@ impl UnbufferedDecoder {
         Err(DecodeError::TargetBufTooSmall)
     }
 
-    /// One step of the machine, in any phase.
+    /// Takes one step of the machine, in any phase.
     #[inline(always)]
     fn step(&mut self, dest: &mut [u8], byte: u8) -> Result<Option<usize>, DecodeError>
         ensures answer { result ≡ next_answer (length dest.old) (phase_of self.old) byte }
@@ -183,8 +180,8 @@ impl UnbufferedDecoder {
         Ok(None)
     }
 
-    /// The decoder that stands there, whatever the numbers are. A full block that lacks nothing, with nothing
-    /// written, is where an idle decoder stands.
+    /// Makes a decoder in this state, whatever the numbers are. A complete full block, with nothing
+    /// written, is the state of an idle decoder.
     ///
     /// ```
     /// let mut buffer = [0; 8];
@@ -219,7 +216,7 @@ impl UnbufferedDecoder {
         }
     }
 
-    /// Where the decoder stands.
+    /// Returns the decoder's state.
     ///
     /// ```
     /// assert_eq!(rt; UnbufferedDecoder::new().phase(), DecoderPhase::Idle);
@@ -255,17 +252,10 @@ impl UnbufferedDecoder {
         *self = UnbufferedDecoder::new();
     }
 
-    /// Takes the next byte of the stream, over this buffer.
-    ///
-    /// `Ok(None)`: no piece has ended, and the output of this piece so far fits the buffer, which begins with it.
-    /// `Ok(Some(n))`: the byte was the zero after a whole frame, and the message is the buffer's first `n` bytes. All
-    /// other bytes of the buffer are as they were.
+    /// Takes the next byte of the stream, over this buffer, as [`CobsDecoder::feed`](crate::CobsDecoder::feed) does.
     ///
     /// # Errors
-    /// `InvalidFrame`: the byte was a zero inside a block; `decoded_bytes` counts the piece's output, which stands at
-    /// the front of the buffer. `TargetBufTooSmall`: the output of the piece is longer than the buffer, which holds its
-    /// first bytes; that is the answer to each byte from the one that finds no room through the zero. After every zero
-    /// the decoder is idle. (What is answered after an overflow is a choice of this library.)
+    /// `InvalidFrame` and `TargetBufTooSmall`, as there.
     ///
     /// ```
     /// let mut buffer = [0; 2];
@@ -282,7 +272,7 @@ impl UnbufferedDecoder {
         self.step(dest, byte)
     }
 
-    /// As `push`, by a step for each byte.
+    /// Does what `push` does, by a step for each byte.
     fn push_few(&mut self, dest: &mut [u8], bytes: &[u8]) -> Result<Option<DecodeReport>, PushError>
         ensures pushes { PushesBytes dest.old (phase_of self.old) bytes.now result
             dest.new (phase_of self.new) }
@@ -301,16 +291,11 @@ impl UnbufferedDecoder {
         Ok(None)
     }
 
-    /// Takes bytes of the stream, over this buffer, up to the first one whose answer by `feed` isn't `Ok(None)`.
-    ///
-    /// `Ok(None)`: all bytes were taken, and no piece has ended in them. `Ok(Some(report))`: a whole frame has ended;
-    /// `frame_size` is the length of its message, which stands at the front of the buffer, and `parsed_size` counts
-    /// the bytes that were taken, the zero after the frame included. The others are not looked at: push them next.
+    /// Takes bytes of the stream, over this buffer, up to the first one whose result by `feed` isn't `Ok(None)`, as
+    /// [`CobsDecoder::push`](crate::CobsDecoder::push) does.
     ///
     /// # Errors
     /// A `PushError` has the error of `feed` and how many bytes were taken, the one that raised it included.
-    /// Pushing the bytes after these goes on with the stream: a piece whose zero raised the error is over, and
-    /// while a piece is too long for the buffer, each push of its bytes takes one, through its zero.
     ///
     /// ```
     /// let mut buffer = [0; 2];
@@ -348,7 +333,7 @@ impl UnbufferedDecoder {
 }
 
 impl UnbufferedDecoder {
-    /// Takes first bytes in which no piece ends, as many as can be taken at once, and answers how many: of a piece that
+    /// Takes first bytes in which no piece ends, as many as can be taken at once, and returns how many: of a piece that
     /// is too long for the buffer, all in front of its zero.
     fn take_inside(&mut self, dest: &mut [u8], bytes: &[u8]) -> usize
         ensures within { result ≤ length bytes.now }
@@ -365,13 +350,8 @@ impl UnbufferedDecoder {
         self.take_run(dest, bytes)
     }
 
-    /// Takes bytes of the stream, over this buffer, through the first zero that ends a piece.
-    ///
-    /// `None`: no piece has ended in these bytes, and all were taken. `Some((end, count))`: a piece has ended with
-    /// the byte at index `count - 1`, and how; the bytes after it were not looked at. All bytes of the buffer after
-    /// the output of the piece are as they were. A piece that is too long for the buffer ends at its zero, as every
-    /// other: so, other than with [`push`](UnbufferedDecoder::push), its bytes need not be pushed one by one. (A
-    /// choice of this library.)
+    /// Takes bytes of the stream, over this buffer, through the first zero that ends a piece, as
+    /// [`FrameDecoder::feed_piece`](crate::FrameDecoder::feed_piece) does. (A choice of this library.)
     ///
     /// ```
     /// let mut decoder = UnbufferedDecoder::new();
@@ -380,10 +360,6 @@ impl UnbufferedDecoder {
     /// assert_eq!(rt;
     ///     decoder.feed_piece(&mut buffer, stream),
     ///     Some((PieceEnd::TooLong, 7))
-    /// );
-    /// assert_eq!(rt;
-    ///     decoder.feed_piece(&mut buffer, &stream[7..]),
-    ///     Some((PieceEnd::Message(2), 4))
     /// );
     /// ```
     pub fn feed_piece(&mut self, dest: &mut [u8], bytes: &[u8]) -> Option<(PieceEnd, usize)>

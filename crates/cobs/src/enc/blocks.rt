@@ -1,123 +1,57 @@
-//! How a message is cut into blocks: the core that every encoder into a slice stands on.
-ghost use Rattle.std.specs.Prelude.{◌≡◌, ◌≢◌, ◌<◌, ◌≤◌, ◌+◌, ◌-◌, ◌%◌, ◌^◌, ◌++◌, [], ℕ, IsTrue, List, false, length, take, drop, replicate, slice_index, slice_set};
+//! How a message is cut into blocks: the core that every encoder into a slice is built on.
+ghost use Rattle.std.specs.Prelude.{◌≡◌, ◌≢◌, ◌<◌, ◌≤◌, ◌+◌, ◌-◌, ◌%◌, ◌++◌, ℕ, IsTrue, List, length, take, drop, replicate, slice_index, slice_set};
 ghost use Rattle.cobs.specs.Grammar.{HasNoZero, IsEncodedFrame};
-ghost use Rattle.cobs.specs.OpenBlock.{CobsEncoderAfter, end_of};
-ghost use Rattle.cobs.specs.Internal.OpenLen.{open_len};
+ghost use Rattle.cobs.specs.OpenBlock.{CobsEncoderAfter, IsPlaceIn, end_after, end_of};
+ghost use Rattle.cobs.specs.Fields.Progress.{reached_at};
 ghost use Rattle.cobs.specs.Internal.Mask.{lowest, without_lowest};
+ghost use Rattle.cobs.specs.Internal.Taking.{TakesFront};
 
+use crate::enc::unbuffered::EncoderProgress;
 use crate::window::{
     WINDOW, copy_at, copy_window, first_zero_of_few, is_all_zeros, write_ones, write_some_ones,
     zeros_at,
 };
 use memchr::memchr;
-use std::marker::Model;
 
 /// The code of a full block, which is how many bytes the block has with its code.
 pub(crate) const FULL_CODE: usize = 255;
 
+/// The length in bytes of a stretch of the source. A block that fills within the last 254 bytes of a stretch ends the
+/// windows, so every run that is longer than a stretch reaches `memchr`, which finds its end, and is copied as slices. For
+/// one block alone these two calls cost more than windows do, and the loop over windows would pay for counting full blocks.
+const STRETCH: usize = 8192;
+
 /// The mask of a window that has no byte but zeros.
 const ALL_ZEROS: u64 = 0xffff_ffff;
 
-/// How far the frame in a slice has come: where the code of its open block belongs, and where the next byte goes. Where
-/// the frame's last block is full, the open block is a placeholder after it, and not yet part of the frame.
-#[derive(Debug, Drop)]
-pub(crate) struct Progress {
-    index: usize,
-    next: usize,
-    full: bool,
-}
-
-impl Model for Progress {
-    ghost use Rattle.std.specs.Prelude.{◌<◌, ◌+◌, ◌-◌};
-    ghost use Rattle.cobs.specs.OpenBlock.{Reached};
-
-    ghost Value = { Reached };
-
-    ghost view = { λ p.
-        record { block = record { index = p.index; code = p.next - p.index }; full = p.full } };
-
-    ghost invariant = { λ p. (p.index < p.next) × (p.next < p.index + 255) };
-}
-
-impl Progress {
-    /// The start: one open block without bytes at the front of the slice.
-    pub(crate) fn new() -> Progress
-        ensures { result ≡ record { block = record { index = 0; code = 1 }; full = false } }
-    {
-        Progress {
-            index: 0,
-            next: 1,
-            full: false,
-        }
-    }
-
-    /// Takes these places, and whether the frame's last block is full.
-    fn set(&mut self, index: usize, next: usize, full: bool)
-        requires ordered { index < next }
-        requires open_block { next < index + 255 }
-        ensures { self.new
-            ≡ record { block = record { index = index; code = next - index }; full = full } }
-    {
-        self.index = index;
-        self.next = next;
-        self.full = full;
-    }
-
-    /// So far: an open block with this code at this index, which is only the place after a full one, or not.
-    pub(crate) fn at(index: usize, code: usize, full: bool) -> Progress
-        requires some { 0 < code }
-        requires open_block { code < 255 }
-        requires next { index + code < 2 ^ 64 }
-        ensures { result ≡ record { block = record { index = index; code = code }; full = full } }
-    {
-        Progress {
-            index,
-            next: index + code,
-            full,
-        }
-    }
-
-    /// Whether the frame's last block is full.
-    pub(crate) fn is_full(&self) -> bool
-        ensures { result ≡ self.now.full }
-    {
-        self.full
-    }
-
-    /// Whether `len` more bytes are fewer than a window, can't fill the open block, and end at `end` at the latest.
-    #[inline(always)]
-    pub(crate) fn has_room(&self, len: usize, end: usize) -> bool
-        requires { self.now.block.index ≤ end }
-        ensures some { 0 < self.now.block.code }
-        ensures few { IsTrue result → len < 32 }
-        ensures open_block { IsTrue result → self.now.block.code + len < 255 }
-        ensures fits { IsTrue result → self.now.block.index + self.now.block.code + len ≤ end }
-    {
-        len < WINDOW
-            && self.next - self.index + len < FULL_CODE
-            && self.next - self.index + len <= end - self.index
-    }
-
-    /// Where the code of the open block belongs.
-    pub(crate) fn index(&self) -> usize
-        ensures { result ≡ self.now.block.index }
-    {
-        self.index
-    }
-
-    /// The code that the open block has so far.
-    pub(crate) fn code(&self) -> usize
-        ensures code { result ≡ self.now.block.code }
-        ensures some { 0 < result }
-        ensures open_block { result < 255 }
-    {
-        self.next - self.index
+/// So far: an open block at `index`, and the next byte at `next`.
+#[inline(always)]
+fn progress_at(index: usize, next: usize, is_full: bool) -> EncoderProgress
+    requires ordered { index < next }
+    requires open_block { next < index + 255 }
+    ensures { reached_at result
+        ≡ record { block = record { index = index; code = next - index }; full = is_full } }
+{
+    EncoderProgress {
+        index,
+        code: (next - index) as u8,
+        is_full,
     }
 }
 
-/// Writes the code of the open block, which the mask's first zero closes, and answers where the next code belongs,
+/// Whether `len` bytes, one at least, are no more than a window and can't fill the open block.
+#[inline(always)]
+pub(crate) fn is_short(progress: EncoderProgress, len: usize) -> bool
+    ensures some { IsTrue result → 0 < len }
+    ensures few { IsTrue result → len ≤ 32 }
+    ensures open_block { IsTrue result → progress.code + len < 255 }
+{
+    0 < len && len <= WINDOW && progress.code as usize + len < FULL_CODE
+}
+
+/// Writes the code of the open block, which the mask's first zero closes, and returns where the next code belongs,
 /// and the mask without that zero. No branch asks whether there is a zero: with none the block stays open, and what
-/// stands in the place of its code then is of no matter.
+/// is in the place of its code then doesn't matter.
 #[inline(always)]
 fn mark_first(dest: &mut [u8], index: usize, next: usize, zeros: u64) -> (usize, u64)
     requires inside { index < length dest.old }
@@ -137,26 +71,26 @@ fn mark_first(dest: &mut [u8], index: usize, next: usize, zeros: u64) -> (usize,
 /// two zeros are marked before the first question is how many there are. With `few_zeros` a source without zeros is
 /// asked for before that.
 #[inline(always)]
-pub(crate) fn append_short(source: &[u8], dest: &mut [u8], progress: &mut Progress, few_zeros: bool)
+pub(crate) fn append_short(
+    source: &[u8],
+    dest: &mut [u8],
+    progress: EncoderProgress,
+    few_zeros: bool,
+) -> EncoderProgress
     requires some { 0 < length source.now }
     requires few { length source.now ≤ 32 }
-    requires open_block { progress.old.block.code + length source.now < 255 }
-    requires fits { progress.old.block.index + open_len progress.old.block.code source.now
-        ≤ length dest.old }
-    ensures after { (m : List ℕ) → CobsEncoderAfter dest.old progress.old m
-        → CobsEncoderAfter dest.new progress.new (m ++ source.now) }
-    ensures fits { end_of progress.new ≤ length dest.new }
-    ensures end { end_of progress.new
-        ≡ progress.old.block.index + open_len progress.old.block.code source.now }
-    ensures rest { drop (end_of progress.new) dest.new ≡ drop (end_of progress.new) dest.old }
+    requires code { 0 < progress.code }
+    requires open_block { progress.code + length source.now < 255 }
+    requires fits { end_after (reached_at progress) source.now ≤ length dest.old }
+    ensures { TakesFront dest.old (reached_at progress) source.now (length source.now)
+        dest.new (reached_at result) }
 {
     let len = source.len();
     let start = progress.index;
-    let next = progress.next;
+    let next = start + progress.code as usize;
     let mask = copy_window(source, 0, len, dest, next);
     if few_zeros && mask == 0 {
-        progress.set(start, next + len, false);
-        return;
+        return progress_at(start, next + len, false);
     }
     let (first, left) = mark_first(dest, start, next, mask);
     let (mut index, mut zeros) = mark_first(dest, first, next, left);
@@ -168,85 +102,11 @@ pub(crate) fn append_short(source: &[u8], dest: &mut [u8], progress: &mut Progre
             (index, zeros) = mark_first(dest, index, next, zeros);
         }
     }
-    progress.set(index, next + len, false);
+    progress_at(index, next + len, false)
 }
 
-/// Takes a `source` of any length, by windows of up to 32 bytes: what the other two functions don't take.
-#[inline(always)]
-fn append_windows(source: &[u8], dest: &mut [u8], progress: &mut Progress)
-    requires { progress.old.block.index + open_len progress.old.block.code source.now
-        ≤ length dest.old }
-    ensures after { (m : List ℕ) → CobsEncoderAfter dest.old progress.old m
-        → CobsEncoderAfter dest.new progress.new (m ++ source.now) }
-    ensures fits { end_of progress.new ≤ length dest.new }
-    ensures end { 0 < length source.now → end_of progress.new
-        ≡ progress.old.block.index + open_len progress.old.block.code source.now }
-    ensures rest { drop (end_of progress.new) dest.new ≡ drop (end_of progress.new) dest.old }
-{
-    if source.is_empty() {
-        return;
-    }
-    let mut index = progress.index;
-    let mut next = progress.next;
-    let mut read = 0;
-    'by_window: loop {
-        let len = (source.len() - read).min(WINDOW);
-        let mut zeros = copy_window(source, read, len, dest, next);
-        let lacking = index + FULL_CODE - next;
-        if (zeros.trailing_zeros() as usize).min(len) >= lacking {
-            dest[index] = FULL_CODE as u8;
-            read += lacking;
-            index += FULL_CODE;
-            next = index + 1;
-            if read == source.len() {
-                progress.set(index, next, true);
-                return;
-            }
-        } else {
-            if zeros == ALL_ZEROS {
-                dest[index] = (next - index) as u8;
-                write_ones::<32>(dest, next);
-                index = next + WINDOW - 1;
-            } else {
-                'by_zero: while zeros != 0 {
-                    (index, zeros) = mark_first(dest, index, next, zeros);
-                    if zeros != 0 {
-                        (index, zeros) = mark_first(dest, index, next, zeros);
-                    }
-                }
-            }
-            read += len;
-            next += len;
-            if read == source.len() {
-                progress.set(index, next, false);
-                return;
-            }
-        }
-    }
-}
-
-/// Takes the last bytes of a source, which may be all of it.
-#[inline(always)]
-pub(crate) fn append_last(source: &[u8], dest: &mut [u8], progress: &mut Progress)
-    requires { progress.old.block.index + open_len progress.old.block.code source.now
-        ≤ length dest.old }
-    ensures after { (m : List ℕ) → CobsEncoderAfter dest.old progress.old m
-        → CobsEncoderAfter dest.new progress.new (m ++ source.now) }
-    ensures fits { end_of progress.new ≤ length dest.new }
-    ensures end { 0 < length source.now → end_of progress.new
-        ≡ progress.old.block.index + open_len progress.old.block.code source.now }
-    ensures rest { drop (end_of progress.new) dest.new ≡ drop (end_of progress.new) dest.old }
-{
-    let len = source.len();
-    if len > 0 && len <= WINDOW && progress.code() + len < FULL_CODE {
-        append_short(source, dest, progress, false);
-    } else {
-        append_windows(source, dest, progress);
-    }
-}
-
-/// Writes blocks with no bytes in the place of the 32 zeros from `read` on, and of those after them, 32 at a time, while
-/// more than 32 bytes are left. Answers how many zeros these are.
+/// Writes blocks with no bytes in the place of the 32 zeros from `read` on, and of those after them, 32 at a time,
+/// while more than 32 bytes are left. Returns how many zeros these are.
 #[inline(always)]
 fn write_rows(source: &[u8], read: usize, dest: &mut [u8], at: usize) -> usize
     requires source { read + 32 < length source.now }
@@ -271,33 +131,31 @@ fn write_rows(source: &[u8], read: usize, dest: &mut [u8], at: usize) -> usize
     count
 }
 
-/// Takes whole windows of 32 bytes while more than one is left, and answers how many bytes these are.
+/// Takes whole windows of 32 bytes while more than one is left, up to where a run turns out to be long. Returns how
+/// many bytes these are, and how far the frame has come.
 ///
-/// Each window is copied to where the next byte goes. Where no zero is near enough to keep the open block from being
-/// full, that block is closed, and what doesn't belong to it is copied anew. Else each zero of the window gives its
-/// place to the code of the block that it begins, and the last block stays open for the next window. Nothing is
-/// written after what the frame needs at the least, so a slice of exactly the frame's length is enough.
+/// Each window is copied to where the next byte goes. If no zero is near enough to keep the open block from being full,
+/// that block is closed, and what doesn't belong to it is copied anew. Else each zero of the window gives its place to
+/// the code of the block that it begins, and the last block stays open for the next window. Nothing is written after
+/// what the frame needs at the least, so a slice of exactly the frame's length is enough.
 #[inline(always)]
-fn append_whole_windows(source: &[u8], dest: &mut [u8], progress: &mut Progress) -> usize
-    requires some { 32 < length source.now }
-    requires fits { progress.old.block.index + open_len progress.old.block.code source.now
-        ≤ length dest.old }
-    ensures within { result < length source.now }
-    ensures few { length source.now ≤ result + 32 }
-    ensures after { (m : List ℕ) → CobsEncoderAfter dest.old progress.old m
-        → CobsEncoderAfter dest.new progress.new (m ++ take result source.now) }
-    ensures end { progress.new.block.index + open_len progress.new.block.code
-        (drop result source.now)
-        ≡ progress.old.block.index + open_len progress.old.block.code source.now }
-    ensures rest { let end = progress.old.block.index
-        + open_len progress.old.block.code source.now in
-        drop end dest.new ≡ drop end dest.old }
+pub(crate) fn append_windows(
+    source: &[u8],
+    dest: &mut [u8],
+    progress: EncoderProgress,
+) -> (usize, EncoderProgress)
+    requires some { 0 < length source.now }
+    requires place { IsPlaceIn (length dest.old) (reached_at progress) }
+    requires fits { end_after (reached_at progress) source.now ≤ length dest.old }
+    ensures within { result.0 < length source.now }
+    ensures taken { TakesFront dest.old (reached_at progress) source.now result.0
+        dest.new (reached_at result.1) }
 {
     let mut index = progress.index;
-    let mut next = progress.next;
-    let mut full = progress.full;
+    let mut next = index + progress.code as usize;
+    let mut full = progress.is_full;
     let mut read = 0;
-    let last = source.len() - WINDOW;
+    let last = source.len().saturating_sub(WINDOW);
     'by_window: while read < last {
         let window = copy_at::<32>(source, read, dest, next);
         if window == 0 {
@@ -312,12 +170,12 @@ fn append_whole_windows(source: &[u8], dest: &mut [u8], progress: &mut Progress)
             if place - index < FULL_CODE {
                 dest[index] = (place - index) as u8;
                 index = place;
+                full = false;
                 if window == ALL_ZEROS {
                     let count = write_rows(source, read, dest, next);
                     index = next + count - 1;
                     read += count;
                     next += count;
-                    full = false;
                     continue;
                 }
                 let mut zeros = window & (window - 1);
@@ -329,7 +187,6 @@ fn append_whole_windows(source: &[u8], dest: &mut [u8], progress: &mut Progress)
                 }
                 read += WINDOW;
                 next += WINDOW;
-                full = false;
                 continue;
             }
         }
@@ -339,28 +196,11 @@ fn append_whole_windows(source: &[u8], dest: &mut [u8], progress: &mut Progress)
         index += FULL_CODE;
         next = index + 1;
         full = true;
+        if read % STRETCH > STRETCH - FULL_CODE {
+            return (read, progress_at(index, next, true));
+        }
     }
-    progress.set(index, next, full);
-    read
-}
-
-/// Takes `source` into the frame that `dest` holds as far as `progress` says. The code of the open block is written by
-/// [`close`] alone: what stands in its place before that is of no matter.
-#[inline(always)]
-pub(crate) fn append(source: &[u8], dest: &mut [u8], progress: &mut Progress)
-    requires { progress.old.block.index + open_len progress.old.block.code source.now
-        ≤ length dest.old }
-    ensures after { (m : List ℕ) → CobsEncoderAfter dest.old progress.old m
-        → CobsEncoderAfter dest.new progress.new (m ++ source.now) }
-    ensures fits { end_of progress.new ≤ length dest.new }
-    ensures rest { drop (end_of progress.new) dest.new ≡ drop (end_of progress.new) dest.old }
-{
-    if source.len() <= WINDOW {
-        append_last(source, dest, progress);
-    } else {
-        let read = append_whole_windows(source, dest, progress);
-        append_last(&source[read..], dest, progress);
-    }
+    (read, progress_at(index, next, full))
 }
 
 /// How many nonzero bytes `source` begins with: those before its next zero, which `memchr` finds.
@@ -376,18 +216,119 @@ pub(crate) fn run_len(source: &[u8]) -> usize
     first_zero_of_few(source)
 }
 
-/// Writes the code of the open block where that block is part of the frame, and answers where the frame ends.
-pub(crate) fn close(dest: &mut [u8], progress: Progress) -> usize
-    requires { end_of progress ≤ length dest.old }
-    ensures frame { (m : List ℕ) → CobsEncoderAfter dest.old progress m
-        → IsEncodedFrame (take result dest.new) m }
-    ensures end { result ≡ end_of progress }
-    ensures rest { drop result dest.new ≡ drop result dest.old }
+/// Takes a run: the bytes in front of the next zero, which `memchr` finds, and that zero. The run is cut into blocks of
+/// at most 254 bytes, and each stretch of it is copied as one slice. Returns how many bytes these are, and how far the
+/// frame has come.
+#[inline(always)]
+fn append_run(source: &[u8], dest: &mut [u8], progress: EncoderProgress) -> (usize, EncoderProgress)
+    requires some { 0 < length source.now }
+    requires place { IsPlaceIn (length dest.old) (reached_at progress) }
+    requires fits { end_after (reached_at progress) source.now ≤ length dest.old }
+    ensures some { 0 < result.0 }
+    ensures within { result.0 ≤ length source.now }
+    ensures taken { TakesFront dest.old (reached_at progress) source.now result.0
+        dest.new (reached_at result.1) }
 {
-    let Progress { index, next, full } = progress;
-    if full {
-        return index;
+    let run = run_len(source);
+    let mut index = progress.index;
+    let mut next = index + progress.code as usize;
+    let mut read = 0;
+    'by_block: while read < run {
+        let lacking = index + FULL_CODE - next;
+        if lacking == 0 {
+            dest[index] = FULL_CODE as u8;
+            index = next;
+            next += 1;
+            continue;
+        }
+        let len = lacking.min(run - read);
+        dest[next..next + len].copy_from_slice(&source[read..read + len]);
+        read += len;
+        next += len;
+    }
+    if next == index + FULL_CODE {
+        dest[index] = FULL_CODE as u8;
+        return (run, progress_at(next, next + 1, true));
+    }
+    if run == source.len() {
+        return (run, progress_at(index, next, false));
     }
     dest[index] = (next - index) as u8;
-    next
+    (run + 1, progress_at(next, next + 1, false))
+}
+
+/// Takes a `source` of which [`append`] takes no more at once: by a run, and by windows where the run has ended.
+#[inline(never)]
+fn append_runs(source: &[u8], dest: &mut [u8], progress: EncoderProgress) -> EncoderProgress
+    requires place { IsPlaceIn (length dest.old) (reached_at progress) }
+    requires fits { end_after (reached_at progress) source.now ≤ length dest.old }
+    ensures { TakesFront dest.old (reached_at progress) source.now (length source.now)
+        dest.new (reached_at result) }
+{
+    let mut progress = progress;
+    let mut read = 0;
+    'by_run: while read < source.len() {
+        let (run, behind) = append_run(&source[read..], dest, progress);
+        read += run;
+        progress = behind;
+        if read == source.len() {
+            return progress;
+        }
+        let (windows, behind) = append_windows(&source[read..], dest, progress);
+        read += windows;
+        progress = behind;
+    }
+    progress
+}
+
+/// Takes `source` into the frame that `dest` holds as far as `progress` says, and returns how far it has come then. The
+/// code of the open block is written only by [`close`]: what is in its place before that doesn't matter.
+///
+/// Most of a message goes by windows. What they leave is mostly short; a long run, and last bytes that may fill the
+/// open block, go by [`append_runs`].
+#[inline(always)]
+pub(crate) fn append(source: &[u8], dest: &mut [u8], progress: EncoderProgress) -> EncoderProgress
+    requires some { 0 < length source.now }
+    requires place { IsPlaceIn (length dest.old) (reached_at progress) }
+    requires fits { end_after (reached_at progress) source.now ≤ length dest.old }
+    ensures { TakesFront dest.old (reached_at progress) source.now (length source.now)
+        dest.new (reached_at result) }
+{
+    let (read, progress) = append_windows(source, dest, progress);
+    let left = &source[read..];
+    if is_short(progress, left.len()) {
+        append_short(left, dest, progress, false)
+    } else {
+        append_runs(left, dest, progress)
+    }
+}
+
+/// Writes the code of the open block where that block is part of the frame, and returns where the frame ends.
+pub(crate) fn close(dest: &mut [u8], progress: EncoderProgress) -> usize
+    requires { IsPlaceIn (length dest.old) (reached_at progress) }
+    ensures frame { (m : List ℕ) → CobsEncoderAfter dest.old (reached_at progress) m
+        → IsEncodedFrame (take result dest.new) m }
+    ensures end { result ≡ end_of (reached_at progress) }
+    ensures rest { drop result dest.new ≡ drop result dest.old }
+{
+    if progress.is_full {
+        return progress.index;
+    }
+    dest[progress.index] = progress.code;
+    progress.index + progress.code as usize
+}
+
+/// Takes a `source` as [`append_runs`] does, and ends the frame: one call at the end of `encode_long`, so that no value
+/// of that function has to outlive a call.
+#[inline(never)]
+pub(crate) fn close_runs(source: &[u8], dest: &mut [u8], progress: EncoderProgress) -> usize
+    requires place { IsPlaceIn (length dest.old) (reached_at progress) }
+    requires fits { end_after (reached_at progress) source.now ≤ length dest.old }
+    ensures frame { (m : List ℕ) → CobsEncoderAfter dest.old (reached_at progress) m
+        → IsEncodedFrame (take result dest.new) (m ++ source.now) }
+    ensures end { result ≡ end_after (reached_at progress) source.now }
+    ensures rest { drop result dest.new ≡ drop result dest.old }
+{
+    let behind = append_runs(source, dest, progress);
+    close(dest, behind)
 }

@@ -1,11 +1,10 @@
 //! An encoder into a slice, of a message that comes in pieces.
-ghost use Rattle.std.specs.Prelude.{◌≡◌, ◌<◌, ◌≤◌, ◌+◌, ◌++◌, ◌↔◌, ℕ, IsTrue, List, false, length, drop};
-ghost use Rattle.cobs.specs.OpenBlock.{CobsEncoderAfter, end_of};
-ghost use Rattle.cobs.specs.Internal.OpenLen.{open_len};
+ghost use Rattle.std.specs.Prelude.{length};
+ghost use Rattle.cobs.specs.OpenBlock.{IsPlaceIn};
+ghost use Rattle.cobs.specs.Fields.Progress.{reached_by};
 
-use crate::enc::DestBufTooSmallError;
-use crate::enc::blocks::{Progress, append, append_short, close};
-use crate::enc::room::fits;
+use crate::enc::blocks::close;
+use crate::enc::{DestBufTooSmallError, UnbufferedEncoder};
 
 /// Encodes a message that comes in pieces, straight into a slice of the caller's.
 ///
@@ -26,8 +25,8 @@ use crate::enc::room::fits;
 #[derive(Debug, Drop)]
 pub struct CobsEncoder<'a> {
     dest: &'a mut [u8],
-    progress: Progress,
-    ghost room: { end_of progress ≤ length dest.now },
+    encoder: UnbufferedEncoder,
+    ghost place: { IsPlaceIn (length dest.now) (reached_by encoder) },
 }
 
 impl<'a> CobsEncoder<'a> {
@@ -36,7 +35,8 @@ impl<'a> CobsEncoder<'a> {
     ghost use Rattle.cobs.specs.Length.{encoded_len};
     ghost use Rattle.cobs.specs.Fields.Encoders.{slice_of, HasTaken, WritesTo, IsOverSameSlice, IsUnchanged};
 
-    /// An encoder that has taken nothing yet, and writes to the front of `out_buf`. No byte of it is changed by this.
+    /// Makes an encoder that has taken nothing yet, and writes to the front of `out_buf`. No byte of it is changed by
+    /// this.
     ///
     /// Precondition: the slice has one byte at least, since the frame of the empty message has one.
     ///
@@ -53,18 +53,18 @@ impl<'a> CobsEncoder<'a> {
     {
         CobsEncoder {
             dest: out_buf,
-            progress: Progress::new(),
+            encoder: UnbufferedEncoder::new(),
         }
     }
 
     /// Takes the next bytes of the message.
     ///
-    /// An empty push is never refused, and changes nothing. The bytes of the slice after the frame are never written.
+    /// An empty push always succeeds, and changes nothing. The bytes of the slice after the frame are never written.
     ///
     /// # Errors
-    /// `DestBufTooSmallError` exactly where the encoded frame of all the bytes that were taken so far, followed by
+    /// `DestBufTooSmallError` exactly if the encoded frame of all the bytes that were taken so far, followed by
     /// these, is longer than the slice. Then neither the encoder nor the slice has changed, so the caller may end the
-    /// frame, or push fewer bytes. That a refusal changes nothing is a choice of this library.
+    /// frame, or push fewer bytes. That an error changes nothing is a choice of this library.
     ///
     /// ```
     /// let mut dest = [170; 4];
@@ -88,20 +88,13 @@ impl<'a> CobsEncoder<'a> {
         ensures refused { OnErr result (IsUnchanged self.old self.new) }
         ensures empty { bytes.now ≡ [] → IsOk result × IsUnchanged self.old self.new }
     {
-        if bytes.is_empty() {
-            return Ok(());
+        if !self.encoder.take(self.dest, bytes) {
+            return Err(DestBufTooSmallError);
         }
-        if self.progress.has_room(bytes.len(), self.dest.len()) {
-            append_short(bytes, self.dest, &mut self.progress, true);
-            Ok(())
-        } else if append_fitting(bytes, self.dest, &mut self.progress) {
-            Ok(())
-        } else {
-            Err(DestBufTooSmallError)
-        }
+        Ok(())
     }
 
-    /// Ends the message, and answers the length of its encoded frame in bytes. The slice begins with that frame, and
+    /// Ends the message, and returns the length of its encoded frame in bytes. The slice begins with that frame, and
     /// every byte after it is as it was before [`new`](CobsEncoder::new).
     ///
     /// ```
@@ -120,31 +113,7 @@ impl<'a> CobsEncoder<'a> {
             → HasNoZero (take result self.exit.0.now) }
         ensures rest { drop result self.exit.0.now ≡ drop result (slice_of self.entry) }
     {
-        let CobsEncoder { dest, progress } = self;
-        close(dest, progress)
+        let CobsEncoder { dest, encoder } = self;
+        close(dest, encoder.progress())
     }
-}
-
-/// Takes `bytes`, of which there is one at least, where the frame fits `dest`, and says whether it does: of any number of
-/// bytes, and kept apart from those few that need no such question.
-#[inline(never)]
-fn append_fitting(bytes: &[u8], dest: &mut [u8], progress: &mut Progress) -> bool
-    requires some { 0 < length bytes.now }
-    requires room { end_of progress.old ≤ length dest.old }
-    ensures fits { IsTrue result ↔ (progress.old.block.index
-        + open_len progress.old.block.code bytes.now ≤ length dest.old) }
-    ensures after { IsTrue result → ((m : List ℕ) → CobsEncoderAfter dest.old progress.old m
-        → CobsEncoderAfter dest.new progress.new (m ++ bytes.now)) }
-    ensures room { end_of progress.new ≤ length dest.new }
-    ensures rest { IsTrue result
-        → drop (end_of progress.new) dest.new ≡ drop (end_of progress.new) dest.old }
-    ensures refused { result ≡ false
-        → (dest.new ≡ dest.old) × (progress.new ≡ progress.old) }
-{
-    let room = dest.len() - progress.index();
-    if !fits(progress.code(), bytes, room) {
-        return false;
-    }
-    append(bytes, dest, progress);
-    true
 }

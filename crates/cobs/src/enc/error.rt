@@ -1,4 +1,4 @@
-//! What an encoder answers where a frame doesn't fit.
+//! What an encoder returns if a frame doesn't fit.
 
 use serde::{Deserialize, Serialize};
 use thiserror::Error;

@@ -1,7 +1,6 @@
 //! Whether a frame fits, before a byte of it is written.
 ghost use Rattle.std.specs.Prelude.{◌≡◌, ◌<◌, ◌≤◌, ◌+◌, ◌-◌, ◌++◌, ◌↔◌, IsTrue, length, replicate};
-ghost use Rattle.cobs.specs.Internal.OpenLen.{open_len};
-ghost use Rattle.cobs.specs.Length.{full_blocks, runs};
+ghost use Rattle.cobs.specs.Length.{full_blocks, runs, open_len};
 
 use crate::enc::blocks::{FULL_CODE, run_len};
 use crate::max_encoding_overhead;
@@ -11,8 +10,8 @@ use memchr::memrchr;
 const FULL_BLOCK_BYTES: usize = 254;
 
 /// Whether `room` bytes, counted from the index of an open block with this code, are enough for the frame once the
-/// block has taken `source`. Where the source is too short for a full block with bytes after it, its length alone
-/// answers that.
+/// block has taken `source`. If the source is too short for a full block with bytes after it, its length
+/// decides that.
 #[inline(always)]
 pub(crate) fn fits(code: usize, source: &[u8], room: usize) -> bool
     requires some { 0 < code }
@@ -25,7 +24,7 @@ pub(crate) fn fits(code: usize, source: &[u8], room: usize) -> bool
     fits_any(code, source, room)
 }
 
-/// The same question, of a source of any length. Most of the time the lengths alone answer it: the frame is longest
+/// The same question, of a source of any length. Most of the time the lengths decide it: the frame is longest
 /// where no byte is a zero, and shortest where no block becomes full.
 #[inline(never)]
 pub(crate) fn fits_any(code: usize, source: &[u8], room: usize) -> bool

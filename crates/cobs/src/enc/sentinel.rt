@@ -7,9 +7,9 @@ ghost use Rattle.cobs.specs.Sentinel.{xor_each, IsEncodedFrameFor, IsDelimitedFr
 use crate::enc::error::DestBufTooSmallError;
 use crate::enc::{encode, try_encode};
 
-/// Writes the encoded frame of `source` for this sentinel to the front of `dest`, and answers its length in bytes.
+/// Writes the encoded frame of `source` for this sentinel to the front of `dest`, and returns its length in bytes.
 ///
-/// It is the frame that [`encode`] writes, each byte changed by exclusive or with `sentinel`, so no byte of it is the
+/// It is the frame that [`encode`] writes, each byte XORed with `sentinel`, so no byte of it is the
 /// sentinel. No sentinel is written, and the bytes of `dest` after the frame stay as they were.
 ///
 /// Precondition: the frame fits `dest`. It always fits [`max_encoding_length`](crate::max_encoding_length) of the
@@ -33,10 +33,10 @@ pub fn encode_with_sentinel(source: &[u8], dest: &mut [u8], sentinel: u8) -> usi
     len
 }
 
-/// Does what [`encode_with_sentinel`] does, where the frame fits `dest`.
+/// Does what [`encode_with_sentinel`] does, if the frame fits `dest`.
 ///
 /// # Errors
-/// `DestBufTooSmallError` exactly where the frame is longer than `dest`. Then no byte of `dest` has changed, which is a
+/// `DestBufTooSmallError` exactly if the frame is longer than `dest`. Then no byte of `dest` has changed, which is a
 /// choice of this library.
 ///
 /// ```
@@ -63,7 +63,7 @@ pub fn try_encode_with_sentinel(
     Ok(written)
 }
 
-/// Changes each byte by exclusive or with `sentinel`.
+/// XORs each byte with `sentinel`.
 pub(crate) fn xor_bytes(bytes: &mut [u8], sentinel: u8)
     ensures changed { bytes.new ≡ xor_each sentinel bytes.old }
 {
@@ -72,7 +72,7 @@ pub(crate) fn xor_bytes(bytes: &mut [u8], sentinel: u8)
     }
 }
 
-/// Writes 0, the encoded frame of `source` and 0 to the front of `dest`, and answers the length of the three in bytes.
+/// Writes 0, the encoded frame of `source` and 0 to the front of `dest`, and returns the length of the three in bytes.
 ///
 /// The bytes of `dest` after them stay as they were. A sentinel on both sides of a frame is as in the crate `cobs`.
 ///
@@ -102,7 +102,7 @@ pub fn encode_including_sentinels(source: &[u8], dest: &mut [u8]) -> usize
 /// Does what [`encode_including_sentinels`] does, where the frame and both sentinels fit `dest`.
 ///
 /// # Errors
-/// `DestBufTooSmallError` exactly where the three together are longer than `dest`. Then no byte of `dest` has changed,
+/// `DestBufTooSmallError` exactly if the three together are longer than `dest`. Then no byte of `dest` has changed,
 /// which is a choice of this library.
 ///
 /// ```
@@ -112,7 +112,7 @@ pub fn encode_including_sentinels(source: &[u8], dest: &mut [u8]) -> usize
 /// assert_eq!(rt; try_encode_including_sentinels(&[1], &mut dest), Ok(4));
 /// assert_eq!(rt; dest, [0, 2, 1, 0]);
 /// ```
-#[tactic(auto, using(crate::proofs::SentinelLemmas::behind_sentinels))]
+#[tactic(auto, using(crate::proofs::format::SentinelLemmas::behind_sentinels))]
 pub fn try_encode_including_sentinels(
     source: &[u8],
     dest: &mut [u8],

@@ -26,10 +26,10 @@ pub enum PushResult {
     ModifyFromStartAndPushAndSkip((usize, u8, u8)),
 }
 
-/// Where the open block of an output begins, and the code that it has so far, from 1 to 254.
+/// The place where the open block of an output begins, and the code that it has so far, from 1 to 254.
 ///
 /// The state holds no output, so a caller can stream the encoded bytes into a container of its own. That output begins
-/// as one placeholder, a byte of any value. Each answer of [`push`](EncoderState::push) says what a byte of the message
+/// as one placeholder, a byte of any value. Each result of [`push`](EncoderState::push) says what a byte of the message
 /// changes in it, and [`finalize`](EncoderState::finalize) gives the last change. A caller who carries out all of them
 /// has the frame of the message whose last block isn't full. That is the frame that [`encode`](crate::encode) writes,
 /// but where the message's last run of nonzero bytes has a positive length divisible by 254: then it is the longer
@@ -68,7 +68,7 @@ impl Model for EncoderState {
 impl Default for EncoderState {
     ghost is_default = { λ state. state ≡ record { index = 0; code = 1 } };
 
-    /// The start: the open block is the placeholder at index 0, and has no bytes yet.
+    /// Makes the start: the open block is the placeholder at index 0, and has no bytes yet.
     ///
     /// ```
     /// let state = EncoderState::default();
@@ -93,7 +93,7 @@ impl Clone for EncoderState {
 
     ghost is_infallible = { λ _. ⊤ };
 
-    /// An equal state. This takes no memory, so the answer is always Ok.
+    /// Returns an equal state. This doesn't allocate, so the result is always Ok.
     ///
     /// ```
     /// let mut state = EncoderState::default();
@@ -113,8 +113,8 @@ impl Clone for EncoderState {
 }
 
 impl EncoderState {
-    /// Whether a byte more can be pushed: whether the index of the next block fits a `usize`, whatever the byte.
-    /// (This call is this library's own.)
+    /// Returns whether another byte can be pushed: whether the index of the next block fits a `usize`, whatever the
+    /// byte. (This call is this library's own.)
     ///
     /// ```
     /// assert!(rt; EncoderState::default().can_push());
@@ -125,7 +125,7 @@ impl EncoderState {
         self.code_index < usize::MAX - self.code as usize
     }
 
-    /// Takes the next byte of the message, and answers what it changes in the output.
+    /// Takes the next byte of the message, and returns what it changes in the output.
     ///
     /// Precondition: [`can_push`](EncoderState::can_push) is true. Indices count bytes from the start of the output.
     ///

@@ -1,15 +1,16 @@
 //! The encoder whose buffer is passed to each call, of a message that comes in pieces.
-ghost use Rattle.std.specs.Prelude.{◌≡◌, ◌<◌, ◌≤◌, ◌++◌, ◌↔◌, [], ℕ, List, length, take, drop, IsOk, IsSome, IfOk, IfSome, OnOk, OnErr, false};
+ghost use Rattle.std.specs.Prelude.{◌≡◌, ◌<◌, ◌≤◌, ◌++◌, ◌↔◌, [], ℕ, List, length, take, drop, IsOk, IsTrue, IfOk, OnOk, OnErr, false};
 ghost use Rattle.cobs.specs.Grammar.{HasNoZero, IsEncodedFrame};
 ghost use Rattle.cobs.specs.Length.{encoded_len};
-ghost use Rattle.cobs.specs.OpenBlock.{CobsEncoderAfter, end_of};
-ghost use Rattle.cobs.specs.Fields.Encoders.{reached_at, reached_by, IsPlaceIn};
+ghost use Rattle.cobs.specs.OpenBlock.{CobsEncoderAfter, HasRoomFor, IsPlaceIn, end_after, end_of};
+ghost use Rattle.cobs.specs.Fields.Progress.{reached_at, reached_by};
+ghost use Rattle.cobs.specs.Internal.Taking.{TakesFront};
 
 use crate::enc::DestBufTooSmallError;
-use crate::enc::blocks::{FULL_CODE, Progress, append, close};
+use crate::enc::blocks::{FULL_CODE, append, append_short, close, is_short};
 use crate::enc::room::fits;
 
-/// How far the frame in a buffer has come, in plain numbers: where an [`UnbufferedEncoder`] stands. (A choice of this
+/// How far the frame in a buffer has come, in plain numbers: where an [`UnbufferedEncoder`] is. (A choice of this
 /// library.)
 ///
 /// ```
@@ -35,13 +36,27 @@ pub struct EncoderProgress {
     pub is_full: bool,
 }
 
+impl EncoderProgress {
+    /// The start: one open block without bytes at the front of the buffer.
+    pub(crate) fn start() -> Self
+        ensures { reached_at result
+            ≡ record { block = record { index = 0; code = 1 }; full = false } }
+    {
+        EncoderProgress {
+            index: 0,
+            code: 1,
+            is_full: false,
+        }
+    }
+}
+
 /// Encodes a message that comes in pieces, straight into a buffer that the caller passes to each call.
 ///
 /// It writes the frame that [`CobsEncoder`](crate::CobsEncoder) writes, and has no buffer of its own: a few words say
 /// how far the frame has come. So an encoder can lie in a struct beside its buffer, or cross to another language.
 ///
 /// From the first push to the end of the message the caller passes one buffer, as the call before left it. Any other
-/// buffer is safe too, of whatever length, and so is any [`EncoderProgress`]: no call panics, or answers a length
+/// buffer is safe too, of whatever length, and so is any [`EncoderProgress`]: no call panics, or returns a length
 /// that is greater than the buffer's. But what the buffer holds then isn't said.
 ///
 /// ```
@@ -58,8 +73,8 @@ pub struct UnbufferedEncoder {
 }
 
 impl UnbufferedEncoder {
-    /// An encoder that has taken nothing yet, for a buffer of one byte at least: the frame of the empty message has
-    /// one.
+    /// Makes an encoder that has taken nothing yet, for a buffer of one byte at least: the frame of the empty message
+    /// has one.
     ///
     /// ```
     /// let mut buffer = [170; 2];
@@ -73,15 +88,11 @@ impl UnbufferedEncoder {
             → CobsEncoderAfter buffer (reached_by result) [] }
     {
         UnbufferedEncoder {
-            progress: EncoderProgress {
-                index: 0,
-                code: 1,
-                is_full: false,
-            },
+            progress: EncoderProgress::start(),
         }
     }
 
-    /// The encoder that stands there, whatever the numbers are.
+    /// Makes an encoder in this state, whatever the numbers are.
     ///
     /// ```
     /// let mut buffer = [0; 64];
@@ -98,7 +109,7 @@ impl UnbufferedEncoder {
         UnbufferedEncoder { progress }
     }
 
-    /// Where the encoder stands.
+    /// Returns how far the encoder has come.
     ///
     /// ```
     /// let progress = UnbufferedEncoder::new().progress();
@@ -132,10 +143,9 @@ impl UnbufferedEncoder {
         *self = UnbufferedEncoder::new();
     }
 
-    /// The place as the core has it, where a frame that ends in this buffer can have come so far.
-    fn place_in(&self, dest: &[u8]) -> Option<Progress>
-        ensures known { IsSome result ↔ IsPlaceIn (length dest.now) (reached_by self.now) }
-        ensures place { IfSome result (λ progress. progress ≡ reached_by self.now) }
+    /// Whether a frame that ends in a buffer of this length can have come so far.
+    fn is_within(&self, len: usize) -> bool
+        ensures { IsTrue result ↔ IsPlaceIn len (reached_by self.now) }
     {
         let EncoderProgress {
             index,
@@ -143,37 +153,74 @@ impl UnbufferedEncoder {
             is_full,
         } = self.progress;
         let code = code as usize;
-        if code == 0 || code == FULL_CODE || dest.len() < index {
-            return None;
+        if code == 0 || code == FULL_CODE || len < index {
+            return false;
         }
-        if !is_full && dest.len() - index < code {
-            return None;
+        if !is_full && len - index < code {
+            return false;
         }
-        Some(Progress::at(index, code, is_full))
+        true
     }
 
-    /// Stands where the core has come to.
-    fn stand_at(&mut self, progress: &Progress)
-        ensures place { reached_by self.new ≡ progress.now }
-        ensures some { 0 < progress.now.block.code }
-        ensures open_block { progress.now.block.code < 255 }
+    /// Takes the next bytes if the frame fits the buffer with them, and says whether it does: a few that can't fill the
+    /// open block at once.
+    #[inline(always)]
+    pub(crate) fn take(&mut self, dest: &mut [u8], bytes: &[u8]) -> bool
+        requires { IsPlaceIn (length dest.old) (reached_by self.old) }
+        ensures fits { IsTrue result ↔ (end_after (reached_by self.old) bytes.now ≤ length dest.old) }
+        ensures taken { IsTrue result → TakesFront dest.old (reached_by self.old) bytes.now
+            (length bytes.now) dest.new (reached_by self.new) }
+        ensures refused { result ≡ false
+            → (dest.new ≡ dest.old) × (reached_by self.new ≡ reached_by self.old) }
+        ensures empty { bytes.now ≡ []
+            → (dest.new ≡ dest.old) × (reached_by self.new ≡ reached_by self.old) }
     {
-        self.progress = EncoderProgress {
-            index: progress.index(),
-            code: progress.code() as u8,
-            is_full: progress.is_full(),
-        };
+        let at = self.progress;
+        let room = dest.len() - at.index;
+        if is_short(at, bytes.len()) && at.code as usize + bytes.len() <= room {
+            // Field by field, so that no byte between the fields is copied.
+            let behind = append_short(bytes, dest, at, true);
+            self.progress.index = behind.index;
+            self.progress.code = behind.code;
+            self.progress.is_full = behind.is_full;
+            return true;
+        }
+        self.take_any(dest, bytes)
+    }
+
+    /// Takes any number of bytes so: a function of its own, so that a few don't pay for the registers that it takes.
+    #[inline(never)]
+    fn take_any(&mut self, dest: &mut [u8], bytes: &[u8]) -> bool
+        requires { IsPlaceIn (length dest.old) (reached_by self.old) }
+        ensures fits { IsTrue result ↔ (end_after (reached_by self.old) bytes.now ≤ length dest.old) }
+        ensures taken { IsTrue result → TakesFront dest.old (reached_by self.old) bytes.now
+            (length bytes.now) dest.new (reached_by self.new) }
+        ensures refused { result ≡ false
+            → (dest.new ≡ dest.old) × (reached_by self.new ≡ reached_by self.old) }
+        ensures empty { bytes.now ≡ []
+            → (dest.new ≡ dest.old) × (reached_by self.new ≡ reached_by self.old) }
+    {
+        if bytes.is_empty() {
+            return true;
+        }
+        let at = self.progress;
+        let room = dest.len() - at.index;
+        if !fits(at.code as usize, bytes, room) {
+            return false;
+        }
+        self.progress = append(bytes, dest, at);
+        true
     }
 
     /// Takes the next bytes of the message.
     ///
-    /// They are refused exactly where the encoded frame of all the bytes that were taken so far, followed by these, is
+    /// They don't fit exactly if the encoded frame of all the bytes that were taken so far, followed by these, is
     /// longer than the buffer, or where no frame can have come so far in a buffer of this length. Then neither the
     /// encoder nor the buffer has changed, so the caller may end the frame, or push fewer bytes. An empty push changes
     /// nothing. The bytes of the buffer after the frame are never written.
     ///
     /// # Errors
-    /// `DestBufTooSmallError` where the bytes are refused.
+    /// `DestBufTooSmallError` if the bytes don't fit.
     ///
     /// ```
     /// let mut buffer = [170; 3];
@@ -187,6 +234,7 @@ impl UnbufferedEncoder {
     /// assert_eq!(rt; buffer, [3, 7, 8]);
     /// ```
     pub fn push(&mut self, dest: &mut [u8], bytes: &[u8]) -> Result<(), DestBufTooSmallError>
+        ensures room { IsOk result ↔ HasRoomFor (length dest.old) (reached_by self.old) bytes.now }
         ensures fits { (m : List ℕ) → CobsEncoderAfter dest.old (reached_by self.old) m
             → (IsOk result ↔ (encoded_len (m ++ bytes.now) ≤ length dest.old)) }
         ensures taken { OnOk result ((m : List ℕ)
@@ -201,22 +249,16 @@ impl UnbufferedEncoder {
         ensures empty { bytes.now ≡ []
             → (dest.new ≡ dest.old) × (reached_by self.new ≡ reached_by self.old) }
     {
-        let Some(mut progress) = self.place_in(dest) else {
-            return Err(DestBufTooSmallError);
-        };
-        if bytes.is_empty() {
-            return Ok(());
-        }
-        let room = dest.len() - progress.index();
-        if !fits(progress.code(), bytes, room) {
+        if !self.is_within(dest.len()) {
             return Err(DestBufTooSmallError);
         }
-        append(bytes, dest, &mut progress);
-        self.stand_at(&progress);
+        if !self.take(dest, bytes) {
+            return Err(DestBufTooSmallError);
+        }
         Ok(())
     }
 
-    /// Ends the message, and answers the length of its encoded frame in bytes. The buffer begins with that frame, and
+    /// Ends the message, and returns the length of its encoded frame in bytes. The buffer begins with that frame, and
     /// the encoder has taken nothing. Every byte after the frame is as it was.
     ///
     /// # Errors
@@ -228,6 +270,7 @@ impl UnbufferedEncoder {
     /// assert_eq!(rt; refused, Err(DestBufTooSmallError));
     /// ```
     pub fn finalize(&mut self, dest: &mut [u8]) -> Result<usize, DestBufTooSmallError>
+        ensures place { IsOk result ↔ IsPlaceIn (length dest.old) (reached_by self.old) }
         ensures fits { (m : List ℕ) → CobsEncoderAfter dest.old (reached_by self.old) m
             → IsOk result }
         ensures len { IfOk result (λ n. (m : List ℕ)
@@ -250,10 +293,10 @@ impl UnbufferedEncoder {
         ensures refused { OnErr result
             ((dest.new ≡ dest.old) × (reached_by self.new ≡ reached_by self.old)) }
     {
-        let Some(progress) = self.place_in(dest) else {
+        if !self.is_within(dest.len()) {
             return Err(DestBufTooSmallError);
-        };
-        let len = close(dest, progress);
+        }
+        let len = close(dest, self.progress);
         self.reset();
         Ok(len)
     }

@@ -9,19 +9,19 @@ use crate::enc::sentinel::{encode_including_sentinels, encode_with_sentinel};
 use crate::max_encoding_length;
 use std::alloc::{AllocError, Global};
 
-/// The encoded frame of `source`, in a vector of exactly its bytes. No sentinel stands before or after it.
+/// Returns the encoded frame of `source`, in a vector of exactly its bytes. No sentinel is before or after it.
 ///
 /// Precondition: [`max_encoding_length`](crate::max_encoding_length) of the message's length fits a `usize`. Memory is
 /// asked for once, for that many bytes.
 ///
 /// # Errors
-/// `AllocError` where that memory is refused.
+/// `AllocError` if that memory runs out.
 ///
 /// ```
 /// let frame = encode_vec(alloc, b"hello")?;
 /// assert_eq!(rt; frame.as_slice(), b"\x06hello".as_slice());
 /// ```
-#[tactic(auto, using(crate::proofs::LengthLemmas::bounds))]
+#[tactic(auto, using(crate::proofs::format::LengthLemmas::bounds))]
 pub fn encode_vec(alloc: Global, source: &[u8]) -> Result<Vec<u8>, AllocError>
     requires { max_encoded_len (length source.now) < 2 ^ 64 }
     ensures frame { IfOk result (λ bytes. IsEncodedFrame bytes.items source.now) }
@@ -33,20 +33,20 @@ pub fn encode_vec(alloc: Global, source: &[u8]) -> Result<Vec<u8>, AllocError>
     Ok(frame)
 }
 
-/// 0, the encoded frame of `source` and 0, in a vector of exactly these bytes.
+/// Returns 0, the encoded frame of `source` and 0, in a vector of exactly these bytes.
 ///
 /// Precondition: [`max_encoding_length`](crate::max_encoding_length) of the message's length, plus 2, fits a `usize`.
-/// Memory is asked for once, for that many bytes. That the vector has both sentinels and no byte more is a choice of
+/// Memory is allocated once, for that many bytes. That the vector has both sentinels and no byte more is a choice of
 /// this library.
 ///
 /// # Errors
-/// `AllocError` where that memory is refused.
+/// `AllocError` if that memory runs out.
 ///
 /// ```
 /// let delimited = encode_vec_including_sentinels(alloc, b"hello")?;
 /// assert_eq!(rt; delimited.as_slice(), b"\0\x06hello\0".as_slice());
 /// ```
-#[tactic(auto, using(crate::proofs::LengthLemmas::bounds))]
+#[tactic(auto, using(crate::proofs::format::LengthLemmas::bounds))]
 pub fn encode_vec_including_sentinels(alloc: Global, source: &[u8]) -> Result<Vec<u8>, AllocError>
     requires { max_encoded_len (length source.now) + 2 < 2 ^ 64 }
     ensures frame { IfOk result (λ bytes. IsDelimitedFrame bytes.items source.now) }
@@ -58,20 +58,20 @@ pub fn encode_vec_including_sentinels(alloc: Global, source: &[u8]) -> Result<Ve
     Ok(delimited)
 }
 
-/// The encoded frame of `source` for this sentinel, in a vector of exactly its bytes: each byte of the frame of
-/// [`encode_vec`], changed by exclusive or with `sentinel`.
+/// Returns the encoded frame of `source` for this sentinel, in a vector of exactly its bytes: each byte of the frame of
+/// [`encode_vec`], XORed with `sentinel`.
 ///
 /// Precondition: [`max_encoding_length`](crate::max_encoding_length) of the message's length fits a `usize`. Memory is
 /// asked for once, for that many bytes.
 ///
 /// # Errors
-/// `AllocError` where that memory is refused.
+/// `AllocError` if that memory runs out.
 ///
 /// ```
 /// let frame = encode_vec_with_sentinel(alloc, &[10, 11, 0, 12], 255)?;
 /// assert_eq!(rt; frame.as_slice(), [252, 245, 244, 253, 243].as_slice());
 /// ```
-#[tactic(auto, using(crate::proofs::LengthLemmas::bounds))]
+#[tactic(auto, using(crate::proofs::format::LengthLemmas::bounds))]
 pub fn encode_vec_with_sentinel(
     alloc: Global,
     source: &[u8],

@@ -1,14 +1,15 @@
-use Rattle.std.proofs.Common.{◌≡◌, ◌≢◌, [], ◌∷◌, ◌-◌, ℕ, List, length, take, drop, get_or, Option, Some, None, Err, sym, ap, ◌∙◌, rules, arith, refl, length-drop}
+use Rattle.std.proofs.Common.{◌≡◌, ◌≢◌, ◌-◌, ℕ, List, length, take, drop, get_or, Option, Some, None, Err, sym, ap, ◌∙◌, rules, arith, length-drop}
 use Rattle.std.proofs.lemmas.List.{take_rest}
 use Rattle.std.proofs.lemmas.Bool.{eqb-true, eqb-false}
 use Rattle.cobs.specs.Overwritten.{overwritten}
 use Rattle.cobs.specs.Decode.{output_of, len_through_piece, leading_zeros}
 use Rattle.cobs.specs.Stream.{first_piece, head}
-use Rattle.cobs.proofs.FrontSteps.{head-one_more}
-use Rattle.cobs.proofs.OutcomeLemmas.{length-head, first_piece_head}
-use Rattle.cobs.proofs.HeadlineLemmas.{bytes_below, decode_reads}
-use Rattle.cobs.proofs.HeadLemmas.{first_piece_behind, first_piece_empty, leading_zeros-stop}
-use Rattle.cobs.proofs.OutcomeSteps.{decode_answer-none, decode_answer-refused, decode_answer-decoded, overwritten-none}
+use Rattle.cobs.proofs.decoding.FrontSteps.{head-one_more}
+use Rattle.cobs.proofs.decoding.OutcomeLemmas.{length-head, first_piece_head}
+use Rattle.cobs.proofs.decoding.HeadlineLemmas.{bytes_below, decode_reads}
+use Rattle.cobs.proofs.decoding.HeadLemmas.{first_piece_behind, first_piece_empty, leading_zeros-stop}
+use Rattle.cobs.proofs.decoding.OutcomeSteps.{decode_answer-none, decode_answer-refused, decode_answer-decoded, overwritten-none}
+use Rattle.cobs.proofs.decoding.ReadsLemmas.{frame_piece}
 use Rattle.cobs.proofs.dec.decode.Goals as goal
 use Rattle.cobs.proofs.dec.decode.Goals.{then-end-source, else-end-source, After-leading_zeros-start}
 
@@ -20,26 +21,16 @@ rest-is : (c : After-leading_zeros-start) → rest_of c ≡ drop (leading_zeros 
 rest-is c = take_rest c.args.source.now c.leading_zeros-start.result ∙ ap (λ (k : ℕ). drop k c.args.source.now) c.leading_zeros-start.ensures.count
 
 begun : (c : After-leading_zeros-start) → length (rest_of c) ≢ 0 → get_or (rest_of c) 0 0 ≢ 0
-begun c some zero =
-    let source : List ℕ = c.args.source.now in
-    let l = ap length (rest-is c) in
-    let d = length-drop (leading_zeros source) source in
-    leading_zeros-stop source (omega arith) (sym (ap (λ (xs : List ℕ). get_or xs 0 0) (rest-is c)) ∙ zero)
+begun c some zero = grind (arith, rest-is, length-drop, leading_zeros-stop)
 
 none-behind : (c : After-leading_zeros-start) → length (rest_of c) ≡ 0 → first_piece c.args.source.now ≡ None
 none-behind c empty = first_piece_behind c.args.source.now ∙ ap first_piece (sym (rest-is c)) ∙ first_piece_empty (rest_of c) empty
 
 found : (c : After-leading_zeros-start) → length (rest_of c) ≢ 0 → first_piece c.args.source.now ≡ Some (head (rest_of c))
-found c some = first_piece_behind c.args.source.now ∙ ap first_piece (sym (rest-is c)) ∙ by_cases (rest_of c) some (begun c some)
-  where
-    by_cases : (xs : List ℕ) → length xs ≢ 0 → get_or xs 0 0 ≢ 0 → first_piece xs ≡ Some (head xs)
-    by_cases [] some first = absurd (some refl)
-    by_cases (x ∷ xs) some first = first_piece_head x xs first
+found c some = grind (arith, first_piece_behind, rest-is, rest_of, begun, first_piece_head)
 
 pub returns-then-is_empty-clause-buffer : goal.returns-then-is_empty-clause-buffer
-returns-then-is_empty-clause-buffer c =
-    let none = first_piece_empty c.args.source.now (eqb-true _ 0 (sym c.is_empty.ensures ∙ c.if-is_empty.true)) in
-    sym (ap (λ (p : Option (List ℕ)). overwritten c.args.dest.now (output_of p)) none ∙ overwritten-none c.args.dest.now)
+returns-then-is_empty-clause-buffer c = grind (arith, first_piece_empty, eqb-true, overwritten-none)
 
 pub returns-then-is_empty-2-clause-answer : goal.returns-then-is_empty-2-clause-answer
 returns-then-is_empty-2-clause-answer c =
@@ -52,6 +43,10 @@ returns-then-is_empty-2-clause-buffer c =
     let none = none-behind (goal.at.returns-then-is_empty-2-clause-buffer c).After-leading_zeros-start (eqb-true _ 0 (sym c.is_empty-2.ensures ∙ c.if-is_empty-2.true)) in
     sym (ap (λ (p : Option (List ℕ)). overwritten c.args.dest.now (output_of p)) none ∙ overwritten-none c.args.dest.now)
 
+pub returns-then-is_empty-2-clause-reads : goal.returns-then-is_empty-2-clause-reads
+returns-then-is_empty-2-clause-reads c =
+    λ m r fits. (decode_reads c.args.source.now c.args.dest.now _ _ (returns-then-is_empty-2-clause-answer c) (returns-then-is_empty-2-clause-buffer c) (bytes_below c.args.source.now c.type_inv.source) (frame_piece r) m).1 (r, fits)
+
 pub decode_begun-len-requires : goal.decode_begun-len-requires
 decode_begun-len-requires c =
     let at = (goal.at.decode_begun-len-requires c).After-leading_zeros-start in
@@ -59,11 +54,7 @@ decode_begun-len-requires c =
     record { begun = head-one_more 0 (rest_of at) (omega arith) (omega arith) (begun at some) }
 
 pub overflow_add-end : goal.overflow_add-end
-overflow_add-end c =
-    let at = (goal.at.overflow_add-end c).After-leading_zeros-start in
-    let l = length-head (rest_of at) in
-    let r = ap length (take_rest c.args.source.now c.leading_zeros-start.result) ∙ length-drop c.leading_zeros-start.result c.args.source.now in
-    omega (arith, c.decode_begun-len.ensures.len, c.leading_zeros-start.ensures.within)
+overflow_add-end c = grind (arith, After-leading_zeros-start, length-head, rest_of, take_rest, length-drop)
 
 pub returns-in_err-frame_size-clause-answer : goal.returns-in_err-frame_size-clause-answer
 returns-in_err-frame_size-clause-answer c =
@@ -81,7 +72,11 @@ returns-in_err-frame_size-clause-buffer c =
 
 pub returns-in_err-frame_size-clause-reads : goal.returns-in_err-frame_size-clause-reads
 returns-in_err-frame_size-clause-reads c =
-    decode_reads c.args.source.now c.args.dest.now _ _ (returns-in_err-frame_size-clause-answer c) (returns-in_err-frame_size-clause-buffer c) (bytes_below c.args.source.now c.type_inv.source)
+    λ m r fits. (decode_reads c.args.source.now c.args.dest.now _ _ (returns-in_err-frame_size-clause-answer c) (returns-in_err-frame_size-clause-buffer c) (bytes_below c.args.source.now c.type_inv.source) (frame_piece r) m).1 (r, fits)
+
+pub returns-in_err-frame_size-clause-only : goal.returns-in_err-frame_size-clause-only
+returns-in_err-frame_size-clause-only c =
+    λ piece m told. (decode_reads c.args.source.now c.args.dest.now _ _ (returns-in_err-frame_size-clause-answer c) (returns-in_err-frame_size-clause-buffer c) (bytes_below c.args.source.now c.type_inv.source) piece m).0 told
 
 pub returns-clause-answer : goal.returns-clause-answer
 returns-clause-answer c =
@@ -107,4 +102,8 @@ returns-clause-buffer c =
 
 pub returns-clause-reads : goal.returns-clause-reads
 returns-clause-reads c =
-    decode_reads c.args.source.now c.args.dest.now _ _ (returns-clause-answer c) (returns-clause-buffer c) (bytes_below c.args.source.now c.type_inv.source)
+    λ m r fits. (decode_reads c.args.source.now c.args.dest.now _ _ (returns-clause-answer c) (returns-clause-buffer c) (bytes_below c.args.source.now c.type_inv.source) (frame_piece r) m).1 (r, fits)
+
+pub returns-clause-only : goal.returns-clause-only
+returns-clause-only c =
+    λ piece m told. (decode_reads c.args.source.now c.args.dest.now _ _ (returns-clause-answer c) (returns-clause-buffer c) (bytes_below c.args.source.now c.type_inv.source) piece m).0 told

@@ -1,19 +1,30 @@
-use Rattle.std.proofs.Common.{[], sym, ◌∙◌, subst, arith}
-use Rattle.cobs.specs.OpenBlock.{CobsEncoderAfter, Reached}
-use Rattle.cobs.proofs.AfterLemmas.{end-is}
-use Rattle.cobs.proofs.CoreLemmas.{after-nothing}
-use Rattle.cobs.proofs.SentinelLemmas.{encoded_nonzero}
+use Rattle.std.proofs.Common.{◌≡◌, ℕ, drop, sym, ◌∙◌, subst, arith}
+use Rattle.cobs.specs.Fields.Progress.{reached_at}
+use Rattle.cobs.proofs.format.SentinelLemmas.{encoded_nonzero}
+use Rattle.cobs.proofs.encoding.TakingLemmas.{all-rest, start-after, start-code, start-fits, start-len}
 use Rattle.cobs.proofs.enc.encode.Goals as goal
 
+pub append_short-progress-requires-clause-code : goal.append_short-progress-requires-clause-code
+append_short-progress-requires-clause-code c = let e = start-code c.args.dest.now (reached_at c.start-start.result) c.start-start.ensures (omega arith) in omega arith
+
+pub append_short-progress-requires-clause-open_block : goal.append_short-progress-requires-clause-open_block
+append_short-progress-requires-clause-open_block c = let e = start-code c.args.dest.now (reached_at c.start-start.result) c.start-start.ensures (omega arith) in omega arith
+
+pub append_short-progress-requires-clause-fits : goal.append_short-progress-requires-clause-fits
+append_short-progress-requires-clause-fits c = let e = start-fits c.args.dest.now (reached_at c.start-start.result) c.start-start.ensures (omega arith) c.args.source.now in omega arith
+
+pub close-requires : goal.close-requires
+close-requires c = c.append_short-progress.ensures.place
+
 pub returns-then-source-le-WINDOW-clause-frame : goal.returns-then-source-le-WINDOW-clause-frame
-returns-then-source-le-WINDOW-clause-frame c =
-    let start = subst (λ (r : Reached). CobsEncoderAfter c.args.dest.now r []) (sym c.new-progress.ensures) (after-nothing c.args.dest.now (omega arith)) in
-    c.close.ensures.frame c.args.source.now (c.append_short.ensures.after [] start)
+returns-then-source-le-WINDOW-clause-frame c = c.close.ensures.frame c.args.source.now (start-after c.args.dest.now (reached_at c.start-start.result) c.start-start.ensures (omega arith) c.append_short-progress.ensures)
 
 pub returns-then-source-le-WINDOW-clause-len : goal.returns-then-source-le-WINDOW-clause-len
-returns-then-source-le-WINDOW-clause-len c =
-    let start = subst (λ (r : Reached). CobsEncoderAfter c.args.dest.now r []) (sym c.new-progress.ensures) (after-nothing c.args.dest.now (omega arith)) in
-    c.close.ensures.end ∙ sym (end-is c.append_short.new.dest c.args.source.now c.append_short.new.progress (c.append_short.ensures.after [] start))
+returns-then-source-le-WINDOW-clause-len c = c.close.ensures.end ∙ start-len c.args.dest.now (reached_at c.start-start.result) c.start-start.ensures (omega arith) c.append_short-progress.ensures
+
+pub returns-then-source-le-WINDOW-clause-rest : goal.returns-then-source-le-WINDOW-clause-rest
+returns-then-source-le-WINDOW-clause-rest c =
+    c.close.ensures.rest ∙ subst (λ (n : ℕ). drop n c.append_short-progress.new.dest ≡ drop n c.args.dest.now) (sym c.close.ensures.end) (all-rest c.append_short-progress.ensures)
 
 pub returns-then-source-le-WINDOW-clause-no_sentinel : goal.returns-then-source-le-WINDOW-clause-no_sentinel
 returns-then-source-le-WINDOW-clause-no_sentinel c = encoded_nonzero (returns-then-source-le-WINDOW-clause-frame c)

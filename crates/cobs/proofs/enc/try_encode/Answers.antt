@@ -1,5 +1,5 @@
 use Rattle.std.proofs.Common.{refl, arith}
-use Rattle.cobs.proofs.LengthLemmas.{encoded_len-le}
+use Rattle.cobs.proofs.format.LengthLemmas.{encoded_len-le}
 use Rattle.cobs.proofs.enc.try_encode.Goals as goal
 
 pub encode-requires : goal.encode-requires

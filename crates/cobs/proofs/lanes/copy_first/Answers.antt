@@ -5,7 +5,7 @@ use Rattle.std.proofs.lemmas.List.{take-take, take_all, drop_all, drop-append-le
 use Rattle.std.proofs.lemmas.Simd.{chunk-drop, length-chunk, length-sel_l}
 use Rattle.std.specs.List.{range_with_len}
 use lib.Lanes.{sel_l, top}
-use Rattle.cobs.proofs.MaskLemmas.{put_is}
+use Rattle.cobs.proofs.bytes.MaskLemmas.{put_is}
 use Rattle.cobs.proofs.lanes.copy_first.Goals as goal
 
 -- the places from one on that are below a number, as lanes

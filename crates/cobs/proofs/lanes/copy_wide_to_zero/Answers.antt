@@ -2,7 +2,7 @@ use Rattle.std.proofs.Common.{◌≡◌, ◌≢◌, ◌≤◌, ◌+◌, ◌∙�
 use Rattle.std.proofs.lemmas.List.{drop-drop, take_rest}
 use Rattle.std.proofs.lemmas.List.Elements.{All-append, All-same}
 use Rattle.cobs.specs.Grammar.{HasNoZero}
-use Rattle.cobs.proofs.WindowSteps.{drop-past, take-past, take_parts}
+use Rattle.cobs.proofs.decoding.WindowSteps.{drop-past, take-past, take_parts}
 use Rattle.cobs.proofs.lanes.copy_wide_to_zero.Goals as goal
 
 -- n bytes are copied behind 32 others

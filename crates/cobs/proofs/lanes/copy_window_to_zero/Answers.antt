@@ -2,7 +2,7 @@ use Rattle.std.proofs.Common.{ℕ, List, ◌≡◌, ◌≤◌, length, take, sub
 use Rattle.std.proofs.lemmas.List.{take-take}
 use Rattle.cobs.specs.Grammar.{HasNoZero}
 use Rattle.cobs.specs.Internal.Mask.{lowest}
-use Rattle.cobs.proofs.MaskLemmas.{clear_front}
+use Rattle.cobs.proofs.bytes.MaskLemmas.{clear_front}
 use Rattle.cobs.proofs.lanes.copy_window_to_zero.Goals as goal
 
 pub returns-clause-nonzero : goal.returns-clause-nonzero

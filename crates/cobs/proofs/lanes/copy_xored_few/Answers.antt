@@ -1,4 +1,4 @@
-use Rattle.cobs.proofs.XoredLemmas.{few-nonzero, few-xored}
+use Rattle.cobs.proofs.bytes.XoredLemmas.{few-nonzero, few-xored}
 use Rattle.cobs.proofs.lanes.copy_xored_few.Goals as goal
 
 pub returns-clause-nonzero : goal.returns-clause-nonzero

@@ -1,5 +1,5 @@
 use Rattle.std.proofs.Common.{arith}
-use Rattle.cobs.proofs.XoredLemmas.{parts-nonzero, parts-copied}
+use Rattle.cobs.proofs.bytes.XoredLemmas.{parts-nonzero, parts-copied}
 use Rattle.cobs.proofs.lanes.copy_xored_two.Goals as goal
 
 pub returns-clause-nonzero : goal.returns-clause-nonzero

@@ -1,4 +1,4 @@
-use Rattle.cobs.proofs.MoveLemmas.{few-moved}
+use Rattle.cobs.proofs.bytes.MoveLemmas.{few-moved}
 use Rattle.cobs.proofs.lanes.move_few.Goals as goal
 
 pub returns : goal.returns

@@ -1,6 +1,6 @@
 use Rattle.std.proofs.Common.{◌≡◌, ◌+◌, ◌-◌, ◌∙◌, ℕ, drop, take, ap, arith}
 use lib.Lanes.{put_chunk}
-use Rattle.cobs.proofs.MoveLemmas.{moved, moved-next, moved-more}
+use Rattle.cobs.proofs.bytes.MoveLemmas.{moved, moved-next, moved-more}
 use Rattle.cobs.proofs.lanes.move_long.Goals as goal
 
 pub by_window-preserved : goal.by_window-preserved

@@ -1,5 +1,5 @@
 use Rattle.std.proofs.Common.{◌≡◌, ◌-◌, ◌≤◌}
-use Rattle.cobs.proofs.MoveLemmas.{moved}
+use Rattle.cobs.proofs.bytes.MoveLemmas.{moved}
 use Rattle.cobs.proofs.lanes.move_long.Given as goal
 
 abbrev pub invariant-by_window : goal.invariant-by_window

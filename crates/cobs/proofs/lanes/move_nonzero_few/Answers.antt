@@ -1,7 +1,7 @@
 use Rattle.std.proofs.Common.{◌∙◌, take, drop, sym, arith}
-use Rattle.cobs.proofs.MaskLemmas.{zero_mask-none}
-use Rattle.cobs.proofs.ShortLemmas.{few-mask}
-use Rattle.cobs.proofs.MoveLemmas.{few-moved}
+use Rattle.cobs.proofs.bytes.MaskLemmas.{zero_mask-none}
+use Rattle.cobs.proofs.bytes.ShortLemmas.{few-mask}
+use Rattle.cobs.proofs.bytes.MoveLemmas.{few-moved}
 use Rattle.cobs.proofs.lanes.move_nonzero_few.Goals as goal
 
 pub returns-clause-nonzero : goal.returns-clause-nonzero

@@ -1,8 +1,8 @@
 use Rattle.std.proofs.Common.{◌≡◌, ◌+◌, ◌-◌, List, ℕ, take, drop, subst, arith}
 use Rattle.cobs.specs.Grammar.{HasNoZero}
-use Rattle.cobs.proofs.MaskLemmas.{zeros_by_lanes, zero_mask-none}
-use Rattle.cobs.proofs.NonzeroCopies.{or-none, more-nonzero}
-use Rattle.cobs.proofs.MoveLemmas.{parts-moved}
+use Rattle.cobs.proofs.bytes.MaskLemmas.{zeros_by_lanes, zero_mask-none}
+use Rattle.cobs.proofs.bytes.NonzeroCopies.{or-none, more-nonzero}
+use Rattle.cobs.proofs.bytes.MoveLemmas.{parts-moved}
 use Rattle.cobs.proofs.lanes.move_nonzero_two.Goals as goal
 
 pub returns-clause-nonzero : goal.returns-clause-nonzero

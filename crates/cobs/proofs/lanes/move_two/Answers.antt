@@ -1,5 +1,5 @@
 use Rattle.std.proofs.Common.{arith}
-use Rattle.cobs.proofs.MoveLemmas.{parts-moved}
+use Rattle.cobs.proofs.bytes.MoveLemmas.{parts-moved}
 use Rattle.cobs.proofs.lanes.move_two.Goals as goal
 
 pub returns : goal.returns

@@ -1,4 +1,4 @@
-use Rattle.cobs.proofs.StreamLemmas.{stream_outcomes-apart, stream_outcomes-one, stream_outcomes-nothing}
+use Rattle.cobs.proofs.format.StreamLemmas.{stream_outcomes-apart, stream_outcomes-one, stream_outcomes-nothing}
 use Rattle.cobs.proofs.laws.law_10.Goals as goal
 
 pub returns-clause-apart : goal.returns-clause-apart

@@ -1,4 +1,4 @@
-use Rattle.cobs.proofs.OutcomeLemmas.{outcome_frame}
+use Rattle.cobs.proofs.decoding.OutcomeLemmas.{outcome_frame}
 use Rattle.cobs.proofs.laws.law_11.Goals as goal
 
 pub returns : goal.returns

@@ -1,7 +1,7 @@
 use Rattle.std.proofs.Common.{sym}
-use Rattle.cobs.proofs.AfterLemmas.{end-is}
-use Rattle.cobs.proofs.EnumerationLemmas.{open_longer, open_shorter}
-use Rattle.cobs.proofs.OpenLemmas.{length-IsOpenOutput, index-IsOpenOutput}
+use Rattle.cobs.proofs.encoding.AfterLemmas.{end-is}
+use Rattle.cobs.proofs.format.EnumerationLemmas.{open_longer, open_shorter}
+use Rattle.cobs.proofs.encoding.OpenLemmas.{length-IsOpenOutput, index-IsOpenOutput}
 use Rattle.cobs.proofs.laws.law_13.Goals as goal
 
 pub returns-clause-output : goal.returns-clause-output

@@ -1,6 +1,6 @@
 use Rattle.std.proofs.Common.{◌≡◌, [], List, ℕ}
 use Rattle.cobs.specs.Feed.{DecoderAfter, Idle, Phase, phase_after}
-use Rattle.cobs.proofs.SoFar.{DecoderAfter-idle}
+use Rattle.cobs.proofs.streaming.FeedLemmas.{DecoderAfter-idle}
 use Rattle.cobs.proofs.laws.law_14.Goals as goal
 
 idle_of : (buffer : List ℕ) (phase : Phase) → DecoderAfter buffer phase [] → phase ≡ Idle

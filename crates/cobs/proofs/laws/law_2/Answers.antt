@@ -1,5 +1,5 @@
-use Rattle.cobs.proofs.UniqueLemmas.{encoded_frame, length-encoded, one_encoded}
-use Rattle.cobs.proofs.FrameLemmas.{frame_bytes}
+use Rattle.cobs.proofs.format.UniqueLemmas.{encoded_frame, length-encoded, one_encoded}
+use Rattle.cobs.proofs.format.FrameLemmas.{frame_bytes}
 use Rattle.cobs.proofs.laws.law_2.Goals as goal
 
 pub returns-clause-one : goal.returns-clause-one

@@ -1,4 +1,4 @@
-use Rattle.cobs.proofs.EnumerationLemmas.{all_frames, length-second}
+use Rattle.cobs.proofs.format.EnumerationLemmas.{all_frames, length-second}
 use Rattle.cobs.proofs.laws.law_3.Goals as goal
 
 pub returns-clause-frames : goal.returns-clause-frames

@@ -1,5 +1,5 @@
-use Rattle.cobs.proofs.LengthLemmas.{encoded_len-le, encoded_len-nonzero, encoded_len-reached}
-use Rattle.cobs.proofs.RoomLemmas.{encoded_len-longer}
+use Rattle.cobs.proofs.format.LengthLemmas.{encoded_len-le, encoded_len-nonzero, encoded_len-reached}
+use Rattle.cobs.proofs.encoding.RoomLemmas.{encoded_len-longer}
 use Rattle.cobs.proofs.laws.law_4.Goals as goal
 
 pub returns-clause-upper : goal.returns-clause-upper

@@ -1,5 +1,5 @@
-use Rattle.cobs.proofs.GrammarLemmas.{one_message}
-use Rattle.cobs.proofs.UniqueLemmas.{same_message}
+use Rattle.cobs.proofs.format.GrammarLemmas.{one_message}
+use Rattle.cobs.proofs.format.UniqueLemmas.{same_message}
 use Rattle.cobs.proofs.laws.law_5.Goals as goal
 
 pub returns-clause-message : goal.returns-clause-message

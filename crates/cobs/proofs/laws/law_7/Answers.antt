@@ -1,4 +1,4 @@
-use Rattle.cobs.proofs.JoinLemmas.{front_frame, front_message}
+use Rattle.cobs.proofs.format.JoinLemmas.{front_frame, front_message}
 use Rattle.cobs.proofs.laws.law_7.Goals as goal
 
 pub returns-clause-frame : goal.returns-clause-frame

@@ -1,4 +1,4 @@
-use Rattle.cobs.proofs.JoinLemmas.{Reads-append}
+use Rattle.cobs.proofs.format.JoinLemmas.{Reads-append}
 use Rattle.cobs.proofs.laws.law_8.Goals as goal
 
 pub returns : goal.returns

@@ -1,4 +1,4 @@
-use Rattle.cobs.proofs.StreamLemmas.{stream_outcomes-append, stream_outcomes-no_zero, unended-append, unended-no_zero, unended-zero, unended_no_zero}
+use Rattle.cobs.proofs.format.StreamLemmas.{stream_outcomes-append, stream_outcomes-no_zero, unended-append, unended-no_zero, unended-zero, unended_no_zero}
 use Rattle.cobs.proofs.laws.law_9.Goals as goal
 
 pub returns-clause-cut : goal.returns-clause-cut

@@ -1,7 +1,8 @@
 use Rattle.std.proofs.Common.{rules, ◌∙◌, refl, arith}
 use Rattle.std.proofs.lemmas.List.{map_push}
 use Rattle.cobs.specs.Messages.{outcome_in}
-use Rattle.cobs.proofs.SoFar.{DecoderAfter-idle, SoFar-start, SoFar-all, SoFar-piece, piece_count, outcome_there}
+use Rattle.cobs.proofs.streaming.FeedLemmas.{DecoderAfter-idle}
+use Rattle.cobs.proofs.streaming.SoFar.{SoFar-start, SoFar-all, SoFar-piece, piece_count, outcome_there}
 use Rattle.cobs.proofs.stream.decode_stream.Goals as goal
 
 pub by_piece-init : goal.by_piece-init

@@ -1,6 +1,6 @@
 use Rattle.std.proofs.Common.{◌≡◌, ◌≤◌, ◌-◌, length, take}
 use Rattle.cobs.specs.Messages.{outcomes_in}
-use Rattle.cobs.proofs.SoFar.{SoFar}
+use Rattle.cobs.proofs.streaming.SoFar.{SoFar}
 use Rattle.cobs.proofs.stream.decode_stream.Given as goal
 
 abbrev pub invariant-by_piece : goal.invariant-by_piece

@@ -1,6 +1,6 @@
 use Rattle.std.proofs.Common.{◌+◌, arith}
 use Rattle.std.proofs.lemmas.Grind.{common_steps}
-use Rattle.cobs.proofs.MessagesLemmas.{room-step, room-some}
+use Rattle.cobs.proofs.format.MessagesLemmas.{room-step, room-some}
 use Rattle.cobs.proofs.stream.encode_frames_room.Goals as goal
 
 pub returns-in_err-room-clause-fits : goal.returns-in_err-room-clause-fits

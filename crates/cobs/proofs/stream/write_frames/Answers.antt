@@ -2,8 +2,8 @@ use Rattle.std.proofs.Common.{◌≡◌, ℕ, ◌+◌, ◌-◌, ◌<◌, ◌≤�
 use Rattle.std.proofs.lemmas.List.{length-set}
 use Rattle.cobs.specs.Grammar.{IsEncodedFrame}
 use Rattle.cobs.specs.Length.{encoded_len}
-use Rattle.cobs.proofs.MessagesLemmas.{AreFrames-push, messages_in-more, room-step, room-left, written, length-written}
-use Rattle.cobs.proofs.LengthLemmas.{encoded_len-le}
+use Rattle.cobs.proofs.format.MessagesLemmas.{AreFrames-push, messages_in-more, room-step, room-left, written, length-written}
+use Rattle.cobs.proofs.format.LengthLemmas.{encoded_len-le}
 use Rattle.cobs.proofs.stream.write_frames.Goals as goal
 use Rattle.cobs.proofs.stream.write_frames.Goals.{After-deref, After-encode-len}
 

@@ -1,4 +1,4 @@
-use Rattle.cobs.proofs.ShortLemmas.{few-copied, few-mask}
+use Rattle.cobs.proofs.bytes.ShortLemmas.{few-copied, few-mask}
 use Rattle.cobs.proofs.window.copy_few.Goals as goal
 
 pub returns-clause-copied : goal.returns-clause-copied

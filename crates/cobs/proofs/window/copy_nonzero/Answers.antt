@@ -1,6 +1,6 @@
 use Rattle.std.proofs.Common.{◌+◌, List, ℕ, take, drop, sym, ◌∙◌, arith}
-use Rattle.cobs.proofs.MaskLemmas.{zeros_by_lanes, zero_mask-none}
-use Rattle.cobs.proofs.NonzeroCopies.{more-nonzero, more-copied}
+use Rattle.cobs.proofs.bytes.MaskLemmas.{zeros_by_lanes, zero_mask-none}
+use Rattle.cobs.proofs.bytes.NonzeroCopies.{more-nonzero, more-copied}
 use Rattle.cobs.proofs.window.copy_nonzero.Goals as goal
 
 pub by_window-preserved : goal.by_window-preserved

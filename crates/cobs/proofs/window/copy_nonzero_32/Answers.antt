@@ -1,8 +1,8 @@
 use Rattle.std.proofs.Common.{◌∙◌, List, ℕ, take, drop, refl, sym, arith}
 use Rattle.std.proofs.lemmas.Bool.{true≢false}
 use Rattle.std.proofs.lemmas.Simd.{length-chunk}
-use Rattle.cobs.proofs.MaskLemmas.{put_is, zeros_by_lanes, zero_mask-none}
-use Rattle.cobs.proofs.NonzeroCopies.{zero_mask-clear}
+use Rattle.cobs.proofs.bytes.MaskLemmas.{put_is, zeros_by_lanes, zero_mask-none}
+use Rattle.cobs.proofs.bytes.NonzeroCopies.{zero_mask-clear}
 use Rattle.cobs.proofs.window.copy_nonzero_32.Goals as goal
 
 pub returns-then-bytes-ne0-clause-nonzero : goal.returns-then-bytes-ne0-clause-nonzero

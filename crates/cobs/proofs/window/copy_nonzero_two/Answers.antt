@@ -2,8 +2,8 @@ use Rattle.std.proofs.Common.{◌≡◌, ◌+◌, ◌-◌, ◌∙◌, ◌++◌, 
 use Rattle.std.proofs.lemmas.Simd.{length-chunk, length-put_chunk}
 use lib.Lanes.{put_chunk}
 use Rattle.cobs.specs.Grammar.{HasNoZero}
-use Rattle.cobs.proofs.MaskLemmas.{put_is, zeros_by_lanes, zero_mask-none}
-use Rattle.cobs.proofs.NonzeroCopies.{or-none, more-nonzero, more-copied}
+use Rattle.cobs.proofs.bytes.MaskLemmas.{put_is, zeros_by_lanes, zero_mask-none}
+use Rattle.cobs.proofs.bytes.NonzeroCopies.{or-none, more-nonzero, more-copied}
 use Rattle.cobs.proofs.window.copy_nonzero_two.Goals as goal
 
 pub returns-clause-nonzero : goal.returns-clause-nonzero

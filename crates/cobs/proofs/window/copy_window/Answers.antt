@@ -1,6 +1,6 @@
 use Rattle.std.proofs.Common.{List, ℕ, drop, take, arith}
-use Rattle.cobs.proofs.MaskLemmas.{parts-copied, front-mask, back-mask, length-w}
-use Rattle.cobs.proofs.PartMasks.{or-window}
+use Rattle.cobs.proofs.bytes.MaskLemmas.{parts-copied, front-mask, back-mask, length-w}
+use Rattle.cobs.proofs.bytes.PartMasks.{or-window}
 use Rattle.cobs.proofs.window.copy_window.Goals as goal
 
 pub returns-then-len-ge16-clause-copied : goal.returns-then-len-ge16-clause-copied

@@ -2,7 +2,7 @@ use Rattle.std.proofs.Common.{◌≡◌, ◌∙◌, ℕ, List, get_or, ap, arith
 use Rattle.std.proofs.lemmas.Bool.{cases_eq}
 use Rattle.std.specs.Int.Count.{count_trailing_zeros, trailing_of_zero}
 use Rattle.cobs.specs.Internal.Mask.{zero_mask}
-use Rattle.cobs.proofs.MaskLemmas.{clear_front, lowest_bit, nonzero_len-at}
+use Rattle.cobs.proofs.bytes.MaskLemmas.{clear_front, lowest_bit, nonzero_len-at}
 use Rattle.cobs.proofs.window.first_zero_of_few.Goals as goal
 
 -- where the lowest bit of the mask stands
@@ -10,10 +10,7 @@ place : (bytes : List ℕ) (mask : ℕ) → mask ≡ zero_mask bytes → count_t
 place bytes mask is = ap (count_trailing_zeros 64) is
 
 pub returns-clause-nonzero : goal.returns-clause-nonzero
-returns-clause-nonzero c =
-    let bytes : List ℕ = c.args.bytes.now in
-    let p = place bytes _ c.zeros_of.ensures in
-    clear_front bytes c.min.result (omega arith) (omega arith)
+returns-clause-nonzero c = grind (arith, place, clear_front)
 
 pub returns-clause-stop : goal.returns-clause-stop
 returns-clause-stop c below =

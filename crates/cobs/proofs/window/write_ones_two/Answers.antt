@@ -1,5 +1,5 @@
 use Rattle.std.proofs.Common.{arith}
-use Rattle.cobs.proofs.ShortLemmas.{ones-written}
+use Rattle.cobs.proofs.bytes.ShortLemmas.{ones-written}
 use Rattle.cobs.proofs.window.write_ones_two.Goals as goal
 
 pub returns : goal.returns

@@ -1,4 +1,4 @@
-use Rattle.cobs.proofs.MaskLemmas.{zeros_by_lanes}
+use Rattle.cobs.proofs.bytes.MaskLemmas.{zeros_by_lanes}
 use Rattle.cobs.proofs.window.zeros_at.Goals as goal
 
 pub returns : goal.returns

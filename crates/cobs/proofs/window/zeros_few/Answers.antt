@@ -1,7 +1,7 @@
 use Rattle.std.proofs.Common.{◌≡◌, ◌/◌, ◌-◌, ◌+◌, ◌∙◌, ◌*◌, ◌%◌, ◌^◌, ℕ, List, eqb, get_or, length, ap, arith, take_all, bit_or}
 use mir.Val.{bool_byte}
 use Rattle.cobs.specs.Internal.Mask.{zero_mask}
-use Rattle.cobs.proofs.ShortLemmas.{few-mask}
+use Rattle.cobs.proofs.bytes.ShortLemmas.{few-mask}
 use Rattle.cobs.proofs.window.zeros_few.Goals as goal
 
 pub returns : goal.returns

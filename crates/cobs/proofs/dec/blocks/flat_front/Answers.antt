@@ -1,16 +1,13 @@
-use Rattle.std.proofs.Common.{ap, ◌∙◌, ◌≢◌, take, length, bit_xor, ◌<◌, ℕ, List, get_or, refl, arith, sym, subst}
+use Rattle.std.proofs.Common.{ap, ◌∙◌, take, bit_xor, ◌<◌, ℕ, List, get_or, arith, sym, subst}
 use Rattle.std.proofs.lemmas.List.{take_rest, length-map, get_or-map}
 use Rattle.std.proofs.lemmas.Bool.{eqb-true, eqb-false, eq-eqb}
 use Rattle.cobs.specs.Sentinel.{xor_each}
-use Rattle.cobs.proofs.WindowSteps.{code-pos}
-use Rattle.cobs.proofs.FlatLemmas.{front-started, front-whole, front-more, front-ones, xored-ones}
+use Rattle.cobs.proofs.decoding.WindowSteps.{code-pos}
+use Rattle.cobs.proofs.decoding.FlatLemmas.{front-started, front-whole, front-more, front-ones, xored-ones}
 use Rattle.cobs.proofs.dec.blocks.flat_front.Goals as goal
 
 pub by_code-init : goal.by_code-init
-by_code-init c =
-    let long = length-map c.args.piece.now (λ (byte : ℕ). bit_xor byte c.args.sentinel) in
-    let some : length c.args.piece.now ≢ 0 = eqb-false _ 0 (sym c.is_empty.ensures ∙ c.if-is_empty.false) in
-    front-started (xor_each c.args.sentinel c.args.piece.now) (omega arith)
+by_code-init c = grind (arith, length-map, eqb-false, front-started)
 
 pub by_code-preserved-then-is_all : goal.by_code-preserved-then-is_all
 by_code-preserved-then-is_all c =
@@ -19,42 +16,16 @@ by_code-preserved-then-is_all c =
     (xored-ones c.args.piece.now c.args.sentinel c.by_code.read (ap (take 32) (sym (take_rest c.args.piece.now c.by_code.read)) ∙ c.is_all.ensures c.if-is_all.true)) (omega arith)
 
 pub returns-then-piece-read-clause-flat : goal.returns-then-piece-read-clause-flat
-returns-then-piece-read-clause-flat c = λ some.
-    let h : List ℕ = xor_each c.args.sentinel c.args.piece.now in
-    let long = length-map c.args.piece.now (λ (byte : ℕ). bit_xor byte c.args.sentinel) in
-    let i = c.alike.invariant in
-    let w = i.front.within in
-    let pos : 0 < bit_xor (get_or c.args.piece.now c.by_code.read 0) c.args.sentinel = subst (λ (n : ℕ). 0 < n) (sym i.code) (code-pos h c.alike.read c.requires w) in
-    (front-whole h c.alike.read _ i.front i.code pos (omega arith)).0
+returns-then-piece-read-clause-flat c = grind (arith, length-map, code-pos, front-whole)
 
 pub returns-then-piece-read-clause-full : goal.returns-then-piece-read-clause-full
-returns-then-piece-read-clause-full c = λ some.
-    let h : List ℕ = xor_each c.args.sentinel c.args.piece.now in
-    let long = length-map c.args.piece.now (λ (byte : ℕ). bit_xor byte c.args.sentinel) in
-    let i = c.alike.invariant in
-    let w = i.front.within in
-    let pos : 0 < bit_xor (get_or c.args.piece.now c.by_code.read 0) c.args.sentinel = subst (λ (n : ℕ). 0 < n) (sym i.code) (code-pos h c.alike.read c.requires w) in
-    let last = (front-whole h c.alike.read _ i.front i.code pos (omega arith)).1 in
-    (λ full. last ∙ eqb-true _ 255 full, λ is. eq-eqb _ 255 (sym last ∙ is))
+returns-then-piece-read-clause-full c = grind (arith, length-map, code-pos, front-whole, eqb-true, eq-eqb)
 
 pub returns-then-code-eq-FULL_CODE-clause-flat : goal.returns-then-code-eq-FULL_CODE-clause-flat
-returns-then-code-eq-FULL_CODE-clause-flat c = λ some.
-    let h : List ℕ = xor_each c.args.sentinel c.args.piece.now in
-    let long = length-map c.args.piece.now (λ (byte : ℕ). bit_xor byte c.args.sentinel) in
-    let i = c.alike.invariant in
-    let w = i.front.within in
-    let pos : 0 < bit_xor (get_or c.args.piece.now c.by_code.read 0) c.args.sentinel = subst (λ (n : ℕ). 0 < n) (sym i.code) (code-pos h c.alike.read c.requires w) in
-    (front-whole h c.alike.read _ i.front i.code pos (omega arith)).0
+returns-then-code-eq-FULL_CODE-clause-flat c = grind (arith, length-map, code-pos, front-whole)
 
 pub returns-then-code-eq-FULL_CODE-clause-full : goal.returns-then-code-eq-FULL_CODE-clause-full
-returns-then-code-eq-FULL_CODE-clause-full c = λ some.
-    let h : List ℕ = xor_each c.args.sentinel c.args.piece.now in
-    let long = length-map c.args.piece.now (λ (byte : ℕ). bit_xor byte c.args.sentinel) in
-    let i = c.alike.invariant in
-    let w = i.front.within in
-    let pos : 0 < bit_xor (get_or c.args.piece.now c.by_code.read 0) c.args.sentinel = subst (λ (n : ℕ). 0 < n) (sym i.code) (code-pos h c.alike.read c.requires w) in
-    let last = (front-whole h c.alike.read _ i.front i.code pos (omega arith)).1 in
-    (λ _. last ∙ c.if-code-eq-FULL_CODE.true, λ _. refl)
+returns-then-code-eq-FULL_CODE-clause-full c = grind (arith, length-map, code-pos, front-whole)
 
 pub by_code-preserved : goal.by_code-preserved
 by_code-preserved c =

@@ -2,17 +2,12 @@ use Rattle.std.proofs.Common.{refl, sym, ◌∙◌, arith}
 use Rattle.std.proofs.lemmas.Bool.{eqb-true, true≢false}
 use Rattle.cobs.specs.Grammar.{HasNoZero}
 use Rattle.cobs.specs.declared.dec.blocks.FrameKind.TheVariants.{NotAFrame, Canonical, Longer}
-use Rattle.cobs.proofs.KindLemmas.{IsKindOf, says_not, says_canonical, says_longer, empty-kind, zero-kind, code-some, broken-kind, block-behind, longer-kind, canonical-kind, all_nonzero}
+use Rattle.cobs.proofs.format.KindLemmas.{IsKindOf, says_not, says_canonical, says_longer, empty-kind, zero-kind, code-some, broken-kind, block-behind, longer-kind, canonical-kind, all_nonzero}
 use Rattle.cobs.proofs.dec.blocks.frame_kind.Goals as goal
 use Rattle.cobs.proofs.dec.blocks.frame_kind.Goals.{then-is_empty-via-then-is_empty, then-is_empty-via-else-is_empty+then-piece_len-bytes, else-after_full-via-then-after_full+else-code-eq1, else-after_full-via-else-after_full}
 
 pub returns-then-is_empty-clause-not_a_frame : goal.returns-then-is_empty-clause-not_a_frame
-returns-then-is_empty-clause-not_a_frame c =
-    let is : IsKindOf NotAFrame c.args.bytes.now = elim c.then-is_empty.branch [
-      | then-is_empty-via-then-is_empty w ↦ empty-kind c.args.bytes.now (eqb-true _ 0 (sym c.is_empty.ensures ∙ w.if-is_empty.true))
-      | then-is_empty-via-else-is_empty+then-piece_len-bytes w ↦ zero-kind c.args.bytes.now w.piece_len.result w.if-piece_len-bytes.true (w.piece_len.ensures.stop w.if-piece_len-bytes.true)
-    ] in
-    says_not c.args.bytes.now NotAFrame is
+returns-then-is_empty-clause-not_a_frame c = grind (arith, then-is_empty-via-then-is_empty, empty-kind, eqb-true, then-is_empty-via-else-is_empty+then-piece_len-bytes, zero-kind, says_not)
 
 pub returns-then-is_empty-clause-canonical : goal.returns-then-is_empty-clause-canonical
 returns-then-is_empty-clause-canonical c =
@@ -23,12 +18,7 @@ returns-then-is_empty-clause-canonical c =
     says_canonical c.args.bytes.now NotAFrame is
 
 pub returns-then-is_empty-clause-longer : goal.returns-then-is_empty-clause-longer
-returns-then-is_empty-clause-longer c =
-    let is : IsKindOf NotAFrame c.args.bytes.now = elim c.then-is_empty.branch [
-      | then-is_empty-via-then-is_empty w ↦ empty-kind c.args.bytes.now (eqb-true _ 0 (sym c.is_empty.ensures ∙ w.if-is_empty.true))
-      | then-is_empty-via-else-is_empty+then-piece_len-bytes w ↦ zero-kind c.args.bytes.now w.piece_len.result w.if-piece_len-bytes.true (w.piece_len.ensures.stop w.if-piece_len-bytes.true)
-    ] in
-    says_longer c.args.bytes.now NotAFrame is
+returns-then-is_empty-clause-longer c = grind (arith, then-is_empty-via-then-is_empty, empty-kind, eqb-true, then-is_empty-via-else-is_empty+then-piece_len-bytes, zero-kind, says_longer)
 
 pub returns-then-left-code-clause-not_a_frame : goal.returns-then-left-code-clause-not_a_frame
 returns-then-left-code-clause-not_a_frame c =

@@ -1,5 +1,5 @@
 use Rattle.std.proofs.Common.{◌-◌, length}
-use Rattle.cobs.proofs.KindLemmas.{BlocksBehind}
+use Rattle.cobs.proofs.format.KindLemmas.{BlocksBehind}
 use Rattle.cobs.proofs.dec.blocks.frame_kind.Given as goal
 
 abbrev pub invariant-by_block : goal.invariant-by_block

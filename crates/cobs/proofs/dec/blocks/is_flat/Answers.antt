@@ -3,13 +3,11 @@ use Rattle.std.proofs.lemmas.List.{length-map, get_or-map}
 use Rattle.std.proofs.lemmas.Bool.{eqb-true}
 use Rattle.cobs.specs.Internal.Decoded.{IsFlat}
 use Rattle.cobs.specs.Sentinel.{xor_each}
-use Rattle.cobs.proofs.FlatLemmas.{front-started, front-whole, front-more}
+use Rattle.cobs.proofs.decoding.FlatLemmas.{front-started, front-whole, front-more}
 use Rattle.cobs.proofs.dec.blocks.is_flat.Goals as goal
 
 pub by_code-init : goal.by_code-init
-by_code-init c =
-    let long = length-map c.args.source.now (λ (byte : ℕ). bit_xor byte c.args.sentinel) in
-    front-started (xor_each c.args.sentinel c.args.source.now) (omega arith)
+by_code-init c = grind (arith, length-map, front-started)
 
 pub returns-then-left-code : goal.returns-then-left-code
 returns-then-left-code c all =

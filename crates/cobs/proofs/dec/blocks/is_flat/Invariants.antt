@@ -1,6 +1,6 @@
 use Rattle.std.proofs.Common.{◌-◌, length}
 use Rattle.cobs.specs.Sentinel.{xor_each}
-use Rattle.cobs.proofs.FlatLemmas.{FrontSoFar}
+use Rattle.cobs.proofs.decoding.FlatLemmas.{FrontSoFar}
 use Rattle.cobs.proofs.dec.blocks.is_flat.Given as goal
 
 abbrev pub invariant-by_code : goal.invariant-by_code

@@ -1,9 +1,8 @@
 use Rattle.std.proofs.Common.{refl, ◌≡◌, ◌<◌, ◌+◌, ◌-◌, ◌∙◌, ◌∷◌, ℕ, List, length, take, drop, replicate, length-take-le, ap, sym, subst, arith}
 use Rattle.std.proofs.lemmas.List.{length-set, take_rest}
 use borrow.Rule.Slice.PartMut.{put_mid}
-use Rattle.cobs.specs.Piece.{output}
-use Rattle.cobs.proofs.WindowSteps.{code-pos, code-decoded, code-copied, flat-short, end-begins}
-use Rattle.cobs.proofs.FlatLemmas.{FlatCopied, joints-start, copied-ones, next-code, zeros-put, zeros-put-len}
+use Rattle.cobs.proofs.decoding.WindowSteps.{code-pos, code-decoded, code-copied, flat-short, end-begins}
+use Rattle.cobs.proofs.decoding.FlatLemmas.{FlatCopied, joints-start, copied-ones, next-code, zeros-put, zeros-put-len}
 use Rattle.cobs.proofs.dec.blocks.write_joints.Goals as goal
 
 pub by_code-init : goal.by_code-init
@@ -89,11 +88,4 @@ returns-clause-begins c =
     ∙ end-begins piece c.args.dest.now c.by_code.dest c.by_code.read c.by_code.read c.by_code.code f.decoded f.at-read pos (omega arith) f.copied (omega arith)
 
 pub returns-clause-rest : goal.returns-clause-rest
-returns-clause-rest c =
-    let f = c.by_code.invariant.flat in
-    let piece : List ℕ = c.args.first ∷ take (c.args.len - 1) c.args.dest.now in
-    let few = length-take-le (c.args.len - 1) c.args.dest.now (omega arith) in
-    let some = c.requires.some in
-    let long : length piece ≡ c.args.len = omega arith in
-    let at : length (output piece) ≡ c.args.len - 1 = omega arith in
-    subst (λ (n : ℕ). drop n c.by_code.dest ≡ drop n c.args.dest.now) at f.decoded.rest
+returns-clause-rest c = grind (arith, length-take-le)

@@ -1,5 +1,5 @@
 use Rattle.std.proofs.Common.{◌≡◌, length, ◌<◌, ◌≤◌, ◌+◌, ◌-◌, ◌∷◌, take}
-use Rattle.cobs.proofs.FlatLemmas.{FlatCopied}
+use Rattle.cobs.proofs.decoding.FlatLemmas.{FlatCopied}
 use Rattle.cobs.proofs.dec.blocks.write_joints.Given as goal
 
 abbrev pub invariant-by_code : goal.invariant-by_code

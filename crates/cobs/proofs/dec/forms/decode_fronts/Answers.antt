@@ -7,12 +7,12 @@ use Rattle.cobs.specs.Grammar.{HasNoZero, code_of, is_full}
 use Rattle.cobs.specs.Piece.{output, last_part}
 use Rattle.cobs.specs.Internal.Decoded.{IsFlat}
 use Rattle.cobs.specs.Sentinel.{xor_each}
-use Rattle.cobs.proofs.FrontLemmas.{flat-front}
-use Rattle.cobs.proofs.FlatLemmas.{flat-copy}
-use Rattle.cobs.proofs.KeptLemmas.{joins}
-use Rattle.cobs.proofs.InPlaceSteps.{joins-zero-due}
-use Rattle.cobs.proofs.SourceSteps.{source-started, all-buffer, all-count, broken-buffer, broken-count}
-use Rattle.cobs.proofs.SourceFronts.{full-buffer, full-count, left-is, left-nonzero, left-broken, stretch-is, stretch-last, stretch-zero}
+use Rattle.cobs.proofs.decoding.FrontLemmas.{flat-front}
+use Rattle.cobs.proofs.decoding.FlatLemmas.{flat-copy}
+use Rattle.cobs.proofs.decoding.KeptLemmas.{joins}
+use Rattle.cobs.proofs.decoding.InPlaceSteps.{joins-zero-due}
+use Rattle.cobs.proofs.decoding.SourceSteps.{source-started, all-buffer, all-count, broken-buffer, broken-count}
+use Rattle.cobs.proofs.decoding.SourceFronts.{full-buffer, full-count, left-is, left-nonzero, left-broken, stretch-is, stretch-last, stretch-zero}
 use Rattle.cobs.proofs.dec.forms.decode_fronts.Goals as goal
 use Rattle.cobs.proofs.dec.forms.decode_fronts.Goals.{Joined-not-full, Then-room-gives, then-not-full, else-not-full, then-due, else-due}
 

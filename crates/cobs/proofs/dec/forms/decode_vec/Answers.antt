@@ -2,10 +2,11 @@ use Rattle.std.proofs.Common.{◌≡◌, ◌≢◌, ◌++◌, ℕ, length, take,
 use Rattle.std.proofs.lemmas.Bool.{eqb-false}
 use Rattle.cobs.specs.Fields.Report.{frame_size_of}
 use Rattle.cobs.specs.Decode.{decoded}
-use Rattle.cobs.specs.declared.dec.error.DecodeVecError.TheVariants.{Decode}
-use Rattle.cobs.proofs.HeadlineLemmas.{bytes_below}
-use Rattle.cobs.proofs.VectorHeadline.{vector_reads}
-use Rattle.cobs.proofs.VectorSteps.{above_zero, decoded-refused, decoded-message}
+use Rattle.cobs.specs.declared.dec.DecodeVecError.TheVariants.{Decode}
+use Rattle.cobs.proofs.decoding.HeadlineLemmas.{bytes_below}
+use Rattle.cobs.proofs.decoding.VectorHeadline.{vector_reads}
+use Rattle.cobs.proofs.decoding.VectorSteps.{above_zero, decoded-refused, decoded-message}
+use Rattle.cobs.proofs.decoding.ReadsLemmas.{frame_piece}
 use Rattle.cobs.proofs.dec.forms.decode_vec.Goals as goal
 
 pub returns-in-Ok-clause-message : goal.returns-in-Ok-clause-message
@@ -33,9 +34,14 @@ returns-in-Err-clause-room c =
 pub returns-in-Ok-clause-reads : goal.returns-in-Ok-clause-reads
 returns-in-Ok-clause-reads c =
     let f = c.args.source.now in
-    vector_reads (λ v. v.items) (Ok c.truncate.new.self) (decoded f) f (returns-in-Ok-clause-message c) tt refl (bytes_below f c.type_inv.source)
+    λ found m r. (vector_reads (λ v. v.items) (Ok c.truncate.new.self) (decoded f) f (returns-in-Ok-clause-message c) tt refl (bytes_below f c.type_inv.source) (frame_piece r) found m).1 r
+
+pub returns-in-Ok-clause-only : goal.returns-in-Ok-clause-only
+returns-in-Ok-clause-only c =
+    let f = c.args.source.now in
+    λ piece m told. (vector_reads (λ v. v.items) (Ok c.truncate.new.self) (decoded f) f (returns-in-Ok-clause-message c) tt refl (bytes_below f c.type_inv.source) piece tt m).0 told
 
 pub returns-in-Err-clause-reads : goal.returns-in-Err-clause-reads
 returns-in-Err-clause-reads c =
     let f = c.args.source.now in
-    vector_reads (λ v. v) (Err (Decode c.in-Err.error)) (decoded f) f tt (returns-in-Err-clause-refused c) refl (bytes_below f c.type_inv.source)
+    λ found m r. (vector_reads (λ v. v) (Err (Decode c.in-Err.error)) (decoded f) f tt (returns-in-Err-clause-refused c) refl (bytes_below f c.type_inv.source) (frame_piece r) found m).1 r

@@ -3,10 +3,11 @@ use Rattle.std.proofs.lemmas.List.{length-map}
 use Rattle.std.proofs.lemmas.Bool.{eqb-false}
 use Rattle.cobs.specs.Sentinel.{xor_each}
 use Rattle.cobs.specs.Decode.{decoded_head}
-use Rattle.cobs.specs.declared.dec.error.DecodeVecError.TheVariants.{Decode}
-use Rattle.cobs.proofs.HeadlineLemmas.{bytes_below, xor_below}
-use Rattle.cobs.proofs.VectorHeadline.{head_vector_reads}
-use Rattle.cobs.proofs.VectorSteps.{above_zero, decoded_head-refused, decoded_head-message}
+use Rattle.cobs.specs.declared.dec.DecodeVecError.TheVariants.{Decode}
+use Rattle.cobs.proofs.decoding.HeadlineLemmas.{bytes_below, xor_below}
+use Rattle.cobs.proofs.decoding.VectorHeadline.{head_vector_reads}
+use Rattle.cobs.proofs.decoding.VectorSteps.{above_zero, decoded_head-refused, decoded_head-message}
+use Rattle.cobs.proofs.decoding.ReadsLemmas.{frame_piece}
 use Rattle.cobs.proofs.dec.forms.decode_vec_with_sentinel.Goals as goal
 
 pub returns-in-Ok-clause-message : goal.returns-in-Ok-clause-message
@@ -40,11 +41,17 @@ returns-in-Err-clause-room c =
 pub returns-in-Ok-clause-reads : goal.returns-in-Ok-clause-reads
 returns-in-Ok-clause-reads c =
     let f = xor_each c.args.sentinel c.args.source.now in
-    head_vector_reads (λ v. v.items) (Ok c.truncate.new.self) (decoded_head f) f (returns-in-Ok-clause-message c) tt refl
-    (xor_below c.args.sentinel c.args.source.now c.ranges.sentinel.fits (bytes_below c.args.source.now c.type_inv.source))
+    λ found m r. (head_vector_reads (λ v. v.items) (Ok c.truncate.new.self) (decoded_head f) f (returns-in-Ok-clause-message c) tt refl
+    (xor_below c.args.sentinel c.args.source.now c.ranges.sentinel.fits (bytes_below c.args.source.now c.type_inv.source)) (frame_piece r) found m).1 r
+
+pub returns-in-Ok-clause-only : goal.returns-in-Ok-clause-only
+returns-in-Ok-clause-only c =
+    let f = xor_each c.args.sentinel c.args.source.now in
+    λ piece m told. (head_vector_reads (λ v. v.items) (Ok c.truncate.new.self) (decoded_head f) f (returns-in-Ok-clause-message c) tt refl
+    (xor_below c.args.sentinel c.args.source.now c.ranges.sentinel.fits (bytes_below c.args.source.now c.type_inv.source)) piece tt m).0 told
 
 pub returns-in-Err-clause-reads : goal.returns-in-Err-clause-reads
 returns-in-Err-clause-reads c =
     let f = xor_each c.args.sentinel c.args.source.now in
-    head_vector_reads (λ v. v) (Err (Decode c.in-Err.error)) (decoded_head f) f tt (returns-in-Err-clause-refused c) refl
-    (xor_below c.args.sentinel c.args.source.now c.ranges.sentinel.fits (bytes_below c.args.source.now c.type_inv.source))
+    λ found m r. (head_vector_reads (λ v. v) (Err (Decode c.in-Err.error)) (decoded_head f) f tt (returns-in-Err-clause-refused c) refl
+    (xor_below c.args.sentinel c.args.source.now c.ranges.sentinel.fits (bytes_below c.args.source.now c.type_inv.source)) (frame_piece r) found m).1 r

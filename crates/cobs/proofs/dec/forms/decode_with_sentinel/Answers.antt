@@ -4,9 +4,10 @@ use Rattle.cobs.specs.Overwritten.{overwritten}
 use Rattle.cobs.specs.Piece.{output, kept_output}
 use Rattle.cobs.specs.Sentinel.{xor_each}
 use Rattle.cobs.specs.Decode.{head_answer_within}
-use Rattle.cobs.proofs.HeadlineLemmas.{bytes_below, source_reads, xor_below}
-use Rattle.cobs.proofs.SourceSteps.{xor_no_zero, xor_head, source_answer-head, nothing_kept}
-use Rattle.cobs.proofs.SourceFronts.{front-answer, front-buffer}
+use Rattle.cobs.proofs.decoding.HeadlineLemmas.{bytes_below, source_reads, xor_below}
+use Rattle.cobs.proofs.decoding.SourceSteps.{xor_no_zero, xor_head, source_answer-head, nothing_kept}
+use Rattle.cobs.proofs.decoding.SourceFronts.{front-answer, front-buffer}
+use Rattle.cobs.proofs.decoding.ReadsLemmas.{frame_piece}
 use Rattle.cobs.proofs.dec.forms.decode_with_sentinel.Goals as goal
 
 pub returns-then-is_empty-clause-buffer : goal.returns-then-is_empty-clause-buffer
@@ -52,8 +53,16 @@ returns-clause-buffer c =
 
 pub returns-then-decode_xored_short-clause-reads : goal.returns-then-decode_xored_short-clause-reads
 returns-then-decode_xored_short-clause-reads c =
-    source_reads (xor_each c.args.sentinel c.args.source.now) c.args.dest.now _ _ (returns-then-decode_xored_short-clause-answer c) (returns-then-decode_xored_short-clause-buffer c) (xor_below c.args.sentinel c.args.source.now c.ranges.sentinel.fits (bytes_below c.args.source.now c.type_inv.source))
+    λ m r fits. (source_reads (xor_each c.args.sentinel c.args.source.now) c.args.dest.now _ _ (returns-then-decode_xored_short-clause-answer c) (returns-then-decode_xored_short-clause-buffer c) (xor_below c.args.sentinel c.args.source.now c.ranges.sentinel.fits (bytes_below c.args.source.now c.type_inv.source)) (frame_piece r) m).1 (r, fits)
+
+pub returns-then-decode_xored_short-clause-only : goal.returns-then-decode_xored_short-clause-only
+returns-then-decode_xored_short-clause-only c =
+    λ piece m told. (source_reads (xor_each c.args.sentinel c.args.source.now) c.args.dest.now _ _ (returns-then-decode_xored_short-clause-answer c) (returns-then-decode_xored_short-clause-buffer c) (xor_below c.args.sentinel c.args.source.now c.ranges.sentinel.fits (bytes_below c.args.source.now c.type_inv.source)) piece m).0 told
 
 pub returns-clause-reads : goal.returns-clause-reads
 returns-clause-reads c =
-    source_reads (xor_each c.args.sentinel c.args.source.now) c.args.dest.now _ _ (returns-clause-answer c) (returns-clause-buffer c) (xor_below c.args.sentinel c.args.source.now c.ranges.sentinel.fits (bytes_below c.args.source.now c.type_inv.source))
+    λ m r fits. (source_reads (xor_each c.args.sentinel c.args.source.now) c.args.dest.now _ _ (returns-clause-answer c) (returns-clause-buffer c) (xor_below c.args.sentinel c.args.source.now c.ranges.sentinel.fits (bytes_below c.args.source.now c.type_inv.source)) (frame_piece r) m).1 (r, fits)
+
+pub returns-clause-only : goal.returns-clause-only
+returns-clause-only c =
+    λ piece m told. (source_reads (xor_each c.args.sentinel c.args.source.now) c.args.dest.now _ _ (returns-clause-answer c) (returns-clause-buffer c) (xor_below c.args.sentinel c.args.source.now c.ranges.sentinel.fits (bytes_below c.args.source.now c.type_inv.source)) piece m).0 told

@@ -2,7 +2,7 @@ use Rattle.std.proofs.Common.{◌∙◌, ◌+◌, List, length, bit_xor, ℕ, re
 use Rattle.std.proofs.lemmas.List.{length-map}
 use Rattle.cobs.specs.Grammar.{HasNoZero}
 use Rattle.cobs.specs.Piece.{output}
-use Rattle.cobs.proofs.SourceFronts.{copied-piece, copied-rest}
+use Rattle.cobs.proofs.decoding.SourceFronts.{copied-piece, copied-rest}
 use Rattle.cobs.proofs.dec.forms.decode_xored_flat.Goals as goal
 
 pub write_joints-requires-clause-nonzero : goal.write_joints-requires-clause-nonzero

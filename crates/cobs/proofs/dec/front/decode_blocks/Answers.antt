@@ -1,24 +1,16 @@
 use Rattle.std.proofs.Common.{◌<◌, ◌≤◌, ◌+◌, ◌∙◌, ℕ, List, length, refl, ap, arith, length-drop}
 use Rattle.std.proofs.lemmas.List.{take_rest}
 use Rattle.cobs.specs.Stream.{head}
-use Rattle.cobs.proofs.OutcomeLemmas.{length-head}
-use Rattle.cobs.proofs.FrontSteps.{head-drop, decoded-joined}
+use Rattle.cobs.proofs.decoding.OutcomeLemmas.{length-head}
+use Rattle.cobs.proofs.decoding.FrontSteps.{head-drop, decoded-joined}
 use Rattle.cobs.proofs.dec.front.decode_blocks.Goals as goal
 use Rattle.cobs.proofs.dec.front.decode_blocks.Goals.{then-end-read+else-left, else-end-read}
 
 pub overflow_sub-source : goal.overflow_sub-source
-overflow_sub-source c =
-    let w = c.by_step.invariant.decoded.within in
-    let l = length-head c.args.source.now in
-    omega arith
+overflow_sub-source c = grind (arith, length-head)
 
 pub decode_step-step-requires-clause-begun : goal.decode_step-step-requires-clause-begun
-decode_step-step-requires-clause-begun c =
-    let source : List ℕ = c.args.source.now in
-    let w = c.by_step.invariant.decoded.within in
-    let is = ap length (ap head (take_rest source c.by_step.read) ∙ head-drop c.by_step.read source (omega arith)) in
-    let d = length-drop c.by_step.read (head source) in
-    omega arith
+decode_step-step-requires-clause-begun c = grind (arith, take_rest, head-drop, length-drop)
 
 pub returns-then-step-eq0-clause-decoded : goal.returns-then-step-eq0-clause-decoded
 returns-then-step-eq0-clause-decoded c =

@@ -1,6 +1,6 @@
 use Rattle.std.proofs.Common.{◌≡◌, ◌≤◌, ◌+◌, ◌∙◌, ◌++◌, ℕ, List, length, take, drop, refl, sym, ap, arith}
 use Rattle.cobs.specs.Stream.{head}
-use Rattle.cobs.proofs.FrontSteps.{head-behind, head-one_more, block-stayed, full-copied}
+use Rattle.cobs.proofs.decoding.FrontSteps.{head-behind, head-one_more, block-stayed, full-copied}
 use Rattle.cobs.proofs.dec.front.decode_full.Goals as goal
 
 pub returns-then-copied-clause-decoded : goal.returns-then-copied-clause-decoded

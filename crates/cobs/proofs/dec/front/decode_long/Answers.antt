@@ -4,8 +4,8 @@ use Rattle.std.proofs.Math.ListN.{set}
 use Rattle.cobs.specs.Grammar.{HasNoZero}
 use Rattle.cobs.specs.Internal.Decoded.{Decoded}
 use Rattle.cobs.specs.Stream.{head}
-use Rattle.cobs.proofs.FrontSteps.{head-behind, block-stayed, long-copied}
-use Rattle.cobs.proofs.WindowSteps.{started}
+use Rattle.cobs.proofs.decoding.FrontSteps.{head-behind, block-stayed, long-copied}
+use Rattle.cobs.proofs.decoding.WindowSteps.{started}
 use Rattle.cobs.proofs.dec.front.decode_long.Goals as goal
 use Rattle.cobs.proofs.dec.front.decode_long.Goals.{then-code, else-code}
 

@@ -4,9 +4,9 @@ use Rattle.std.proofs.lemmas.List.{take_rest, drop-take}
 use Rattle.std.proofs.lemmas.List.Elements.{All-drop}
 use Rattle.cobs.specs.Grammar.{HasNoZero}
 use Rattle.cobs.specs.Stream.{head}
-use Rattle.cobs.proofs.OutcomeLemmas.{head_nonzero}
-use Rattle.cobs.proofs.FrontSteps.{head-behind, head-get, head-part, ones-front}
-use Rattle.cobs.proofs.WindowSteps.{code-pos, window-decoded, window-copied, ones-decoded, code-decoded-within, code-copied}
+use Rattle.cobs.proofs.decoding.OutcomeLemmas.{head_nonzero}
+use Rattle.cobs.proofs.decoding.FrontSteps.{head-behind, head-get, head-part, ones-front}
+use Rattle.cobs.proofs.decoding.WindowSteps.{code-pos, window-decoded, window-copied, ones-decoded, code-decoded-within, code-copied}
 use Rattle.cobs.proofs.dec.front.decode_window.Goals as goal
 
 pub returns-then-is_all-clause-decoded : goal.returns-then-is_all-clause-decoded
@@ -36,28 +36,13 @@ by_code-init c =
     }
 
 pub overflow_sub-dest : goal.overflow_sub-dest
-overflow_sub-dest c =
-    let source : List ℕ = c.args.source.now in
-    let i = c.alike.invariant in
-    let same = head-get c.alike.read source i.decoded.within in
-    let pos = code-pos (head source) c.alike.read (head_nonzero source) i.decoded.within in
-    omega (arith, i.code)
+overflow_sub-dest c = grind (arith, head-get, code-pos, head_nonzero)
 
 pub bounds-dest-read : goal.bounds-dest-read
-bounds-dest-read c =
-    let source : List ℕ = c.args.source.now in
-    let i = c.alike.invariant in
-    let same = head-get c.alike.read source i.decoded.within in
-    let pos = code-pos (head source) c.alike.read (head_nonzero source) i.decoded.within in
-    omega (arith, i.code)
+bounds-dest-read c = grind (arith, head-get, code-pos, head_nonzero)
 
 pub alike-smaller : goal.alike-smaller
-alike-smaller c =
-    let source : List ℕ = c.args.source.now in
-    let i = c.alike.invariant in
-    let same = head-get c.alike.read source i.decoded.within in
-    let pos = code-pos (head source) c.alike.read (head_nonzero source) i.decoded.within in
-    omega (arith, i.code)
+alike-smaller c = grind (arith, head-get, code-pos, head_nonzero)
 
 pub alike-preserved : goal.alike-preserved
 alike-preserved c =

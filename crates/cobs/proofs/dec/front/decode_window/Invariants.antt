@@ -1,7 +1,7 @@
 use Rattle.std.proofs.Common.{◌≡◌, ◌<◌, ◌+◌, ◌-◌, ◌≤◌, length, get_or}
 use Rattle.cobs.specs.Internal.Decoded.{Decoded}
 use Rattle.cobs.specs.Stream.{head}
-use Rattle.cobs.proofs.WindowSteps.{CopiedTo}
+use Rattle.cobs.proofs.decoding.WindowSteps.{CopiedTo}
 use Rattle.cobs.proofs.dec.front.decode_window.Given as goal
 
 abbrev pub invariant-by_code : goal.invariant-by_code

@@ -1,116 +1,113 @@
-use Rattle.std.proofs.Common.{◌≡◌, ◌≤◌, ◌+◌, ◌-◌, ℕ, List, length, take, drop, refl, sym, ap, ◌∙◌, subst, arith, inl, inr, length-drop, length-take, length-take-le}
-use Rattle.std.proofs.lemmas.List.{take_rest, take-take, drop-drop}
+use Rattle.std.proofs.Common.{◌≡◌, ◌≤◌, ◌<◌, ◌+◌, ◌-◌, ◌++◌, ◌⊎◌, ◌↔◌, IsTrue, Bool, true, false, ℕ, List, length, take, drop, get_or, set, refl, sym, ap, ◌∙◌, subst, arith, inl, inr, length-drop, length-take-le, take-append-drop}
+use Rattle.std.proofs.lemmas.List.{take_rest, drop-drop, get_or-drop}
 use Rattle.std.proofs.lemmas.Bool.{ne_eqb, eq-eqb, true≢false}
-use Rattle.cobs.specs.Grammar.{HasNoZero}
-use Rattle.cobs.specs.Piece.{output}
+use borrow.Rule.Slice.PartMut.{put_mid}
+use Rattle.cobs.specs.Grammar.{HasNoZero, code_of}
+use Rattle.cobs.specs.Piece.{output, last_part}
 use Rattle.cobs.specs.Internal.Decoded.{IsFlat}
-use Rattle.cobs.proofs.InPlaceSteps.{all-buffer, all-count, broken-buffer, broken-count, left-nonzero, left-broken, stretch-nonzero, stretch-last, stretch-zero}
+use Rattle.cobs.proofs.decoding.FlatLemmas.{put-back}
+use Rattle.cobs.proofs.decoding.InPlaceSteps.{DecodedInPlace, all-buffer, all-count, broken-buffer, broken-count, left-nonzero, stretch-last, stretch-zero}
 use Rattle.cobs.proofs.dec.in_place.decode_blocks_in_place.Goals as goal
-use Rattle.cobs.proofs.dec.in_place.decode_blocks_in_place.Goals.{else-not-full-via-then-not-full+else-read-end, else-not-full-via-else-not-full}
 
--- a stretch of what is left, seen from the place where its output goes
-front-is : (buffer : List ℕ) (end read written len : ℕ) → written ≤ read → len ≤ length (take (end - read) (drop read buffer))
-    → take len (drop (read - written) (take (length buffer - written) (drop written buffer))) ≡ take len (take (end - read) (drop read buffer))
-front-is buffer end read written len order fits =
+-- what is left, seen from the place where its output goes
+left-seen : (buffer : List ℕ) (end read written : ℕ) → written ≤ read → take (end - read) (drop (read - written) (take (length buffer - written) (drop written buffer))) ≡ take (end - read) (drop read buffer)
+left-seen buffer end read written order =
     let sum : written + (read - written) ≡ read = omega arith in
-    let t = length-take (end - read) (drop read buffer) in
-    ap (λ (x : List ℕ). take len (drop (read - written) x)) (take_rest buffer written)
-    ∙ ap (take len) (drop-drop (read - written) written buffer ∙ ap (λ (k : ℕ). drop k buffer) sum)
-    ∙ sym (take-take len (end - read) (drop read buffer) (omega arith))
+    ap (λ (x : List ℕ). take (end - read) (drop (read - written) x)) (take_rest buffer written)
+    ∙ ap (take (end - read)) (drop-drop (read - written) written buffer ∙ ap (λ (k : ℕ). drop k buffer) sum)
 
-pub front_of-len-requires : goal.front_of-len-requires
-front_of-len-requires c = left-nonzero _ _ _ _ _ c.by_front.invariant c.requires.nonzero
+code-seen : (buffer : List ℕ) (read written : ℕ) → written ≤ read → get_or (take (length buffer - written) (drop written buffer)) (read - written) 0 ≡ get_or buffer read 0
+code-seen buffer read written order =
+    let sum : written + (read - written) ≡ read = omega arith in
+    ap (λ (x : List ℕ). get_or x (read - written) 0) (take_rest buffer written) ∙ get_or-drop written buffer (read - written) 0 ∙ ap (λ (k : ℕ). get_or buffer k 0) sum
+
+pub decode_next-len-requires-clause-nonzero : goal.decode_next-len-requires-clause-nonzero
+decode_next-len-requires-clause-nonzero c =
+    let i = c.by_front.invariant in
+    subst HasNoZero (sym (left-seen c.by_front.buffer c.args.end c.by_front.read c.by_front.written i.order)) (left-nonzero _ _ _ _ _ i c.requires.nonzero)
 
 pub returns-then-len-eq0-clause-answer : goal.returns-then-len-eq0-clause-answer
 returns-then-len-eq0-clause-answer c =
     let i = c.by_front.invariant in
-    let d = length-drop c.by_front.read c.by_front.buffer in
-    let n = length-take-le (c.args.end - c.by_front.read) (drop c.by_front.read c.by_front.buffer) (omega arith) in
-    let broken = left-broken _ _ _ _ _ i c.by_front-test.true (c.front_of-len.ensures.broken c.if-len-eq0.true (omega arith)) in
+    let broken = subst (λ (k : ℕ). c.args.end - c.by_front.read < k) (code-seen c.by_front.buffer c.by_front.read c.by_front.written i.order) (c.decode_next-len.ensures.broken c.if-len-eq0.true) in
     broken-count _ _ _ _ _ i _ c.by_front-test.true refl broken
+
+-- a buffer of which nothing was written
+unwritten : (buffer new : List ℕ) (written len : ℕ) → len ≡ 0 → drop (len - 1) new ≡ drop (len - 1) (take (length buffer - written) (drop written buffer)) → put_mid written (length buffer - written) buffer new ≡ buffer
+unwritten buffer new written len none rest =
+    let at : len - 1 ≡ 0 = omega arith in
+    let same : new ≡ take (length buffer - written) (drop written buffer) = sym (ap (λ (n : ℕ). drop n new) at) ∙ rest ∙ ap (λ (n : ℕ). drop n (take (length buffer - written) (drop written buffer))) at in
+    put-back written buffer new ∙ ap (λ (x : List ℕ). take written buffer ++ x) (same ∙ take_rest buffer written) ∙ take-append-drop written buffer
 
 pub returns-then-len-eq0-clause-buffer : goal.returns-then-len-eq0-clause-buffer
 returns-then-len-eq0-clause-buffer c =
     let i = c.by_front.invariant in
-    let d = length-drop c.by_front.read c.by_front.buffer in
-    let n = length-take-le (c.args.end - c.by_front.read) (drop c.by_front.read c.by_front.buffer) (omega arith) in
-    let broken = left-broken _ _ _ _ _ i c.by_front-test.true (c.front_of-len.ensures.broken c.if-len-eq0.true (omega arith)) in
-    broken-buffer _ _ _ _ _ i _ c.by_front-test.true refl broken
+    let e = c.decode_next-len.ensures in
+    let broken = subst (λ (k : ℕ). c.args.end - c.by_front.read < k) (code-seen c.by_front.buffer c.by_front.read c.by_front.written i.order) (e.broken c.if-len-eq0.true) in
+    unwritten c.by_front.buffer c.decode_next-len.new.buffer c.by_front.written c.decode_next-len.result.0 c.if-len-eq0.true e.rest
+    ∙ broken-buffer _ _ _ _ _ i _ c.by_front-test.true refl broken
 
-pub decode_flat_in_place-requires-clause-nonzero : goal.decode_flat_in_place-requires-clause-nonzero
-decode_flat_in_place-requires-clause-nonzero c =
-    let i = c.by_front.invariant in
-    let e = c.front_of-len.ensures in
-    let none = c.if-len-eq0.false in
-    let buffer : List ℕ = c.by_front.buffer in
-    let read : ℕ = c.by_front.read in
-    let written : ℕ = c.by_front.written in
-    let len : ℕ = c.front_of-len.result.0 in
-    let part : List ℕ = take (c.args.end - read) (drop read buffer) in
-    let flat = e.flat (omega arith) in
-    let is = front-is buffer c.args.end read written len i.order e.within in
-    subst HasNoZero (sym is) (stretch-nonzero c.args.buffer.now c.args.end buffer read written i c.requires.nonzero len (take len part) (omega arith) e.within refl flat.whole)
+-- one more front
+module _ (before buffer new : List ℕ) (end read written len : ℕ) (i : DecodedInPlace before end buffer read written) (none : HasNoZero (take end before)) (some : 0 < len) (inside : len ≤ end - read)
+    (full : Bool) where
+  abbrev seen : List ℕ
+  seen = take (length buffer - written) (drop written buffer)
 
-pub decode_flat_in_place-requires-clause-flat : goal.decode_flat_in_place-requires-clause-flat
-decode_flat_in_place-requires-clause-flat c =
-    let i = c.by_front.invariant in
-    let e = c.front_of-len.ensures in
-    let none = c.if-len-eq0.false in
-    let buffer : List ℕ = c.by_front.buffer in
-    let read : ℕ = c.by_front.read in
-    let written : ℕ = c.by_front.written in
-    let len : ℕ = c.front_of-len.result.0 in
-    let part : List ℕ = take (c.args.end - read) (drop read buffer) in
-    let flat = e.flat (omega arith) in
-    let is = front-is buffer c.args.end read written len i.order e.within in
-    subst IsFlat (sym is) flat
+  abbrev part : List ℕ
+  part = take (end - read) (drop read buffer)
+
+  module _ (flat : IsFlat (take len (take (end - read) (drop (read - written) seen)))) (is-full : IsTrue full ↔ (code_of (last_part (take len (take (end - read) (drop (read - written) seen)))) ≡ 255))
+      (begins : take (len - 1) new ≡ output (take len (take (end - read) (drop (read - written) seen)))) (rest : drop (len - 1) new ≡ drop (len - 1) seen) (same : length new ≡ length seen) where
+    front-is : take len (take (end - read) (drop (read - written) seen)) ≡ take len part
+    front-is = ap (take len) (left-seen buffer end read written i.order)
+
+    flat-is : IsFlat (take len part)
+    flat-is = subst IsFlat front-is flat
+
+    fits : len ≤ length part
+    fits = let d = length-drop read buffer in let w = i.within in let f = i.fits in let l = i.len in let t = length-take-le (end - read) (drop read buffer) (omega arith) in omega arith
+
+    count : len - 1 ≡ length (output (take len part))
+    count = let l = flat-is.len in let t = length-take-le len part fits in omega arith
+
+    long : length new ≡ length buffer - written
+    long = same ∙ ap length (take_rest buffer written) ∙ length-drop written buffer
+
+    full-is : IsTrue full ↔ (code_of (last_part (take len part)) ≡ 255)
+    full-is = subst (λ (x : List ℕ). (IsTrue full ↔ (code_of (last_part x) ≡ 255))) front-is is-full
+
+    at-end : (end ≤ read + len) ⊎ (full ≡ true) → DecodedInPlace before end (put_mid written (length buffer - written) buffer new) (read + len) (written + (len - 1))
+    at-end either =
+        stretch-last before end buffer read written i none len (take len part) some fits refl flat-is.whole new (len - 1) _ refl long count (begins ∙ ap output front-is) (rest ∙ ap (drop (len - 1)) (take_rest buffer written))
+        (elim either [
+          | inl past ↦ inl past
+          | inr closed ↦ inr (eq-eqb _ 255 (full-is.0 closed))
+        ])
+
+    zero-due : read + len < end → full ≡ false → DecodedInPlace before end (set (put_mid written (length buffer - written) buffer new) (written + (len - 1)) 0) (read + len) (written + (len - 1) + 1)
+    zero-due more open' =
+        stretch-zero before end buffer read written i none len (take len part) some fits refl flat-is.whole new (len - 1) _ refl long count (begins ∙ ap output front-is) (rest ∙ ap (drop (len - 1)) (take_rest buffer written))
+        more (ne_eqb _ 255 (λ is. true≢false (sym (full-is.1 is) ∙ open')))
 
 pub by_front-preserved-then-read-end : goal.by_front-preserved-then-read-end
 by_front-preserved-then-read-end c =
-    let i = c.by_front.invariant in
-    let e = c.front_of-len.ensures in
+    let e = c.decode_next-len.ensures in
     let none = c.if-len-eq0.false in
-    let buffer : List ℕ = c.by_front.buffer in
-    let read : ℕ = c.by_front.read in
-    let written : ℕ = c.by_front.written in
-    let len : ℕ = c.front_of-len.result.0 in
-    let part : List ℕ = take (c.args.end - read) (drop read buffer) in
-    let flat = e.flat (omega arith) in
-    let back : take (length buffer - written) (drop written buffer) ≡ drop written buffer = take_rest buffer written in
-    let is : take len (drop (read - written) (take (length buffer - written) (drop written buffer))) ≡ take len part = front-is buffer c.args.end read written len i.order (e.within) in
-    let long : length (take len part) ≡ len = length-take-le len part e.within in
-    let same : length c.decode_flat_in_place.new.buffer ≡ length buffer - written = c.decode_flat_in_place.auto.buffer ∙ ap length back ∙ length-drop written buffer in
-    let count : len - 1 ≡ length (output (take len part)) = (let l = flat.len in omega arith) in
-    let begins = c.decode_flat_in_place.ensures.begins ∙ ap output is in
-    let rest = c.decode_flat_in_place.ensures.rest ∙ ap (drop (len - 1)) back in
-    let open' = c.if-not-full.true in
-    stretch-zero c.args.buffer.now c.args.end buffer read written i c.requires.nonzero len (take len part) (omega arith) e.within refl flat.whole
-    c.decode_flat_in_place.new.buffer (len - 1) _ refl same count begins rest c.if-read-end.true (ne_eqb _ 255 (λ full. true≢false (sym ((e.full (omega arith)).1 full) ∙ open')))
+    let some : 0 < c.decode_next-len.result.0 = omega arith in
+    zero-due c.args.buffer.now c.by_front.buffer c.decode_next-len.new.buffer c.args.end c.by_front.read c.by_front.written c.decode_next-len.result.0 c.by_front.invariant c.requires.nonzero some e.within c.decode_next-len.result.1
+    (e.flat some) (e.full some) (e.begins some) e.rest c.decode_next-len.auto.buffer c.if-read-end.true c.if-not-full.true
 
 pub by_front-preserved : goal.by_front-preserved
 by_front-preserved c =
-    let i = c.by_front.invariant in
-    let e = c.front_of-len.ensures in
+    let e = c.decode_next-len.ensures in
     let none = c.if-len-eq0.false in
-    let buffer : List ℕ = c.by_front.buffer in
-    let read : ℕ = c.by_front.read in
-    let written : ℕ = c.by_front.written in
-    let len : ℕ = c.front_of-len.result.0 in
-    let part : List ℕ = take (c.args.end - read) (drop read buffer) in
-    let flat = e.flat (omega arith) in
-    let back : take (length buffer - written) (drop written buffer) ≡ drop written buffer = take_rest buffer written in
-    let is : take len (drop (read - written) (take (length buffer - written) (drop written buffer))) ≡ take len part = front-is buffer c.args.end read written len i.order (e.within) in
-    let long : length (take len part) ≡ len = length-take-le len part e.within in
-    let same : length c.decode_flat_in_place.new.buffer ≡ length buffer - written = c.decode_flat_in_place.auto.buffer ∙ ap length back ∙ length-drop written buffer in
-    let count : len - 1 ≡ length (output (take len part)) = (let l = flat.len in omega arith) in
-    let begins = c.decode_flat_in_place.ensures.begins ∙ ap output is in
-    let rest = c.decode_flat_in_place.ensures.rest ∙ ap (drop (len - 1)) back in
-    elim c.else-not-full.branch [
-      | else-not-full-via-then-not-full+else-read-end w ↦ stretch-last c.args.buffer.now c.args.end buffer read written i c.requires.nonzero len (take len part) (omega arith) e.within refl flat.whole
-          c.decode_flat_in_place.new.buffer (len - 1) _ refl same count begins rest (inl (omega (arith, w.if-read-end.false)))
-      | else-not-full-via-else-not-full w ↦ stretch-last c.args.buffer.now c.args.end buffer read written i c.requires.nonzero len (take len part) (omega arith) e.within refl flat.whole
-          c.decode_flat_in_place.new.buffer (len - 1) _ refl same count begins rest (inr (eq-eqb _ 255 ((e.full (omega arith)).0 w.if-not-full.false)))
-    ]
+    let some : 0 < c.decode_next-len.result.0 = omega arith in
+    at-end c.args.buffer.now c.by_front.buffer c.decode_next-len.new.buffer c.args.end c.by_front.read c.by_front.written c.decode_next-len.result.0 c.by_front.invariant c.requires.nonzero some e.within c.decode_next-len.result.1
+    (e.flat some) (e.full some) (e.begins some) e.rest c.decode_next-len.auto.buffer
+    (elim c.else-not-full.either [
+      | inl w ↦ inl w.1
+      | inr w ↦ inr w
+    ])
 
 pub returns-clause-answer : goal.returns-clause-answer
 returns-clause-answer c = all-count _ _ _ _ _ c.by_front.invariant c.by_front-test.false

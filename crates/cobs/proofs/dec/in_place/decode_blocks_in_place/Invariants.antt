@@ -1,5 +1,5 @@
 use Rattle.std.proofs.Common.{◌-◌}
-use Rattle.cobs.proofs.InPlaceSteps.{DecodedInPlace}
+use Rattle.cobs.proofs.decoding.InPlaceSteps.{DecodedInPlace}
 use Rattle.cobs.proofs.dec.in_place.decode_blocks_in_place.Given as goal
 
 abbrev pub invariant-by_front : goal.invariant-by_front

@@ -1,7 +1,7 @@
 use Rattle.std.proofs.Common.{◌∙◌, ap, sym, subst, arith, drop, length-drop, length-take-le}
 use Rattle.cobs.specs.Grammar.{HasNoZero}
 use Rattle.cobs.specs.Piece.{output}
-use Rattle.cobs.proofs.FlatLemmas.{moved-piece, moved-rest, flat-some, flat-copy}
+use Rattle.cobs.proofs.decoding.FlatLemmas.{moved-piece, moved-rest, flat-some, flat-copy}
 use Rattle.cobs.proofs.dec.in_place.decode_flat_in_place.Goals as goal
 
 pub write_joints-requires-clause-nonzero : goal.write_joints-requires-clause-nonzero

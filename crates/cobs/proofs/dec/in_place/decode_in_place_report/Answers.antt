@@ -4,11 +4,12 @@ use Rattle.cobs.specs.Overwritten.{overwritten}
 use Rattle.cobs.specs.Piece.{kept_output}
 use Rattle.cobs.specs.Stream.{head}
 use Rattle.cobs.specs.Decode.{in_place}
-use Rattle.cobs.proofs.HeadLemmas.{front_is_head}
-use Rattle.cobs.proofs.BlockSteps.{overwritten-front}
-use Rattle.cobs.proofs.FlatLemmas.{flat-kept, flat-answer}
-use Rattle.cobs.proofs.HeadlineLemmas.{in_place_report_reads}
-use Rattle.cobs.proofs.OutcomeSteps.{in_place_report-refused, in_place_report-decoded}
+use Rattle.cobs.proofs.decoding.HeadLemmas.{front_is_head}
+use Rattle.cobs.proofs.decoding.BlockSteps.{overwritten-front}
+use Rattle.cobs.proofs.decoding.FlatLemmas.{flat-kept, flat-answer}
+use Rattle.cobs.proofs.decoding.HeadlineLemmas.{in_place_report_reads}
+use Rattle.cobs.proofs.decoding.OutcomeSteps.{in_place_report-refused, in_place_report-decoded}
+use Rattle.cobs.proofs.decoding.ReadsLemmas.{frame_piece}
 use Rattle.cobs.proofs.dec.in_place.decode_in_place_report.Goals as goal
 
 -- a short frame
@@ -34,7 +35,11 @@ returns-then-decode_short_in_place-clause-buffer c =
 
 pub returns-then-decode_short_in_place-clause-reads : goal.returns-then-decode_short_in_place-clause-reads
 returns-then-decode_short_in_place-clause-reads c =
-    in_place_report_reads c.args.buf.now _ _ (returns-then-decode_short_in_place-clause-answer c) (returns-then-decode_short_in_place-clause-buffer c) c.len_without-len.ensures.bytes
+    λ m r. (in_place_report_reads c.args.buf.now _ _ (returns-then-decode_short_in_place-clause-answer c) (returns-then-decode_short_in_place-clause-buffer c) c.len_without-len.ensures.bytes (frame_piece r) m).1 r
+
+pub returns-then-decode_short_in_place-clause-only : goal.returns-then-decode_short_in_place-clause-only
+returns-then-decode_short_in_place-clause-only c =
+    λ piece m told. (in_place_report_reads c.args.buf.now _ _ (returns-then-decode_short_in_place-clause-answer c) (returns-then-decode_short_in_place-clause-buffer c) c.len_without-len.ensures.bytes piece m).0 told
 
 -- any other
 
@@ -45,16 +50,20 @@ returns-in_err-frame_size-clause-answer c =
     let some : length c.decode_short_in_place.new.buffer ≢ 0 = eqb-false _ 0 (sym c.is_empty.ensures ∙ c.if-is_empty.false) in
     let h : take c.piece_len-end.result c.decode_short_in_place.new.buffer ≡ head c.args.buf.now = front_is_head _ _ e.within e.nonzero e.stop ∙ ap head (c.decode_short_in_place.ensures.kept c.if-decode_short_in_place.false) in
     let is : c.from_residual.result ≡ Err c.in_err-frame_size.field-0.0 = search rules in
-    is ∙ in_place_report-refused c.args.buf.now _ (omega arith) h c.decode_front_in_place.result c.decode_front_in_place.ensures.answer _ c.in_err-frame_size.was
+    is ∙ in_place_report-refused c.args.buf.now _ (omega arith) h c.decode_blocks_in_place.result c.decode_blocks_in_place.ensures.answer _ c.in_err-frame_size.was
 
 pub returns-in_err-frame_size-clause-buffer : goal.returns-in_err-frame_size-clause-buffer
 returns-in_err-frame_size-clause-buffer c =
     let e = c.piece_len-end.ensures in
-    c.decode_front_in_place.ensures.buffer ∙ ap (λ (h : List ℕ). overwritten c.decode_short_in_place.new.buffer (kept_output h)) (front_is_head _ _ e.within e.nonzero e.stop) ∙ ap in_place (c.decode_short_in_place.ensures.kept c.if-decode_short_in_place.false)
+    c.decode_blocks_in_place.ensures.buffer ∙ ap (λ (h : List ℕ). overwritten c.decode_short_in_place.new.buffer (kept_output h)) (front_is_head _ _ e.within e.nonzero e.stop) ∙ ap in_place (c.decode_short_in_place.ensures.kept c.if-decode_short_in_place.false)
 
 pub returns-in_err-frame_size-clause-reads : goal.returns-in_err-frame_size-clause-reads
 returns-in_err-frame_size-clause-reads c =
-    in_place_report_reads c.args.buf.now _ _ (returns-in_err-frame_size-clause-answer c) (returns-in_err-frame_size-clause-buffer c) c.len_without-len.ensures.bytes
+    λ m r. (in_place_report_reads c.args.buf.now _ _ (returns-in_err-frame_size-clause-answer c) (returns-in_err-frame_size-clause-buffer c) c.len_without-len.ensures.bytes (frame_piece r) m).1 r
+
+pub returns-in_err-frame_size-clause-only : goal.returns-in_err-frame_size-clause-only
+returns-in_err-frame_size-clause-only c =
+    λ piece m told. (in_place_report_reads c.args.buf.now _ _ (returns-in_err-frame_size-clause-answer c) (returns-in_err-frame_size-clause-buffer c) c.len_without-len.ensures.bytes piece m).0 told
 
 pub returns-clause-answer : goal.returns-clause-answer
 returns-clause-answer c =
@@ -62,14 +71,18 @@ returns-clause-answer c =
     let same = c.decode_short_in_place.auto.buffer in
     let some : length c.decode_short_in_place.new.buffer ≢ 0 = eqb-false _ 0 (sym c.is_empty.ensures ∙ c.if-is_empty.false) in
     let h : take c.piece_len-end.result c.decode_short_in_place.new.buffer ≡ head c.args.buf.now = front_is_head _ _ e.within e.nonzero e.stop ∙ ap head (c.decode_short_in_place.ensures.kept c.if-decode_short_in_place.false) in
-    in_place_report-decoded c.args.buf.now _ (omega arith) h c.decode_front_in_place.result c.decode_front_in_place.ensures.answer _ _ c.in_ok-frame_size.was
+    in_place_report-decoded c.args.buf.now _ (omega arith) h c.decode_blocks_in_place.result c.decode_blocks_in_place.ensures.answer _ _ c.in_ok-frame_size.was
     (sym (length-take-le _ c.decode_short_in_place.new.buffer e.within)) _ c.new-2.ensures
 
 pub returns-clause-buffer : goal.returns-clause-buffer
 returns-clause-buffer c =
     let e = c.piece_len-end.ensures in
-    c.decode_front_in_place.ensures.buffer ∙ ap (λ (h : List ℕ). overwritten c.decode_short_in_place.new.buffer (kept_output h)) (front_is_head _ _ e.within e.nonzero e.stop) ∙ ap in_place (c.decode_short_in_place.ensures.kept c.if-decode_short_in_place.false)
+    c.decode_blocks_in_place.ensures.buffer ∙ ap (λ (h : List ℕ). overwritten c.decode_short_in_place.new.buffer (kept_output h)) (front_is_head _ _ e.within e.nonzero e.stop) ∙ ap in_place (c.decode_short_in_place.ensures.kept c.if-decode_short_in_place.false)
 
 pub returns-clause-reads : goal.returns-clause-reads
 returns-clause-reads c =
-    in_place_report_reads c.args.buf.now _ _ (returns-clause-answer c) (returns-clause-buffer c) c.len_without-len.ensures.bytes
+    λ m r. (in_place_report_reads c.args.buf.now _ _ (returns-clause-answer c) (returns-clause-buffer c) c.len_without-len.ensures.bytes (frame_piece r) m).1 r
+
+pub returns-clause-only : goal.returns-clause-only
+returns-clause-only c =
+    λ piece m told. (in_place_report_reads c.args.buf.now _ _ (returns-clause-answer c) (returns-clause-buffer c) c.len_without-len.ensures.bytes piece m).0 told

@@ -2,8 +2,8 @@ use Rattle.std.proofs.Common.{◌∙◌, ℕ, List, take, refl, ap, sym, subst, 
 use Rattle.cobs.specs.Grammar.{HasNoZero}
 use Rattle.cobs.specs.Piece.{output}
 use Rattle.cobs.specs.Internal.Decoded.{IsFlat}
-use Rattle.cobs.proofs.SentinelLemmas.{xor_each-zero}
-use Rattle.cobs.proofs.FlatLemmas.{moved-piece, moved-rest, piece-nonzero, flat-copy}
+use Rattle.cobs.proofs.format.SentinelLemmas.{xor_each-zero}
+use Rattle.cobs.proofs.decoding.FlatLemmas.{moved-piece, moved-rest, piece-nonzero, flat-copy}
 use Rattle.cobs.proofs.dec.in_place.decode_short_in_place.Goals as goal
 
 pub write_joints-requires-clause-nonzero : goal.write_joints-requires-clause-nonzero

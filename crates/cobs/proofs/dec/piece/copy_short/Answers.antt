@@ -2,7 +2,7 @@ use Rattle.std.proofs.Common.{◌≡◌, ◌∙◌, ◌-◌, ◌++◌, ℕ, List
 use Rattle.std.proofs.lemmas.List.{take_rest}
 use Rattle.cobs.specs.Grammar.{HasNoZero}
 use Rattle.cobs.specs.Sentinel.{xor_each}
-use Rattle.cobs.proofs.SentinelLemmas.{xor_each-zero}
+use Rattle.cobs.proofs.format.SentinelLemmas.{xor_each-zero}
 use Rattle.cobs.proofs.dec.piece.copy_short.Goals as goal
 
 behind : (source : List ℕ) → xor_each 0 (take (length source - 1) (drop 1 source)) ≡ drop 1 source

@@ -1,27 +1,17 @@
-use Rattle.std.proofs.Common.{◌≡◌, ◌+◌, ◌-◌, ◌∙◌, ◌≢◌, length-drop, ℕ, List, length, take, drop, get_or, refl, sym, ap, subst, arith}
+use Rattle.std.proofs.Common.{◌≡◌, ◌+◌, ◌-◌, ◌∙◌, ◌≢◌, length-drop, ℕ, List, take, drop, get_or, refl, ap, arith}
 use Rattle.std.proofs.lemmas.List.{take_rest}
-use Rattle.cobs.specs.Piece.{output}
-use Rattle.cobs.proofs.WindowSteps.{code-pos, room-zero, room-full, long-decoded, full-decoded, joined-begins, joined-rest, flat-few, flat-one}
+use Rattle.cobs.proofs.decoding.WindowSteps.{code-pos, room-zero, room-full, long-decoded, full-decoded, joined-begins, joined-rest, flat-few, flat-one}
 use Rattle.std.proofs.lemmas.List.Elements.{All-drop, All-take, All-same}
-use Rattle.cobs.proofs.PieceCuts.{output-long}
-use Rattle.cobs.proofs.FrontSteps.{decoded-joined, part-head}
+use Rattle.cobs.proofs.decoding.PieceCuts.{output-long}
+use Rattle.cobs.proofs.decoding.FrontSteps.{decoded-joined, part-head}
 use Rattle.cobs.proofs.dec.piece.decode_piece.Goals as goal
 use Rattle.cobs.proofs.dec.piece.decode_piece.Goals.{else-by_window-test, then-by_window-test+else-code-le-WINDOW+then-piece-read}
 
 pub decode_window-step-requires-clause-begun : goal.decode_window-step-requires-clause-begun
-decode_window-step-requires-clause-begun c =
-    let piece : List ℕ = c.args.piece.now in
-    let d = length-drop c.by_window.read piece in
-    let is = ap length (part-head piece c.by_window.read c.requires.nonzero) in
-    omega arith
+decode_window-step-requires-clause-begun c = grind (arith, length-drop, part-head)
 
 pub decode_window-step-requires-clause-room : goal.decode_window-step-requires-clause-room
-decode_window-step-requires-clause-room c =
-    let piece : List ℕ = c.args.piece.now in
-    let d = length-drop c.by_window.read piece in
-    let long = output-long (drop c.by_window.read piece) (omega arith) in
-    let e = ap length (take_rest c.by_window.dest c.by_window.written) ∙ length-drop c.by_window.written c.by_window.dest in
-    omega (arith, c.by_window.invariant.left)
+decode_window-step-requires-clause-room c = grind (arith, length-drop, output-long, take_rest)
 
 pub by_window-smaller-then-code-le-WINDOW : goal.by_window-smaller-then-code-le-WINDOW
 by_window-smaller-then-code-le-WINDOW c =
@@ -39,12 +29,7 @@ by_window-preserved-then-code-le-WINDOW c =
     _ (take_rest c.by_window.dest c.by_window.written) _ refl _ _ c.decode_window-step.ensures.decoded
 
 pub slice_bounds-copy_from_slice-end : goal.slice_bounds-copy_from_slice-end
-slice_bounds-copy_from_slice-end c =
-    let p = c.by_window.invariant in
-    let code : ℕ = get_or c.args.piece.now c.by_window.read 0 in
-    let pos = code-pos c.args.piece.now c.by_window.read c.requires.nonzero p.within in
-    let r = room-full c.args.piece.now c.args.dest.now c.by_window.dest c.by_window.read c.by_window.written code p refl pos (omega arith) in
-    omega arith
+slice_bounds-copy_from_slice-end c = grind (arith, code-pos, room-full)
 
 pub bounds-dest-written : goal.bounds-dest-written
 bounds-dest-written c =
@@ -76,23 +61,10 @@ by_window-preserved c =
     full-decoded c.args.piece.now c.args.dest.now c.by_window.dest c.by_window.read c.by_window.written code p refl pos (omega arith) _ _ (omega arith) (omega arith) part-is (omega arith)
 
 pub decode_flat_piece-end-requires-clause-flat : goal.decode_flat_piece-end-requires-clause-flat
-decode_flat_piece-end-requires-clause-flat c =
-    let p = c.by_window.invariant in
-    let flat : length (output (drop c.by_window.read c.args.piece.now)) + 1 ≡ length (drop c.by_window.read c.args.piece.now) =
-    elim c.by_window-test.branch [
-      | else-by_window-test w ↦ flat-few c.args.piece.now c.args.dest.now c.by_window.dest c.by_window.read c.by_window.written p (omega arith)
-      | then-by_window-test+else-code-le-WINDOW+then-piece-read w ↦ flat-one c.args.piece.now c.args.dest.now c.by_window.dest c.by_window.read c.by_window.written p w.if-piece-read.true
-    ] in
-    subst (λ (xs : List ℕ). length (output xs) + 1 ≡ length xs) (sym (take_rest c.args.piece.now c.by_window.read)) flat
+decode_flat_piece-end-requires-clause-flat c = grind (arith, else-by_window-test, flat-few, then-by_window-test+else-code-le-WINDOW+then-piece-read, flat-one, take_rest)
 
 pub returns-clause-begins : goal.returns-clause-begins
-returns-clause-begins c =
-    let e = c.decode_flat_piece-end.ensures in
-    joined-begins c.args.piece.now c.args.dest.now c.by_window.dest c.by_window.read c.by_window.written c.by_window.invariant (omega arith) c.decode_flat_piece-end.new.dest _ (take_rest c.args.piece.now c.by_window.read)
-    _ (take_rest c.by_window.dest c.by_window.written) _ refl _ e.written e.begins
+returns-clause-begins c = grind (arith, joined-begins, take_rest)
 
 pub returns-clause-rest : goal.returns-clause-rest
-returns-clause-rest c =
-    let e = c.decode_flat_piece-end.ensures in
-    joined-rest c.args.piece.now c.args.dest.now c.by_window.dest c.by_window.read c.by_window.written c.by_window.invariant (omega arith) c.decode_flat_piece-end.new.dest _ (take_rest c.args.piece.now c.by_window.read)
-    _ (take_rest c.by_window.dest c.by_window.written) _ refl _ e.written e.rest
+returns-clause-rest c = grind (arith, joined-rest, take_rest)

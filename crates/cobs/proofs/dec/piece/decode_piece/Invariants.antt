@@ -1,5 +1,5 @@
 use Rattle.std.proofs.Common.{◌-◌, length}
-use Rattle.cobs.proofs.WindowSteps.{Decoded}
+use Rattle.cobs.proofs.decoding.WindowSteps.{Decoded}
 use Rattle.cobs.proofs.dec.piece.decode_piece.Given as goal
 
 abbrev pub invariant-by_window : goal.invariant-by_window

@@ -1,21 +1,17 @@
-use Rattle.std.proofs.Common.{◌≡◌, ◌+◌, ◌<◌, ◌≤◌, ◌-◌, ◌∙◌, ℕ, List, length, take, get_or, inl, inr, refl, sym, ap, arith}
+use Rattle.std.proofs.Common.{◌≡◌, ◌+◌, ◌<◌, ◌≤◌, ◌-◌, ◌∙◌, ℕ, List, length, take, get_or, inl, inr, refl, ap, arith}
 use Rattle.std.proofs.lemmas.Bool.{cases_lt}
 use Rattle.std.proofs.lemmas.List.{take_all}
 use Rattle.cobs.specs.Piece.{output}
-use Rattle.cobs.proofs.PieceCuts.{length-output-last, output-le, joint_of, joint-length}
-use Rattle.cobs.proofs.WindowSteps.{code-pos}
-use Rattle.cobs.proofs.FrontLemmas.{front-started, front-ends, front-whole, front-too_long, front-more-left}
+use Rattle.cobs.proofs.decoding.PieceCuts.{length-output-last, output-le, joint_of, joint-length}
+use Rattle.cobs.proofs.decoding.WindowSteps.{code-pos}
+use Rattle.cobs.proofs.decoding.FrontLemmas.{front-started, front-ends, front-whole, front-too_long, front-more-left}
 use Rattle.cobs.proofs.dec.piece.fitting_len.Goals as goal
 
 pub returns-then-piece-room-clause-front : goal.returns-then-piece-room-clause-front
-returns-then-piece-room-clause-front c =
-    let shorter = output-le c.args.piece.now c.requires.some in
-    ap output (take_all (length c.args.piece.now) c.args.piece.now (omega arith)) ∙ sym (take_all c.args.room (output c.args.piece.now) (omega arith))
+returns-then-piece-room-clause-front c = grind (arith, output-le, take_all)
 
 pub returns-then-piece-room-clause-too_long : goal.returns-then-piece-room-clause-too_long
-returns-then-piece-room-clause-too_long c =
-    let shorter = output-le c.args.piece.now c.requires.some in
-    (λ less. omega arith, λ long. omega arith)
+returns-then-piece-room-clause-too_long c = grind (arith, output-le)
 
 pub by_code-init : goal.by_code-init
 by_code-init c = front-started c.args.piece.now c.args.room c.requires.some

@@ -1,5 +1,5 @@
 use Rattle.std.proofs.Common.{◌-◌, length}
-use Rattle.cobs.proofs.FrontLemmas.{FrontSought}
+use Rattle.cobs.proofs.decoding.FrontLemmas.{FrontSought}
 use Rattle.cobs.proofs.dec.piece.fitting_len.Given as goal
 
 abbrev pub invariant-by_code : goal.invariant-by_code

@@ -1,42 +1,31 @@
 use Rattle.std.proofs.Common.{◌≡◌, ◌<◌, ◌+◌, ◌-◌, ◌∙◌, ℕ, length, take, ap, refl, sym, subst, arith}
-use Rattle.cobs.proofs.WindowSteps.{code-pos, code-decoded, code-copied, code-room, flat-short, end-begins, last-code, last-lacks}
+use Rattle.cobs.proofs.decoding.WindowSteps.{code-pos, code-decoded, code-copied, room-zero, flat-short, end-begins, last-code, last-lacks}
 use Rattle.cobs.proofs.dec.piece.write_codes.Goals as goal
 
 pub bounds-dest-read : goal.bounds-dest-read
 bounds-dest-read c =
-    let i = c.alike.invariant in
-    let pos : 0 < c.by_code.code = subst (λ (n : ℕ). 0 < n) (sym i.code) (code-pos c.args.piece.now c.alike.read c.requires.nonzero i.decoded.within) in
-    let short = flat-short c.args.piece.now c.args.dest.now c.alike.dest c.alike.read i.decoded c.requires.flat c.by_code.code i.code pos i.more in
-    let room = code-room c.args.piece.now c.args.dest.now c.alike.dest c.alike.read c.alike.read c.by_code.code i.decoded i.code pos i.more (length c.args.piece.now) i.copied i.more short in
+    let i = c.by_code.invariant in
+    let pos : 0 < c.by_code.code = subst (λ (n : ℕ). 0 < n) (sym i.code) (code-pos c.args.piece.now c.by_code.read c.requires.nonzero i.decoded.within) in
+    let more : c.by_code.read + c.by_code.code < length c.args.piece.now = omega arith in
+    let short = flat-short c.args.piece.now c.args.dest.now c.by_code.dest c.by_code.read i.decoded c.requires.flat c.by_code.code i.code pos more in
+    let room = room-zero c.args.piece.now c.args.dest.now c.by_code.dest c.by_code.read c.by_code.read c.by_code.code i.decoded i.code pos more short in
     omega arith
-
-pub alike-preserved : goal.alike-preserved
-alike-preserved c =
-    let i = c.alike.invariant in
-    let pos : 0 < c.by_code.code = subst (λ (n : ℕ). 0 < n) (sym i.code) (code-pos c.args.piece.now c.alike.read c.requires.nonzero i.decoded.within) in
-    let short = flat-short c.args.piece.now c.args.dest.now c.alike.dest c.alike.read i.decoded c.requires.flat c.by_code.code i.code pos i.more in
-    record {
-      decoded = code-decoded c.args.piece.now c.args.dest.now c.alike.dest c.alike.read c.alike.read c.by_code.code i.decoded i.code pos i.more (length c.args.piece.now) i.copied i.more short (omega arith);
-      copied = code-copied c.args.piece.now c.args.dest.now c.alike.dest c.alike.read c.alike.read c.by_code.code i.decoded i.code pos i.more (length c.args.piece.now) i.copied i.more short;
-      code = sym c.if-piece-read.false;
-      more = omega arith;
-      onward = omega arith;
-    }
 
 pub by_code-smaller : goal.by_code-smaller
 by_code-smaller c =
-    let i = c.alike.invariant in
-    let pos : 0 < c.by_code.code = subst (λ (n : ℕ). 0 < n) (sym i.code) (code-pos c.args.piece.now c.alike.read c.requires.nonzero i.decoded.within) in
+    let i = c.by_code.invariant in
+    let pos : 0 < c.by_code.code = subst (λ (n : ℕ). 0 < n) (sym i.code) (code-pos c.args.piece.now c.by_code.read c.requires.nonzero i.decoded.within) in
     omega arith
 
 pub by_code-preserved : goal.by_code-preserved
 by_code-preserved c =
-    let i = c.alike.invariant in
-    let pos : 0 < c.by_code.code = subst (λ (n : ℕ). 0 < n) (sym i.code) (code-pos c.args.piece.now c.alike.read c.requires.nonzero i.decoded.within) in
-    let short = flat-short c.args.piece.now c.args.dest.now c.alike.dest c.alike.read i.decoded c.requires.flat c.by_code.code i.code pos i.more in
+    let i = c.by_code.invariant in
+    let pos : 0 < c.by_code.code = subst (λ (n : ℕ). 0 < n) (sym i.code) (code-pos c.args.piece.now c.by_code.read c.requires.nonzero i.decoded.within) in
+    let more : c.by_code.read + c.by_code.code < length c.args.piece.now = omega arith in
+    let short = flat-short c.args.piece.now c.args.dest.now c.by_code.dest c.by_code.read i.decoded c.requires.flat c.by_code.code i.code pos more in
     record {
-      decoded = code-decoded c.args.piece.now c.args.dest.now c.alike.dest c.alike.read c.alike.read c.by_code.code i.decoded i.code pos i.more (length c.args.piece.now) i.copied i.more short (omega arith);
-      copied = code-copied c.args.piece.now c.args.dest.now c.alike.dest c.alike.read c.alike.read c.by_code.code i.decoded i.code pos i.more (length c.args.piece.now) i.copied i.more short;
+      decoded = code-decoded c.args.piece.now c.args.dest.now c.by_code.dest c.by_code.read c.by_code.read c.by_code.code i.decoded i.code pos more (length c.args.piece.now) i.copied more short (omega arith);
+      copied = code-copied c.args.piece.now c.args.dest.now c.by_code.dest c.by_code.read c.by_code.read c.by_code.code i.decoded i.code pos more (length c.args.piece.now) i.copied more short;
       code = refl;
     }
 

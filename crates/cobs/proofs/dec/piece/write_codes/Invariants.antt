@@ -1,5 +1,5 @@
-use Rattle.std.proofs.Common.{◌≡◌, ◌<◌, ◌+◌, ◌-◌, ◌≤◌, length, get_or}
-use Rattle.cobs.proofs.WindowSteps.{Decoded, CopiedTo}
+use Rattle.std.proofs.Common.{◌≡◌, ◌-◌, length, get_or}
+use Rattle.cobs.proofs.decoding.WindowSteps.{Decoded, CopiedTo}
 use Rattle.cobs.proofs.dec.piece.write_codes.Given as goal
 
 abbrev pub invariant-by_code : goal.invariant-by_code
@@ -11,15 +11,3 @@ invariant-by_code l = record {
 
 abbrev pub decreases-by_code : goal.decreases-by_code
 decreases-by_code l = length l.piece - l.read
-
-abbrev pub invariant-alike : goal.invariant-alike
-invariant-alike l = record {
-  decoded : Decoded l.piece l.fn.dest l.dest l.read l.read;
-  copied : CopiedTo l.piece l.dest l.read (length l.piece) l.read;
-  code : l.code ≡ get_or l.piece l.read 0;
-  more : l.read + l.code < length l.piece;
-  onward : l.initial.read ≤ l.read;
-}
-
-abbrev pub decreases-alike : goal.decreases-alike
-decreases-alike l = length l.piece - l.read

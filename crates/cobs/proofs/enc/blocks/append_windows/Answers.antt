@@ -1,242 +1,212 @@
-use Rattle.std.proofs.Common.{◌≡◌, ◌≤◌, ◌+◌, ◌-◌, ◌%◌, ap, ◌++◌, ℕ, List, length, drop, refl, sym, ◌∙◌, subst, arith}
-use Rattle.std.proofs.lemmas.Bool.{eqb-false}
-use Rattle.std.proofs.lemmas.List.{length-set}
+use Rattle.std.proofs.Common.{◌∙◌, drop, ◌≢◌, length-take-le, length-drop, ◌≡◌, ◌<◌, ◌≤◌, ◌+◌, ◌-◌, ◌%◌, Bool, min, true, ap, ◌++◌, ℕ, List, length, take, replicate, refl, sym, subst, arith}
+use lib.Count.{count_trailing_zeros}
 use Rattle.std.proofs.Math.ListN.{set}
-use Rattle.cobs.specs.OpenBlock.{CobsEncoderAfter, Reached, end_of}
-use Rattle.cobs.proofs.ReachLemmas.{Reaches, Reaches-full}
-use Rattle.cobs.proofs.MarkLemmas.{WindowTaken, WindowTaken-at, copied-reaches, filled, marks-start, marks-end, ones-room, ones-taken}
-use Rattle.cobs.specs.Internal.Mask.{lowest}
-use Rattle.cobs.proofs.ShortSteps.{code-inside, code-ordered, first-marked}
-use Rattle.cobs.proofs.CoreLemmas.{end_with, core-start, full-after, full-end, full-rest, open-after, open-end, open-rest, still-open}
-use Rattle.cobs.proofs.enc.blocks.append_windows.Goals.{then-zeros-eq-ALL_ZEROS, else-zeros-eq-ALL_ZEROS+else-by_zero-test}
+use Rattle.std.proofs.lemmas.List.{length-set}
+use Rattle.cobs.specs.OpenBlock.{CobsEncoderAfter, Reached, end_after}
+use Rattle.cobs.specs.Fields.Progress.{reached_at}
+use Rattle.cobs.proofs.encoding.ReachLemmas.{IsNotFull, Reaches, Reaches-at, Reaches-full}
+use Rattle.cobs.proofs.encoding.MarkLemmas.{Marks, WindowTaken, copied-reaches, filled, marks-start, marks-step, marks-end, row-taken}
+use Rattle.cobs.specs.Internal.Mask.{lowest, zero_mask}
+use Rattle.cobs.proofs.bytes.MaskLemmas.{lowest_bit, nonzero_len-lt, window_all}
+use Rattle.cobs.proofs.encoding.ShortSteps.{code-inside, code-ordered, first-marked}
+use Rattle.cobs.proofs.encoding.TakingLemmas.{front-taken, next-least, reaches-noted}
+use Rattle.cobs.proofs.enc.blocks.append_windows.Goals.{then-window-eq0+else-next-index, else-window-eq0+else-place-index-lt-FULL_CODE}
+use Rattle.std.specs.Int.Count.{trailing_of_zero}
 use Rattle.cobs.proofs.enc.blocks.append_windows.Goals as goal
+
+-- a window that was copied
+module _ (source old slice copied : List ℕ) (r₀ : Reached) (read index next window : ℕ) (full : Bool) (fits : end_after r₀ source ≤ length slice) (inside : read + 32 ≤ length source)
+    (reaches : Reaches (CobsEncoderAfter old r₀) source old slice (end_after r₀ source) read index next (λ noted. noted ≡ full)) (short : next < index + 255)
+    (is : copied ≡ take next slice ++ (take 32 (drop read source) ++ drop (next + 32) slice)) (bits : window ≡ zero_mask (take 32 (drop read source))) where
+  abbrev H : List ℕ → Type 0
+  H = CobsEncoderAfter old r₀
+
+  abbrev end : ℕ
+  end = end_after r₀ source
+
+  any : Reaches H source old slice end read index next (λ _. Unit {0})
+  any = Reaches-at H source old slice end read index next (λ noted. noted ≡ full) (λ _. Unit {0}) slice read index next refl refl refl refl (λ noted e. tt) reaches
+
+  long-row : length (take 32 (drop read source)) ≡ 32
+  long-row = length-take-le 32 (drop read source) (let l = length-drop read source in omega arith)
+
+  marked : min (count_trailing_zeros 64 window) 32 < index + 255 - next → Marks H source old copied end read 32 index next window
+  marked near = marks-start H source old slice copied end read 32 index next any fits inside is window (omega arith) bits (omega arith) near
+
+  -- a zero is within the window
+  first-within : window ≢ 0 → count_trailing_zeros 64 window < 32
+  first-within some =
+      let row : List ℕ = take 32 (drop read source) in
+      let l = long-row in
+      let some' : zero_mask row ≢ 0 = λ none. some (bits ∙ none) in
+      let first = ap (count_trailing_zeros 64) bits ∙ lowest_bit row (omega arith) some' in
+      let lt = nonzero_len-lt row some' in
+      omega arith
+
+  -- zeros alone, and ones in their place
+  rowed : (after : List ℕ) (count : ℕ) → end ≤ length copied → 0 < count → read + count ≤ length source → take count (drop read source) ≡ replicate count 0
+      → after ≡ take next (set copied index (next - index)) ++ (replicate count 1 ++ drop (next + count) (set copied index (next - index))) → WindowTaken H source old after end read count (next + count - 1) next
+  rowed after count room some within zeros ones =
+      row-taken H source old copied after end read count index next (copied-reaches H source old slice copied end read 32 index next any fits inside is) room some within zeros short ones
+
+  -- the block is full
+  closed : end ≤ length copied → index + 255 - next ≤ min (count_trailing_zeros 64 window) 32 → read + (index + 255 - next) < length source
+      → Reaches H source old (set copied index 255) end (read + (index + 255 - next)) (index + 255) (index + 255 + 1) (λ noted. noted ≡ true)
+  closed room none more =
+      let lacking : ℕ = index + 255 - next in
+      let o = any.ordered in
+      let sum : next + lacking ≡ index + 255 = omega arith in
+      let near = ap (λ (n : ℕ). min (count_trailing_zeros 64 n) 32) bits in
+      let joined = filled H source old slice copied end read 32 index next any fits inside is lacking refl (omega arith) (omega arith) (omega arith) in
+      Reaches-full H source old copied end (read + lacking) index (index + 255) IsNotFull (λ noted. noted ≡ true) more refl room refl
+      (subst (λ (n : ℕ). Reaches H source old copied end (read + lacking) index n IsNotFull) sum joined)
+
+pub overflow_add-next : goal.overflow_add-next
+overflow_add-next c = let l = next-least (reached_at c.args.progress) c.args.source.now c.requires.place.some c.requires.some in omega arith
 
 pub by_window-init : goal.by_window-init
 by_window-init c =
-    let p = c.progress.inside in
-    let bounds = c.progress.invariant in
-    record {
-      more = (let n = eqb-false (length c.args.source.now) 0 (sym c.is_empty.ensures ∙ c.if-is_empty.false) in omega arith);
-      open' = bounds.1;
-      reaches = core-start c.args.source.now c.args.dest.now c.args.progress.now p.index p.next p.full c.progress.view_is bounds.0 bounds.1;
-    }
-
-pub returns-then-read-source-clause-after : goal.returns-then-read-source-clause-after
-returns-then-read-source-clause-after c =
-    let H : List ℕ → Type 0 = CobsEncoderAfter c.args.dest.now c.args.progress.now in
-    let end : ℕ = end_with c.args.progress.now c.args.source.now in
-    let fits : end ≤ length c.by_window.dest = omega arith in
-    let inside : c.by_window.read + c.min-len.result ≤ length c.args.source.now = omega arith in
-    let few : c.min-len.result ≤ 32 = omega arith in
-    let lacking : ℕ = c.by_window.index + 255 - c.by_window.next in
-    let short = c.by_window.invariant.open' in
-    let sum : c.by_window.next + lacking ≡ c.by_window.index + 255 = omega arith in
-    let joined = filled H c.args.source.now c.args.dest.now c.by_window.dest c.copy_window-zeros.new.dest end c.by_window.read c.min-len.result c.by_window.index c.by_window.next c.copy_window-zeros.result c.by_window.invariant.reaches fits inside few c.copy_window-zeros.ensures.copied c.copy_window-zeros.ensures.zeros lacking refl (omega arith) in
-    let r = subst (λ (n : ℕ). Reaches H c.args.source.now c.args.dest.now c.copy_window-zeros.new.dest end (c.by_window.read + lacking) c.by_window.index n (λ _. Unit {0})) sum joined in
-    let room : end ≤ length c.copy_window-zeros.new.dest = omega arith in
-    λ m h. subst (λ (r : Reached). CobsEncoderAfter (set c.copy_window-zeros.new.dest c.by_window.index 255) r (m ++ c.args.source.now)) (sym c.set.ensures) (full-after H c.args.source.now c.args.dest.now c.copy_window-zeros.new.dest end (c.by_window.read + lacking) c.by_window.index r room (omega arith) m h)
-
-pub returns-then-read-source-clause-end : goal.returns-then-read-source-clause-end
-returns-then-read-source-clause-end c =
-    let H : List ℕ → Type 0 = CobsEncoderAfter c.args.dest.now c.args.progress.now in
-    let end : ℕ = end_with c.args.progress.now c.args.source.now in
-    let fits : end ≤ length c.by_window.dest = omega arith in
-    let inside : c.by_window.read + c.min-len.result ≤ length c.args.source.now = omega arith in
-    let few : c.min-len.result ≤ 32 = omega arith in
-    let lacking : ℕ = c.by_window.index + 255 - c.by_window.next in
-    let short = c.by_window.invariant.open' in
-    let sum : c.by_window.next + lacking ≡ c.by_window.index + 255 = omega arith in
-    let joined = filled H c.args.source.now c.args.dest.now c.by_window.dest c.copy_window-zeros.new.dest end c.by_window.read c.min-len.result c.by_window.index c.by_window.next c.copy_window-zeros.result c.by_window.invariant.reaches fits inside few c.copy_window-zeros.ensures.copied c.copy_window-zeros.ensures.zeros lacking refl (omega arith) in
-    let r = subst (λ (n : ℕ). Reaches H c.args.source.now c.args.dest.now c.copy_window-zeros.new.dest end (c.by_window.read + lacking) c.by_window.index n (λ _. Unit {0})) sum joined in
-    let room : end ≤ length c.copy_window-zeros.new.dest = omega arith in
-    λ some. subst (λ (r : Reached). end_of r ≡ end) (sym c.set.ensures) (sym (full-end H c.args.source.now c.args.dest.now c.copy_window-zeros.new.dest end (c.by_window.read + lacking) c.by_window.index r room (omega arith)))
-
-pub returns-then-read-source-clause-rest : goal.returns-then-read-source-clause-rest
-returns-then-read-source-clause-rest c =
-    let H : List ℕ → Type 0 = CobsEncoderAfter c.args.dest.now c.args.progress.now in
-    let end : ℕ = end_with c.args.progress.now c.args.source.now in
-    let fits : end ≤ length c.by_window.dest = omega arith in
-    let inside : c.by_window.read + c.min-len.result ≤ length c.args.source.now = omega arith in
-    let few : c.min-len.result ≤ 32 = omega arith in
-    let lacking : ℕ = c.by_window.index + 255 - c.by_window.next in
-    let short = c.by_window.invariant.open' in
-    let sum : c.by_window.next + lacking ≡ c.by_window.index + 255 = omega arith in
-    let joined = filled H c.args.source.now c.args.dest.now c.by_window.dest c.copy_window-zeros.new.dest end c.by_window.read c.min-len.result c.by_window.index c.by_window.next c.copy_window-zeros.result c.by_window.invariant.reaches fits inside few c.copy_window-zeros.ensures.copied c.copy_window-zeros.ensures.zeros lacking refl (omega arith) in
-    let r = subst (λ (n : ℕ). Reaches H c.args.source.now c.args.dest.now c.copy_window-zeros.new.dest end (c.by_window.read + lacking) c.by_window.index n (λ _. Unit {0})) sum joined in
-    let room : end ≤ length c.copy_window-zeros.new.dest = omega arith in
-    subst (λ (r : Reached). drop (end_of r) (set c.copy_window-zeros.new.dest c.by_window.index 255) ≡ drop (end_of r) c.args.dest.now) (sym c.set.ensures) (full-rest H c.args.source.now c.args.dest.now c.copy_window-zeros.new.dest end (c.by_window.read + lacking) c.by_window.index r room (omega arith))
-
-pub by_window-preserved-else-read-source : goal.by_window-preserved-else-read-source
-by_window-preserved-else-read-source c =
-    let H : List ℕ → Type 0 = CobsEncoderAfter c.args.dest.now c.args.progress.now in
-    let end : ℕ = end_with c.args.progress.now c.args.source.now in
-    let fits : end ≤ length c.by_window.dest = omega arith in
-    let inside : c.by_window.read + c.min-len.result ≤ length c.args.source.now = omega arith in
-    let few : c.min-len.result ≤ 32 = omega arith in
-    let lacking : ℕ = c.by_window.index + 255 - c.by_window.next in
-    let short = c.by_window.invariant.open' in
-    let sum : c.by_window.next + lacking ≡ c.by_window.index + 255 = omega arith in
-    let joined = filled H c.args.source.now c.args.dest.now c.by_window.dest c.copy_window-zeros.new.dest end c.by_window.read c.min-len.result c.by_window.index c.by_window.next c.copy_window-zeros.result c.by_window.invariant.reaches fits inside few c.copy_window-zeros.ensures.copied c.copy_window-zeros.ensures.zeros lacking refl (omega arith) in
-    let r = subst (λ (n : ℕ). Reaches H c.args.source.now c.args.dest.now c.copy_window-zeros.new.dest end (c.by_window.read + lacking) c.by_window.index n (λ _. Unit {0})) sum joined in
-    let room : end ≤ length c.copy_window-zeros.new.dest = omega arith in
+    let short = c.requires.place.not_full in
     record {
       more = omega arith;
       open' = omega arith;
-      reaches = Reaches-full H c.args.source.now c.args.dest.now c.copy_window-zeros.new.dest end (c.by_window.read + lacking) c.by_window.index (c.by_window.index + 255) (λ _. Unit {0}) (λ _. Unit {0}) (omega arith) refl room tt r;
+      reaches = reaches-noted c.args.source.now c.args.dest.now (reached_at c.args.progress) c.requires.some c.requires.place.some c.requires.place.not_full;
     }
 
-pub write_ones-requires : goal.write_ones-requires
-write_ones-requires c =
-    let H : List ℕ → Type 0 = CobsEncoderAfter c.args.dest.now c.args.progress.now in
-    let end : ℕ = end_with c.args.progress.now c.args.source.now in
-    let fits : end ≤ length c.by_window.dest = omega arith in
-    let inside : c.by_window.read + c.min-len.result ≤ length c.args.source.now = omega arith in
-    let few : c.min-len.result ≤ 32 = omega arith in
-    let r = copied-reaches H c.args.source.now c.args.dest.now c.by_window.dest c.copy_window-zeros.new.dest end c.by_window.read c.min-len.result c.by_window.index c.by_window.next c.copy_window-zeros.result c.by_window.invariant.reaches fits inside few c.copy_window-zeros.ensures.copied c.copy_window-zeros.ensures.zeros in
-    let room : end ≤ length c.copy_window-zeros.new.dest = omega arith in
-    let l = ones-room H c.args.source.now c.args.dest.now c.copy_window-zeros.new.dest end c.by_window.read c.min-len.result c.by_window.index c.by_window.next c.copy_window-zeros.result r room inside few c.copy_window-zeros.ensures.zeros c.if-zeros-eq-ALL_ZEROS.true in
-    let n = length-set c.copy_window-zeros.new.dest c.by_window.index (c.by_window.next - c.by_window.index) in
-    omega arith
-
-pub by_zero-init : goal.by_zero-init
-by_zero-init c =
-    let H : List ℕ → Type 0 = CobsEncoderAfter c.args.dest.now c.args.progress.now in
-    let end : ℕ = end_with c.args.progress.now c.args.source.now in
-    let fits : end ≤ length c.by_window.dest = omega arith in
-    let inside : c.by_window.read + c.min-len.result ≤ length c.args.source.now = omega arith in
-    let few : c.min-len.result ≤ 32 = omega arith in
-    marks-start H c.args.source.now c.args.dest.now c.by_window.dest c.copy_window-zeros.new.dest end c.by_window.read c.min-len.result c.by_window.index c.by_window.next c.copy_window-zeros.result c.by_window.invariant.reaches fits inside few c.copy_window-zeros.ensures.copied c.copy_window-zeros.ensures.zeros (omega arith) (omega arith)
-
-pub set-requires-then-read-source-2 : goal.set-requires-then-read-source-2
-set-requires-then-read-source-2 c =
-    let H : List ℕ → Type 0 = CobsEncoderAfter c.args.dest.now c.args.progress.now in
-    let end : ℕ = end_with c.args.progress.now c.args.source.now in
-    let fits : end ≤ length c.by_window.dest = omega arith in
-    let inside : c.by_window.read + c.min-len.result ≤ length c.args.source.now = omega arith in
-    let few : c.min-len.result ≤ 32 = omega arith in
-    let r = copied-reaches H c.args.source.now c.args.dest.now c.by_window.dest c.copy_window-zeros.new.dest end c.by_window.read c.min-len.result c.by_window.index c.by_window.next c.copy_window-zeros.result c.by_window.invariant.reaches fits inside few c.copy_window-zeros.ensures.copied c.copy_window-zeros.ensures.zeros in
-    let room : end ≤ length c.copy_window-zeros.new.dest = omega arith in
-    let taken : WindowTaken H c.args.source.now c.args.dest.now c.if-zeros-eq-ALL_ZEROS.dest end c.by_window.read c.min-len.result c.if-zeros-eq-ALL_ZEROS.index c.by_window.next = elim c.if-zeros-eq-ALL_ZEROS.branch [
-      | then-zeros-eq-ALL_ZEROS w ↦ WindowTaken-at _ _ _ _ _ _ _ _ _ _ _ (sym w.dest-is) (sym w.index-is)
-          (ones-taken H c.args.source.now c.args.dest.now c.copy_window-zeros.new.dest end c.by_window.read c.min-len.result c.by_window.index c.by_window.next c.copy_window-zeros.result r room inside few c.copy_window-zeros.ensures.zeros w.if-zeros-eq-ALL_ZEROS.true w.write_ones.new.dest c.by_window.invariant.open' w.write_ones.ensures)
-      | else-zeros-eq-ALL_ZEROS+else-by_zero-test w ↦ WindowTaken-at _ _ _ _ _ _ _ _ _ _ _ (sym w.dest-is) (sym w.index-is)
-          (marks-end _ _ _ _ _ _ _ _ _ _ _ w.by_zero.invariant w.by_zero-test.false (omega arith))
-    ] in
-    record { ordered = taken.ordered; open_block = taken.open' }
-
-pub returns-then-read-source-2-clause-after : goal.returns-then-read-source-2-clause-after
-returns-then-read-source-2-clause-after c =
-    let H : List ℕ → Type 0 = CobsEncoderAfter c.args.dest.now c.args.progress.now in
-    let end : ℕ = end_with c.args.progress.now c.args.source.now in
-    let fits : end ≤ length c.by_window.dest = omega arith in
-    let inside : c.by_window.read + c.min-len.result ≤ length c.args.source.now = omega arith in
-    let few : c.min-len.result ≤ 32 = omega arith in
-    let r = copied-reaches H c.args.source.now c.args.dest.now c.by_window.dest c.copy_window-zeros.new.dest end c.by_window.read c.min-len.result c.by_window.index c.by_window.next c.copy_window-zeros.result c.by_window.invariant.reaches fits inside few c.copy_window-zeros.ensures.copied c.copy_window-zeros.ensures.zeros in
-    let room : end ≤ length c.copy_window-zeros.new.dest = omega arith in
-    let taken : WindowTaken H c.args.source.now c.args.dest.now c.if-zeros-eq-ALL_ZEROS.dest end c.by_window.read c.min-len.result c.if-zeros-eq-ALL_ZEROS.index c.by_window.next = elim c.if-zeros-eq-ALL_ZEROS.branch [
-      | then-zeros-eq-ALL_ZEROS w ↦ WindowTaken-at _ _ _ _ _ _ _ _ _ _ _ (sym w.dest-is) (sym w.index-is)
-          (ones-taken H c.args.source.now c.args.dest.now c.copy_window-zeros.new.dest end c.by_window.read c.min-len.result c.by_window.index c.by_window.next c.copy_window-zeros.result r room inside few c.copy_window-zeros.ensures.zeros w.if-zeros-eq-ALL_ZEROS.true w.write_ones.new.dest c.by_window.invariant.open' w.write_ones.ensures)
-      | else-zeros-eq-ALL_ZEROS+else-by_zero-test w ↦ WindowTaken-at _ _ _ _ _ _ _ _ _ _ _ (sym w.dest-is) (sym w.index-is)
-          (marks-end _ _ _ _ _ _ _ _ _ _ _ w.by_zero.invariant w.by_zero-test.false (omega arith))
-    ] in
-    λ m h. subst (λ (r : Reached). CobsEncoderAfter c.if-zeros-eq-ALL_ZEROS.dest r (m ++ c.args.source.now)) (sym c.set-then-read-source-2.ensures) (open-after H c.args.source.now c.args.dest.now c.if-zeros-eq-ALL_ZEROS.dest end c.by_window.read c.min-len.result c.if-zeros-eq-ALL_ZEROS.index c.by_window.next taken (omega arith) (omega arith) m h)
-
-pub returns-then-read-source-2-clause-end : goal.returns-then-read-source-2-clause-end
-returns-then-read-source-2-clause-end c =
-    let H : List ℕ → Type 0 = CobsEncoderAfter c.args.dest.now c.args.progress.now in
-    let end : ℕ = end_with c.args.progress.now c.args.source.now in
-    let fits : end ≤ length c.by_window.dest = omega arith in
-    let inside : c.by_window.read + c.min-len.result ≤ length c.args.source.now = omega arith in
-    let few : c.min-len.result ≤ 32 = omega arith in
-    let r = copied-reaches H c.args.source.now c.args.dest.now c.by_window.dest c.copy_window-zeros.new.dest end c.by_window.read c.min-len.result c.by_window.index c.by_window.next c.copy_window-zeros.result c.by_window.invariant.reaches fits inside few c.copy_window-zeros.ensures.copied c.copy_window-zeros.ensures.zeros in
-    let room : end ≤ length c.copy_window-zeros.new.dest = omega arith in
-    let taken : WindowTaken H c.args.source.now c.args.dest.now c.if-zeros-eq-ALL_ZEROS.dest end c.by_window.read c.min-len.result c.if-zeros-eq-ALL_ZEROS.index c.by_window.next = elim c.if-zeros-eq-ALL_ZEROS.branch [
-      | then-zeros-eq-ALL_ZEROS w ↦ WindowTaken-at _ _ _ _ _ _ _ _ _ _ _ (sym w.dest-is) (sym w.index-is)
-          (ones-taken H c.args.source.now c.args.dest.now c.copy_window-zeros.new.dest end c.by_window.read c.min-len.result c.by_window.index c.by_window.next c.copy_window-zeros.result r room inside few c.copy_window-zeros.ensures.zeros w.if-zeros-eq-ALL_ZEROS.true w.write_ones.new.dest c.by_window.invariant.open' w.write_ones.ensures)
-      | else-zeros-eq-ALL_ZEROS+else-by_zero-test w ↦ WindowTaken-at _ _ _ _ _ _ _ _ _ _ _ (sym w.dest-is) (sym w.index-is)
-          (marks-end _ _ _ _ _ _ _ _ _ _ _ w.by_zero.invariant w.by_zero-test.false (omega arith))
-    ] in
-    let e = open-end H c.args.source.now c.args.dest.now c.if-zeros-eq-ALL_ZEROS.dest end c.by_window.read c.min-len.result c.if-zeros-eq-ALL_ZEROS.index c.by_window.next taken (omega arith) (omega arith) in
-    let o = taken.ordered in
-    let is : c.if-zeros-eq-ALL_ZEROS.index + (c.by_window.next + c.min-len.result - c.if-zeros-eq-ALL_ZEROS.index) ≡ end = omega arith in
-    λ some. subst (λ (r : Reached). end_of r ≡ end) (sym c.set-then-read-source-2.ensures) is
-
-pub returns-then-read-source-2-clause-rest : goal.returns-then-read-source-2-clause-rest
-returns-then-read-source-2-clause-rest c =
-    let H : List ℕ → Type 0 = CobsEncoderAfter c.args.dest.now c.args.progress.now in
-    let end : ℕ = end_with c.args.progress.now c.args.source.now in
-    let fits : end ≤ length c.by_window.dest = omega arith in
-    let inside : c.by_window.read + c.min-len.result ≤ length c.args.source.now = omega arith in
-    let few : c.min-len.result ≤ 32 = omega arith in
-    let r = copied-reaches H c.args.source.now c.args.dest.now c.by_window.dest c.copy_window-zeros.new.dest end c.by_window.read c.min-len.result c.by_window.index c.by_window.next c.copy_window-zeros.result c.by_window.invariant.reaches fits inside few c.copy_window-zeros.ensures.copied c.copy_window-zeros.ensures.zeros in
-    let room : end ≤ length c.copy_window-zeros.new.dest = omega arith in
-    let taken : WindowTaken H c.args.source.now c.args.dest.now c.if-zeros-eq-ALL_ZEROS.dest end c.by_window.read c.min-len.result c.if-zeros-eq-ALL_ZEROS.index c.by_window.next = elim c.if-zeros-eq-ALL_ZEROS.branch [
-      | then-zeros-eq-ALL_ZEROS w ↦ WindowTaken-at _ _ _ _ _ _ _ _ _ _ _ (sym w.dest-is) (sym w.index-is)
-          (ones-taken H c.args.source.now c.args.dest.now c.copy_window-zeros.new.dest end c.by_window.read c.min-len.result c.by_window.index c.by_window.next c.copy_window-zeros.result r room inside few c.copy_window-zeros.ensures.zeros w.if-zeros-eq-ALL_ZEROS.true w.write_ones.new.dest c.by_window.invariant.open' w.write_ones.ensures)
-      | else-zeros-eq-ALL_ZEROS+else-by_zero-test w ↦ WindowTaken-at _ _ _ _ _ _ _ _ _ _ _ (sym w.dest-is) (sym w.index-is)
-          (marks-end _ _ _ _ _ _ _ _ _ _ _ w.by_zero.invariant w.by_zero-test.false (omega arith))
-    ] in
-    subst (λ (r : Reached). drop (end_of r) c.if-zeros-eq-ALL_ZEROS.dest ≡ drop (end_of r) c.args.dest.now) (sym c.set-then-read-source-2.ensures) (open-rest H c.args.source.now c.args.dest.now c.if-zeros-eq-ALL_ZEROS.dest end c.by_window.read c.min-len.result c.if-zeros-eq-ALL_ZEROS.index c.by_window.next taken (omega arith) (omega arith))
-
-pub by_window-preserved : goal.by_window-preserved
-by_window-preserved c =
-    let H : List ℕ → Type 0 = CobsEncoderAfter c.args.dest.now c.args.progress.now in
-    let end : ℕ = end_with c.args.progress.now c.args.source.now in
-    let fits : end ≤ length c.by_window.dest = omega arith in
-    let inside : c.by_window.read + c.min-len.result ≤ length c.args.source.now = omega arith in
-    let few : c.min-len.result ≤ 32 = omega arith in
-    let r = copied-reaches H c.args.source.now c.args.dest.now c.by_window.dest c.copy_window-zeros.new.dest end c.by_window.read c.min-len.result c.by_window.index c.by_window.next c.copy_window-zeros.result c.by_window.invariant.reaches fits inside few c.copy_window-zeros.ensures.copied c.copy_window-zeros.ensures.zeros in
-    let room : end ≤ length c.copy_window-zeros.new.dest = omega arith in
-    let taken : WindowTaken H c.args.source.now c.args.dest.now c.if-zeros-eq-ALL_ZEROS.dest end c.by_window.read c.min-len.result c.if-zeros-eq-ALL_ZEROS.index c.by_window.next = elim c.if-zeros-eq-ALL_ZEROS.branch [
-      | then-zeros-eq-ALL_ZEROS w ↦ WindowTaken-at _ _ _ _ _ _ _ _ _ _ _ (sym w.dest-is) (sym w.index-is)
-          (ones-taken H c.args.source.now c.args.dest.now c.copy_window-zeros.new.dest end c.by_window.read c.min-len.result c.by_window.index c.by_window.next c.copy_window-zeros.result r room inside few c.copy_window-zeros.ensures.zeros w.if-zeros-eq-ALL_ZEROS.true w.write_ones.new.dest c.by_window.invariant.open' w.write_ones.ensures)
-      | else-zeros-eq-ALL_ZEROS+else-by_zero-test w ↦ WindowTaken-at _ _ _ _ _ _ _ _ _ _ _ (sym w.dest-is) (sym w.index-is)
-          (marks-end _ _ _ _ _ _ _ _ _ _ _ w.by_zero.invariant w.by_zero-test.false (omega arith))
-    ] in
+pub by_window-preserved-then-next-index : goal.by_window-preserved-then-next-index
+by_window-preserved-then-next-index c =
+    let w = c.by_window in
+    let o = w.invariant.reaches.ordered in
+    let start = marked c.args.source.now c.args.dest.now c.by_window.dest c.copy_at-window.new.dest (reached_at c.args.progress) c.by_window.read c.by_window.index c.by_window.next c.copy_at-window.result c.by_window.full (omega arith) (omega arith) c.by_window.invariant.reaches c.by_window.invariant.open' c.copy_at-window.ensures.copied c.copy_at-window.ensures.zeros (omega arith) in
+    let taken = marks-end _ c.args.source.now c.args.dest.now c.copy_at-window.new.dest _ w.read 32 w.index w.next c.copy_at-window.result (w.index + 1 - w.next) start c.if-window-eq0.true (omega arith) in
     record {
       more = omega arith;
       open' = taken.open';
-      reaches = still-open H c.args.source.now c.args.dest.now c.if-zeros-eq-ALL_ZEROS.dest end c.by_window.read c.min-len.result c.if-zeros-eq-ALL_ZEROS.index c.by_window.next taken (omega arith);
+      reaches = taken.reaches;
     }
+
+pub write_rows-count-requires-clause-zeros : goal.write_rows-count-requires-clause-zeros
+write_rows-count-requires-clause-zeros c =
+    let l = long-row c.args.source.now c.args.dest.now c.by_window.dest c.copy_at-window.new.dest (reached_at c.args.progress) c.by_window.read c.by_window.index c.by_window.next c.copy_at-window.result c.by_window.full (omega arith) (omega arith) c.by_window.invariant.reaches c.by_window.invariant.open' c.copy_at-window.ensures.copied c.copy_at-window.ensures.zeros in
+    (window_all (take 32 (drop c.by_window.read c.args.source.now)) (omega arith) (sym c.copy_at-window.ensures.zeros ∙ c.if-window-eq-ALL_ZEROS.true)).1
+
+pub by_window-preserved-then-window-eq-ALL_ZEROS : goal.by_window-preserved-then-window-eq-ALL_ZEROS
+unfolding count_trailing_zeros
+by_window-preserved-then-window-eq-ALL_ZEROS c =
+    let w = c.by_window in
+    let copied : List ℕ = c.copy_at-window.new.dest in
+    let count : ℕ = c.write_rows-count.result in
+    let after : List ℕ = c.write_rows-count.new.dest in
+    let first : count_trailing_zeros 64 c.copy_at-window.result ≡ 0 = ap (count_trailing_zeros 64) c.if-window-eq-ALL_ZEROS.true in
+    let code : w.next + count_trailing_zeros 64 c.copy_at-window.result - w.index ≡ w.next - w.index = omega arith in
+    let ones = subst (λ (n : ℕ). after ≡ take w.next (set copied w.index n) ++ (replicate count 1 ++ drop (w.next + count) (set copied w.index n))) code c.write_rows-count.ensures.ones in
+    let taken = rowed c.args.source.now c.args.dest.now c.by_window.dest c.copy_at-window.new.dest (reached_at c.args.progress) c.by_window.read c.by_window.index c.by_window.next c.copy_at-window.result c.by_window.full (omega arith) (omega arith) c.by_window.invariant.reaches c.by_window.invariant.open' c.copy_at-window.ensures.copied c.copy_at-window.ensures.zeros after count (omega arith) (omega arith) (omega arith) c.write_rows-count.ensures.zeros ones in
+    record {
+      more = omega arith;
+      open' = taken.open';
+      reaches = taken.reaches;
+    }
+
+pub by_zero-init : goal.by_zero-init
+by_zero-init c =
+    let w = c.by_window in
+    let o = w.invariant.reaches.ordered in
+    let start = marked c.args.source.now c.args.dest.now c.by_window.dest c.copy_at-window.new.dest (reached_at c.args.progress) c.by_window.read c.by_window.index c.by_window.next c.copy_at-window.result c.by_window.full (omega arith) (omega arith) c.by_window.invariant.reaches c.by_window.invariant.open' c.copy_at-window.ensures.copied c.copy_at-window.ensures.zeros (omega arith) in
+    marks-step _ c.args.source.now c.args.dest.now c.copy_at-window.new.dest _ w.read 32 w.index w.next c.copy_at-window.result (w.index + 1 - w.next) start c.if-window-eq0.false (omega arith)
+
+pub by_window-preserved-then-place-index-lt-FULL_CODE : goal.by_window-preserved-then-place-index-lt-FULL_CODE
+by_window-preserved-then-place-index-lt-FULL_CODE c =
+    let coded = length-set c.copy_at-window.new.dest c.by_window.index (c.by_window.next + count_trailing_zeros 64 c.copy_at-window.result - c.by_window.index) in
+    let taken = marks-end _ _ _ _ _ _ _ _ _ _ _ c.by_zero.invariant c.by_zero-test.false (omega arith) in
+    record {
+      more = omega arith;
+      open' = taken.open';
+      reaches = taken.reaches;
+    }
+
+pub by_window-preserved : goal.by_window-preserved
+by_window-preserved c =
+    let w = c.by_window in
+    let o = w.invariant.reaches.ordered in
+    let none : w.index + 255 - w.next ≤ min (count_trailing_zeros 64 c.copy_at-window.result) 32 = elim c.if-window-eq0.branch [
+      | then-window-eq0+else-next-index b ↦ (let e = ap (count_trailing_zeros 64) b.if-window-eq0.true ∙ trailing_of_zero 64 in omega arith)
+      | else-window-eq0+else-place-index-lt-FULL_CODE b ↦ (let within = first-within c.args.source.now c.args.dest.now c.by_window.dest c.copy_at-window.new.dest (reached_at c.args.progress) c.by_window.read c.by_window.index c.by_window.next c.copy_at-window.result c.by_window.full (omega arith) (omega arith) c.by_window.invariant.reaches c.by_window.invariant.open' c.copy_at-window.ensures.copied c.copy_at-window.ensures.zeros b.if-window-eq0.false in omega arith)
+    ] in
+    record {
+      more = omega arith;
+      open' = omega arith;
+      reaches = closed c.args.source.now c.args.dest.now c.by_window.dest c.copy_at-window.new.dest (reached_at c.args.progress) c.by_window.read c.by_window.index c.by_window.next c.copy_at-window.result c.by_window.full (omega arith) (omega arith) c.by_window.invariant.reaches c.by_window.invariant.open' c.copy_at-window.ensures.copied c.copy_at-window.ensures.zeros (omega arith) none (omega arith);
+    }
+
+pub returns-then-read-clause-within : goal.returns-then-read-clause-within
+returns-then-read-clause-within c =
+    let w = c.by_window in
+    let o = w.invariant.reaches.ordered in
+    let none : w.index + 255 - w.next ≤ min (count_trailing_zeros 64 c.copy_at-window.result) 32 = elim c.if-window-eq0.branch [
+      | then-window-eq0+else-next-index b ↦ (let e = ap (count_trailing_zeros 64) b.if-window-eq0.true ∙ trailing_of_zero 64 in omega arith)
+      | else-window-eq0+else-place-index-lt-FULL_CODE b ↦ (let within = first-within c.args.source.now c.args.dest.now c.by_window.dest c.copy_at-window.new.dest (reached_at c.args.progress) c.by_window.read c.by_window.index c.by_window.next c.copy_at-window.result c.by_window.full (omega arith) (omega arith) c.by_window.invariant.reaches c.by_window.invariant.open' c.copy_at-window.ensures.copied c.copy_at-window.ensures.zeros b.if-window-eq0.false in omega arith)
+    ] in
+    omega arith
+
+pub returns-then-read-clause-taken : goal.returns-then-read-clause-taken
+returns-then-read-clause-taken c =
+    let w = c.by_window in
+    let o = w.invariant.reaches.ordered in
+    let none : w.index + 255 - w.next ≤ min (count_trailing_zeros 64 c.copy_at-window.result) 32 = elim c.if-window-eq0.branch [
+      | then-window-eq0+else-next-index b ↦ (let e = ap (count_trailing_zeros 64) b.if-window-eq0.true ∙ trailing_of_zero 64 in omega arith)
+      | else-window-eq0+else-place-index-lt-FULL_CODE b ↦ (let within = first-within c.args.source.now c.args.dest.now c.by_window.dest c.copy_at-window.new.dest (reached_at c.args.progress) c.by_window.read c.by_window.index c.by_window.next c.copy_at-window.result c.by_window.full (omega arith) (omega arith) c.by_window.invariant.reaches c.by_window.invariant.open' c.copy_at-window.ensures.copied c.copy_at-window.ensures.zeros b.if-window-eq0.false in omega arith)
+    ] in
+    let l = length-set c.copy_at-window.new.dest w.index 255 in
+    front-taken c.args.source.now c.args.dest.now (set c.copy_at-window.new.dest w.index 255) (reached_at c.args.progress) (reached_at c.progress_at.result) (omega arith) (w.read + (w.index + 255 - w.next)) (w.index + 255) (w.index + 255 + 1) true
+    (closed c.args.source.now c.args.dest.now c.by_window.dest c.copy_at-window.new.dest (reached_at c.args.progress) c.by_window.read c.by_window.index c.by_window.next c.copy_at-window.result c.by_window.full (omega arith) (omega arith) c.by_window.invariant.reaches c.by_window.invariant.open' c.copy_at-window.ensures.copied c.copy_at-window.ensures.zeros (omega arith) none (omega arith)) (omega arith) (λ all. absurd (omega arith)) c.progress_at.ensures
+
+pub returns-clause-taken : goal.returns-clause-taken
+returns-clause-taken c =
+    let i = c.by_window.invariant in
+    front-taken c.args.source.now c.args.dest.now c.by_window.dest (reached_at c.args.progress) (reached_at c.progress_at-2.result) (omega arith) c.by_window.read c.by_window.index c.by_window.next c.by_window.full i.reaches i.open' (λ all. absurd (omega arith)) c.progress_at-2.ensures
 
 pub mark_first-requires-clause-ordered : goal.mark_first-requires-clause-ordered
 mark_first-requires-clause-ordered c =
-    let H : List ℕ → Type 0 = CobsEncoderAfter c.args.dest.now c.args.progress.now in
-    let end : ℕ = end_with c.args.progress.now c.args.source.now in
-    code-ordered H c.args.source.now c.args.dest.now c.by_zero.dest end c.by_window.read c.min-len.result c.by_zero.index c.by_window.next c.by_zero.zeros c.by_zero.invariant
+    let H : List ℕ → Type 0 = CobsEncoderAfter c.args.dest.now (reached_at c.args.progress) in
+    let end : ℕ = end_after (reached_at c.args.progress) c.args.source.now in
+    code-ordered H c.args.source.now c.args.dest.now c.by_zero.dest end c.by_window.read 32 c.by_zero.index c.by_window.next c.by_zero.zeros c.by_zero.invariant
 
 pub mark_first-requires-then-zeros-ne0-clause-inside : goal.mark_first-requires-then-zeros-ne0-clause-inside
 mark_first-requires-then-zeros-ne0-clause-inside c =
-    let H : List ℕ → Type 0 = CobsEncoderAfter c.args.dest.now c.args.progress.now in
-    let end : ℕ = end_with c.args.progress.now c.args.source.now in
+    let H : List ℕ → Type 0 = CobsEncoderAfter c.args.dest.now (reached_at c.args.progress) in
+    let end : ℕ = end_after (reached_at c.args.progress) c.args.source.now in
+    let coded = length-set c.copy_at-window.new.dest c.by_window.index (c.by_window.next + count_trailing_zeros 64 c.copy_at-window.result - c.by_window.index) in
     let fits : end ≤ length c.by_zero.dest = omega arith in
-    let one = first-marked H c.args.source.now c.args.dest.now c.by_zero.dest end c.by_window.read c.min-len.result c.by_zero.index c.by_window.next c.by_zero.zeros c.by_zero.invariant c.mark_first.new.dest c.mark_first.result fits c.mark_first.ensures.code c.mark_first.ensures.none c.mark_first.ensures.some in
+    let one = first-marked H c.args.source.now c.args.dest.now c.by_zero.dest end c.by_window.read 32 c.by_zero.index c.by_window.next c.by_zero.zeros c.by_zero.invariant c.mark_first.new.dest c.mark_first.result fits c.mark_first.ensures.code c.mark_first.ensures.none c.mark_first.ensures.some in
     let l = length-set c.by_zero.dest c.by_zero.index ((c.by_window.next + lowest c.by_zero.zeros - c.by_zero.index) % 256) in
     let fits' : end ≤ length c.mark_first.new.dest = omega (arith, ap length c.mark_first.ensures.code) in
-    code-inside H c.args.source.now c.args.dest.now c.mark_first.new.dest end c.by_window.read c.min-len.result c.mark_first.result.0 c.by_window.next c.mark_first.result.1 one fits'
+    code-inside H c.args.source.now c.args.dest.now c.mark_first.new.dest end c.by_window.read 32 c.mark_first.result.0 c.by_window.next c.mark_first.result.1 one fits'
 
 pub mark_first-requires-then-zeros-ne0-clause-ordered : goal.mark_first-requires-then-zeros-ne0-clause-ordered
 mark_first-requires-then-zeros-ne0-clause-ordered c =
-    let H : List ℕ → Type 0 = CobsEncoderAfter c.args.dest.now c.args.progress.now in
-    let end : ℕ = end_with c.args.progress.now c.args.source.now in
+    let H : List ℕ → Type 0 = CobsEncoderAfter c.args.dest.now (reached_at c.args.progress) in
+    let end : ℕ = end_after (reached_at c.args.progress) c.args.source.now in
+    let coded = length-set c.copy_at-window.new.dest c.by_window.index (c.by_window.next + count_trailing_zeros 64 c.copy_at-window.result - c.by_window.index) in
     let fits : end ≤ length c.by_zero.dest = omega arith in
-    let one = first-marked H c.args.source.now c.args.dest.now c.by_zero.dest end c.by_window.read c.min-len.result c.by_zero.index c.by_window.next c.by_zero.zeros c.by_zero.invariant c.mark_first.new.dest c.mark_first.result fits c.mark_first.ensures.code c.mark_first.ensures.none c.mark_first.ensures.some in
-    code-ordered H c.args.source.now c.args.dest.now c.mark_first.new.dest end c.by_window.read c.min-len.result c.mark_first.result.0 c.by_window.next c.mark_first.result.1 one
+    let one = first-marked H c.args.source.now c.args.dest.now c.by_zero.dest end c.by_window.read 32 c.by_zero.index c.by_window.next c.by_zero.zeros c.by_zero.invariant c.mark_first.new.dest c.mark_first.result fits c.mark_first.ensures.code c.mark_first.ensures.none c.mark_first.ensures.some in
+    code-ordered H c.args.source.now c.args.dest.now c.mark_first.new.dest end c.by_window.read 32 c.mark_first.result.0 c.by_window.next c.mark_first.result.1 one
 
 pub by_zero-preserved-then-zeros-ne0 : goal.by_zero-preserved-then-zeros-ne0
 by_zero-preserved-then-zeros-ne0 c =
-    let H : List ℕ → Type 0 = CobsEncoderAfter c.args.dest.now c.args.progress.now in
-    let end : ℕ = end_with c.args.progress.now c.args.source.now in
+    let H : List ℕ → Type 0 = CobsEncoderAfter c.args.dest.now (reached_at c.args.progress) in
+    let end : ℕ = end_after (reached_at c.args.progress) c.args.source.now in
+    let coded = length-set c.copy_at-window.new.dest c.by_window.index (c.by_window.next + count_trailing_zeros 64 c.copy_at-window.result - c.by_window.index) in
     let fits : end ≤ length c.by_zero.dest = omega arith in
-    let one = first-marked H c.args.source.now c.args.dest.now c.by_zero.dest end c.by_window.read c.min-len.result c.by_zero.index c.by_window.next c.by_zero.zeros c.by_zero.invariant c.mark_first.new.dest c.mark_first.result fits c.mark_first.ensures.code c.mark_first.ensures.none c.mark_first.ensures.some in
+    let one = first-marked H c.args.source.now c.args.dest.now c.by_zero.dest end c.by_window.read 32 c.by_zero.index c.by_window.next c.by_zero.zeros c.by_zero.invariant c.mark_first.new.dest c.mark_first.result fits c.mark_first.ensures.code c.mark_first.ensures.none c.mark_first.ensures.some in
     let l = length-set c.by_zero.dest c.by_zero.index ((c.by_window.next + lowest c.by_zero.zeros - c.by_zero.index) % 256) in
     let fits' : end ≤ length c.mark_first.new.dest = omega (arith, ap length c.mark_first.ensures.code) in
-    first-marked H c.args.source.now c.args.dest.now c.mark_first.new.dest end c.by_window.read c.min-len.result c.mark_first.result.0 c.by_window.next c.mark_first.result.1 one c.mark_first-then-zeros-ne0.new.dest c.mark_first-then-zeros-ne0.result fits' c.mark_first-then-zeros-ne0.ensures.code c.mark_first-then-zeros-ne0.ensures.none c.mark_first-then-zeros-ne0.ensures.some
+    first-marked H c.args.source.now c.args.dest.now c.mark_first.new.dest end c.by_window.read 32 c.mark_first.result.0 c.by_window.next c.mark_first.result.1 one c.mark_first-then-zeros-ne0.new.dest c.mark_first-then-zeros-ne0.result fits' c.mark_first-then-zeros-ne0.ensures.code c.mark_first-then-zeros-ne0.ensures.none c.mark_first-then-zeros-ne0.ensures.some
 
 pub by_zero-preserved : goal.by_zero-preserved
 by_zero-preserved c =
-    let H : List ℕ → Type 0 = CobsEncoderAfter c.args.dest.now c.args.progress.now in
-    let end : ℕ = end_with c.args.progress.now c.args.source.now in
+    let H : List ℕ → Type 0 = CobsEncoderAfter c.args.dest.now (reached_at c.args.progress) in
+    let end : ℕ = end_after (reached_at c.args.progress) c.args.source.now in
+    let coded = length-set c.copy_at-window.new.dest c.by_window.index (c.by_window.next + count_trailing_zeros 64 c.copy_at-window.result - c.by_window.index) in
     let fits : end ≤ length c.by_zero.dest = omega arith in
-    let one = first-marked H c.args.source.now c.args.dest.now c.by_zero.dest end c.by_window.read c.min-len.result c.by_zero.index c.by_window.next c.by_zero.zeros c.by_zero.invariant c.mark_first.new.dest c.mark_first.result fits c.mark_first.ensures.code c.mark_first.ensures.none c.mark_first.ensures.some in
+    let one = first-marked H c.args.source.now c.args.dest.now c.by_zero.dest end c.by_window.read 32 c.by_zero.index c.by_window.next c.by_zero.zeros c.by_zero.invariant c.mark_first.new.dest c.mark_first.result fits c.mark_first.ensures.code c.mark_first.ensures.none c.mark_first.ensures.some in
     one

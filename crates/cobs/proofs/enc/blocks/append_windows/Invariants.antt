@@ -1,22 +1,22 @@
-use Rattle.std.proofs.Common.{◌<◌, ◌-◌, ◌+◌, length}
-use Rattle.cobs.specs.OpenBlock.{CobsEncoderAfter}
-use Rattle.cobs.specs.Internal.OpenLen.{open_len}
-use Rattle.cobs.proofs.ReachLemmas.{Reaches}
-use Rattle.cobs.proofs.MarkLemmas.{Marks}
+use Rattle.std.proofs.Common.{◌≡◌, ◌<◌, ◌-◌, ◌+◌, length}
+use Rattle.cobs.specs.OpenBlock.{CobsEncoderAfter, end_after}
+use Rattle.cobs.specs.Fields.Progress.{reached_at}
+use Rattle.cobs.proofs.encoding.ReachLemmas.{Reaches}
+use Rattle.cobs.proofs.encoding.MarkLemmas.{Marks}
 use Rattle.cobs.proofs.enc.blocks.append_windows.Given as goal
 
 abbrev pub invariant-by_window : goal.invariant-by_window
 invariant-by_window l = record {
   more : l.read < length l.source;
   open' : l.next < l.index + 255;
-  reaches : Reaches (CobsEncoderAfter l.fn.dest l.fn.progress) l.source l.fn.dest l.dest (l.fn.progress.block.index + open_len l.fn.progress.block.code l.source) l.read l.index l.next (λ _. Unit {0});
+  reaches : Reaches (CobsEncoderAfter l.fn.dest (reached_at l.fn.progress)) l.source l.fn.dest l.dest (end_after (reached_at l.fn.progress) l.source) l.read l.index l.next (λ noted. noted ≡ l.full);
 }
 
 abbrev pub decreases-by_window : goal.decreases-by_window
 decreases-by_window l = length l.source - l.read
 
 abbrev pub invariant-by_zero : goal.invariant-by_zero
-invariant-by_zero l = Marks (CobsEncoderAfter l.fn.dest l.fn.progress) l.source l.fn.dest l.dest (l.fn.progress.block.index + open_len l.fn.progress.block.code l.source) l.read l.len l.index l.next l.zeros
+invariant-by_zero l = Marks (CobsEncoderAfter l.fn.dest (reached_at l.fn.progress)) l.source l.fn.dest l.dest (end_after (reached_at l.fn.progress) l.source) l.read 32 l.index l.next l.zeros
 
 abbrev pub decreases-by_zero : goal.decreases-by_zero
 decreases-by_zero l = l.zeros

@@ -2,7 +2,7 @@ use Rattle.std.proofs.Common.{◌≡◌, ◌<◌, ◌+◌, ◌-◌, ◌/◌, ℕ
 use Rattle.std.proofs.lemmas.Bool.{eqb-true}
 use Rattle.std.proofs.lemmas.List.{drop_all, get_or-take, get_or-drop, take_rest}
 use Rattle.cobs.specs.Grammar.{HasNoZero}
-use Rattle.cobs.proofs.RoomLemmas.{blocks_in, behind, blocks-le, blocks-end, blocks-none, skipped, run-more, byte-zero}
+use Rattle.cobs.proofs.encoding.RoomLemmas.{blocks_in, behind, blocks-le, blocks-end, blocks-none, skipped, run-more, byte-zero}
 use Rattle.cobs.proofs.enc.room.count_full_blocks.Goals as goal
 
 -- the source ends with the run

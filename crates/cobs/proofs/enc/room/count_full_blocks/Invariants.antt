@@ -1,5 +1,5 @@
 use Rattle.std.proofs.Common.{◌≡◌, ◌<◌, ◌≤◌, ◌+◌, ◌-◌, length, drop}
-use Rattle.cobs.proofs.RoomLemmas.{blocks_in, behind}
+use Rattle.cobs.proofs.encoding.RoomLemmas.{blocks_in, behind}
 use Rattle.cobs.proofs.enc.room.count_full_blocks.Given as goal
 
 abbrev pub invariant-by_run : goal.invariant-by_run

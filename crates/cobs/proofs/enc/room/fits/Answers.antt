@@ -1,5 +1,5 @@
 use Rattle.std.proofs.Common.{refl, arith}
-use Rattle.cobs.proofs.OpenLenLemmas.{open_len-most}
+use Rattle.cobs.proofs.encoding.OpenLenLemmas.{open_len-most}
 use Rattle.cobs.proofs.enc.room.fits.Goals as goal
 
 pub returns-then-code-source : goal.returns-then-code-source

@@ -1,6 +1,6 @@
 use Rattle.std.proofs.Common.{◌-◌, refl, arith}
-use Rattle.cobs.proofs.OpenLenLemmas.{open_len-most}
-use Rattle.cobs.proofs.RoomLemmas.{blocks-le}
+use Rattle.cobs.proofs.encoding.OpenLenLemmas.{open_len-most}
+use Rattle.cobs.proofs.encoding.RoomLemmas.{blocks-le}
 use Rattle.cobs.proofs.enc.room.fits_any.Goals as goal
 
 pub returns-then-taken-max_encoding_overhead : goal.returns-then-taken-max_encoding_overhead

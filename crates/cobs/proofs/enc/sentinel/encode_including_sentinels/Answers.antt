@@ -1,6 +1,6 @@
 use Rattle.std.proofs.Common.{arith}
 use Rattle.std.proofs.lemmas.Grind.{common_steps}
-use Rattle.cobs.proofs.SentinelLemmas.{delimited_nonzero}
+use Rattle.cobs.proofs.format.SentinelLemmas.{delimited_nonzero}
 use Rattle.cobs.proofs.enc.sentinel.encode_including_sentinels.Goals as goal
 
 pub returns-clause-frame : goal.returns-clause-frame

@@ -1,5 +1,5 @@
 use Rattle.std.proofs.Common.{ℕ, List, drop, refl, arith}
-use Rattle.cobs.proofs.SentinelLemmas.{changed_frame, encoded_free}
+use Rattle.cobs.proofs.format.SentinelLemmas.{changed_frame, encoded_free}
 use Rattle.cobs.proofs.enc.sentinel.try_encode_with_sentinel.Goals as goal
 
 pub returns-clause-frame : goal.returns-clause-frame

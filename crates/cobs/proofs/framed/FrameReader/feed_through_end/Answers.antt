@@ -6,8 +6,8 @@ use Rattle.cobs.specs.NextFrame.{IsNextWithin}
 use Rattle.cobs.specs.Stream.{Outcome}
 use Rattle.cobs.specs.declared.framed.Next.{Next}
 use Rattle.cobs.specs.declared.framed.Next.TheVariants as nexts
-use Rattle.cobs.proofs.SoFar.{DecoderAfter-idle}
-use Rattle.cobs.proofs.ReadingLemmas.{HasTaken-any, EndsFirstIn-taken}
+use Rattle.cobs.proofs.streaming.FeedLemmas.{DecoderAfter-idle}
+use Rattle.cobs.proofs.streaming.ReadingLemmas.{HasTaken-any, EndsFirstIn-taken}
 use Rattle.cobs.proofs.framed.FrameReader.feed_through_end.Goals as goal
 
 next_within : (next : Next) (buffer : List ℕ) (outcome : Outcome) → IsOutcome next buffer outcome → IsNextWithin (length buffer) next

@@ -1,5 +1,5 @@
 use Rattle.std.proofs.Common.{◌≡◌, ◌≤◌, [], ◌∙◌, sym, subst, take, length-take, Some, arith}
-use Rattle.cobs.proofs.ReadingLemmas.{Going-start, Going-push, ReadsNext-kept, ReadsNext-failed, ReadsNext-end, ReadsNext-piece, ReadsNext-too_many, front_nonempty, front_rest, empty_range}
+use Rattle.cobs.proofs.streaming.ReadingLemmas.{Going-start, Going-push, ReadsNext-kept, ReadsNext-failed, ReadsNext-end, ReadsNext-piece, ReadsNext-too_many, front_nonempty, front_rest, empty_range}
 use Rattle.cobs.proofs.framed.FrameReader.next_frame.Goals as goal
 
 pub returns-in-Some-clause-next : goal.returns-in-Some-clause-next

@@ -1,6 +1,6 @@
 use Rattle.std.proofs.Common.{◌≡◌}
 use Rattle.cobs.specs.Fields.Reader.{decoder_of, reader_state}
-use Rattle.cobs.proofs.ReadingLemmas.{Going}
+use Rattle.cobs.proofs.streaming.ReadingLemmas.{Going}
 use Rattle.cobs.proofs.framed.FrameReader.next_frame.Given as goal
 
 abbrev pub invariant-by_read : goal.invariant-by_read

@@ -1,6 +1,6 @@
 use Rattle.std.proofs.Common.{◌≡◌, ℕ, ◌+◌, ◌-◌, ◌≤◌, List, length-take, take, drop, refl, ap, ◌∙◌, arith}
 use Rattle.std.proofs.lemmas.List.{drop-take, drop-drop}
-use Rattle.cobs.proofs.ReadingLemmas.{empty_range}
+use Rattle.cobs.proofs.streaming.ReadingLemmas.{empty_range}
 use Rattle.cobs.proofs.framed.FrameReader.next_kept.Goals as goal
 
 -- what is left of a range after its first n bytes

@@ -1,7 +1,7 @@
 use Rattle.std.proofs.lemmas.List.{take_all}
-use Rattle.std.proofs.Common.{◌≡◌, take, arith, ◌∙◌, refl, get_or}
+use Rattle.std.proofs.Common.{arith, ◌∙◌, refl, get_or}
 use Rattle.cobs.specs.Feed.{Feeds}
-use Rattle.cobs.proofs.SoFar.{LeavesRest-start, LeavesRest-step, SoFar-start, TakesPiece-none, TakesPiece-at_zero, step_none, step_nonzero}
+use Rattle.cobs.proofs.streaming.SoFar.{LeavesRest-start, LeavesRest-step, SoFar-start, TakesPiece-none, TakesPiece-at_zero, step_none, step_nonzero}
 use Rattle.cobs.proofs.dec.frame_decoder.FrameDecoder.feed_piece.Goals as goal
 use Rattle.cobs.proofs.dec.frame_decoder.FrameDecoder.feed_piece.Goals.{then-byte-eq0+in_default, else-byte-eq0, After-feed_byte-answer}
 
@@ -37,6 +37,4 @@ by_byte-preserved g c =
     ]
 
 pub returns-clause-takes : goal.returns-clause-takes
-returns-clause-takes g c =
-    let all : take c.by_byte.i c.args.stream.now ≡ c.args.stream.now = take_all c.by_byte.i c.args.stream.now (omega (arith, c.by_byte-test.false)) in
-    TakesPiece-none _ (rw all at c.by_byte.invariant.so_far) (rw all at c.by_byte.invariant.rest)
+returns-clause-takes g c = grind (arith, take_all, TakesPiece-none)

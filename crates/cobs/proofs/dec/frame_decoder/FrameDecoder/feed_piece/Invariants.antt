@@ -1,6 +1,6 @@
 use Rattle.std.proofs.Common.{◌≡◌, take, []}
 use Rattle.cobs.specs.Internal.PieceEnds.{LeavesRest}
-use Rattle.cobs.proofs.SoFar.{SoFar}
+use Rattle.cobs.proofs.streaming.SoFar.{SoFar}
 use Rattle.cobs.proofs.dec.frame_decoder.FrameDecoder.feed_piece.Given as goal
 
 abbrev pub invariant-by_byte : goal.invariant-by_byte

@@ -1,4 +1,4 @@
-use Rattle.cobs.proofs.TableLemmas.{StateAfter-start, StateAfter-step, StateAfter-end, table_state-zero}
+use Rattle.cobs.proofs.streaming.TableLemmas.{StateAfter-start, StateAfter-step, StateAfter-end, table_state-zero}
 use Rattle.cobs.proofs.dec.state.DecoderState.feed.Goals as goal
 
 pub returns-clause-after : goal.returns-clause-after

@@ -1,4 +1,4 @@
-use Rattle.cobs.proofs.TableLemmas.{StateAfter-start}
+use Rattle.cobs.proofs.streaming.TableLemmas.{StateAfter-start}
 use Rattle.cobs.proofs.dec.state.DecoderStateDefault.default.Goals as goal
 
 pub returns-clause-after_nothing : goal.returns-clause-after_nothing

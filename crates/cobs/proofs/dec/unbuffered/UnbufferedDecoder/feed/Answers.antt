@@ -1,4 +1,4 @@
-use Rattle.cobs.proofs.FeedLemmas.{Feeds-step}
+use Rattle.cobs.proofs.streaming.FeedLemmas.{Feeds-step}
 use Rattle.cobs.proofs.dec.unbuffered.UnbufferedDecoder.feed.Goals as goal
 
 pub returns : goal.returns

@@ -1,8 +1,8 @@
-use Rattle.std.proofs.Common.{◌+◌, ◌-◌, arith, [], length, drop, take, length-drop, length-take, ◌≡◌}
+use Rattle.std.proofs.Common.{◌+◌, ◌-◌, arith, [], length, drop, take, length-drop, length-take}
 use Rattle.std.proofs.lemmas.List.{take_all}
 use Rattle.cobs.specs.Fields.Decoders.{phase_of}
 use Rattle.cobs.specs.Internal.PieceEnds.{LeavesRest}
-use Rattle.cobs.proofs.SoFar.{LeavesRest-start, LeavesRest-run, LeavesRest-step, SoFar, SoFar-start, SoFar-run, TakesPiece-none, TakesPiece-at_zero, step_none, step_nonzero}
+use Rattle.cobs.proofs.streaming.SoFar.{LeavesRest-start, LeavesRest-run, LeavesRest-step, SoFar, SoFar-start, SoFar-run, TakesPiece-none, TakesPiece-at_zero, step_none, step_nonzero}
 use Rattle.cobs.proofs.dec.unbuffered.UnbufferedDecoder.feed_piece.Goals as goal
 use Rattle.cobs.proofs.dec.unbuffered.UnbufferedDecoder.feed_piece.Goals.{After-take_inside-taken}
 
@@ -42,6 +42,4 @@ by_run-preserved c = record {
 }
 
 pub returns : goal.returns
-returns c =
-    let all : take c.by_run.taken c.args.bytes.now ≡ c.args.bytes.now = take_all c.by_run.taken c.args.bytes.now (omega (arith, c.by_run-test.false)) in
-    record { takes = TakesPiece-none _ (rw all at c.by_run.invariant.so_far) (rw all at c.by_run.invariant.rest) }
+returns c = grind (arith, take_all, TakesPiece-none)

@@ -1,7 +1,7 @@
 use Rattle.std.proofs.Common.{length, ◌-◌, ◌≤◌, [], take}
 use Rattle.cobs.specs.Fields.Decoders.{phase_of}
 use Rattle.cobs.specs.Internal.PieceEnds.{LeavesRest}
-use Rattle.cobs.proofs.SoFar.{SoFar}
+use Rattle.cobs.proofs.streaming.SoFar.{SoFar}
 use Rattle.cobs.proofs.dec.unbuffered.UnbufferedDecoder.feed_piece.Given as goal
 
 -- the bytes before `taken` are taken, and no piece has ended in them

@@ -1,22 +1,12 @@
-use Rattle.std.proofs.Common.{◌≡◌, ◌+◌, ◌-◌, ◌∙◌, ℕ, List, Bool, false, cond, eqb, length, set, get_or, refl, sym, ap, subst, arith}
+use Rattle.std.proofs.Common.{◌≡◌, ◌+◌, ◌∙◌, ℕ, List, Bool, false, eqb, set, get_or, sym, subst, arith}
 use Rattle.std.proofs.lemmas.Bool.{ne_eqb}
 use Rattle.std.proofs.lemmas.List.{length-set}
-use Rattle.cobs.specs.Feed.{Over}
-use Rattle.cobs.specs.Fields.Decoders.{phase_of, phase_with}
-use Rattle.cobs.specs.Internal.Step.{FedInTurn}
-use Rattle.cobs.proofs.ChunkLemmas.{Marked, marked-start, marked-code, marked-end}
+use Rattle.cobs.specs.Fields.Decoders.{phase_of}
+use Rattle.cobs.proofs.streaming.ChunkLemmas.{Marked, marked-start, marked-code, marked-end}
 use Rattle.cobs.proofs.dec.unbuffered.UnbufferedDecoder.mark_codes.Goals as goal
 
 pub by_code-init : goal.by_code-init
-by_code-init c =
-    let self = c.args.self.now in
-    record {
-      long = refl;
-      flat = λ more. ne_eqb self.code 255 (λ e. omega (arith, c.requires.flat e));
-      short = omega arith;
-      marked = λ before same e. marked-start before (phase_of self) c.args.stretch.now self.dest_idx (eqb self.code 255) self.left c.args.dest.now
-          (omega (arith, c.requires.room)) (ap (λ (v : Bool). cond v Over (phase_with (eqb self.code 255) self.left self.dest_idx)) c.requires.going) e;
-    }
+by_code-init c = grind (arith, ne_eqb, marked-start)
 
 pub by_code-preserved : goal.by_code-preserved
 by_code-preserved c =
@@ -52,10 +42,4 @@ in_row-preserved c =
     }
 
 pub returns-clause-fed : goal.returns-clause-fed
-returns-clause-fed c = λ before same e.
-    let self = c.args.self.now in
-    let stretch : List ℕ = c.args.stretch.now in
-    let phase' = phase_with (eqb c.by_code.code 255) (c.by_code.next - length stretch) (self.dest_idx + length stretch) in
-    subst (λ (v : Bool). FedInTurn before (phase_of self) stretch c.by_code.dest (cond v Over phase')) (sym c.requires.going)
-    (marked-end before (phase_of self) stretch self.dest_idx c.requires.nonzero (omega (arith, c.requires.room)) (eqb c.by_code.code 255) c.by_code.next c.by_code.dest
-    (omega (arith, c.by_code-test.false)) (c.by_code.invariant.marked before same e))
+returns-clause-fed c = grind (arith, marked-end)

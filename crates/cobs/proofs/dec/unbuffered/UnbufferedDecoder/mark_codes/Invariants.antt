@@ -1,6 +1,6 @@
 use Rattle.std.proofs.Common.{◌≡◌, ◌<◌, ◌≤◌, ◌+◌, ◌-◌, ◌++◌, ℕ, List, false, eqb, length, take, drop, get_or}
 use Rattle.cobs.specs.Fields.Decoders.{phase_of}
-use Rattle.cobs.proofs.ChunkLemmas.{Marked}
+use Rattle.cobs.proofs.streaming.ChunkLemmas.{Marked}
 use Rattle.cobs.proofs.dec.unbuffered.UnbufferedDecoder.mark_codes.Given as goal
 
 -- where the stretch was copied over what stood before

@@ -1,7 +1,7 @@
 use Rattle.std.proofs.Common.{◌+◌, ◌-◌, ◌∙◌, ap, arith, Ok, length, drop, length-drop, length-take}
 use Rattle.cobs.specs.Fields.Decoders.{phase_of}
-use Rattle.cobs.proofs.PushLemmas.{Pushed, Pushed-start, Pushed-more, pushed_none, pushed_some, pushed_error}
-use Rattle.cobs.proofs.RunLemmas.{Pushed-ran}
+use Rattle.cobs.proofs.streaming.PushLemmas.{Pushed, Pushed-start, Pushed-more, pushed_none, pushed_some, pushed_error}
+use Rattle.cobs.proofs.streaming.RunLemmas.{Pushed-ran}
 use Rattle.cobs.proofs.dec.unbuffered.UnbufferedDecoder.push.Goals as goal
 use Rattle.cobs.proofs.dec.unbuffered.UnbufferedDecoder.push.Goals.{After-take_run-at}
 

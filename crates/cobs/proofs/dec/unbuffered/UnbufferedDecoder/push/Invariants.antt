@@ -1,6 +1,6 @@
 use Rattle.std.proofs.Common.{length, ◌-◌, ◌≤◌}
 use Rattle.cobs.specs.Fields.Decoders.{phase_of}
-use Rattle.cobs.proofs.PushLemmas.{Pushed}
+use Rattle.cobs.proofs.streaming.PushLemmas.{Pushed}
 use Rattle.cobs.proofs.dec.unbuffered.UnbufferedDecoder.push.Given as goal
 
 -- the bytes before `at` are taken, and each was answered by `Ok(None)`

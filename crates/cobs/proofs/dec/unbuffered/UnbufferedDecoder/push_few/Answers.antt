@@ -1,5 +1,5 @@
 use Rattle.std.proofs.Common.{◌∙◌, ap, arith, Ok}
-use Rattle.cobs.proofs.PushLemmas.{Pushed-start, Pushed-more, pushed_none, pushed_some, pushed_error}
+use Rattle.cobs.proofs.streaming.PushLemmas.{Pushed-start, Pushed-more, pushed_none, pushed_some, pushed_error}
 use Rattle.cobs.proofs.dec.unbuffered.UnbufferedDecoder.push_few.Goals as goal
 
 pub by_byte-init : goal.by_byte-init

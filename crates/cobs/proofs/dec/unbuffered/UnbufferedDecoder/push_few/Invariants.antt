@@ -1,5 +1,5 @@
 use Rattle.cobs.specs.Fields.Decoders.{phase_of}
-use Rattle.cobs.proofs.PushLemmas.{Pushed}
+use Rattle.cobs.proofs.streaming.PushLemmas.{Pushed}
 use Rattle.cobs.proofs.dec.unbuffered.UnbufferedDecoder.push_few.Given as goal
 
 -- the bytes before `i` are taken, and each was answered by `Ok(None)`

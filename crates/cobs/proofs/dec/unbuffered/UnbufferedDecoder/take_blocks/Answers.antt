@@ -1,17 +1,17 @@
-use Rattle.std.proofs.Common.{◌≡◌, ◌≢◌, ◌<◌, ◌≤◌, ◌∙◌, ◌+◌, ℕ, List, Bool, eqb, get_or, length, take, sym, ap, subst, arith, get_or-take, length-take}
+use Rattle.std.proofs.Common.{◌≡◌, ◌<◌, ◌≤◌, ◌∙◌, ◌+◌, ℕ, List, Bool, eqb, length, take, sym, ap, subst, arith, get_or-take, length-take}
 use Rattle.std.specs.List.{All}
 use Rattle.std.proofs.lemmas.Bool.{ne_eqb, eq-eqb}
 use Rattle.std.proofs.lemmas.List.{take-take}
 use Rattle.std.proofs.lemmas.List.Elements.{All-take, All-get_or, All-from_get_or}
 use Rattle.cobs.specs.Feed.{Phase}
 use Rattle.cobs.specs.Grammar.{code_of}
-use Rattle.cobs.specs.Internal.Step.{FedInTurn}
+use Rattle.cobs.specs.Internal.FedInTurn.{FedInTurn}
 use Rattle.cobs.specs.Piece.{last_part, output}
 use Rattle.cobs.specs.Stream.{head}
-use Rattle.cobs.proofs.FrontSteps.{head-get, head-one_more, head-prefix}
-use Rattle.cobs.proofs.OutcomeLemmas.{head_nonzero, length-head}
-use Rattle.cobs.proofs.PieceCuts.{output-le}
-use Rattle.cobs.proofs.StretchLemmas.{base_of, joined, blocks_fed, code_small}
+use Rattle.cobs.proofs.decoding.FrontSteps.{head-get, head-one_more, head-prefix}
+use Rattle.cobs.proofs.decoding.OutcomeLemmas.{head_nonzero, length-head}
+use Rattle.cobs.proofs.decoding.PieceCuts.{output-le}
+use Rattle.cobs.proofs.streaming.StretchLemmas.{base_of, joined, blocks_fed, code_small}
 use Rattle.cobs.proofs.dec.unbuffered.UnbufferedDecoder.take_blocks.Goals as goal
 use Rattle.cobs.proofs.dec.unbuffered.UnbufferedDecoder.take_blocks.Goals.{then-self, else-self}
 
@@ -21,11 +21,7 @@ module _ (bytes : List ℕ) (most : ℕ) where
   piece = head (take most bytes)
 
   begun : 0 < length (head bytes) → 0 < most → 0 < length piece
-  begun some room =
-      let first : get_or bytes 0 0 ≢ 0 = λ zero. All-get_or (λ b. b ≢ 0) (head bytes) 0 0 some (head_nonzero bytes) (head-get 0 bytes some ∙ zero) in
-      let l = length-head bytes in
-      let t = length-take most bytes in
-      head-one_more 0 (take most bytes) (omega arith) (omega arith) (λ zero. first (sym (get_or-take most bytes 0 0 room) ∙ zero))
+  begun some room = grind (arith, All-get_or, head_nonzero, head-get, length-head, length-take, head-one_more, get_or-take)
 
   within : length piece ≤ length bytes
   within = let l = length-head (take most bytes) in let t = length-take most bytes in omega arith
@@ -43,14 +39,7 @@ module _ (bytes : List ℕ) (most : ℕ) where
   fed-front buffer buffer' phase phase' n is fed = subst (λ (xs : List ℕ). FedInTurn buffer phase xs buffer' phase') (sym (ap (λ (k : ℕ). take k bytes) is ∙ front)) fed
 
 pub decode_head-len-requires-clause-begun : goal.decode_head-len-requires-clause-begun
-decode_head-len-requires-clause-begun c =
-    let here : ℕ = c.args.self.now.dest_idx in
-    let near : c.if-self.at ≤ here + 1 = elim c.if-self.branch [
-      | then-self w ↦ omega (arith, w.at-is)
-      | else-self w ↦ omega (arith, w.at-is)
-    ] in
-    let l = length-head c.args.bytes.now in
-    begun c.args.bytes.now c.min-most.result c.requires.begun (omega (arith, near, c.requires.begun, c.saturating_sub.ensures, c.if-saturating_sub-lt2.false))
+decode_head-len-requires-clause-begun c = grind (arith, then-self, else-self, length-head, begun)
 
 pub overflow_cast-self : goal.overflow_cast-self
 overflow_cast-self c =

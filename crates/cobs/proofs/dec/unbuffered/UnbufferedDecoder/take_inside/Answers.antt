@@ -2,7 +2,7 @@ use Rattle.std.proofs.Common.{◌≡◌, true, refl}
 use Rattle.cobs.specs.Feed.{Over}
 use Rattle.cobs.specs.Fields.Decoders.{phase_of}
 use Rattle.cobs.specs.declared.dec.unbuffered.UnbufferedDecoder.{UnbufferedDecoder}
-use Rattle.cobs.proofs.TakenLemmas.{LeavesRest-fed, LeavesRest-over, TakesBytes-fed, TakesBytes-over}
+use Rattle.cobs.proofs.streaming.TakenLemmas.{LeavesRest-fed, LeavesRest-over, TakesBytes-fed, TakesBytes-over}
 use Rattle.cobs.proofs.dec.unbuffered.UnbufferedDecoder.take_inside.Goals as goal
 
 over_is : (decoder : UnbufferedDecoder) → decoder.over ≡ true → phase_of decoder ≡ Over

@@ -1,6 +1,6 @@
 use Rattle.std.proofs.Common.{◌≢◌, arith}
 use Rattle.std.proofs.lemmas.List.Elements.{All-take}
-use Rattle.cobs.proofs.RunLemmas.{run_fed}
+use Rattle.cobs.proofs.streaming.RunLemmas.{run_fed}
 use Rattle.cobs.proofs.dec.unbuffered.UnbufferedDecoder.take_open_block.Goals as goal
 
 pub returns-clause-fed : goal.returns-clause-fed

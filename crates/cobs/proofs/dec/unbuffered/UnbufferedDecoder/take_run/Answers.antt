@@ -1,32 +1,21 @@
-use Rattle.std.proofs.Common.{◌≡◌, ◌+◌, ◌-◌, ◌∙◌, ℕ, List, Bool, false, cond, eqb, take, drop, length, ap, sym, subst, arith, length-drop, length-take}
+use Rattle.std.proofs.Common.{◌≡◌, ◌+◌, ◌∙◌, ℕ, List, Bool, false, cond, eqb, take, drop, ap, sym, subst, arith, length-drop, length-take}
 use Rattle.std.proofs.lemmas.List.{take_rest}
 use Rattle.std.proofs.Math.Seq.{take-add}
 use Rattle.cobs.specs.Feed.{Phase, Over}
 use Rattle.cobs.specs.Fields.Decoders.{phase_of, phase_with}
 use Rattle.cobs.specs.declared.dec.unbuffered.UnbufferedDecoder.{UnbufferedDecoder}
-use Rattle.cobs.specs.Internal.Step.{FedInTurn}
-use Rattle.cobs.proofs.StretchLemmas.{FedInTurn-append}
+use Rattle.cobs.specs.Internal.FedInTurn.{FedInTurn}
+use Rattle.cobs.proofs.streaming.StretchLemmas.{FedInTurn-append}
 use Rattle.cobs.proofs.dec.unbuffered.UnbufferedDecoder.take_run.Goals as goal
 use Rattle.cobs.proofs.dec.unbuffered.UnbufferedDecoder.take_run.Goals.{then-by_part-test+then-bytes-run-ne0+else-bytes-run-lt-MANY, then-by_part-test+else-bytes-run-ne0, else-by_part-test, then-by_part-test+then-bytes-run-ne0+then-bytes-run-lt-MANY+then-part-eq0}
 
 -- the first bytes of those behind the run are fed
 joined : (bytes buffer buffer' buffer'' : List ℕ) (phase phase' phase'' : Phase) (run more : ℕ) → FedInTurn buffer phase (take run bytes) buffer' phase'
     → FedInTurn buffer' phase' (take more (drop run bytes)) buffer'' phase'' → FedInTurn buffer phase (take (run + more) bytes) buffer'' phase''
-joined bytes buffer buffer' buffer'' phase phase' phase'' run more f g =
-    subst (λ (xs : List ℕ). FedInTurn buffer phase xs buffer'' phase'') (sym (take-add run more bytes))
-    (FedInTurn-append (take run bytes) (take more (drop run bytes)) buffer buffer' buffer'' phase phase' phase'' f g)
+joined bytes buffer buffer' buffer'' phase phase' phase'' run more f g = grind (arith, take-add, FedInTurn-append)
 
 pub by_part-preserved : goal.by_part-preserved
-by_part-preserved c =
-    let bytes : List ℕ = c.args.bytes.now in
-    let run : ℕ = c.by_part.run in
-    let more : ℕ = c.take_part-part.result in
-    record {
-      within = omega (arith, length-drop run bytes, length-take (length bytes - run) (drop run bytes), c.take_part-part.ensures.within);
-      going = c.take_part-part.ensures.going;
-      taken = joined bytes _ _ _ _ _ _ run more c.by_part.invariant.taken
-          (subst (λ (xs : List ℕ). FedInTurn c.by_part.dest (phase_of c.by_part.here) (take more xs) c.take_part-part.new.dest (phase_of c.take_part-part.new.self)) (take_rest bytes run) c.take_part-part.ensures.fed);
-    }
+by_part-preserved c = grind (arith, length-drop, length-take, joined, take_rest)
 
 -- a decoder whose fields are written one by one
 same_phase : (inner : UnbufferedDecoder) (over : Bool) → over ≡ false → inner.over ≡ false

@@ -1,6 +1,6 @@
 use Rattle.std.proofs.Common.{◌≡◌, ◌≤◌, ◌-◌, false, length, take}
 use Rattle.cobs.specs.Fields.Decoders.{phase_of}
-use Rattle.cobs.specs.Internal.Step.{FedInTurn}
+use Rattle.cobs.specs.Internal.FedInTurn.{FedInTurn}
 use Rattle.cobs.proofs.dec.unbuffered.UnbufferedDecoder.take_run.Given as goal
 
 -- the run so far is taken

@@ -1,10 +1,17 @@
-use Rattle.std.proofs.Common.{◌∙◌, sym}
-use Rattle.cobs.proofs.AfterLemmas.{end-is}
-use Rattle.cobs.proofs.SentinelLemmas.{encoded_nonzero}
+use Rattle.std.proofs.Common.{ap, length, ◌∙◌, sym, subst}
+use Rattle.cobs.specs.OpenBlock.{CobsEncoderAfter, IsPlaceIn, Reached, end_of}
+use Rattle.cobs.proofs.encoding.AfterLemmas.{end-is}
+use Rattle.cobs.proofs.format.SentinelLemmas.{encoded_nonzero}
 use Rattle.cobs.proofs.enc.encoder.CobsEncoder.finalize.Goals as goal
 
+pub close-requires : goal.close-requires
+close-requires c = subst (IsPlaceIn (length c.args.self.dest.now)) (sym c.progress.ensures.progress) c.args.self.place
+
 pub returns-clause-len : goal.returns-clause-len
-returns-clause-len c = λ m h. c.close.ensures.end ∙ sym (end-is c.args.self.dest.now m c.args.self.progress h)
+returns-clause-len c = λ m h. c.close.ensures.end ∙ ap end_of c.progress.ensures.progress ∙ sym (end-is c.args.self.dest.now m _ h)
+
+pub returns-clause-frame : goal.returns-clause-frame
+returns-clause-frame c = λ m h. c.close.ensures.frame m (subst (λ (r : Reached). CobsEncoderAfter c.args.self.dest.now r m) (sym c.progress.ensures.progress) h)
 
 pub returns-clause-no_sentinel : goal.returns-clause-no_sentinel
-returns-clause-no_sentinel c = λ m h. encoded_nonzero (c.close.ensures.frame m h)
+returns-clause-no_sentinel c = λ m h. encoded_nonzero (returns-clause-frame c m h)

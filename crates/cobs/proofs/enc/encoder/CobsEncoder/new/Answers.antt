@@ -1,7 +1,9 @@
-use Rattle.std.proofs.Common.{[], sym, subst}
-use Rattle.cobs.specs.OpenBlock.{CobsEncoderAfter, Reached}
-use Rattle.cobs.proofs.CoreLemmas.{after-nothing}
+use Rattle.cobs.specs.Fields.Progress.{reached_by}
+use Rattle.cobs.proofs.encoding.TakingLemmas.{start-place}
 use Rattle.cobs.proofs.enc.encoder.CobsEncoder.new.Goals as goal
 
+pub invariant_of-result : goal.invariant_of-result
+invariant_of-result c = record { place = start-place c.args.out_buf.now (reached_by c.new.result) c.new.ensures.start c.requires }
+
 pub returns-clause-taken : goal.returns-clause-taken
-returns-clause-taken c = subst (λ (r : Reached). CobsEncoderAfter c.args.out_buf.now r []) (sym c.new.ensures) (after-nothing c.args.out_buf.now c.requires)
+returns-clause-taken c = c.new.ensures.taken c.args.out_buf.now c.requires

@@ -1,7 +1,7 @@
 use Rattle.std.proofs.Common.{List, ℕ, sym, subst}
 use Rattle.cobs.specs.Grammar.{IsOpenFrame}
 use Rattle.cobs.specs.OpenBlock.{OpenBlock, IsOpenOutput}
-use Rattle.cobs.proofs.OpenLemmas.{completed}
+use Rattle.cobs.proofs.encoding.OpenLemmas.{completed}
 use Rattle.cobs.proofs.enc.state.EncoderState.finalize.Goals as goal
 
 pub returns-clause-completed : goal.returns-clause-completed

@@ -1,7 +1,7 @@
 use Rattle.std.proofs.Common.{ℕ, ◌+◌, List, [], ◌∷◌, ◌++◌, set, subst, sym, refl}
 use Rattle.cobs.specs.Grammar.{IsOpenFrame}
 use Rattle.cobs.specs.OpenBlock.{OpenBlock, AgreeOutside, IsOpenOutput}
-use Rattle.cobs.proofs.OpenLemmas.{open-zero, open-more, open-full}
+use Rattle.cobs.proofs.encoding.OpenLemmas.{open-zero, open-more, open-full}
 use Rattle.cobs.proofs.enc.state.EncoderState.push.Goals as goal
 
 pub returns-then-byte-eq0-clause-carried : goal.returns-then-byte-eq0-clause-carried

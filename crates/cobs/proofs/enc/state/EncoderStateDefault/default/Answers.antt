@@ -1,6 +1,6 @@
 use Rattle.std.proofs.Common.{refl}
 use Rattle.cobs.specs.Grammar.{lone_block}
-use Rattle.cobs.proofs.OpenLemmas.{IsOpenFrame-start}
+use Rattle.cobs.proofs.encoding.OpenLemmas.{IsOpenFrame-start}
 use Rattle.cobs.proofs.enc.state.EncoderStateDefault.default.Goals as goal
 
 pub returns-clause-after_nothing : goal.returns-clause-after_nothing

@@ -1,0 +1,326 @@
+-- Lemmas on the mask of the zeros among bytes.
+use Rattle.std.proofs.Common.{min, ◌≡◌, ◌≢◌, ℕ, ◌+◌, ◌-◌, ◌*◌, ◌/◌, ◌%◌, ◌^◌, ◌<◌, ◌≤◌, cond, eqb, not, Bool, true, false, List, [], ◌∷◌, ◌++◌, length, map, drop, take, get_or, replicate, All, if◌then◌else◌, ◌==◌, suc, zero, refl, sym, ap, ◌∙◌, subst, inl, inr, arith, length-take-le, length-append, length-drop, append_assoc, w8}
+use Rattle.std.proofs.Math.ListN.{set}
+use mir.Val.{bool_byte}
+use Rattle.std.proofs.Math.Nat.{pow-suc, mul_comm, mul_assoc, mul-one, pow-le-pow_right}
+use Rattle.std.proofs.lemmas.Bool.{ne_eqb, eq-eqb, eqb-true, not-true, not-false, cases_eq, cases_lt}
+use Rattle.std.proofs.lemmas.List.{drop-take, get_or-take, drop-drop, length-map, length-replicate, take-take, take_more, get_or-drop, drop_more, set_at, take-append-le, take-append-drop}
+use Rattle.std.proofs.Math.Seq.{drop-append-add, take-append-add}
+use Rattle.std.proofs.lemmas.List.Elements.{All-nil, All-cons, All-take, All-from_get_or}
+use Rattle.std.proofs.lemmas.List.Sums.{prefix_len_passes, prefix_len_stops}
+use Rattle.std.proofs.lemmas.Simd.{bitmask_splat, mask_l-lt, trailing_mask_l, put_chunk_is, length-chunk}
+use Rattle.std.specs.List.{prefix_len}
+use lib.Lanes.{mask_l, put_chunk, zip2, top}
+use lib.Count.{count_trailing_zeros}
+use Rattle.std.specs.Int.Bits.{bit_and, and_self}
+use Rattle.std.specs.Int.{bit_at}
+use Rattle.std.proofs.lemmas.Nat.Bits.{same_from_bits, bit_at_lowest, bit_at-suc, bit_at_and}
+use Rattle.cobs.specs.Grammar.{HasNoZero}
+use Rattle.cobs.specs.Internal.Mask.{zero_mask}
+
+pub zero_mask-lanes : (bytes : List ℕ) → mask_l (map (λ b. eqb b 0) bytes) ≡ zero_mask bytes
+zero_mask-lanes [] = refl
+zero_mask-lanes (b ∷ bytes) = ap (λ m. cond (eqb b 0) 1 0 + 2 * m) (zero_mask-lanes bytes)
+
+-- what a store of n bytes leaves
+pub put_is : (dest bytes : List ℕ) (at n : ℕ) → length bytes ≡ n → at + n ≤ length dest → put_chunk at dest bytes ≡ take at dest ++ (bytes ++ drop (at + n) dest)
+put_is dest bytes at n l room =
+    put_chunk_is at dest bytes (omega arith) ∙ ap (λ (x : List ℕ). take at dest ++ (bytes ++ x)) (ap (λ (k : ℕ). drop k (drop at dest)) l ∙ drop-drop n at dest)
+
+-- the bits that a comparison with 0 gives
+pub zeros_by_lanes : (source : List ℕ) (at n : ℕ) → at + n ≤ length source → n ≤ 64
+    → mask_l (map (top 7) (zip2 (λ a b. cond (eqb a b) (2 ^ 8 - 1) 0) (take n (drop at source)) (replicate n 0))) % 2 ^ 64 ≡ zero_mask (take n (drop at source))
+zeros_by_lanes source at n room few =
+    bitmask_splat w8 eqb (take n (drop at source)) n 0 (length-chunk at n source room) few
+    ∙ zero_mask-lanes (take n (drop at source))
+
+-- a zero's bit, and another byte's
+set_if : (b : ℕ) → b ≡ 0 → ◌≡◌ {A = ℕ} (if b == 0 then 1 else 0) 1
+set_if b is = ap (λ t. if t then 1 else 0) (eq-eqb b 0 is)
+
+clear_if : (b : ℕ) → b ≢ 0 → ◌≡◌ {A = ℕ} (if b == 0 then 1 else 0) 0
+clear_if b other = ap (λ t. if t then 1 else 0) (ne_eqb b 0 other)
+
+half : (b : Bool) (m : ℕ) → (cond b 1 0 + 2 * m) / 2 ≡ m
+half true m = omega arith
+half false m = omega arith
+
+-- no bit is set where no byte is 0
+pub zero_mask-none : (bytes : List ℕ) → zero_mask bytes ≡ 0 → All (λ b. b ≢ 0) bytes
+zero_mask-none [] e = All-nil (λ b. b ≢ 0)
+zero_mask-none (b ∷ bytes) e = grind (arith, cases_eq, set_if, All-cons, (zero_mask-none bytes (omega arith)))
+
+-- how many bytes stand before the first zero
+abbrev pub nonzero_len : List ℕ → ℕ
+nonzero_len bytes = prefix_len (λ b. not (eqb b 0)) bytes
+
+pub nonzero_len-lt : (bytes : List ℕ) → zero_mask bytes ≢ 0 → nonzero_len bytes < length bytes
+nonzero_len-lt [] some = absurd (some refl)
+nonzero_len-lt (b ∷ bytes) some =
+    elim (cases_eq b 0) [
+      | inl is ↦ (let c : nonzero_len (b ∷ bytes) ≡ 0 = ap (λ t. cond (not t) (1 + nonzero_len bytes) 0) (eq-eqb b 0 is) in omega arith)
+      | inr other ↦ (let c : nonzero_len (b ∷ bytes) ≡ 1 + nonzero_len bytes = ap (λ t. cond (not t) (1 + nonzero_len bytes) 0) (ne_eqb b 0 other) in
+          let m : zero_mask (b ∷ bytes) ≡ 0 + 2 * zero_mask bytes = ap (λ t. (if t then 1 else 0) + 2 * zero_mask bytes) (ne_eqb b 0 other) in
+          let ih = nonzero_len-lt bytes (λ e. some (omega arith)) in omega arith)
+    ]
+
+-- the bytes in front of the first zero
+pub nonzero_len-before : (bytes : List ℕ) → zero_mask bytes ≢ 0 → HasNoZero (take (nonzero_len bytes) bytes)
+nonzero_len-before bytes some = grind (arith, nonzero_len, nonzero_len-lt, length-take-le, All-from_get_or, eq-eqb, get_or-take, not-true, prefix_len_passes)
+
+pub nonzero_len-at : (bytes : List ℕ) → zero_mask bytes ≢ 0 → get_or bytes (nonzero_len bytes) 0 ≡ 0
+nonzero_len-at bytes some = eqb-true _ 0 (not-false _ (prefix_len_stops (λ b. not (eqb b 0)) bytes 0 (nonzero_len-lt bytes some)))
+
+-- the lowest bit that is set says where the first zero is
+pub lowest_bit : (bytes : List ℕ) → length bytes ≤ 64 → zero_mask bytes ≢ 0 → count_trailing_zeros 64 (zero_mask bytes) ≡ nonzero_len bytes
+lowest_bit bytes few some =
+    let e = zero_mask-lanes bytes in
+    ap (count_trailing_zeros 64) (sym e) ∙ trailing_mask_l (λ b. eqb b 0) 64 bytes few (omega arith)
+
+-- the zeros of some bytes behind d other ones, which aren't zeros
+abbrev pub mask_behind : ℕ → List ℕ → ℕ
+mask_behind d bytes = zero_mask (replicate d 1 ++ bytes)
+
+mask_behind-more : (d : ℕ) (bytes : List ℕ) → mask_behind (suc d) bytes ≡ 2 * mask_behind d bytes
+mask_behind-more d bytes = let z : zero_mask (1 ∷ replicate d 1 ++ bytes) ≡ 0 + 2 * mask_behind d bytes = refl in omega arith
+
+pub mask_behind-none : (d : ℕ) (bytes : List ℕ) → mask_behind d bytes ≡ 0 → HasNoZero bytes
+mask_behind-none zero bytes e = zero_mask-none bytes e
+mask_behind-none (suc d) bytes e = let m = mask_behind-more d bytes in mask_behind-none d bytes (omega arith)
+
+mask_behind-some : (d : ℕ) (bytes : List ℕ) → mask_behind d bytes ≢ 0 → zero_mask bytes ≢ 0
+mask_behind-some zero bytes some = some
+mask_behind-some (suc d) bytes some = let m = mask_behind-more d bytes in mask_behind-some d bytes (λ e. some (omega arith))
+
+nonzero_len-behind : (d : ℕ) (bytes : List ℕ) → nonzero_len (replicate d 1 ++ bytes) ≡ d + nonzero_len bytes
+nonzero_len-behind zero bytes = omega arith
+nonzero_len-behind (suc d) bytes = let ih = nonzero_len-behind d bytes in let e : nonzero_len (1 ∷ replicate d 1 ++ bytes) ≡ 1 + nonzero_len (replicate d 1 ++ bytes) = refl in omega arith
+
+-- the first zero taken from a mask
+mask-less : (bytes : List ℕ) → zero_mask bytes ≢ 0 → zero_mask bytes ≡ 2 ^ nonzero_len bytes + mask_behind (nonzero_len bytes + 1) (drop (nonzero_len bytes + 1) bytes)
+mask-less [] some = absurd (some refl)
+mask-less (b ∷ bytes) some =
+    elim (cases_eq b 0) [
+      | inl is ↦ (let c : nonzero_len (b ∷ bytes) ≡ 0 = ap (λ t. cond (not t) (1 + nonzero_len bytes) 0) (eq-eqb b 0 is) in
+          let m : zero_mask (b ∷ bytes) ≡ 1 + 2 * zero_mask bytes = ap (λ t. (if t then 1 else 0) + 2 * zero_mask bytes) (eq-eqb b 0 is) in
+          let z : 2 ^ 0 ≡ 1 = refl in
+          let one : mask_behind 1 bytes ≡ 0 + 2 * zero_mask bytes = refl in
+          let sum : 2 ^ 0 + mask_behind (0 + 1) (drop (0 + 1) (b ∷ bytes)) ≡ 1 + 2 * zero_mask bytes = omega arith in
+          m ∙ sym sum ∙ ap (λ k. 2 ^ k + mask_behind (k + 1) (drop (k + 1) (b ∷ bytes))) (sym c))
+      | inr other ↦ (let c : nonzero_len (b ∷ bytes) ≡ 1 + nonzero_len bytes = ap (λ t. cond (not t) (1 + nonzero_len bytes) 0) (ne_eqb b 0 other) in
+          let m : zero_mask (b ∷ bytes) ≡ 0 + 2 * zero_mask bytes = ap (λ t. (if t then 1 else 0) + 2 * zero_mask bytes) (ne_eqb b 0 other) in
+          let k : ℕ = nonzero_len bytes in
+          let ih = mask-less bytes (λ e. some (omega arith)) in
+          let more = mask_behind-more (k + 1) (drop (k + 1) bytes) in
+          let p = pow-suc 2 k in
+          let sum : 2 ^ suc k + mask_behind (suc (k + 1)) (drop (suc (k + 1)) (b ∷ bytes)) ≡ zero_mask (b ∷ bytes) = omega arith in
+          let n : suc k ≡ nonzero_len (b ∷ bytes) = omega arith in
+          let n' : suc (k + 1) ≡ nonzero_len (b ∷ bytes) + 1 = omega arith in
+          sym sum ∙ ap (λ i. 2 ^ i + mask_behind (suc (k + 1)) (drop (suc (k + 1)) (b ∷ bytes))) n ∙ ap (λ i. 2 ^ nonzero_len (b ∷ bytes) + mask_behind i (drop i (b ∷ bytes))) n')
+    ]
+
+-- the lowest bits, and the others
+and-step : (a b x y : ℕ) → a ≤ 1 → b ≤ 1 → bit_and (a + 2 * x) (b + 2 * y) ≡ min a b + 2 * bit_and x y
+and-step a b x y la lb = same_from_bits (bit_and (a + 2 * x) (b + 2 * y)) (min a b + 2 * bit_and x y) by_place
+  where
+    by_place : (i : ℕ) → bit_at (bit_and (a + 2 * x) (b + 2 * y)) i ≡ bit_at (min a b + 2 * bit_and x y) i
+    by_place zero =
+        let l = bit_at_lowest (a + 2 * x) in let r = bit_at_lowest (b + 2 * y) in
+        let n = bit_at_and (a + 2 * x) (b + 2 * y) 0 in
+        let s = bit_at_lowest (min a b + 2 * bit_and x y) in
+        let la' : (a + 2 * x) % 2 ≡ a = omega arith in
+        let lb' : (b + 2 * y) % 2 ≡ b = omega arith in
+        let ls : (min a b + 2 * bit_and x y) % 2 ≡ min a b = omega arith in
+        n ∙ ap (λ k. min k (bit_at (b + 2 * y) 0)) (l ∙ la') ∙ ap (min a) (r ∙ lb') ∙ sym (s ∙ ls)
+    by_place (suc i) =
+        let ha : (a + 2 * x) / 2 ≡ x = omega arith in
+        let hb : (b + 2 * y) / 2 ≡ y = omega arith in
+        let hs : (min a b + 2 * bit_and x y) / 2 ≡ bit_and x y = omega arith in
+        bit_at_and (a + 2 * x) (b + 2 * y) (suc i)
+        ∙ ap (λ k. min k (bit_at (b + 2 * y) (suc i))) (bit_at-suc (a + 2 * x) i ∙ ap (λ n. bit_at n i) ha)
+        ∙ ap (min (bit_at x i)) (bit_at-suc (b + 2 * y) i ∙ ap (λ n. bit_at n i) hb)
+        ∙ sym (bit_at_and x y i) ∙ ap (λ n. bit_at n i) (sym hs) ∙ sym (bit_at-suc (min a b + 2 * bit_and x y) i)
+
+-- a mask and one less: the first zero is taken from it
+mask-and : (bytes : List ℕ) → zero_mask bytes ≢ 0 → bit_and (zero_mask bytes) (zero_mask bytes - 1) ≡ mask_behind (nonzero_len bytes + 1) (drop (nonzero_len bytes + 1) bytes)
+mask-and [] some = absurd (some refl)
+mask-and (b ∷ bytes) some =
+    elim (cases_eq b 0) [
+      | inl is ↦ (let c : nonzero_len (b ∷ bytes) ≡ 0 = ap (λ t. cond (not t) (1 + nonzero_len bytes) 0) (eq-eqb b 0 is) in
+          let m : zero_mask (b ∷ bytes) ≡ 1 + 2 * zero_mask bytes = ap (λ t. (if t then 1 else 0) + 2 * zero_mask bytes) (eq-eqb b 0 is) in
+          let less : zero_mask (b ∷ bytes) - 1 ≡ 0 + 2 * zero_mask bytes = omega arith in
+          let s = and-step 1 0 (zero_mask bytes) (zero_mask bytes) (omega arith) (omega arith) in
+          let own = and_self (zero_mask bytes) in
+          let one : mask_behind (0 + 1) (drop (0 + 1) (b ∷ bytes)) ≡ 0 + 2 * zero_mask bytes = refl in
+          ap (λ k. bit_and k (zero_mask (b ∷ bytes) - 1)) m ∙ ap (bit_and (1 + 2 * zero_mask bytes)) less ∙ s ∙ (let e : min 1 0 + 2 * bit_and (zero_mask bytes) (zero_mask bytes) ≡ 0 + 2 * zero_mask bytes = omega arith in e)
+          ∙ sym one ∙ ap (λ k. mask_behind (k + 1) (drop (k + 1) (b ∷ bytes))) (sym c))
+      | inr other ↦ (let c : nonzero_len (b ∷ bytes) ≡ 1 + nonzero_len bytes = ap (λ t. cond (not t) (1 + nonzero_len bytes) 0) (ne_eqb b 0 other) in
+          let m : zero_mask (b ∷ bytes) ≡ 0 + 2 * zero_mask bytes = ap (λ t. (if t then 1 else 0) + 2 * zero_mask bytes) (ne_eqb b 0 other) in
+          let k : ℕ = nonzero_len bytes in
+          let some' : zero_mask bytes ≢ 0 = λ e. some (omega arith) in
+          let less : zero_mask (b ∷ bytes) - 1 ≡ 1 + 2 * (zero_mask bytes - 1) = omega arith in
+          let s = and-step 0 1 (zero_mask bytes) (zero_mask bytes - 1) (omega arith) (omega arith) in
+          let ih = mask-and bytes some' in
+          let more = mask_behind-more (k + 1) (drop (k + 1) bytes) in
+          let n : suc (k + 1) ≡ nonzero_len (b ∷ bytes) + 1 = omega arith in
+          ap (λ i. bit_and i (zero_mask (b ∷ bytes) - 1)) m ∙ ap (bit_and (0 + 2 * zero_mask bytes)) less ∙ s
+          ∙ (let e : min 0 1 + 2 * bit_and (zero_mask bytes) (zero_mask bytes - 1) ≡ mask_behind (suc (k + 1)) (drop (k + 1) bytes) = omega arith in e)
+          ∙ ap (λ i. mask_behind i (drop i (b ∷ bytes))) n)
+    ]
+
+length-ones : (n : ℕ) → length {A = ℕ} (replicate n 1) ≡ n
+length-ones n = length-replicate n 1
+
+-- a mask some of whose zeros have been taken from it
+module _ (d : ℕ) (bytes : List ℕ) (few : d + length bytes ≤ 64) (some : mask_behind d bytes ≢ 0) where
+  pub some_left : zero_mask bytes ≢ 0
+  some_left = mask_behind-some d bytes some
+
+  pub lowest_left : count_trailing_zeros 64 (mask_behind d bytes) ≡ d + nonzero_len bytes
+  lowest_left = grind (arith, length-append, length-ones, lowest_bit, nonzero_len-behind)
+
+  -- the next zero taken from it
+  pub mask_behind-less : mask_behind d bytes ≡ 2 ^ (d + nonzero_len bytes) + mask_behind (d + nonzero_len bytes + 1) (drop (nonzero_len bytes + 1) bytes)
+  mask_behind-less =
+      let k : ℕ = nonzero_len bytes in
+      let e = nonzero_len-behind d bytes in
+      let l = length-ones d in
+      let left : drop (d + k + 1) (replicate d 1 ++ bytes) ≡ drop (k + 1) bytes =
+      ap (λ n. drop n (replicate d 1 ++ bytes)) (let s : d + k + 1 ≡ length {A = ℕ} (replicate d 1) + (k + 1) = omega arith in s) ∙ drop-append-add (replicate d 1) bytes (k + 1) in
+      mask-less (replicate d 1 ++ bytes) some ∙ ap (λ n. 2 ^ n + mask_behind (n + 1) (drop (n + 1) (replicate d 1 ++ bytes))) e
+      ∙ ap (λ (x : List ℕ). 2 ^ (d + k) + mask_behind (d + k + 1) x) left
+
+  pub mask_behind-and : bit_and (mask_behind d bytes) (mask_behind d bytes - 1) ≡ mask_behind (d + nonzero_len bytes + 1) (drop (nonzero_len bytes + 1) bytes)
+  mask_behind-and =
+      let k : ℕ = nonzero_len bytes in
+      let e = nonzero_len-behind d bytes in
+      let l = length-ones d in
+      let left : drop (d + k + 1) (replicate d 1 ++ bytes) ≡ drop (k + 1) bytes =
+      ap (λ n. drop n (replicate d 1 ++ bytes)) (let s : d + k + 1 ≡ length {A = ℕ} (replicate d 1) + (k + 1) = omega arith in s) ∙ drop-append-add (replicate d 1) bytes (k + 1) in
+      mask-and (replicate d 1 ++ bytes) some ∙ ap (λ n. mask_behind (n + 1) (drop (n + 1) (replicate d 1 ++ bytes))) e ∙ ap (mask_behind (d + k + 1)) left
+
+-- where the lowest bit stands no lower than k, the first k bytes aren't zeros
+pub clear_front : (bytes : List ℕ) (k : ℕ) → length bytes ≤ 64 → k ≤ count_trailing_zeros 64 (zero_mask bytes) → HasNoZero (take k bytes)
+clear_front bytes k few le =
+    elim (cases_eq (zero_mask bytes) 0) [
+      | inl none ↦ All-take (λ b. b ≢ 0) k bytes (zero_mask-none bytes none)
+      | inr some ↦ (let e = lowest_bit bytes few some in
+          let all = nonzero_len-before bytes some in
+          subst (All (λ b. b ≢ 0)) (take-take k (nonzero_len bytes) bytes (omega arith)) (All-take (λ b. b ≢ 0) k (take (nonzero_len bytes) bytes) all))
+    ]
+
+pub zero_mask-lt : (bytes : List ℕ) → zero_mask bytes < 2 ^ length bytes
+zero_mask-lt bytes = rw (← zero_mask-lanes bytes) (subst (λ (n : ℕ). mask_l (map (λ b. eqb b 0) bytes) < 2 ^ n) (length-map bytes (λ b. eqb b 0)) (mask_l-lt (map (λ b. eqb b 0) bytes)))
+
+-- where every bit is set, each byte is 0
+pub zero_mask-all : (bytes : List ℕ) → zero_mask bytes + 1 ≡ 2 ^ length bytes → bytes ≡ replicate (length bytes) 0
+zero_mask-all [] e = refl
+zero_mask-all (b ∷ bytes) e =
+    let p = pow-suc 2 (length bytes) in
+    elim (cases_eq b 0) [
+      | inl is ↦ (let ih : bytes ≡ replicate (length bytes) 0 = zero_mask-all bytes (omega (arith, set_if b is)) in cc)
+      | inr other ↦ absurd (omega (arith, clear_if b other))
+    ]
+
+pub window_all : (bytes : List ℕ) → length bytes ≤ 32 → zero_mask bytes ≡ 4294967295 → (length bytes ≡ 32) × (bytes ≡ replicate 32 0)
+window_all bytes few e =
+    let most = zero_mask-lt bytes in
+    let long : length bytes ≡ 32 = elim (cases_lt (length bytes) 32) [
+      | inl short ↦ absurd (let p : 2 ^ length bytes ≤ 2 ^ 31 = pow-le-pow_right {n = 2} (omega arith) {i = length bytes} {j = 31} (omega arith) in omega arith)
+      | inr enough ↦ omega arith
+    ] in
+    (long, zero_mask-all bytes (omega (arith, ap (λ k. 2 ^ k) long)) ∙ ap (λ k. replicate k 0) long)
+
+-- a window that is copied as two parts of n bytes, which may overlap
+module _ (source dest first after : List ℕ) (read at len n front back : ℕ) (inside : read + len ≤ length source) (room : at + len ≤ length dest) (some : n ≤ len) (few : len ≤ n + n) (small : n ≤ 16)
+    (is : first ≡ take at dest ++ (take n (drop read source) ++ drop (at + n) dest))
+    (is' : after ≡ take (at + len - n) first ++ (take n (drop (read + len - n) source) ++ drop (at + len - n + n) first))
+    (bits : front ≡ zero_mask (take n (drop read source))) (bits' : back ≡ zero_mask (take n (drop (read + len - n) source))) where
+  abbrev w : List ℕ
+  w = take len (drop read source)
+
+  pub length-w : length w ≡ len
+  length-w = length-take-le len (drop read source) (let d = length-drop read source in omega arith)
+
+  front-is : take n (drop read source) ≡ take n w
+  front-is = sym (take-take n len (drop read source) some)
+
+  back-is : take n (drop (read + len - n) source) ≡ drop (len - n) w
+  back-is = grind (arith, drop-take, drop-drop)
+
+  pub parts-copied : after ≡ take at dest ++ (w ++ drop (at + len) dest)
+  parts-copied =
+      let l = length-w in
+      let a : length (take at dest) ≡ at = length-take-le at dest (omega arith) in
+      let b : length (take n w) ≡ n = length-take-le n w (omega arith) in
+      let first-is : first ≡ (take at dest ++ take n w) ++ drop (at + n) dest = is ∙ ap (λ (x : List ℕ). take at dest ++ (x ++ drop (at + n) dest)) front-is ∙ sym (append_assoc (take at dest) (take n w) (drop (at + n) dest)) in
+      let c : length (take at dest ++ take n w) ≡ at + n = length-append (take at dest) (take n w) ∙ omega arith in
+      let sum : at + len - n ≡ length (take at dest) + (len - n) = omega arith in
+      let low : take (at + len - n) first ≡ take at dest ++ take (len - n) w =
+      ap (take (at + len - n)) (is ∙ ap (λ (x : List ℕ). take at dest ++ (x ++ drop (at + n) dest)) front-is)
+      ∙ ap (λ (k : ℕ). take k (take at dest ++ (take n w ++ drop (at + n) dest))) sum ∙ take-append-add (take at dest) (take n w ++ drop (at + n) dest) (len - n)
+      ∙ ap (λ (x : List ℕ). take at dest ++ x) (take-append-le (len - n) (take n w) (drop (at + n) dest) (omega arith) ∙ take-take (len - n) n w (omega arith)) in
+      let sum' : at + len - n + n ≡ length (take at dest ++ take n w) + (len - n) = omega arith in
+      let high : drop (at + len - n + n) first ≡ drop (at + len) dest =
+      ap (drop (at + len - n + n)) first-is ∙ ap (λ (k : ℕ). drop k ((take at dest ++ take n w) ++ drop (at + n) dest)) sum'
+      ∙ drop-append-add (take at dest ++ take n w) (drop (at + n) dest) (len - n) ∙ drop-drop (len - n) (at + n) dest ∙ ap (λ (k : ℕ). drop k dest) (omega arith) in
+      is' ∙ ap (λ (x : List ℕ). x ++ (take n (drop (read + len - n) source) ++ drop (at + len - n + n) first)) low
+      ∙ ap (λ (x : List ℕ). (take at dest ++ take (len - n) w) ++ (x ++ drop (at + len - n + n) first)) back-is
+      ∙ ap (λ (x : List ℕ). (take at dest ++ take (len - n) w) ++ (drop (len - n) w ++ x)) high
+      ∙ append_assoc (take at dest) (take (len - n) w) (drop (len - n) w ++ drop (at + len) dest)
+      ∙ ap (λ (x : List ℕ). take at dest ++ x) (sym (append_assoc (take (len - n) w) (drop (len - n) w) (drop (at + len) dest)) ∙ ap (λ (x : List ℕ). x ++ drop (at + len) dest) (take-append-drop (len - n) w))
+
+  -- the masks of the two parts
+  pub front-mask : front ≡ zero_mask (take n w)
+  front-mask = bits ∙ ap zero_mask front-is
+
+  pub back-mask : back ≡ zero_mask (drop (len - n) w)
+  back-mask = bits' ∙ ap zero_mask back-is
+
+-- one byte more
+pub zero_mask-push : (bytes : List ℕ) (b : ℕ) → zero_mask (bytes ++ b ∷ []) ≡ zero_mask bytes + (if b == 0 then 1 else 0) * 2 ^ length bytes
+zero_mask-push [] b = let z : 2 ^ 0 ≡ 1 = refl in let n : ℕ = if b == 0 then 1 else 0 in let m = mul-one n in omega arith
+zero_mask-push (x ∷ bytes) b =
+    let ih = zero_mask-push bytes b in
+    let n : ℕ = if b == 0 then 1 else 0 in
+    let p = pow-suc 2 (length bytes) in
+    let m : n * 2 ^ suc (length bytes) ≡ 2 * (n * 2 ^ length bytes) = ap (λ k. n * k) p ∙ sym (mul_assoc n (2 ^ length bytes) 2) ∙ mul_comm (n * 2 ^ length bytes) 2 in
+    omega arith
+
+-- the bit of a byte in its place
+pub byte_bit : (b i : ℕ) → i < 64 → bool_byte (eqb b 0) * 2 ^ i % 18446744073709551616 ≡ (if b == 0 then 1 else 0) * 2 ^ i
+byte_bit b i lt = grind (arith, pow-le-pow_right, cases_eq, eq-eqb, ne_eqb)
+
+-- a byte more of a message, in the mask
+module _ (source : List ℕ) (read i zeros : ℕ) (more : read + i < length source) (small : i < 64) (is : zeros ≡ zero_mask (take i (drop read source))) where
+  pub mask-grown : zeros + bool_byte (eqb (get_or source (read + i) 0) 0) * 2 ^ i % 18446744073709551616 ≡ zero_mask (take (i + 1) (drop read source))
+  mask-grown =
+      let b : ℕ = get_or source (read + i) 0 in
+      let d = length-drop read source in
+      let l : length (take i (drop read source)) ≡ i = length-take-le i (drop read source) (omega arith) in
+      let next : take (i + 1) (drop read source) ≡ take i (drop read source) ++ b ∷ [] =
+      take_more (drop read source) i 0 (omega arith) ∙ ap (λ (x : ℕ). take i (drop read source) ++ x ∷ []) (get_or-drop read source i 0) in
+      let push = ap zero_mask next ∙ zero_mask-push (take i (drop read source)) b in
+      let bit = byte_bit b i small in
+      let place : (if b == 0 then 1 else 0) * 2 ^ length (take i (drop read source)) ≡ (if b == 0 then 1 else 0) * 2 ^ i = ap (λ k. (if b == 0 then 1 else 0) * 2 ^ k) l in
+      ap (λ k. k + bool_byte (eqb b 0) * 2 ^ i % 18446744073709551616) is ∙ ap (λ k. zero_mask (take i (drop read source)) + k) (bit ∙ sym place) ∙ sym push
+
+-- a byte more of a message, copied
+pub copied-more : (source old dest : List ℕ) (read at i : ℕ) → read + i < length source → at + i < length old → dest ≡ take at old ++ (take i (drop read source) ++ drop (at + i) old)
+    → set dest (at + i) (get_or source (read + i) 0) ≡ take at old ++ (take (i + 1) (drop read source) ++ drop (at + (i + 1)) old)
+copied-more source old dest read at i more room is =
+    let b : ℕ = get_or source (read + i) 0 in
+    let d = length-drop read source in
+    let front : List ℕ = take at old ++ take i (drop read source) in
+    let l : length (take i (drop read source)) ≡ i = length-take-le i (drop read source) (omega arith) in
+    let a : length (take at old) ≡ at = length-take-le at old (omega arith) in
+    let n : length front ≡ at + i = length-append (take at old) (take i (drop read source)) ∙ omega arith in
+    let next : take (i + 1) (drop read source) ≡ take i (drop read source) ++ b ∷ [] =
+    take_more (drop read source) i 0 (omega arith) ∙ ap (λ (x : ℕ). take i (drop read source) ++ x ∷ []) (get_or-drop read source i 0) in
+    let sum : at + i + 1 ≡ at + (i + 1) = omega arith in
+    let tail : List ℕ = drop (at + (i + 1)) old in
+    ap (λ (x : List ℕ). set x (at + i) b) (is ∙ sym (append_assoc (take at old) (take i (drop read source)) (drop (at + i) old)) ∙ ap (λ (x : List ℕ). front ++ x) (drop_more old (at + i) 0 room))
+    ∙ set_at front (get_or old (at + i) 0) (drop (at + i + 1) old) b (at + i) n
+    ∙ ap (λ (k : ℕ). front ++ b ∷ drop k old) sum
+    ∙ append_assoc (take at old) (take i (drop read source)) (b ∷ tail)
+    ∙ ap (λ (x : List ℕ). take at old ++ x) (sym (append_assoc (take i (drop read source)) (b ∷ []) tail) ∙ ap (λ (x : List ℕ). x ++ tail) (sym next))

@@ -1,0 +1,40 @@
+use Rattle.std.proofs.Common.{◌≡◌, ◌≢◌, ◌≤◌, ◌+◌, ◌-◌, ◌∙◌, ◌↔◌, IsTrue, ℕ, List, length, take, drop, ap, sym, subst, arith, length-drop, length-take-le}
+use Rattle.std.proofs.lemmas.List.{take-take}
+use Rattle.std.proofs.lemmas.List.Elements.{All-take}
+use Rattle.cobs.specs.Grammar.{HasNoZero, code_of}
+use Rattle.cobs.specs.Piece.{last_part}
+use Rattle.cobs.specs.Sentinel.{xor_each}
+use Rattle.cobs.specs.Internal.Decoded.{IsFlat}
+use Rattle.cobs.proofs.format.SentinelLemmas.{xor_each-zero}
+use Rattle.cobs.proofs.dec.in_place.decode_next.Goals as goal
+
+piece-is : (from len : ℕ) (buffer : List ℕ) → xor_each 0 (take (from + len - from) (drop from buffer)) ≡ take len (drop from buffer)
+piece-is from len buffer = let n : from + len - from ≡ len = omega arith in xor_each-zero (take (from + len - from) (drop from buffer)) ∙ ap (λ (k : ℕ). take k (drop from buffer)) n
+
+front-within : (from len front : ℕ) (buffer : List ℕ) → from + len ≤ length buffer → front ≤ length (take (from + len - from) (drop from buffer)) → front ≤ len
+front-within from len front buffer within le = let d = length-drop from buffer in let t = length-take-le (from + len - from) (drop from buffer) (omega arith) in omega arith
+
+pub flat_front-front-requires : goal.flat_front-front-requires
+flat_front-front-requires c = subst HasNoZero (sym (piece-is c.args.from c.args.len c.args.buffer.now)) c.requires.nonzero
+
+pub decode_flat_in_place-requires-clause-nonzero : goal.decode_flat_in_place-requires-clause-nonzero
+decode_flat_in_place-requires-clause-nonzero c =
+    let front : ℕ = c.flat_front-front.result.0 in
+    let e = c.flat_front-front.ensures in
+    subst HasNoZero (take-take front c.args.len (drop c.args.from c.args.buffer.now) (front-within c.args.from c.args.len front c.args.buffer.now c.requires.within e.within))
+    (All-take (λ byte. byte ≢ 0) front (take c.args.len (drop c.args.from c.args.buffer.now)) c.requires.nonzero)
+
+pub returns-then-front-gt0-clause-flat : goal.returns-then-front-gt0-clause-flat
+returns-then-front-gt0-clause-flat c some =
+    subst (λ (h : List ℕ). IsFlat (take c.flat_front-front.result.0 h)) (piece-is c.args.from c.args.len c.args.buffer.now) (c.flat_front-front.ensures.flat some)
+
+pub decode_flat_in_place-requires-clause-flat : goal.decode_flat_in_place-requires-clause-flat
+decode_flat_in_place-requires-clause-flat c =
+    let front : ℕ = c.flat_front-front.result.0 in
+    let e = c.flat_front-front.ensures in
+    subst IsFlat (take-take front c.args.len (drop c.args.from c.args.buffer.now) (front-within c.args.from c.args.len front c.args.buffer.now c.requires.within e.within))
+    (subst (λ (h : List ℕ). IsFlat (take front h)) (piece-is c.args.from c.args.len c.args.buffer.now) (e.flat c.if-front-gt0.true))
+
+pub returns-then-front-gt0-clause-full : goal.returns-then-front-gt0-clause-full
+returns-then-front-gt0-clause-full c some =
+    subst (λ (h : List ℕ). (IsTrue c.flat_front-front.result.1 ↔ (code_of (last_part (take c.flat_front-front.result.0 h)) ≡ 255))) (piece-is c.args.from c.args.len c.args.buffer.now) (c.flat_front-front.ensures.full some)

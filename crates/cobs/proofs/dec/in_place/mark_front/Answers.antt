@@ -1,0 +1,50 @@
+use Rattle.std.proofs.Common.{◌≡◌, ap, ◌∙◌, length, take, drop, replicate, ℕ, List, arith, sym}
+use Rattle.std.proofs.lemmas.List.{take_rest}
+use Rattle.cobs.proofs.decoding.FlatLemmas.{zeros-put, zeros-put-len}
+use Rattle.cobs.proofs.decoding.FirstFront.{marked-code, marked-turn, marked-ones, marked-flat, marked-last, marked-begins, marked-rest, marked-empty, marked-kept}
+use Rattle.cobs.proofs.dec.in_place.mark_front.Goals as goal
+
+pub by_code-preserved-then-is_all : goal.by_code-preserved-then-is_all
+by_code-preserved-then-is_all c =
+    let m = c.by_code.invariant in
+    let dest : List ℕ = c.by_code.rest in
+    let read : ℕ = c.by_code.read in
+    let same = m.same in
+    let room = c.requires.room in
+    let ones : take 32 (drop read dest) ≡ replicate 32 1 = ap (take 32) (sym (take_rest dest read)) ∙ c.is_all.ensures c.if-is_all.true in
+    let put = zeros-put read dest c.write_zeros.new.dest c.write_zeros.ensures in
+    marked-ones c.args.first c.args.rest.now dest c.args.len read c.by_code.code m room _ c.if-code-eq1.true (omega arith) ones put
+    (ap length put ∙ zeros-put-len read dest (omega arith))
+
+pub in_turn-init : goal.in_turn-init
+in_turn-init c = record {
+  marked = marked-code c.args.first c.args.rest.now c.by_code.rest c.args.len c.by_code.read c.by_code.code c.by_code.invariant c.requires.room (omega arith) c.if-code-ne-FULL_CODE.true c.requires.nonzero (omega arith);
+  onward = omega arith;
+}
+
+pub in_turn-preserved : goal.in_turn-preserved
+in_turn-preserved c = record {
+  marked = marked-turn c.args.first c.args.rest.now c.in_turn.rest c.args.len c.in_turn.read _ _ c.in_turn.invariant.marked c.requires.room c.requires.nonzero c.if-next-ne-FULL_CODE.true c.if-code-ne-FULL_CODE.true c.if-both-len.true c.if-rest-read.true c.if-rest-read-2.true;
+  onward = omega arith;
+}
+
+pub by_code-preserved : goal.by_code-preserved
+by_code-preserved c = c.in_turn.invariant.marked
+
+pub returns-clause-flat : goal.returns-clause-flat
+returns-clause-flat c = marked-flat _ _ _ _ _ _ c.by_code.invariant c.requires.room
+
+pub returns-clause-code : goal.returns-clause-code
+returns-clause-code c = marked-last _ _ _ _ _ _ c.by_code.invariant c.requires.room
+
+pub returns-clause-begins : goal.returns-clause-begins
+returns-clause-begins c = marked-begins _ _ _ _ _ _ c.by_code.invariant c.requires.room
+
+pub returns-clause-rest : goal.returns-clause-rest
+returns-clause-rest c = marked-rest _ _ _ _ _ _ c.by_code.invariant c.requires.room
+
+pub returns-clause-empty : goal.returns-clause-empty
+returns-clause-empty c = marked-empty _ _ _ _ _ _ c.by_code.invariant c.requires.room
+
+pub returns-clause-last : goal.returns-clause-last
+returns-clause-last c = marked-kept _ _ _ _ _ _ c.by_code.invariant c.requires.room

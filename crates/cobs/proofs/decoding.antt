@@ -1,0 +1,22 @@
+-- Whole frames: pieces and what they come to, and each way to decode them.
+pub mod OutcomeLemmas
+pub mod PieceLemmas
+pub mod PieceCuts
+pub mod WindowSteps
+pub mod FrontSteps
+pub mod HeadLemmas
+pub mod FrontLemmas
+pub mod OutcomeSteps
+pub mod KeptLemmas
+pub mod BlockSteps
+pub mod InPlaceSteps
+pub mod SourceSteps
+pub mod SourceFronts
+pub mod VectorSteps
+pub mod HeadlineLemmas
+pub mod WholeLemmas
+pub mod FrontBlock
+pub mod FlatLemmas
+pub mod VectorHeadline
+pub mod FirstFront
+pub mod ReadsLemmas

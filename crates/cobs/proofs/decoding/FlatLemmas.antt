@@ -1,0 +1,245 @@
+-- Frames in which no block but the last is full, decoded in their own place.
+use Rattle.std.proofs.Common.{take_at, drop_at, bit_xor, append-nil, length-append, zero, suc, ◌≤◌, ◌++◌, replicate, subst, append_assoc, take-append-drop, length-take-le, set, ◌≡◌, ◌≢◌, ℕ, ◌+◌, ◌-◌, ◌<◌, true, List, [], ◌∷◌, length, take, drop, get_or, Ok, refl, sym, ap, ◌∙◌, arith, length-drop, inl, inr}
+use Rattle.std.proofs.lemmas.Bool.{eq-eqb}
+use Rattle.std.proofs.lemmas.List.{take-map, drop-map, take-take, drop_all, take_rest, length-set, drop-set-lt, take_more_set, drop-drop, drop_more, get_or-take, get_or-drop}
+use borrow.Rule.Slice.PartMut.{put_mid}
+use Rattle.std.proofs.lemmas.List.Elements.{All-cons}
+use Rattle.cobs.specs.Grammar.{code_of, HasNoZero}
+use Rattle.cobs.specs.Piece.{output, kept_output, last_part, lacks, is_whole}
+use Rattle.cobs.specs.Internal.Decoded.{IsFlat}
+use Rattle.cobs.specs.Decode.{head_answer}
+use Rattle.cobs.specs.Sentinel.{xor_each}
+use Rattle.cobs.proofs.format.SentinelLemmas.{xor_twice}
+use Rattle.cobs.proofs.decoding.PieceCuts.{output-le, last_part-more, last_part-last, is_whole-of, length-output-last, length-output-more, joint_of, joint-length}
+use Rattle.cobs.proofs.decoding.WindowSteps.{CopiedTo, Decoded, code-decoded, code-copied}
+
+-- the parts in front of `read` aren't full, and what is left ends as the piece does
+pub record FlatSoFar (piece : List ℕ) (read : ℕ) : Type 0 where
+  pub within : read < length piece
+  pub count : read + length (output (drop read piece)) ≡ length (output piece)
+  pub last : last_part (drop read piece) ≡ last_part piece
+
+pub flat-started : (piece : List ℕ) → 0 < length piece → FlatSoFar piece 0
+flat-started piece some = record { within = some; count = omega arith; last = refl }
+
+module _ (piece : List ℕ) (read code : ℕ) (f : FlatSoFar piece read) (is : code ≡ get_or piece read 0) where
+  cons : drop read piece ≡ code ∷ drop (read + 1) piece
+  cons = drop_more piece read 0 f.within ∙ ap (λ (k : ℕ). k ∷ drop (read + 1) piece) (sym is)
+
+  -- one more part
+  pub flat-more : 0 < code → code < length piece - read → code ≢ 255 → FlatSoFar piece (read + code)
+  flat-more some more other =
+      let l = length-drop (read + 1) piece in
+      let next : drop (code - 1) (drop (read + 1) piece) ≡ drop (read + code) piece = drop-drop (code - 1) (read + 1) piece ∙ ap (λ (k : ℕ). drop k piece) (omega arith) in
+      let o = length-output-more piece read f.within (omega arith) (omega arith) in
+      let at : read + get_or piece read 0 ≡ read + code = omega arith in
+      let same : length (output (drop (read + get_or piece read 0) piece)) ≡ length (output (drop (read + code) piece)) = ap (λ (k : ℕ). length (output (drop k piece))) at in
+      let j : length (joint_of (get_or piece read 0)) ≡ 1 = elim (joint-length (get_or piece read 0)) [
+        | inl full ↦ absurd (other (is ∙ full.0))
+        | inr short ↦ short.1
+      ] in
+      let c = f.count in
+      record {
+        within = omega arith;
+        count = omega arith;
+        last = sym (ap last_part cons ∙ last_part-more code (drop (read + 1) piece) (omega arith) ∙ ap last_part next) ∙ f.last;
+      }
+
+  -- the last part, where it is whole
+  pub flat-whole : length piece - read ≡ code → IsFlat piece
+  flat-whole ends =
+      let w = f.within in
+      let l = length-drop (read + 1) piece in
+      let o = length-output-last piece read f.within (omega arith) in
+      let c = f.count in
+      let part : last_part piece ≡ code ∷ drop (read + 1) piece = sym f.last ∙ ap last_part cons ∙ last_part-last code (drop (read + 1) piece) (omega arith) in
+      record {
+        some = omega arith;
+        len = omega arith;
+        whole = ap lacks part ∙ omega arith;
+      }
+
+  pub flat-code : length piece - read ≡ code → code_of (last_part piece) ≡ code
+  flat-code ends =
+      let w = f.within in
+      let l = length-drop (read + 1) piece in
+      ap code_of (sym f.last ∙ ap last_part cons ∙ last_part-last code (drop (read + 1) piece) (omega arith))
+
+-- the blocks in front of `read` are whole and not full, whatever stands behind
+pub record FrontSoFar (piece : List ℕ) (read : ℕ) : Type 0 where
+  pub within : read < length piece
+  pub front : (end : ℕ) → read < end → end ≤ length piece → FlatSoFar (take end piece) read
+  pub whole : 0 < read → IsFlat (take read piece) × (code_of (last_part (take read piece)) ≢ 255)
+
+pub front-started : (piece : List ℕ) → 0 < length piece → FrontSoFar piece 0
+front-started piece some = record {
+  within = some;
+  front = λ end lt le. flat-started (take end piece) (let l = length-take-le end piece le in omega arith);
+  whole = λ none. absurd (omega arith);
+}
+
+module _ (piece : List ℕ) (read code : ℕ) (f : FrontSoFar piece read) (is : code ≡ get_or piece read 0) (some : 0 < code) where
+  -- a whole block
+  pub front-whole : read + code ≤ length piece → IsFlat (take (read + code) piece) × (code_of (last_part (take (read + code) piece)) ≡ code)
+  front-whole le =
+      let end : ℕ = read + code in
+      let l = length-take-le end piece le in
+      let g = f.front end (omega arith) le in
+      let is' : code ≡ get_or (take end piece) read 0 = is ∙ sym (get_or-take end piece read 0 (omega arith)) in
+      (flat-whole (take end piece) read code g is' (omega arith), flat-code (take end piece) read code g is' (omega arith))
+
+  -- one that isn't full, and more behind it
+  pub front-more : read + code < length piece → code ≢ 255 → FrontSoFar piece (read + code)
+  front-more lt other =
+      let w = front-whole (omega arith) in
+      record {
+        within = lt;
+        front = λ end before le.
+            let l = length-take-le end piece le in
+            flat-more (take end piece) read code (f.front end (omega arith) le) (is ∙ sym (get_or-take end piece read 0 (omega arith))) some (omega arith) other;
+        whole = λ _. (w.0, λ full. other (sym w.1 ∙ full));
+      }
+
+-- empty blocks
+front-ones-by : (n : ℕ) (piece : List ℕ) (read : ℕ) → FrontSoFar piece read → take n (drop read piece) ≡ replicate n 1 → read + n < length piece → FrontSoFar piece (read + n)
+front-ones-by zero piece read f ones lt = let at : read ≡ read + 0 = omega arith in subst (FrontSoFar piece) at f
+front-ones-by (suc n) piece read f ones lt =
+    let left : drop read piece ≡ get_or piece read 0 ∷ drop (read + 1) piece = drop_more piece read 0 (omega arith) in
+    let all : get_or piece read 0 ∷ take n (drop (read + 1) piece) ≡ 1 ∷ replicate n 1 = ap (take (suc n)) (sym left) ∙ ones in
+    let first : 1 ≡ get_or piece read 0 = cc in
+    let others : take n (drop (read + 1) piece) ≡ replicate n 1 = cc in
+    let at : read + 1 + n ≡ read + suc n = omega arith in
+    subst (FrontSoFar piece) at (front-ones-by n piece (read + 1) (front-more piece read 1 f first (omega arith) (omega arith) (λ e. omega (arith, e))) others (omega arith))
+
+pub front-ones : (piece : List ℕ) (read : ℕ) → FrontSoFar piece read → take 32 (drop read piece) ≡ replicate 32 1 → read + 32 < length piece → FrontSoFar piece (read + 32)
+front-ones piece read f ones lt = front-ones-by 32 piece read f ones lt
+
+-- bytes that exclusive or with the sentinel makes empty blocks
+pub xored-ones : (piece : List ℕ) (sentinel read : ℕ) → take 32 (drop read piece) ≡ replicate 32 (bit_xor 1 sentinel) → take 32 (drop read (xor_each sentinel piece)) ≡ replicate 32 1
+xored-ones piece sentinel read alike =
+    ap (take 32) (drop-map (λ b. bit_xor b sentinel) read piece) ∙ take-map (λ b. bit_xor b sentinel) 32 (drop read piece)
+    ∙ ap (xor_each sentinel) alike ∙ ap (replicate 32) (xor_twice 1 sentinel)
+
+-- what stands behind the front of a copy is the next code
+pub next-code : (piece dest : List ℕ) (read code : ℕ) → CopiedTo piece dest read (length piece) read → 0 < code → read + code < length piece → get_or dest (read + (code - 1)) 0 ≡ get_or piece (read + code) 0
+next-code piece dest read code k some more = grind (arith, get_or-drop, get_or-take)
+
+-- empty blocks behind a copy of their codes, one after another
+zeroed : ℕ → ℕ → List ℕ → List ℕ
+zeroed zero read dest = dest
+zeroed (suc n) read dest = zeroed n (read + 1) (set dest read 0)
+
+zeroed-is : (n read : ℕ) (dest : List ℕ) → read + n ≤ length dest → zeroed n read dest ≡ take read dest ++ (replicate n 0 ++ drop (read + n) dest)
+unfolding zeroed
+zeroed-is zero read dest le = grind (arith, take-append-drop)
+zeroed-is (suc n) read dest le =
+    let l = length-set dest read 0 in
+    let at : read + 1 + n ≡ read + suc n = omega arith in
+    zeroed-is n (read + 1) (set dest read 0) (omega arith)
+    ∙ ap (λ (x : List ℕ). x ++ (replicate n 0 ++ drop (read + 1 + n) (set dest read 0))) (take_more_set dest read 0 (omega arith))
+    ∙ append_assoc (take read dest) (0 ∷ []) (replicate n 0 ++ drop (read + 1 + n) (set dest read 0))
+    ∙ ap (λ (x : List ℕ). take read dest ++ (0 ∷ (replicate n 0 ++ x))) (drop-set-lt (read + 1 + n) dest read 0 (omega arith) ∙ ap (λ (k : ℕ). drop k dest) at)
+
+-- the codes of the blocks in front of `read` are zeros, and the others stand copied
+pub record FlatCopied (piece old dest : List ℕ) (read code : ℕ) : Type 0 where
+  pub decoded : Decoded piece old dest read read
+  pub copied : CopiedTo piece dest read (length piece) read
+  pub at-read : code ≡ get_or piece read 0
+
+copied-ones-by : (n : ℕ) (piece old dest : List ℕ) (read : ℕ) → FlatCopied piece old dest read 1 → take n (drop read dest) ≡ replicate n 1 → read + n < length piece → length piece ≤ length dest + 1
+    → FlatCopied piece old (zeroed n read dest) (read + n) 1
+unfolding zeroed
+copied-ones-by zero piece old dest read f ones lt room = let at : read ≡ read + 0 = omega arith in subst (λ (k : ℕ). FlatCopied piece old dest k 1) at f
+copied-ones-by (suc n) piece old dest read f ones lt room =
+    let l = length-set dest read 0 in
+    let left : drop read dest ≡ get_or dest read 0 ∷ drop (read + 1) dest = drop_more dest read 0 (omega arith) in
+    let all : get_or dest read 0 ∷ take n (drop (read + 1) dest) ≡ 1 ∷ replicate n 1 = ap (take (suc n)) (sym left) ∙ ones in
+    let first : get_or dest read 0 ≡ 1 = cc in
+    let others : take n (drop (read + 1) dest) ≡ replicate n 1 = cc in
+    let place : read + (1 - 1) ≡ read = omega arith in
+    let short : ◌≢◌ {A = ℕ} 1 255 = λ e. omega (arith, e) in
+    let o = output-le piece (omega arith) in
+    let d = code-decoded piece old dest read read 1 f.decoded f.at-read (omega arith) (omega arith) (length piece) f.copied (omega arith) short (omega arith) in
+    let k = code-copied piece old dest read read 1 f.decoded f.at-read (omega arith) (omega arith) (length piece) f.copied (omega arith) short in
+    let one : FlatCopied piece old (set dest read 0) (read + 1) 1 = record {
+      decoded = subst (λ (m : ℕ). Decoded piece old (set dest m 0) (read + 1) (read + 1)) place d;
+      copied = subst (λ (m : ℕ). CopiedTo piece (set dest m 0) (read + 1) (length piece) (read + 1)) place k;
+      at-read = sym first ∙ ap (λ (m : ℕ). get_or dest m 0) (sym place) ∙ next-code piece dest read 1 f.copied (omega arith) (omega arith);
+    } in
+    let at : read + 1 + n ≡ read + suc n = omega arith in
+    subst (λ (m : ℕ). FlatCopied piece old (zeroed n (read + 1) (set dest read 0)) m 1) at
+    (copied-ones-by n piece old (set dest read 0) (read + 1) one (ap (take n) (drop-set-lt (read + 1) dest read 0 (omega arith)) ∙ others) (omega arith) (omega arith))
+
+pub copied-ones : (piece old dest after : List ℕ) (read : ℕ) → FlatCopied piece old dest read 1 → take 32 (drop read dest) ≡ replicate 32 1 → read + 32 < length piece → length piece ≤ length dest + 1
+    → after ≡ take read dest ++ (replicate 32 0 ++ drop (read + 32) dest) → FlatCopied piece old after (read + 32) 1
+copied-ones piece old dest after read f ones lt room is =
+    subst (λ (x : List ℕ). FlatCopied piece old x (read + 32) 1) (zeroed-is 32 read dest (omega arith) ∙ sym is) (copied-ones-by 32 piece old dest read f ones lt room)
+
+-- a buffer that begins with what stands behind the first code
+pub joints-start : (dest : List ℕ) (first len : ℕ) → 0 < len → len ≤ length dest + 1
+    → FlatCopied (first ∷ take (len - 1) dest) dest dest 0 first
+joints-start dest first len some room =
+    let piece : List ℕ = first ∷ take (len - 1) dest in
+    let few = length-take-le (len - 1) dest (omega arith) in
+    let long : length piece - (0 + 1) ≡ len - 1 = omega arith in
+    record {
+      decoded = record { within = omega arith; left = omega arith; front = refl; rest = refl; last = refl };
+      copied = record { within = omega arith; bytes = ap (λ (k : ℕ). take k dest) long ∙ sym (ap (λ (k : ℕ). take k (take (len - 1) dest)) long ∙ take-take (len - 1) (len - 1) dest (omega arith)) };
+      at-read = refl;
+    }
+
+-- a copy of one
+pub flat-copy : (copy p : List ℕ) (n : ℕ) → copy ≡ p → IsFlat p → length p ≡ n → length (output copy) + 1 ≡ n
+flat-copy copy p n is flat long = ap (λ (x : List ℕ). length (output x) + 1) is ∙ flat.len ∙ long
+
+-- such a stretch has some bytes
+pub flat-some : (old : List ℕ) (from len : ℕ) → IsFlat (take len (drop from old)) → 0 < len
+flat-some old from zero flat = let some = flat.some in absurd (omega arith)
+flat-some old from (suc len) flat = omega arith
+
+-- what stands after the first code, moved to the front
+module _ (old after : List ℕ) (from len : ℕ) (inside : from + len ≤ length old) (some : 0 < len) (is : after ≡ take (len - 1) (drop (from + 1) old) ++ drop (len - 1) old) where
+  moved-long : length (take (len - 1) (drop (from + 1) old)) ≡ len - 1
+  moved-long = let d = length-drop (from + 1) old in length-take-le (len - 1) (drop (from + 1) old) (omega arith)
+
+  pub moved-piece : get_or old from 0 ∷ take (len - 1) after ≡ take len (drop from old)
+  moved-piece =
+      let l : len ≡ suc (len - 1) = omega arith in
+      ap (λ (x : List ℕ). get_or old from 0 ∷ x) (ap (take (len - 1)) is ∙ take_at (take (len - 1) (drop (from + 1) old)) (drop (len - 1) old) (len - 1) moved-long)
+      ∙ ap (take (suc (len - 1))) (sym (drop_more old from 0 (omega arith))) ∙ ap (λ (k : ℕ). take k (drop from old)) (sym l)
+
+  pub moved-rest : drop (len - 1) after ≡ drop (len - 1) old
+  moved-rest = ap (drop (len - 1)) is ∙ drop_at (take (len - 1) (drop (from + 1) old)) (drop (len - 1) old) (len - 1) moved-long
+
+-- the first byte and those after it
+pub piece-nonzero : (old : List ℕ) (len : ℕ) → 0 < len → len ≤ length old → get_or old 0 0 ≢ 0 → HasNoZero (take (len - 1) (drop 1 old)) → HasNoZero (take len old)
+piece-nonzero [] len some le first others = absurd (omega arith)
+piece-nonzero (x ∷ old) len some le first others =
+    let l : suc (len - 1) ≡ len = omega arith in
+    subst (λ (k : ℕ). HasNoZero (take k (x ∷ old))) l (All-cons (λ byte. byte ≢ 0) x (take (len - 1) old) first others)
+
+-- a slice from some place on, put back
+pub put-back : (read : ℕ) (buffer new : List ℕ) → put_mid read (length buffer - read) buffer new ≡ take read buffer ++ new
+put-back read buffer new = grind (arith, drop-drop, drop_all, append-nil)
+
+-- 32 zeros written there
+pub zeros-put : (read : ℕ) (buffer new : List ℕ) → new ≡ replicate 32 0 ++ drop 32 (take (length buffer - read) (drop read buffer))
+    → put_mid read (length buffer - read) buffer new ≡ take read buffer ++ (replicate 32 0 ++ drop (read + 32) buffer)
+zeros-put read buffer new is =
+    put-back read buffer new ∙ ap (λ (x : List ℕ). take read buffer ++ x)
+    (is ∙ ap (λ (x : List ℕ). replicate 32 0 ++ drop 32 x) (take_rest buffer read) ∙ ap (λ (x : List ℕ). replicate 32 0 ++ x) (drop-drop 32 read buffer))
+
+pub zeros-put-len : (read : ℕ) (buffer : List ℕ) → read + 32 ≤ length buffer → length (take read buffer ++ (replicate 32 0 ++ drop (read + 32) buffer)) ≡ length buffer
+zeros-put-len read buffer le = grind (arith, length-append, length-take-le, length-drop)
+
+-- such a frame is whole, so all its output is kept
+module _ (h : List ℕ) (flat : IsFlat h) where
+  whole : is_whole h ≡ true
+  whole = is_whole-of h flat.some ∙ eq-eqb (lacks (last_part h)) 0 flat.whole
+
+  pub flat-kept : kept_output h ≡ output h
+  unfolding kept_output
+  flat-kept = rw whole refl
+
+  pub flat-answer : (n : ℕ) → n + 1 ≡ length h → Ok n ≡ head_answer h
+  flat-answer n is = grind (arith, whole)

@@ -1,0 +1,64 @@
+-- What stands before the first zero of a list, and the first piece behind its leading zeros.
+use Rattle.std.proofs.Common.{◌≡◌, ◌≢◌, ℕ, zero, suc, ◌+◌, ◌<◌, ◌≤◌, Bool, cond, List, [], ◌∷◌, length, take, drop, get_or, Some, None, refl, sym, ap, ◌∙◌, subst, arith, length-drop, length-take-le, get_or-take}
+use Rattle.std.proofs.lemmas.Bool.{ne_eqb}
+use Rattle.std.proofs.lemmas.List.Elements.{All-head, All-tail, All-get_or}
+use Rattle.cobs.specs.Grammar.{HasNoZero}
+use Rattle.cobs.specs.Stream.{first_piece, head}
+use Rattle.cobs.specs.Decode.{leading_zeros}
+use Rattle.cobs.proofs.decoding.OutcomeLemmas.{head-zero, head-cons, first_piece_head}
+
+-- the front up to the first zero, or the whole list
+pub front_is_head : (t : List ℕ) (n : ℕ) → n ≤ length t → HasNoZero (take n t) → (n < length t → get_or t n 0 ≡ 0) → take n t ≡ head t
+unfolding head
+front_is_head [] zero within none stop = refl
+front_is_head [] (suc n) within none stop = refl
+front_is_head (byte ∷ t) zero within none stop = sym (ap (λ (x : ℕ). head (x ∷ t)) (stop (omega arith)) ∙ head-zero t)
+front_is_head (byte ∷ t) (suc n) within none stop =
+    ap (λ (x : List ℕ). byte ∷ x) (front_is_head t n (omega arith) (All-tail (λ b. b ≢ 0) byte (take n t) none) (λ more. stop (omega arith)))
+    ∙ sym (head-cons byte t (All-head (λ b. b ≢ 0) byte (take n t) none))
+
+leading_zeros-none : (b : ℕ) (t : List ℕ) → b ≢ 0 → leading_zeros (b ∷ t) ≡ 0
+leading_zeros-none b t some = ap (λ (v : Bool). cond v (1 + leading_zeros t) 0) (ne_eqb b 0 some)
+
+-- the first piece is what stands before the first zero behind the leading ones
+pub first_piece_behind : (t : List ℕ) → first_piece t ≡ first_piece (drop (leading_zeros t) t)
+unfolding first_piece
+first_piece_behind [] = refl
+first_piece_behind (zero ∷ t) =
+    let n : leading_zeros (zero ∷ t) ≡ suc (leading_zeros t) = omega arith in
+    first_piece_behind t ∙ ap (λ (k : ℕ). first_piece (drop k (zero ∷ t))) (sym n)
+first_piece_behind (suc b ∷ t) = ap (λ (k : ℕ). first_piece (drop k (suc b ∷ t))) (sym (leading_zeros-none (suc b) t (λ e. omega arith)))
+
+-- and behind them stands no zero
+pub leading_zeros-stop : (t : List ℕ) → leading_zeros t < length t → get_or (drop (leading_zeros t) t) 0 0 ≢ 0
+leading_zeros-stop [] some = absurd (omega arith)
+leading_zeros-stop (zero ∷ t) some = grind (arith, (leading_zeros-stop t (omega arith)))
+leading_zeros-stop (suc b ∷ t) some =
+    subst (λ (k : ℕ). get_or (drop k (suc b ∷ t)) 0 0 ≢ 0) (sym (leading_zeros-none (suc b) t (λ e. omega arith))) (λ e. omega arith)
+
+-- no piece is in an empty list
+pub first_piece_empty : (t : List ℕ) → length t ≡ 0 → first_piece t ≡ None
+unfolding first_piece
+first_piece_empty [] e = refl
+first_piece_empty (byte ∷ t) e = absurd (omega arith)
+
+-- a source behind its leading zeros, and where the first zero stands there
+module _ (source rest : List ℕ) (len : ℕ) (rest-is : rest ≡ drop (leading_zeros source) source) (within : len ≤ length rest) (nonzero : HasNoZero (take len rest))
+    (stop : len < length rest → get_or rest len 0 ≡ 0) where
+  same : first_piece source ≡ first_piece rest
+  same = first_piece_behind source ∙ ap first_piece (sym rest-is)
+
+  pub first_piece_none : len ≡ 0 → first_piece source ≡ None
+  unfolding first_piece
+  first_piece_none is = same ∙ empty rest refl
+    where
+      empty : (xs : List ℕ) → rest ≡ xs → first_piece xs ≡ None
+      empty [] e = refl
+      empty (x ∷ xs) e =
+          let l = ap length e in
+          let d = ap length rest-is in
+          let dl = length-drop (leading_zeros source) source in
+          absurd (leading_zeros-stop source (omega arith) (sym (ap (λ (ys : List ℕ). get_or ys 0 0) rest-is) ∙ ap (λ (k : ℕ). get_or rest k 0) (sym is) ∙ stop (omega arith)))
+
+  pub first_piece_some : 0 < len → first_piece source ≡ Some (take len rest)
+  first_piece_some some = grind (arith, same, front_is_head, All-get_or, length-take-le, get_or-take, first_piece_head)

@@ -1,0 +1,100 @@
+-- A piece without its first part: what that says of its kept output and of whether it is whole.
+use Rattle.std.proofs.Common.{◌≡◌, ℕ, ◌+◌, ◌-◌, ◌<◌, ◌≤◌, Bool, true, false, cond, eqb, List, [], ◌∷◌, ◌++◌, length, take, drop, refl, sym, ap, ◌∙◌, arith, append_assoc, length-append, length-drop, append-nil, take_all}
+use Rattle.std.proofs.lemmas.Bool.{ne_eqb, eq-eqb}
+use Rattle.cobs.specs.Grammar.{bytes_of, joint, message_of, last_of}
+use Rattle.cobs.specs.Piece.{parts, lacks, output, last_part, is_whole, kept_output}
+use Rattle.cobs.proofs.decoding.PieceCuts.{joint_of, output-last, output-more, output-empty, last_part-more, last_part-last, is_whole-of}
+use Rattle.cobs.proofs.decoding.WindowSteps.{take-past}
+
+-- what joins a part of this code to what follows
+abbrev pub joins : ℕ → List ℕ → List ℕ
+joins code [] = []
+joins code (byte ∷ bytes) = joint_of code
+
+-- whether what is left is whole, or nothing is left
+abbrev pub whole_left : List ℕ → Bool
+whole_left [] = true
+whole_left (byte ∷ bytes) = is_whole (byte ∷ bytes)
+
+kept-is : (p : List ℕ) → kept_output p ≡ cond (is_whole p) (output p) (take (length (output p) - length (bytes_of (last_part p))) (output p))
+unfolding kept_output
+kept-is p = refl
+
+pub kept_output-empty : kept_output [] ≡ []
+unfolding kept_output
+kept_output-empty = grind (arith, kept-is, output-empty, take_all)
+
+-- a last part is no longer than the output
+last_fits : (blocks : List (List ℕ)) → length (bytes_of (last_of blocks)) ≤ length (message_of blocks)
+last_fits [] = omega arith
+last_fits (part ∷ []) = omega arith
+last_fits (part ∷ next ∷ more) = omega (arith, last_fits (next ∷ more), length-append (bytes_of part ++ joint part) (message_of (next ∷ more)))
+
+last_part_fits : (p : List ℕ) → length (bytes_of (last_part p)) ≤ length (output p)
+unfolding last_part output
+last_part_fits p = last_fits (parts p)
+
+module _ (code : ℕ) (bytes : List ℕ) where
+  pub output-part : (rest : List ℕ) → code - 1 ≤ length bytes → drop (code - 1) bytes ≡ rest → output (code ∷ bytes) ≡ take (code - 1) bytes ++ (joins code rest ++ output rest)
+  output-part [] fits is =
+      let d = length-drop (code - 1) bytes in
+      let l = ap length is in
+      output-last code bytes (omega arith) ∙ sym (take_all (code - 1) bytes (omega arith)) ∙ sym (append-nil (take (code - 1) bytes))
+      ∙ ap (λ (x : List ℕ). take (code - 1) bytes ++ x) (sym (output-empty [] refl))
+  output-part (byte ∷ rest) fits is =
+      let d = length-drop (code - 1) bytes in
+      let l = ap length is in
+      output-more code bytes (omega arith) ∙ ap (λ (x : List ℕ). (take (code - 1) bytes ++ joint_of code) ++ output x) is
+      ∙ append_assoc (take (code - 1) bytes) (joint_of code) (output (byte ∷ rest))
+
+  pub whole-part : (rest : List ℕ) → 0 < code → code - 1 ≤ length bytes → drop (code - 1) bytes ≡ rest → is_whole (code ∷ bytes) ≡ whole_left rest
+  whole-part [] some fits is =
+      let d = length-drop (code - 1) bytes in
+      let l = ap length is in
+      is_whole-of (code ∷ bytes) (omega arith) ∙ ap (λ (x : List ℕ). eqb (lacks x) 0) (last_part-last code bytes (omega arith)) ∙ eq-eqb (lacks (code ∷ bytes)) 0 (omega arith)
+  whole-part (byte ∷ rest) some fits is =
+      let d = length-drop (code - 1) bytes in
+      let l = ap length is in
+      is_whole-of (code ∷ bytes) (omega arith) ∙ ap (λ (x : List ℕ). eqb (lacks x) 0) (last_part-more code bytes (omega arith) ∙ ap last_part is)
+      ∙ sym (is_whole-of (byte ∷ rest) (omega arith))
+
+  pub broken-part : length bytes < code - 1 → is_whole (code ∷ bytes) ≡ false
+  broken-part short =
+      is_whole-of (code ∷ bytes) (omega arith) ∙ ap (λ (x : List ℕ). eqb (lacks x) 0) (last_part-last code bytes (omega arith)) ∙ ne_eqb (lacks (code ∷ bytes)) 0 (λ e. omega arith)
+
+  pub kept-part : (rest : List ℕ) → 0 < code → code - 1 ≤ length bytes → drop (code - 1) bytes ≡ rest → kept_output (code ∷ bytes) ≡ take (code - 1) bytes ++ (joins code rest ++ kept_output rest)
+  kept-part [] some fits is =
+      kept-is (code ∷ bytes)
+      ∙ ap (λ (v : Bool). cond v (output (code ∷ bytes)) (take (length (output (code ∷ bytes)) - length (bytes_of (last_part (code ∷ bytes)))) (output (code ∷ bytes)))) (whole-part [] some fits is)
+      ∙ output-part [] fits is ∙ ap (λ (x : List ℕ). take (code - 1) bytes ++ x) (output-empty [] refl ∙ sym kept_output-empty)
+  kept-part (byte ∷ rest) some fits is =
+      let front : List ℕ = take (code - 1) bytes ++ joint_of code in
+      let next : List ℕ = byte ∷ rest in
+      let d = length-drop (code - 1) bytes in
+      let l = ap length is in
+      let o : output (code ∷ bytes) ≡ front ++ output next = output-part next fits is ∙ sym (append_assoc (take (code - 1) bytes) (joint_of code) (output next)) in
+      let ol = ap length o ∙ length-append front (output next) in
+      let last = ap (λ (x : List ℕ). length (bytes_of x)) (last_part-more code bytes (omega arith) ∙ ap last_part is) in
+      let lf = last_part_fits next in
+      let count : length (output (code ∷ bytes)) - length (bytes_of (last_part (code ∷ bytes))) ≡ length front + (length (output next) - length (bytes_of (last_part next))) = omega arith in
+      kept-is (code ∷ bytes)
+      ∙ ap (λ (v : Bool). cond v (output (code ∷ bytes)) (take (length (output (code ∷ bytes)) - length (bytes_of (last_part (code ∷ bytes)))) (output (code ∷ bytes)))) (whole-part next some fits is)
+      ∙ ap (λ (k : ℕ). cond (is_whole next) (output (code ∷ bytes)) (take k (output (code ∷ bytes)))) count
+      ∙ ap (λ (x : List ℕ). cond (is_whole next) x (take (length front + (length (output next) - length (bytes_of (last_part next)))) x)) o
+      ∙ ap (λ (x : List ℕ). cond (is_whole next) (front ++ output next) x) (take-past front (output next) (length front) (length (output next) - length (bytes_of (last_part next))) _ refl refl)
+      ∙ both (is_whole next) front (output next) (take (length (output next) - length (bytes_of (last_part next))) (output next))
+      ∙ ap (λ (x : List ℕ). front ++ x) (sym (kept-is next))
+      ∙ append_assoc (take (code - 1) bytes) (joint_of code) (kept_output next)
+    where
+      both : (v : Bool) (a b d : List ℕ) → cond v (a ++ b) (a ++ d) ≡ a ++ cond v b d
+      both true a b d = refl
+      both false a b d = refl
+
+  pub kept-broken : length bytes < code - 1 → kept_output (code ∷ bytes) ≡ []
+  kept-broken short =
+      let o = ap length (output-last code bytes (omega arith)) in
+      let last = ap (λ (x : List ℕ). length (bytes_of x)) (last_part-last code bytes (omega arith)) in
+      let none : length (output (code ∷ bytes)) - length (bytes_of (last_part (code ∷ bytes))) ≡ 0 = omega arith in
+      kept-is (code ∷ bytes)
+      ∙ ap (λ (v : Bool). cond v (output (code ∷ bytes)) (take (length (output (code ∷ bytes)) - length (bytes_of (last_part (code ∷ bytes)))) (output (code ∷ bytes)))) (broken-part short)
+      ∙ ap (λ (k : ℕ). take k (output (code ∷ bytes))) none

@@ -1,0 +1,130 @@
+-- What a whole piece comes to, and the first piece of a stream.
+use Rattle.std.proofs.Common.{◌≡◌, ◌≢◌, ℕ, zero, suc, ◌-◌, ◌<◌, ◌≤◌, ◌==◌, ◌↔◌, true, false, List, [], ◌∷◌, ◌++◌, length, filter, All, Some, if◌then◌else◌, refl, sym, ap, ◌∙◌, subst, arith, length-append, ⊎_elim}
+use Rattle.std.specs.List.{concat, onto_first}
+use Rattle.std.proofs.lemmas.Bool.{cases_Bool, cases_eq, ne_eqb, le-leb}
+use Rattle.std.proofs.lemmas.List.Elements.{All-head, All-tail, All-cons, All-nil, All-weaker}
+use Rattle.std.proofs.lemmas.List.Splits.{slice_split-cons_no, slice_split_none}
+use Rattle.cobs.specs.Grammar.{HasNoZero, is_full, joint, message_of, Reads}
+use Rattle.cobs.specs.Piece.{parts_after, parts, IsWhole, output}
+use Rattle.cobs.specs.Stream.{stretches, is_nonempty, first_of, first_found, first_piece, head, Message, outcome_of}
+use Rattle.cobs.proofs.format.FrameLemmas.{concat-parts, frame_some, frame_nonzero, frame_whole, frame_output, reads_output}
+
+-- A FRAME, BY ITS BYTES
+
+pub reads_only : (f m : List ℕ) → Reads f m → (f ≢ []) × HasNoZero f × IsWhole f × (m ≡ output f)
+reads_only f m r = (frame_some f m r, frame_nonzero f m r, frame_whole f m r, frame_output f m r)
+
+pub reads_iff : (f m : List ℕ) → All (λ b. b < 256) f → Reads f m ↔ ((f ≢ []) × HasNoZero f × IsWhole f × (m ≡ output f))
+reads_iff f m below = (
+  λ r. reads_only f m r,
+  λ (some, nonzero, whole, is). subst (λ (x : List ℕ). Reads f x) (sym is) (reads_output f some nonzero below whole),
+)
+
+-- THE OUTPUT IS NO LONGER THAN THE PIECE
+
+length-joint : (part : List ℕ) → length (joint part) ≤ 1
+length-joint part = elim (is_full part) as (λ t. length {A = ℕ} (if t then [] else 0 ∷ []) ≤ 1) [ true ↦ omega arith | false ↦ omega arith ]
+
+length-message_of : (blocks : List (List ℕ)) → All (λ block. block ≢ []) blocks → length (message_of blocks) ≤ length (concat blocks)
+length-message_of [] h = omega arith
+length-message_of ([] ∷ blocks) h = absurd (All-head (λ block. block ≢ []) [] blocks h refl)
+length-message_of ((c ∷ bytes) ∷ []) h = omega (arith, length-append bytes [])
+length-message_of ((c ∷ bytes) ∷ next ∷ blocks) h =
+    let again = length-message_of (next ∷ blocks) (All-tail (λ block. block ≢ []) (c ∷ bytes) (next ∷ blocks) h) in
+    omega (arith, length-joint (c ∷ bytes), length-append (bytes ++ joint (c ∷ bytes)) (message_of (next ∷ blocks)), length-append bytes (joint (c ∷ bytes)), length-append bytes (concat (next ∷ blocks)))
+
+parts_nonempty : (n : ℕ) (p : List ℕ) → All (λ part. part ≢ []) (parts_after n p)
+unfolding parts_after
+parts_nonempty n [] = All-nil (λ part. part ≢ [])
+parts_nonempty (suc n) (x ∷ p) = parts_nonempty n p
+parts_nonempty zero (c ∷ p) = All-cons (λ part. part ≢ []) _ _ (λ e. cc) (parts_nonempty (c - 1) p)
+
+pub output_within : (p : List ℕ) → length (output p) ≤ length p
+unfolding output parts
+output_within p = let l = length-message_of (parts p) (parts_nonempty 0 p) in omega (arith, ap length (concat-parts p))
+
+-- A PIECE COMES TO A MESSAGE WHERE IT READS AS IT
+
+outcome_whole : (p m : List ℕ) (n : ℕ) → length (output p) ≤ n → outcome_of p n ≡ Message m → IsWhole p × (m ≡ output p)
+unfolding outcome_of
+outcome_whole p m n fits e = grind (arith, le-leb, cases_Bool)
+
+pub outcome_of_whole : (p : List ℕ) (n : ℕ) → length (output p) ≤ n → IsWhole p → outcome_of p n ≡ Message (output p)
+unfolding outcome_of
+outcome_of_whole p n fits whole = grind (arith, le-leb)
+
+-- where there is room for its output
+pub outcome_reads : (f m : List ℕ) (n : ℕ) → f ≢ [] → HasNoZero f → All (λ b. b < 256) f → length (output f) ≤ n → (outcome_of f n ≡ Message m) ↔ Reads f m
+outcome_reads f m n some nonzero below fits = (
+  λ e. let w = outcome_whole f m n fits e in subst (λ (x : List ℕ). Reads f x) (sym w.1) (reads_output f some nonzero below w.0),
+  λ r. outcome_of_whole f n fits (frame_whole f m r) ∙ ap Message (sym (frame_output f m r)),
+)
+
+-- a frame comes to its message in each buffer that holds it
+pub outcome_frame : (f m : List ℕ) (n : ℕ) → Reads f m → length m ≤ n → outcome_of f n ≡ Message m
+outcome_frame f m n r fits =
+    let is = frame_output f m r in
+    outcome_of_whole f n (omega (arith, ap length is)) (frame_whole f m r) ∙ ap Message (sym is)
+
+-- WHAT STANDS BEFORE THE FIRST ZERO
+
+first_of-onto : (x : ℕ) (parts : List (List ℕ)) → first_of (onto_first x parts) ≡ x ∷ first_of parts
+first_of-onto x [] = refl
+first_of-onto x (part ∷ parts) = refl
+
+pub head-zero : (bytes : List ℕ) → head (0 ∷ bytes) ≡ []
+unfolding head
+head-zero bytes = refl
+
+pub head-cons : (byte : ℕ) (bytes : List ℕ) → byte ≢ 0 → head (byte ∷ bytes) ≡ byte ∷ head bytes
+unfolding head
+head-cons byte bytes some = ap first_of (slice_split-cons_no (λ b. b == 0) byte bytes (ne_eqb byte 0 some)) ∙ first_of-onto byte (stretches bytes)
+
+pub head_nonzero : (t : List ℕ) → HasNoZero (head t)
+unfolding head
+head_nonzero [] = All-nil (λ b. b ≢ 0)
+head_nonzero (byte ∷ bytes) = grind (arith, All-nil, head-cons, All-cons, cases_eq, (head_nonzero bytes))
+
+pub head_all : (P : ℕ → Type 0) (t : List ℕ) → All P t → All P (head t)
+unfolding head
+head_all P [] h = All-nil P
+head_all P (byte ∷ bytes) h = grind (arith, All-nil, head-cons, All-cons, All-head, All-tail, cases_eq, (head_all P bytes (All-tail P byte bytes h)))
+
+pub length-head : (t : List ℕ) → length (head t) ≤ length t
+unfolding head
+length-head [] = omega arith
+length-head (byte ∷ bytes) =
+    ⊎_elim
+    (λ (e : byte ≡ 0). subst (λ (x : ℕ). length (head (x ∷ bytes)) ≤ length (x ∷ bytes)) (sym e) (omega arith))
+    (λ (some : byte ≢ 0). let k = length-head bytes in omega (arith, ap length (head-cons byte bytes some)))
+    (cases_eq byte 0)
+
+-- the first piece of a stream that begins with one
+first_found-onto : (x : ℕ) (parts : List (List ℕ)) → first_found (filter is_nonempty (onto_first x parts)) ≡ Some (x ∷ first_of parts)
+first_found-onto x [] = refl
+first_found-onto x (part ∷ parts) = refl
+
+pub first_piece_head : (byte : ℕ) (bytes : List ℕ) → byte ≢ 0 → first_piece (byte ∷ bytes) ≡ Some (head (byte ∷ bytes))
+unfolding first_piece head
+first_piece_head byte bytes some = grind (arith, slice_split-cons_no, ne_eqb, first_found-onto, head-cons)
+
+-- in a buffer of the stream's length
+pub head_reads : (byte : ℕ) (bytes m : List ℕ) → byte ≢ 0 → All (λ b. b < 256) (byte ∷ bytes) → (outcome_of (head (byte ∷ bytes)) (length (byte ∷ bytes)) ≡ Message m) ↔ Reads (head (byte ∷ bytes)) m
+head_reads byte bytes m some below =
+    let h = output_within (head (byte ∷ bytes)) in
+    let l = length-head (byte ∷ bytes) in
+    outcome_reads (head (byte ∷ bytes)) m (length (byte ∷ bytes)) (λ e. (let k = sym (head-cons byte bytes some) ∙ e in cc)) (head_nonzero (byte ∷ bytes)) (head_all (λ b. b < 256) (byte ∷ bytes) below) (omega arith)
+
+-- A PIECE ALONE IS ITS OWN FIRST PIECE AND HEAD
+
+one_stretch : (p : List ℕ) → HasNoZero p → stretches p ≡ p ∷ []
+one_stretch p h = slice_split_none (λ b. b == 0) p (All-weaker (λ b. b ≢ 0) (λ b. (b == 0) ≡ false) (λ b some. ne_eqb b 0 some) p h)
+
+pub head_alone : (p : List ℕ) → HasNoZero p → head p ≡ p
+unfolding head
+head_alone p h = ap first_of (one_stretch p h)
+
+pub first_piece_alone : (p : List ℕ) → p ≢ [] → HasNoZero p → first_piece p ≡ Some p
+unfolding first_piece
+first_piece_alone [] some h = absurd (some refl)
+first_piece_alone (byte ∷ bytes) some h = ap (λ (ps : List (List ℕ)). first_found (filter is_nonempty ps)) (one_stretch (byte ∷ bytes) h)

@@ -1,0 +1,66 @@
+-- How `decode` answers: an outcome by the counts of a piece, and a source by its first piece.
+use Rattle.std.proofs.Common.{◌≡◌, ◌≢◌, ℕ, ◌<◌, ◌≤◌, Bool, List, [], ◌∷◌, length, Option, Some, None, Result, Ok, Err, if◌then◌else◌, refl, sym, ap, ◌∙◌, arith}
+use Rattle.std.proofs.lemmas.Bool.{le-leb, lt-leb, ne_eqb, eq-eqb}
+use Rattle.cobs.specs.Piece.{output, last_part, lacks, is_whole}
+use Rattle.cobs.specs.Stream.{Message, Broken, TooLong, outcome_of, first_piece, head}
+use Rattle.cobs.specs.Overwritten.{overwritten}
+use Rattle.cobs.specs.Fields.Report.{report_of}
+use Rattle.cobs.specs.Decode.{sized, reported, len_through_piece, decode_answer, answer_by_piece, head_answer, in_place_answer, in_place_report}
+use Rattle.cobs.specs.declared.dec.DecodeReport.{DecodeReport}
+use Rattle.cobs.specs.declared.dec.DecodeError.{DecodeError}
+use Rattle.cobs.specs.declared.dec.DecodeError.TheVariants.{InvalidFrame, TargetBufTooSmall}
+use Rattle.cobs.proofs.decoding.PieceCuts.{is_whole-of}
+
+module _ (p : List ℕ) (n : ℕ) where
+  -- a piece whose output is too long for the buffer
+  pub sized-too_long : n < length (output p) → Err TargetBufTooSmall ≡ sized (outcome_of p n)
+  unfolding outcome_of
+  sized-too_long long = ap (λ (t : Bool). sized (if t then (if is_whole p then Message (output p) else Broken (length (output p))) else TooLong)) (sym (lt-leb (length (output p)) n long))
+
+  -- a whole piece
+  pub sized-whole : 0 < length p → length (output p) ≤ n → lacks (last_part p) ≡ 0 → (k : ℕ) → k ≡ length (output p) → Ok k ≡ sized (outcome_of p n)
+  unfolding outcome_of
+  sized-whole some fits whole k is = grind (arith, is_whole-of, eq-eqb, le-leb)
+
+  -- a broken piece
+  pub sized-broken : 0 < length p → length (output p) ≤ n → lacks (last_part p) ≢ 0 → (k : ℕ) → k ≡ length (output p) → Err (InvalidFrame k) ≡ sized (outcome_of p n)
+  unfolding outcome_of
+  sized-broken some fits broken k is = grind (arith, is_whole-of, ne_eqb, le-leb)
+
+-- the answer to a source that isn't empty, by its first piece
+pub decode_answer-none : (source : List ℕ) (n : ℕ) → 0 < length source → first_piece source ≡ None → Err (InvalidFrame 0) ≡ decode_answer source n
+decode_answer-none [] n some is = absurd (omega arith)
+decode_answer-none (byte ∷ bytes) n some is = sym (ap (λ (p : Option (List ℕ)). answer_by_piece (byte ∷ bytes) p n) is)
+
+pub decode_answer-some : (source p : List ℕ) (n : ℕ) → 0 < length source → first_piece source ≡ Some p → reported (len_through_piece source p) (sized (outcome_of p n)) ≡ decode_answer source n
+decode_answer-some [] p n some is = absurd (omega arith)
+decode_answer-some (byte ∷ bytes) p n some is = sym (ap (λ (q : Option (List ℕ)). answer_by_piece (byte ∷ bytes) q n) is)
+
+-- and by what came of that piece
+module _ (source p : List ℕ) (n : ℕ) (some : 0 < length source) (is : first_piece source ≡ Some p) (result : Result ℕ DecodeError) (result-is : result ≡ sized (outcome_of p n)) where
+  pub decode_answer-refused : (error : DecodeError) → result ≡ Err error → Err error ≡ decode_answer source n
+  decode_answer-refused error e = ap (reported (len_through_piece source p)) (sym e ∙ result-is) ∙ decode_answer-some source p n some is
+
+  pub decode_answer-decoded : (size parsed : ℕ) → result ≡ Ok size → parsed ≡ len_through_piece source p → (report : DecodeReport) → report ≡ report_of parsed size → Ok report ≡ decode_answer source n
+  decode_answer-decoded size parsed e count report r =
+      ap Ok (r ∙ ap (λ (k : ℕ). report_of k size) count) ∙ ap (reported (len_through_piece source p)) (sym e ∙ result-is) ∙ decode_answer-some source p n some is
+
+-- a buffer over which nothing is written
+pub overwritten-none : (buffer : List ℕ) → overwritten buffer [] ≡ buffer
+overwritten-none [] = refl
+overwritten-none (byte ∷ buffer) = refl
+
+-- the answer to a buffer that isn't empty, by what stands before its first zero
+in_place_answer-head : (buffer : List ℕ) → 0 < length buffer → in_place_answer buffer ≡ head_answer (head buffer)
+in_place_answer-head [] some = absurd (omega arith)
+in_place_answer-head (byte ∷ bytes) some = refl
+
+module _ (buffer h : List ℕ) (some : 0 < length buffer) (is : h ≡ head buffer) (result : Result ℕ DecodeError) (result-is : result ≡ head_answer h) where
+  by_head : reported (length h) result ≡ in_place_report buffer
+  by_head = grind (arith, in_place_answer-head)
+
+  pub in_place_report-refused : (error : DecodeError) → result ≡ Err error → Err error ≡ in_place_report buffer
+  in_place_report-refused error e = ap (reported (length h)) (sym e) ∙ by_head
+
+  pub in_place_report-decoded : (size parsed : ℕ) → result ≡ Ok size → parsed ≡ length h → (report : DecodeReport) → report ≡ report_of parsed size → Ok report ≡ in_place_report buffer
+  in_place_report-decoded size parsed e count report r = ap Ok (r ∙ ap (λ (k : ℕ). report_of k size) count) ∙ ap (reported (length h)) (sym e) ∙ by_head

@@ -1,0 +1,184 @@
+-- A source for any sentinel, of which stretches of whole blocks are decoded by one copy each.
+use Rattle.std.proofs.Common.{Ok, Err, ◌≡◌, ◌≢◌, ℕ, ◌+◌, ◌-◌, ◌<◌, ◌≤◌, ◌⊎◌, inl, inr, true, false, List, [], ◌∷◌, ◌++◌, length, take, drop, get_or, set, bit_xor, refl, sym, ap, ◌∙◌, subst, arith, append_assoc, length-append, length-drop, length-take-le, take_at, drop_at, take_all, append-nil, take-append-drop}
+use Rattle.std.proofs.lemmas.List.{drop-drop, drop_all, take_rest, length-map, get_or-map, get_or-take, get_or-drop, take-map, drop-map, length-set, take_more_set, drop-set-lt}
+use Rattle.std.proofs.lemmas.List.Elements.{All-take, All-drop}
+use borrow.Rule.Slice.PartMut.{put_mid}
+use Rattle.cobs.specs.Overwritten.{overwritten}
+use Rattle.cobs.specs.Grammar.{HasNoZero, code_of, is_full}
+use Rattle.cobs.specs.Piece.{output, last_part, lacks, kept_output}
+use Rattle.cobs.specs.Internal.Decoded.{IsFlat}
+use Rattle.cobs.specs.Sentinel.{xor_each}
+use Rattle.cobs.proofs.decoding.InPlaceSteps.{drop-later, joins-full, joins-zero-due}
+use Rattle.cobs.proofs.decoding.KeptLemmas.{joins, whole_left}
+use Rattle.cobs.proofs.decoding.WholeLemmas.{in_front}
+use Rattle.cobs.proofs.decoding.WindowSteps.{take-past, drop-past}
+use Rattle.cobs.proofs.decoding.BlockSteps.{BlocksRead, overwritten-front}
+use Rattle.cobs.proofs.decoding.SourceSteps.{DecodedSource, answer-fits, answer-too_long, overwritten-full, source_answer-head}
+use Rattle.cobs.proofs.decoding.HeadLemmas.{front_is_head}
+use Rattle.cobs.proofs.decoding.FlatLemmas.{flat-kept, flat-answer}
+use Rattle.std.specs.Int.Bits.{xor_self}
+use Rattle.cobs.specs.Stream.{head}
+use Rattle.cobs.specs.declared.dec.DecodeError.TheVariants.{TargetBufTooSmall}
+use Rattle.cobs.specs.Decode.{head_answer_within, source_answer}
+
+-- what stands behind the first code, copied to the front
+module _ (source dest new : List ℕ) (s n : ℕ) (n-is : n ≡ length source) (some : 0 < n) (is : new ≡ take 0 dest ++ xor_each s (take (n - 1) (drop 1 source)) ++ drop (0 + length (take (n - 1) (drop 1 source))) dest) where
+  long : length (xor_each s (take (n - 1) (drop 1 source))) ≡ n - 1
+  long = grind (arith, length-drop, length-map, length-take-le)
+
+  pub copied-piece : bit_xor (get_or source 0 0) s ∷ take (length source - 1) new ≡ xor_each s source
+  copied-piece = grind (arith, take_at, long, take_all)
+
+  pub copied-rest : drop (length source - 1) new ≡ drop (length source - 1) dest
+  copied-rest = grind (arith, length-map, long, drop_at)
+
+-- a source whose front is whole blocks, up to its end or a sentinel
+module _ (source dest new : List ℕ) (s end : ℕ) (within : end ≤ length source) (nonzero : HasNoZero (xor_each s (take end source))) (stop : end < length source → get_or source end 0 ≡ s)
+    (flat : IsFlat (xor_each s (take end source))) (room : end ≤ length dest + 1) where
+  front-long : length (xor_each s (take end source)) ≡ end
+  front-long = length-map (take end source) (λ (b : ℕ). bit_xor b s) ∙ length-take-le end source within
+
+  front-head : xor_each s (take end source) ≡ head (xor_each s source)
+  front-head =
+      let same : take end (xor_each s source) ≡ xor_each s (take end source) = take-map (λ b. bit_xor b s) end source in
+      let l = length-map source (λ (b : ℕ). bit_xor b s) in
+      sym same
+      ∙ front_is_head (xor_each s source) end (omega arith) (subst HasNoZero (sym same) nonzero)
+      (λ more. get_or-map (λ b. bit_xor b s) source end 0 0 (omega arith) ∙ ap (λ (x : ℕ). bit_xor x s) (stop (omega arith)) ∙ xor_self s)
+
+  kept-len : length (kept_output (xor_each s (take end source))) + 1 ≡ end
+  kept-len = ap (λ (x : List ℕ). length x + 1) (flat-kept _ flat) ∙ flat.len ∙ front-long
+
+  pub front-answer : 0 < length source → (n : ℕ) → n ≡ length (take end source) - 1 → Ok n ≡ source_answer (xor_each s source) (length dest)
+  front-answer some n n-is =
+      let l = front-long in
+      let t = length-take-le end source within in
+      let k = kept-len in
+      let f = flat.some in
+      flat-answer _ flat n (omega arith) ∙ answer-fits (xor_each s (take end source)) (length dest) (omega arith)
+      ∙ ap (λ (h : List ℕ). head_answer_within h (length dest)) front-head ∙ source_answer-head source s (length dest) some
+
+  pub front-buffer : length new ≡ length dest → drop (end - 1) new ≡ drop (end - 1) dest → take (end - 1) new ≡ output (xor_each s (take end source)) → new ≡ overwritten dest (kept_output (head (xor_each s source)))
+  front-buffer same rest begins = grind (arith, overwritten-front, flat-kept, front-head)
+
+module _ (source : List ℕ) (s : ℕ) (old dest : List ℕ) (read written : ℕ) (d : DecodedSource (xor_each s source) old dest read written) where
+  abbrev h : List ℕ
+  h = xor_each s source
+
+  h-long : length h ≡ length source
+  h-long = length-map source (λ (b : ℕ). bit_xor b s)
+
+  done-long : length (take written dest) ≡ written
+  done-long = length-take-le written dest (let r = d.room in let l = d.len in omega arith)
+
+  -- what is left of the source
+  pub left-is : xor_each s (take (length source - read) (drop read source)) ≡ drop read h
+  left-is = ap (xor_each s) (take_rest source read) ∙ sym (drop-map (λ b. bit_xor b s) read source)
+
+  pub left-nonzero : HasNoZero h → HasNoZero (xor_each s (take (length source - read) (drop read source)))
+  left-nonzero none = subst HasNoZero (sym left-is) (All-drop (λ byte. byte ≢ 0) read h none)
+
+  -- where no block is whole
+  pub left-broken : read < length source → length (take (length source - read) (drop read source)) < get_or (xor_each s (take (length source - read) (drop read source))) 0 0
+      → length source - read < bit_xor (get_or source read 0) s
+  left-broken more broken =
+      let l = length-drop read source in
+      let n = length-take-le (length source - read) (drop read source) (omega arith) in
+      let at : read + 0 ≡ read = omega arith in
+      let code : get_or (xor_each s (take (length source - read) (drop read source))) 0 0 ≡ bit_xor (get_or source read 0) s =
+      get_or-map (λ b. bit_xor b s) (take (length source - read) (drop read source)) 0 0 0 (omega arith)
+      ∙ ap (λ (b : ℕ). bit_xor b s) (get_or-take (length source - read) (drop read source) 0 0 (omega arith) ∙ get_or-drop read source 0 0 ∙ ap (λ (k : ℕ). get_or source k 0) at) in
+      omega arith
+
+  -- a stretch of it
+  pub stretch-is : (len m : ℕ) → m ≡ read + len → xor_each s (take (m - read) (drop read source)) ≡ take len (drop read h)
+  stretch-is len m m-is = grind (arith, take-map, drop-map)
+
+  -- a stretch of whole blocks
+  module _ (none : HasNoZero h) (len : ℕ) (p : List ℕ) (some : 0 < len) (fits : read + len ≤ length source) (p-is : p ≡ take len (drop read h)) (whole : lacks (last_part p) ≡ 0) where
+    abbrev q : List ℕ
+    q = drop (read + len) h
+
+    p-long : length p ≡ len
+    p-long = ap length p-is ∙ length-take-le len (drop read h) (let l = h-long in let k = length-drop read h in omega arith)
+
+    pub stretch-nonzero : HasNoZero p
+    stretch-nonzero = subst HasNoZero (sym p-is) (All-take (λ byte. byte ≢ 0) len (drop read h) (All-drop (λ byte. byte ≢ 0) read h none))
+
+    split : drop read h ≡ p ++ q
+    split = sym (take-append-drop len (drop read h)) ∙ ap (λ (x : List ℕ). x ++ drop len (drop read h)) (sym p-is) ∙ ap (λ (x : List ℕ). p ++ x) (drop-drop len read h)
+
+    -- the buffer ends inside it, or in front of a zero that is due
+    module _ (new : List ℕ) (k n : ℕ) (k-is : k ≡ length dest - written) (same : length new ≡ n) (n-is : n ≡ length dest - written) (begins : new ≡ take n (output p))
+        (cut : n < length (output p) + length (joins (code_of (last_part p)) q)) (few : n ≤ length (output p)) where
+      tail : List ℕ
+      tail = drop n (output p) ++ (joins (code_of (last_part p)) q ++ kept_output q)
+
+      full-is : put_mid written k dest new ≡ take written dest ++ new
+      full-is = grind (arith, drop-drop, drop_all, append-nil)
+
+      full-long : length (put_mid written k dest new) ≡ length old
+      full-long = let e = done-long in let l = d.len in let r = d.room in ap length full-is ∙ length-append (take written dest) new ∙ omega arith
+
+      kept-full : kept_output h ≡ put_mid written k dest new ++ tail
+      unfolding tail
+      kept-full =
+          d.blocks.kepts ∙ ap (λ (x : List ℕ). take written dest ++ x) (ap kept_output split ∙ (in_front p q (let l = p-long in omega arith) stretch-nonzero whole).kepts)
+          ∙ ap (λ (x : List ℕ). take written dest ++ (x ++ (joins (code_of (last_part p)) q ++ kept_output q))) (sym (take-append-drop n (output p)) ∙ ap (λ (x : List ℕ). x ++ drop n (output p)) (sym begins))
+          ∙ ap (λ (x : List ℕ). take written dest ++ x) (append_assoc new (drop n (output p)) (joins (code_of (last_part p)) q ++ kept_output q))
+          ∙ sym (append_assoc (take written dest) new (drop n (output p) ++ (joins (code_of (last_part p)) q ++ kept_output q)))
+          ∙ ap (λ (x : List ℕ). x ++ (drop n (output p) ++ (joins (code_of (last_part p)) q ++ kept_output q))) (sym full-is)
+
+      pub full-buffer : put_mid written k dest new ≡ overwritten old (kept_output h)
+      full-buffer = overwritten-full old (put_mid written k dest new) (kept_output h) tail full-long kept-full
+
+      pub full-count : Err TargetBufTooSmall ≡ head_answer_within h (length old)
+      unfolding tail
+      full-count = grind (arith, kept-full, length-append, put_mid, tail, joins, q, length-drop, full-long, answer-too_long, h)
+
+    -- decoded to the front of what is left of the buffer
+    module _ (new : List ℕ) (w k : ℕ) (k-is : k ≡ length dest - written) (same : length new ≡ length dest - written) (count : w ≡ length (output p)) (room : w ≤ length dest - written) (begins : take w new ≡ output p)
+        (rest-is : drop w new ≡ drop w (drop written dest)) where
+      after-is : put_mid written k dest new ≡ take written dest ++ new
+      after-is = grind (arith, drop-drop, drop_all, append-nil)
+
+      after-front : take (written + w) (put_mid written k dest new) ≡ take written dest ++ output p
+      after-front = ap (take (written + w)) after-is ∙ take-past (take written dest) new written w (written + w) done-long refl ∙ ap (λ (x : List ℕ). take written dest ++ x) begins
+
+      after-rest : drop (written + w) (put_mid written k dest new) ≡ drop (written + w) old
+      after-rest = grind (arith, after-is, drop-past, done-long, drop-drop, drop-later)
+
+      pub after-len : length (put_mid written k dest new) ≡ length old
+      after-len = grind (arith, done-long, after-is, length-append)
+
+      blocks-after : (done joint : List ℕ) → joint ≡ joins (code_of (last_part p)) q → done ≡ (take written dest ++ output p) ++ joint → BlocksRead h done (read + len)
+      blocks-after done joint joint-is done-is = grind (arith, in_front, q, p-long, stretch-nonzero, joins, append_assoc, h-long, split, whole_left)
+
+      -- no zero is due
+      pub stretch-last : (length source ≤ read + len) ⊎ (is_full (last_part p) ≡ true) → DecodedSource h old (put_mid written k dest new) (read + len) (written + w)
+      stretch-last none-due =
+          let due : [] ≡ joins (code_of (last_part p)) q = elim none-due [
+            | inl last ↦ sym (ap (joins (code_of (last_part p))) (drop_all (read + len) h (let l = h-long in omega arith)))
+            | inr full ↦ joins-full (code_of (last_part p)) q full
+          ] in
+          record {
+            room = (let r = d.room in let l = d.len in omega arith);
+            len = after-len;
+            rest = after-rest;
+            blocks = blocks-after _ [] due (after-front ∙ sym (append-nil (take written dest ++ output p)));
+          }
+
+      -- a zero is due
+      pub stretch-zero : read + len < length source → written + w < length dest → is_full (last_part p) ≡ false → DecodedSource h old (set (put_mid written k dest new) (written + w) 0) (read + len) (written + w + 1)
+      stretch-zero before-end space other =
+          let l = after-len in
+          let r = d.room in
+          let e = d.len in
+          record {
+            room = omega arith;
+            len = length-set (put_mid written k dest new) (written + w) 0 ∙ after-len;
+            rest = drop-set-lt (written + w + 1) (put_mid written k dest new) (written + w) 0 (omega arith)
+                ∙ drop-later (written + w) (written + w + 1) (put_mid written k dest new) old (omega arith) after-rest;
+            blocks = blocks-after _ (0 ∷ []) (joins-zero-due (code_of (last_part p)) q other (let j = length-drop (read + len) h in let n = h-long in omega arith))
+                (take_more_set (put_mid written k dest new) (written + w) 0 (omega arith) ∙ ap (λ (x : List ℕ). x ++ 0 ∷ []) after-front);
+          }

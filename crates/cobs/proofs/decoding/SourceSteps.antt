@@ -1,0 +1,116 @@
+-- A source for any sentinel that is decoded into a buffer of its own, so far.
+use Rattle.std.proofs.Common.{◌≡◌, ◌≢◌, ℕ, ◌-◌, ◌<◌, ◌≤◌, Bool, cond, All, List, [], ◌∷◌, ◌++◌, length, take, drop, get_or, bit_xor, Err, Ok, refl, sym, ap, ◌∙◌, subst, arith, length-append, length-take-le, take_at, append-nil}
+use Rattle.std.specs.Int.Bits.{xor_self}
+use Rattle.std.proofs.lemmas.Bool.{le-leb, lt-leb}
+use Rattle.std.proofs.lemmas.List.{drop_all, get_or-map, length-map, take-map}
+use Rattle.std.proofs.lemmas.List.Elements.{All-map, All-weaker}
+use Rattle.cobs.specs.Overwritten.{overwritten}
+use Rattle.cobs.specs.Grammar.{HasNoZero}
+use Rattle.cobs.specs.Piece.{kept_output}
+use Rattle.cobs.specs.Sentinel.{xor_each}
+use Rattle.cobs.specs.Stream.{head}
+use Rattle.cobs.specs.Decode.{head_answer, head_answer_within, source_answer}
+use Rattle.cobs.specs.declared.dec.DecodeError.TheVariants.{InvalidFrame, TargetBufTooSmall}
+use Rattle.cobs.proofs.format.SentinelLemmas.{xor_twice}
+use Rattle.cobs.proofs.decoding.HeadLemmas.{front_is_head}
+use Rattle.cobs.proofs.decoding.KeptLemmas.{kept_output-empty}
+use Rattle.cobs.proofs.decoding.OutcomeSteps.{overwritten-none}
+use Rattle.cobs.proofs.decoding.BlockSteps.{BlocksRead, blocks-started, all-kept, all-answer, broken-kept, broken-answer, overwritten-front}
+
+-- ANSWERS BY THE KEPT OUTPUT
+
+module _ (h : List ℕ) (n : ℕ) where
+  -- where it fits
+  pub answer-fits : length (kept_output h) ≤ n → head_answer h ≡ head_answer_within h n
+  answer-fits fits = sym (ap (λ (t : Bool). cond t (head_answer h) (Err TargetBufTooSmall)) (le-leb (length (kept_output h)) n fits))
+
+  -- where it is too long
+  pub answer-too_long : n < length (kept_output h) → Err TargetBufTooSmall ≡ head_answer_within h n
+  answer-too_long long = sym (ap (λ (t : Bool). cond t (head_answer h) (Err TargetBufTooSmall)) (lt-leb (length (kept_output h)) n long))
+
+-- a buffer that is the front of what was to be written
+pub overwritten-full : (old new bytes more : List ℕ) → length new ≡ length old → bytes ≡ new ++ more → new ≡ overwritten old bytes
+overwritten-full old new bytes more same is = grind (arith, length-append, drop_all, append-nil, take_at)
+
+-- THE SOURCE BEFORE ITS FIRST SENTINEL
+
+module _ (source : List ℕ) (end s : ℕ) (within : end ≤ length source) (before : All (λ byte. byte ≢ s) (take end source)) (stop : end < length source → get_or source end 0 ≡ s) where
+  pub xor_no_zero : HasNoZero (xor_each s (take end source))
+  xor_no_zero =
+      All-map (λ b. b ≢ 0) (λ b. bit_xor b s) (take end source)
+      (All-weaker (λ b. b ≢ s) (λ b. bit_xor b s ≢ 0) (λ b other e. other (sym (xor_twice b s) ∙ ap (λ (x : ℕ). bit_xor x s) e)) (take end source) before)
+
+  pub xor_head : xor_each s (take end source) ≡ head (xor_each s source)
+  xor_head =
+      let same : take end (xor_each s source) ≡ xor_each s (take end source) = take-map (λ b. bit_xor b s) end source in
+      let l = length-map source (λ (b : ℕ). bit_xor b s) in
+      sym same
+      ∙ front_is_head (xor_each s source) end (omega arith) (subst HasNoZero (sym same) xor_no_zero)
+      (λ more. get_or-map (λ b. bit_xor b s) source end 0 0 (omega arith) ∙ ap (λ (x : ℕ). bit_xor x s) (stop (omega arith)) ∙ xor_self s)
+
+-- the answer to a source that isn't empty, by what stands before its first sentinel
+pub source_answer-head : (source : List ℕ) (s n : ℕ) → 0 < length source → head_answer_within (head (xor_each s source)) n ≡ source_answer (xor_each s source) n
+source_answer-head [] s n some = absurd (omega arith)
+source_answer-head (byte ∷ source) s n some = refl
+
+-- an empty source leaves the buffer as it is
+pub nothing_kept : (source dest : List ℕ) (s : ℕ) → length source ≡ 0 → dest ≡ overwritten dest (kept_output (head (xor_each s source)))
+unfolding head
+nothing_kept [] dest s e = sym (ap (overwritten dest) kept_output-empty ∙ overwritten-none dest)
+nothing_kept (byte ∷ source) dest s e = absurd (omega arith)
+
+-- THE BLOCKS OF A SOURCE WITHOUT A SENTINEL
+
+-- the blocks in the first `read` bytes of h are decoded to the front of the buffer, and behind it is as it was
+pub record DecodedSource (h old dest : List ℕ) (read written : ℕ) : Type 0 where
+  pub room : written ≤ length old
+  pub len : length dest ≡ length old
+  pub rest : drop written dest ≡ drop written old
+  pub blocks : BlocksRead h (take written dest) read
+
+pub source-started : (h dest : List ℕ) → DecodedSource h dest dest 0 0
+source-started h dest = record { room = omega arith; len = refl; rest = refl; blocks = blocks-started h }
+
+module _ (source : List ℕ) (s : ℕ) (old dest : List ℕ) (read written : ℕ) (d : DecodedSource (xor_each s source) old dest read written) where
+  abbrev h : List ℕ
+  h = xor_each s source
+
+  long : length h ≡ length source
+  long = length-map source (λ (b : ℕ). bit_xor b s)
+
+  done-long : length (take written dest) ≡ written
+  done-long = length-take-le written dest (let r = d.room in let l = d.len in omega arith)
+
+  module _ (past : length source ≤ read) where
+    kept : kept_output h ≡ take written dest
+    kept = all-kept h (take written dest) read d.blocks (let l = long in omega arith)
+
+    pub all-buffer : dest ≡ overwritten old (kept_output h)
+    all-buffer = overwritten-front old dest (kept_output h) written d.len d.room d.rest kept
+
+    pub all-count : Ok written ≡ head_answer_within h (length old)
+    all-count =
+        ap Ok (sym done-long) ∙ all-answer h (take written dest) read d.blocks (let l = long in omega arith)
+        ∙ answer-fits h (length old) (let k = ap length kept in let l = done-long in let r = d.room in omega arith)
+
+  module _ (code : ℕ) (more : read < length source) (is : code ≡ bit_xor (get_or source read 0) s) where
+    here : read < length h
+    here = let l = long in omega arith
+
+    code-is : code ≡ get_or h read 0
+    code-is = is ∙ sym (get_or-map (λ b. bit_xor b s) source read 0 0 more)
+
+    module _ (broken : length source - read < code) where
+      broken-long : length h - read < code
+      broken-long = let l = long in omega arith
+
+      kept-is : kept_output h ≡ take written dest
+      kept-is = broken-kept h (take written dest) read d.blocks code here code-is broken-long
+
+      pub broken-buffer : dest ≡ overwritten old (kept_output h)
+      broken-buffer = overwritten-front old dest (kept_output h) written d.len d.room d.rest kept-is
+
+      pub broken-count : Err (InvalidFrame written) ≡ head_answer_within h (length old)
+      broken-count =
+          ap (λ (n : ℕ). Err (InvalidFrame n)) (sym done-long) ∙ broken-answer h (take written dest) read d.blocks code here code-is broken-long
+          ∙ answer-fits h (length old) (let k = ap length kept-is in let l = done-long in let r = d.room in omega arith)

@@ -1,0 +1,17 @@
+use Rattle.std.proofs.Common.{length, arith}
+use Rattle.cobs.specs.Fields.Progress.{reached_at}
+use Rattle.cobs.proofs.encoding.OpenLenLemmas.{open_len-most}
+use Rattle.cobs.proofs.encoding.TakingLemmas.{after-some, place-index}
+use Rattle.cobs.proofs.enc.unbuffered.UnbufferedEncoder.take.Goals as goal
+
+pub overflow_sub-room : goal.overflow_sub-room
+overflow_sub-room c = place-index (length c.args.dest.now) (reached_at c.args.self.now.progress) c.requires
+
+pub append_short-behind-requires-clause-fits : goal.append_short-behind-requires-clause-fits
+append_short-behind-requires-clause-fits c =
+    let p = c.args.self.now.progress in
+    let few = c.is_short.ensures.open_block c.if-is_short.true in
+    let e = after-some (reached_at p) c.args.bytes.now (c.is_short.ensures.some c.if-is_short.true) in
+    let most = open_len-most p.code c.args.bytes.now c.requires.some in
+    let index = place-index (length c.args.dest.now) (reached_at p) c.requires in
+    omega arith

@@ -1,0 +1,102 @@
+-- Where the core of the encoder begins and ends, said of the slice of a `CobsEncoder`.
+use Rattle.std.proofs.Common.{◌≡◌, ◌≢◌, ℕ, ◌+◌, ◌-◌, ◌<◌, ◌≤◌, Bool, true, false, if◌then◌else◌, List, [], ◌∷◌, ◌++◌, length, drop, take, sym, ap, ◌∙◌, subst, arith, append-nil}
+use Rattle.std.proofs.Math.ListN.{set}
+use Rattle.std.specs.List.{concat}
+use Rattle.std.proofs.Math.Seq.{take-set-lt}
+use Rattle.std.proofs.lemmas.List.{length-set, length-take, drop_all, set-set, set_at, set_past}
+use Rattle.std.proofs.lemmas.List.Elements.{All-nil}
+use Rattle.cobs.specs.Grammar.{IsEncodedFrame, lone_block}
+use Rattle.cobs.specs.OpenBlock.{Reached, CobsEncoderAfter, next_of, end_of}
+use Rattle.cobs.specs.Length.{encoded_len, open_len}
+use Rattle.cobs.proofs.encoding.OpenedLemmas.{Opened}
+use Rattle.cobs.proofs.encoding.OpenLenLemmas.{Opened-len}
+use Rattle.cobs.proofs.encoding.ReachLemmas.{Reaches, Reaches-noted, Reaches-start, least, taken-full, ends-full, rest-full}
+use Rattle.cobs.proofs.encoding.AfterLemmas.{at, from_after, to_after, end-is, open-same}
+use Rattle.cobs.proofs.format.UniqueLemmas.{length-encoded}
+use Rattle.cobs.proofs.encoding.OpenLemmas.{concat-append}
+
+-- where the frame is to end
+abbrev pub end_with : Reached → List ℕ → ℕ
+end_with r source = r.block.index + open_len r.block.code source
+
+pub core-start : (source old : List ℕ) (r : Reached) (index next : ℕ) (full : Bool) → at index (next - index) full ≡ r → index < next → next < index + 255
+    → Reaches (CobsEncoderAfter old r) source old old (end_with r source) 0 index next (λ _. Unit {0})
+core-start source old r index next full is ordered short =
+    let sum : index + (next - index) ≡ next = omega arith in
+    Reaches-start (CobsEncoderAfter old r) source old (end_with r source) index next full ordered short (ap (λ (x : Reached). end_with x source) is)
+    (λ m h. subst (λ (n : ℕ). Opened old m index n full) sum (from_after old m (at index (next - index) full) (subst (λ (x : Reached). CobsEncoderAfter old x m) (sym is) h)))
+
+pub core-noted : (source old : List ℕ) (r : Reached) (index next : ℕ) (full : Bool) → at index (next - index) full ≡ r → index < next → next < index + 255
+    → Reaches (CobsEncoderAfter old r) source old old (end_with r source) 0 index next (λ noted. noted ≡ full)
+core-noted source old r index next full is ordered short =
+    let sum : index + (next - index) ≡ next = omega arith in
+    Reaches-noted (CobsEncoderAfter old r) source old (end_with r source) index next full ordered short (ap (λ (x : Reached). end_with x source) is)
+    (λ m h. subst (λ (n : ℕ). Opened old m index n full) sum (from_after old m (at index (next - index) full) (subst (λ (x : Reached). CobsEncoderAfter old x m) (sym is) h)))
+
+ends-within : (full : Bool) (index next n : ℕ) → index < next → next ≤ n → (if full then index else next) ≤ n
+ends-within true index next n ordered le = omega arith
+ends-within false index next n ordered le = le
+
+-- so far, of the bytes that were taken
+pub after-so-far : (H : List ℕ → Type 0) (source old slice : List ℕ) (end pos index next : ℕ) (full : Bool) → Reaches H source old slice end pos index next (λ noted. noted ≡ full) → next < index + 255 → end ≤ length slice
+    → (m : List ℕ) → H m → CobsEncoderAfter slice (at index (next - index) full) (m ++ take pos source)
+after-so-far H source old slice end pos index next full r short fits m h =
+    let t = r.taken m h in
+    let o = r.ordered in
+    let l = least source end pos index next r.ordered r.within r.room in
+    to_after slice (m ++ take pos source) index next (next - index) full (omega arith) (omega arith) (ends-within full index next (length slice) r.ordered (omega arith))
+    (subst (λ (b : Bool). Opened slice (m ++ take pos source) index next b) t.1 t.2)
+
+-- the last byte of the source filled its block
+module _ (H : List ℕ → Type 0) (source old slice : List ℕ) (end pos index : ℕ) (r : Reaches H source old slice end pos index (index + 255) (λ _. Unit {0})) (fits : end ≤ length slice) (last : pos ≡ length source) where
+  abbrev P : Bool → Type 0
+  P full = Unit {0}
+
+  pub full-after : (m : List ℕ) → H m → CobsEncoderAfter (set slice index 255) (at (index + 255) (index + 255 + 1 - (index + 255)) true) (m ++ source)
+  full-after m h =
+      let e = ends-full H source old slice end pos index (index + 255) P P last (omega arith) r in
+      let l = length-set slice index 255 in
+      to_after (set slice index 255) (m ++ source) (index + 255) (index + 255 + 1) (index + 255 + 1 - (index + 255)) true (omega arith) (omega arith) (omega arith)
+      (taken-full H source old slice end pos index (index + 255) P P last (omega arith) fits r m h)
+
+  pub full-end : end ≡ index + 255
+  full-end = ends-full H source old slice end pos index (index + 255) P P last (omega arith) r
+
+  pub full-rest : drop (index + 255) (set slice index 255) ≡ drop (index + 255) old
+  full-rest = let e = full-end in subst (λ (n : ℕ). drop n (set slice index 255) ≡ drop n old) e (rest-full H source old slice end pos index (index + 255) P P (omega arith) r)
+
+-- the code of the open block completes the frame; a frame that ends in a full block is complete
+module _ (slice m : List ℕ) (r : Reached) (h : CobsEncoderAfter slice r m) where
+  length-frame : length h.frame ≡ end_of r
+  length-frame = length-encoded h.frame m h.encoded ∙ end-is slice m r h
+
+  pub closed-full : r.full ≡ true → IsEncodedFrame (take r.block.index slice) m
+  closed-full full = grind (arith, length-frame, set_past)
+
+  pub closed-open : r.full ≡ false → 0 < r.block.code → IsEncodedFrame (take (next_of r) (set slice r.block.index r.block.code)) m
+  closed-open open' some =
+      let long : length h.frame ≡ next_of r = length-frame ∙ ap (λ (b : Bool). if b then r.block.index else next_of r) open' in
+      let o = h.follows.1 in
+      let same : h.follows.0 ≡ h.frame = open-same h.frame m h.follows.0 r.block.index r.block.code h.encoded o ∙ ap (λ (b : Bool). h.frame ++ (if b then lone_block else [])) (sym h.noted ∙ open') ∙ append-nil h.frame in
+      let whole : h.frame ≡ concat o.front ++ r.block.code ∷ o.bytes =
+      sym same ∙ o.frame.whole ∙ concat-append o.front ((r.block.code ∷ o.bytes) ∷ []) ∙ ap (λ (x : List ℕ). concat o.front ++ x) (append-nil (r.block.code ∷ o.bytes)) in
+      let own : set h.frame r.block.index r.block.code ≡ h.frame =
+      ap (λ (x : List ℕ). set x r.block.index r.block.code) whole ∙ set_at (concat o.front) r.block.code o.bytes r.block.code r.block.index (sym o.begins) ∙ sym whole in
+      let is : take (next_of r) (set slice r.block.index r.block.code) ≡ h.frame =
+      take-set-lt (next_of r) slice r.block.index r.block.code (omega arith) ∙ ap (λ (n : ℕ). set (take n slice) r.block.index r.block.code) (sym long)
+      ∙ ap (λ (x : List ℕ). set x r.block.index r.block.code) h.begins.1 ∙ set-set h.frame r.block.index h.begins.0 r.block.code ∙ own in
+      subst (λ (f : List ℕ). IsEncodedFrame f m) (sym is) h.encoded
+
+-- the encoder that has taken nothing
+pub after-nothing : (slice : List ℕ) → 0 < length slice → CobsEncoderAfter slice (at 0 1 false) []
+after-nothing slice some = grind (arith, to_after, All-nil, drop_all, length-take)
+
+-- how long the frame is once the encoder has taken some bytes more
+pub after-len : (slice m bytes : List ℕ) (r : Reached) → bytes ≢ [] → CobsEncoderAfter slice r m → encoded_len (m ++ bytes) ≡ r.block.index + open_len r.block.code bytes
+after-len slice m bytes r some h =
+    let code : next_of r - r.block.index ≡ r.block.code = omega arith in
+    Opened-len slice m r.block.index (next_of r) r.full bytes (λ full. some) (from_after slice m r h) ∙ ap (λ (n : ℕ). r.block.index + open_len n bytes) code
+
+-- the frame is within the slice
+pub after-fits : (slice m : List ℕ) (r : Reached) → CobsEncoderAfter slice r m → encoded_len m ≤ length slice
+after-fits slice m r h = let l = length-encoded h.frame m h.encoded in let f = h.fits in omega arith

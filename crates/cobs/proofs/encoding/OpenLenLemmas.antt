@@ -1,0 +1,95 @@
+-- How long the encoded frame gets, counted from its open block.
+use Rattle.std.proofs.Common.{◌≡◌, ◌≢◌, ℕ, ◌+◌, ◌-◌, ◌<◌, ◌≤◌, Bool, true, false, if◌then◌else◌, List, [], ◌∷◌, ◌++◌, length, map, replicate, All, refl, sym, ap, ◌∙◌, arith, append-nil, append_assoc, length-append, ⊎_elim}
+use Rattle.std.specs.List.{concat}
+use Rattle.std.proofs.lemmas.Bool.{cases_Bool, eqb-true, eqb-false}
+use Rattle.std.proofs.lemmas.List.{length-replicate}
+use Rattle.std.proofs.lemmas.List.Elements.{All-append, All-replicate, All-head, All-tail}
+use Rattle.cobs.specs.Grammar.{HasNoZero, IsBlock, is_full, bytes_of, joint, last_of, message_of}
+use Rattle.cobs.specs.Length.{encoded_len, max_encoded_len, open_len}
+use Rattle.cobs.proofs.format.LengthLemmas.{onto_parts, stretches-append, encoded_len-last, encoded_len-zero, encoded_len-full, encoded_len-le}
+use Rattle.cobs.proofs.encoding.OpenLemmas.{append-some}
+use Rattle.cobs.proofs.encoding.OpenedLemmas.{Opened, ends_in_full}
+
+pub same_lengths : (a b : List ℕ) (parts : List (List ℕ)) → length a ≡ length b → map length (onto_parts a parts) ≡ map length (onto_parts b parts)
+same_lengths a b [] e = ap (λ (n : ℕ). n ∷ []) e
+same_lengths a b (p ∷ ps) e = ap (λ (n : ℕ). n ∷ map length ps) (let l = length-append a p in let k = length-append b p in omega arith)
+
+-- which nonzero bytes begin a message is no matter
+pub same_start : (a b t : List ℕ) → HasNoZero a → HasNoZero b → length a ≡ length b → encoded_len (a ++ t) ≡ encoded_len (b ++ t)
+same_start a b t na nb e = grind (arith, stretches-append, same_lengths, length-append)
+
+pub length-ones : (n : ℕ) → length {A = ℕ} (replicate n 1) ≡ n
+length-ones n = length-replicate n 1
+
+pub ones : (n : ℕ) → HasNoZero (replicate n 1)
+ones n = All-replicate (λ byte. byte ≢ 0) n 1 (λ e. omega arith)
+
+-- nonzero bytes join the open block
+pub open_len-join : (code : ℕ) (more t : List ℕ) → 0 < code → HasNoZero more → open_len code (more ++ t) ≡ open_len (code + length more) t
+open_len-join code more t some nonzero =
+    let front : List ℕ = replicate (code - 1) 1 in
+    let l = length-append front more in
+    let k = length-ones (code - 1) in
+    let n = length-ones (code + length more - 1) in
+    ap encoded_len (sym (append_assoc front more t))
+    ∙ same_start (front ++ more) (replicate (code + length more - 1) 1) t (All-append (λ byte. byte ≢ 0) front more (ones (code - 1)) nonzero) (ones (code + length more - 1)) (omega arith)
+
+-- a zero closes it
+pub open_len-zero : (code : ℕ) (t : List ℕ) → 0 < code → code < 255 → open_len code (0 ∷ t) ≡ code + open_len 1 t
+open_len-zero code t some short = grind (arith, length-ones, encoded_len-zero, ones)
+
+-- it is full, and the message goes on
+pub open_len-full : (code : ℕ) (t : List ℕ) → code ≡ 255 → t ≢ [] → open_len code t ≡ 255 + open_len 1 t
+open_len-full code t is some = grind (arith, length-ones, encoded_len-full, ones)
+
+-- the message ends
+pub open_len-end : (code : ℕ) → 0 < code → code ≤ 255 → open_len code [] ≡ code
+open_len-end code some short = grind (arith, length-ones, append-nil, encoded_len-last, ones)
+
+-- each byte of the message takes one of the frame at the least
+pub open_len-least : (code : ℕ) (t : List ℕ) → 0 < code → code + length t ≤ open_len code t
+open_len-least code t some = let l = length-append (replicate (code - 1) 1) t in let k = length-ones (code - 1) in omega arith
+
+pub open_len-most : (code : ℕ) (t : List ℕ) → 0 < code → open_len code t ≤ max_encoded_len (code - 1 + length t)
+open_len-most code t some = grind (arith, length-append, length-ones, encoded_len-le)
+
+-- a block in front of what goes on
+len-block : (block m t : List ℕ) → IsBlock block → (is_full block ≡ true → m ++ t ≢ []) → encoded_len ((bytes_of block ++ joint block ++ m) ++ t) ≡ length block + encoded_len (m ++ t)
+len-block [] m t is some = absurd is
+len-block (code ∷ bytes) m t is some = grind (arith, eqb-true, append-nil, append_assoc, encoded_len-full, eqb-false, encoded_len-zero, cases_Bool)
+
+-- two blocks or more stand for some message
+some_message : (block : List ℕ) (blocks : List (List ℕ)) → IsBlock block → blocks ≢ [] → message_of (block ∷ blocks) ≢ []
+some_message [] blocks is more e = absurd is
+some_message (code ∷ bytes) [] is more e = more refl
+some_message (code ∷ bytes) (next ∷ blocks) is more e =
+    let n = is.0 in
+    let l = length-append (bytes ++ joint (code ∷ bytes)) (message_of (next ∷ blocks)) in
+    let k = length-append bytes (joint (code ∷ bytes)) in
+    let z = ap length e in
+    ⊎_elim
+    (λ (full : is_full (code ∷ bytes) ≡ true). let c : code ≡ 255 = eqb-true code 255 full in omega arith)
+    (λ (open' : is_full (code ∷ bytes) ≡ false). let j : length (joint (code ∷ bytes)) ≡ 1 = ap (λ (b : Bool). length {A = ℕ} (if b then [] else 0 ∷ [])) open' in omega arith)
+    (cases_Bool (is_full (code ∷ bytes)))
+
+-- the frame of what goes on behind some blocks
+pub len-blocks : (front : List (List ℕ)) (code : ℕ) (bytes t : List ℕ) → All IsBlock front → (is_full (last_of front) ≡ true → bytes ++ t ≢ [])
+    → encoded_len (message_of (front ++ (code ∷ bytes) ∷ []) ++ t) ≡ length (concat front) + encoded_len (bytes ++ t)
+len-blocks [] code bytes t each some = let n : ℕ = encoded_len (bytes ++ t) in omega arith
+len-blocks (b ∷ []) code bytes t each some = len-block b bytes t (All-head IsBlock b [] each) some ∙ ap (λ (x : List ℕ). length x + encoded_len (bytes ++ t)) (sym (append-nil b))
+len-blocks (b ∷ c ∷ front) code bytes t each some =
+    let more = All-tail IsBlock b (c ∷ front) each in
+    let m : List ℕ = message_of (c ∷ front ++ (code ∷ bytes) ∷ []) in
+    let is_some : m ≢ [] = some_message c (front ++ (code ∷ bytes) ∷ []) (All-head IsBlock c front more) (append-some front (code ∷ bytes) []) in
+    let not_none : m ++ t ≢ [] = λ e. is_some (nil_front m t e) in
+    let ih = len-blocks (c ∷ front) code bytes t more some in
+    let l = length-append b (concat (c ∷ front)) in
+    len-block b m t (All-head IsBlock b (c ∷ front) each) (λ full. not_none) ∙ omega arith
+  where
+    nil_front : (x y : List ℕ) → x ++ y ≡ [] → x ≡ []
+    nil_front [] y e = refl
+    nil_front (n ∷ x) y e = absurd (cc)
+
+-- the frame of a message that goes on
+pub Opened-len : (slice m : List ℕ) (index next : ℕ) (full : Bool) (t : List ℕ) → (full ≡ true → t ≢ []) → Opened slice m index next full → encoded_len (m ++ t) ≡ index + open_len (next - index) t
+Opened-len slice m index next full t more o = grind (arith, length-ones, len-blocks, same_start, ones, ends_in_full)

@@ -1,0 +1,141 @@
+-- A slice that holds the open frame of a message but for the open block's code, and how it goes on.
+use Rattle.std.proofs.Common.{◌≡◌, ◌≢◌, ℕ, ◌+◌, ◌<◌, ◌≤◌, ◌==◌, Bool, false, if◌then◌else◌, List, [], ◌∷◌, ◌++◌, length, drop, take, suc, All, refl, sym, ap, ◌∙◌, arith, append-nil, append_assoc, length-append, length-take-le, length-take}
+use Rattle.std.specs.List.{concat}
+use Rattle.std.proofs.Math.ListN.{set}
+use Rattle.std.proofs.Math.Seq.{take-set-lt, take-add}
+use Rattle.std.proofs.lemmas.List.{take-take, set_split, drop-append-le, drop_all}
+use Rattle.std.proofs.lemmas.List.Elements.{All-append, All-push, All-nil}
+use Rattle.cobs.specs.Grammar.{HasNoZero, IsBlock, is_full, joint, lone_block, last_of, message_of}
+use Rattle.cobs.proofs.encoding.OpenLemmas.{concat-append, message_of-append, message_of-more}
+
+-- whether the frame's last block is full, so that the open one is a placeholder alone
+abbrev pub ends_in_full : List (List ℕ) → List ℕ → Bool
+ends_in_full front [] = is_full (last_of front)
+ends_in_full front (byte ∷ bytes) = false
+
+-- The slice begins with the blocks of m before its open one, and has that block's bytes behind the place of its code.
+-- The next byte goes to `next`. Unlike a public state this one may have 254 bytes in its block, before the block is closed.
+pub record Opened (slice m : List ℕ) (index next : ℕ) (full : Bool) : Type 0 where
+  pub front : List (List ℕ)
+  pub bytes : List ℕ
+  pub each : All IsBlock front
+  pub nonzero : HasNoZero bytes
+  pub few : length bytes < 255
+  pub message : m ≡ message_of (front ++ ((length bytes + 1) ∷ bytes) ∷ [])
+  pub begins : index ≡ length (concat front)
+  pub place : next ≡ index + (length bytes + 1)
+  pub written : take index slice ≡ concat front
+  pub stands : drop (index + 1) (take next slice) ≡ bytes
+  pub noted : full ≡ ends_in_full front bytes
+
+-- what stands behind is no matter
+pub Opened-same : (slice slice' m : List ℕ) (index next : ℕ) (full : Bool) → take next slice' ≡ take next slice → Opened slice m index next full → Opened slice' m index next full
+Opened-same slice slice' m index next full same o =
+    let p = o.place in
+    let le : index ≤ next = omega arith in
+    record {
+      front = o.front;
+      bytes = o.bytes;
+      each = o.each;
+      nonzero = o.nonzero;
+      few = o.few;
+      message = o.message;
+      begins = o.begins;
+      place = o.place;
+      written = sym (take-take index next slice' le) ∙ ap (take index) same ∙ take-take index next slice le ∙ o.written;
+      stands = ap (drop (index + 1)) same ∙ o.stands;
+      noted = o.noted;
+    }
+
+-- where the open block has no bytes, the byte in its code's place is no matter either
+pub Opened-same-empty : (slice slice' m : List ℕ) (index next : ℕ) (full : Bool) → next ≡ index + 1 → take index slice' ≡ take index slice → Opened slice m index next full → Opened slice' m index next full
+Opened-same-empty slice slice' m index next full empty same o =
+    let p = o.place in
+    let l = length-take next slice' in
+    let none : o.bytes ≡ [] = no_bytes o.bytes (omega arith) in
+    record {
+      front = o.front;
+      bytes = o.bytes;
+      each = o.each;
+      nonzero = o.nonzero;
+      few = o.few;
+      message = o.message;
+      begins = o.begins;
+      place = o.place;
+      written = same ∙ o.written;
+      stands = drop_all (index + 1) (take next slice') (omega arith) ∙ sym none;
+      noted = o.noted;
+    }
+  where
+    no_bytes : (bytes : List ℕ) → length bytes ≡ 0 → bytes ≡ []
+    no_bytes [] e = refl
+    no_bytes (b ∷ bytes) e = absurd (omega arith)
+
+not_full-more : (front : List (List ℕ)) (bytes more : List ℕ) → more ≢ [] → ends_in_full front (bytes ++ more) ≡ false
+not_full-more front [] [] some = absurd (some refl)
+not_full-more front [] (x ∷ more) some = refl
+not_full-more front (b ∷ bytes) more some = refl
+
+-- nonzero bytes that stand there already join the open block
+pub Opened-join : (slice m more : List ℕ) (index next : ℕ) (full : Bool) → more ≢ [] → HasNoZero more → next + length more ≤ index + 255 → next + length more ≤ length slice
+    → take (length more) (drop next slice) ≡ more → Opened slice m index next full → Opened slice (m ++ more) index (next + length more) false
+Opened-join slice m more index next full some nonzero short fits here o =
+    let p = o.place in
+    let sum = length-append o.bytes more in
+    let all : take (next + length more) slice ≡ take next slice ++ more = take-add next (length more) slice ∙ ap (λ (x : List ℕ). take next slice ++ x) here in
+    let long : length (take next slice) ≡ next = length-take-le next slice (omega arith) in
+    record {
+      front = o.front;
+      bytes = o.bytes ++ more;
+      each = o.each;
+      nonzero = All-append (λ byte. byte ≢ 0) o.bytes more o.nonzero nonzero;
+      few = omega arith;
+      message = ap (λ (x : List ℕ). x ++ more) o.message ∙ sym (message_of-more o.front (length (o.bytes ++ more) + 1) (length o.bytes + 1) o.bytes more);
+      begins = o.begins;
+      place = omega arith;
+      written = o.written;
+      stands = ap (drop (index + 1)) all ∙ drop-append-le (index + 1) (take next slice) more (omega arith) ∙ ap (λ (x : List ℕ). x ++ more) o.stands;
+      noted = sym (not_full-more o.front o.bytes more some);
+    }
+
+pub last_of-push : (front : List (List ℕ)) (block : List ℕ) → last_of (front ++ block ∷ []) ≡ block
+last_of-push [] block = refl
+last_of-push (x ∷ []) block = refl
+last_of-push (x ∷ y ∷ front) block = last_of-push (y ∷ front) block
+
+concat-push : (front : List (List ℕ)) (block : List ℕ) → concat (front ++ block ∷ []) ≡ concat front ++ block
+concat-push front block = concat-append front (block ∷ []) ∙ ap (λ (x : List ℕ). concat front ++ x) (append-nil block)
+
+-- the code of the open block is written, and the block behind it is open
+pub Opened-close : (slice m : List ℕ) (index next code : ℕ) (full : Bool) → next ≤ length slice → index + code ≡ next → Opened slice m index next full
+    → Opened (set slice index code) (m ++ joint (code ∷ [])) next (next + 1) (code == 255)
+Opened-close slice m index next code full fits is o =
+    let p = o.place in
+    let few = o.few in
+    let code_is : code ≡ length o.bytes + 1 = omega arith in
+    let block : List ℕ = (length o.bytes + 1) ∷ o.bytes in
+    let same_code : is_full block ≡ (code == 255) = ap (λ (c : ℕ). c == 255) (sym code_is) in
+    let long : length (take next slice) ≡ next = length-take-le next slice fits in
+    let one : suc index ≡ index + 1 = omega arith in
+    let front' : List (List ℕ) = o.front ++ block ∷ [] in
+    let wrote : take next (set slice index code) ≡ concat o.front ++ block =
+    take-set-lt next slice index code (omega arith) ∙ set_split (take next slice) index code (omega arith)
+    ∙ ap (λ (x : List ℕ). x ++ code ∷ drop (suc index) (take next slice)) (take-take index next slice (omega arith) ∙ o.written)
+    ∙ ap (λ (n : ℕ). concat o.front ++ code ∷ drop n (take next slice)) one ∙ ap (λ (x : List ℕ). concat o.front ++ code ∷ x) o.stands
+    ∙ ap (λ (n : ℕ). concat o.front ++ n ∷ o.bytes) code_is in
+    let goes : m ++ joint (code ∷ []) ≡ message_of (front' ++ lone_block ∷ []) =
+    ap (λ (x : List ℕ). x ++ joint (code ∷ [])) o.message ∙ ap (λ (t : Bool). message_of front' ++ (if t then [] else 0 ∷ [])) (sym same_code)
+    ∙ sym (append-nil (message_of front' ++ joint block)) ∙ sym (message_of-append o.front block lone_block []) ∙ ap message_of (sym (append_assoc o.front (block ∷ []) (lone_block ∷ []))) in
+    record {
+      front = front';
+      bytes = [];
+      each = All-push IsBlock o.front block o.each (refl, omega arith, o.nonzero);
+      nonzero = All-nil (λ byte. byte ≢ 0);
+      few = omega arith;
+      message = goes;
+      begins = (let l = length-append (concat o.front) block in let b = o.begins in let e : length (concat front') ≡ length (concat o.front ++ block) = ap length (concat-push o.front block) in omega arith);
+      place = refl;
+      written = wrote ∙ sym (concat-push o.front block);
+      stands = drop_all (next + 1) (take (next + 1) (set slice index code)) (let l = length-take (next + 1) (set slice index code) in omega arith);
+      noted = sym same_code ∙ ap is_full (sym (last_of-push o.front block));
+    }

@@ -1,0 +1,252 @@
+-- How far the core of the encoder has come with some bytes: `pos` of them are taken into the open block and those before it.
+use Rattle.std.proofs.Common.{◌≡◌, ◌≢◌, ℕ, ◌+◌, ◌-◌, ◌<◌, ◌≤◌, ◌==◌, Bool, true, false, if◌then◌else◌, List, [], ◌∷◌, ◌++◌, length, drop, take, get_or, replicate, zero, suc, refl, sym, ap, ◌∙◌, subst, arith, inl, inr, ◌⊎◌, append-nil, append_assoc, length-take-le, length-drop, take-append-drop, take_all}
+use Rattle.std.proofs.Math.ListN.{set}
+use Rattle.std.proofs.Math.Seq.{take-add}
+use Rattle.std.proofs.lemmas.Bool.{cases_eq, ne_eqb}
+use Rattle.std.proofs.lemmas.List.{drop-drop, drop_more, drop_all, drop-set-lt, take_more, take_more_set, length-set}
+use Rattle.cobs.specs.Grammar.{HasNoZero, joint}
+use Rattle.cobs.specs.Length.{open_len}
+use Rattle.cobs.proofs.encoding.OpenedLemmas.{Opened, Opened-same, Opened-same-empty, Opened-join, Opened-close}
+use Rattle.cobs.proofs.encoding.OpenLenLemmas.{open_len-join, open_len-zero, open_len-full, open_len-end, open_len-least}
+
+-- Of a message that had H before, the slice has the first `pos` bytes of the source too; `end` is where its frame is to end
+-- once it has them all, and behind that the slice is as it was. Of the last block P says whether it is full.
+pub record Reaches (H : List ℕ → Type 0) (source old slice : List ℕ) (end pos index next : ℕ) (P : Bool → Type 0) : Type 0 where
+  pub ordered : index < next
+  pub short : next ≤ index + 255
+  pub within : pos ≤ length source
+  pub room : index + open_len (next - index) (drop pos source) ≡ end
+  pub rest : drop end slice ≡ drop end old
+  pub taken : (m : List ℕ) → H m → (full : Bool) × P full × Opened slice (m ++ take pos source) index next full
+
+-- what is left of the source needs as many bytes at the least
+pub least : (source : List ℕ) (end pos index next : ℕ) → index < next → pos ≤ length source → index + open_len (next - index) (drop pos source) ≡ end → next + (length source - pos) ≤ end
+least source end pos index next ordered within room = grind (arith, length-drop, open_len-least)
+
+module _ (H : List ℕ → Type 0) (source old slice : List ℕ) (end pos index next : ℕ) (P Q : Bool → Type 0) where
+  -- the same places, by other names
+  pub Reaches-at : (slice' : List ℕ) (pos' index' next' : ℕ) → slice ≡ slice' → pos ≡ pos' → index ≡ index' → next ≡ next' → ((full : Bool) → P full → Q full) → Reaches H source old slice end pos index next P → Reaches H source old slice' end pos' index' next' Q
+  Reaches-at slice' pos' index' next' s p i n weaker r =
+      subst (λ (x : List ℕ). Reaches H source old x end pos' index' next' Q) s
+      (subst (λ (x : ℕ). Reaches H source old slice end x index' next' Q) p
+      (subst (λ (x : ℕ). Reaches H source old slice end pos x next' Q) i
+      (subst (λ (x : ℕ). Reaches H source old slice end pos index x Q) n (record {
+        ordered = r.ordered;
+        short = r.short;
+        within = r.within;
+        room = r.room;
+        rest = r.rest;
+        taken = λ m h. let t = r.taken m h in (t.0, weaker t.0 t.1, t.2);
+      }))))
+
+  -- other bytes behind
+  pub Reaches-same : (slice' : List ℕ) → take next slice' ≡ take next slice → drop end slice' ≡ drop end slice → Reaches H source old slice end pos index next P → Reaches H source old slice' end pos index next P
+  Reaches-same slice' front back r = record {
+    ordered = r.ordered;
+    short = r.short;
+    within = r.within;
+    room = r.room;
+    rest = back ∙ r.rest;
+    taken = λ m h. let t = r.taken m h in (t.0, t.1, Opened-same slice slice' (m ++ take pos source) index next t.0 front t.2);
+  }
+
+  pub Reaches-same-empty : (slice' : List ℕ) → next ≡ index + 1 → take index slice' ≡ take index slice → drop end slice' ≡ drop end old → Reaches H source old slice end pos index next P → Reaches H source old slice' end pos index next P
+  Reaches-same-empty slice' empty front back r = record {
+    ordered = r.ordered;
+    short = r.short;
+    within = r.within;
+    room = r.room;
+    rest = back;
+    taken = λ m h. let t = r.taken m h in (t.0, t.1, Opened-same-empty slice slice' (m ++ take pos source) index next t.0 empty front t.2);
+  }
+
+  -- k bytes that stand in place join the open block
+  pub Reaches-join : (k : ℕ) → pos + k ≤ length source → next + k ≤ index + 255 → end ≤ length slice → HasNoZero (take k (drop pos source)) → take k (drop next slice) ≡ take k (drop pos source)
+      → ((full : Bool) → k ≡ 0 → P full → Q full) → (0 < k → Q false) → Reaches H source old slice end pos index next P → Reaches H source old slice end (pos + k) index (next + k) Q
+  Reaches-join k within short fits nonzero here none some r =
+      let l = length-drop pos source in
+      let o = r.ordered in
+      let bytes : List ℕ = take k (drop pos source) in
+      let long : length bytes ≡ k = length-take-le k (drop pos source) (omega arith) in
+      let least' = least source end pos index next r.ordered r.within r.room in
+      let split : drop pos source ≡ bytes ++ drop (pos + k) source = sym (take-append-drop k (drop pos source)) ∙ ap (λ (x : List ℕ). bytes ++ x) (drop-drop k pos source) in
+      let code : next - index + length bytes ≡ next + k - index = omega arith in
+      record {
+        ordered = omega arith;
+        short = short;
+        within = within;
+        room = ap (λ (n : ℕ). index + open_len n (drop (pos + k) source)) (sym code)
+            ∙ ap (λ (n : ℕ). index + n) (sym (open_len-join (next - index) bytes (drop (pos + k) source) (omega arith) nonzero))
+            ∙ ap (λ (x : List ℕ). index + open_len (next - index) x) (sym split) ∙ r.room;
+        rest = r.rest;
+        taken = λ m h. by_count (cases_eq k 0) m (r.taken m h);
+      }
+    where
+      by_count : (k ≡ 0) ⊎ (k ≢ 0) → (m : List ℕ) → (full : Bool) × P full × Opened slice (m ++ take pos source) index next full → (full : Bool) × Q full × Opened slice (m ++ take (pos + k) source) index (next + k) full
+      by_count (inl is) m t =
+          let p : pos ≡ pos + k = omega arith in
+          let n : next ≡ next + k = omega arith in
+          (t.0, none t.0 is t.1, subst (λ (x : ℕ). Opened slice (m ++ take x source) index (next + k) t.0) p (subst (λ (x : ℕ). Opened slice (m ++ take pos source) index x t.0) n t.2))
+      by_count (inr other) m t =
+          let bytes : List ℕ = take k (drop pos source) in
+          let d = length-drop pos source in
+          let long : length bytes ≡ k = length-take-le k (drop pos source) (omega arith) in
+          let least' = least source end pos index next r.ordered r.within r.room in
+          let not_none : bytes ≢ [] = λ e. let z = ap length e in other (omega arith) in
+          let joined = Opened-join slice (m ++ take pos source) bytes index next t.0 not_none nonzero (omega arith) (omega arith) (ap (λ (n : ℕ). take n (drop next slice)) long ∙ here) t.2 in
+          let goes : (m ++ take pos source) ++ bytes ≡ m ++ take (pos + k) source = append_assoc m (take pos source) bytes ∙ ap (λ (x : List ℕ). m ++ x) (sym (take-add pos k source)) in (
+            false,
+            some (omega arith),
+            subst (λ (x : List ℕ). Opened slice x index (next + k) false) goes (subst (λ (n : ℕ). Opened slice ((m ++ take pos source) ++ bytes) index (next + n) false) long joined),
+          )
+
+  -- a zero closes the open block
+  pub Reaches-zero : pos < length source → get_or source pos 0 ≡ 0 → next < index + 255 → end ≤ length slice → Q false → Reaches H source old slice end pos index next P
+      → Reaches H source old (set slice index (next - index)) end (pos + 1) next (next + 1) Q
+  Reaches-zero more is open' fits not_full r =
+      let o = r.ordered in
+      let least' = least source end pos index next r.ordered r.within r.room in
+      let left : drop pos source ≡ 0 ∷ drop (pos + 1) source = drop_more source pos 0 more ∙ ap (λ (n : ℕ). n ∷ drop (pos + 1) source) is in
+      let code : next - index ≢ 255 = λ e. omega arith in
+      let one : next + 1 - next ≡ 1 = omega arith in
+      let zero_len = open_len-zero (next - index) (drop (pos + 1) source) (omega arith) (omega arith) in
+      record {
+        ordered = omega arith;
+        short = omega arith;
+        within = omega arith;
+        room = ap (λ (n : ℕ). next + open_len n (drop (pos + 1) source)) one
+            ∙ (let s : next + open_len 1 (drop (pos + 1) source) ≡ index + open_len (next - index) (0 ∷ drop (pos + 1) source) = omega arith in s)
+            ∙ ap (λ (x : List ℕ). index + open_len (next - index) x) (sym left) ∙ r.room;
+        rest = drop-set-lt end slice index (next - index) (omega arith) ∙ r.rest;
+        taken = λ m h.
+            let t = r.taken m h in
+            let closed = Opened-close slice (m ++ take pos source) index next (next - index) t.0 (omega arith) (omega arith) t.2 in
+            let not_full' : (next - index == 255) ≡ false = ne_eqb (next - index) 255 code in
+            let goes : (m ++ take pos source) ++ joint ((next - index) ∷ []) ≡ m ++ take (pos + 1) source =
+            ap (λ (b : Bool). (m ++ take pos source) ++ (if b then [] else 0 ∷ [])) not_full' ∙ append_assoc m (take pos source) (0 ∷ [])
+            ∙ ap (λ (n : ℕ). m ++ (take pos source ++ n ∷ [])) (sym is) ∙ ap (λ (x : List ℕ). m ++ x) (sym (take_more source pos 0 more)) in (
+              false,
+              not_full,
+              subst (λ (x : List ℕ). Opened (set slice index (next - index)) x next (next + 1) false) goes
+                  (subst (λ (b : Bool). Opened (set slice index (next - index)) ((m ++ take pos source) ++ joint ((next - index) ∷ [])) next (next + 1) b) not_full' closed),
+            );
+      }
+
+  -- what a full block leaves, once its code is written
+  full-taken : next ≡ index + 255 → next ≤ length slice → Reaches H source old slice end pos index next P → (m : List ℕ) → H m → Opened (set slice index 255) (m ++ take pos source) next (next + 1) true
+  full-taken full fits r m h =
+      let t = r.taken m h in
+      let closed = Opened-close slice (m ++ take pos source) index next 255 t.0 fits (sym full) t.2 in
+      subst (λ (x : List ℕ). Opened (set slice index 255) x next (next + 1) true) (append-nil (m ++ take pos source)) closed
+
+  pub Reaches-full : pos < length source → next ≡ index + 255 → end ≤ length slice → Q true → Reaches H source old slice end pos index next P → Reaches H source old (set slice index 255) end pos next (next + 1) Q
+  Reaches-full more full fits is_full r =
+      let o = r.ordered in
+      let l = length-drop pos source in
+      let least' = least source end pos index next r.ordered r.within r.room in
+      let some : drop pos source ≢ [] = λ e. let z = ap length e in omega arith in
+      let full_len = open_len-full (next - index) (drop pos source) (omega arith) some in
+      let one : next + 1 - next ≡ 1 = omega arith in
+      record {
+        ordered = omega arith;
+        short = omega arith;
+        within = r.within;
+        room = ap (λ (n : ℕ). next + open_len n (drop pos source)) one ∙ (let e = r.room in let s : next + open_len 1 (drop pos source) ≡ end = omega arith in s);
+        rest = drop-set-lt end slice index 255 (omega arith) ∙ r.rest;
+        taken = λ m h. (true, is_full, full-taken full (omega arith) r m h);
+      }
+
+  -- the last byte fills the block
+  pub ends-full : pos ≡ length source → next ≡ index + 255 → Reaches H source old slice end pos index next P → end ≡ next
+  ends-full last full r =
+      let o = r.ordered in
+      let none : drop pos source ≡ [] = drop_all pos source (omega arith) in
+      let e = r.room in
+      let s = ap (open_len (next - index)) none ∙ open_len-end (next - index) (omega arith) (omega arith) in
+      omega arith
+
+  all-taken : pos ≡ length source → take pos source ≡ source
+  all-taken last = take_all pos source (omega arith)
+
+  pub taken-full : pos ≡ length source → next ≡ index + 255 → end ≤ length slice → Reaches H source old slice end pos index next P → (m : List ℕ) → H m → Opened (set slice index 255) (m ++ source) next (next + 1) true
+  taken-full last full fits r m h = grind (arith, ends-full, all-taken, full-taken)
+
+  pub rest-full : index < end → Reaches H source old slice end pos index next P → drop end (set slice index 255) ≡ drop end old
+  rest-full lt r = drop-set-lt end slice index 255 lt ∙ r.rest
+
+  -- the last byte leaves the block open
+  pub ends-open : pos ≡ length source → Reaches H source old slice end pos index next P → end ≡ next
+  ends-open last r =
+      let o = r.ordered in
+      let s = r.short in
+      let none : drop pos source ≡ [] = drop_all pos source (omega arith) in
+      let e = r.room in
+      let k = ap (open_len (next - index)) none ∙ open_len-end (next - index) (omega arith) (omega arith) in
+      omega arith
+
+  pub taken-open : pos ≡ length source → ((full : Bool) → P full → full ≡ false) → Reaches H source old slice end pos index next P → (m : List ℕ) → H m → Opened slice (m ++ source) index next false
+  taken-open last not_full r m h =
+      let t = r.taken m h in
+      subst (λ (x : List ℕ). Opened slice (m ++ x) index next false) (all-taken last) (subst (λ (b : Bool). Opened slice (m ++ take pos source) index next b) (not_full t.0 t.1) t.2)
+
+-- where the core begins, with what is noted of the last block
+pub Reaches-noted : (H : List ℕ → Type 0) (source old : List ℕ) (end index next : ℕ) (full : Bool) → index < next → next < index + 255 → index + open_len (next - index) source ≡ end
+    → ((m : List ℕ) → H m → Opened old m index next full) → Reaches H source old old end 0 index next (λ noted. noted ≡ full)
+Reaches-noted H source old end index next full ordered short room opens = record {
+  ordered = ordered;
+  short = omega arith;
+  within = omega arith;
+  room = room;
+  rest = refl;
+  taken = λ m h. (full, refl, subst (λ (x : List ℕ). Opened old x index next full) (sym (append-nil m)) (opens m h));
+}
+
+pub Reaches-start : (H : List ℕ → Type 0) (source old : List ℕ) (end index next : ℕ) (full : Bool) → index < next → next < index + 255 → index + open_len (next - index) source ≡ end
+    → ((m : List ℕ) → H m → Opened old m index next full) → Reaches H source old old end 0 index next (λ _. Unit {0})
+Reaches-start H source old end index next full ordered short room opens =
+    Reaches-at H source old old end 0 index next (λ noted. noted ≡ full) (λ _. Unit {0}) old 0 index next refl refl refl refl (λ noted is. tt) (Reaches-noted H source old end index next full ordered short room opens)
+
+-- what is known of the last block behind a step: it isn't full
+abbrev pub IsNotFull : Bool → Type 0
+IsNotFull full = full ≡ false
+
+-- n blocks of no bytes behind a closed one
+pub Reaches-ones : (n : ℕ) (H : List ℕ → Type 0) (source old slice after : List ℕ) (end pos index : ℕ) → pos + n ≤ length source → take n (drop pos source) ≡ replicate n 0 → end ≤ length slice
+    → take (index + n) after ≡ take index slice ++ replicate n 1 → drop end after ≡ drop end old → Reaches H source old slice end pos index (index + 1) IsNotFull
+    → Reaches H source old after end (pos + n) (index + n) (index + n + 1) IsNotFull
+Reaches-ones zero H source old slice after end pos index within zeros fits front back r =
+    let same : take index after ≡ take index slice = ap (λ (n : ℕ). take n after) (let e : index ≡ index + 0 = omega arith in e) ∙ front ∙ append-nil (take index slice) in
+    Reaches-at H source old after end pos index (index + 1) IsNotFull IsNotFull after (pos + 0) (index + 0) (index + 0 + 1) refl (omega arith) (omega arith) (omega arith) (λ full p. p)
+    (Reaches-same-empty H source old slice end pos index (index + 1) IsNotFull IsNotFull after refl same back r)
+Reaches-ones (suc n) H source old slice after end pos index within zeros fits front back r =
+    let o = least source end pos index (index + 1) r.ordered r.within r.room in
+    let l = length-set slice index 1 in
+    let more : pos < length source = omega arith in
+    let left : drop pos source ≡ get_or source pos 0 ∷ drop (pos + 1) source = drop_more source pos 0 more in
+    let all : get_or source pos 0 ∷ take n (drop (pos + 1) source) ≡ 0 ∷ replicate n 0 = ap (take (suc n)) (sym left) ∙ zeros in
+    let first : get_or source pos 0 ≡ 0 = cc in
+    let others : take n (drop (pos + 1) source) ≡ replicate n 0 = cc in
+    let one : index + 1 - index ≡ 1 = omega arith in
+    let z = Reaches-zero H source old slice end pos index (index + 1) IsNotFull IsNotFull more first (omega arith) fits refl r in
+    let z' = subst (λ (c : ℕ). Reaches H source old (set slice index c) end (pos + 1) (index + 1) (index + 1 + 1) IsNotFull) one z in
+    let sum : index + suc n ≡ index + 1 + n = omega arith in
+    let front' : take (index + 1 + n) after ≡ take (index + 1) (set slice index 1) ++ replicate n 1 =
+    ap (λ (k : ℕ). take k after) (sym sum) ∙ front ∙ sym (append_assoc (take index slice) (1 ∷ []) (replicate n 1))
+    ∙ ap (λ (x : List ℕ). x ++ replicate n 1) (sym (take_more_set slice index 1 (omega arith))) in
+    let ih = Reaches-ones n H source old (set slice index 1) after end (pos + 1) (index + 1) (omega arith) others (omega arith) front' back z' in
+    Reaches-at H source old after end (pos + 1 + n) (index + 1 + n) (index + 1 + n + 1) IsNotFull IsNotFull after (pos + suc n) (index + suc n) (index + suc n + 1) refl (omega arith) (omega arith) (omega arith) (λ full p. p) ih
+
+-- zeros close the open block, and the ones behind it
+pub Reaches-zeros : (n : ℕ) (H : List ℕ → Type 0) (source old slice after : List ℕ) (end pos index next : ℕ) (P : Bool → Type 0) → pos + suc n ≤ length source → take (suc n) (drop pos source) ≡ replicate (suc n) 0 → end ≤ length slice
+    → next < index + 255 → take (next + n) after ≡ take next (set slice index (next - index)) ++ replicate n 1 → drop end after ≡ drop end old → Reaches H source old slice end pos index next P
+    → Reaches H source old after end (pos + suc n) (next + n) (next + n + 1) IsNotFull
+Reaches-zeros n H source old slice after end pos index next P within zeros fits short front back r =
+    let l = length-set slice index (next - index) in
+    let more : pos < length source = omega arith in
+    let left : drop pos source ≡ get_or source pos 0 ∷ drop (pos + 1) source = drop_more source pos 0 more in
+    let all : get_or source pos 0 ∷ take n (drop (pos + 1) source) ≡ 0 ∷ replicate n 0 = ap (take (suc n)) (sym left) ∙ zeros in
+    let first : get_or source pos 0 ≡ 0 = cc in
+    let others : take n (drop (pos + 1) source) ≡ replicate n 0 = cc in
+    let z = Reaches-zero H source old slice end pos index next P IsNotFull more first short fits refl r in
+    let all = Reaches-ones n H source old (set slice index (next - index)) after end (pos + 1) next (omega arith) others (omega arith) front back z in
+    Reaches-at H source old after end (pos + 1 + n) (next + n) (next + n + 1) IsNotFull IsNotFull after (pos + suc n) (next + n) (next + n + 1) refl (omega arith) refl refl (λ full p. p) all

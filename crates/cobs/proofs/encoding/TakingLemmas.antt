@@ -1,0 +1,158 @@
+-- What the core of the encoder makes of a source, step by step.
+use Rattle.std.proofs.Common.{◌≡◌, ℕ, ◌+◌, ◌-◌, ◌<◌, ◌≤◌, Bool, true, false, if◌then◌else◌, List, [], ◌∷◌, ◌++◌, length, drop, take, refl, sym, ap, ◌∙◌, subst, inl, inr, arith, append-nil, append_assoc, length-drop, take_all}
+use Rattle.std.proofs.Math.ListN.{set}
+use Rattle.std.proofs.Math.Seq.{take-add}
+use Rattle.std.proofs.lemmas.Bool.{cases_Bool, cases_lt}
+use Rattle.std.proofs.lemmas.List.{drop-drop, drop_all, length-set}
+use Rattle.cobs.specs.Length.{encoded_len, open_len}
+use Rattle.cobs.specs.OpenBlock.{Reached, CobsEncoderAfter, IsPlaceIn, end_after, end_of, next_of}
+use Rattle.cobs.specs.Internal.Taking.{TakesFront}
+use Rattle.cobs.proofs.encoding.AfterLemmas.{at, end-is}
+use Rattle.cobs.proofs.encoding.CoreLemmas.{after-nothing, core-noted, core-start, after-len, after-so-far, full-after, full-end, full-rest}
+use Rattle.cobs.proofs.encoding.OpenLenLemmas.{open_len-least}
+use Rattle.cobs.proofs.encoding.ReachLemmas.{Reaches, ends-open, least}
+
+pub no-bytes : (bytes : List ℕ) → length bytes ≡ 0 → bytes ≡ []
+no-bytes [] e = refl
+no-bytes (b ∷ bytes) e = absurd (omega arith)
+
+pub after-some : (r : Reached) (bytes : List ℕ) → 0 < length bytes → end_after r bytes ≡ r.block.index + open_len r.block.code bytes
+after-some r [] some = absurd (omega arith)
+after-some r (b ∷ bytes) some = refl
+
+-- how long the frame is once the encoder has taken these bytes too
+pub after-end : (slice m bytes : List ℕ) (r : Reached) → CobsEncoderAfter slice r m → encoded_len (m ++ bytes) ≡ end_after r bytes
+after-end slice m [] r h = ap encoded_len (append-nil m) ∙ end-is slice m r h
+after-end slice m (b ∷ bytes) r h = after-len slice m (b ∷ bytes) r (λ e. cc) h
+
+pub start-end : (bytes : List ℕ) → end_after (at 0 1 false) bytes ≡ encoded_len bytes
+start-end [] = refl
+start-end (b ∷ bytes) = omega arith
+
+pub place-index : (n : ℕ) (r : Reached) → IsPlaceIn n r → r.block.index ≤ n
+place-index n r p = grind (arith, cases_Bool)
+
+-- a source has room for its bytes at the least
+pub next-least : (r : Reached) (source : List ℕ) → 0 < r.block.code → 0 < length source → next_of r + length source ≤ end_after r source
+next-least r source code some = let e = after-some r source some in let l = open_len-least r.block.code source code in omega arith
+
+module _ (source old : List ℕ) (r : Reached) (some : 0 < length source) (code : 0 < r.block.code) (short : r.block.code < 255) where
+  coded : next_of r - r.block.index ≡ r.block.code
+  coded = omega arith
+
+  place : at r.block.index (next_of r - r.block.index) r.full ≡ r
+  place = ap (λ (n : ℕ). at r.block.index n r.full) coded
+
+  pub reaches-start : Reaches (CobsEncoderAfter old r) source old old (end_after r source) 0 r.block.index (next_of r) (λ _. Unit {0})
+  reaches-start =
+      subst (λ (e : ℕ). Reaches (CobsEncoderAfter old r) source old old e 0 r.block.index (next_of r) (λ _. Unit {0})) (sym (after-some r source some))
+      (core-start source old r r.block.index (next_of r) r.full place (omega arith) (omega arith))
+
+  pub reaches-noted : Reaches (CobsEncoderAfter old r) source old old (end_after r source) 0 r.block.index (next_of r) (λ noted. noted ≡ r.full)
+  reaches-noted =
+      subst (λ (e : ℕ). Reaches (CobsEncoderAfter old r) source old old e 0 r.block.index (next_of r) (λ noted. noted ≡ r.full)) (sym (after-some r source some))
+      (core-noted source old r r.block.index (next_of r) r.full place (omega arith) (omega arith))
+
+-- where a step ends
+module _ (source old slice : List ℕ) (r r' : Reached) (fits : end_after r source ≤ length slice) where
+  -- so far, which is not the whole source behind a full block
+  pub front-taken : (pos index next : ℕ) (full : Bool) → Reaches (CobsEncoderAfter old r) source old slice (end_after r source) pos index next (λ noted. noted ≡ full) → next < index + 255
+      → (pos ≡ length source → full ≡ false) → r' ≡ at index (next - index) full → TakesFront old r source pos slice r'
+  front-taken pos index next full s short last is =
+      let o = s.ordered in
+      let w = s.within in
+      let l = least source (end_after r source) pos index next s.ordered s.within s.room in
+      let d = length-drop pos source in
+      let sum : index + (next - index) ≡ next = omega arith in
+      let ends : end_of (at index (next - index) full) ≤ next = elim (cases_Bool full) [
+        | inl e ↦ (let f : end_of (at index (next - index) full) ≡ index = ap (λ (b : Bool). if b then index else index + (next - index)) e in omega arith)
+        | inr e ↦ (let f : end_of (at index (next - index) full) ≡ index + (next - index) = ap (λ (b : Bool). if b then index else index + (next - index)) e in omega arith)
+      ] in
+      let end : end_after (at index (next - index) full) (drop pos source) ≡ end_after r source = elim (cases_lt pos (length source)) [
+        | inl more ↦ after-some (at index (next - index) full) (drop pos source) (omega arith) ∙ s.room
+        | inr none ↦ (let all : pos ≡ length source = omega arith in
+            let e = ends-open (CobsEncoderAfter old r) source old slice (end_after r source) pos index next (λ noted. noted ≡ full) (λ noted. noted ≡ full) all s in
+            ap (end_after (at index (next - index) full)) (drop_all pos source (omega arith)) ∙ ap (λ (b : Bool). if b then index else index + (next - index)) (last all) ∙ sum ∙ sym e)
+      ] in
+      subst (TakesFront old r source pos slice) (sym is) (record {
+        place = record { some = omega arith; not_full = omega arith; fits = omega arith };
+        after = λ m h. after-so-far (CobsEncoderAfter old r) source old slice (end_after r source) pos index next full s short fits m h;
+        end = end;
+        rest = s.rest;
+      })
+
+  -- the last byte filled its block
+  pub front-full : (pos index : ℕ) → Reaches (CobsEncoderAfter old r) source old slice (end_after r source) pos index (index + 255) (λ _. Unit {0}) → pos ≡ length source
+      → r' ≡ at (index + 255) 1 true → TakesFront old r source pos (set slice index 255) r'
+  front-full pos index s last is =
+      let l = length-set slice index 255 in
+      let e = full-end (CobsEncoderAfter old r) source old slice (end_after r source) pos index s fits last in
+      let one : index + 255 + 1 - (index + 255) ≡ 1 = omega arith in
+      subst (TakesFront old r source pos (set slice index 255)) (sym is) (record {
+        place = record { some = omega arith; not_full = omega arith; fits = omega arith };
+        after = λ m h. subst (λ (x : List ℕ). CobsEncoderAfter (set slice index 255) (at (index + 255) 1 true) (m ++ x)) (sym (take_all pos source (omega arith)))
+            (subst (λ (k : ℕ). CobsEncoderAfter (set slice index 255) (at (index + 255) k true) (m ++ source)) one (full-after (CobsEncoderAfter old r) source old slice (end_after r source) pos index s fits last m h));
+        end = ap (end_after (at (index + 255) 1 true)) (drop_all pos source (omega arith)) ∙ sym e;
+        rest = subst (λ (n : ℕ). drop n (set slice index 255) ≡ drop n old) (sym e) (full-rest (CobsEncoderAfter old r) source old slice (end_after r source) pos index s fits last);
+      })
+
+-- nothing is taken
+pub front-none : (slice : List ℕ) (r : Reached) (source : List ℕ) → IsPlaceIn (length slice) r → TakesFront slice r source 0 slice r
+front-none slice r source p = record { place = p; after = λ m h. subst (CobsEncoderAfter slice r) (sym (append-nil m)) h; end = refl; rest = refl }
+
+-- one step and then another, on what is left
+pub front-next : {slice slice' slice'' source left : List ℕ} {r r' r'' : Reached} (n k : ℕ) → left ≡ drop n source → TakesFront slice r source n slice' r' → TakesFront slice' r' left k slice'' r''
+    → TakesFront slice r source (n + k) slice'' r''
+front-next {slice} {slice'} {slice''} {source} {left} {r} {r'} {r''} n k is a b = record {
+  place = b.place;
+  after = λ m h. subst (CobsEncoderAfter slice'' r'') (append_assoc m (take n source) (take k left) ∙ ap (λ (x : List ℕ). m ++ (take n source ++ take k x)) is ∙ ap (λ (x : List ℕ). m ++ x) (sym (take-add n k source))) (b.after (m ++ take n source) (a.after m h));
+  end = ap (end_after r'') (sym (drop-drop k n source) ∙ ap (drop k) (sym is)) ∙ b.end ∙ left-end;
+  rest = subst (λ (e : ℕ). drop e slice'' ≡ drop e slice') left-end b.rest ∙ a.rest;
+}
+  where
+    left-end : end_after r' left ≡ end_after r source
+    left-end = ap (end_after r') is ∙ a.end
+
+-- what is left fits, and with it the whole source is taken
+pub left-end : {slice slice' source left : List ℕ} {r r' : Reached} (n : ℕ) → left ≡ drop n source → TakesFront slice r source n slice' r' → end_after r' left ≡ end_after r source
+left-end {r' = r'} n is t = ap (end_after r') is ∙ t.end
+
+pub front-last : {slice slice' slice'' source left : List ℕ} {r r' r'' : Reached} (n : ℕ) → n ≤ length source → left ≡ drop n source → TakesFront slice r source n slice' r' → TakesFront slice' r' left (length left) slice'' r''
+    → TakesFront slice r source (length source) slice'' r''
+front-last {slice} {slice'} {slice''} {source} {left} {r} {r'} {r''} n le is a b =
+    let l = ap length is ∙ length-drop n source in
+    let sum : n + length left ≡ length source = omega arith in
+    subst (λ (k : ℕ). TakesFront slice r source k slice'' r'') sum (front-next n (length left) is a b)
+
+-- the whole source is taken
+module _ {slice slice' source : List ℕ} {r r' : Reached} (t : TakesFront slice r source (length source) slice' r') where
+  pub all-after : (m : List ℕ) → CobsEncoderAfter slice r m → CobsEncoderAfter slice' r' (m ++ source)
+  all-after m h = subst (λ (x : List ℕ). CobsEncoderAfter slice' r' (m ++ x)) (take_all (length source) source (omega arith)) (t.after m h)
+
+  pub all-end : end_of r' ≡ end_after r source
+  all-end = sym (ap (end_after r') (drop_all (length source) source (omega arith))) ∙ t.end
+
+  pub all-rest : drop (end_of r') slice' ≡ drop (end_of r') slice
+  all-rest = subst (λ (n : ℕ). drop n slice' ≡ drop n slice) (sym all-end) t.rest
+
+-- an encoder that has taken nothing
+module _ (slice : List ℕ) (r : Reached) (is : r ≡ at 0 1 false) (some : 0 < length slice) where
+  pub start-code : r.block.code ≡ 1
+  start-code = ap (λ (x : Reached). x.block.code) is
+
+  pub start-fits : (source : List ℕ) → end_after r source ≡ encoded_len source
+  start-fits source = ap (λ (x : Reached). end_after x source) is ∙ start-end source
+
+  pub start-place : IsPlaceIn (length slice) r
+  start-place = subst (IsPlaceIn (length slice)) (sym is) (record { some = omega arith; not_full = omega arith; fits = omega arith })
+
+  pub start-taken : CobsEncoderAfter slice r []
+  start-taken = subst (λ (x : Reached). CobsEncoderAfter slice x []) (sym is) (after-nothing slice some)
+
+  -- takes its whole source
+  module _ {slice' source : List ℕ} {r' : Reached} (t : TakesFront slice r source (length source) slice' r') where
+    pub start-after : CobsEncoderAfter slice' r' source
+    start-after = all-after t [] start-taken
+
+    pub start-len : end_of r' ≡ encoded_len source
+    start-len = all-end t ∙ start-fits source

@@ -1,0 +1,191 @@
+-- A frame reads as its output: the parts of a frame are its blocks.
+use Rattle.std.proofs.Common.{◌≡◌, ◌≢◌, ℕ, zero, suc, ◌-◌, ◌<◌, ◌≤◌, List, [], ◌∷◌, ◌++◌, length, take, drop, All, refl, sym, ap, ◌∙◌, subst, arith, length-take, length-take-le, take-append-drop, take_at, ⊎_elim}
+use Rattle.std.specs.List.{concat}
+use Rattle.std.proofs.lemmas.Bool.{cases_lt, eq-eqb, eqb-true, true≢false}
+use Rattle.std.proofs.lemmas.List.Elements.{All-head, All-tail, All-cons, All-nil, All-append, All-take}
+use Rattle.cobs.specs.Grammar.{HasNoZero, IsBlock, bytes_of, joint, message_of, last_of, IsFrameOf, Reads}
+use Rattle.cobs.specs.Piece.{parts_after, parts, last_part, lacks, is_whole, IsWhole, output}
+
+-- THE PARTS OF A LIST
+
+-- n bytes are skipped
+parts_after-skip : (n : ℕ) (xs rest : List ℕ) → length xs ≡ n → parts_after n (xs ++ rest) ≡ parts_after 0 rest
+unfolding parts_after
+parts_after-skip zero [] rest h = refl
+parts_after-skip zero (x ∷ xs) rest h = absurd (omega arith)
+parts_after-skip (suc n) [] rest h = absurd (omega arith)
+parts_after-skip (suc n) (x ∷ xs) rest h = parts_after-skip n xs rest (omega arith)
+
+-- nothing is left behind all the bytes
+pub parts_after-past : (n : ℕ) (p : List ℕ) → length p ≤ n → parts_after n p ≡ []
+unfolding parts_after
+parts_after-past n [] h = refl
+parts_after-past zero (x ∷ p) h = absurd (omega arith)
+parts_after-past (suc n) (x ∷ p) h = parts_after-past n p (omega arith)
+
+-- and something behind fewer
+pub parts_after-some : (n : ℕ) (p : List ℕ) → n < length p → parts_after n p ≢ []
+unfolding parts_after
+parts_after-some n [] h = absurd (omega arith)
+parts_after-some zero (c ∷ p) h = λ e. cc
+parts_after-some (suc n) (x ∷ p) h = parts_after-some n p (omega arith)
+
+-- parts end to end are the list
+concat-parts_after : (n : ℕ) (p : List ℕ) → concat (parts_after n p) ≡ drop n p
+unfolding parts_after
+concat-parts_after zero [] = refl
+concat-parts_after (suc n) [] = refl
+concat-parts_after (suc n) (x ∷ p) = concat-parts_after n p
+concat-parts_after zero (c ∷ p) = ap (λ (x : List ℕ). c ∷ take (c - 1) p ++ x) (concat-parts_after (c - 1) p) ∙ ap (λ (x : List ℕ). c ∷ x) (take-append-drop (c - 1) p)
+
+pub concat-parts : (p : List ℕ) → concat (parts p) ≡ p
+unfolding parts
+concat-parts p = concat-parts_after 0 p
+
+pub parts-some : (p : List ℕ) → p ≢ [] → parts p ≢ []
+unfolding parts
+parts-some [] some = absurd (some refl)
+parts-some (c ∷ p) some = parts_after-some 0 (c ∷ p) (omega arith)
+
+pub last_of-cons : (xs : List ℕ) (more : List (List ℕ)) → more ≢ [] → last_of (xs ∷ more) ≡ last_of more
+last_of-cons xs [] some = absurd (some refl)
+last_of-cons xs (next ∷ more) some = refl
+
+pub last_of-push : (xs : List (List ℕ)) (x : List ℕ) → last_of (xs ++ x ∷ []) ≡ x
+last_of-push [] x = refl
+last_of-push (y ∷ []) x = refl
+last_of-push (y ∷ z ∷ xs) x = last_of-push (z ∷ xs) x
+
+-- THE PARTS OF BLOCKS ARE THE BLOCKS
+
+-- a block in front is the first part
+pub parts-block : (block rest : List ℕ) → IsBlock block → parts (block ++ rest) ≡ block ∷ parts rest
+unfolding parts parts_after
+parts-block [] rest h = absurd h
+parts-block (c ∷ bytes) rest h = grind (arith, take_at, parts_after-skip)
+
+pub parts-blocks : (blocks : List (List ℕ)) → All IsBlock blocks → parts (concat blocks) ≡ blocks
+unfolding parts parts_after
+parts-blocks [] h = refl
+parts-blocks (block ∷ blocks) h = grind (arith, parts-block, All-head, All-tail, (parts-blocks blocks (All-tail IsBlock block blocks h)))
+
+pub parts-frame : (f : List ℕ) (blocks : List (List ℕ)) → IsFrameOf f blocks → parts f ≡ blocks
+parts-frame f blocks frame = ap parts frame.whole ∙ parts-blocks blocks frame.each
+
+-- a block lacks nothing
+lacks-block : (block : List ℕ) → IsBlock block → lacks block ≡ 0
+lacks-block [] h = absurd h
+lacks-block (c ∷ bytes) h = let e = h.0 in omega arith
+
+lacks-last : (blocks : List (List ℕ)) → All IsBlock blocks → lacks (last_of blocks) ≡ 0
+lacks-last [] h = refl
+lacks-last (block ∷ []) h = lacks-block block (All-head IsBlock block [] h)
+lacks-last (block ∷ next ∷ blocks) h = lacks-last (next ∷ blocks) (All-tail IsBlock block (next ∷ blocks) h)
+
+-- WHOLE PIECES
+
+pub whole_from : (p : List ℕ) → p ≢ [] → lacks (last_part p) ≡ 0 → IsWhole p
+unfolding is_whole
+whole_from [] some h = absurd (some refl)
+whole_from (c ∷ p) some h = eq-eqb (lacks (last_part (c ∷ p))) 0 h
+
+pub lacks_nothing : (p : List ℕ) → IsWhole p → lacks (last_part p) ≡ 0
+unfolding is_whole
+lacks_nothing [] h = absurd (true≢false (sym h))
+lacks_nothing (c ∷ p) h = eqb-true (lacks (last_part (c ∷ p))) 0 h
+
+-- a part is a block where it lacks nothing
+block_from : (c : ℕ) (q : List ℕ) → HasNoZero (c ∷ q) → c < 256 → length (take (c - 1) q) ≡ c - 1 → IsBlock (c ∷ take (c - 1) q)
+block_from c q h below all =
+    let some : c ≢ 0 = All-head (λ b. b ≢ 0) c q h in
+    (omega arith, below, All-take (λ b. b ≢ 0) (c - 1) q (All-tail (λ b. b ≢ 0) c q h))
+
+-- parts of which the last lacks nothing are blocks
+blocks_behind : (n : ℕ) (p : List ℕ) → HasNoZero p → All (λ b. b < 256) p → lacks (last_of (parts_after n p)) ≡ 0 → All IsBlock (parts_after n p)
+unfolding parts_after
+blocks_behind n [] h below whole = All-nil IsBlock
+blocks_behind (suc n) (x ∷ p) h below whole = blocks_behind n p (All-tail (λ b. b ≢ 0) x p h) (All-tail (λ b. b < 256) x p below) whole
+blocks_behind zero (c ∷ p) h below whole =
+    let some : c ≢ 0 = All-head (λ b. b ≢ 0) c p h in
+    let fits : c < 256 = All-head (λ b. b < 256) c p below in
+    ⊎_elim
+    (λ (long : c - 1 < length p).
+    let same = last_of-cons (c ∷ take (c - 1) p) (parts_after (c - 1) p) (parts_after-some (c - 1) p long) in
+    All-cons IsBlock (c ∷ take (c - 1) p) (parts_after (c - 1) p)
+    (block_from c p h fits (length-take-le (c - 1) p (omega arith)))
+    (blocks_behind (c - 1) p (All-tail (λ b. b ≢ 0) c p h) (All-tail (λ b. b < 256) c p below) (ap lacks (sym same) ∙ whole)))
+    (λ (short : length p ≤ c - 1).
+    let none = parts_after-past (c - 1) p short in
+    let alone : lacks (c ∷ take (c - 1) p) ≡ 0 = sym (ap (λ (x : List (List ℕ)). lacks (last_of ((c ∷ take (c - 1) p) ∷ x))) none) ∙ whole in
+    subst (λ (x : List (List ℕ)). All IsBlock ((c ∷ take (c - 1) p) ∷ x)) (sym none)
+    (All-cons IsBlock (c ∷ take (c - 1) p) [] (block_from c p h fits (let l = length-take (c - 1) p in omega arith)) (All-nil IsBlock)))
+    (cases_lt (c - 1) (length p))
+
+pub blocks_of_whole : (p : List ℕ) → HasNoZero p → All (λ b. b < 256) p → IsWhole p → All IsBlock (parts p)
+unfolding parts last_part
+blocks_of_whole p h below whole = blocks_behind 0 p h below (lacks_nothing p whole)
+
+-- A FRAME READS AS ITS OUTPUT
+
+block_nonzero : (block : List ℕ) → IsBlock block → HasNoZero block
+block_nonzero [] h = absurd h
+block_nonzero (c ∷ bytes) h = All-cons (λ b. b ≢ 0) c bytes (λ e. let k = h.0 in omega arith) h.2
+
+concat_nonzero : (blocks : List (List ℕ)) → All IsBlock blocks → HasNoZero (concat blocks)
+concat_nonzero [] h = All-nil (λ b. b ≢ 0)
+concat_nonzero (block ∷ blocks) h =
+    All-append (λ b. b ≢ 0) block (concat blocks) (block_nonzero block (All-head IsBlock block blocks h)) (concat_nonzero blocks (All-tail IsBlock block blocks h))
+
+concat_some : (blocks : List (List ℕ)) → blocks ≢ [] → All IsBlock blocks → concat blocks ≢ []
+concat_some [] some h = absurd (some refl)
+concat_some ([] ∷ blocks) some h = absurd (All-head IsBlock [] blocks h)
+concat_some ((c ∷ bytes) ∷ blocks) some h = λ e. cc
+
+module _ (f m : List ℕ) (r : Reads f m) where
+  -- no frame is empty
+  pub frame_some : f ≢ []
+  frame_some e = concat_some r.blocks r.frame.some r.frame.each (sym r.frame.whole ∙ e)
+
+  -- no byte of a frame is zero
+  pub frame_nonzero : HasNoZero f
+  frame_nonzero = subst HasNoZero (sym r.frame.whole) (concat_nonzero r.blocks r.frame.each)
+
+  -- the last part of a frame lacks nothing
+  pub frame_whole : IsWhole f
+  unfolding last_part
+  frame_whole = whole_from f frame_some (ap (λ (bs : List (List ℕ)). lacks (last_of bs)) (parts-frame f r.blocks r.frame) ∙ lacks-last r.blocks r.frame.each)
+
+  -- it reads as its output
+  pub frame_output : m ≡ output f
+  unfolding output
+  frame_output = r.message ∙ ap message_of (sym (parts-frame f r.blocks r.frame))
+
+-- and a whole piece without a zero is a frame
+pub reads_output : (f : List ℕ) → f ≢ [] → HasNoZero f → All (λ b. b < 256) f → IsWhole f → Reads f (output f)
+unfolding output
+reads_output f some nonzero below whole = grind (arith, parts-some, blocks_of_whole, concat-parts)
+
+-- A FRAME OF BYTES
+
+-- two lists end to end, each by itself
+All-apart : (P : ℕ → Type 0) (xs ys : List ℕ) → All P (xs ++ ys) → All P xs × All P ys
+All-apart P [] ys h = (All-nil P, h)
+All-apart P (x ∷ xs) ys h =
+    let more = All-apart P xs ys (All-tail P x (xs ++ ys) h) in
+    (All-cons P x xs (All-head P x (xs ++ ys) h) more.0, more.1)
+
+block_bytes : (block : List ℕ) → IsBlock block → All (λ b. b < 256) (bytes_of block) → All (λ b. b < 256) block
+block_bytes [] h below = absurd h
+block_bytes (c ∷ bytes) h below = All-cons (λ b. b < 256) c bytes h.1 below
+
+blocks_bytes : (blocks : List (List ℕ)) → All IsBlock blocks → All (λ b. b < 256) (message_of blocks) → All (λ b. b < 256) (concat blocks)
+blocks_bytes [] h below = All-nil (λ b. b < 256)
+blocks_bytes (block ∷ []) h below = All-append (λ b. b < 256) block [] (block_bytes block (All-head IsBlock block [] h) below) (All-nil (λ b. b < 256))
+blocks_bytes (block ∷ next ∷ blocks) h below =
+    let apart = All-apart (λ b. b < 256) (bytes_of block ++ joint block) (message_of (next ∷ blocks)) below in
+    All-append (λ b. b < 256) block (concat (next ∷ blocks))
+    (block_bytes block (All-head IsBlock block (next ∷ blocks) h) (All-apart (λ b. b < 256) (bytes_of block) (joint block) apart.0).0)
+    (blocks_bytes (next ∷ blocks) (All-tail IsBlock block (next ∷ blocks) h) apart.1)
+
+pub frame_bytes : (f m : List ℕ) → Reads f m → All (λ b. b < 256) m → All (λ b. b < 256) f
+frame_bytes f m r below = grind (arith, blocks_bytes)

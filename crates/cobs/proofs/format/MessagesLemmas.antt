@@ -1,0 +1,95 @@
+-- The stream of some messages: a frame and a zero for each.
+use Rattle.std.proofs.Common.{◌≡◌, ◌≢◌, ℕ, ◌+◌, ◌<◌, ◌≤◌, List, [], ◌∷◌, ◌++◌, length, take, set, map, All, refl, sym, ap, ◌∙◌, subst, arith, append_assoc, length-append, length-take, get_or}
+use Rattle.std.specs.List.{AllZip, flat_map}
+use Rattle.std.proofs.lemmas.List.{take_more, take_more_set, map_push, take-map, flat_map_more, take-append-le}
+use Rattle.std.proofs.lemmas.List.Elements.{AllZip-push, All-nil, All-head, All-tail}
+use Rattle.std.proofs.lemmas.List.Sums.{sum_by-append, sum_by-take-le}
+use Rattle.std.proofs.Math.Seq.{take-append-add}
+use Rattle.std.specs.Global.{Vec}
+use borrow.Rule.Slice.PartMut.{put_mid, post_of}
+use Rattle.cobs.specs.Grammar.{Reads, IsEncodedFrame}
+use Rattle.cobs.specs.Length.{encoded_len, max_encoded_len}
+use Rattle.cobs.specs.Stream.{Outcome, Message, outcome_of, stream_outcomes, unended}
+use Rattle.cobs.specs.Messages.{AreFrames, messages_in, room_for_frames}
+use Rattle.cobs.proofs.format.FrameLemmas.{frame_some, frame_nonzero}
+use Rattle.cobs.proofs.format.LengthLemmas.{encoded_len-le}
+use Rattle.cobs.proofs.decoding.OutcomeLemmas.{outcome_frame}
+use Rattle.cobs.proofs.format.StreamLemmas.{stream_outcomes-append, stream_outcomes-piece, stream_outcomes-no_zero, unended-zero}
+
+-- ONE MORE MESSAGE
+
+-- one more message's frame and its zero
+pub AreFrames-push : (messages : List (List ℕ)) (bytes frame message : List ℕ) → AreFrames messages bytes → IsEncodedFrame frame message → AreFrames (messages ++ message ∷ []) (bytes ++ frame ++ 0 ∷ [])
+AreFrames-push messages bytes frame message h encoded = record {
+  frames = h.frames ++ frame ∷ [];
+  each = AllZip-push IsEncodedFrame h.frames messages frame message h.each encoded;
+  joined = append_assoc bytes frame (0 ∷ []) ∙ ap (λ (x : List ℕ). x ++ (frame ++ 0 ∷ [])) h.joined ∙ flat_map_more (λ f. f ++ 0 ∷ []) [] h.frames frame;
+}
+
+-- the messages up to one of the vectors, and that one
+pub messages_in-more : (vectors : List (Vec ℕ)) (i : ℕ) (d : Vec ℕ) → i < length vectors → messages_in (take (i + 1) vectors) ≡ messages_in (take i vectors) ++ (get_or vectors i d).items ∷ []
+messages_in-more vectors i d within = ap messages_in (take_more vectors i d within) ∙ map_push (λ v. v.items) (take i vectors) (get_or vectors i d)
+
+-- THE ROOM
+
+-- one more message takes the room of its longest frame and a zero
+pub room-more : (vectors : List (Vec ℕ)) (i : ℕ) (d : Vec ℕ) → i < length vectors
+    → room_for_frames (messages_in (take (i + 1) vectors)) ≡ room_for_frames (messages_in (take i vectors)) + (max_encoded_len (length (get_or vectors i d).items) + 1)
+room-more vectors i d within =
+    ap room_for_frames (messages_in-more vectors i d within)
+    ∙ sum_by-append (λ m. max_encoded_len (length m) + 1) (messages_in (take i vectors)) ((get_or vectors i d).items ∷ []) ∙ ap (λ (k : ℕ). room_for_frames (messages_in (take i vectors)) + k) (omega arith)
+
+-- some of the messages take no more room than all of them
+pub room-some : (vectors : List (Vec ℕ)) (i : ℕ) → room_for_frames (messages_in (take i vectors)) ≤ room_for_frames (messages_in vectors)
+room-some vectors i = subst (λ (x : List (List ℕ)). room_for_frames x ≤ room_for_frames (messages_in vectors)) (take-map (λ v. v.items) i vectors) (sum_by-take-le (λ m. max_encoded_len (length m) + 1) (messages_in vectors) i)
+
+-- the room behind one of the vectors
+pub room-step : (vectors : List (Vec ℕ)) (i : ℕ) (vector : Vec ℕ) → i < length vectors → vector ≡ get_or vectors i vector
+    → room_for_frames (messages_in (take (i + 1) vectors)) ≡ room_for_frames (messages_in (take i vectors)) + (max_encoded_len (length vector.items) + 1)
+room-step vectors i vector within is =
+    room-more vectors i vector within ∙ ap (λ (v : Vec ℕ). room_for_frames (messages_in (take i vectors)) + (max_encoded_len (length v.items) + 1)) (sym is)
+
+-- behind the frames of some of the messages there is room for the next one's frame and a zero
+pub room-left : (vectors : List (Vec ℕ)) (i : ℕ) (vector : Vec ℕ) (end n : ℕ) → i < length vectors → vector ≡ get_or vectors i vector → end ≤ room_for_frames (messages_in (take i vectors)) → room_for_frames (messages_in vectors) ≤ n
+    → end + (encoded_len vector.items + 1) ≤ n
+room-left vectors i vector end n within is before room = grind (arith, room-step, room-some, encoded_len-le)
+
+-- WHERE THE FRAMES ARE WRITTEN
+
+-- a frame that was written at the front of what follows the first bytes of a list, and a zero behind it
+pub written : (dest new behind : List ℕ) (end len : ℕ) → end ≤ length dest → len < length new
+    → take (end + (len + 1)) (set (take end dest ++ (new ++ behind)) (end + len) 0) ≡ take end dest ++ take len new ++ 0 ∷ []
+written dest new behind end len within room =
+    let long : length (take end dest) ≡ end = length-take end dest ∙ omega arith in
+    ap (λ (k : ℕ). take k (set (take end dest ++ (new ++ behind)) (end + len) 0)) (omega arith)
+    ∙ take_more_set (take end dest ++ (new ++ behind)) (end + len) 0 (omega (arith, length-append (take end dest) (new ++ behind), length-append new behind))
+    ∙ ap (λ (x : List ℕ). x ++ 0 ∷ []) (ap (λ (k : ℕ). take (k + len) (take end dest ++ (new ++ behind))) (sym long) ∙ take-append-add (take end dest) (new ++ behind) len
+    ∙ ap (λ (x : List ℕ). take end dest ++ x) (take-append-le len new behind (omega arith)))
+
+-- such a list is as long as what was written
+pub length-written : (dest new : List ℕ) (end part : ℕ) → end ≤ length dest → end + length new ≤ length (put_mid end part dest new)
+length-written dest new end part within = omega (arith, length-append (take end dest) (new ++ post_of end part dest), length-append new (post_of end part dest), length-take end dest)
+
+-- WHAT COMES BACK
+
+-- a frame and its zero in front of a stream come to the frame's message
+outcomes_behind : (frame message bytes : List ℕ) (n : ℕ) → Reads frame message → length message ≤ n → stream_outcomes ((frame ++ 0 ∷ []) ++ bytes) n ≡ Message message ∷ stream_outcomes bytes n
+outcomes_behind [] message bytes n r fits = absurd (frame_some [] message r refl)
+outcomes_behind (c ∷ f) message bytes n r fits =
+    stream_outcomes-append ((c ∷ f) ++ 0 ∷ []) bytes n
+    ∙ ap (λ (x : List Outcome). x ++ stream_outcomes (unended ((c ∷ f) ++ 0 ∷ []) ++ bytes) n) (stream_outcomes-piece (c ∷ f) n (frame_nonzero (c ∷ f) message r))
+    ∙ ap (λ (x : List ℕ). outcome_of (c ∷ f) n ∷ stream_outcomes (x ++ bytes) n) (unended-zero (c ∷ f))
+    ∙ ap (λ (x : Outcome). x ∷ stream_outcomes bytes n) (outcome_frame (c ∷ f) message n r fits)
+
+outcomes_of_frames : (frames messages : List (List ℕ)) (n : ℕ) → AllZip IsEncodedFrame frames messages → All (λ m. length m ≤ n) messages
+    → stream_outcomes (flat_map (λ f. f ++ 0 ∷ []) frames) n ≡ map Message messages
+outcomes_of_frames [] [] n h fits = stream_outcomes-no_zero [] n (All-nil (λ b. b ≢ 0))
+outcomes_of_frames [] (m ∷ messages) n h fits = absurd h
+outcomes_of_frames (f ∷ frames) [] n h fits = absurd h
+outcomes_of_frames (f ∷ frames) (m ∷ messages) n h fits =
+    outcomes_behind f m (flat_map (λ f. f ++ 0 ∷ []) frames) n h.0.reads (All-head (λ m. length m ≤ n) m messages fits)
+    ∙ ap (λ (x : List Outcome). Message m ∷ x) (outcomes_of_frames frames messages n h.1 (All-tail (λ m. length m ≤ n) m messages fits))
+
+-- the frames of messages that a buffer holds come out as exactly these messages
+pub AreFrames-outcomes : (messages : List (List ℕ)) (bytes : List ℕ) (n : ℕ) → AreFrames messages bytes → All (λ m. length m ≤ n) messages → stream_outcomes bytes n ≡ map Message messages
+AreFrames-outcomes messages bytes n h fits = ap (λ (x : List ℕ). stream_outcomes x n) h.joined ∙ outcomes_of_frames h.frames messages n h.each fits

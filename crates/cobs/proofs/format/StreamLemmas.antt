@@ -1,0 +1,214 @@
+-- A stream in two parts, and one more byte of it.
+use Rattle.std.proofs.Common.{◌≡◌, ◌≢◌, ℕ, zero, suc, ◌+◌, ◌-◌, ◌<◌, Bool, true, cond, eqb, List, [], ◌∷◌, ◌++◌, length, take, map, refl, sym, ap, ◌∙◌, arith, append_assoc, length-append, filter, not, get_or, inl, inr}
+use Rattle.std.proofs.lemmas.List.{map-append, take_all, take_more}
+use Rattle.std.proofs.lemmas.List.Elements.{All-push, All-nil, All-cons, All-head, All-tail}
+use Rattle.std.proofs.lemmas.List.Splits.{slice_split-cons_no}
+use Rattle.std.proofs.lemmas.Bool.{ne_eqb}
+use Rattle.std.specs.List.{onto_first}
+use Rattle.cobs.specs.Grammar.{HasNoZero, last_of}
+use Rattle.cobs.specs.Stream.{stretches, is_nonempty, but_last, ended_pieces, unended, Outcome, outcome_of, stream_outcomes}
+use Rattle.cobs.specs.Feed.{fed}
+use Rattle.cobs.specs.Laws.{IsAtSentinel}
+
+-- whether a byte ends a piece
+abbrev pub is_zero : ℕ → Bool
+is_zero byte = eqb byte 0
+
+-- A FRONT OF A PIECE AND ONE MORE BYTE
+
+-- a byte that is no zero joins the front
+pub fed-nonzero : (p : List ℕ) (b : ℕ) → b ≢ 0 → fed p b ≡ p ++ b ∷ []
+fed-nonzero p b h = ap (λ (x : Bool). cond x [] (p ++ b ∷ [])) (ne_eqb b 0 h)
+
+-- STRETCHES OF A STREAM IN TWO PARTS
+
+stretches-nonzero : (b : ℕ) (t : List ℕ) → b ≢ 0 → stretches (b ∷ t) ≡ onto_first b (stretches t)
+stretches-nonzero b t h = slice_split-cons_no is_zero b t (ne_eqb b 0 h)
+
+length-onto_first : (b : ℕ) (ss : List (List ℕ)) → 0 < length (onto_first b ss)
+length-onto_first b [] = omega arith
+length-onto_first b (s ∷ ss) = omega arith
+
+-- a stream has a stretch
+pub length-stretches : (t : List ℕ) → 0 < length (stretches t)
+length-stretches [] = omega arith
+length-stretches (zero ∷ t) = omega arith
+length-stretches (suc b ∷ t) = rw (stretches-nonzero (suc b) t (λ e. omega arith)) (length-onto_first (suc b) (stretches t))
+
+but_last-cons : (s : List ℕ) (ss : List (List ℕ)) → 0 < length ss → but_last (s ∷ ss) ≡ s ∷ but_last ss
+unfolding but_last
+but_last-cons s [] h = absurd (omega arith)
+but_last-cons s (n ∷ ss) h = refl
+
+last_of-cons : (s : List ℕ) (ss : List (List ℕ)) → 0 < length ss → last_of (s ∷ ss) ≡ last_of ss
+last_of-cons s [] h = absurd (omega arith)
+last_of-cons s (n ∷ ss) h = refl
+
+onto_first-append : (b : ℕ) (u : List ℕ) (ss : List (List ℕ)) → b ≢ 0 → 0 < length ss
+    → onto_first b (but_last ss ++ stretches (last_of ss ++ u)) ≡ but_last (onto_first b ss) ++ stretches (last_of (onto_first b ss) ++ u)
+unfolding but_last
+onto_first-append b u [] h l = absurd (omega arith)
+onto_first-append b u (s ∷ []) h l = sym (stretches-nonzero b (s ++ u) h)
+onto_first-append b u (s ∷ n ∷ ss) h l = refl
+
+-- the stretches of a stream in two parts: the last stretch of the first goes on in the second
+pub stretches-append : (t u : List ℕ) → stretches (t ++ u) ≡ but_last (stretches t) ++ stretches (last_of (stretches t) ++ u)
+unfolding but_last
+stretches-append [] u = refl
+stretches-append (zero ∷ t) u = grind (arith, but_last-cons, length-stretches, last_of-cons, (stretches-append t u))
+stretches-append (suc b ∷ t) u = grind (arith, stretches-nonzero, onto_first-append, length-stretches, (stretches-append t u))
+
+but_last-append : (xs ys : List (List ℕ)) → 0 < length ys → but_last (xs ++ ys) ≡ xs ++ but_last ys
+but_last-append [] ys h = refl
+but_last-append (x ∷ xs) ys h = but_last-cons x (xs ++ ys) (omega (arith, length-append xs ys)) ∙ ap (λ (z : List (List ℕ)). x ∷ z) (but_last-append xs ys h)
+
+last_of-append : (xs ys : List (List ℕ)) → 0 < length ys → last_of (xs ++ ys) ≡ last_of ys
+last_of-append [] ys h = refl
+last_of-append (x ∷ xs) ys h = last_of-cons x (xs ++ ys) (omega (arith, length-append xs ys)) ∙ last_of-append xs ys h
+
+filter-append : (xs ys : List (List ℕ)) → filter is_nonempty (xs ++ ys) ≡ filter is_nonempty xs ++ filter is_nonempty ys
+filter-append [] ys = refl
+filter-append ([] ∷ xs) ys = filter-append xs ys
+filter-append ((b ∷ x) ∷ xs) ys = ap (λ (z : List (List ℕ)). (b ∷ x) ∷ z) (filter-append xs ys)
+
+-- the pieces of a stream in two parts
+pub ended_pieces-append : (t u : List ℕ) → ended_pieces (t ++ u) ≡ ended_pieces t ++ ended_pieces (unended t ++ u)
+unfolding ended_pieces unended
+ended_pieces-append t u = grind (arith, stretches-append, but_last-append, length-stretches, filter-append)
+
+-- what two parts of a stream leave unended
+pub unended-append : (t u : List ℕ) → unended (t ++ u) ≡ unended (unended t ++ u)
+unfolding unended
+unended-append t u = grind (arith, stretches-append, last_of-append, length-stretches)
+
+-- a stream cut in two: the outcomes of the first part, then those of the second behind what the first left unended
+pub stream_outcomes-append : (t u : List ℕ) (n : ℕ) → stream_outcomes (t ++ u) n ≡ stream_outcomes t n ++ stream_outcomes (unended t ++ u) n
+unfolding stream_outcomes
+stream_outcomes-append t u n = ap (map (λ p. outcome_of p n)) (ended_pieces-append t u) ∙ map-append (λ p. outcome_of p n) (ended_pieces t) (ended_pieces (unended t ++ u))
+
+-- A PIECE AT THE FRONT OF A STREAM
+
+-- the zero behind a piece ends its stretch
+pub stretches-piece : (p u : List ℕ) → HasNoZero p → stretches (p ++ 0 ∷ u) ≡ p ∷ stretches u
+stretches-piece [] u h = refl
+stretches-piece (b ∷ p) u h =
+    stretches-nonzero b (p ++ 0 ∷ u) (All-head (λ x. x ≢ 0) b p h)
+    ∙ ap (onto_first b) (stretches-piece p u (All-tail (λ x. x ≢ 0) b p h))
+
+-- a list without a zero is one stretch
+pub stretches-no_zero : (p : List ℕ) → HasNoZero p → stretches p ≡ p ∷ []
+stretches-no_zero [] h = refl
+stretches-no_zero (b ∷ p) h =
+    stretches-nonzero b p (All-head (λ x. x ≢ 0) b p h)
+    ∙ ap (onto_first b) (stretches-no_zero p (All-tail (λ x. x ≢ 0) b p h))
+
+-- nothing has ended in a list without a zero
+pub ended_pieces-no_zero : (p : List ℕ) → HasNoZero p → ended_pieces p ≡ []
+unfolding ended_pieces but_last
+ended_pieces-no_zero p h = ap (λ (x : List (List ℕ)). filter is_nonempty (but_last x)) (stretches-no_zero p h)
+
+pub unended-no_zero : (p : List ℕ) → HasNoZero p → unended p ≡ p
+unfolding unended
+unended-no_zero p h = ap last_of (stretches-no_zero p h)
+
+pub stream_outcomes-no_zero : (p : List ℕ) (n : ℕ) → HasNoZero p → stream_outcomes p n ≡ []
+unfolding stream_outcomes
+stream_outcomes-no_zero p n h = ap (map (λ p. outcome_of p n)) (ended_pieces-no_zero p h)
+
+-- the outcome that a byte behind a front of a piece brings
+abbrev pub outcomes_at : List ℕ → ℕ → ℕ → List Outcome
+outcomes_at [] b n = []
+outcomes_at (c ∷ p) b n = cond (eqb b 0) (outcome_of (c ∷ p) n ∷ []) []
+
+-- a piece and its zero
+pub stream_outcomes-piece : (p : List ℕ) (n : ℕ) → HasNoZero p → stream_outcomes (p ++ 0 ∷ []) n ≡ outcomes_at p 0 n
+unfolding stream_outcomes ended_pieces but_last
+stream_outcomes-piece [] n h = refl
+stream_outcomes-piece (c ∷ p) n h = ap (λ (x : List (List ℕ)). map (λ p. outcome_of p n) (filter is_nonempty (but_last x))) (stretches-piece (c ∷ p) [] h)
+
+unended-piece : (p : List ℕ) → HasNoZero p → unended (p ++ 0 ∷ []) ≡ []
+unfolding unended
+unended-piece p h = ap last_of (stretches-piece p [] h)
+
+pub outcomes_at-nonzero : (p : List ℕ) (b n : ℕ) → b ≢ 0 → outcomes_at p b n ≡ []
+outcomes_at-nonzero [] b n h = refl
+outcomes_at-nonzero (c ∷ p) b n h = ap (λ (x : Bool). cond x (outcome_of (c ∷ p) n ∷ []) []) (ne_eqb b 0 h)
+
+push_outcomes : (p : List ℕ) (b n : ℕ) → HasNoZero p → stream_outcomes (p ++ b ∷ []) n ≡ outcomes_at p b n
+push_outcomes p zero n h = stream_outcomes-piece p n h
+push_outcomes p (suc b) n h = stream_outcomes-no_zero (p ++ suc b ∷ []) n (All-push (λ x. x ≢ 0) p (suc b) h (λ e. omega arith)) ∙ sym (outcomes_at-nonzero p (suc b) n (λ e. omega arith))
+
+push_unended : (p : List ℕ) (b : ℕ) → HasNoZero p → unended (p ++ b ∷ []) ≡ fed p b
+push_unended p zero h = unended-piece p h
+push_unended p (suc b) h = unended-no_zero (p ++ suc b ∷ []) (All-push (λ x. x ≢ 0) p (suc b) h (λ e. omega arith)) ∙ sym (fed-nonzero p (suc b) (λ e. omega arith))
+
+-- WHAT IS UNENDED HAS NO ZERO
+
+last_of-onto_first : (b : ℕ) (ss : List (List ℕ)) → b ≢ 0 → 0 < length ss → HasNoZero (last_of ss) → HasNoZero (last_of (onto_first b ss))
+last_of-onto_first b [] h l z = absurd (omega arith)
+last_of-onto_first b (s ∷ []) h l z = All-cons (λ x. x ≢ 0) b s h z
+last_of-onto_first b (s ∷ n ∷ ss) h l z = z
+
+last_no_zero : (t : List ℕ) → HasNoZero (last_of (stretches t))
+last_no_zero [] = All-nil (λ x. x ≢ 0)
+last_no_zero (zero ∷ t) = rw (last_of-cons [] (stretches t) (length-stretches t)) (last_no_zero t)
+last_no_zero (suc b ∷ t) = rw (stretches-nonzero (suc b) t (λ e. omega arith)) (last_of-onto_first (suc b) (stretches t) (λ e. omega arith) (length-stretches t) (last_no_zero t))
+
+pub unended_no_zero : (t : List ℕ) → HasNoZero (unended t)
+unfolding unended
+unended_no_zero t = last_no_zero t
+
+-- ONE MORE BYTE OF A STREAM
+
+-- the outcomes
+pub stream_outcomes-push : (t : List ℕ) (b n : ℕ) → stream_outcomes (t ++ b ∷ []) n ≡ stream_outcomes t n ++ outcomes_at (unended t) b n
+stream_outcomes-push t b n = stream_outcomes-append t (b ∷ []) n ∙ ap (λ (x : List Outcome). stream_outcomes t n ++ x) (push_outcomes (unended t) b n (unended_no_zero t))
+
+-- what is unended
+pub unended-push : (t : List ℕ) (b : ℕ) → unended (t ++ b ∷ []) ≡ fed (unended t) b
+unended-push t b = unended-append t (b ∷ []) ∙ push_unended (unended t) b (unended_no_zero t)
+
+-- behind a zero nothing is unended
+pub unended-zero : (t : List ℕ) → unended (t ++ 0 ∷ []) ≡ []
+unended-zero t = unended-push t 0
+
+nonempty-push : (p : List ℕ) (b : ℕ) → is_nonempty (p ++ b ∷ []) ≡ true
+nonempty-push [] b = refl
+nonempty-push (c ∷ p) b = refl
+
+-- something is unended behind a byte exactly where the byte is no zero
+pub nonempty-unended_push : (t : List ℕ) (b : ℕ) → not (eqb b 0) ≡ is_nonempty (unended (t ++ b ∷ []))
+nonempty-unended_push t zero = sym (ap is_nonempty (unended-push t 0))
+nonempty-unended_push t (suc b) = ap not (ne_eqb (suc b) 0 (λ e. omega arith)) ∙ sym (ap is_nonempty (unended-push t (suc b) ∙ fed-nonzero (unended t) (suc b) (λ e. omega arith)) ∙ nonempty-push (unended t) (suc b))
+
+-- the same, by the last of some bytes behind p
+pub nonempty-unended_last : (p bytes : List ℕ) → 0 < length bytes → not (eqb (get_or bytes (length bytes - 1) 0) 0) ≡ is_nonempty (unended (p ++ bytes))
+nonempty-unended_last p bytes h =
+    let same : bytes ≡ take (length bytes - 1) bytes ++ get_or bytes (length bytes - 1) 0 ∷ []
+    = sym (take_all (length bytes - 1 + 1) bytes (omega arith)) ∙ take_more bytes (length bytes - 1) 0 (omega arith) in
+    nonempty-unended_push (p ++ take (length bytes - 1) bytes) (get_or bytes (length bytes - 1) 0)
+    ∙ ap (λ (x : List ℕ). is_nonempty (unended x)) (append_assoc p (take (length bytes - 1) bytes) _ ∙ ap (λ (x : List ℕ). p ++ x) (sym same))
+
+-- DAMAGE BETWEEN TWO SENTINELS
+
+-- nothing is unended at a sentinel
+unended-at_sentinel : (t : List ℕ) → IsAtSentinel t → unended t ≡ []
+unended-at_sentinel t (inl none) = ap unended none ∙ unended-no_zero [] (All-nil (λ x. x ≢ 0))
+unended-at_sentinel t (inr (front, ends)) = ap unended ends ∙ unended-zero front
+
+-- what stands in front of a sentinel, up to the next one, and behind that one has its outcomes by itself
+pub stream_outcomes-apart : (a d z : List ℕ) (n : ℕ) → IsAtSentinel a → stream_outcomes (a ++ d ++ 0 ∷ z) n ≡ stream_outcomes a n ++ stream_outcomes (d ++ 0 ∷ []) n ++ stream_outcomes z n
+stream_outcomes-apart a d z n h =
+    ap (λ (x : List ℕ). stream_outcomes x n) (sym (append_assoc (a ++ d) (0 ∷ []) z) ∙ ap (λ (x : List ℕ). x ++ z) (append_assoc a d (0 ∷ [])))
+    ∙ stream_outcomes-append (a ++ (d ++ 0 ∷ [])) z n
+    ∙ ap (λ (x : List ℕ). stream_outcomes (a ++ (d ++ 0 ∷ [])) n ++ stream_outcomes (x ++ z) n) (ap unended (sym (append_assoc a d (0 ∷ []))) ∙ unended-zero (a ++ d))
+    ∙ ap (λ (x : List Outcome). x ++ stream_outcomes z n)
+    (stream_outcomes-append a (d ++ 0 ∷ []) n ∙ ap (λ (x : List ℕ). stream_outcomes a n ++ stream_outcomes (x ++ (d ++ 0 ∷ [])) n) (unended-at_sentinel a h))
+
+-- one piece between two sentinels has one outcome
+pub stream_outcomes-one : (d : List ℕ) (n : ℕ) → d ≢ [] → HasNoZero d → stream_outcomes (d ++ 0 ∷ []) n ≡ outcome_of d n ∷ []
+stream_outcomes-one [] n some h = absurd (some refl)
+stream_outcomes-one (c ∷ d) n some h = stream_outcomes-piece (c ∷ d) n h
+
+pub stream_outcomes-nothing : (n : ℕ) → stream_outcomes (0 ∷ []) n ≡ []
+stream_outcomes-nothing n = stream_outcomes-piece [] n (All-nil (λ b. b ≢ 0))

@@ -1,0 +1,16 @@
+-- Bytes as they come: steps of the decoders, pushes, pieces, readers.
+pub mod ChunkLemmas
+pub mod FeedLemmas
+pub mod PushLemmas
+pub mod RunLemmas
+pub mod SoFar
+pub mod ReadingLemmas
+pub mod StretchLemmas
+pub mod BorrowedSlice
+pub mod BrokenLemmas
+pub mod StepLemmas
+pub mod PushHeadline
+pub mod TakenLemmas
+pub mod TableLemmas
+pub mod ByByteLemmas
+pub mod FrameTaken

@@ -1,0 +1,126 @@
+-- `&mut *self.dest` as a result, for a field that is a `&'a mut [u8]`: a `CobsDecoder` ends as its slice's bytes end.
+-- The method and that of `WriteBuffer` have this body both.
+use mathlib.Core.Path.{refl, ap}
+use mathlib.Core.List.{List, [], ◌∷◌}
+use base.Fml.{Lft, GName, fat, ftrue, flft, fobs, fbor}
+use mir.Syntax.{Callee, Fn, named, erased, mut, w8, w64, Ty, ty_int, ty_ref, place, deref, field, local, value_local, seq, assign, rv_opd, copy, addr_of, aggregate, return}
+use types.Logic.{Logic}
+use denote.Builtin.{u8, RefMutOf}
+use denote.Ref.{NamedLft, MutRef, mut_vals, mut_Tells, at_last}
+use denote.Slice.{MutSlice, slice_ty, slice_val, mut_slice_vals}
+use denote.Struct.At.{get_at}
+use borrow.Follows.Field.{HandsTo, hands_on}
+use borrow.Struct.Lend.{put_record, kept_record, record_fill, record_apart}
+use Rattle.cobs.specs.declared.dec.buffered.CobsDecoder.{CobsDecoder}
+use Rattle.cobs.specs.contracts.dec.buffered.CobsDecoder as S
+use Rattle.cobs.proofs.dec.buffered.CobsDecoder.TheLaws.{the_loose}
+use seplogic.Ra.Ura.{Ura}
+use Prim.Native.Nat.{ℕ, ◌+◌, ◌*◌, ◌^◌}
+use lib.ListN.{length}
+use base.Fraction.{full_share}
+use mir.Val.{Val}
+use types.Kit.{‵, ◌⊛◌, some, later, ◌$◌, ◌∵◌, !, qed, done, move, keep, drop, use1, use2, use3, split, split3, join, fsplit3, fjoin, fjoin3, feq_l, feq_i, flt_l, flt_i, pick, await, rewrite, suffices, frame}
+use types.SemTy.{Body}
+use types.Mut.{open_ref, close_ref}
+use types.Part.{agg, whole, sub, look_in}
+use types.Run.{enter, of_opd, addr, load, stop, fld, hop, no_more, and_then, returns}
+use types.ByLocal.{alloc_all, pass_all, free_all, look_at, get, through, sets}
+use denote.Array.{Array}
+use denote.Exit.{no}
+use denote.Follow.{follows, follows_then}
+use denote.Memory.{mem, part_at}
+use denote.RattleType.{RattleType}
+use denote.Signature.{plain, named_lft}
+use denote.Steps.{nothing, only}
+use denote.Through.{renamed, lends_inner_slice}
+use denote.Triple.Walked.{says, Stays, stay_dropped, walk_of, ends_at, Goes-spent_ref}
+use borrow.Table.OneValue.{part_out_at, part_in_at}
+use Rattle.std.proofs.raw_atomic.Walks.{proved}
+use Rattle.cobs.specs.contracts.dec.buffered.CobsDecoder.dest_mut as f
+use prog.Model.{Model}
+use prog.Wp.{Closed}
+use contract.Running.{Running, MachineTables, tables}
+use denote.Triple.Clauses.{closing}
+use denote.Triple.Spec.{Meets}
+
+-- the type at the lifetime of the loan
+abbrev at : Lft → NamedLft
+at κ = record { mir = named 1; lft = κ }
+
+-- the field is handed on, and the whole is what the field ends as
+module _ {M : Type 1} {𝓤 : Ura M} (𝓛 : Logic 𝓤) (κ' : Lft) where
+  hands : (x : CobsDecoder) → HandsTo 𝓛 (S.the_row (at κ')) (MutSlice (named 1) κ' u8) (λ o. o + 0) x x.dest (λ w. record x { dest = w })
+  hands x = hands_on 𝓛 (S.the_row (at κ')) (MutSlice (named 1) κ' u8) 0
+      (λ x. get_at (S.the_type (at [])).parts 0 ((S.struct (at [])).as_values x))
+      (put_record (S.the_type (at κ')) (the_loose (at κ')) 0 0 (S.struct (at [])).as_values (S.struct (at [])).Ghost (S.struct (at [])).make (λ v. tt) (λ x. refl) (λ v g. refl) (λ x. x))
+      (kept_record (S.the_type (at κ')) (the_loose (at κ')) 0 0 (S.struct (at [])).as_values (S.struct (at [])).Ghost (S.struct (at [])).make (λ v. tt) (λ x. refl) (λ v g. refl) (λ x. x))
+      (record_fill (S.the_type (at κ')) (the_loose (at κ')) 0 0 (S.struct (at [])).as_values (S.struct (at [])).Ghost (S.struct (at [])).make (λ v. tt) (λ x. refl) (λ v g. refl) (λ x. x) refl (λ f. refl))
+      (record_apart (S.the_type (at κ')) (the_loose (at κ')) 0 0 (S.struct (at [])).as_values (S.struct (at [])).Ghost (S.struct (at [])).make (λ v. tt) (λ x. refl) (λ v g. refl) (λ x. x) 𝓛 refl refl)
+      x
+
+abbrev head_of : List Ty → Ty
+head_of [] = ty_int w8
+head_of (τ ∷ τs) = τ
+
+-- the body of both
+abbrev lending : Fn
+lending =
+    let D = head_of (S.the_row (record { mir = erased; lft = [] })).mir in
+    record {
+      lifetimes = 2;
+      outlives = (1, 0) ∷ [];
+      ty_params = [];
+      givens = 0;
+      params = 1;
+      locals = local (slice_ty (ty_ref (named 0) mut (ty_int w8))) value_local ∷ local (ty_ref (named 0) mut (S.the_row (at [])).written.ty) value_local
+          ∷ local (ty_int w64) value_local ∷ local (ty_ref erased mut (ty_int w8)) value_local ∷ [];
+      body = seq (assign (place 2 []) (rv_opd (copy (place 1 (deref D ∷ field 0 ∷ field 1 ∷ [])))))
+          (seq (assign (place 3 []) (addr_of (place 1 (deref D ∷ field 0 ∷ field 0 ∷ deref (ty_int w8) ∷ []))))
+          (seq (assign (place 0 []) (aggregate (copy (place 3 []) ∷ copy (place 2 []) ∷ [])))
+          return));
+    }
+
+abbrev stayed : Stays f.ended.signature.params f.ended.kept
+stayed = (stay_dropped (RefMutOf (0 ∷ []) tt (plain (λ κs. S.the_row (named_lft 2 1 tt κs))) (λ _. tt)) no, tt)
+
+module _ {M : Type 1} (𝓤 : Ura M) (𝓛 : Logic 𝓤) (𝓜 : Model 𝓤 𝓛.H) (𝓡 : Running 𝓤 𝓛.H 𝓜) where
+  abbrev 𝓣 : MachineTables 𝓤 𝓛.H 𝓜
+  𝓣 = tables 𝓤 𝓛.H 𝓜 𝓡 𝓡.env
+
+  -- what a function of this body meets
+  pub lends : (k : Callee) → Closed 𝓤 𝓛.H 𝓣.C 𝓣.Λ k lending → Meets 𝓛 f.ended.signature (𝓣.C k) (closing 𝓛 f.ended (f.clauses 𝓛 𝓜.mem 𝓡.returns))
+  lends k closed =
+      let c = f.clauses 𝓛 𝓜.mem 𝓡.returns in let W = walk_of 𝓛 f.ended stayed c in
+      proved 𝓛 f.ended stayed c 𝓜 𝓡 (Goes-spent_ref 𝓛 2 (0 ∷ []) tt (plain (λ κs. S.the_row (named_lft 2 1 tt κs))), tt)
+      k lending closed
+      (λ κs. (mut_vals, tt)) (λ κs. (mut_Tells (named 0) κs.0 (S.the_row (at κs.1.0)), tt)) (λ κs qs bounds a _ are.
+      let κ : Lft = κs.0 in let κ' : Lft = κs.1.0 in let q = qs.0 in
+      let b : ℕ = a.0.ref_ptr.0 in let o : ℕ = a.0.ref_ptr.1 in let d : CobsDecoder = a.0.now in let y = d.dest in
+      let n : ℕ = length y.now in
+      let γ : GName = a.0.ghost_name in
+      let R : RattleType = S.the_row (at κ') in
+      let F : RattleType = MutSlice (named 1) κ' u8 in
+      let τ : Ty = ty_ref erased mut (ty_int w8) in
+      let g : W.Ghost = ((κs, qs, bounds, a, (mut_vals a.0, tt)), tt) in
+      qed 𝓛 (((‵ (flft κ q) ⊛ ‵ (flft κ' qs.1.0) ⊛ ‵ ftrue) ⊛ ‵ ((MutRef (named 0) κ R).own_val a.0 (mut_vals a.0)) ⊛ ‵ ftrue) ∷ ‵ ftrue ∷ []) ∵
+      split ! $ split ! $ move ! (2 ∷ []) $ split ! $ keep ! (0 ∷ 2 ∷ 3 ∷ []) $
+      enter ! _ _ _ _ _ $ alloc_all ! (λ l. pass_all ! refl ((tt, tt), tt) $
+      fsplit3 ! $ drop ! $
+      use3 𝓛 (later (some (λ (γ₁ : GName). ‵ (fobs γ₁ (F.coded.code y)) ⊛ ‵ (fbor κ (Body (mem F) b (o + 0) γ₁)) ⊛ ‵ (flft κ q) ⊛ ‵ (follows R F γ γ₁ (λ w. record d { dest = w })))))
+      (hands 𝓛 κ' d κ q γ b o) $ await ! tt $ pick ! (λ γ₁. split3 ! $ move ! (2 ∷ []) $ split ! $ move ! (2 ∷ 3 ∷ 0 ∷ []) $
+      open_ref ! tt (mem F) {b = b} {o = o + 0} $ use1 𝓛 (some (λ (v : Val). ‵ (fat full_share (slice_ty τ) b (o + 0) v) ⊛ ‵ (F.own_val y (v ∷ [])))) (part_out_at 𝓛 F refl full_share y b (o + 0) (slice_ty τ) refl) $
+      pick ! (λ v. split ! $ move ! (1 ∷ []) $ fsplit3 ! $ fsplit3 ! $ feq_l ! (λ ev. flt_l ! (λ fits. flt_l ! (λ small.
+      rewrite ! 2 (λ (cv : Val). ‵ (fat full_share (slice_ty τ) b (o + 0) cv)) (ap only ev) refl $
+      -- [obs and borrow of the slice; its cell; the field's borrow, open; obs; auth; follows; the token of 'a]
+      sets ! (of_opd ! (load ! (through ! refl (fld ! refl (fld ! refl (stop !)))) (look_in ! 2 (sub ! 1 refl (whole !))))) refl (tt, record { fits = fits }) $
+      sets ! (addr ! (through ! refl (fld ! refl (fld ! refl (hop ! (look_in ! 2 (sub ! 0 refl (whole !))) (stop !)))))) refl (tt, tt) $
+      sets ! (agg ! (and_then ! (get ! refl) (and_then ! (get ! refl) (no_more !)))) refl (tt, (tt, (record { fits = fits }, tt))) $
+      flt_i ! (n * (mem u8).size) (2 ^ 63) small $ flt_i ! n (2 ^ 64) fits $ feq_i ! (List Val) (mut_slice_vals y) (mut_slice_vals y) refl $ fjoin3 ! $ fjoin3 ! $ move ! (1 ∷ 0 ∷ []) $
+      use2 𝓛 (‵ (part_at F full_share y b (o + 0))) (part_in_at 𝓛 F refl full_share y b (o + 0) (slice_ty τ) refl (slice_val y.ref_ptr n)) $
+      close_ref ! tt (mem F) y {b = b} {o = o + 0} $
+      use3 𝓛 (later (some (λ (γ' : GName). ‵ ((MutSlice (named 0) κ u8).own_val (renamed y γ') (mut_slice_vals y)) ⊛ ‵ (flft κ q) ⊛ ‵ (follows F (Array u8 0) γ₁ γ' (at_last y)))))
+      (lends_inner_slice 𝓛 u8 (named 0) (named 1) κ κ' (record { ref_ptr = (b, o + 0); ghost_name = γ₁; now = y }) bounds.0 (fits, small) q) $ await ! tt $ pick ! (λ γ'. split3 ! $
+      move ! (3 ∷ 2 ∷ []) $ use2 𝓛 (‵ (follows R (Array u8 0) γ γ' (λ w. record d { dest = at_last y w }))) (follows_then 𝓛 R F (Array u8 0) (λ w. record d { dest = w }) (at_last y) γ γ₁ γ') $
+      returns ! (look_at ! 0 refl) $ free_all ! refl $ move ! (1 ∷ 2 ∷ 0 ∷ []) $
+      suffices ! _ (ends_at 𝓛 f.ended stayed c g (slice_val y.ref_ptr n) (renamed y γ') (tt, tt) (tt, tt)) $
+      nothing ! $ nothing ! $ fjoin ! $ join ! $ move ! (1 ∷ 3 ∷ []) $ join ! $ join ! $ frame ! $ says ! refl $ done !))))))))

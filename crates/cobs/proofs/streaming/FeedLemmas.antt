@@ -1,0 +1,202 @@
+-- The step from a front of a piece to the next one, in phases.
+use Rattle.std.proofs.Common.{◌≡◌, ◌≢◌, ℕ, zero, suc, ◌+◌, ◌<◌, ◌≤◌, Bool, true, false, cond, leb, eqb, List, [], ◌∷◌, ◌++◌, length, take, drop, set, refl, sym, ap, ◌∙◌, arith, length-append, inl, inr, None, Ok, Err, add-one}
+use Rattle.std.proofs.lemmas.List.{take_all, take-append-le, append-nil, length_push, take_more_set, set_past, drop-set-lt, length-set}
+use Rattle.std.proofs.lemmas.List.Elements.{All-push, All-nil}
+use Rattle.std.proofs.lemmas.Bool.{cases_lt, cond-true, cond-false, ne_eqb, le-leb, lt-leb}
+use Rattle.cobs.specs.Grammar.{HasNoZero, is_full}
+use Rattle.cobs.specs.Piece.{lacks, output, last_part, is_whole}
+use Rattle.cobs.specs.Stream.{outcome_of, TooLong}
+use Rattle.cobs.specs.Feed.{Phase, Idle, Within, Over, phase_after, PhaseAfter, DecoderAfter, fed, answer_at_end, answer_to, Feeds}
+use Rattle.cobs.specs.Step.{grows, next_phase, next_buffer, if_over, end_answer, next_answer}
+use Rattle.cobs.specs.declared.dec.DecodeError.TheVariants.{TargetBufTooSmall}
+use Rattle.std.specs.Prelude.{IfOk, IfSome}
+use Rattle.cobs.proofs.format.StreamLemmas.{fed-nonzero}
+use Rattle.cobs.proofs.streaming.TableLemmas.{output-nil, phase_by_table}
+use Rattle.cobs.proofs.decoding.PieceLemmas.{output-one, last_part-one, output-push_more, output-push_next, last_part-push_next, lacks-push_more, is_full-push_more, output-push}
+
+-- the phase behind a piece, from what is known of the piece
+phase_after-is : (c : ℕ) (q : List ℕ) (n : ℕ) (full : Bool) (left count : ℕ) → is_full (last_part (c ∷ q)) ≡ full → lacks (last_part (c ∷ q)) ≡ left → length (output (c ∷ q)) ≡ count
+    → phase_after (c ∷ q) n ≡ cond (leb count n) (Within full left count) Over
+unfolding phase_after
+phase_after-is c q n full left count f l o = grind arith
+
+-- a zero leaves any phase idle, and any buffer as it was
+next_phase-zero : (n : ℕ) (phase : Phase) → next_phase n phase 0 ≡ Idle
+next_phase-zero n Idle = refl
+next_phase-zero n Over = refl
+next_phase-zero n (Within full (suc left) count) = refl
+next_phase-zero n (Within true zero count) = refl
+next_phase-zero n (Within false zero count) = refl
+
+next_buffer-zero : (buffer : List ℕ) (phase : Phase) → next_buffer buffer phase 0 ≡ buffer
+next_buffer-zero n Idle = refl
+next_buffer-zero n Over = refl
+next_buffer-zero n (Within full (suc left) count) = refl
+next_buffer-zero n (Within true zero count) = refl
+next_buffer-zero n (Within false zero count) = refl
+
+grows-is : (n : ℕ) (full : Bool) (left count : ℕ) → grows n full left count ≡ cond (leb (count + 1) n) (Within full left (count + 1)) Over
+grows-is n full left count = rw add-one refl
+
+nonzero : (b : ℕ) → 0 < b → eqb b 0 ≡ false
+nonzero b h = ne_eqb b 0 (λ e. omega arith)
+
+-- within a part
+within_step : (n c : ℕ) (q : List ℕ) (b : ℕ) (full : Bool) (left : ℕ) → is_full (last_part (c ∷ q)) ≡ full → lacks (last_part (c ∷ q)) ≡ left → 0 < b → length (output (c ∷ q)) ≤ n
+    → next_phase n (Within full left (length (output (c ∷ q)))) b ≡ phase_after (c ∷ q ++ b ∷ []) n
+within_step n c q b full (suc left) f l h fits =
+    ap (λ (x : Bool). cond x Idle (grows n full left (length (output (c ∷ q))))) (nonzero b h)
+    ∙ grows-is n full left (length (output (c ∷ q)))
+    ∙ sym (phase_after-is c (q ++ b ∷ []) n full left (length (output (c ∷ q)) + 1)
+    (is_full-push_more (c ∷ q) b (omega arith) ∙ f)
+    (omega (arith, lacks-push_more (c ∷ q) b (omega arith)))
+    (ap length (output-push_more (c ∷ q) b (omega arith)) ∙ length_push (output (c ∷ q)) b))
+within_step n c q b true zero f l h fits = grind (arith, nonzero, phase_after-is, last_part-push_next, output-push_next, append-nil, cond-true, le-leb)
+within_step n c q b false zero f l h fits = grind (arith, nonzero, grows-is, phase_after-is, last_part-push_next, output-push_next, length_push)
+
+fits_phase : (c : ℕ) (q : List ℕ) (n : ℕ) → length (output (c ∷ q)) ≤ n → phase_after (c ∷ q) n ≡ Within (is_full (last_part (c ∷ q))) (lacks (last_part (c ∷ q))) (length (output (c ∷ q)))
+fits_phase c q n h = grind (arith, phase_after-is, cond-true, le-leb)
+
+over_phase : (c : ℕ) (q : List ℕ) (n : ℕ) → n < length (output (c ∷ q)) → phase_after (c ∷ q) n ≡ Over
+over_phase c q n h = grind (arith, phase_after-is, cond-false, lt-leb)
+
+longer : (c : ℕ) (q : List ℕ) (b : ℕ) → length (output (c ∷ q)) ≤ length (output (c ∷ q ++ b ∷ []))
+longer c q b = omega (arith, ap length (output-push c q b).1, length-append (output (c ∷ q)) (output-push c q b).0)
+
+-- the phase behind one more byte
+nonzero_step : (n : ℕ) (p : List ℕ) (b : ℕ) → 0 < b → next_phase n (phase_after p n) b ≡ phase_after (p ++ b ∷ []) n
+unfolding phase_after
+nonzero_step n [] b h = grind (arith, nonzero, phase_after-is, last_part-one, output-one, cond-true, le-leb)
+nonzero_step n (c ∷ q) b h = grind (arith, cases_lt, over_phase, nonzero, longer, fits_phase, within_step)
+
+phase-step : (n : ℕ) (p : List ℕ) (b : ℕ) → next_phase n (phase_after p n) b ≡ phase_after (fed p b) n
+unfolding phase_after
+phase-step n p zero = next_phase-zero n (phase_after p n)
+phase-step n p (suc b) = nonzero_step n p (suc b) (omega arith) ∙ ap (λ (x : List ℕ). phase_after x n) (sym (fed-nonzero p (suc b) (λ e. omega arith)))
+
+-- ANSWERS
+
+answer_within : (n c : ℕ) (q : List ℕ) (left : ℕ) → lacks (last_part (c ∷ q)) ≡ left → length (output (c ∷ q)) ≤ n
+    → end_answer n (Within (is_full (last_part (c ∷ q))) left (length (output (c ∷ q)))) ≡ answer_at_end (c ∷ q) n
+unfolding answer_at_end outcome_of is_whole
+answer_within n c q zero l fits = grind (arith, cond-true, le-leb)
+answer_within n c q (suc left) l fits = grind (arith, le-leb, nonzero)
+
+too_long : (c : ℕ) (q : List ℕ) (n : ℕ) → n < length (output (c ∷ q)) → outcome_of (c ∷ q) n ≡ TooLong
+unfolding outcome_of
+too_long c q n more = cond-false _ _ _ (lt-leb _ _ more)
+
+end_answer-is : (n : ℕ) (p : List ℕ) → end_answer n (phase_after p n) ≡ answer_at_end p n
+unfolding phase_after answer_at_end
+end_answer-is n [] = refl
+end_answer-is n (c ∷ q) = grind (arith, cases_lt, over_phase, too_long, fits_phase, answer_within)
+
+if_over-is : (c : ℕ) (q : List ℕ) (n : ℕ) → if_over (phase_after (c ∷ q) n) ≡ cond (leb (length (output (c ∷ q))) n) (Ok None) (Err TargetBufTooSmall)
+unfolding phase_after
+if_over-is c q n = elim (leb (length (output (c ∷ q))) n) as (λ v. if_over (cond v (Within (is_full (last_part (c ∷ q))) (lacks (last_part (c ∷ q))) (length (output (c ∷ q)))) Over) ≡ cond v (Ok None) (Err TargetBufTooSmall)) [ true ↦ refl | false ↦ refl ]
+
+if_over-push : (p : List ℕ) (b n : ℕ) → if_over (phase_after (p ++ b ∷ []) n) ≡ cond (leb (length (output (p ++ b ∷ []))) n) (Ok None) (Err TargetBufTooSmall)
+if_over-push [] b n = if_over-is b [] n
+if_over-push (c ∷ q) b n = if_over-is c (q ++ b ∷ []) n
+
+answer_to-step : (n : ℕ) (p : List ℕ) (b : ℕ) → next_answer n (phase_after p n) b ≡ answer_to p b n
+unfolding answer_to
+answer_to-step n p zero = end_answer-is n p
+answer_to-step n p (suc b) = grind (arith, nonzero, nonzero_step, if_over-push)
+
+-- BUFFERS
+
+-- the buffer begins with the list, or is its first bytes
+abbrev pub Begins : List ℕ → List ℕ → Type 0
+Begins buffer o = take (length o) buffer ≡ take (length buffer) o
+
+begins-nil : (buffer : List ℕ) → Begins buffer []
+begins-nil buffer = sym (take_all (length buffer) [] (omega arith))
+
+begins-over : (buffer o more : List ℕ) → length buffer ≤ length o → Begins buffer o → Begins buffer (o ++ more)
+begins-over buffer o more h e = grind (arith, take_all, length-append, take-append-le)
+
+begins-push : (buffer o : List ℕ) (w : ℕ) → Begins buffer o → Begins (set buffer (length o) w) (o ++ w ∷ [])
+begins-push buffer o w e = grind (arith, cases_lt, length_push, take_more_set, take_all, length-set, set_past, begins-over)
+
+begins_within : (buffer : List ℕ) (c : ℕ) (q : List ℕ) (b : ℕ) (full : Bool) (left : ℕ) → is_full (last_part (c ∷ q)) ≡ full → lacks (last_part (c ∷ q)) ≡ left → 0 < b
+    → Begins buffer (output (c ∷ q)) → Begins (next_buffer buffer (Within full left (length (output (c ∷ q)))) b) (output (c ∷ q ++ b ∷ []))
+begins_within buffer c q b full (suc left) f l h e =
+    rw (nonzero b h, output-push_more (c ∷ q) b (omega arith)) (begins-push buffer (output (c ∷ q)) b e)
+begins_within buffer c q b true zero f l h e = grind (arith, output-push_next, append-nil)
+begins_within buffer c q b false zero f l h e = grind (arith, output-push_next, nonzero, begins-push)
+
+begins-nonzero : (buffer p : List ℕ) (b : ℕ) → 0 < b → Begins buffer (output p) → Begins (next_buffer buffer (phase_after p (length buffer)) b) (output (p ++ b ∷ []))
+unfolding phase_after
+begins-nonzero buffer [] b h e = rw (output-one b) (begins-nil buffer)
+begins-nonzero buffer (c ∷ q) b h e = elim (cases_lt (length buffer) (length (output (c ∷ q)))) [
+  | inl more ↦ rw (over_phase c q (length buffer) more, (output-push c q b).1) (begins-over buffer (output (c ∷ q)) (output-push c q b).0 (omega arith) e)
+  | inr fits ↦ rw (fits_phase c q (length buffer) fits) (begins_within buffer c q b _ _ refl refl h e)
+]
+
+begins-step : (buffer p : List ℕ) (b : ℕ) → Begins buffer (output p) → Begins (next_buffer buffer (phase_after p (length buffer)) b) (output (fed p b))
+begins-step buffer p zero e = rw (next_buffer-zero buffer (phase_after p (length buffer)), output-nil) (begins-nil buffer)
+begins-step buffer p (suc b) e = rw (fed-nonzero p (suc b) (λ e. omega arith)) (begins-nonzero buffer p (suc b) (omega arith) e)
+
+length-next_buffer : (buffer : List ℕ) (phase : Phase) (b : ℕ) → length (next_buffer buffer phase b) ≡ length buffer
+length-next_buffer buffer Idle b = refl
+length-next_buffer buffer Over b = refl
+length-next_buffer buffer (Within true zero count) b = refl
+length-next_buffer buffer (Within full (suc left) count) b = elim (eqb b 0) as (λ v. length (cond v buffer (set buffer count b)) ≡ length buffer) [ true ↦ refl | false ↦ length-set buffer count b ]
+length-next_buffer buffer (Within false zero count) b = elim (eqb b 0) as (λ v. length (cond v buffer (set buffer count 0)) ≡ length buffer) [ true ↦ refl | false ↦ length-set buffer count 0 ]
+
+piece-fed : (p : List ℕ) (b : ℕ) → HasNoZero p → HasNoZero (fed p b)
+piece-fed p zero h = All-nil (λ byte. byte ≢ 0)
+piece-fed p (suc b) h = rw (fed-nonzero p (suc b) (λ e. omega arith)) (All-push (λ byte. byte ≢ 0) p (suc b) h (λ e. omega arith))
+
+-- THE STEP, for `PhaseAfter` and `DecoderAfter`
+
+pub PhaseAfter-step : (n : ℕ) (phase : Phase) (p : List ℕ) (b : ℕ) → PhaseAfter n phase p → PhaseAfter n (next_phase n phase b) (fed p b)
+PhaseAfter-step n phase p b h = record { piece = piece-fed p b h.piece; phase_is = ap (λ (x : Phase). next_phase n x b) h.phase_is ∙ phase-step n p b }
+
+pub PhaseAfter-answer_to : (n : ℕ) (phase : Phase) (p : List ℕ) (b : ℕ) → PhaseAfter n phase p → next_answer n phase b ≡ answer_to p b n
+PhaseAfter-answer_to n phase p b h = ap (λ (x : Phase). next_answer n x b) h.phase_is ∙ answer_to-step n p b
+
+pub DecoderAfter-step : (buffer : List ℕ) (phase : Phase) (p : List ℕ) (b : ℕ) → DecoderAfter buffer phase p → DecoderAfter (next_buffer buffer phase b) (next_phase (length buffer) phase b) (fed p b)
+DecoderAfter-step buffer phase p b h = record {
+  phased = rw (length-next_buffer buffer phase b) (PhaseAfter-step (length buffer) phase p b h.phased);
+  begins = rw h.phased.phase_is (begins-step buffer p b h.begins);
+}
+
+untouched_within : (buffer : List ℕ) (c : ℕ) (q : List ℕ) (b : ℕ) (full : Bool) (left : ℕ) → is_full (last_part (c ∷ q)) ≡ full → lacks (last_part (c ∷ q)) ≡ left → 0 < b
+    → drop (length (output (c ∷ q ++ b ∷ []))) (next_buffer buffer (Within full left (length (output (c ∷ q)))) b) ≡ drop (length (output (c ∷ q ++ b ∷ []))) buffer
+untouched_within buffer c q b full (suc left) f l h =
+    rw (nonzero b h) (drop-set-lt _ buffer _ b (omega (arith, ap length (output-push_more (c ∷ q) b (omega arith)), length_push (output (c ∷ q)) b)))
+untouched_within buffer c q b true zero f l h = refl
+untouched_within buffer c q b false zero f l h = grind (arith, output-push_next, nonzero, drop-set-lt, length_push)
+
+untouched-step : (buffer p : List ℕ) (b : ℕ) → 0 < b
+    → drop (length (output (p ++ b ∷ []))) (next_buffer buffer (phase_after p (length buffer)) b) ≡ drop (length (output (p ++ b ∷ []))) buffer
+unfolding phase_after
+untouched-step buffer [] b h = refl
+untouched-step buffer (c ∷ q) b h = grind (arith, cases_lt, over_phase, fits_phase, untouched_within)
+
+-- the bytes behind the output stay
+pub PhaseAfter-untouched : (buffer : List ℕ) (phase : Phase) (p : List ℕ) (b : ℕ) → PhaseAfter (length buffer) phase p → b ≢ 0
+    → drop (length (output (p ++ b ∷ []))) (next_buffer buffer phase b) ≡ drop (length (output (p ++ b ∷ []))) buffer
+PhaseAfter-untouched buffer phase p b h nz = rw h.phase_is (untouched-step buffer p b (omega (arith, nz)))
+
+-- an idle decoder has taken nothing of a piece, whatever its buffer holds
+pub DecoderAfter-idle : (buffer : List ℕ) (phase : Phase) → phase ≡ Idle → DecoderAfter buffer phase []
+unfolding phase_after
+DecoderAfter-idle buffer phase e = grind (arith, All-nil, output-nil, begins-nil)
+
+-- the machine feeds a byte
+pub Feeds-step : (buffer : List ℕ) (phase : Phase) (b : ℕ) → IfOk (next_answer (length buffer) phase b) (λ found. IfSome found (λ n. n ≤ length buffer))
+    → Feeds buffer phase b (next_answer (length buffer) phase b) (next_buffer buffer phase b) (next_phase (length buffer) phase b)
+Feeds-step buffer phase b fits = record {
+  answer = λ p h. PhaseAfter-answer_to (length buffer) phase p b h;
+  phased = λ p h. PhaseAfter-step (length buffer) phase p b h;
+  after = λ p h. DecoderAfter-step buffer phase p b h;
+  untouched = λ p h nz. PhaseAfter-untouched buffer phase p b h nz;
+  zero_idle = λ e. rw e (next_phase-zero (length buffer) phase);
+  zero_unchanged = λ e. rw e (next_buffer-zero buffer phase);
+  by_table = λ state e going. phase_by_table (length buffer) phase b state e going;
+  bound = fits;
+  len = length-next_buffer buffer phase b;
+}

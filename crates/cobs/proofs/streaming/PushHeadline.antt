@@ -1,0 +1,127 @@
+-- What a push of a list and the zero behind it answers: the message m exactly where the list reads as m.
+use Rattle.std.proofs.Common.{◌≡◌, ◌≢◌, ℕ, ◌+◌, ◌<◌, ◌≤◌, ◌↔◌, List, [], ◌∷◌, ◌++◌, length, take, get_or, All, Option, Some, None, Result, Ok, Err, refl, sym, ap, ◌∙◌, subst, arith, length-append, length-take-le, take-append-drop, take_all, take_at, drop, ⊎_elim}
+use Rattle.std.proofs.lemmas.Bool.{cases_lt, cases_Bool, ne_eqb, le-leb}
+use Rattle.std.proofs.lemmas.List.{take-append-le, take_more, get_or_append_left}
+use Rattle.std.proofs.lemmas.List.Elements.{All-take, All-get_or}
+use Rattle.cobs.specs.Grammar.{Reads}
+use Rattle.cobs.specs.Piece.{output}
+use Rattle.cobs.specs.Stream.{Outcome, Message, outcome_of, stream_outcomes, unended}
+use Rattle.cobs.specs.Feed.{Phase, Idle, answer_to}
+use Rattle.cobs.specs.Fields.Report.{parsed_size_of, frame_size_of}
+use Rattle.cobs.specs.Push.{answer_at, PushesBytes, pushed_outcomes, refused_outcomes}
+use Rattle.cobs.specs.Headline.{IsPiece, PushesMessage}
+use Rattle.cobs.specs.declared.dec.DecodeReport.{DecodeReport}
+use Rattle.cobs.specs.declared.dec.PushError.{PushError}
+use Rattle.cobs.specs.declared.dec.DecodeError.{DecodeError}
+use Rattle.cobs.specs.declared.dec.DecodeError.TheVariants as errors
+use Rattle.cobs.proofs.streaming.FeedLemmas.{DecoderAfter-idle}
+use Rattle.cobs.proofs.streaming.PushLemmas.{output-grows}
+use Rattle.cobs.proofs.format.StreamLemmas.{stream_outcomes-no_zero, stream_outcomes-one, unended-no_zero}
+use Rattle.cobs.proofs.decoding.OutcomeLemmas.{outcome_reads}
+use Rattle.cobs.proofs.decoding.HeadlineLemmas.{reads_where_fits, outcome_of_long}
+
+-- a front's output is no longer
+output-take : (f : List ℕ) (k : ℕ) → length (output (take k f)) ≤ length (output f)
+output-take f k = let h = output-grows (take k f) (drop k f) in let e = ap (λ (x : List ℕ). length (output x)) (take-append-drop k f) in omega arith
+
+-- a byte of the piece whose output so far fits is answered by `Ok(None)`
+answer_to-quiet : (q : List ℕ) (b n : ℕ) → b ≢ 0 → length (output (q ++ b ∷ [])) ≤ n → answer_to q b n ≡ Ok None
+unfolding answer_to
+answer_to-quiet q b n some fits = cc (ne_eqb b 0 some, le-leb (length (output (q ++ b ∷ []))) n fits)
+
+module _ (f : List ℕ) (n : ℕ) (piece : IsPiece f) where
+  -- the bytes in front of the zero are quiet, where the output fits
+  quiet_inside : length (output f) ≤ n → (place : ℕ) → place < length f → answer_at [] (f ++ 0 ∷ []) n place ≡ Ok None
+  quiet_inside fits place within =
+      let front : take place (f ++ 0 ∷ []) ≡ take place f = take-append-le place f (0 ∷ []) (omega arith) in
+      let same : unended (take place (f ++ 0 ∷ [])) ≡ take place f = ap unended front ∙ unended-no_zero (take place f) (All-take (λ b. b ≢ 0) place f piece.1) in
+      let byte : get_or (f ++ 0 ∷ []) place 0 ≡ get_or f place 0 = get_or_append_left f (0 ∷ []) 0 place within in
+      let more = ap (λ (x : List ℕ). length (output x)) (take_more f place 0 within) in
+      let below = output-take f (place + 1) in
+      ap (λ (x : List ℕ). answer_to x (get_or (f ++ 0 ∷ []) place 0) n) same ∙ ap (λ (b : ℕ). answer_to (take place f) b n) byte
+      ∙ answer_to-quiet (take place f) (get_or f place 0) n (All-get_or (λ b. b ≢ 0) f place 0 within piece.1) (omega arith)
+
+  -- a front of the piece alone has no outcome
+  no_outcome : (k : ℕ) → k ≤ length f → stream_outcomes (take k (f ++ 0 ∷ [])) n ≡ []
+  no_outcome k within = ap (λ (x : List ℕ). stream_outcomes x n) (take-append-le k f (0 ∷ []) within) ∙ stream_outcomes-no_zero (take k f) n (All-take (λ b. b ≢ 0) k f piece.1)
+
+  -- all of it has one
+  one_outcome : (k : ℕ) → length f < k → stream_outcomes (take k (f ++ 0 ∷ [])) n ≡ outcome_of f n ∷ []
+  one_outcome k all = let l = length-append f (0 ∷ []) in ap (λ (x : List ℕ). stream_outcomes x n) (take_all k (f ++ 0 ∷ []) (omega arith)) ∙ stream_outcomes-one f n piece.0 piece.1
+
+-- no error tells of a message
+refused-no_message : (error : DecodeError) (m : List ℕ) → Message m ∷ [] ≡ refused_outcomes error → ⊥
+refused-no_message errors.EmptyFrame m e = cc
+refused-no_message (errors.InvalidFrame count) m e = cc
+refused-no_message errors.TargetBufTooSmall m e = cc
+
+pushed-no_message : (bytes : List ℕ) (refusal : PushError) (buffer m : List ℕ) → Message m ∷ [] ≡ pushed_outcomes bytes (Err refusal) buffer → ⊥
+pushed-no_message bytes refusal buffer m e = grind (arith, refused-no_message, cases_Bool)
+
+module _ (buffer bytes buffer' f : List ℕ) (phase phase' : Phase) (idle : phase ≡ Idle) (is : bytes ≡ f ++ 0 ∷ []) (below : All (λ b. b < 256) f) (piece : IsPiece f) (m : List ℕ) where
+  -- an answer tells of a message only behind the zero
+  told : (report : DecodeReport) → PushesBytes buffer phase bytes (Ok (Some report)) buffer' phase' → Message (take (frame_size_of report) buffer') ≡ outcome_of f (length buffer)
+  told report w =
+      let k = parsed_size_of report in
+      let n = length buffer in
+      let o : stream_outcomes (take k (f ++ 0 ∷ [])) n ≡ Message (take (frame_size_of report) buffer') ∷ [] = ap (λ (x : List ℕ). stream_outcomes (take k x) n) (sym is) ∙ w.outcomes [] (DecoderAfter-idle buffer phase idle) in
+      ⊎_elim
+      (λ (all : length f < k). let one = one_outcome f n piece k all in cc)
+      (λ (short : k ≤ length f). absurd (let none = no_outcome f n piece k short in cc))
+      (cases_lt (length f) k)
+
+  pushes_from : length (output f) ≤ length buffer → (result : Result (Option DecodeReport) PushError) → PushesBytes buffer phase bytes result buffer' phase' → PushesMessage result buffer' m → Reads f m
+  pushes_from fits (Ok None) w h = absurd h
+  pushes_from fits (Err refusal) w h = absurd h
+  pushes_from fits (Ok (Some report)) w h = (outcome_reads f m (length buffer) piece.0 piece.1 below fits).0 (sym (told report w) ∙ ap Message h.1)
+
+  -- where the output doesn't fit, no message is answered
+  pushes_long : length buffer < length (output f) → (result : Result (Option DecodeReport) PushError) → PushesBytes buffer phase bytes result buffer' phase' → PushesMessage result buffer' m → ⊥
+  pushes_long more (Ok None) w h = absurd h
+  pushes_long more (Err refusal) w h = absurd h
+  pushes_long more (Ok (Some report)) w h = let e = told report w ∙ outcome_of_long f (length buffer) more in cc
+
+  pushes_to : length (output f) ≤ length buffer → (result : Result (Option DecodeReport) PushError) → PushesBytes buffer phase bytes result buffer' phase' → Reads f m → PushesMessage result buffer' m
+  pushes_to fits (Ok None) w r =
+      let n = length buffer in
+      let l = ap length is ∙ length-append f (0 ∷ []) in
+      let o : stream_outcomes (take (length bytes) (f ++ 0 ∷ [])) n ≡ [] = ap (λ (x : List ℕ). stream_outcomes (take (length bytes) x) n) (sym is) ∙ w.outcomes [] (DecoderAfter-idle buffer phase idle) in
+      let one = one_outcome f n piece (length bytes) (omega arith) in
+      absurd (cc)
+  pushes_to fits (Ok (Some report)) w r =
+      let message : outcome_of f (length buffer) ≡ Message m = (outcome_reads f m (length buffer) piece.0 piece.1 below fits).1 r in
+      let same : take (frame_size_of report) buffer' ≡ m = (let t = told report w in cc) in
+      let bound = w.bound in
+      let len = w.len in
+      (sym (sym (ap length same) ∙ length-take-le (frame_size_of report) buffer' (omega arith)), same)
+  pushes_to fits (Err refusal) w r =
+      let n = length buffer in
+      let k = refusal.parsed_size in
+      let message : outcome_of f n ≡ Message m = (outcome_reads f m n piece.0 piece.1 below fits).1 r in
+      let after = DecoderAfter-idle buffer phase idle in
+      ⊎_elim
+      (λ (all : length f < k).
+      let o : stream_outcomes (take k (f ++ 0 ∷ [])) n ≡ pushed_outcomes bytes (Err refusal) buffer' = ap (λ (x : List ℕ). stream_outcomes (take k x) n) (sym is) ∙ w.outcomes [] after in
+      absurd (pushed-no_message bytes refusal buffer' m (ap (λ (x : Outcome). x ∷ []) (sym message) ∙ sym (one_outcome f n piece k all) ∙ o)))
+      (λ (short : k ≤ length f).
+      let stop = w.answer [] after.phased in
+      let last = stop.last in
+      let quiet = quiet_inside f n piece fits stop.place (omega arith) in
+      let answered = ap (λ (x : List ℕ). answer_at [] x n stop.place) (sym is) ∙ stop.answered in
+      absurd (let e = sym quiet ∙ answered in cc))
+      (cases_lt (length f) k)
+
+-- the bytes of a front are bytes
+All-front : (f : List ℕ) (bytes : List ℕ) → bytes ≡ f ++ 0 ∷ [] → All (λ b. b < 256) bytes → All (λ b. b < 256) f
+All-front f bytes is h = subst (λ (x : List ℕ). All (λ b. b < 256) x) (ap (take (length f)) is ∙ take_at f (0 ∷ []) (length f) refl) (All-take (λ b. b < 256) (length f) bytes h)
+
+pub push_reads : {buffer bytes buffer' : List ℕ} {phase phase' : Phase} {result : Result (Option DecodeReport) PushError} → PushesBytes buffer phase bytes result buffer' phase' → All (λ b. b < 256) bytes
+    → (f m : List ℕ) → phase ≡ Idle → bytes ≡ f ++ 0 ∷ [] → IsPiece f → PushesMessage result buffer' m ↔ (Reads f m × (length m ≤ length buffer))
+push_reads {buffer} {bytes} {buffer'} {phase} {phase'} {result} w below f m idle is piece =
+    let front = All-front f bytes is below in
+    reads_where_fits f m (length buffer) (PushesMessage result buffer' m)
+    (λ fits. (
+      pushes_from buffer bytes buffer' f phase phase' idle is front piece m fits result w,
+      pushes_to buffer bytes buffer' f phase phase' idle is front piece m fits result w,
+    ))
+    (λ more. pushes_long buffer bytes buffer' f phase phase' idle is front piece m more result w)

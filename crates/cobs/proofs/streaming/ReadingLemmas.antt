@@ -1,0 +1,273 @@
+-- Reads, one after another, and the first piece that ends in what they gave.
+use Rattle.std.proofs.Common.{◌≡◌, ◌≢◌, ℕ, ◌+◌, ◌-◌, ◌<◌, ◌≤◌, Bool, true, false, cond, leb, List, [], ◌∷◌, ◌++◌, length, take, drop, refl, sym, ap, ◌∙◌, subst, arith, append_assoc, length-append, length-take, Some, None, Ok, Err}
+use Rattle.std.specs.List.{All}
+use Rattle.std.proofs.lemmas.List.{append-nil, take_all, take-append-le, take-append-drop, drop-take, flat_map_more, length_push, same_from_push}
+use Rattle.std.proofs.lemmas.List.Elements.{All-nil, All-push, All-take, All-head, All-tail}
+use Rattle.std.proofs.lemmas.Grind.{flat_map-append}
+use Rattle.std.proofs.Math.Logic.{∥∥₁_elim}
+use Rattle.std.proofs.Math.Bool.{Bool-set}
+use Rattle.cobs.specs.Grammar.{is_full}
+use Rattle.cobs.specs.Piece.{output, lacks, last_part}
+use Rattle.cobs.specs.Stream.{Outcome, stream_outcomes, unended, is_nonempty}
+use Rattle.cobs.specs.Feed.{Phase, Idle, Within, Over, DecoderAfter, phase_after}
+use Rattle.cobs.specs.FeedPiece.{outcome_at, TakesPiece}
+use Rattle.cobs.specs.NextFrame.{Read, bytes_given, GaveBytes, all_given, EndsIn, Runs, CallsForMore, EachCalledFor, EndsFirst, ReaderState, ReaderAfter, AtStreamEnd, Tells, ReadsNext}
+use Rattle.cobs.specs.Internal.KeptBytes.{EndsFirstIn, DecoderHasTaken, IsOutcome, TellsFirst}
+use Rattle.cobs.specs.declared.framed.Next.{Next}
+use Rattle.cobs.specs.declared.framed.Next.TheVariants as nexts
+use Rattle.cobs.specs.declared.framed.ReadFault.TheVariants as faults
+use Rattle.cobs.specs.declared.dec.frame_decoder.PieceEnd.{PieceEnd}
+use Rattle.cobs.proofs.format.StreamLemmas.{stream_outcomes-append, stream_outcomes-no_zero, unended-append, unended-no_zero, unended-zero}
+use Rattle.cobs.proofs.streaming.SoFar.{left_nothing}
+
+-- THE FIRST PIECE THAT ENDS
+
+-- a piece that a decoder has taken
+pub EndsFirstIn-taken : {buffer buffer' : List ℕ} {phase phase' : Phase} {end : PieceEnd} {count : ℕ} (bytes : List ℕ) → TakesPiece buffer phase bytes (Some (end, count)) buffer' phase'
+    → (p : List ℕ) → DecoderAfter buffer phase p → EndsFirstIn p bytes (length buffer) (outcome_at end buffer') (drop count bytes)
+EndsFirstIn-taken {buffer} {buffer'} {phase} {phase'} {end} {count} bytes t p h = record {
+  front = t.ends.front;
+  cut = sym (take-append-drop count bytes) ∙ ap (λ (x : List ℕ). x ++ drop count bytes) t.ends.taken ∙ append_assoc t.ends.front (0 ∷ []) (drop count bytes);
+  none_before = t.ends.none_before p h.phased;
+  here = ap (λ (x : List ℕ). stream_outcomes (p ++ x) (length buffer)) (sym t.ends.taken) ∙ sym (t.takes.outcomes p h);
+}
+
+-- bytes behind a stream t in which no piece has ended
+pub EndsFirst-behind : (t : List ℕ) {bytes behind : List ℕ} {n : ℕ} {outcome : Outcome} → stream_outcomes t n ≡ [] → EndsFirstIn (unended t) bytes n outcome behind → EndsFirst (t ++ bytes) n outcome behind
+EndsFirst-behind t {bytes} {behind} {n} {outcome} none w = record {
+  front = t ++ w.front;
+  cut = ap (λ (x : List ℕ). t ++ x) w.cut ∙ sym (append_assoc t w.front (0 ∷ behind));
+  none_before = stream_outcomes-append t w.front n ∙ ap (λ (x : List Outcome). x ++ stream_outcomes (unended t ++ w.front) n) none ∙ w.none_before;
+  outcomes =
+      ap (λ (x : List ℕ). stream_outcomes x n) (ap (λ (x : List ℕ). t ++ x) (w.cut ∙ sym (append_assoc w.front (0 ∷ []) behind)) ∙ sym (append_assoc t (w.front ++ 0 ∷ []) behind))
+      ∙ stream_outcomes-append (t ++ (w.front ++ 0 ∷ [])) behind n
+      ∙ ap (λ (x : List Outcome). x ++ stream_outcomes (unended (t ++ (w.front ++ 0 ∷ [])) ++ behind) n) at_zero
+      ∙ ap (λ (x : List ℕ). outcome ∷ stream_outcomes (x ++ behind) n) (ap unended (sym (append_assoc t w.front (0 ∷ []))) ∙ unended-zero (t ++ w.front));
+}
+  where
+    at_zero : stream_outcomes (t ++ (w.front ++ 0 ∷ [])) n ≡ outcome ∷ []
+    at_zero = stream_outcomes-append t (w.front ++ 0 ∷ []) n ∙ ap (λ (x : List Outcome). x ++ stream_outcomes (unended t ++ (w.front ++ 0 ∷ [])) n) none ∙ w.here
+
+-- THE READER'S OWN NOTE OF A BEGUN PIECE
+
+not_idle : Phase → Bool
+not_idle Idle = false
+not_idle (Within full left count) = true
+not_idle Over = true
+
+nonempty_phase : (p : List ℕ) (n : ℕ) → is_nonempty p ≡ not_idle (phase_after p n)
+unfolding phase_after not_idle
+nonempty_phase [] n = refl
+nonempty_phase (c ∷ q) n = elim (leb (length (output (c ∷ q))) n) as (λ v. true ≡ not_idle (cond v (Within (is_full (last_part (c ∷ q))) (lacks (last_part (c ∷ q))) (length (output (c ∷ q)))) Over)) [ true ↦ refl | false ↦ refl ]
+
+-- a flag that is right behind some front is right behind each front that the decoder has taken
+pub HasTaken-any : (buffer : List ℕ) (phase : Phase) (flag : Bool) (q : List ℕ) → ∥ ((p : List ℕ) × DecoderHasTaken buffer phase flag p) ∥₁ → DecoderAfter buffer phase q → DecoderHasTaken buffer phase flag q
+HasTaken-any buffer phase flag q some h = record {
+  after = h;
+  flag = ∥∥₁_elim some (Bool-set flag (is_nonempty q)) (λ w.
+      w.1.flag ∙ nonempty_phase w.0 (length buffer) ∙ ap not_idle (sym w.1.after.phased.phase_is ∙ h.phased.phase_is) ∙ sym (nonempty_phase q (length buffer)));
+}
+
+-- ONE MORE READ
+
+Runs-push : {S : Type 0} (step : S → Read → S → Type 0) (a : S) (reads : List Read) (b c : S) (read : Read) → Runs step a reads b → step b read c → Runs step a (reads ++ read ∷ []) c
+Runs-push step a [] b c read r s = (c, subst (λ x. step x read c) (sym r) s, refl)
+Runs-push step a (first ∷ reads) b c read r s = (r.0, r.1, Runs-push step r.0 reads b c read r.2 s)
+
+given-push : (front : List ℕ) (reads : List Read) (read : Read) → front ++ all_given (reads ++ read ∷ []) ≡ front ++ all_given reads ++ bytes_given read
+given-push front reads read = sym (flat_map_more bytes_given front reads read)
+
+-- the last read is the one that was made last
+last_read : (reads : List Read) (read last : Read) → EndsIn (reads ++ read ∷ []) last → read ≡ last
+last_read reads read last e = (same_from_push reads e.0 read last e.1).1
+
+-- the reads in front of one of some reads and one more
+earlier_reads : (reads earlier later : List Read) (last read : Read) → reads ++ last ∷ [] ≡ earlier ++ read ∷ later → reads ≡ earlier ++ drop (length earlier) reads
+earlier_reads reads earlier later last read e =
+    let within : length earlier ≤ length reads = omega (arith, ap length e, length_push reads last, length-append earlier (read ∷ later)) in
+    sym (take-append-drop (length earlier) reads)
+    ∙ ap (λ (x : List Read). x ++ drop (length earlier) reads)
+    (sym (take-append-le (length earlier) reads (last ∷ []) within) ∙ ap (take (length earlier)) e ∙ take-append-le (length earlier) earlier (read ∷ later) (omega arith) ∙ take_all (length earlier) earlier (omega arith))
+
+-- what calls for a read behind some reads called for those as well
+called_earlier : (front : List ℕ) (n : ℕ) (reads earlier later : List Read) → reads ≡ earlier ++ later → length earlier < 65536 → All GaveBytes reads → stream_outcomes (front ++ all_given reads) n ≡ []
+    → CallsForMore front n earlier
+called_earlier front n reads earlier later e few gave none = record {
+  few = few;
+  gave = subst (λ (x : List Read). All GaveBytes x) (ap (take (length earlier)) e ∙ take-append-le (length earlier) earlier later (omega arith) ∙ take_all (length earlier) earlier (omega arith)) (All-take GaveBytes (length earlier) reads gave);
+  none_ended = left_nothing _ _ (sym (stream_outcomes-append (front ++ all_given earlier) (all_given later) n)
+      ∙ ap (λ (x : List ℕ). stream_outcomes x n) (append_assoc front (all_given earlier) (all_given later) ∙ ap (λ (x : List ℕ). front ++ x) (sym (flat_map-append bytes_given earlier later) ∙ ap all_given (sym e))) ∙ none);
+}
+
+-- each of some reads was called for, where another is called for behind them
+EachCalledFor-push : (front : List ℕ) (n : ℕ) (reads : List Read) (last : Read) → CallsForMore front n reads → EachCalledFor front n (reads ++ last ∷ [])
+EachCalledFor-push front n reads last more = λ earlier later read e.
+    called_earlier front n reads earlier (drop (length earlier) reads) (earlier_reads reads earlier later last read e)
+    (omega (arith, ap length e, length_push reads last, length-append earlier (read ∷ later), more.few)) more.gave more.none_ended
+
+-- the same of reads of which none is called for any more
+EachCalledFor-all : (front : List ℕ) (n : ℕ) (reads : List Read) → length reads ≤ 65536 → All GaveBytes reads → stream_outcomes (front ++ all_given reads) n ≡ [] → EachCalledFor front n reads
+EachCalledFor-all front n reads few gave none = λ earlier later read e.
+    called_earlier front n reads earlier (read ∷ later) e (omega (arith, ap length e, length-append earlier (read ∷ later))) gave none
+
+-- no reads
+EachCalledFor-nil : (front : List ℕ) (n : ℕ) → EachCalledFor front n []
+EachCalledFor-nil front n = λ earlier later read e. absurd (omega (arith, ap length e, length-append earlier (read ∷ later)))
+
+-- A CALL THAT GOES ON
+
+-- reads that all gave bytes and ended no piece: where the source and the reader are behind them, and the reader's note
+-- of a begun piece
+pub record Going {S : Type 0} (step : S → Read → S → Type 0) (from to : S) (reader₀ reader : ReaderState) (unfinished : Bool) (count : ℕ) : Type 0 where
+  pub reads : List Read
+  pub runs : Runs step from reads to
+  pub count_is : length reads ≡ count
+  pub gave : All GaveBytes reads
+  pub at_end : (p : List ℕ) → ReaderAfter reader₀ p → AtStreamEnd (p ++ reader₀.kept ++ all_given reads) reader
+  pub flag : (p : List ℕ) → ReaderAfter reader₀ p → unfinished ≡ is_nonempty (unended (p ++ reader₀.kept ++ all_given reads))
+  pub len : length reader.buffer ≡ length reader₀.buffer
+
+-- before any read
+pub Going-start : {S : Type 0} (step : S → Read → S → Type 0) (source : S) (reader₀ reader : ReaderState) (unfinished : Bool)
+    → ((p : List ℕ) → ReaderAfter reader₀ p → AtStreamEnd (p ++ reader₀.kept) reader × (unfinished ≡ is_nonempty (unended (p ++ reader₀.kept))))
+    → length reader.buffer ≡ length reader₀.buffer → Going step source source reader₀ reader unfinished 0
+Going-start step source reader₀ reader unfinished h len = grind (arith, All-nil, append-nil)
+
+some_is_none : (bytes : List ℕ) → Some bytes ≡ None → ⊥
+some_is_none bytes e = cc
+
+module _ {S : Type 0} {step : S → Read → S → Type 0} {from to : S} {reader₀ reader : ReaderState} {unfinished : Bool} {count : ℕ} where
+  more_called_for : count < 65536 → (g : Going step from to reader₀ reader unfinished count) → (p : List ℕ) → ReaderAfter reader₀ p → CallsForMore (p ++ reader₀.kept) (length reader₀.buffer) g.reads
+  more_called_for few g p b = record { few = omega (arith, g.count_is); gave = g.gave; none_ended = ap (stream_outcomes (p ++ reader₀.kept ++ all_given g.reads)) (sym g.len) ∙ (g.at_end p b).none_ended }
+
+  -- a read that gave nothing leaves the stream as it is
+  nothing_more : (g : Going step from to reader₀ reader unfinished count) (read : Read) → bytes_given read ≡ [] → (p : List ℕ) → p ++ reader₀.kept ++ all_given (g.reads ++ read ∷ []) ≡ p ++ reader₀.kept ++ all_given g.reads
+  nothing_more g read none p = given-push (p ++ reader₀.kept) g.reads read ∙ ap (λ (x : List ℕ). p ++ reader₀.kept ++ all_given g.reads ++ x) none ∙ append-nil _
+
+  -- the stream has come to its end, and the chunk is empty
+  emptied : (kept : List ℕ) → kept ≡ [] → (g : Going step from to reader₀ reader unfinished count) → (p : List ℕ) → ReaderAfter reader₀ p → AtStreamEnd (p ++ reader₀.kept ++ all_given g.reads) (record reader { kept = kept })
+  emptied kept e g p b = let end = g.at_end p b in record { none_ended = end.none_ended; after = end.after; nothing_kept = e }
+
+  -- WHERE THE SOURCE GIVES NO MORE
+
+  -- a read failed
+  pub ReadsNext-failed : {to' : S} (kept : List ℕ) → kept ≡ [] → count < 65536 → Going step from to reader₀ reader unfinished count → step to None to'
+      → ReadsNext step from to' reader₀ (Err faults.Io) (record reader { kept = kept })
+  ReadsNext-failed {to'} kept e few g s = record {
+    reads = g.reads ++ None ∷ [];
+    runs = Runs-push step from g.reads to to' None g.runs s;
+    failed = (λ _. (g.reads, refl), λ _. refl);
+    called_for = λ p b. EachCalledFor-push _ _ g.reads None (more_called_for few g p b);
+    tells = λ p b. rw (nothing_more g None refl p) (emptied kept e g p b, (g.reads, refl));
+  }
+
+  -- a read gave no bytes
+  pub ReadsNext-end : {to' : S} (kept : List ℕ) → kept ≡ [] → count < 65536 → Going step from to reader₀ reader unfinished count → step to (Some []) to'
+      → ReadsNext step from to' reader₀ (Ok (nexts.End unfinished)) (record reader { kept = kept })
+  ReadsNext-end {to'} kept e few g s = record {
+    reads = g.reads ++ Some [] ∷ [];
+    runs = Runs-push step from g.reads to to' (Some []) g.runs s;
+    failed = (λ f. absurd cc, λ l. absurd (some_is_none [] (last_read g.reads (Some []) None l)));
+    called_for = λ p b. EachCalledFor-push _ _ g.reads (Some []) (more_called_for few g p b);
+    tells = λ p b. rw (nothing_more g (Some []) refl p) (emptied kept e g p b, (g.reads, refl), g.flag p b);
+  }
+
+-- WHERE A PIECE ENDS
+
+-- an outcome is told
+Tells-outcome : (next : Next) (reads : List Read) (t : List ℕ) (reader : ReaderState) (outcome : Outcome)
+    → IsOutcome next reader.buffer outcome → EndsFirst t (length reader.buffer) outcome reader.kept → ReaderAfter reader [] → Tells (Ok next) reads t reader
+Tells-outcome (nexts.Message n) reads t reader outcome i w b = (record { first = subst (λ o. EndsFirst t (length reader.buffer) o reader.kept) i.0 w; idle = b }, i.1)
+Tells-outcome (nexts.Broken n) reads t reader outcome i w b = record { first = subst (λ o. EndsFirst t (length reader.buffer) o reader.kept) i w; idle = b }
+Tells-outcome nexts.TooLong reads t reader outcome i w b = record { first = subst (λ o. EndsFirst t (length reader.buffer) o reader.kept) i w; idle = b }
+Tells-outcome (nexts.End unfinished) reads t reader outcome i w b = absurd i
+
+-- the first piece that ends in some bytes is told, behind a stream in which none has ended
+Tells-first : (next : Next) (reads : List Read) (t bytes : List ℕ) (reader : ReaderState) → stream_outcomes t (length reader.buffer) ≡ []
+    → TellsFirst next (unended t) bytes reader.buffer reader.kept → ReaderAfter reader [] → Tells (Ok next) reads (t ++ bytes) reader
+Tells-first next reads t bytes reader none w b = Tells-outcome next reads (t ++ bytes) reader w.outcome w.is (EndsFirst-behind t none w.first) b
+
+-- the kept bytes end a piece: nothing is read
+pub ReadsNext-kept : {S : Type 0} (step : S → Read → S → Type 0) (source : S) (reader reader' : ReaderState) (next : Next)
+    → ((p : List ℕ) → ReaderAfter reader p → TellsFirst next p reader.kept reader'.buffer reader'.kept) → ReaderAfter reader' []
+    → ReadsNext step source source reader (Ok next) reader'
+ReadsNext-kept step source reader reader' next h idle = record {
+  reads = [];
+  runs = refl;
+  failed = (λ f. absurd cc, λ l. absurd (omega (arith, ap length l.1, length_push l.0 None)));
+  called_for = λ p b. EachCalledFor-nil _ _;
+  tells = λ p b.
+      let w : TellsFirst next (unended p) reader.kept reader'.buffer reader'.kept = rw (unended-no_zero p b.phased.piece) (h p b) in
+      rw (append-nil (p ++ reader.kept)) (Tells-first next [] p reader.kept reader' (stream_outcomes-no_zero p _ b.phased.piece) w idle);
+}
+
+All-last : {X : Type 0} (P : X → Type 0) (xs : List X) (x : X) → All P (xs ++ x ∷ []) → P x
+All-last P [] x h = All-head P x [] h
+All-last P (y ∷ xs) x h = All-last P xs x (All-tail P y (xs ++ x ∷ []) h)
+
+-- more bytes in which no piece ends
+AtStreamEnd-more : (t bytes : List ℕ) (reader reader' : ReaderState) → length reader'.buffer ≡ length reader.buffer → AtStreamEnd t reader → AtStreamEnd (unended t ++ bytes) reader' → AtStreamEnd (t ++ bytes) reader'
+AtStreamEnd-more t bytes reader reader' len before more = grind (arith, stream_outcomes-append, unended-append)
+
+module _ {S : Type 0} {step : S → Read → S → Type 0} {from to to' : S} {reader₀ reader reader' : ReaderState} {unfinished : Bool} {count : ℕ} where
+  -- the bytes that were read end a piece
+  pub ReadsNext-piece : (bytes : List ℕ) (next : Next) → count < 65536 → Going step from to reader₀ reader unfinished count → step to (Some bytes) to' → length reader'.buffer ≡ length reader.buffer
+      → ((q : List ℕ) → ReaderAfter reader q → TellsFirst next q bytes reader'.buffer reader'.kept) → ReaderAfter reader' []
+      → ReadsNext step from to' reader₀ (Ok next) reader'
+  ReadsNext-piece bytes next few g s len h idle = record {
+    reads = g.reads ++ Some bytes ∷ [];
+    runs = Runs-push step from g.reads to to' (Some bytes) g.runs s;
+    failed = (λ f. absurd cc, λ l. absurd (some_is_none bytes (last_read g.reads (Some bytes) None l)));
+    called_for = λ p b. EachCalledFor-push _ _ g.reads (Some bytes) (more_called_for few g p b);
+    tells = λ p b.
+        let t = p ++ reader₀.kept ++ all_given g.reads in
+        let end = g.at_end p b in
+        rw (given-push (p ++ reader₀.kept) g.reads (Some bytes)) (Tells-first next _ t bytes reader' (ap (stream_outcomes t) len ∙ end.none_ended) (h _ end.after) idle);
+  }
+
+  -- they end none, and the call goes on
+  pub Going-push : (bytes : List ℕ) (unfinished' : Bool) → bytes ≢ [] → Going step from to reader₀ reader unfinished count → step to (Some bytes) to' → length reader'.buffer ≡ length reader.buffer
+      → ((q : List ℕ) → ReaderAfter reader q → AtStreamEnd (q ++ bytes) reader' × (unfinished' ≡ is_nonempty (unended (q ++ bytes))))
+      → Going step from to' reader₀ reader' unfinished' (count + 1)
+  Going-push bytes unfinished' some g s len h = record {
+    reads = g.reads ++ Some bytes ∷ [];
+    runs = Runs-push step from g.reads to to' (Some bytes) g.runs s;
+    count_is = length_push g.reads (Some bytes) ∙ ap (λ (k : ℕ). k + 1) g.count_is;
+    gave = All-push GaveBytes g.reads (Some bytes) g.gave some;
+    at_end = λ p b.
+        let t = p ++ reader₀.kept ++ all_given g.reads in
+        let end = g.at_end p b in
+        rw (given-push (p ++ reader₀.kept) g.reads (Some bytes))
+        (AtStreamEnd-more t bytes reader reader' len end (h _ end.after).0);
+    flag = λ p b.
+        let t = p ++ reader₀.kept ++ all_given g.reads in
+        rw (given-push (p ++ reader₀.kept) g.reads (Some bytes), unended-append t bytes) (h _ (g.at_end p b).after).1;
+    len = len ∙ g.len;
+  }
+
+-- the last read that is allowed ended no piece
+pub ReadsNext-too_many : {S : Type 0} {step : S → Read → S → Type 0} {from to : S} {reader₀ reader : ReaderState} {unfinished : Bool} {count : ℕ} → count ≡ 65536 → Going step from to reader₀ reader unfinished count
+    → ReadsNext step from to reader₀ (Err faults.TooManyReads) reader
+ReadsNext-too_many {reader₀} {reader} all g = record {
+  reads = g.reads;
+  runs = g.runs;
+  failed = (λ f. absurd cc, λ l. absurd (All-last GaveBytes l.0 None (subst (λ (x : List Read). All GaveBytes x) l.1 g.gave) refl));
+  called_for = λ p b. EachCalledFor-all _ _ g.reads (omega (arith, g.count_is)) g.gave (ap (stream_outcomes (p ++ reader₀.kept ++ all_given g.reads)) (sym g.len) ∙ (g.at_end p b).none_ended);
+  tells = λ p b. (g.at_end p b, g.count_is ∙ all, g.gave);
+}
+
+-- THE FRONT OF A CHUNK
+
+-- the bytes of a chunk that a read gave aren't none
+pub front_nonempty : (xs : List ℕ) (n : ℕ) → n ≤ length xs → n ≢ 0 → take n xs ≢ []
+front_nonempty xs n within some = λ e. some (omega (arith, ap length e, length-take n xs, within))
+
+-- what is left of them after the first of them
+pub front_rest : (xs : List ℕ) (n count : ℕ) → count ≤ n → drop count (take n xs) ≡ take (n - count) (drop count xs)
+front_rest xs n count h =
+    let e : n ≡ count + (n - count) = omega arith in
+    ap (λ (k : ℕ). drop count (take k xs)) e ∙ drop-take count (n - count) xs
+
+-- a range that ends where it starts is empty
+pub empty_range : (xs : List ℕ) (from to : ℕ) → from ≡ to → take (to - from) (drop from xs) ≡ []
+empty_range xs from to e = let none : to - from ≡ 0 = omega (arith, e) in ap (λ (k : ℕ). take k (drop from xs)) none

@@ -1,0 +1,184 @@
+-- A stretch without zeros behind a block boundary, fed as a whole: its output is written, and the phase is that of its last part.
+use Rattle.std.proofs.Common.{◌≡◌, ◌≢◌, ℕ, zero, suc, ◌+◌, ◌-◌, ◌<◌, ◌≤◌, Bool, true, false, cond, eqb, List, [], ◌∷◌, ◌++◌, length, take, drop, set, refl, sym, ap, ◌∙◌, subst, arith, append_assoc, inl, inr, length-append, length-drop, None, Ok}
+use Rattle.std.proofs.lemmas.List.{append-nil, length-set, length_push, length-take-le, take-append-drop, drop_all, drop-drop, take_rest}
+use Rattle.std.proofs.lemmas.List.Elements.{All-head, All-tail, All-drop}
+use Rattle.std.proofs.lemmas.Bool.{ne_eqb, eqb-true, lt-ltb, cases_lt}
+use Rattle.std.specs.List.{All}
+use borrow.Rule.Slice.PartMut.{put_mid}
+use Rattle.cobs.specs.Grammar.{HasNoZero, code_of, is_full}
+use Rattle.cobs.specs.Piece.{output, last_part, lacks, parts, parts_after}
+use Rattle.cobs.specs.Feed.{Phase, Idle, Within, Over}
+use Rattle.cobs.specs.declared.dec.unbuffered.UnbufferedDecoder.{UnbufferedDecoder}
+use Rattle.cobs.specs.Fields.Decoders.{phase_of, phase_with}
+use Rattle.cobs.specs.Internal.FedInTurn.{FedInTurn}
+use Rattle.cobs.specs.Step.{grows, next_phase, next_buffer, next_answer, end_answer, if_over}
+use Rattle.cobs.proofs.decoding.PieceLemmas.{output-one, last_part-one, output-push_more, output-push_next, last_part-push_next, lacks-push_more, is_full-push_more}
+use Rattle.cobs.proofs.decoding.PieceCuts.{last_part-more, last_part-last, output-last, output-more, joint_of}
+use Rattle.cobs.proofs.streaming.PushLemmas.{output-grows}
+use Rattle.cobs.proofs.streaming.RunLemmas.{over, over-nil, over-push, begun}
+
+-- the bytes are fed in two parts
+pub FedInTurn-append : (xs ys buffer buffer' buffer'' : List ℕ) (phase phase' phase'' : Phase)
+    → FedInTurn buffer phase xs buffer' phase' → FedInTurn buffer' phase' ys buffer'' phase'' → FedInTurn buffer phase (xs ++ ys) buffer'' phase''
+FedInTurn-append [] ys buffer buffer' buffer'' phase phase' phase'' f g = grind arith
+FedInTurn-append (x ∷ xs) ys buffer buffer' buffer'' phase phase' phase'' f g =
+    (f.0, FedInTurn-append xs ys (next_buffer buffer phase x) buffer' buffer'' (next_phase (length buffer) phase x) phase' phase'' f.1 g)
+
+length-over : (base : ℕ) (buffer xs : List ℕ) → base + length xs ≤ length buffer → length (over base buffer xs) ≡ length buffer
+length-over base buffer xs room = omega (arith, length-append (take base buffer) (xs ++ drop (base + length xs) buffer), length-append xs (drop (base + length xs) buffer), length-take-le base buffer (omega arith), length-drop (base + length xs) buffer)
+
+-- the phase behind the front q of a stretch whose output begins at base
+abbrev pub phase_at : ℕ → List ℕ → Phase
+phase_at base q = Within (is_full (last_part q)) (lacks (last_part q)) (base + length (output q))
+
+-- a byte behind a front of the stretch
+record Steps (base : ℕ) (buffer : List ℕ) (phase : Phase) (before q' : List ℕ) (x : ℕ) : Type 0 where
+  answer : next_answer (length buffer) phase x ≡ Ok None
+  phase_is : next_phase (length buffer) phase x ≡ phase_at base q'
+  buffer_is : next_buffer (over base buffer before) phase x ≡ over base buffer (output q')
+
+answer_if : (n : ℕ) (phase phase' : Phase) (x : ℕ) → x ≢ 0 → next_phase n phase x ≡ phase' → if_over phase' ≡ Ok None → next_answer n phase x ≡ Ok None
+answer_if n phase phase' x nz e o = ap (λ (v : Bool). cond v (end_answer n phase) (if_over (next_phase n phase x))) (ne_eqb x 0 nz) ∙ ap if_over e ∙ o
+
+grown_phase : (n : ℕ) (full : Bool) (left count : ℕ) → count < n → grows n full left count ≡ Within full left (count + 1)
+grown_phase n full left count room = ap (λ (v : Bool). cond v (Within full left (count + 1)) Over) (lt-ltb count n room)
+
+pub within_same : (full full' : Bool) (left left' count count' : ℕ) → full ≡ full' → left ≡ left' → count ≡ count' → Within full left count ≡ Within full' left' count'
+within_same full full' left left' count count' f l c = ap (λ (v : Bool). Within v left count) f ∙ ap (λ (k : ℕ). Within full' k count) l ∙ ap (λ (k : ℕ). Within full' left' k) c
+
+step_at : (base : ℕ) (buffer : List ℕ) (c : ℕ) (q : List ℕ) (x : ℕ) (full : Bool) (left : ℕ) → is_full (last_part (c ∷ q)) ≡ full → lacks (last_part (c ∷ q)) ≡ left → x ≢ 0
+    → base + length (output (c ∷ q ++ x ∷ [])) ≤ length buffer → Steps base buffer (Within full left (base + length (output (c ∷ q)))) (output (c ∷ q)) (c ∷ q ++ x ∷ []) x
+step_at base buffer c q x full (suc left) f l nz room =
+    let n : ℕ = length buffer in
+    let count : ℕ = base + length (output (c ∷ q)) in
+    let out : output (c ∷ q ++ x ∷ []) ≡ output (c ∷ q) ++ x ∷ [] = output-push_more (c ∷ q) x (omega arith) in
+    let long : length (output (c ∷ q ++ x ∷ [])) ≡ length (output (c ∷ q)) + 1 = ap length out ∙ length_push (output (c ∷ q)) x in
+    let is : next_phase n (Within full (suc left) count) x ≡ phase_at base (c ∷ q ++ x ∷ []) =
+    ap (λ (v : Bool). cond v Idle (grows n full left count)) (ne_eqb x 0 nz) ∙ grown_phase n full left count (omega arith)
+    ∙ within_same _ _ _ _ _ _ (sym (is_full-push_more (c ∷ q) x (omega arith) ∙ f)) (omega (arith, lacks-push_more (c ∷ q) x (omega arith))) (omega arith) in
+    record {
+      answer = answer_if n (Within full (suc left) count) _ x nz is refl;
+      phase_is = is;
+      buffer_is = ap (λ (v : Bool). cond v (over base buffer (output (c ∷ q))) (set (over base buffer (output (c ∷ q))) count x)) (ne_eqb x 0 nz)
+          ∙ over-push base buffer (output (c ∷ q)) x (omega arith) ∙ ap (over base buffer) (sym out);
+    }
+step_at base buffer c q x true zero f l nz room = grind (arith, output-push_next, append-nil, ne_eqb, within_same, last_part-push_next, answer_if, over)
+step_at base buffer c q x false zero f l nz room = grind (arith, output-push_next, length_push, ne_eqb, grown_phase, within_same, last_part-push_next, answer_if, over, over-push)
+
+-- a stretch behind the front of it that was fed
+FedInTurn-on : (base : ℕ) (buffer : List ℕ) (c : ℕ) (q tail : List ℕ) → HasNoZero tail → base + length (output (c ∷ q ++ tail)) ≤ length buffer
+    → FedInTurn (over base buffer (output (c ∷ q))) (phase_at base (c ∷ q)) tail (over base buffer (output (c ∷ q ++ tail))) (phase_at base (c ∷ q ++ tail))
+FedInTurn-on base buffer c q [] h room = (ap (λ (z : List ℕ). over base buffer (output z)) (append-nil (c ∷ q)), ap (phase_at base) (append-nil (c ∷ q)))
+FedInTurn-on base buffer c q (x ∷ tail) h room =
+    let same : (c ∷ q ++ x ∷ []) ++ tail ≡ c ∷ q ++ x ∷ tail = append_assoc (c ∷ q) (x ∷ []) tail in
+    let long : length (over base buffer (output (c ∷ q))) ≡ length buffer = length-over base buffer (output (c ∷ q)) (omega (arith, output-grows (c ∷ q) (x ∷ tail))) in
+    let fits : base + length (output ((c ∷ q ++ x ∷ []) ++ tail)) ≤ length buffer = omega (arith, ap (λ (z : List ℕ). length (output z)) same) in
+    let s : Steps base buffer (phase_at base (c ∷ q)) (output (c ∷ q)) (c ∷ q ++ x ∷ []) x
+    = step_at base buffer c q x _ _ refl refl (All-head (λ b. b ≢ 0) x tail h) (omega (arith, output-grows (c ∷ q ++ x ∷ []) tail)) in
+    let again : FedInTurn (over base buffer (output (c ∷ q ++ x ∷ []))) (phase_at base (c ∷ q ++ x ∷ [])) tail (over base buffer (output ((c ∷ q ++ x ∷ []) ++ tail))) (phase_at base ((c ∷ q ++ x ∷ []) ++ tail))
+    = FedInTurn-on base buffer c (q ++ x ∷ []) tail (All-tail (λ b. b ≢ 0) x tail h) fits in
+    let to : FedInTurn (over base buffer (output (c ∷ q ++ x ∷ []))) (phase_at base (c ∷ q ++ x ∷ [])) tail (over base buffer (output (c ∷ q ++ x ∷ tail))) (phase_at base (c ∷ q ++ x ∷ tail))
+    = subst (λ (z : List ℕ). FedInTurn (over base buffer (output (c ∷ q ++ x ∷ []))) (phase_at base (c ∷ q ++ x ∷ [])) tail (over base buffer (output z)) (phase_at base z)) same again in (
+      ap (λ (n : ℕ). next_answer n (phase_at base (c ∷ q)) x) long ∙ s.answer,
+      subst (λ (z : List ℕ). FedInTurn z (next_phase (length (over base buffer (output (c ∷ q)))) (phase_at base (c ∷ q)) x) tail (over base buffer (output (c ∷ q ++ x ∷ tail))) (phase_at base (c ∷ q ++ x ∷ tail))) (sym s.buffer_is)
+          (subst (λ (z : Phase). FedInTurn (over base buffer (output (c ∷ q ++ x ∷ []))) z tail (over base buffer (output (c ∷ q ++ x ∷ tail))) (phase_at base (c ∷ q ++ x ∷ tail)))
+          (sym (ap (λ (n : ℕ). next_phase n (phase_at base (c ∷ q)) x) long ∙ s.phase_is)) to),
+    )
+
+-- where the output of a stretch begins that stands behind a block boundary
+abbrev pub base_of : Bool → ℕ → ℕ
+base_of true count = count
+base_of false count = count + 1
+
+-- the buffer with the zero that joins the stretch to the block before it
+abbrev pub joined : Bool → ℕ → List ℕ → List ℕ
+joined true count buffer = buffer
+joined false count buffer = set buffer count 0
+
+over-start : (base c : ℕ) (buffer : List ℕ) → over base buffer (output (c ∷ [])) ≡ buffer
+over-start base c buffer = ap (over base buffer) (output-one c) ∙ over-nil base buffer
+
+phase-start : (base c : ℕ) → phase_at base (c ∷ []) ≡ Within (eqb c 255) (c - 1) base
+phase-start base c = within_same _ _ _ _ _ _ (ap is_full (last_part-one c)) (ap lacks (last_part-one c)) (omega (arith, ap length (output-one c)))
+
+-- the code at a boundary, and the bytes behind it
+first_fed : (base : ℕ) (buffer buffer₁ : List ℕ) (phase : Phase) (c : ℕ) (q : List ℕ) → HasNoZero (c ∷ q) → length buffer₁ ≡ length buffer → base + length (output (c ∷ q)) ≤ length buffer
+    → next_phase (length buffer) phase c ≡ Within (eqb c 255) (c - 1) base → next_buffer buffer phase c ≡ buffer₁
+    → FedInTurn buffer phase (c ∷ q) (over base buffer₁ (output (c ∷ q))) (phase_at base (c ∷ q))
+first_fed base buffer buffer₁ phase c q h same room phase_is buffer_is =
+    let on : FedInTurn (over base buffer₁ (output (c ∷ []))) (phase_at base (c ∷ [])) q (over base buffer₁ (output (c ∷ q))) (phase_at base (c ∷ q))
+    = FedInTurn-on base buffer₁ c [] q (All-tail (λ b. b ≢ 0) c q h) (omega arith) in (
+      answer_if (length buffer) phase _ c (All-head (λ b. b ≢ 0) c q h) phase_is refl,
+      subst (λ (z : List ℕ). FedInTurn z (next_phase (length buffer) phase c) q (over base buffer₁ (output (c ∷ q))) (phase_at base (c ∷ q))) (over-start base c buffer₁ ∙ sym buffer_is)
+          (subst (λ (z : Phase). FedInTurn (over base buffer₁ (output (c ∷ []))) z q (over base buffer₁ (output (c ∷ q))) (phase_at base (c ∷ q))) (phase-start base c ∙ sym phase_is) on),
+    )
+
+-- THE BULK LEMMA: a stretch behind a block boundary is fed by writing its output
+pub FedInTurn-blocks : (full : Bool) (count : ℕ) (buffer : List ℕ) (c : ℕ) (q : List ℕ) → HasNoZero (c ∷ q) → base_of full count + length (output (c ∷ q)) ≤ length buffer
+    → FedInTurn buffer (phase_with full 0 count) (c ∷ q) (over (base_of full count) (joined full count buffer) (output (c ∷ q))) (phase_at (base_of full count) (c ∷ q))
+FedInTurn-blocks true zero buffer c q h room =
+    first_fed 0 buffer buffer Idle c q h refl room (ap (λ (v : Bool). cond v Idle (Within (eqb c 255) (c - 1) 0)) (ne_eqb c 0 (All-head (λ b. b ≢ 0) c q h))) refl
+FedInTurn-blocks true (suc count) buffer c q h room =
+    first_fed (suc count) buffer buffer (Within true 0 (suc count)) c q h refl room (ap (λ (v : Bool). cond v Idle (Within (eqb c 255) (c - 1) (suc count))) (ne_eqb c 0 (All-head (λ b. b ≢ 0) c q h))) refl
+FedInTurn-blocks false count buffer c q h room =
+    let nz : eqb c 0 ≡ false = ne_eqb c 0 (All-head (λ b. b ≢ 0) c q h) in
+    first_fed (count + 1) buffer (set buffer count 0) (Within false 0 count) c q h (length-set buffer count 0) room
+    (ap (λ (v : Bool). cond v Idle (grows (length buffer) (eqb c 255) (c - 1) count)) nz ∙ grown_phase (length buffer) (eqb c 255) (c - 1) count (omega arith))
+    (ap (λ (v : Bool). cond v buffer (set buffer count 0)) nz)
+
+-- a full part that lacks nothing has written bytes
+written_by : (n : ℕ) (p : List ℕ) → length p ≤ n → 0 < length p → is_full (last_part p) ≡ true → lacks (last_part p) ≡ 0 → 0 < length (output p)
+written_by n [] h some f l = absurd (omega arith)
+written_by zero (code ∷ bytes) h some f l = absurd (omega arith)
+written_by (suc n) (code ∷ bytes) h some f l = grind (arith, cases_lt, length-drop, last_part-more, output-more, length-append, joint_of, eqb-true, last_part-last, output-last)
+
+-- the phase behind a stretch, by the fields of a decoder
+phase_with-at : (base : ℕ) (p : List ℕ) (full : Bool) (left : ℕ) → 0 < length p → is_full (last_part p) ≡ full → lacks (last_part p) ≡ left
+    → phase_with full left (base + length (output p)) ≡ Within full left (base + length (output p))
+phase_with-at base p false left some f l = refl
+phase_with-at base p true (suc left) some f l = refl
+phase_with-at base p true zero some f l = begun true 0 (base + length (output p)) (omega (arith, written_by (length p) p (omega arith) some f l))
+
+-- THE RUN OF A DECODER
+
+put_over : (at written : ℕ) (dest ys out : List ℕ) → at + length out ≤ length dest → written ≡ length out → take written ys ≡ out → drop written ys ≡ drop written (take (length dest - at) (drop at dest))
+    → put_mid at (length dest - at) dest ys ≡ over at dest out
+put_over at written dest ys out room long front rest = grind (arith, drop_all, length-drop, take-append-drop, take_rest, drop-drop, append-nil)
+
+some_fed : (full : Bool) (count : ℕ) (buffer piece : List ℕ) → HasNoZero piece → 0 < length piece → base_of full count + length (output piece) ≤ length buffer
+    → FedInTurn buffer (phase_with full 0 count) piece (over (base_of full count) (joined full count buffer) (output piece)) (phase_at (base_of full count) piece)
+some_fed full count buffer [] h some room = absurd (omega arith)
+some_fed full count buffer (c ∷ q) h some room = FedInTurn-blocks full count buffer c q h room
+
+pub blocks_fed : (inner : UnbufferedDecoder) (code left : ℕ) (dest dest₁ piece ys : List ℕ) (at written : ℕ) → inner.over ≡ false → inner.left ≡ 0
+    → HasNoZero piece → 0 < length piece → at ≡ base_of (eqb inner.code 255) inner.dest_idx → dest₁ ≡ joined (eqb inner.code 255) inner.dest_idx dest → length dest₁ ≡ length dest → at + length (output piece) ≤ length dest
+    → written ≡ length (output piece) → take written ys ≡ output piece → drop written ys ≡ drop written (take (length dest₁ - at) (drop at dest₁))
+    → code ≡ code_of (last_part piece) → left ≡ lacks (last_part piece)
+    → FedInTurn dest (phase_of inner) piece (put_mid at (length dest₁ - at) dest₁ ys) (phase_of (record { dest_idx = at + written; left = left; code = code; over = inner.over }))
+blocks_fed inner code left dest dest₁ piece ys at written going boundary nz some at-is dest-is same room long front rest code-is left-is =
+    let fed : FedInTurn dest (phase_with (eqb inner.code 255) 0 inner.dest_idx) piece (over (base_of (eqb inner.code 255) inner.dest_idx) (joined (eqb inner.code 255) inner.dest_idx dest) (output piece)) (phase_at (base_of (eqb inner.code 255) inner.dest_idx) piece)
+    = some_fed (eqb inner.code 255) inner.dest_idx dest piece nz some (omega arith) in
+    let buffer_is : over (base_of (eqb inner.code 255) inner.dest_idx) (joined (eqb inner.code 255) inner.dest_idx dest) (output piece) ≡ put_mid at (length dest₁ - at) dest₁ ys
+    = ap (λ (k : ℕ). over k (joined (eqb inner.code 255) inner.dest_idx dest) (output piece)) (sym at-is) ∙ ap (λ (l : List ℕ). over at l (output piece)) (sym dest-is)
+    ∙ sym (put_over at written dest₁ ys (output piece) (omega arith) long front rest) in
+    let phase_is : phase_at (base_of (eqb inner.code 255) inner.dest_idx) piece ≡ phase_with (eqb code 255) left (at + written) =
+    ap (λ (k : ℕ). phase_at k piece) (sym at-is) ∙ sym (phase_with-at at piece (is_full (last_part piece)) (lacks (last_part piece)) some refl refl)
+    ∙ ap (λ (v : Bool). phase_with v (lacks (last_part piece)) (at + length (output piece))) (sym (ap (λ (k : ℕ). eqb k 255) code-is))
+    ∙ ap (λ (k : ℕ). phase_with (eqb code 255) k (at + length (output piece))) (sym left-is) ∙ ap (λ (k : ℕ). phase_with (eqb code 255) left (at + k)) (sym long) in
+    subst (λ (v : Bool). FedInTurn dest (cond v Over (phase_with (eqb inner.code 255) inner.left inner.dest_idx)) piece (put_mid at (length dest₁ - at) dest₁ ys) (cond v Over (phase_with (eqb code 255) left (at + written)))) (sym going)
+    (subst (λ (k : ℕ). FedInTurn dest (phase_with (eqb inner.code 255) k inner.dest_idx) piece (put_mid at (length dest₁ - at) dest₁ ys) (phase_with (eqb code 255) left (at + written))) (sym boundary)
+    (subst (λ (z : Phase). FedInTurn dest (phase_with (eqb inner.code 255) 0 inner.dest_idx) piece (put_mid at (length dest₁ - at) dest₁ ys) z) phase_is
+    (subst (λ (z : List ℕ). FedInTurn dest (phase_with (eqb inner.code 255) 0 inner.dest_idx) piece z (phase_at (base_of (eqb inner.code 255) inner.dest_idx) piece)) buffer_is fed)))
+
+-- the last part of a piece of bytes has a code below 256, and lacks less
+last_by : (n : ℕ) (p : List ℕ) → length p ≤ n → All (λ b. b < 256) p → code_of (last_part p) < 256
+unfolding last_part parts parts_after
+last_by n [] h small = omega arith
+last_by zero (code ∷ bytes) h small = absurd (omega arith)
+last_by (suc n) (code ∷ bytes) h small = elim (cases_lt (code - 1) (length bytes)) [
+  | inl more ↦ rw (last_part-more code bytes more) (last_by n (drop (code - 1) bytes) (omega (arith, length-drop (code - 1) bytes)) (All-drop (λ b. b < 256) (code - 1) bytes (All-tail (λ b. b < 256) code bytes small)))
+  | inr short ↦ rw (last_part-last code bytes short) (All-head (λ b. b < 256) code bytes small)
+]
+
+pub code_small : (p : List ℕ) → All (λ b. b < 256) p → code_of (last_part p) < 256
+code_small p small = last_by (length p) p (omega arith) small

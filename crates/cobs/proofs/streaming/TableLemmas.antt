@@ -1,0 +1,136 @@
+-- The table of `DecoderState` against the grammar.
+use Rattle.std.proofs.Common.{◌≡◌, ◌≢◌, ℕ, zero, suc, ◌+◌, ◌-◌, ◌<◌, ◌↔◌, Bool, true, false, cond, eqb, ltb, Some, List, [], ◌∷◌, ◌++◌, All, Ok, Err, refl, sym, ap, ◌∙◌, arith}
+use Rattle.std.proofs.lemmas.Bool.{eqb-true, ne_eqb}
+use Rattle.std.proofs.lemmas.List.{append-nil}
+use Rattle.std.proofs.lemmas.List.Elements.{All-nil, All-push}
+use Rattle.cobs.specs.Grammar.{HasNoZero, is_full, Reads}
+use Rattle.cobs.specs.Piece.{parts, parts_after, last_part, lacks, is_whole, output}
+use Rattle.cobs.specs.Table.{opened_by, table_answer, table_state, data_of, state_after, StateAfter}
+use Rattle.cobs.specs.declared.dec.state.DecoderState.{DecoderState}
+use Rattle.cobs.specs.declared.dec.state.DecoderState.TheVariants.{Idle, Grab, GrabChain}
+use Rattle.cobs.specs.Feed.{Phase, Within, Over, state_in}
+use Rattle.cobs.specs.Feed as phases
+use Rattle.cobs.specs.Step.{next_phase}
+use Rattle.cobs.specs.declared.dec.state.DecodeResult.TheVariants.{NoData, DataStart, DataComplete, DataContinue}
+use Rattle.cobs.specs.declared.dec.DecodeError.TheVariants.{InvalidFrame}
+use Rattle.cobs.proofs.decoding.OutcomeLemmas.{reads_iff}
+use Rattle.cobs.proofs.decoding.PieceLemmas.{output-one, last_part-one, output-push_more, output-push_next, last_part-push_next, lacks-push_more, is_full-push_more}
+
+-- in a block, full or not, that lacks so many bytes
+abbrev pub inside : Bool → ℕ → DecoderState
+inside full left = cond full (GrabChain left) (Grab left)
+
+state_after-is : (c : ℕ) (q : List ℕ) {full : Bool} {left : ℕ} → is_full (last_part (c ∷ q)) ≡ full → lacks (last_part (c ∷ q)) ≡ left → state_after (c ∷ q) ≡ inside full left
+state_after-is c q f l = ap (λ (x : Bool). inside x (lacks (last_part (c ∷ q)))) f ∙ ap (inside _) l
+
+-- the state behind a code
+pub opened_by-is : (b : ℕ) → opened_by b ≡ inside (eqb b 255) (b - 1)
+opened_by-is b = grind (arith, inside, eqb-true)
+
+opened_after : (c : ℕ) (q : List ℕ) (b : ℕ) → last_part (c ∷ q) ≡ b ∷ [] → opened_by b ≡ state_after (c ∷ q)
+opened_after c q b is = opened_by-is b ∙ sym (state_after-is c q (ap is_full is) (ap lacks is))
+
+-- one more byte inside a piece
+module _ (c : ℕ) (q : List ℕ) (b : ℕ) (some : b ≢ 0) where
+  state_step : (full : Bool) (left : ℕ) → is_full (last_part (c ∷ q)) ≡ full → lacks (last_part (c ∷ q)) ≡ left → table_state (inside full left) b ≡ state_after (c ∷ q ++ b ∷ [])
+  state_step true (suc left) f l =
+      ap (λ (t : Bool). cond t Idle (GrabChain left)) (ne_eqb b 0 some)
+      ∙ sym (state_after-is c (q ++ b ∷ []) (is_full-push_more (c ∷ q) b (omega arith) ∙ f) (let k = lacks-push_more (c ∷ q) b (omega arith) in omega arith))
+  state_step false (suc left) f l =
+      ap (λ (t : Bool). cond t Idle (Grab left)) (ne_eqb b 0 some)
+      ∙ sym (state_after-is c (q ++ b ∷ []) (is_full-push_more (c ∷ q) b (omega arith) ∙ f) (let k = lacks-push_more (c ∷ q) b (omega arith) in omega arith))
+  state_step true zero f l = ap (λ (t : Bool). cond t Idle (opened_by b)) (ne_eqb b 0 some) ∙ opened_after c (q ++ b ∷ []) b (last_part-push_next c q b l)
+  state_step false zero f l = ap (λ (t : Bool). cond t Idle (opened_by b)) (ne_eqb b 0 some) ∙ opened_after c (q ++ b ∷ []) b (last_part-push_next c q b l)
+
+  data_step : (full : Bool) (left : ℕ) → is_full (last_part (c ∷ q)) ≡ full → lacks (last_part (c ∷ q)) ≡ left → output (c ∷ q) ++ data_of (table_answer (inside full left) b) ≡ output (c ∷ q ++ b ∷ [])
+  data_step true (suc left) f l =
+      ap (λ (t : Bool). output (c ∷ q) ++ data_of (cond t (Err (InvalidFrame 0)) (Ok (DataContinue b)))) (ne_eqb b 0 some) ∙ sym (output-push_more (c ∷ q) b (omega arith))
+  data_step false (suc left) f l =
+      ap (λ (t : Bool). output (c ∷ q) ++ data_of (cond t (Err (InvalidFrame 0)) (Ok (DataContinue b)))) (ne_eqb b 0 some) ∙ sym (output-push_more (c ∷ q) b (omega arith))
+  data_step true zero f l = grind (arith, ne_eqb, output-push_next)
+  data_step false zero f l = grind (arith, ne_eqb, output-push_next)
+
+-- the state behind a byte that is no zero, and the data with what the table answers to it
+next_state : (p : List ℕ) (b : ℕ) → b ≢ 0 → table_state (state_after p) b ≡ state_after (p ++ b ∷ [])
+next_state [] b some = ap (λ (t : Bool). cond t Idle (opened_by b)) (ne_eqb b 0 some) ∙ opened_after b [] b (last_part-one b)
+next_state (c ∷ q) b some = state_step c q b some _ _ refl refl
+
+-- no piece, no output
+pub output-nil : output [] ≡ []
+unfolding output parts parts_after
+output-nil = refl
+
+next_data : (p : List ℕ) (b : ℕ) → b ≢ 0 → output p ++ data_of (table_answer (state_after p) b) ≡ output (p ++ b ∷ [])
+next_data [] b some = grind (arith, ne_eqb, append-nil, output-nil, output-one)
+next_data (c ∷ q) b some = data_step c q b some _ _ refl refl
+
+pub StateAfter-step : (state : DecoderState) (p so_far : List ℕ) (b : ℕ) → b < 256 → StateAfter state p so_far → b ≢ 0
+    → StateAfter (table_state state b) (p ++ b ∷ []) (so_far ++ data_of (table_answer state b))
+StateAfter-step state p so_far b below s some = record {
+  piece = All-push (λ byte. byte ≢ 0) p b s.piece some;
+  bytes = All-push (λ byte. byte < 256) p b s.bytes below;
+  state_is = ap (λ x. table_state x b) s.state_is ∙ next_state p b some;
+  so_far_is = ap (λ (x : List ℕ). x ++ data_of (table_answer state b)) s.so_far_is ∙ ap (λ x. output p ++ data_of (table_answer x b)) s.state_is ∙ next_data p b some;
+}
+
+pub StateAfter-start : StateAfter Idle [] []
+StateAfter-start = grind (arith, All-nil, output-nil)
+
+pub table_state-zero : (state : DecoderState) → table_state state 0 ≡ Idle
+table_state-zero Idle = refl
+table_state-zero (Grab zero) = refl
+table_state-zero (Grab (suc left)) = refl
+table_state-zero (GrabChain zero) = refl
+table_state-zero (GrabChain (suc left)) = refl
+
+-- the answer to a zero
+end_answer-is : (full : Bool) (left : ℕ) → table_answer (inside full left) 0 ≡ cond (eqb left 0) (Ok DataComplete) (Err (InvalidFrame 0))
+end_answer-is true zero = refl
+end_answer-is false zero = refl
+end_answer-is true (suc left) = sym (ap (λ (t : Bool). cond t (Ok DataComplete) (Err (InvalidFrame 0))) (ne_eqb (suc left) 0 (λ e. omega arith)))
+end_answer-is false (suc left) = sym (ap (λ (t : Bool). cond t (Ok DataComplete) (Err (InvalidFrame 0))) (ne_eqb (suc left) 0 (λ e. omega arith)))
+
+at_end : (c : ℕ) (q : List ℕ) → table_answer (state_after (c ∷ q)) 0 ≡ cond (is_whole (c ∷ q)) (Ok DataComplete) (Err (InvalidFrame 0))
+unfolding is_whole
+at_end c q = end_answer-is (is_full (last_part (c ∷ q))) (lacks (last_part (c ∷ q)))
+
+-- the zero behind p is answered by `DataComplete` exactly where p is a frame, and the data is then its message
+complete : (p m : List ℕ) → HasNoZero p → All (λ b. b < 256) p → ((table_answer (state_after p) 0 ≡ Ok DataComplete) × (output p ≡ m)) ↔ Reads p m
+complete [] m nonzero below = (λ (e, is). absurd cc, λ r. absurd (((reads_iff [] m below).0 r).0 refl))
+complete (c ∷ q) m nonzero below = (
+  λ (e, is). (reads_iff (c ∷ q) m below).1 ((λ n. cc), nonzero, whole (is_whole (c ∷ q)) (sym (at_end c q) ∙ e), sym is),
+  λ r. let w = (reads_iff (c ∷ q) m below).0 r in (at_end c q ∙ ap (λ (t : Bool). cond t (Ok DataComplete) (Err (InvalidFrame 0))) w.2, sym w.3),
+)
+  where
+    whole : (t : Bool) → cond t (Ok DataComplete) (Err (InvalidFrame 0)) ≡ Ok DataComplete → t ≡ true
+    whole true e = refl
+    whole false e = absurd cc
+
+pub StateAfter-end : (state : DecoderState) (p so_far m : List ℕ) → StateAfter state p so_far → ((table_answer state 0 ≡ Ok DataComplete) × (so_far ≡ m)) ↔ Reads p m
+StateAfter-end state p so_far m s =
+    let h = complete p m s.piece s.bytes in (
+      λ (e, is). h.0 (ap (λ x. table_answer x 0) (sym s.state_is) ∙ e, sym s.so_far_is ∙ is),
+      λ r. let w = h.1 r in (ap (λ x. table_answer x 0) s.state_is ∙ w.0, s.so_far_is ∙ w.1),
+    )
+
+-- THE PHASES OF A STREAMING DECODER
+
+-- a code, or a zero in its place
+coded : (n b count : ℕ) → state_in (cond (eqb b 0) phases.Idle (Within (eqb b 255) (b - 1) count)) ≡ Some (cond (eqb b 0) Idle (opened_by b))
+coded n b count = grind (arith, opened_by-is)
+
+-- one more byte in the buffer, or no room for it
+grown : (n : ℕ) (t full room : Bool) (left count : ℕ) → cond t phases.Idle (cond room (Within full left count) Over) ≢ Over
+    → state_in (cond t phases.Idle (cond room (Within full left count) Over)) ≡ Some (cond t Idle (inside full left))
+grown n true full room left count h = refl
+grown n false true true left count h = refl
+grown n false false true left count h = refl
+grown n false full false left count h = absurd (h refl)
+
+pub phase_by_table : (n : ℕ) (phase : Phase) (b : ℕ) (state : DecoderState) → state_in phase ≡ Some state → next_phase n phase b ≢ Over → state_in (next_phase n phase b) ≡ Some (table_state state b)
+phase_by_table n phases.Idle b state e h = grind (arith, coded)
+phase_by_table n Over b state e h = absurd (cc)
+phase_by_table n (Within true (suc left) count) b state e h = grind (arith, grown)
+phase_by_table n (Within false (suc left) count) b state e h = grind (arith, grown)
+phase_by_table n (Within true zero count) b state e h = grind (arith, coded)
+phase_by_table n (Within false zero count) b state e h = grind (arith, grown, opened_by-is)

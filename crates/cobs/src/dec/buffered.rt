@@ -1,0 +1,363 @@
+//! The streaming decoders over a buffer that is borrowed, and over one of their own.
+ghost use Rattle.std.specs.Prelude.{◌≡◌, [], ◌≤◌, ◌∷◌, ◌++◌, List, length, ℕ, replicate, IfOk};
+ghost use Rattle.std.specs.Borrow.{sem};
+ghost use Rattle.cobs.specs.Feed.{DecoderAfter, Feeds, Idle};
+ghost use Rattle.cobs.specs.Grammar.{Reads};
+ghost use Rattle.cobs.specs.Headline.{IsPiece, PushesMessage};
+ghost use Rattle.cobs.specs.Push.{PushesBytes};
+ghost use Rattle.cobs.specs.Fields.Decoders.{borrowed_buffer, borrowed_phase, borrowed_slice, LendsSlice, owned_buffer, owned_phase, LendsOwned};
+
+use crate::dec::frame_decoder::{FrameDecoder, PieceEnd, WriteBuffer};
+use crate::dec::unbuffered::UnbufferedDecoder;
+use crate::dec::{DecodeError, DecodeReport, PushError};
+use std::alloc::{AllocError, Global};
+
+/// Decodes a stream of frames, each ended by a zero, into a slice that it borrows.
+///
+/// The decoder takes the stream byte by byte, in calls as they come. When a frame ends, its message is at the
+/// front of the slice, until the next frame begins. Each piece of the stream, that is the bytes between two
+/// zeros, is judged only by its own bytes and the slice's length: after every zero the decoder is idle, so a
+/// broken frame never affects another. That a zero ends each frame is Cheshire and Baker's.
+///
+/// ```
+/// let mut buffer = [0; 8];
+/// let mut decoder = CobsDecoder::new(&mut buffer);
+/// assert_eq!(rt; decoder.push(b"\x06hel"), Ok(None));
+/// let report = decoder.push(b"lo\0\x03hi\0")?;
+/// let sizes = report.map(|report| (report.parsed_size(), report.frame_size()));
+/// assert_eq!(rt; sizes, Some((3, 5)));
+/// assert!(rt; decoder.dest().starts_with(b"hello"));
+/// ```
+#[derive(Debug, Drop)]
+pub struct CobsDecoder<'a> {
+    dest: &'a mut [u8],
+    inner: UnbufferedDecoder,
+}
+
+impl<'a> CobsDecoder<'a> {
+    /// Makes an idle decoder over the slice, which may be of any length, also empty. No byte of it is changed.
+    ///
+    /// ```
+    /// let mut decoder = CobsDecoder::new(&mut []);
+    /// assert_eq!(rt;
+    ///     decoder.push(&[1, 0])?.map(|report| report.frame_size()),
+    ///     Some(0)
+    /// );
+    /// ```
+    pub fn new(dest: &'a mut [u8]) -> CobsDecoder<'a>
+        ensures same_slice { borrowed_slice result ≡ dest.entry.ghost_name }
+        ensures buffer { borrowed_buffer result ≡ dest.old }
+        ensures idle { DecoderAfter (borrowed_buffer result) (borrowed_phase result) [] }
+        ensures phase { borrowed_phase result ≡ Idle }
+    {
+        CobsDecoder {
+            dest,
+            inner: UnbufferedDecoder::new(),
+        }
+    }
+
+    /// Takes the next byte of the stream.
+    ///
+    /// `Ok(None)`: no piece has ended, and the output of this piece so far fits the slice; the slice begins with
+    /// it. `Ok(Some(n))`: the byte was the zero after a whole frame, and the message is the slice's first `n`
+    /// bytes. All other bytes of the slice are as they were.
+    ///
+    /// # Errors
+    /// `InvalidFrame`: the byte was a zero inside a block; `decoded_bytes` counts the piece's output, which is
+    /// at the front of the slice. `TargetBufTooSmall`: the output of the piece is longer than the slice, which
+    /// holds its first bytes; that is the result for each byte from the one that finds no room through the zero.
+    /// After every zero the decoder is idle. (The result after an overflow is a choice of this library.)
+    ///
+    /// ```
+    /// let mut buffer = [0; 2];
+    /// let mut decoder = CobsDecoder::new(&mut buffer);
+    /// assert_eq!(rt; decoder.feed(2), Ok(None));
+    /// assert_eq!(rt; decoder.feed(7), Ok(None));
+    /// assert_eq!(rt; decoder.feed(0), Ok(Some(1)));
+    /// assert_eq!(rt; decoder.dest(), [7, 0].as_slice());
+    /// ```
+    pub fn feed(&mut self, byte: u8) -> Result<Option<usize>, DecodeError>
+        ensures feeds { Feeds (borrowed_buffer self.old) (borrowed_phase self.old) byte result
+            (borrowed_buffer self.new) (borrowed_phase self.new) }
+        ensures same_slice { borrowed_slice self.new ≡ borrowed_slice self.old }
+    {
+        self.inner.feed(self.dest, byte)
+    }
+
+    /// Takes bytes of the stream, up to the first one whose result by `feed` isn't `Ok(None)`.
+    ///
+    /// `Ok(None)`: all bytes were taken, and no piece has ended in them. `Ok(Some(report))`: a whole frame has ended;
+    /// `frame_size` is the length of its message, which is at the front of the slice, and `parsed_size` counts
+    /// the bytes that were taken, the zero after the frame included. The others are not looked at: push them next.
+    ///
+    /// # Errors
+    /// A `PushError` has the error of `feed` and how many bytes were taken, the one that raised it included.
+    /// Pushing the bytes after these goes on with the stream: a piece whose zero raised the error is over, and
+    /// while a piece is too long for the slice, each push of its bytes takes one, through its zero.
+    ///
+    /// ```
+    /// let mut buffer = [0; 2];
+    /// let mut decoder = CobsDecoder::new(&mut buffer);
+    /// let bytes = [2, 7, 0, 2, 8, 0];
+    /// assert_eq!(rt;
+    ///     decoder.push(&bytes)?.map(|report| report.parsed_size()),
+    ///     Some(3)
+    /// );
+    /// ```
+    pub fn push(&mut self, bytes: &[u8]) -> Result<Option<DecodeReport>, PushError>
+        ensures pushes { PushesBytes (borrowed_buffer self.old)
+            (borrowed_phase self.old) bytes.now result
+            (borrowed_buffer self.new) (borrowed_phase self.new) }
+        ensures reads { (f m : List ℕ) → borrowed_phase self.old ≡ Idle → bytes.now ≡ f ++ 0 ∷ []
+            → Reads f m → length m ≤ length (borrowed_buffer self.old)
+            → PushesMessage result (borrowed_buffer self.new) m }
+        ensures only { (f m : List ℕ) → borrowed_phase self.old ≡ Idle → bytes.now ≡ f ++ 0 ∷ []
+            → IsPiece f → PushesMessage result (borrowed_buffer self.new) m
+            → Reads f m × (length m ≤ length (borrowed_buffer self.old)) }
+        ensures same_slice { borrowed_slice self.new ≡ borrowed_slice self.old }
+    {
+        self.inner.push(self.dest, bytes)
+    }
+
+    /// Returns the whole slice.
+    ///
+    /// ```
+    /// let mut buffer = [7; 2];
+    /// assert_eq!(rt; CobsDecoder::new(&mut buffer).dest(), [7, 7].as_slice());
+    /// ```
+    pub fn dest(&self) -> &[u8]
+        ensures value { result.now ≡ borrowed_buffer self.now }
+    {
+        self.dest
+    }
+
+    /// Returns the whole slice, to be written to.
+    ///
+    /// What is written inside a piece changes no result of this piece: only the bytes of its message are
+    /// then not known. A proof about its caller learns what is in the slice while it is borrowed, and not what the
+    /// decoder is after the write: [`write_dest`](crate::WriteBuffer::write_dest) says that too.
+    ///
+    /// ```
+    /// let mut buffer = [7; 2];
+    /// let mut decoder = CobsDecoder::new(&mut buffer);
+    /// decoder.dest_mut().fill(9);
+    /// assert_eq!(rt; decoder.dest(), [9, 9].as_slice());
+    /// ```
+    pub fn dest_mut(&mut self) -> &mut [u8]
+        ensures* writes_back { sem 𝓛 (LendsSlice self.entry result) }
+        ensures value { result.now ≡ borrowed_buffer self.old }
+    {
+        self.dest
+    }
+}
+
+impl FrameDecoder for CobsDecoder<'_> {
+    ghost use Rattle.cobs.specs.Fields.Decoders.{borrowed_buffer, borrowed_phase, borrowed_slice};
+
+    ghost bytes = { borrowed_buffer };
+
+    ghost phase = { borrowed_phase };
+
+    ghost loan = { borrowed_slice };
+
+    fn feed_byte(&mut self, byte: u8) -> Result<Option<usize>, DecodeError> {
+        self.feed(byte)
+    }
+
+    fn feed_piece(&mut self, stream: &[u8]) -> Option<(PieceEnd, usize)> {
+        self.inner.feed_piece(self.dest, stream)
+    }
+
+    fn buffer(&self) -> &[u8] {
+        self.dest()
+    }
+}
+
+impl WriteBuffer for CobsDecoder<'_> {
+    ghost use Rattle.cobs.specs.Fields.Decoders.{with_borrowed_buffer};
+    ghost use Rattle.std.proofs.Common.{refl};
+
+    ghost with_bytes = { with_borrowed_buffer };
+
+    fn dest_mut(&mut self) -> &mut [u8] {
+        self.dest
+    }
+
+    ghost bytes_are_written = { λ _ _ _. refl };
+
+    ghost phase_stays = { λ _ _. refl };
+
+    ghost loan_stays = { λ _ _. refl };
+}
+
+/// Decodes a stream of frames, each ended by a zero, into a buffer of its own.
+///
+/// It returns what [`CobsDecoder`](crate::CobsDecoder) does. Its memory is allocated once, by `new`, and its buffer
+/// keeps its length. That a zero ends each frame is Cheshire and Baker's; the calls are those of the crate `cobs`.
+///
+/// ```
+/// let mut decoder = CobsDecoderOwned::new(alloc, 8)?;
+/// assert_eq!(rt; decoder.feed(2), Ok(None));
+/// assert_eq!(rt; decoder.feed(7), Ok(None));
+/// assert_eq!(rt; decoder.feed(0), Ok(Some(1)));
+/// assert!(rt; decoder.dest().starts_with(&[7]));
+/// ```
+#[derive(Debug, Drop)]
+pub struct CobsDecoderOwned {
+    dest: Vec<u8>,
+    inner: UnbufferedDecoder,
+}
+
+impl CobsDecoderOwned {
+    /// Makes an idle decoder over a buffer of this many zeros.
+    ///
+    /// # Errors
+    /// `AllocError`: no memory was found for the buffer.
+    ///
+    /// ```
+    /// assert_eq!(rt; CobsDecoderOwned::new(alloc, 2)?.dest(), [0, 0].as_slice());
+    /// ```
+    pub fn new(alloc: Global, dest_buf_size: usize) -> Result<Self, AllocError>
+        ensures buffer { IfOk result (λ decoder. owned_buffer decoder ≡ replicate dest_buf_size 0) }
+        ensures idle { IfOk result (λ decoder. DecoderAfter (owned_buffer decoder)
+            (owned_phase decoder) []) }
+        ensures phase { IfOk result (λ decoder. owned_phase decoder ≡ Idle) }
+    {
+        Ok(CobsDecoderOwned {
+            dest: vec![in alloc; 0; dest_buf_size]?,
+            inner: UnbufferedDecoder::new(),
+        })
+    }
+
+    /// Takes the next byte of the stream, as [`CobsDecoder::feed`](crate::CobsDecoder::feed) does.
+    ///
+    /// # Errors
+    /// `InvalidFrame` and `TargetBufTooSmall`, as there.
+    ///
+    /// ```
+    /// let mut decoder = CobsDecoderOwned::new(alloc, 0)?;
+    /// assert_eq!(rt; decoder.feed(2), Ok(None));
+    /// assert_eq!(rt; decoder.feed(7), Err(DecodeError::TargetBufTooSmall));
+    /// assert_eq!(rt; decoder.feed(0), Err(DecodeError::TargetBufTooSmall));
+    /// ```
+    pub fn feed(&mut self, byte: u8) -> Result<Option<usize>, DecodeError>
+        ensures feeds { Feeds (owned_buffer self.old) (owned_phase self.old) byte result
+            (owned_buffer self.new) (owned_phase self.new) }
+    {
+        self.inner.feed(&mut self.dest, byte)
+    }
+
+    /// Takes bytes of the stream up to the first one whose result by `feed` isn't `Ok(None)`, as
+    /// [`CobsDecoder::push`](crate::CobsDecoder::push) does.
+    ///
+    /// # Errors
+    /// A `PushError` has the error of `feed` and how many bytes were taken, the one that raised it included.
+    ///
+    /// ```
+    /// let mut decoder = CobsDecoderOwned::new(alloc, 8)?;
+    /// assert_eq!(rt; decoder.push(b"\x06hel"), Ok(None));
+    /// assert_eq!(rt;
+    ///     decoder.push(b"lo\0")?.map(|report| report.frame_size()),
+    ///     Some(5)
+    /// );
+    /// assert!(rt; decoder.dest().starts_with(b"hello"));
+    /// ```
+    pub fn push(&mut self, bytes: &[u8]) -> Result<Option<DecodeReport>, PushError>
+        ensures pushes { PushesBytes (owned_buffer self.old) (owned_phase self.old) bytes.now result
+            (owned_buffer self.new) (owned_phase self.new) }
+        ensures reads { (f m : List ℕ) → owned_phase self.old ≡ Idle → bytes.now ≡ f ++ 0 ∷ []
+            → Reads f m → length m ≤ length (owned_buffer self.old)
+            → PushesMessage result (owned_buffer self.new) m }
+        ensures only { (f m : List ℕ) → owned_phase self.old ≡ Idle → bytes.now ≡ f ++ 0 ∷ []
+            → IsPiece f → PushesMessage result (owned_buffer self.new) m
+            → Reads f m × (length m ≤ length (owned_buffer self.old)) }
+    {
+        self.inner.push(&mut self.dest, bytes)
+    }
+
+    /// Makes the decoder idle, so that the next byte begins a new piece. The buffer is as it was.
+    ///
+    /// ```
+    /// let mut decoder = CobsDecoderOwned::new(alloc, 8)?;
+    /// assert_eq!(rt; decoder.push(&[9, 9]), Ok(None));
+    /// decoder.reset();
+    /// assert_eq!(rt;
+    ///     decoder.push(&[1, 0])?.map(|report| report.frame_size()),
+    ///     Some(0)
+    /// );
+    /// ```
+    pub fn reset(&mut self)
+        ensures buffer { owned_buffer self.new ≡ owned_buffer self.old }
+        ensures idle { DecoderAfter (owned_buffer self.new) (owned_phase self.new) [] }
+        ensures phase { owned_phase self.new ≡ Idle }
+    {
+        self.inner = UnbufferedDecoder::new();
+    }
+
+    /// Returns the whole buffer.
+    ///
+    /// ```
+    /// let decoder = CobsDecoderOwned::new(alloc, 3)?;
+    /// assert_eq!(rt; decoder.dest().len(), 3);
+    /// ```
+    pub fn dest(&self) -> &[u8]
+        ensures value { result.now ≡ owned_buffer self.now }
+    {
+        self.dest.as_slice()
+    }
+
+    /// Returns the whole buffer, to be written to, as [`CobsDecoder::dest_mut`](crate::CobsDecoder::dest_mut) does.
+    ///
+    /// ```
+    /// let mut decoder = CobsDecoderOwned::new(alloc, 2)?;
+    /// decoder.dest_mut().fill(9);
+    /// assert_eq!(rt; decoder.dest(), [9, 9].as_slice());
+    /// ```
+    pub fn dest_mut(&mut self) -> &mut [u8]
+        ensures* writes_back { sem 𝓛 (LendsOwned self.entry result) }
+        ensures value { result.now ≡ owned_buffer self.old }
+    {
+        self.dest.as_mut_slice()
+    }
+}
+
+impl FrameDecoder for CobsDecoderOwned {
+    ghost use Rattle.cobs.specs.Fields.Decoders.{owned_buffer, owned_phase};
+
+    ghost bytes = { owned_buffer };
+
+    ghost phase = { owned_phase };
+
+    ghost loan = { λ _. 0 };
+
+    fn feed_byte(&mut self, byte: u8) -> Result<Option<usize>, DecodeError> {
+        self.feed(byte)
+    }
+
+    fn feed_piece(&mut self, stream: &[u8]) -> Option<(PieceEnd, usize)> {
+        self.inner.feed_piece(&mut self.dest, stream)
+    }
+
+    fn buffer(&self) -> &[u8] {
+        self.dest()
+    }
+}
+
+impl WriteBuffer for CobsDecoderOwned {
+    ghost use Rattle.cobs.specs.Fields.Decoders.{with_owned_buffer};
+    ghost use Rattle.std.proofs.Common.{refl, sym, take_at, drop, length, ◌∙◌};
+
+    ghost with_bytes = { with_owned_buffer };
+
+    fn dest_mut(&mut self) -> &mut [u8] {
+        CobsDecoderOwned::dest_mut(self)
+    }
+
+    ghost bytes_are_written = { λ decoder written same. take_at written
+        (drop (length written) decoder.dest.items) decoder.dest.len
+        (same ∙ sym decoder.dest.ok.0) };
+
+    ghost phase_stays = { λ _ _. refl };
+
+    ghost loan_stays = { λ _ _. refl };
+}

@@ -1,0 +1,122 @@
+-- Frames of an encoder for another sentinel, and with their terminators.
+use Rattle.std.proofs.Common.{◌≡◌, ◌≢◌, ◌∙◌, ◌++◌, ◌+◌, ◌<◌, ◌≤◌, ℕ, nat_le, true, false, List, [], ◌∷◌, All, length, take, drop, set, refl, sym, ap, subst, arith, take_at, length-append, length-drop, length-take-le, take-append-drop, ⊎_elim}
+use Rattle.std.proofs.lemmas.Bool.{leb-true, leb-false, cases_Bool}
+use Rattle.std.proofs.lemmas.List.{length-map, length-set, take-take}
+use Rattle.std.proofs.lemmas.Slice.{drop-append-drop}
+use Rattle.std.specs.Int.Bits.{bit_xor, xor_zero_r}
+use Rattle.cobs.specs.Grammar.{IsEncodedFrame, IsFrame}
+use Rattle.cobs.specs.Length.{encoded_len}
+use Rattle.cobs.specs.OpenBlock.{CobsEncoderAfter, Reached, end_of}
+use Rattle.cobs.specs.Sentinel.{xor_each}
+use Rattle.cobs_abi.proofs.WritesLemmas.{Writes-failed, Writes-terminated, behind_terminator}
+use Rattle.cobs_abi.specs.Encode.{Writes}
+use Rattle.cobs_abi.specs.Frames.{IsFrameOnWire, IsFrameOnWireFor}
+use Rattle.cobs_abi.specs.State.{reached_in}
+use Rattle.cobs_abi.specs.Stream.{Finishes}
+use Rattle.cobs_abi.specs.declared.answer.Answer.{Answer}
+use Rattle.cobs_abi.specs.declared.answer.TheConstants.{OK}
+use Rattle.cobs_abi.specs.declared.encoder.Encoder.{Encoder}
+
+-- exclusive or with 0 changes nothing
+pub xor_each-zero : (xs : List ℕ) → xor_each 0 xs ≡ xs
+xor_each-zero [] = refl
+xor_each-zero (x ∷ xs) = ap (λ (y : ℕ). y ∷ xor_each 0 xs) (xor_zero_r x) ∙ ap (λ (ys : List ℕ). x ∷ ys) (xor_each-zero xs)
+
+-- of `law_6`
+module _ (free : (f : List ℕ) (s : ℕ) → IsFrame f → All (λ byte. byte ≢ s) (xor_each s f)) (back : (f : List ℕ) (s : ℕ) → xor_each s (xor_each s f) ≡ f) where
+  -- a frame that is finished, and then XORed
+  pub Finishes-changed : {encoder encoder' : Encoder} {buffer part changed : List ℕ} {result : Answer} (s : ℕ) → changed ≡ xor_each s (take result.length part)
+      → Finishes 0 IsFrameOnWire encoder buffer result encoder' part → Finishes 0 (IsFrameOnWireFor s) encoder buffer result encoder' (changed ++ drop result.length part)
+  Finishes-changed {encoder} {encoder'} {buffer} {part} {changed} {result} s is f =
+      let frame : List ℕ = take result.length part in
+      let within : result.length ≤ length part = omega (arith, f.bound, f.len) in
+      let len : length changed ≡ result.length = ap length is ∙ length-map frame (λ b. bit_xor b s) ∙ length-take-le result.length part within in
+      let front : take result.length (changed ++ drop result.length part) ≡ xor_each s frame = take_at changed (drop result.length part) result.length len ∙ is in
+      let behind : drop result.length (changed ++ drop result.length part) ≡ drop result.length part = drop-append-drop result.length part changed result.length (omega arith) len in
+      record {
+        writes = λ m h.
+            let w = f.writes m h in
+            record {
+              fits = w.fits;
+              wanted = λ room.
+                  let g = w.wanted room in
+                  subst (λ (x : List ℕ). IsFrameOnWireFor s x m) (sym front) (subst (λ (x : List ℕ). IsEncodedFrame x m) (sym (back frame s)) g.0, free frame s (m, g.0.reads));
+              too_small = w.too_small;
+              rest = behind ∙ w.rest;
+            };
+        place = f.place;
+        fresh = f.fresh;
+        too_small = f.too_small;
+        refused = f.refused;
+        empty = f.empty;
+        rest = behind ∙ f.rest;
+        bound = f.bound;
+        len = length-append changed (drop result.length part) ∙ omega (arith, len, within, f.len, length-drop result.length part);
+      }
+
+-- of `law_2` and `law_13`
+module _ (counted : (f m : List ℕ) → IsEncodedFrame f m → length f ≡ encoded_len m) (end : (slice m : List ℕ) (reached : Reached) → CobsEncoderAfter slice reached m → end_of reached ≡ encoded_len m) where
+  -- an encoder over the front of a slice that its frame fits
+  After-front : (slice m : List ℕ) (reached : Reached) (last : ℕ) → last ≤ length slice → encoded_len m ≤ last → CobsEncoderAfter slice reached m → CobsEncoderAfter (take last slice) reached m
+  After-front slice m reached last within fits h =
+      let len = counted h.frame m h.encoded in
+      record {
+        frame = h.frame;
+        encoded = h.encoded;
+        follows = h.follows;
+        fits = omega (arith, len, length-take-le last slice within);
+        begins = (h.begins.0, take-take (length h.frame) last slice (omega arith) ∙ h.begins.1);
+        noted = h.noted;
+      }
+
+  -- a byte after what was written for a message
+  module _ {IsWanted IsEnded : List ℕ → List ℕ → Type 0} {encoder encoder' : Encoder} {buffer part : List ℕ} {result : Answer} (last s : ℕ) (room : last + 1 ≡ length buffer) (len : length part ≡ last)
+      (f : Finishes 0 IsWanted encoder (take last buffer) result encoder' part) where
+    pub Finishes-terminated : ((x m : List ℕ) → IsWanted x m → IsEnded (x ++ s ∷ []) m) → result.status ≡ OK
+        → Finishes 1 IsEnded encoder buffer (record { status = OK; consumed = result.consumed; length = result.length + 1 }) encoder' (set (part ++ drop last buffer) result.length s)
+    Finishes-terminated ended ok = let front : length (take last buffer) ≡ last = length-take-le last buffer (omega arith) in record {
+      writes = λ m h.
+          let fits : encoded_len m ≤ last = omega (arith, f.place ok, end buffer m (reached_in encoder) h, f.bound, front) in
+          let w = f.writes m (After-front buffer m (reached_in encoder) last (omega arith) fits h) in
+          let size : encoded_len m + 0 + 1 ≡ encoded_len m + 1 = omega arith in
+          subst (λ (n : ℕ). Writes n 0 (λ bytes. IsEnded bytes m) buffer (record { status = OK; consumed = result.consumed; length = result.length + 1 }) (set (part ++ drop last buffer) result.length s))
+          size (Writes-terminated last s room len w ok (λ (x : List ℕ) e. ended x m e));
+      place = λ _. omega (arith, f.place ok);
+      fresh = λ _. f.fresh ok;
+      too_small = λ other. absurd (other refl);
+      refused = λ other. absurd (other refl);
+      empty = λ none. absurd (omega arith);
+      rest = behind_terminator buffer part last result.length s len (omega arith) (omega (arith, f.bound, front)) f.rest;
+      bound = omega (arith, f.bound, front);
+      len = length-set (part ++ drop last buffer) result.length s ∙ length-append part (drop last buffer) ∙ omega (arith, length-drop last buffer);
+    }
+
+    pub Finishes-no_room : result.status ≢ OK → Finishes 1 IsEnded encoder buffer result encoder' (part ++ drop last buffer)
+    Finishes-no_room other =
+        let front : length (take last buffer) ≡ last = length-take-le last buffer (omega arith) in
+        let none : result.length ≡ 0 = ap (λ (a : Answer). a.length) (f.too_small other) in
+        let same : part ≡ take last buffer = rw none at f.rest in
+        let rest : drop result.length (part ++ drop last buffer) ≡ drop result.length buffer
+        = ap (λ (l : List ℕ). drop result.length (l ++ drop last buffer)) same ∙ ap (drop result.length) (take-append-drop last buffer) in
+        record {
+          writes = λ m h.
+              let long : last < encoded_len m =
+              ⊎_elim (λ (short : nat_le (encoded_len m) last ≡ true).
+              omega (arith, front, Writes-failed (f.writes m (After-front buffer m (reached_in encoder) last (omega arith) (leb-true (encoded_len m) last short) h)) other))
+              (λ (long : nat_le (encoded_len m) last ≡ false). leb-false (encoded_len m) last long)
+              (cases_Bool (nat_le (encoded_len m) last)) in
+              record {
+                fits = λ short. absurd (omega arith);
+                wanted = λ short. absurd (omega arith);
+                too_small = λ _. f.too_small other;
+                rest = rest;
+              };
+          place = λ ok. absurd (other ok);
+          fresh = λ ok. absurd (other ok);
+          too_small = f.too_small;
+          refused = f.refused;
+          empty = λ _. f.too_small other;
+          rest = rest;
+          bound = omega arith;
+          len = length-append part (drop last buffer) ∙ omega (arith, length-drop last buffer);
+        }

@@ -1,0 +1,11 @@
+use Rattle.std.proofs.Common.{◌≡◌, ◌+◌, ◌<◌, ◌≤◌, drop}
+use Rattle.cobs.specs.Length.{open_len}
+use Rattle.cobs_abi.proofs.block.fits.Given as goal
+
+-- what the bytes that are left need is what all of them need, less what is used up
+abbrev pub invariant-by_byte : goal.invariant-by_byte
+invariant-by_byte l = record {
+  some : 0 < l.code;
+  within : l.left ≤ l.room;
+  total : open_len l.code (drop l.i l.bytes) + l.room ≡ open_len l.fn.code l.bytes + l.left;
+}

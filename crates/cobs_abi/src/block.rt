@@ -1,0 +1,91 @@
+//! Blocks of a frame, one byte of the message at a time.
+ghost use Rattle.std.specs.Prelude.{◌≡◌, ◌≢◌, ◌<◌, ◌≤◌, ◌+◌, ◌++◌, ◌↔◌, [], IsTrue, ℕ, List, length, drop};
+ghost use Rattle.cobs.specs.OpenBlock.{CobsEncoderAfter, end_of};
+ghost use Rattle.cobs.specs.Fields.Encoders.{reached_at};
+ghost use Rattle.cobs.specs.Length.{open_len};
+
+use cobs::EncoderProgress;
+use cobs::laws::{law_4, law_15, law_16};
+
+/// The code of a full block, which is how many bytes the block has with its code.
+const FULL: u8 = 255;
+
+/// Whether `room` bytes, from the code of an open block, are enough once the block has taken these bytes.
+pub(crate) fn fits(code: u8, bytes: &[u8], room: usize) -> bool
+    requires some { 0 < code }
+    requires open_block { code < 255 }
+    ensures fits { IsTrue result ↔ (open_len code bytes.now ≤ room) }
+{
+    law_15();
+    let mut left = room;
+    let mut code = code;
+    'by_byte: for i in 0..bytes.len() {
+        if code == FULL {
+            if left < FULL as usize {
+                return false;
+            }
+            left -= FULL as usize;
+            code = 1;
+        }
+        if bytes[i] != 0 {
+            code += 1;
+        } else {
+            if left < code as usize {
+                return false;
+            }
+            left -= code as usize;
+            code = 1;
+        }
+    }
+    code as usize <= left
+}
+
+/// Takes some bytes into the frame that the buffer holds as far as `start` says, and returns how far it has come then.
+/// The code of the open block is not written.
+pub(crate) fn append(bytes: &[u8], buffer: &mut [u8], start: EncoderProgress) -> EncoderProgress
+    requires some { bytes.now ≢ [] }
+    requires code { 0 < start.code }
+    requires open_block { start.code < 255 }
+    requires fits { start.index + open_len start.code bytes.now ≤ length buffer.old }
+    ensures taken { (m : List ℕ) → CobsEncoderAfter buffer.old (reached_at start) m
+        → CobsEncoderAfter buffer.new (reached_at result) (m ++ bytes.now) }
+    ensures end { end_of (reached_at result) ≤ length buffer.old }
+    ensures code { 0 < result.code }
+    ensures rest { let end = end_of (reached_at result) in
+        drop end buffer.new ≡ drop end buffer.old }
+{
+    law_4();
+    law_15();
+    law_16();
+    let mut index = start.index;
+    let mut code = start.code;
+    'by_byte: for i in 0..bytes.len() {
+        if code == FULL {
+            buffer[index] = FULL;
+            index += FULL as usize;
+            code = 1;
+        }
+        let byte = bytes[i];
+        if byte != 0 {
+            buffer[index + code as usize] = byte;
+            code += 1;
+        } else {
+            buffer[index] = code;
+            index += code as usize;
+            code = 1;
+        }
+    }
+    if code != FULL {
+        return EncoderProgress {
+            index,
+            code,
+            is_full: false,
+        };
+    }
+    buffer[index] = FULL;
+    EncoderProgress {
+        index: index + FULL as usize,
+        code: 1,
+        is_full: true,
+    }
+}

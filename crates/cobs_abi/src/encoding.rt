@@ -1,0 +1,86 @@
+//! The streaming encoder by a step for each byte.
+ghost use Rattle.std.specs.Prelude.{◌↔◌, IsTrue};
+ghost use Rattle.cobs.specs.Fields.Encoders.{IsPlaceIn};
+ghost use Rattle.cobs_abi.specs.Frames.{IsFrameOnWire, IsTerminatedFrame};
+ghost use Rattle.cobs_abi.specs.State.{reached_in};
+ghost use Rattle.cobs_abi.specs.Stream.{EncodesNext, Finishes};
+
+use crate::answer::{Answer, OK, done, too_small};
+use crate::block::{append, fits};
+use crate::encoder::{ENCODER_START, Encoder, end_of};
+use cobs::laws::{law_1, law_2, law_13, law_16};
+
+/// Whether a frame can have come so far in a buffer of `room` bytes.
+#[inline(always)]
+fn is_place(encoder: &Encoder, room: usize) -> bool
+    ensures { IsTrue result ↔ IsPlaceIn room (reached_in encoder.now) }
+{
+    if 253 < encoder.taken || room < encoder.index {
+        return false;
+    }
+    encoder.full != 0 || (encoder.taken as usize) < room - encoder.index
+}
+
+/// Takes the next bytes of a message, if the frame of all that was taken fits the buffer.
+#[inline]
+pub fn encode_each(encoder: &mut Encoder, buffer: &mut [u8], bytes: &[u8]) -> Answer
+    ensures encodes { EncodesNext encoder.old buffer.old bytes.now result
+        encoder.new buffer.new }
+{
+    law_13();
+    law_16();
+    let room = buffer.len();
+    if !is_place(encoder, room) {
+        return too_small();
+    }
+    let start = encoder.progress();
+    if bytes.is_empty() {
+        return done(0, end_of(start));
+    }
+    if !fits(start.code, bytes, room - start.index) {
+        return too_small();
+    }
+    let progress = append(bytes, buffer, start);
+    *encoder = Encoder::at(progress);
+    done(bytes.len(), end_of(progress))
+}
+
+/// Ends the message, if its frame fits the buffer.
+#[inline]
+pub fn finish(encoder: &mut Encoder, buffer: &mut [u8]) -> Answer
+    ensures finishes { Finishes 0 IsFrameOnWire encoder.old buffer.old result
+        encoder.new buffer.new }
+{
+    law_1();
+    law_13();
+    law_16();
+    if buffer.is_empty() || !is_place(encoder, buffer.len()) {
+        return too_small();
+    }
+    let progress = encoder.progress();
+    if !progress.is_full {
+        buffer[progress.index] = progress.code;
+    }
+    *encoder = ENCODER_START;
+    done(0, end_of(progress))
+}
+
+/// Ends the message, and writes a zero after its frame, if both fit the buffer.
+#[inline]
+pub fn finish_terminated(encoder: &mut Encoder, buffer: &mut [u8]) -> Answer
+    ensures finishes { Finishes 1 (IsTerminatedFrame 0) encoder.old buffer.old result
+        encoder.new buffer.new }
+{
+    law_2();
+    law_13();
+    if buffer.is_empty() {
+        return too_small();
+    }
+    let last = buffer.len() - 1;
+    let answer = finish(encoder, &mut buffer[..last]);
+    if answer.status != OK {
+        return answer;
+    }
+    buffer[answer.length] = 0;
+    done(answer.consumed, answer.length + 1)
+}
