@@ -5,10 +5,9 @@ use Rattle.std.specs.Int.Bits.{bit_xor}
 use Rattle.cobs.specs.Decode.{head_answer, in_place, in_place_answer}
 use Rattle.cobs.specs.Overwritten.{overwritten}
 use Rattle.cobs.specs.Piece.{kept_output}
-use Rattle.cobs.specs.Sentinel.{xor_each}
+use Rattle.cobs.specs.Grammar.{HasNoZero}
+use Rattle.cobs.specs.Sentinel.{IsFreeOf, xor_each}
 use Rattle.cobs.specs.Stream.{head}
-use Rattle.cobs.proofs.HeadLemmas.{front_is_head}
-use Rattle.cobs.proofs.SourceSteps.{xor_head, xor_no_zero}
 use Rattle.cobs_abi.specs.Answer.{answer_by, head_end}
 use Rattle.cobs_abi.specs.declared.answer.TheConstants.{OK}
 
@@ -30,12 +29,18 @@ nothing_written : (xs buffer : List ℕ) → buffer ≡ overwritten [] xs ++ dro
 nothing_written [] buffer = refl
 nothing_written (x ∷ xs) buffer = refl
 
-module _ (buffer : List ℕ) (end s : ℕ) (within : end ≤ length buffer) (before : All (λ byte. byte ≢ s) (take end buffer)) (stop : end < length buffer → get_or buffer end 0 ≡ s) where
+-- `head` and `head_for` of `law_12`, and `coded` of `law_6`
+pub record HeadLaw : Type 0 where
+  pub front : (t : List ℕ) (n : ℕ) → n ≤ length t → HasNoZero (take n t) → (n < length t → get_or t n 0 ≡ 0) → take n t ≡ head t
+  pub head_for : (t : List ℕ) (n s : ℕ) → n ≤ length t → IsFreeOf s (take n t) → (n < length t → get_or t n 0 ≡ s) → xor_each s (take n t) ≡ head (xor_each s t)
+  pub coded : (f : List ℕ) (s : ℕ) → IsFreeOf s f → HasNoZero (xor_each s f)
+
+module _ (law : HeadLaw) (buffer : List ℕ) (end s : ℕ) (within : end ≤ length buffer) (before : All (λ byte. byte ≢ s) (take end buffer)) (stop : end < length buffer → get_or buffer end 0 ≡ s) where
   front : List ℕ
   front = xor_each s (take end buffer)
 
   is_head : xor_each s (take end buffer) ≡ head (xor_each s buffer)
-  is_head = xor_head buffer end s within before stop
+  is_head = law.head_for buffer end s within before stop
 
   len : length (xor_each s (take end buffer)) ≡ end
   len = length-map (take end buffer) (λ b. bit_xor b s) ∙ length-take-le end buffer within
@@ -44,7 +49,7 @@ module _ (buffer : List ℕ) (end s : ℕ) (within : end ≤ length buffer) (bef
   head_of_front =
       let f : List ℕ = xor_each s (take end buffer) in
       let whole : take (length f) f ≡ f = take_all (length f) f (omega arith) in
-      sym (front_is_head f (length f) (omega arith) (subst (λ (x : List ℕ). All (λ b. b ≢ 0) x) (sym whole) (xor_no_zero buffer end s within before stop)) (λ more. absurd (omega arith))) ∙ whole
+      sym (law.front f (length f) (omega arith) (subst (λ (x : List ℕ). All (λ b. b ≢ 0) x) (sym whole) (law.coded (take end buffer) s before)) (λ more. absurd (omega arith))) ∙ whole
 
   pub front-end : min (length buffer) (end + 1) ≡ head_end (xor_each s buffer)
   front-end = omega (arith, len, ap length is_head, length-map buffer (λ b. bit_xor b s))

@@ -1,4 +1,3 @@
 mod BufferLemmas
-mod FinishLemmas
 mod InPlaceLemmas
 mod SourceLemmas

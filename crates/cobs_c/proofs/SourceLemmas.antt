@@ -1,27 +1,31 @@
 -- Sources, and how much of them a call takes.
-use Rattle.std.proofs.Common.{◌≡◌, ◌<◌, ℕ, nat_le, Bool, true, false, cond, List, [], ◌∷◌, length, Some, Result, Ok, Err, refl, sym, ap, ◌∙◌, arith, ⊎_elim}
+use Rattle.std.proofs.Common.{◌≡◌, ◌<◌, ◌≤◌, ℕ, nat_le, Bool, true, false, cond, List, [], ◌∷◌, length, take, drop, get_or, Option, Some, None, Result, Ok, Err, refl, sym, ap, ◌∙◌, subst, arith, ⊎_elim}
 use Rattle.std.proofs.lemmas.Bool.{leb-false, cases_Bool}
+use Rattle.cobs.specs.Grammar.{HasNoZero}
 use Rattle.cobs.specs.Piece.{is_whole, output}
-use Rattle.cobs.specs.declared.dec.error.DecodeError.TheVariants.{EmptyFrame, InvalidFrame, TargetBufTooSmall}
+use Rattle.cobs.specs.declared.dec.DecodeError.TheVariants.{EmptyFrame, InvalidFrame, TargetBufTooSmall}
 use Rattle.cobs_abi.specs.Answer.{answer_by}
 use Rattle.cobs_abi.specs.declared.answer.TheConstants.{TOO_SMALL}
-use Rattle.std.specs.Int.Bits.{xor_zero_r}
-use Rattle.cobs.specs.Sentinel.{xor_each}
-use Rattle.cobs.specs.Decode.{len_through_piece, decode_answer, reported, sized}
+use Rattle.cobs.specs.Decode.{answer_by_piece, leading_zeros, len_through_piece, decode_answer, reported, sized}
 use Rattle.cobs.specs.Stream.{Message, Broken, TooLong, first_piece, outcome_of}
-use Rattle.cobs.specs.declared.dec.error.DecodeError.{DecodeError}
-use Rattle.cobs.proofs.HeadLemmas.{first_piece_empty}
-use Rattle.cobs.proofs.OutcomeSteps.{decode_answer-some}
+use Rattle.cobs.specs.declared.dec.DecodeError.{DecodeError}
 
--- exclusive or with 0 changes nothing
-pub xor_each-zero : (xs : List ℕ) → xor_each 0 xs ≡ xs
-xor_each-zero [] = refl
-xor_each-zero (x ∷ xs) = ap (λ (y : ℕ). y ∷ xor_each 0 xs) (xor_zero_r x) ∙ ap (λ (ys : List ℕ). x ∷ ys) (xor_each-zero xs)
+-- the first piece by its end, in what is behind the zeros of a source: by `none` and `found` of `law_12`
+module _ (source rest : List ℕ) (n : ℕ) (is : rest ≡ drop (leading_zeros source) source) (stop : n < length rest → get_or rest n 0 ≡ 0) where
+  pub first_none : ((t : List ℕ) → let r = drop (leading_zeros t) t in (0 < length r → get_or r 0 0 ≡ 0) → first_piece t ≡ None) → n ≡ 0 → first_piece source ≡ None
+  first_none law none = law source (subst (λ (r : List ℕ). 0 < length r → get_or r 0 0 ≡ 0) is (subst (λ (k : ℕ). k < length rest → get_or rest k 0 ≡ 0) none stop))
+
+  pub first_some : ((t : List ℕ) (k : ℕ) → let r = drop (leading_zeros t) t in 0 < k → k ≤ length r → HasNoZero (take k r) → (k < length r → get_or r k 0 ≡ 0) → first_piece t ≡ Some (take k r))
+      → n ≤ length rest → HasNoZero (take n rest) → 0 < n → first_piece source ≡ Some (take n rest)
+  first_some law within before some =
+      subst (λ (r : List ℕ). n ≤ length r → HasNoZero (take n r) → (n < length r → get_or r n 0 ≡ 0) → first_piece source ≡ Some (take n r)) (sym is)
+      (λ within' before' stop'. law source n some within' before' stop') within before stop
 
 -- the answer of `decode` where there is a piece
 pub answer-some : (source p : List ℕ) (n : ℕ) → first_piece source ≡ Some p → decode_answer source n ≡ reported (len_through_piece source p) (sized (outcome_of p n))
-answer-some [] p n is = absurd (let e = first_piece_empty [] refl in cc)
-answer-some (b ∷ bs) p n is = sym (decode_answer-some (b ∷ bs) p n (omega arith) is)
+unfolding first_piece
+answer-some [] p n is = absurd cc
+answer-some (b ∷ bs) p n is = ap (λ (found : Option (List ℕ)). answer_by_piece (b ∷ bs) found n) is
 
 -- a refusal with the count of what was consumed
 pub reported-err : (parsed : ℕ) (size : Result ℕ DecodeError) (error : DecodeError) → Err error ≡ reported parsed size → Err error ≡ size

@@ -8,11 +8,11 @@ ghost use Rattle.cobs_abi.specs.Answer.{head_end};
 ghost use Rattle.cobs_abi.specs.Decode.{Decodes, DecodesFor, DecodesInPlace, DecodesInPlaceFor, IsKindOf};
 
 use cobs::FrameKind;
-use cobs::laws::law_1;
+use cobs::laws::{law_1, law_6, law_12};
 use cobs_abi::{Answer, CANONICAL, EMPTY, LONGER, NOT_A_FRAME, answer_by, done};
 use memchr::memchr;
 
-/// Where the first sentinel stands, or how many bytes there are where none does.
+/// The place of the first sentinel, or how many bytes there are if none is one.
 fn first_sentinel(bytes: &[u8], sentinel: u8) -> usize
     ensures within { result ≤ length bytes.now }
     ensures before { All (λ byte. byte ≢ sentinel) (take result bytes.now) }
@@ -21,10 +21,11 @@ fn first_sentinel(bytes: &[u8], sentinel: u8) -> usize
     memchr(sentinel, bytes).unwrap_or(bytes.len())
 }
 
-/// How many bytes stand up to the first sentinel, with that sentinel where there is one.
+/// How many bytes there are up to the first sentinel, with that sentinel if there is one.
 fn head_end(bytes: &[u8], sentinel: u8) -> usize
     ensures end { result ≡ head_end (xor_each sentinel bytes.now) }
 {
+    law_12();
     let end = first_sentinel(bytes, sentinel);
     if end < bytes.len() { end + 1 } else { end }
 }
@@ -42,7 +43,7 @@ fn leading_zeros(source: &[u8]) -> usize
     source.len()
 }
 
-/// How many bytes of the source stand up to the end of its first piece, with the zero after it where there is one, or
+/// How many bytes the source has up to the end of its first piece, with the zero after it if there is one, or
 /// `None` where it has no piece.
 fn first_piece_end(source: &[u8]) -> Option<usize>
     ensures none { result ≡ None → first_piece source.now ≡ None }
@@ -50,6 +51,7 @@ fn first_piece_end(source: &[u8]) -> Option<usize>
         (λ end. (p : List ℕ) × (first_piece source.now ≡ Some p)
         × (end ≡ len_through_piece source.now p) × (length p ≤ length source.now)) }
 {
+    law_12();
     let start = leading_zeros(source);
     let rest = &source[start..];
     let len = first_sentinel(rest, 0);
@@ -113,6 +115,8 @@ pub extern "C" fn jcobs_decode_in_place(buffer: &mut [u8]) -> Answer
 pub extern "C" fn jcobs_decode_in_place_with_sentinel(buffer: &mut [u8], sentinel: u8) -> Answer
     ensures decodes { DecodesInPlaceFor sentinel buffer.old result buffer.new }
 {
+    law_6();
+    law_12();
     let room = buffer.len();
     let end = first_sentinel(buffer, sentinel);
     if end == 0 && room != 0 {

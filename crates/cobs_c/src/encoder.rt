@@ -6,7 +6,9 @@ ghost use Rattle.cobs_abi.specs.Stream.{EncodesNext, Finishes, IsFreshEncoder};
 
 use cobs::UnbufferedEncoder;
 use cobs::laws::{law_2, law_6, law_13};
-use cobs_abi::{Answer, Encoder, OK, done, end_of, too_small};
+use cobs_abi::{
+    Answer, Encoder, OK, done, encode_each, end_of, finish, finish_terminated, too_small,
+};
 
 /// Makes the encoder one that has taken nothing, even if its state is corrupt.
 #[unsafe(no_mangle)]
@@ -44,18 +46,7 @@ pub extern "C" fn jcobs_encoder_finish(encoder: &mut Encoder, buffer: &mut [u8])
     ensures finishes { Finishes 0 IsFrameOnWire encoder.old buffer.old result
         encoder.new buffer.new }
 {
-    if buffer.is_empty() {
-        // Not even the frame of the empty message fits.
-        return too_small();
-    }
-    let mut unbuffered = UnbufferedEncoder::from_progress(encoder.progress());
-    match unbuffered.finalize(buffer) {
-        Ok(length) => {
-            jcobs_encoder_reset(encoder);
-            done(0, length)
-        }
-        Err(_) => too_small(),
-    }
+    finish(encoder, buffer)
 }
 
 /// Takes the next byte of a message, as `jcobs_encoder_push` does.
@@ -64,7 +55,7 @@ pub extern "C" fn jcobs_encoder_feed(encoder: &mut Encoder, buffer: &mut [u8], b
     ensures encodes { EncodesNext encoder.old buffer.old (byte ∷ []) result
         encoder.new buffer.new }
 {
-    jcobs_encoder_push(encoder, buffer, &[byte])
+    encode_each(encoder, buffer, &[byte])
 }
 
 /// XORs each byte with the sentinel.
@@ -126,5 +117,5 @@ pub extern "C" fn jcobs_encoder_finish_terminated(
     ensures finishes { Finishes 1 (IsTerminatedFrame 0) encoder.old buffer.old result
         encoder.new buffer.new }
 {
-    jcobs_encoder_finish_terminated_with_sentinel(encoder, buffer, 0)
+    finish_terminated(encoder, buffer)
 }

@@ -5,8 +5,8 @@ ghost use Rattle.cobs_abi.specs.Text.{words};
 
 use cobs_abi::{VERSION, words};
 
-/// What a status means, written to the front of `text` as far as it fits, with a zero after it. The answer is the length of
-/// all the words.
+/// What a status means, written to the front of `text` as far as it fits, with a zero after it. The result is the
+/// length of all the words.
 #[unsafe(no_mangle)]
 pub extern "C" fn jcobs_strerror(status: u32, text: &mut [u8]) -> usize
     ensures len { result ≡ length (words status) }
@@ -31,7 +31,8 @@ pub extern "C" fn jcobs_version() -> u32
     VERSION
 }
 
-/// Returns 1, the version of the interface. Its name carries that version, so that a program of another one can't be linked.
+/// Returns 1, the version of the interface. Its name carries that version, so that a program of another one can't be
+/// linked.
 #[unsafe(no_mangle)]
 pub extern "C" fn jcobs_abi_1() -> u32
     ensures { result ≡ 1 }

@@ -1,13 +1,13 @@
 use Rattle.std.proofs.Common.{◌-◌, ℕ, List, length, take, drop, ap, ◌∙◌, arith, length-drop, length-take-le}
 use Rattle.std.proofs.lemmas.List.{take_rest}
-use Rattle.cobs.proofs.HeadLemmas.{first_piece_none, first_piece_some}
+use Rattle.cobs_c.proofs.SourceLemmas.{first_none, first_some}
 use Rattle.cobs_c.proofs.decode.first_piece_end.Goals as goal
 
 pub returns-then-len-eq0-clause-none : goal.returns-then-len-eq0-clause-none
 returns-then-len-eq0-clause-none c = λ none.
     let e = c.first_sentinel-len.ensures in
     let rest-is = take_rest c.args.source.now c.leading_zeros-start.result ∙ ap (λ (k : ℕ). drop k c.args.source.now) c.leading_zeros-start.ensures.count in
-    first_piece_none c.args.source.now _ c.first_sentinel-len.result rest-is e.within e.before e.stop c.if-len-eq0.true
+    first_none c.args.source.now _ c.first_sentinel-len.result rest-is e.stop c.law_12.ensures.none c.if-len-eq0.true
 
 pub returns-then-end-source-clause-some : goal.returns-then-end-source-clause-some
 returns-then-end-source-clause-some c =
@@ -18,7 +18,7 @@ returns-then-end-source-clause-some c =
     let long = length-take-le c.first_sentinel-len.result rest e.within in
     let start = c.leading_zeros-start.ensures.count in
     let len-rest = ap length (take_rest c.args.source.now c.leading_zeros-start.result) ∙ length-drop c.leading_zeros-start.result c.args.source.now in
-    (take c.first_sentinel-len.result rest, first_piece_some c.args.source.now _ c.first_sentinel-len.result rest-is e.within e.before e.stop (omega arith), omega arith, omega (arith, len-rest))
+    (take c.first_sentinel-len.result rest, first_some c.args.source.now _ c.first_sentinel-len.result rest-is e.stop c.law_12.ensures.found e.within e.before (omega arith), omega arith, omega (arith, len-rest))
 
 pub returns-else-end-source-clause-some : goal.returns-else-end-source-clause-some
 returns-else-end-source-clause-some c =
@@ -30,4 +30,4 @@ returns-else-end-source-clause-some c =
     let r = ap length (take_rest c.args.source.now c.leading_zeros-start.result) ∙ length-drop c.leading_zeros-start.result c.args.source.now in
     let start = c.leading_zeros-start.ensures.count in
     let len-rest = ap length (take_rest c.args.source.now c.leading_zeros-start.result) ∙ length-drop c.leading_zeros-start.result c.args.source.now in
-    (take c.first_sentinel-len.result rest, first_piece_some c.args.source.now _ c.first_sentinel-len.result rest-is e.within e.before e.stop (omega arith), omega arith, omega (arith, len-rest))
+    (take c.first_sentinel-len.result rest, first_some c.args.source.now _ c.first_sentinel-len.result rest-is e.stop c.law_12.ensures.found e.within e.before (omega arith), omega arith, omega (arith, len-rest))

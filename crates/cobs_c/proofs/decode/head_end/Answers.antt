@@ -1,14 +1,13 @@
 use Rattle.std.proofs.Common.{ℕ, ap, arith, length, take, length-take-le}
 use Rattle.std.proofs.lemmas.List.{length-map}
 use Rattle.std.specs.Int.Bits.{bit_xor}
-use Rattle.cobs.proofs.SourceSteps.{xor_head}
 use Rattle.cobs_c.proofs.decode.head_end.Goals as goal
 
 pub returns-then-end-bytes : goal.returns-then-end-bytes
 returns-then-end-bytes c =
     let e = c.first_sentinel-end.ensures in
     let change : ℕ → ℕ = λ b. bit_xor b c.args.sentinel in
-    let head = ap length (xor_head c.args.bytes.now _ c.args.sentinel e.within e.before e.stop) in
+    let head = ap length (c.law_12.ensures.head_for c.args.bytes.now _ c.args.sentinel e.within e.before e.stop) in
     let front = length-map (take c.first_sentinel-end.result c.args.bytes.now) change in
     let len = length-take-le c.first_sentinel-end.result c.args.bytes.now e.within in
     let all = length-map c.args.bytes.now change in
@@ -18,7 +17,7 @@ pub returns-else-end-bytes : goal.returns-else-end-bytes
 returns-else-end-bytes c =
     let e = c.first_sentinel-end.ensures in
     let change : ℕ → ℕ = λ b. bit_xor b c.args.sentinel in
-    let head = ap length (xor_head c.args.bytes.now _ c.args.sentinel e.within e.before e.stop) in
+    let head = ap length (c.law_12.ensures.head_for c.args.bytes.now _ c.args.sentinel e.within e.before e.stop) in
     let front = length-map (take c.first_sentinel-end.result c.args.bytes.now) change in
     let len = length-take-le c.first_sentinel-end.result c.args.bytes.now e.within in
     let all = length-map c.args.bytes.now change in

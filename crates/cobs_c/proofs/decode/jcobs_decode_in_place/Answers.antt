@@ -1,6 +1,6 @@
 use Rattle.std.proofs.Common.{ℕ, ap, ◌∙◌, length}
 use Rattle.cobs_abi.specs.Answer.{answer_by, head_end}
-use Rattle.cobs_c.proofs.SourceLemmas.{xor_each-zero}
+use Rattle.cobs_abi.proofs.FinishLemmas.{xor_each-zero}
 use Rattle.cobs_c.proofs.decode.jcobs_decode_in_place.Goals as goal
 
 pub returns : goal.returns

@@ -1,22 +1,24 @@
 use Rattle.std.proofs.Common.{◌∙◌, ◌++◌, ℕ, List, length, drop, ap}
 use Rattle.cobs_abi.specs.Answer.{answer_by, head_end}
 use Rattle.cobs.specs.Sentinel.{xor_each}
-use Rattle.cobs_c.proofs.InPlaceLemmas.{front-answer, front-buffer, front-end, sentinel-answer, sentinel-buffer}
+use Rattle.cobs_c.proofs.InPlaceLemmas.{HeadLaw, front-answer, front-buffer, front-end, sentinel-answer, sentinel-buffer}
 use Rattle.cobs_c.proofs.decode.jcobs_decode_in_place_with_sentinel.Goals as goal
 
 pub returns-then-room-ne0 : goal.returns-then-room-ne0
 returns-then-room-ne0 c =
+    let law : HeadLaw = record { front = c.law_12.ensures.head; head_for = c.law_12.ensures.head_for; coded = c.law_6.ensures.coded } in
     let e = c.first_sentinel-end.ensures in
     let buffer : List ℕ = c.args.buffer.now in
     record {
       decodes = record {
-        answer = c.done.ensures ∙ sentinel-answer buffer _ c.args.sentinel e.within e.before e.stop c.if-end-eq0.true c.if-room-ne0.true (length buffer);
-        buffer = sentinel-buffer buffer _ c.args.sentinel e.within e.before e.stop c.if-end-eq0.true c.if-room-ne0.true;
+        answer = c.done.ensures ∙ sentinel-answer law buffer _ c.args.sentinel e.within e.before e.stop c.if-end-eq0.true c.if-room-ne0.true (length buffer);
+        buffer = sentinel-buffer law buffer _ c.args.sentinel e.within e.before e.stop c.if-end-eq0.true c.if-room-ne0.true;
       };
     }
 
 pub returns : goal.returns
 returns c =
+    let law : HeadLaw = record { front = c.law_12.ensures.head; head_for = c.law_12.ensures.head_for; coded = c.law_6.ensures.coded } in
     let e = c.first_sentinel-end.ensures in
     let end : ℕ = c.first_sentinel-end.result in
     let buffer : List ℕ = c.args.buffer.now in
@@ -24,8 +26,8 @@ returns c =
     record {
       decodes = record {
         answer = c.answer_by.ensures
-            ∙ ap (λ (k : ℕ). answer_by k n c.decode_in_place_with_sentinel.result) (c.min-consumed.ensures ∙ front-end buffer end c.args.sentinel e.within e.before e.stop)
-            ∙ ap (answer_by (head_end (xor_each c.args.sentinel buffer)) n) (c.decode_in_place_with_sentinel.ensures.answer ∙ front-answer buffer end c.args.sentinel e.within e.before e.stop c.else-end-eq0.either);
-        buffer = ap (λ (x : List ℕ). x ++ drop end buffer) c.decode_in_place_with_sentinel.ensures.buffer ∙ front-buffer buffer end c.args.sentinel e.within e.before e.stop;
+            ∙ ap (λ (k : ℕ). answer_by k n c.decode_in_place_with_sentinel.result) (c.min-consumed.ensures ∙ front-end law buffer end c.args.sentinel e.within e.before e.stop)
+            ∙ ap (answer_by (head_end (xor_each c.args.sentinel buffer)) n) (c.decode_in_place_with_sentinel.ensures.answer ∙ front-answer law buffer end c.args.sentinel e.within e.before e.stop c.else-end-eq0.either);
+        buffer = ap (λ (x : List ℕ). x ++ drop end buffer) c.decode_in_place_with_sentinel.ensures.buffer ∙ front-buffer law buffer end c.args.sentinel e.within e.before e.stop;
       };
     }

@@ -1,6 +1,6 @@
-use Rattle.std.proofs.Common.{◌≢◌, ◌-◌, ◌∙◌, ℕ, length, length-take-le, sym, arith}
+use Rattle.std.proofs.Common.{◌≢◌, ◌-◌, ◌∙◌, ℕ, List, length, length-take-le, refl, sym, arith}
 use Rattle.std.proofs.lemmas.Bool.{eqb-false}
-use Rattle.cobs_c.proofs.FinishLemmas.{Finishes-no_room, Finishes-terminated}
+use Rattle.cobs_abi.proofs.FinishLemmas.{Finishes-no_room, Finishes-terminated}
 use Rattle.cobs_c.proofs.encoder.jcobs_encoder_finish_terminated_with_sentinel.Goals as goal
 
 pub returns-then-answer-ne-OK : goal.returns-then-answer-ne-OK
@@ -17,4 +17,4 @@ returns c =
     let last : ℕ = length c.args.buffer.now - 1 in
     let whole = length-take-le last c.args.buffer.now (omega arith) in
     let f = c.jcobs_encoder_finish_with_sentinel-answer.ensures.finishes in
-    record { finishes = rw c.done.ensures (Finishes-terminated c.law_2.ensures.len c.law_13.ensures.end last c.args.sentinel (omega (arith, some)) (f.len ∙ whole) f c.if-answer-ne-OK.false) }
+    record { finishes = rw c.done.ensures (Finishes-terminated c.law_2.ensures.len c.law_13.ensures.end last c.args.sentinel (omega (arith, some)) (f.len ∙ whole) f (λ (x m : List ℕ) e. (x, e, refl)) c.if-answer-ne-OK.false) }

@@ -1,4 +1,4 @@
-use Rattle.cobs_c.proofs.FinishLemmas.{Finishes-changed}
+use Rattle.cobs_abi.proofs.FinishLemmas.{Finishes-changed}
 use Rattle.cobs_c.proofs.encoder.jcobs_encoder_finish_with_sentinel.Goals as goal
 
 pub returns : goal.returns
