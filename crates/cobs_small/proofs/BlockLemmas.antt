@@ -1,27 +1,42 @@
--- How long a frame gets, byte by byte of the message.
-use Rattle.std.proofs.Common.{◌≡◌, ◌≢◌, ℕ, ◌+◌, ◌<◌, ◌≤◌, List, [], ◌∷◌, length, drop, get_or, ap, ◌∙◌, arith, length-drop}
-use Rattle.std.proofs.lemmas.List.{drop_more, drop_all}
-use Rattle.std.proofs.lemmas.List.Elements.{All-cons, All-nil}
-use Rattle.cobs.specs.Internal.OpenLen.{open_len}
-use Rattle.cobs.proofs.OpenLenLemmas.{open_len-join, open_len-zero, open_len-full, open_len-end}
+-- The block at a place of bytes without a zero, by its code.
+use Rattle.std.proofs.Common.{◌≡◌, ◌≢◌, ℕ, ◌+◌, ◌-◌, ◌<◌, ◌≤◌, List, ◌∷◌, ◌++◌, length, take, drop, get_or, sym, ap, ◌∙◌, arith, append-nil, length-drop, length-take-le, take-append-drop}
+use Rattle.std.proofs.lemmas.List.{drop-drop, drop_all, drop_more}
+use Rattle.std.proofs.lemmas.List.Elements.{All-drop, All-get_or, All-take}
+use Rattle.cobs.specs.Grammar.{HasNoZero, IsBlock}
 
-module _ (bytes : List ℕ) (i : ℕ) where
-  -- the bytes are all taken
-  pub len-end : (code : ℕ) → 0 < code → code ≤ 255 → length bytes ≤ i → open_len code (drop i bytes) ≡ code
-  len-end code some short last = ap (open_len code) (drop_all i bytes last) ∙ open_len-end code some short
+abbrev pub block_at : List ℕ → ℕ → ℕ → List ℕ
+block_at bytes read code = code ∷ take (code - 1) (drop (read + 1) bytes)
 
-  module _ (more : i < length bytes) where
-    -- a full block is closed
-    pub len-full : (code : ℕ) → code ≡ 255 → open_len code (drop i bytes) ≡ 255 + open_len 1 (drop i bytes)
-    len-full code is = open_len-full code (drop i bytes) is (λ e. let l = length-drop i bytes in let z = ap length e in absurd (omega arith))
+-- what is behind the first `read` bytes, none of which is a zero, begins with this code
+pub record IsCodeAt (bytes : List ℕ) (read code : ℕ) : Type 0 where
+  pub nonzero : HasNoZero bytes
+  pub here : read < length bytes
+  pub is : code ≡ get_or bytes read 0
+  pub below : code < 256
 
-    -- a byte joins the block
-    pub len-byte : (code : ℕ) → 0 < code → get_or bytes i 0 ≢ 0 → open_len code (drop i bytes) ≡ open_len (code + 1) (drop (i + 1) bytes)
-    len-byte code some nz =
-        ap (open_len code) (drop_more bytes i 0 more)
-        ∙ open_len-join code (get_or bytes i 0 ∷ []) (drop (i + 1) bytes) some (All-cons (λ byte. byte ≢ 0) (get_or bytes i 0) [] nz (All-nil (λ byte. byte ≢ 0)))
+module _ (bytes : List ℕ) (read code : ℕ) (c : IsCodeAt bytes read code) where
+  pub code-some : 0 < code
+  code-some = let is = c.is in let other = All-get_or (λ byte. byte ≢ 0) bytes read 0 c.here c.nonzero in omega arith
 
-    -- a zero closes it
-    pub len-zero : (code : ℕ) → 0 < code → code < 255 → get_or bytes i 0 ≡ 0 → open_len code (drop i bytes) ≡ code + open_len 1 (drop (i + 1) bytes)
-    len-zero code some short is =
-        ap (open_len code) (drop_more bytes i 0 more ∙ ap (λ (b : ℕ). b ∷ drop (i + 1) bytes) is) ∙ open_len-zero code (drop (i + 1) bytes) some short
+  pub left-is : drop read bytes ≡ code ∷ drop (read + 1) bytes
+  left-is = drop_more bytes read 0 c.here ∙ ap (λ (k : ℕ). k ∷ drop (read + 1) bytes) (sym c.is)
+
+  pub short : length bytes - read < code → length (drop (read + 1) bytes) + 1 < code
+  short fewer = let h = c.here in omega (arith, length-drop (read + 1) bytes)
+
+  -- the code's block is whole
+  module _ (fits : code ≤ length bytes - read) where
+    pub bytes-long : length (take (code - 1) (drop (read + 1) bytes)) ≡ code - 1
+    bytes-long = length-take-le (code - 1) (drop (read + 1) bytes) (omega (arith, length-drop (read + 1) bytes))
+
+    pub block-is : IsBlock (block_at bytes read code)
+    block-is = (omega (arith, bytes-long, code-some), c.below, All-take (λ byte. byte ≢ 0) (code - 1) (drop (read + 1) bytes) (All-drop (λ byte. byte ≢ 0) (read + 1) bytes c.nonzero))
+
+    pub split : drop read bytes ≡ block_at bytes read code ++ drop (read + code) bytes
+    split =
+        let s = code-some in
+        left-is ∙ ap (λ (x : List ℕ). code ∷ x) (sym (take-append-drop (code - 1) (drop (read + 1) bytes)) ∙ ap (λ (x : List ℕ). take (code - 1) (drop (read + 1) bytes) ++ x)
+        (drop-drop (code - 1) (read + 1) bytes ∙ ap (λ (k : ℕ). drop k bytes) (omega arith)))
+
+    pub last-is : length bytes ≤ read + code → drop read bytes ≡ block_at bytes read code
+    last-is far = split ∙ ap (λ (x : List ℕ). block_at bytes read code ++ x) (drop_all (read + code) bytes far) ∙ append-nil (block_at bytes read code)

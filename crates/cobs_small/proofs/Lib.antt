@@ -1,5 +1,5 @@
 mod BlockLemmas
-mod BrokenLemmas
-mod EndLemmas
-mod FinishLemmas
-mod ReachSteps
+mod InPlaceLemmas
+mod KindLemmas
+mod LeadLemmas
+mod PieceLemmas

@@ -1,15 +1,13 @@
--- The status of the zero that ends a piece.
-use Rattle.std.specs.Prelude.{ℕ, zero, suc, nat_le, ◌==◌, Bool, if◌then◌else◌}
-use Rattle.cobs.specs.Feed.{Phase, Idle, Within, Over}
-use Rattle.cobs_abi.specs.declared.answer.TheConstants.{OK, MORE, TOO_SMALL, BROKEN}
+-- The result of a call, by the end of a piece.
+use Rattle.std.specs.Prelude.{ℕ, Option, Some, None}
+use Rattle.cobs.specs.declared.dec.frame_decoder.PieceEnd.{PieceEnd}
+use Rattle.cobs.specs.declared.dec.frame_decoder.PieceEnd.TheVariants.{Message, Broken, TooLong}
+use Rattle.cobs_abi.specs.declared.answer.Answer.{Answer}
+use Rattle.cobs_abi.specs.declared.answer.TheConstants.{OK, TOO_SMALL, BROKEN, EMPTY}
 
--- for a decoder in this phase over a buffer of n bytes: MORE if no piece has begun
-abbrev pub end_status : ℕ → Phase → ℕ
-end_status n Idle = MORE
-end_status n Over = TOO_SMALL
-end_status n (Within full (suc left) count) = BROKEN
-end_status n (Within full zero count) = if nat_le count n then OK else TOO_SMALL
-
--- the phase after a push with this status
-abbrev pub phase_behind : ℕ → Phase → Phase
-phase_behind status phase = if status == MORE then phase else Idle
+-- of a call that took this many bytes, into a buffer of n bytes
+abbrev pub answer_for : ℕ → ℕ → Option PieceEnd → Answer
+answer_for consumed n None = record { status = EMPTY; consumed = consumed; length = 0 }
+answer_for consumed n (Some (Message size)) = record { status = OK; consumed = consumed; length = size }
+answer_for consumed n (Some (Broken count)) = record { status = BROKEN; consumed = consumed; length = count }
+answer_for consumed n (Some TooLong) = record { status = TOO_SMALL; consumed = consumed; length = n }

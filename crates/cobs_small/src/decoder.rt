@@ -2,45 +2,27 @@
 ghost use Rattle.std.specs.Prelude.{[], ◌∷◌};
 ghost use Rattle.cobs_abi.specs.Stream.{DecodesNext, IsFreshDecoder, TellsIdle};
 
-use crate::piece::take_piece;
-use cobs_abi::{Answer, Decoder, MORE};
+use cobs::UnbufferedDecoder;
+use cobs_abi::{Answer, Decoder, decode_each};
 
-/// A decoder that has taken nothing.
-const START: Decoder = Decoder {
-    written: 0,
-    lacking: 0,
-    joint: 0,
-    too_long: 0,
-};
-
-/// Makes the decoder one that has taken nothing, whatever stood in it.
+/// Makes the decoder one that has taken nothing, even if its state is corrupt.
 #[unsafe(no_mangle)]
 pub extern "C" fn jcobs_decoder_reset(decoder: &mut Decoder)
     ensures fresh { IsFreshDecoder decoder.new }
 {
-    *decoder = START;
+    *decoder = Decoder::at(UnbufferedDecoder::new().phase());
 }
 
-/// Whether no piece is open: 1, or else 0.
+/// Returns 1 if no piece is open, and 0 otherwise.
 #[unsafe(no_mangle)]
 pub extern "C" fn jcobs_decoder_is_idle(decoder: &Decoder) -> u32
     ensures idle { TellsIdle decoder.now result }
 {
-    let Decoder {
-        written,
-        lacking,
-        joint,
-        too_long,
-    } = *decoder;
-    if written == 0 && lacking == 0 && joint == 0 && too_long == 0 {
-        1
-    } else {
-        0
-    }
+    if decoder.is_idle() { 1 } else { 0 }
 }
 
-/// Takes bytes of the stream through the zero that ends the first piece, or all of them. Whatever stands in the decoder,
-/// the buffer keeps its length, and the counts stay within the bytes and the buffer.
+/// Takes bytes of the stream through the zero that ends the first piece, or all of them. Even if the state is corrupt, the
+/// buffer keeps its length, and the counts are within the bytes and the buffer.
 #[unsafe(no_mangle)]
 pub extern "C" fn jcobs_decoder_push(
     decoder: &mut Decoder,
@@ -50,15 +32,7 @@ pub extern "C" fn jcobs_decoder_push(
     ensures decodes { DecodesNext decoder.old buffer.old bytes.now result
         decoder.new buffer.new }
 {
-    let mut here = *decoder;
-    let (status, consumed) = take_piece(&mut here, buffer, bytes);
-    let length = here.held(buffer.len());
-    *decoder = if status == MORE { here } else { START };
-    Answer {
-        status,
-        consumed,
-        length,
-    }
+    decode_each(decoder, buffer, bytes, 0)
 }
 
 /// Takes one byte of the stream, as a push of that byte.

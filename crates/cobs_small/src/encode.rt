@@ -3,9 +3,10 @@ ghost use Rattle.std.specs.Prelude.{◌≡◌, ◌≤◌, ◌<◌, ◌^◌};
 ghost use Rattle.cobs.specs.Length.{max_encoded_len};
 ghost use Rattle.cobs_abi.specs.Encode.{Encodes, EncodesTerminated};
 
-use crate::encoder::{START, jcobs_encoder_finish, jcobs_encoder_push};
+use crate::encoder::{jcobs_encoder_finish, jcobs_encoder_push};
+use cobs::laws::{law_13, law_16};
 use cobs::max_encoding_overhead;
-use cobs_abi::{Answer, OK, done, too_small};
+use cobs_abi::{Answer, ENCODER_START, OK, done, too_small};
 
 /// Returns how many bytes the longest frame of a message of `message_len` bytes has, or 0 if that number doesn't fit.
 #[unsafe(no_mangle)]
@@ -23,10 +24,12 @@ pub extern "C" fn jcobs_max_length(message_len: usize) -> usize
 pub extern "C" fn jcobs_encode(message: &[u8], frame: &mut [u8]) -> Answer
     ensures encodes { Encodes message.now frame.old result frame.new }
 {
+    law_13();
+    law_16();
     if frame.is_empty() {
         return too_small();
     }
-    let mut encoder = START;
+    let mut encoder = ENCODER_START;
     let pushed = jcobs_encoder_push(&mut encoder, frame, message);
     if pushed.status != OK {
         return pushed;

@@ -1,41 +1,21 @@
 //! Messages in pieces to frames.
-ghost use Rattle.std.specs.Prelude.{◌↔◌, IsTrue};
-ghost use Rattle.cobs.specs.Fields.Encoders.{IsPlaceIn};
-ghost use Rattle.cobs_abi.specs.Frames.{IsFrameOnWire};
-ghost use Rattle.cobs_abi.specs.State.{reached_in};
+ghost use Rattle.std.specs.Prelude.{[], ◌∷◌};
+ghost use Rattle.cobs_abi.specs.Frames.{IsFrameOnWire, IsTerminatedFrame};
 ghost use Rattle.cobs_abi.specs.Stream.{EncodesNext, Finishes, IsFreshEncoder};
 
-use crate::block::{append, fits};
-use cobs_abi::{Answer, Encoder, done, end_of, too_small};
+use cobs::UnbufferedEncoder;
+use cobs_abi::{Answer, Encoder, encode_each, finish, finish_terminated};
 
-/// An encoder that has taken nothing.
-pub(crate) const START: Encoder = Encoder {
-    index: 0,
-    taken: 0,
-    full: 0,
-};
-
-/// Makes the encoder one that has taken nothing, whatever stood in it.
+/// Makes the encoder one that has taken nothing, even if its state is corrupt.
 #[unsafe(no_mangle)]
 pub extern "C" fn jcobs_encoder_reset(encoder: &mut Encoder)
     ensures fresh { IsFreshEncoder encoder.new }
 {
-    *encoder = START;
+    *encoder = Encoder::at(UnbufferedEncoder::new().progress());
 }
 
-/// Whether a frame can have come so far in a buffer of `room` bytes.
-#[inline(always)]
-fn is_place(encoder: &Encoder, room: usize) -> bool
-    ensures { IsTrue result ↔ IsPlaceIn room (reached_in encoder.now) }
-{
-    if 253 < encoder.taken || room < encoder.index {
-        return false;
-    }
-    encoder.full != 0 || (encoder.taken as usize) < room - encoder.index
-}
-
-/// Takes the next bytes of a message, if the frame of all that was taken fits the buffer. Whatever stands in the
-/// encoder, the buffer keeps its length, and the counts stay within the bytes and the buffer.
+/// Takes the next bytes of a message, if the frame of all that was taken fits the buffer. Even if the state is corrupt, the
+/// buffer keeps its length, and the counts are within the bytes and the buffer.
 #[unsafe(no_mangle)]
 pub extern "C" fn jcobs_encoder_push(
     encoder: &mut Encoder,
@@ -45,36 +25,36 @@ pub extern "C" fn jcobs_encoder_push(
     ensures encodes { EncodesNext encoder.old buffer.old bytes.now result
         encoder.new buffer.new }
 {
-    let room = buffer.len();
-    if !is_place(encoder, room) {
-        return too_small();
-    }
-    let start = encoder.progress();
-    if bytes.is_empty() {
-        return done(0, end_of(start));
-    }
-    if !fits(start.code, bytes, room - start.index) {
-        return too_small();
-    }
-    let progress = append(bytes, buffer, start);
-    *encoder = Encoder::at(progress);
-    done(bytes.len(), end_of(progress))
+    encode_each(encoder, buffer, bytes)
 }
 
-/// Ends the message, if its frame fits the buffer. Whatever stands in the encoder, the buffer keeps its length, and the
-/// length that is returned stays within it.
+/// Takes the next byte of a message, as a push of that byte.
+#[unsafe(no_mangle)]
+pub extern "C" fn jcobs_encoder_feed(encoder: &mut Encoder, buffer: &mut [u8], byte: u8) -> Answer
+    ensures encodes { EncodesNext encoder.old buffer.old (byte ∷ []) result
+        encoder.new buffer.new }
+{
+    jcobs_encoder_push(encoder, buffer, &[byte])
+}
+
+/// Ends the message, if its frame fits the buffer. Even if the state is corrupt, the buffer keeps its length, and the
+/// returned length is within it.
 #[unsafe(no_mangle)]
 pub extern "C" fn jcobs_encoder_finish(encoder: &mut Encoder, buffer: &mut [u8]) -> Answer
     ensures finishes { Finishes 0 IsFrameOnWire encoder.old buffer.old result
         encoder.new buffer.new }
 {
-    if buffer.is_empty() || !is_place(encoder, buffer.len()) {
-        return too_small();
-    }
-    let progress = encoder.progress();
-    if !progress.is_full {
-        buffer[progress.index] = progress.code;
-    }
-    *encoder = START;
-    done(0, end_of(progress))
+    finish(encoder, buffer)
+}
+
+/// Ends the message, as `jcobs_encoder_finish` does, and writes a zero after its frame, if both fit.
+#[unsafe(no_mangle)]
+pub extern "C" fn jcobs_encoder_finish_terminated(
+    encoder: &mut Encoder,
+    buffer: &mut [u8],
+) -> Answer
+    ensures finishes { Finishes 1 (IsTerminatedFrame 0) encoder.old buffer.old result
+        encoder.new buffer.new }
+{
+    finish_terminated(encoder, buffer)
 }

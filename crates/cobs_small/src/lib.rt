@@ -4,8 +4,9 @@
 //! them. Of a slice, C passes the pointer and then the length.
 #![tactic(auto)]
 
-mod block;
+mod decode;
 mod decoder;
 mod encode;
 mod encoder;
-mod piece;
+mod in_place;
+mod kind;

@@ -2,7 +2,7 @@ use Rattle.std.proofs.Common.{◌≢◌, ◌-◌, ℕ, List, length, length-take
 use Rattle.std.proofs.lemmas.Bool.{eqb-false}
 use Rattle.cobs.specs.Grammar.{IsEncodedFrame}
 use Rattle.cobs_abi.proofs.WritesLemmas.{Writes-terminated}
-use Rattle.cobs.proofs.SentinelLemmas.{xor_each-zero}
+use Rattle.cobs_abi.proofs.FinishLemmas.{xor_each-zero}
 use Rattle.cobs_small.proofs.encode.jcobs_encode_terminated.Goals as goal
 
 pub returns : goal.returns

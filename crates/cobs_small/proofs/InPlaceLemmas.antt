@@ -1,0 +1,175 @@
+-- A buffer that is decoded in its own place, block by block, so far.
+use Rattle.std.proofs.Common.{◌≡◌, ◌≢◌, ℕ, ◌+◌, ◌-◌, ◌<◌, ◌≤◌, ◌⊎◌, Bool, true, false, cond, List, [], ◌∷◌, ◌++◌, length, take, drop, get_or, set, Ok, Err, refl, sym, ap, ◌∙◌, arith, inl, inr, append_assoc, append-nil, drop_at, length-append, length-drop, length-take-le, take-append-drop, take_all, take_at}
+use Rattle.std.proofs.lemmas.Bool.{eq-eqb, ne_eqb, true≢false}
+use Rattle.std.proofs.lemmas.List.{drop-drop, drop-take, drop_all, drop_more, get_or-drop, get_or-take, set_at, take-take, take_rest}
+use Rattle.std.specs.Result.{result_map_both}
+use borrow.Rule.Slice.PartMut.{put_mid}
+use Rattle.cobs.specs.Decode.{head_answer}
+use Rattle.cobs.specs.Grammar.{HasNoZero, IsBlock, bytes_of, joint}
+use Rattle.cobs.specs.Overwritten.{overwritten}
+use Rattle.cobs.specs.Piece.{IsWhole, is_whole, kept_output, last_part, output, parts, parts_after}
+use Rattle.cobs.specs.declared.dec.DecodeError.{DecodeError}
+use Rattle.cobs.specs.declared.dec.DecodeError.TheVariants.{InvalidFrame}
+use Rattle.cobs_small.proofs.BlockLemmas.{IsCodeAt, block-is, block_at, bytes-long, code-some, left-is, short, split}
+
+-- what `law_20` says
+pub record OutputLaw : Type 0 where
+  pub one : (block : List ℕ) → IsBlock block → output block ≡ bytes_of block
+  pub one_whole : (block : List ℕ) → IsBlock block → IsWhole block
+  pub whole : (block p : List ℕ) → IsBlock block → p ≢ [] → is_whole (block ++ p) ≡ is_whole p
+  pub kept : (block p : List ℕ) → IsBlock block → p ≢ [] → kept_output (block ++ p) ≡ bytes_of block ++ joint block ++ kept_output p
+  pub short : (code : ℕ) (bytes : List ℕ) → length bytes + 1 < code → is_whole (code ∷ bytes) ≡ false
+  pub short_kept : (code : ℕ) (bytes : List ℕ) → length bytes + 1 < code → kept_output (code ∷ bytes) ≡ []
+  pub all_kept : (p : List ℕ) → IsWhole p → kept_output p ≡ output p
+
+-- whether what is left is whole, or nothing is left
+abbrev pub whole_left : List ℕ → Bool
+whole_left [] = true
+whole_left (byte ∷ bytes) = is_whole (byte ∷ bytes)
+
+kept-nothing : kept_output [] ≡ []
+unfolding kept_output is_whole output parts parts_after last_part
+kept-nothing = refl
+
+answer-is : (law : OutputLaw) (h : List ℕ) (whole : Bool) → whole_left h ≡ whole → head_answer h ≡ cond whole (Ok (length (kept_output h))) (Err (InvalidFrame (length (kept_output h))))
+answer-is law [] true w = ap (λ (x : List ℕ). Ok (length x)) (sym kept-nothing)
+answer-is law [] false w = absurd (true≢false w)
+answer-is law (b ∷ h) true w =
+    ap (λ (v : Bool). result_map_both length (λ (e : DecodeError). e) (cond v (Ok (output (b ∷ h))) (Err (InvalidFrame (length (kept_output (b ∷ h))))))) w ∙ ap (λ (x : List ℕ). Ok (length x)) (sym (law.all_kept (b ∷ h) w))
+answer-is law (b ∷ h) false w = ap (λ (v : Bool). result_map_both length (λ (e : DecodeError). e) (cond v (Ok (output (b ∷ h))) (Err (InvalidFrame (length (kept_output (b ∷ h))))))) w
+
+-- a block and what is behind it: what is kept, with the zero that is due between them, and whether it is whole
+module _ (law : OutputLaw) (code : ℕ) (bytes : List ℕ) (block : IsBlock (code ∷ bytes)) where
+  kept-step : (p due : List ℕ) → (p ≢ [] → joint (code ∷ bytes) ≡ due) → (p ≡ [] → due ≡ []) → kept_output ((code ∷ bytes) ++ p) ≡ (bytes ++ due) ++ kept_output p
+  kept-step [] due more last =
+      ap kept_output (append-nil (code ∷ bytes)) ∙ law.all_kept (code ∷ bytes) (law.one_whole (code ∷ bytes) block) ∙ law.one (code ∷ bytes) block
+      ∙ sym (ap (λ (x : List ℕ). (bytes ++ due) ++ x) kept-nothing ∙ append-nil (bytes ++ due) ∙ ap (λ (x : List ℕ). bytes ++ x) (last refl) ∙ append-nil bytes)
+  kept-step (b ∷ p) due more last = law.kept (code ∷ bytes) (b ∷ p) block (λ e. cc) ∙ ap (λ (x : List ℕ). (bytes ++ x) ++ kept_output (b ∷ p)) (more (λ e. cc))
+
+  whole-step : (p : List ℕ) → whole_left ((code ∷ bytes) ++ p) ≡ whole_left p
+  whole-step [] = ap whole_left (append-nil (code ∷ bytes)) ∙ law.one_whole (code ∷ bytes) block
+  whole-step (b ∷ p) = law.whole (code ∷ bytes) (b ∷ p) block (λ e. cc)
+
+-- the blocks in the first `read` of `end` bytes are decoded to these bytes at the buffer's front, and the rest is as it was
+pub record DecodedInPlace (old : List ℕ) (end : ℕ) (buffer : List ℕ) (read written : ℕ) : Type 0 where
+  pub fits : end ≤ length old
+  pub nonzero : HasNoZero (take end old)
+  pub below : (i : ℕ) → get_or old i 0 < 256
+  pub order : written ≤ read
+  pub within : read ≤ end
+  pub done : List ℕ
+  pub count : length done ≡ written
+  pub holds : buffer ≡ done ++ drop written old
+  pub kept : kept_output (take end old) ≡ done ++ kept_output (drop read (take end old))
+  pub whole : whole_left (take end old) ≡ whole_left (drop read (take end old))
+
+module _ (law : OutputLaw) (old : List ℕ) (end : ℕ) (buffer : List ℕ) (read written : ℕ) (s : DecodedInPlace old end buffer read written) where
+  abbrev h : List ℕ
+  h = take end old
+
+  long : length (take end old) ≡ end
+  long = length-take-le end old s.fits
+
+  -- the result and the buffer once nothing that is left is kept
+  ended : (left : List ℕ) (whole : Bool) → drop read h ≡ left → kept_output left ≡ [] → whole_left left ≡ whole
+      → (cond whole (Ok written) (Err (InvalidFrame written)) ≡ head_answer h) × (buffer ≡ overwritten old (kept_output h))
+  ended left whole is nothing w =
+      let kept : kept_output h ≡ s.done = s.kept ∙ ap (λ (x : List ℕ). s.done ++ kept_output x) is ∙ ap (λ (x : List ℕ). s.done ++ x) nothing ∙ append-nil s.done in
+      let all : take (length old) s.done ≡ s.done = take_all (length old) s.done (let c = s.count in let o = s.order in let w = s.within in let f = s.fits in omega arith) in (
+        ap (λ (n : ℕ). cond whole (Ok n) (Err (InvalidFrame n))) (sym (ap length kept ∙ s.count)) ∙ sym (answer-is law h whole (s.whole ∙ ap whole_left is ∙ w)),
+        s.holds ∙ sym (ap (overwritten old) kept ∙ ap (λ (x : List ℕ). x ++ drop (length s.done) old) all ∙ ap (λ (n : ℕ). s.done ++ drop n old) s.count),
+      )
+
+  pub all-read : end ≤ read → (Ok written ≡ head_answer h) × (buffer ≡ overwritten old (kept_output h))
+  all-read past = ended [] true (drop_all read h (let l = long in omega arith)) kept-nothing refl
+
+  -- behind the front it is as it was
+  behind : (k : ℕ) → written ≤ k → drop k buffer ≡ drop k old
+  behind k le =
+      let sum : written + (k - written) ≡ k = omega arith in
+      sym (drop-drop (k - written) written buffer ∙ ap (λ (n : ℕ). drop n buffer) sum) ∙ ap (drop (k - written)) (ap (drop written) s.holds ∙ drop_at s.done (drop written old) written s.count)
+      ∙ drop-drop (k - written) written old ∙ ap (λ (n : ℕ). drop n old) sum
+
+  module _ (here : read < end) where
+    abbrev code : ℕ
+    code = get_or buffer read 0
+
+    pub at : IsCodeAt (take end old) read (get_or buffer read 0)
+    at =
+        let first : (xs : List ℕ) → get_or (drop read xs) 0 0 ≡ get_or xs read 0 = λ xs. get_or-drop read xs 0 0 ∙ ap (λ (k : ℕ). get_or xs k 0) (omega arith) in
+        let same : get_or buffer read 0 ≡ get_or old read 0 = sym (first buffer) ∙ ap (λ (xs : List ℕ). get_or xs 0 0) (behind read s.order) ∙ first old in
+        record { nonzero = s.nonzero; here = omega (arith, long); is = same ∙ sym (get_or-take end old read 0 here); below = omega (arith, same, s.below read) }
+
+    pub broken : end - read < get_or buffer read 0 → (Err (InvalidFrame written) ≡ head_answer h) × (buffer ≡ overwritten old (kept_output h))
+    broken more =
+        let few = short _ _ _ at (let l = long in omega arith) in
+        ended (code ∷ drop (read + 1) h) false (left-is _ _ _ at) (law.short_kept code (drop (read + 1) h) few) (law.short code (drop (read + 1) h) few)
+
+    -- the bytes of the block are moved
+    module _ (whole : code ≤ end - read) (new : List ℕ) (k : ℕ) (k-is : k ≡ length buffer - written)
+        (begins : take (code - 1) new ≡ take (code - 1) (drop (read + 1 - written) (take k (drop written buffer)))) (rest : drop (code - 1) new ≡ drop (code - 1) (take k (drop written buffer))) where
+      abbrev bytes : List ℕ
+      bytes = take (code - 1) (drop (read + 1) h)
+
+      abbrev front : List ℕ
+      front = s.done ++ bytes
+
+      front-long : length front ≡ written + (code - 1)
+      front-long = omega (arith, length-append s.done bytes, s.count, bytes-long _ _ _ at (let l = long in omega arith))
+
+      back : take k (drop written buffer) ≡ drop written buffer
+      back = ap (λ (n : ℕ). take n (drop written buffer)) k-is ∙ take_rest buffer written
+
+      new-is : new ≡ bytes ++ drop (written + (code - 1)) old
+      new-is =
+          let c = code-some _ _ _ at in
+          let o = s.order in
+          let sum : written + (read + 1 - written) ≡ read + 1 = omega arith in
+          let left : read + 1 + (end - (read + 1)) ≡ end = omega arith in
+          sym (take-append-drop (code - 1) new) ∙ ap (λ (x : List ℕ). x ++ drop (code - 1) new)
+          (begins ∙ ap (λ (x : List ℕ). take (code - 1) (drop (read + 1 - written) x)) back ∙ ap (take (code - 1)) (drop-drop (read + 1 - written) written buffer ∙ ap (λ (n : ℕ). drop n buffer) sum ∙ behind (read + 1) (omega arith))
+          ∙ sym (ap (λ (n : ℕ). take (code - 1) (drop (read + 1) (take n old))) (sym left) ∙ ap (take (code - 1)) (drop-take (read + 1) (end - (read + 1)) old) ∙ take-take (code - 1) (end - (read + 1)) (drop (read + 1) old) (omega arith)))
+          ∙ ap (λ (x : List ℕ). bytes ++ x) (rest ∙ ap (drop (code - 1)) back ∙ drop-drop (code - 1) written buffer ∙ behind (written + (code - 1)) (omega arith))
+
+      after-is : put_mid written k buffer new ≡ front ++ drop (written + (code - 1)) old
+      after-is =
+          ap (λ (x : List ℕ). take written buffer ++ (new ++ x)) (drop-drop k written buffer ∙ drop_all (written + k) buffer (omega arith)) ∙ ap (λ (x : List ℕ). take written buffer ++ x) (append-nil new ∙ new-is)
+          ∙ ap (λ (x : List ℕ). x ++ (bytes ++ drop (written + (code - 1)) old)) (ap (take written) s.holds ∙ take_at s.done (drop written old) written s.count) ∙ sym (append_assoc s.done bytes (drop (written + (code - 1)) old))
+
+      -- with what is due behind them
+      stepped : (due next : List ℕ) (w : ℕ) → (drop (read + code) h ≢ [] → joint (block_at h read code) ≡ due) → (drop (read + code) h ≡ [] → due ≡ [])
+          → w ≤ read + code → length (front ++ due) ≡ w → next ≡ (front ++ due) ++ drop w old → DecodedInPlace old end next (read + code) w
+      stepped due next w more last order count holds =
+          let l = long in
+          let is = block-is _ _ _ at (omega arith) in
+          let cut = split _ _ _ at (omega arith) in
+          record {
+            fits = s.fits;
+            nonzero = s.nonzero;
+            below = s.below;
+            order = order;
+            within = (let w = s.within in omega arith);
+            done = front ++ due;
+            count = count;
+            holds = holds;
+            kept = s.kept ∙ ap (λ (x : List ℕ). s.done ++ x) (ap kept_output cut ∙ kept-step law code bytes is (drop (read + code) h) due more last)
+                ∙ sym (ap (λ (x : List ℕ). x ++ kept_output (drop (read + code) h)) (append_assoc s.done bytes due) ∙ append_assoc s.done (bytes ++ due) (kept_output (drop (read + code) h)));
+            whole = s.whole ∙ ap whole_left cut ∙ whole-step law code bytes is (drop (read + code) h);
+          }
+
+      pub stepped-plain : (end ≤ read + code) ⊎ (code ≡ 255) → DecodedInPlace old end (put_mid written k buffer new) (read + code) (written + (code - 1))
+      stepped-plain none-due =
+          stepped [] _ _ (λ some. elim none-due [
+            | inl last ↦ absurd (some (drop_all (read + code) h (let l = long in omega arith)))
+            | inr full ↦ ap (λ (v : Bool). cond v [] (0 ∷ [])) (eq-eqb code 255 full)
+          ]) (λ _. refl) (let o = s.order in omega arith) (ap length (append-nil front) ∙ front-long) (after-is ∙ ap (λ (x : List ℕ). x ++ drop (written + (code - 1)) old) (sym (append-nil front)))
+
+      pub stepped-zero : read + code < end → code ≢ 255 → DecodedInPlace old end (set (put_mid written k buffer new) (written + (code - 1)) 0) (read + code) (written + (code - 1) + 1)
+      stepped-zero far other =
+          let o = s.order in
+          let c = code-some _ _ _ at in
+          let f = s.fits in
+          stepped (0 ∷ []) _ _ (λ _. ap (λ (v : Bool). cond v [] (0 ∷ [])) (ne_eqb code 255 other)) (λ e. absurd (let l = long in omega (arith, ap length e, length-drop (read + code) h))) (omega arith)
+          (omega (arith, length-append front (0 ∷ []), front-long))
+          (ap (λ (x : List ℕ). set x (written + (code - 1)) 0) (after-is ∙ ap (λ (x : List ℕ). front ++ x) (drop_more old (written + (code - 1)) 0 (omega arith)))
+          ∙ set_at front _ (drop (written + (code - 1) + 1) old) 0 (written + (code - 1)) front-long ∙ sym (append_assoc front (0 ∷ []) (drop (written + (code - 1) + 1) old)))

@@ -1,0 +1,43 @@
+use Rattle.std.proofs.Common.{◌<◌, ℕ, [], get_or, arith, refl, inl, inr}
+use Rattle.cobs_small.proofs.BlockLemmas.{code-some}
+use Rattle.cobs_small.proofs.InPlaceLemmas.{all-read, at, broken, stepped-plain, stepped-zero}
+use Rattle.cobs_small.proofs.in_place.decode_blocks.Goals as goal
+use Rattle.cobs_small.proofs.in_place.decode_blocks.Goals.{else-code-ne-FULL-via-then-code-ne-FULL+else-read-end, else-code-ne-FULL-via-else-code-ne-FULL}
+
+pub by_block-init : goal.by_block-init
+by_block-init c =
+    let below = λ (i : ℕ). (let fits = c.type_inv.buffer i in let n : get_or c.args.buffer.now i 0 < 256 = omega arith in n) in
+    record { fits = c.requires.within; nonzero = c.requires.nonzero; below = below; order = omega arith; within = omega arith; done = []; count = refl; holds = refl; kept = refl; whole = refl }
+
+pub returns-then-end-read : goal.returns-then-end-read
+returns-then-end-read c =
+    let both = broken (assumption c.law_20.ensures) _ _ _ _ _ c.by_block.invariant c.by_block-test.true c.if-end-read.true in
+    record { answer = both.0; buffer = both.1 }
+
+pub overflow_sub-code : goal.overflow_sub-code
+overflow_sub-code c = let some = code-some _ _ _ (at (assumption c.law_20.ensures) _ _ _ _ _ c.by_block.invariant c.by_block-test.true) in omega arith
+
+pub overflow_sub-written : goal.overflow_sub-written
+overflow_sub-written c = let some = code-some _ _ _ (at (assumption c.law_20.ensures) _ _ _ _ _ c.by_block.invariant c.by_block-test.true) in omega arith
+
+pub by_block-smaller-then-read-end : goal.by_block-smaller-then-read-end
+by_block-smaller-then-read-end c = let some = code-some _ _ _ (at (assumption c.law_20.ensures) _ _ _ _ _ c.by_block.invariant c.by_block-test.true) in omega arith
+
+pub by_block-preserved-then-read-end : goal.by_block-preserved-then-read-end
+by_block-preserved-then-read-end c =
+    let m = c.move_to_front in
+    stepped-zero (assumption c.law_20.ensures) _ _ _ _ _ c.by_block.invariant c.by_block-test.true c.if-end-read.false m.new.buffer _ refl m.ensures.begins m.ensures.rest c.if-read-end.true c.if-code-ne-FULL.true
+
+pub by_block-preserved : goal.by_block-preserved
+by_block-preserved c =
+    let m = c.move_to_front in
+    stepped-plain (assumption c.law_20.ensures) _ _ _ _ _ c.by_block.invariant c.by_block-test.true c.if-end-read.false m.new.buffer _ refl m.ensures.begins m.ensures.rest
+    (elim c.else-code-ne-FULL.branch [
+      | else-code-ne-FULL-via-then-code-ne-FULL+else-read-end w ↦ inl (omega (arith, w.if-read-end.false))
+      | else-code-ne-FULL-via-else-code-ne-FULL w ↦ inr w.if-code-ne-FULL.false
+    ])
+
+pub returns : goal.returns
+returns c =
+    let both = all-read (assumption c.law_20.ensures) _ _ _ _ _ c.by_block.invariant c.by_block-test.false in
+    record { answer = both.0; buffer = both.1 }

@@ -1,0 +1,64 @@
+//! Whole frames to messages.
+ghost use Rattle.std.specs.Prelude.{◌≡◌, ◌<◌, ◌≤◌, length, take, slice_index};
+ghost use Rattle.cobs.specs.Grammar.{HasNoZero};
+ghost use Rattle.cobs_abi.specs.Decode.{Decodes};
+ghost use Rattle.cobs_small.specs.End.{answer_for};
+
+use crate::decoder::jcobs_decoder_push;
+use cobs::PieceEnd;
+use cobs::laws::{law_1, law_9, law_10, law_12, law_14, law_17};
+use cobs_abi::{Answer, BROKEN, DECODER_START, EMPTY, MORE, TOO_SMALL, done, piece_end};
+
+/// Returns how many bytes are in front of the first zero.
+pub(crate) fn len_to_zero(bytes: &[u8]) -> usize
+    ensures within { result ≤ length bytes.now }
+    ensures before { HasNoZero (take result bytes.now) }
+    ensures stop { result < length bytes.now → slice_index bytes.now result ≡ 0 }
+{
+    'by_byte: for i in 0..bytes.len() {
+        if bytes[i] == 0 {
+            return i;
+        }
+    }
+    bytes.len()
+}
+
+/// Returns the result of a call that took these bytes, into a buffer of `room` bytes, by how the piece has ended.
+fn answer_for(consumed: usize, room: usize, end: Option<PieceEnd>) -> Answer
+    ensures { result ≡ answer_for consumed room end }
+{
+    let (status, length) = match end {
+        None => (EMPTY, 0),
+        Some(PieceEnd::Message(length)) => return done(consumed, length),
+        Some(PieceEnd::Broken(count)) => (BROKEN, count),
+        Some(PieceEnd::TooLong) => (TOO_SMALL, room),
+    };
+    Answer {
+        status,
+        consumed,
+        length,
+    }
+}
+
+/// Decodes the first frame of the source to the front of `message`.
+#[unsafe(no_mangle)]
+pub extern "C" fn jcobs_decode(source: &[u8], message: &mut [u8]) -> Answer
+    ensures decodes { Decodes source.now message.old result message.new }
+{
+    law_1();
+    law_9();
+    law_10();
+    law_12();
+    law_14();
+    law_17();
+    let mut decoder = DECODER_START;
+    let pushed = jcobs_decoder_push(&mut decoder, message, source);
+    if pushed.status != MORE {
+        return pushed;
+    }
+    answer_for(
+        source.len(),
+        message.len(),
+        piece_end(&decoder, message.len()),
+    )
+}

@@ -1,0 +1,69 @@
+//! A frame that is decoded in its own place.
+ghost use Rattle.std.specs.Prelude.{◌≡◌, ◌+◌, ◌<◌, ◌≤◌, length, take, drop};
+ghost use Rattle.cobs.specs.Decode.{head_answer};
+ghost use Rattle.cobs.specs.Grammar.{HasNoZero};
+ghost use Rattle.cobs.specs.Overwritten.{overwritten};
+ghost use Rattle.cobs.specs.Piece.{kept_output};
+ghost use Rattle.cobs_abi.specs.Decode.{DecodesInPlace};
+
+use crate::decode::len_to_zero;
+use cobs::DecodeError;
+use cobs::laws::{law_12, law_20};
+use cobs_abi::{Answer, answer_by};
+
+/// The code of a full block.
+const FULL: usize = 255;
+
+/// Moves `len` bytes of the buffer, which begin at `from`, to its front.
+fn move_to_front(buffer: &mut [u8], from: usize, len: usize)
+    requires { from + len ≤ length buffer.old }
+    ensures begins { take len buffer.new ≡ take len (drop from buffer.old) }
+    ensures rest { drop len buffer.new ≡ drop len buffer.old }
+{
+    'by_byte: for i in 0..len {
+        buffer[i] = buffer[from + i];
+    }
+}
+
+/// Decodes the blocks in the first `end` bytes of the buffer, and returns how many bytes they give.
+fn decode_blocks(buffer: &mut [u8], end: usize) -> Result<usize, DecodeError>
+    requires within { end ≤ length buffer.old }
+    requires nonzero { HasNoZero (take end buffer.old) }
+    ensures answer { result ≡ head_answer (take end buffer.old) }
+    ensures buffer { buffer.new ≡ overwritten buffer.old (kept_output (take end buffer.old)) }
+{
+    law_20();
+    let mut read = 0;
+    let mut written = 0;
+    'by_block: while read < end {
+        let code = buffer[read] as usize;
+        if end - read < code {
+            return Err(DecodeError::InvalidFrame {
+                decoded_bytes: written,
+            });
+        }
+        move_to_front(&mut buffer[written..], read + 1 - written, code - 1);
+        read += code;
+        written += code - 1;
+        if code != FULL && read < end {
+            buffer[written] = 0;
+            written += 1;
+        }
+    }
+    Ok(written)
+}
+
+/// Decodes the frame at the front of the buffer in its own place.
+#[unsafe(no_mangle)]
+pub extern "C" fn jcobs_decode_in_place(buffer: &mut [u8]) -> Answer
+    ensures decodes { DecodesInPlace buffer.old result buffer.new }
+{
+    law_12();
+    let room = buffer.len();
+    if buffer.is_empty() {
+        return answer_by(0, room, Err(DecodeError::EmptyFrame));
+    }
+    let end = len_to_zero(buffer);
+    let size = decode_blocks(buffer, end);
+    answer_by(room.min(end + 1), room, size)
+}
