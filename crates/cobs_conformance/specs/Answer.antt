@@ -1,9 +1,9 @@
--- What contracts see of an answer: its words.
+-- What contracts see of a result: its words.
 use Rattle.std.specs.Prelude.{ℕ, List, [], ◌∷◌, map, codes, string_bytes}
 use Rattle.hex.specs.Hex.{encode_lower}
 use Rattle.cobs_conformance.specs.declared.answer.Answer.{Answer}
 
--- the words of an answer
+-- the words of a result
 abbrev pub words_of : Answer → List (List ℕ)
 words_of answer = map string_bytes answer.words.items
 

@@ -1,3 +1,4 @@
 pub mod Agree
 pub mod Answer
 pub mod Case
+pub mod Fields

@@ -1,4 +1,4 @@
-//! Whether the answer that came is the one that is wanted.
+//! Whether the result that came is the one that is wanted.
 ghost use Rattle.std.specs.Prelude.{◌↔◌, IsTrue, string_bytes};
 ghost use Rattle.std.specs.List.{AllZip};
 ghost use Rattle.cobs_conformance.specs.Agree.{Agrees, IsRefusal};
@@ -17,7 +17,7 @@ pub fn agree(wanted: &[&str], came: &[String]) -> bool
     }
 }
 
-/// Whether a word is what is wanted: the same one, any where `?` is wanted, any refusal where `refused` is.
+/// Whether a word is what is wanted: the same one, any if `?` is wanted, any error if `refused` is.
 fn agrees(wanted: &str, came: &str) -> bool
     ensures agrees { IsTrue result ↔ Agrees wanted.now came.now }
 {

@@ -1,4 +1,4 @@
-//! What a call answers, in words.
+//! What a call returns, in words.
 use crate::arguments::NONE;
 use cobs::{DecodeError, DecodeReport, DestBufTooSmallError, FrameOutcome};
 use std::alloc::{AllocError, Global};
@@ -44,19 +44,30 @@ impl Answer {
         Ok(text)
     }
 
-    /// Adds the words of another answer.
+    /// Adds the words of another result.
     pub fn append(&mut self, mut other: Answer) -> Result<(), AllocError>
         ensures words { OnOk result (words_of self.new ≡ words_of self.old ++ words_of other) }
     {
         self.words.append(&mut other.words)
     }
 
-    /// Adds the words of another answer where they aren't the same.
+    /// Adds the words of another result if they aren't the same.
     pub fn append_other(&mut self, other: Answer) -> Result<(), AllocError>
         ensures words { OnOk result ((words_of self.new ≡ words_of self.old)
             ⊎ (words_of self.new ≡ words_of self.old ++ words_of other)) }
     {
         if self.words == other.words {
+            return Ok(());
+        }
+        self.append(other)
+    }
+
+    /// Adds the words of another result if they aren't those that are wanted of it.
+    pub fn append_unlike(&mut self, wanted: &Answer, other: Answer) -> Result<(), AllocError>
+        ensures words { OnOk result ((words_of self.new ≡ words_of self.old)
+            ⊎ (words_of self.new ≡ words_of self.old ++ words_of other)) }
+    {
+        if wanted.words == other.words {
             return Ok(());
         }
         self.append(other)
@@ -92,7 +103,7 @@ impl Answer {
         Ok(())
     }
 
-    /// Adds `ok` and the length, or the refusal.
+    /// Adds `ok` and the length, or the error.
     pub fn say_written(
         &mut self,
         written: &Result<usize, DestBufTooSmallError>,
@@ -109,7 +120,7 @@ impl Answer {
         }
     }
 
-    /// Adds `ok` and the message's length, or the refusal and what it counts.
+    /// Adds `ok` and the message's length, or the error and what it counts.
     pub fn say_decoded(&mut self, decoded: &Result<usize, DecodeError>) -> Result<(), AllocError> {
         match decoded {
             Ok(len) => {
@@ -123,7 +134,7 @@ impl Answer {
         }
     }
 
-    /// Adds `ok`, the bytes consumed and the message's length, or the refusal and what it counts.
+    /// Adds `ok`, the bytes consumed and the message's length, or the error and what it counts.
     pub fn say_report(
         &mut self,
         report: &Result<DecodeReport, DecodeError>,

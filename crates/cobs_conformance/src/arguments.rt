@@ -15,7 +15,7 @@ pub const NONE: &str = "-";
 /// The bytes that a word's hexadecimal digits stand for; none for `-`.
 ///
 /// # Errors
-/// `Malformed` for anything else, and for more than [`MAX_BYTES`] bytes. `OutOfMemory` where memory was refused.
+/// `Malformed` for anything else, and for more than [`MAX_BYTES`] bytes. `OutOfMemory` where memory ran out.
 pub fn bytes_of(alloc: Global, word: &str) -> Result<Vec<u8>, CaseFault>
     ensures none { word.now ≡ codes "-" → IfOk result (λ bytes. bytes.items ≡ []) }
     ensures digits { word.now ≢ codes "-"

@@ -1,4 +1,4 @@
-//! One case: its line, its call, and whether the answer is the one that is wanted.
+//! One case: its line, its call, and whether the result is the one that is wanted.
 ghost use Rattle.std.specs.Prelude.{◌≡◌, ◌↔◌, ◌+◌, length, slice_index_or, IfSome};
 ghost use Rattle.cobs_conformance.specs.Case.{IsNoCase};
 
@@ -13,7 +13,7 @@ pub enum Verdict {
     /// The line is empty or a comment.
     NoCase,
 
-    /// The answer is the one that is wanted.
+    /// The result is the one that is wanted.
     Agrees,
 
     /// It isn't, or none came: this says what is wanted and what came.
@@ -29,7 +29,7 @@ struct Case<'a> {
     wanted: &'a [&'a str],
 }
 
-/// Makes the call of a line, and holds its answer against the line's.
+/// Makes the call of a line, and holds its result against the line's.
 pub fn verdict_of(alloc: Global, line: &str) -> Result<Verdict, AllocError>
     ensures no_case { (result ≡ Ok Verdict.NoCase) ↔ IsNoCase line.now }
 {

@@ -170,7 +170,7 @@ pub fn encoder(alloc: Global, arguments: &[&str]) -> Result<Answer, CaseFault> {
     Ok(answer)
 }
 
-/// Pushes each piece to a new encoder, says whether it was taken, and answers the frame's length.
+/// Pushes each piece to a new encoder, says whether it was taken, and returns the frame's length.
 fn push_pieces(
     alloc: Global,
     buffer: &mut [u8],

@@ -1,10 +1,10 @@
-//! Why a case gives no answer.
+//! Why a case gives no result.
 ghost use Rattle.std.specs.Prelude.{◌≡◌};
 ghost use Rattle.cobs_conformance.specs.declared.fault.CaseFault.TheVariants.{OutOfMemory};
 
 use std::alloc::{AllocError, AllocFailed};
 
-/// Why a case gives no answer to be compared.
+/// Why a case gives no result to be compared.
 #[derive(Debug, PartialEq, Eq, Drop)]
 pub enum CaseFault {
     /// The line isn't in the format: no such call, an argument too few or too many, a word that can't be read.
@@ -13,7 +13,7 @@ pub enum CaseFault {
     /// The arguments break what the call asks of its caller, such as room for the frame.
     NotCallable,
 
-    /// Memory was refused.
+    /// Memory ran out.
     OutOfMemory,
 }
 

@@ -5,8 +5,8 @@ use crate::fault::CaseFault;
 use cobs::{DecodeResult, DecoderState, EncoderState, PushResult};
 use std::alloc::Global;
 
-/// The encoding state machine after a message: its answer to one more byte, where it then stands, and the frame that
-/// a caller has who carries out each answer.
+/// The encoding state machine after a message: its result for one more byte, where it then is, and the frame that
+/// a caller has who carries out each result.
 pub fn encoder_state(alloc: Global, arguments: &[&str]) -> Result<Answer, CaseFault> {
     let [message, byte] = arguments else {
         return Err(CaseFault::Malformed);
@@ -83,7 +83,7 @@ fn say_pushed(answer: &mut Answer, pushed: &PushResult) -> Result<(), CaseFault>
     Ok(())
 }
 
-/// The decoding state machine in a state: its answer to a byte, and the state that follows.
+/// The decoding state machine in a state: its result for a byte, and the state that follows.
 pub fn decoder_state(alloc: Global, arguments: &[&str]) -> Result<Answer, CaseFault> {
     let [state, left, byte] = arguments else {
         return Err(CaseFault::Malformed);

@@ -19,7 +19,7 @@ pub struct Reads {
 }
 
 impl Reads {
-    /// The reads that the words tell: `fail`, or the bytes.
+    /// The reads that the words mean: `fail`, or the bytes.
     pub fn of_words(alloc: Global, words: &[&str]) -> Result<Reads, CaseFault> {
         let mut reads = Vec::new(alloc);
         for word in words {

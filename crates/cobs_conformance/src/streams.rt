@@ -5,7 +5,7 @@ use crate::fault::CaseFault;
 use crate::reads::Reads;
 use cobs::{
     CobsDecoder, CobsDecoderHeapless, CobsDecoderOwned, DecodeError, DecodeReport, FrameDecoder,
-    FrameReader, Next, PushError,
+    FrameReader, Next, PieceEnd, PushError,
 };
 use std::alloc::Global;
 
@@ -17,11 +17,15 @@ const MOST_CALLS: usize = 1000;
 enum Feeding {
     Pushes,
     Bytes,
+    /// Byte by byte too, but only the results to zeros are said.
+    Zeros,
+    /// By `feed_piece`, which returns how each piece ended.
+    Pieces,
 }
 
 /// What the cases ask of a streaming decoder beyond `FrameDecoder`.
 trait Streaming: FrameDecoder {
-    /// Pushes bytes until the first answer that isn't "nothing yet".
+    /// Pushes bytes until the first result that isn't "nothing yet".
     fn push_bytes(&mut self, bytes: &[u8]) -> Result<Option<DecodeReport>, PushError>;
 
     /// Goes back to the start of a frame, and leaves the buffer as it is.
@@ -59,8 +63,43 @@ impl Streaming for CobsDecoder<'_> {
     }
 }
 
-/// A streaming decoder over a buffer, given pieces: each of the three decoders, once by pushes and once byte by byte.
-/// Where one comes to something else than the first, its answer follows, so the case differs.
+/// A decoder that feeds each byte by itself.
+#[derive(Drop)]
+struct ByBytes {
+    decoder: CobsDecoderOwned,
+}
+
+impl FrameDecoder for ByBytes {
+    ghost use Rattle.cobs_conformance.specs.Fields.{buffer_of, phase_of};
+
+    ghost bytes = { buffer_of };
+
+    ghost phase = { phase_of };
+
+    ghost loan = { λ _. 0 };
+
+    fn feed_byte(&mut self, byte: u8) -> Result<Option<usize>, DecodeError> {
+        self.decoder.feed_byte(byte)
+    }
+
+    fn buffer(&self) -> &[u8] {
+        self.decoder.buffer()
+    }
+}
+
+impl Streaming for ByBytes {
+    fn push_bytes(&mut self, bytes: &[u8]) -> Result<Option<DecodeReport>, PushError> {
+        self.decoder.push(bytes)
+    }
+
+    fn restart(&mut self) {
+        self.decoder.reset();
+    }
+}
+
+/// A streaming decoder over a buffer, given pieces: each of the three decoders by pushes, byte by byte, and by
+/// `feed_piece`, whose results are compared with those to the zeros. If one comes to something else than the first, its
+/// result follows, so the case differs.
 pub fn decoder(alloc: Global, arguments: &[&str]) -> Result<Answer, CaseFault> {
     let [buffer, pieces @ ..] = arguments else {
         return Err(CaseFault::Malformed);
@@ -73,6 +112,13 @@ pub fn decoder(alloc: Global, arguments: &[&str]) -> Result<Answer, CaseFault> {
     if buffer.len() == 4 {
         answer.append_other(heapless(alloc, &buffer, pieces, &Feeding::Pushes)?)?;
         answer.append_other(heapless(alloc, &buffer, pieces, &Feeding::Bytes)?)?;
+    }
+    let ends = owned(alloc, &buffer, pieces, &Feeding::Zeros)?;
+    answer.append_unlike(&ends, owned(alloc, &buffer, pieces, &Feeding::Pieces)?)?;
+    answer.append_unlike(&ends, borrowed(alloc, &buffer, pieces, &Feeding::Pieces)?)?;
+    answer.append_unlike(&ends, by_bytes(alloc, &buffer, pieces)?)?;
+    if buffer.len() == 4 {
+        answer.append_unlike(&ends, heapless(alloc, &buffer, pieces, &Feeding::Pieces)?)?;
     }
     Ok(answer)
 }
@@ -110,6 +156,13 @@ fn heapless(
     given(alloc, &mut decoder, pieces, feeding)
 }
 
+/// A decoder whose `feed_piece` is the trait's own.
+fn by_bytes(alloc: Global, buffer: &[u8], pieces: &[&str]) -> Result<Answer, CaseFault> {
+    let mut decoder = CobsDecoderOwned::new(alloc, buffer.len())?;
+    write_over(decoder.dest_mut(), buffer);
+    given(alloc, &mut ByBytes { decoder }, pieces, &Feeding::Pieces)
+}
+
 /// Writes bytes over as many others.
 fn write_over(dest: &mut [u8], bytes: &[u8]) {
     if dest.len() == bytes.len() {
@@ -117,7 +170,7 @@ fn write_over(dest: &mut [u8], bytes: &[u8]) {
     }
 }
 
-/// Gives a decoder the pieces: its buffer after them, and each answer but "nothing yet".
+/// Gives a decoder the pieces: its buffer after them, and each result but "nothing yet".
 fn given<D: Streaming>(
     alloc: Global,
     decoder: &mut D,
@@ -133,7 +186,9 @@ fn given<D: Streaming>(
             let bytes = bytes_of(alloc, piece)?;
             match feeding {
                 Feeding::Pushes => push_piece(decoder, &bytes, taken, &mut events)?,
-                Feeding::Bytes => feed_piece(decoder, &bytes, taken, &mut events)?,
+                Feeding::Bytes => feed_bytes(decoder, &bytes, taken, true, &mut events)?,
+                Feeding::Zeros => feed_bytes(decoder, &bytes, taken, false, &mut events)?,
+                Feeding::Pieces => feed_pieces(decoder, &bytes, taken, &mut events)?,
             }
             taken = taken.saturating_add(bytes.len());
         }
@@ -144,7 +199,7 @@ fn given<D: Streaming>(
     Ok(answer)
 }
 
-/// Pushes a piece, and what each answer leaves of it again.
+/// Pushes a piece, and what each result leaves of it again.
 fn push_piece<D: Streaming>(
     decoder: &mut D,
     piece: &[u8],
@@ -166,23 +221,51 @@ fn push_piece<D: Streaming>(
     Ok(())
 }
 
-/// Feeds a piece byte by byte.
-fn feed_piece<D: Streaming>(
+/// Feeds a piece byte by byte, and says the result for each, or only to the zeros.
+fn feed_bytes<D: Streaming>(
     decoder: &mut D,
     piece: &[u8],
     taken: usize,
+    all: bool,
     events: &mut Answer,
 ) -> Result<(), CaseFault> {
     let mut taken = taken;
     'by_byte: for byte in piece {
         taken = taken.saturating_add(1);
         let answered = decoder.feed_byte(*byte);
-        say_event(events, taken, &answered, decoder.buffer())?;
+        if all || *byte == 0 {
+            say_event(events, taken, &answered, decoder.buffer())?;
+        }
     }
     Ok(())
 }
 
-/// Says an answer to a byte, if it isn't "nothing yet": the bytes taken, the kind, and what begins the buffer.
+/// Feeds a piece by `feed_piece`, and what each call leaves of it again.
+fn feed_pieces<D: Streaming>(
+    decoder: &mut D,
+    piece: &[u8],
+    taken: usize,
+    events: &mut Answer,
+) -> Result<(), CaseFault> {
+    let mut left = piece;
+    let mut taken = taken;
+    'by_piece: for _ in 0..piece.len() {
+        let Some((end, consumed)) = decoder.feed_piece(left) else {
+            return Ok(());
+        };
+        let answered = match end {
+            PieceEnd::Message(len) => Ok(Some(len)),
+            PieceEnd::Broken(decoded_bytes) => Err(DecodeError::InvalidFrame { decoded_bytes }),
+            PieceEnd::TooLong => Err(DecodeError::TargetBufTooSmall),
+        };
+        taken = taken.saturating_add(consumed);
+        say_event(events, taken, &answered, decoder.buffer())?;
+        left = left.get(consumed..).unwrap_or(&[]);
+    }
+    Ok(())
+}
+
+/// Says a result for a byte, if it isn't "nothing yet": the bytes taken, the kind, and what begins the buffer.
 fn say_event(
     events: &mut Answer,
     taken: usize,
@@ -219,7 +302,7 @@ pub fn decode_stream(alloc: Global, arguments: &[&str]) -> Result<Answer, CaseFa
     Ok(answer)
 }
 
-/// A buffer of so many zeros.
+/// A buffer of this many zeros.
 fn buffer_of(alloc: Global, room: &str) -> Result<Vec<u8>, CaseFault> {
     let room = number_of(room)?;
     if room > MAX_BYTES {
@@ -229,7 +312,7 @@ fn buffer_of(alloc: Global, room: &str) -> Result<Vec<u8>, CaseFault> {
     Ok(buffer)
 }
 
-/// A reader of frames over a source that gives these reads: the answer of each call, until the source has ended and
+/// A reader of frames over a source that gives these reads: the result of each call, until the source has ended and
 /// all reads were made.
 pub fn next_frame(alloc: Global, arguments: &[&str]) -> Result<Answer, CaseFault> {
     let [room, reads @ ..] = arguments else {
@@ -251,7 +334,7 @@ pub fn next_frame(alloc: Global, arguments: &[&str]) -> Result<Answer, CaseFault
     Ok(answer)
 }
 
-/// Says what a call of `next_frame` found, nothing where a read failed.
+/// Says what a call of `next_frame` found, nothing if a read failed.
 fn say_next(answer: &mut Answer, next: &Option<Next>, buffer: &[u8]) -> Result<(), CaseFault> {
     match next {
         Some(Next::Message(len)) => {

@@ -1,8 +1,8 @@
-//! Lists of bytes: as the tables write them, and how the tests make them.
+//! Bytes: as the tables write them, and how the tests make them.
 use std::alloc::{AllocError, Global};
 use std::process::Abort;
 
-/// A list of bytes in a table: the parts of which it consists, one after the other.
+/// Bytes in a table: the parts of which it consists, one after the other.
 pub type Parts = &'static [&'static [u8]];
 
 /// The bytes of a full block of ones.

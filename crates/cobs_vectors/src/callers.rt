@@ -1,6 +1,6 @@
-//! Callers that prove something of what they do by the public contracts of `cobs` alone.
+//! Callers that prove something of what they do, from the public contracts of `cobs` only.
 //!
-//! No test stands here: each function has a contract, and the prover derives it from the clauses of the calls that it
+//! There is no test here: each function has a contract, and the prover derives it from the clauses of the calls that it
 //! makes. So a clause that said too little for its users would be noticed here.
 ghost use Rattle.std.specs.Prelude.{◌≡◌, ◌≢◌, ◌≤◌, ◌<◌, ◌+◌, ◌^◌, ◌↔◌, ◌∷◌, ◌++◌, [], All, length, take, slice_index, slice_set, List, ℕ, Ok, Some, option_to_list, IfOk, IfSome, IsSomeAnd, IsTrue};
 ghost use Rattle.cobs.specs.Overwritten.{written_at};
@@ -45,7 +45,7 @@ pub fn reads_for(sentinel: u8, piece: &[u8], message: &[u8], buffer: &mut [u8]) 
     }
 }
 
-/// Writes the frame of the message for the sentinel, and the sentinel after it, and answers where that stands: it is
+/// Writes the frame of the message for the sentinel, and the sentinel after it, and returns its place: it is
 /// the first one in the buffer.
 pub fn write_ended(message: &[u8], dest: &mut [u8], sentinel: u8) -> usize
     requires { encoded_len message.now < length dest.old }
@@ -57,7 +57,7 @@ pub fn write_ended(message: &[u8], dest: &mut [u8], sentinel: u8) -> usize
     len
 }
 
-/// Writes the frame of the message between two zeros, and gives what stands between them: there is no other.
+/// Writes the frame of the message between two zeros, and gives what is between them: there is no other.
 pub fn write_between<'a>(message: &[u8], dest: &'a mut [u8]) -> &'a [u8]
     requires { encoded_len message.now + 2 ≤ length dest.old }
     ensures { HasNoZero result.now }
@@ -79,7 +79,7 @@ pub fn try_write_between<'a>(
     Ok(&written[1..len - 1])
 }
 
-/// What stands between the two zeros of a vector: there is no other.
+/// What is between the two zeros of a vector: there is no other.
 pub fn frame_between(alloc: Global, message: &[u8]) -> Result<Vec<u8>, AllocError>
     requires { max_encoded_len (length message.now) + 2 < 2 ^ 64 }
     ensures { IfOk result (λ frame. HasNoZero frame.items) }
@@ -98,7 +98,7 @@ pub fn ended_frame(alloc: Global, message: &[u8]) -> Result<Vec<u8>, AllocError>
     Ok(frame)
 }
 
-/// The frame of the message for the sentinel, and the sentinel after it, which stands nowhere else.
+/// The frame of the message for the sentinel, and the sentinel after it, which is nowhere else.
 pub fn ended_frame_for(alloc: Global, sentinel: u8, message: &[u8]) -> Result<Vec<u8>, AllocError>
     requires { max_encoded_len (length message.now) < 2 ^ 64 }
     ensures { IfOk result (λ ended. (f : List ℕ) × IsFreeOf sentinel f
@@ -135,7 +135,7 @@ pub fn push_nothing(decoder: &mut CobsDecoder<'_>)
     let _answer = decoder.push(&[]);
 }
 
-/// Whether a push of the piece and its zero reads the message: it does where the message fits the slice.
+/// Whether a push of the piece and its zero reads the message: it does if the message fits the slice.
 pub fn push_reads(decoder: &mut CobsDecoder<'_>, ended: &[u8], piece: &[u8], message: &[u8]) -> bool
     requires idle { borrowed_phase decoder.old ≡ Idle }
     requires piece { IsPiece piece.now }
@@ -196,7 +196,7 @@ pub fn push_reads_heapless<const N: usize>(
     }
 }
 
-/// The byte of the message that an answer gives.
+/// The byte of the message that a result gives.
 fn byte_given(answer: Result<DecodeResult, DecodeError>) -> Option<u8>
     ensures { option_to_list result ≡ data_of answer }
 {
@@ -206,14 +206,15 @@ fn byte_given(answer: Result<DecodeResult, DecodeError>) -> Option<u8>
     }
 }
 
-/// Whether an answer says that a whole frame has ended.
+/// Whether a result says that a whole frame has ended.
 fn is_complete(answer: Result<DecodeResult, DecodeError>) -> bool
     ensures { IsTrue result ↔ (answer ≡ Ok DecodeResult.DataComplete) }
 {
     matches!(answer, Ok(DecodeResult::DataComplete))
 }
 
-/// Decodes a frame byte by byte into a vector, by the state machine alone: the message, or `None` where it is no frame.
+/// Decodes a frame byte by byte into a vector, using only the state machine: the message, or `None` if it isn't a
+/// frame.
 pub fn decode_by_state(alloc: Global, frame: &[u8]) -> Result<Option<Vec<u8>>, AllocError>
     requires { HasNoZero frame.now }
     ensures { (m : List ℕ) → IfOk result (λ found.
@@ -233,8 +234,8 @@ pub fn decode_by_state(alloc: Global, frame: &[u8]) -> Result<Option<Vec<u8>>, A
     }
 }
 
-/// Feeds a byte to a decoder and to the state machine that stands where the decoder does: so they stand again, unless
-/// the decoder's buffer is now too short.
+/// Feeds a byte to a decoder and to the state machine that is where the decoder does: then their states are equal
+/// again, unless the decoder's buffer is now too short.
 pub fn feed_both(decoder: &mut CobsDecoderOwned, state: &mut DecoderState, byte: u8)
     requires { state_in (owned_phase decoder.old) ≡ Some state.old }
     ensures { owned_phase decoder.new ≢ Over → state_in (owned_phase decoder.new) ≡ Some state.new }
@@ -243,7 +244,7 @@ pub fn feed_both(decoder: &mut CobsDecoderOwned, state: &mut DecoderState, byte:
     let _row = state.feed(byte);
 }
 
-/// Writes a byte to the front of a decoder's buffer: the decoder stands where it stood.
+/// Writes a byte to the front of a decoder's buffer: the decoder's phase is unchanged.
 pub fn write_first<D: WriteBuffer>(decoder: &mut D, byte: u8)
     requires { 0 < length (D.bytes decoder.old) }
     ensures bytes { D.bytes decoder.new ≡ slice_set (D.bytes decoder.old) 0 byte }

@@ -1,17 +1,20 @@
 //! Callers as a user's own crate has them: a handler of one byte, a loop over a stream, a reader of frames, a round
-//! trip, a log. What each promises is proved by the public clauses of `cobs` alone.
-ghost use Rattle.std.specs.Prelude.{◌≡◌, ◌≤◌, ◌<◌, ◌^◌, ◌↔◌, ◌∷◌, ◌++◌, [], length, List, ℕ, IfOk, IsSomeAnd, IsTrue};
+//! trip, a log. What each promises is proved only from the public clauses of `cobs`.
+ghost use Rattle.std.specs.Prelude.{◌≡◌, ◌≤◌, ◌<◌, ◌^◌, ◌↔◌, ◌∷◌, ◌++◌, [], length, take, drop, List, ℕ, IfOk, IsOk, OnOk, IsSomeAnd, IsTrue};
 ghost use Rattle.cobs.specs.Feed.{DecoderAfter, Idle};
-ghost use Rattle.cobs.specs.Grammar.{Reads};
+ghost use Rattle.cobs.specs.Fields.Encoders.{reached_by};
+ghost use Rattle.cobs.specs.Grammar.{IsEncodedFrame, Reads};
 ghost use Rattle.cobs.specs.Headline.{BeginsWith, IsPiece};
 ghost use Rattle.cobs.specs.Laws.{IsAtSentinel};
 ghost use Rattle.cobs.specs.Length.{encoded_len, max_encoded_len};
+ghost use Rattle.cobs.specs.OpenBlock.{CobsEncoderAfter};
 ghost use Rattle.cobs.specs.Stream.{Message, stream_outcomes};
 
-use cobs::laws::{law_2, law_4, law_9, law_10, law_11};
+use cobs::laws::{law_2, law_4, law_5, law_9, law_10, law_11, law_18};
 use cobs::{
-    CobsDecoder, CobsDecoderHeapless, CobsDecoderOwned, FrameDecoder, FrameReader, FrameSource,
-    Next, PieceEnd, UnbufferedDecoder, decode, encode, encode_vec,
+    CobsDecoder, CobsDecoderHeapless, CobsDecoderOwned, CobsEncoder, DestBufTooSmallError,
+    FrameDecoder, FrameReader, FrameSource, Next, PieceEnd, UnbufferedDecoder, UnbufferedEncoder,
+    decode, encode, encode_vec,
 };
 use std::alloc::{AllocError, Global};
 
@@ -80,6 +83,28 @@ pub fn resync<D: FrameDecoder>(decoder: &mut D)
     let _ended = decoder.feed_byte(0);
 }
 
+/// The same by `feed_piece`.
+pub fn resync_by_piece<D: FrameDecoder>(decoder: &mut D)
+    ensures idle { D.phase decoder.new ≡ Idle }
+    ensures unchanged { D.bytes decoder.new ≡ D.bytes decoder.old }
+{
+    let _ended = decoder.feed_piece(&[0]);
+}
+
+/// Handles the zero behind a frame whose bytes were fed one by one: the message is at the front of the buffer.
+pub fn on_zero<D: FrameDecoder>(decoder: &mut D) -> usize
+    ensures { (f m : List ℕ) → DecoderAfter (D.bytes decoder.old) (D.phase decoder.old) f
+        → Reads f m → length m ≤ length (D.bytes decoder.old)
+        → BeginsWith (D.bytes decoder.new) result m }
+{
+    law_18();
+    match decoder.feed_byte(0) {
+        Ok(Some(len)) => len,
+        Ok(None) => 0,
+        Err(_) => 0,
+    }
+}
+
 /// All frames of a reader: how many bytes their messages have, each sliced out of the decoder's buffer.
 pub fn total<D: FrameDecoder, S: FrameSource>(
     reader: &mut FrameReader<D>,
@@ -142,8 +167,6 @@ pub fn there_and_back(message: &[u8], frame: &mut [u8], buffer: &mut [u8]) -> bo
     requires held { length message.now ≤ length buffer.old }
     ensures { IsTrue result }
 {
-    law_2();
-    law_4();
     let len = encode(message, frame);
     match decode(&frame[..len], buffer) {
         Ok(report) => report.frame_size() == message.len() && buffer.starts_with(message),
@@ -151,8 +174,75 @@ pub fn there_and_back(message: &[u8], frame: &mut [u8], buffer: &mut [u8]) -> bo
     }
 }
 
+/// Encodes a message and decodes its frame: no other message comes back.
+pub fn no_other(message: &[u8], frame: &mut [u8], buffer: &mut [u8]) -> Option<usize>
+    requires { encoded_len message.now ≤ length frame.old }
+    ensures { (m : List ℕ) → IsSomeAnd result (λ n. BeginsWith buffer.new n m) → m ≡ message.now }
+{
+    law_2();
+    law_4();
+    law_5();
+    let len = encode(message, frame);
+    match decode(&frame[..len], buffer) {
+        Ok(report) => Some(report.frame_size()),
+        Err(_) => None,
+    }
+}
+
+/// Encodes a message of two pieces: what is behind its frame is as it was.
+pub fn encode_two(
+    first: &[u8],
+    second: &[u8],
+    dest: &mut [u8],
+) -> Result<usize, DestBufTooSmallError>
+    requires { 0 < length dest.old }
+    ensures frame { IfOk result (λ n. IsEncodedFrame (take n dest.new) (first.now ++ second.now)) }
+    ensures rest { IfOk result (λ n. drop n dest.new ≡ drop n dest.old) }
+{
+    law_4();
+    let mut encoder = CobsEncoder::new(dest);
+    encoder.push(first)?;
+    encoder.push(second)?;
+    Ok(encoder.finalize())
+}
+
+/// Writes the frame of a message to the front of the buffer, by an encoder that has taken nothing before and has taken
+/// nothing after.
+pub fn frame_next(
+    encoder: &mut UnbufferedEncoder,
+    message: &[u8],
+    buffer: &mut [u8],
+) -> Result<usize, DestBufTooSmallError>
+    requires some { 0 < length buffer.old }
+    requires fresh { CobsEncoderAfter buffer.old (reached_by encoder.old) [] }
+    ensures fits { IsOk result ↔ (encoded_len message.now ≤ length buffer.old) }
+    ensures len { IfOk result (λ n. n ≡ encoded_len message.now) }
+    ensures frame { IfOk result (λ n. IsEncodedFrame (take n buffer.new) message.now) }
+    ensures fresh { OnOk result (CobsEncoderAfter buffer.new (reached_by encoder.new) []) }
+    ensures buffer_len { length buffer.new ≡ length buffer.old }
+{
+    encoder.push(buffer, message)?;
+    encoder.finalize(buffer)
+}
+
+/// Frames two messages by one encoder over one buffer: the frame of the second is in the buffer at the end.
+pub fn frame_two(
+    first: &[u8],
+    second: &[u8],
+    buffer: &mut [u8],
+) -> Result<(usize, usize), DestBufTooSmallError>
+    requires { 0 < length buffer.old }
+    ensures lens { IfOk result
+        (λ n. (n.0 ≡ encoded_len first.now) × (n.1 ≡ encoded_len second.now)) }
+    ensures frame { IfOk result (λ n. IsEncodedFrame (take n.1 buffer.new) second.now) }
+{
+    let mut encoder = UnbufferedEncoder::new();
+    let len = frame_next(&mut encoder, first, buffer)?;
+    Ok((len, frame_next(&mut encoder, second, buffer)?))
+}
+
 /// Appends the frame of a message and a zero to a log that is empty or ends in a zero. Whatever is in the log, what it
-/// tells stays, and the message follows.
+/// says stays, and the message follows.
 pub fn append_to_log(alloc: Global, log: &[u8], message: &[u8]) -> Result<Vec<u8>, AllocError>
     requires at_sentinel { IsAtSentinel log.now }
     requires fits { max_encoded_len (length message.now) < 2 ^ 64 }

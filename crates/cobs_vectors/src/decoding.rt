@@ -1,4 +1,4 @@
-//! From frames to messages, by tables: the call, what it decodes (nothing in place), the buffer before it, its answer,
+//! From frames to messages, by tables: the call, what it decodes (nothing in place), the buffer before it, its result,
 //! and the buffer after it.
 use crate::bytes::{LONG_FRAME, LONG_MESSAGE, ONES};
 use crate::slices::Answer::{EmptyFrame, InvalidFrame, Length, Sizes, TooSmall};
@@ -7,6 +7,8 @@ use crate::slices::{DecoderRow, check_decoders};
 use std::test::Fail;
 
 /// `decode` where it finds a message.
+///
+/// Test of the original crate: `issue_19_test_254_block_all_ones`, the block of ones with its sentinel.
 const MESSAGES: [DecoderRow; 8] = [
     DecoderRow(
         Decode,
@@ -68,7 +70,10 @@ const MESSAGES: [DecoderRow; 8] = [
     ),
 ];
 
-/// `decode` where it refuses.
+/// `decode` where it returns an error.
+///
+/// Tests of the original crate, in this order: `decode_empty`, into 256 zeros; `decode_malformed`, with 24 zeros behind
+/// the broken frame; `decode_target_buf_too_small`, into 0, 1 and 2 zeros.
 const REFUSALS: [DecoderRow; 17] = [
     DecoderRow(Decode, &[], &[&[0; 256]], EmptyFrame, &[&[0; 256]]),
     DecoderRow(Decode, &[], &[&[5, 9, 9]], EmptyFrame, &[&[5, 9, 9]]),
@@ -150,6 +155,8 @@ const REFUSALS: [DecoderRow; 17] = [
 ];
 
 /// In place.
+///
+/// Test of the original crate: `decode_empty`, by `decode_in_place`.
 const IN_PLACE: [DecoderRow; 14] = [
     DecoderRow(
         InPlaceReport,
@@ -218,6 +225,8 @@ const IN_PLACE: [DecoderRow; 14] = [
 ];
 
 /// `decode_with_sentinel`.
+///
+/// Test of the original crate: `issue_15`, into 128 zeros.
 const WITH_SENTINEL: [DecoderRow; 10] = [
     DecoderRow(
         WithSentinel(10),

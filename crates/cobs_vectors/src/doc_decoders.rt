@@ -1,4 +1,4 @@
-//! The examples that stand in the documentation of the decoders of `cobs`, run.
+//! The examples that are in the documentation of the decoders of `cobs`, run.
 //!
 //! Each block has the lines of the example of the item that its comment names.
 

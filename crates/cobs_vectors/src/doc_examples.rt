@@ -1,4 +1,4 @@
-//! The examples that stand in the documentation of `cobs`, run; those of its decoders stand in `doc_decoders`.
+//! The examples that are in the documentation of `cobs`, run; those of its decoders are in `doc_decoders`.
 //!
 //! Each block has the lines of the example of the item that its comment names.
 

@@ -1,12 +1,15 @@
-//! The examples that stand in the documentation of the laws of `cobs`: callers that prove something of what they do by
+//! The examples that are in the documentation of the laws of `cobs`: callers that prove something of what they do by
 //! the law that they call. A test runs each of them.
-ghost use Rattle.std.specs.Prelude.{◌≡◌, ◌≤◌, ◌<◌, ◌^◌, ◌++◌, ◌∷◌, [], ℕ, List, IfOk, IsTrue, Some, length, take};
+ghost use Rattle.std.specs.Prelude.{◌≡◌, ◌≤◌, ◌<◌, ◌^◌, ◌++◌, ◌∷◌, ◌≢◌, ◌+◌, [], ℕ, Bool, false, List, IfOk, IsTrue, None, Ok, Some, length, take};
 ghost use Rattle.cobs.specs.Feed.{DecoderAfter};
+ghost use Rattle.cobs.specs.FeedPiece.{TakesPiece};
+ghost use Rattle.cobs.specs.Fields.Decoders.{owned_buffer, owned_phase, phase_of};
 ghost use Rattle.cobs.specs.Fields.Reader.{kept_of};
-ghost use Rattle.cobs.specs.Grammar.{HasNoZero, IsEncodedFrame, IsFrame, IsOpenFrame, Reads};
+ghost use Rattle.cobs.specs.Grammar.{HasNoZero, IsBlock, IsCanonical, IsEncodedFrame, IsFrame, IsFull, IsOpenFrame, Reads};
 ghost use Rattle.cobs.specs.Headline.{IsPiece};
 ghost use Rattle.cobs.specs.Laws.{IsFrameFor, IsFront};
 ghost use Rattle.cobs.specs.Length.{EndsInFullRun, encoded_len, max_encoded_len};
+ghost use Rattle.cobs.specs.OpenBlock.{CobsEncoderAfter, place_at};
 ghost use Rattle.cobs.specs.Piece.{output};
 ghost use Rattle.cobs.specs.Sentinel.{IsFreeOf, xor_each};
 ghost use Rattle.cobs.specs.Stream.{Message, first_piece, head, outcome_of, stream_outcomes};
@@ -15,11 +18,11 @@ ghost use Rattle.cobs.specs.Messages.{outcomes_in};
 use crate::callers::reads_as;
 use cobs::laws::{
     law_1, law_2, law_3, law_4, law_5, law_6, law_7, law_8, law_9, law_10, law_11, law_12, law_13,
-    law_14,
+    law_14, law_15, law_16, law_17, law_18, law_19, law_20,
 };
 use cobs::{
-    CobsDecoder, CobsDecoderOwned, FrameDecoder, FrameOutcome, FrameReader, Next, Recorded,
-    decode_stream, encode, encode_vec,
+    CobsDecoder, CobsDecoderOwned, DecodeError, FrameDecoder, FrameKind, FrameOutcome, FrameReader,
+    Next, Recorded, UnbufferedDecoder, decode_stream, encode, encode_vec, frame_kind,
 };
 use std::alloc::{AllocError, Global};
 use std::test::Fail;
@@ -177,6 +180,69 @@ fn reader_after_zero(mut decoder: CobsDecoderOwned) -> FrameReader<CobsDecoderOw
     FrameReader::new(decoder)
 }
 
+/// law_15
+fn encode_short(message: &[u8], dest: &mut [u8]) -> usize
+    requires nonzero { HasNoZero message.now }
+    requires short { length message.now < 255 }
+    requires room { length message.now < length dest.old }
+    ensures { result ≡ length message.now + 1 }
+{
+    law_15();
+    encode(message, dest)
+}
+
+/// law_16
+fn take_nonzero(slice: &mut [u8], index: usize, code: u8, byte: u8)
+    requires room { index + code < length slice.old }
+    requires code { code < 254 }
+    requires byte { byte ≢ 0 }
+    ensures { (m : List ℕ) (full : Bool) → CobsEncoderAfter slice.old (place_at index code full) m
+        → CobsEncoderAfter slice.new (place_at index (code + 1) false) (m ++ byte ∷ []) }
+{
+    law_16();
+    slice[index + code as usize] = byte;
+}
+
+/// law_17
+fn feed_one(decoder: &mut UnbufferedDecoder, buffer: &mut [u8], byte: u8)
+    requires { byte ≢ 0 }
+    ensures { TakesPiece buffer.old (phase_of decoder.old) (byte ∷ []) None
+        buffer.new (phase_of decoder.new) }
+{
+    law_17();
+    let _answer = decoder.feed(buffer, byte);
+}
+
+/// law_18
+fn end_frame(decoder: &mut CobsDecoderOwned) -> Result<Option<usize>, DecodeError>
+    ensures { (f m : List ℕ) → DecoderAfter (owned_buffer decoder.old) (owned_phase decoder.old) f
+        → Reads f m → length m ≤ length (owned_buffer decoder.old)
+        → result ≡ Ok (Some (length m)) }
+{
+    law_18();
+    decoder.feed(0)
+}
+
+/// law_19
+fn is_canonical_behind(block: &[u8], frame: &[u8]) -> bool
+    requires block { IsBlock block.now }
+    requires not_full { IsFull block.now → ⊥ }
+    requires some { frame.now ≢ [] }
+    ensures { IsTrue result → IsCanonical (block.now ++ frame.now) }
+{
+    law_19();
+    frame_kind(frame) == FrameKind::Canonical
+}
+
+/// law_20
+fn decode_block<'a>(block: &'a [u8]) -> &'a [u8]
+    requires { IsBlock block.now }
+    ensures { result.now ≡ output block.now }
+{
+    law_20();
+    &block[1..]
+}
+
 #[test]
 fn laws_of_messages_and_frames(rt: HostRuntime) -> Result<(), Fail> {
     let alloc = rt.alloc();
@@ -187,6 +253,9 @@ fn laws_of_messages_and_frames(rt: HostRuntime) -> Result<(), Fail> {
     assert_eq!(rt; encode_nonzero(&[7, 8], &mut buffer), 3);
     assert!(rt; are_equal(alloc, &[7, 0], &[7, 0])?);
     assert!(rt; !are_equal(alloc, &[7, 0], &[7])?);
+    assert!(rt; is_canonical_behind(&[2, 7], &[1]));
+    assert!(rt; !is_canonical_behind(&[2, 7], &[2]));
+    assert_eq!(rt; decode_block(&[3, 7, 8]), [7, 8].as_slice());
     Ok(())
 }
 
@@ -205,6 +274,10 @@ fn laws_of_written_frames(rt: HostRuntime) -> Result<(), Fail> {
     change_sentinel(&mut frame, 8);
     assert_eq!(rt; frame, [11, 15, 0, 162]);
     assert_eq!(rt; as_encoded(&[1], &[], 0, 1), [1].as_slice());
+
+    assert_eq!(rt; encode_short(&[7, 8], &mut again), 3);
+    take_nonzero(&mut again, 0, 3, 9);
+    assert_eq!(rt; again, [3, 7, 8, 9]);
     Ok(())
 }
 
@@ -225,5 +298,14 @@ fn laws_of_streams(rt: HostRuntime) -> Result<(), Fail> {
         Ok(Next::Message(1))
     );
     assert!(rt; !begins_with_piece(&[0, 2, 7]));
+
+    let mut decoder = UnbufferedDecoder::new();
+    feed_one(&mut decoder, &mut buffer, 2);
+    feed_one(&mut decoder, &mut buffer, 7);
+    assert_eq!(rt; decoder.feed(&mut buffer, 0), Ok(Some(1)));
+
+    let mut decoder = CobsDecoderOwned::new(alloc, 4)?;
+    assert_eq!(rt; decoder.push(&[3, 7, 8]), Ok(None));
+    assert_eq!(rt; end_frame(&mut decoder), Ok(Some(2)));
     Ok(())
 }

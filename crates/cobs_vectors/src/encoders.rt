@@ -5,7 +5,7 @@ use std::alloc::Global;
 use std::process::Abort;
 use std::test::Fail;
 
-/// A slice of so many 170s, what is pushed and whether it is taken, the frame's length, and the slice afterwards.
+/// A slice of this many 170s, what is pushed and whether it is taken, the frame's length, and the slice afterwards.
 struct EncoderRow(usize, &'static [Piece], usize, Parts);
 
 /// What is pushed, and whether it is taken.
@@ -125,7 +125,7 @@ fn the_frame_is_the_same_wherever_its_message_is_cut(rt: HostRuntime) -> Result<
     Ok(())
 }
 
-/// The message in pieces of so many bytes gives the frame.
+/// The message in pieces of this many bytes gives the frame.
 pub fn check_pieces(
     rt: &impl Abort,
     alloc: Global,
@@ -179,7 +179,7 @@ pub fn list_by_state(rt: &impl Abort, alloc: Global, message: &[u8]) -> Result<V
     Ok(list)
 }
 
-/// What a push answers.
+/// What a push returns.
 #[derive(Clone, Copy, Debug, PartialEq, Eq)]
 enum Change {
     Add(u8),
@@ -187,7 +187,7 @@ enum Change {
     AddAndSkip(usize, u8, u8),
 }
 
-/// The answer in words of the table.
+/// The result in words of the table.
 fn told(answer: &PushResult) -> Change {
     match answer {
         PushResult::AddSingle(byte) => Change::Add(*byte),
@@ -198,7 +198,7 @@ fn told(answer: &PushResult) -> Change {
     }
 }
 
-/// Bytes pushed so many times each, what each push answers, and what the state is finalized to then.
+/// Bytes pushed this many times each, what each push returns, and what the state is finalized to then.
 type StateRow = (&'static [(usize, u8, Change)], (usize, u8));
 
 const STATES: [StateRow; 4] = [
@@ -211,7 +211,7 @@ const STATES: [StateRow; 4] = [
         ],
         (2, 2),
     ),
-    // the 254th byte closes the block, and the placeholder stands after it
+    // the 254th byte closes the block, and the placeholder is after it
     (
         &[
             (253, 1, Change::Add(1)),

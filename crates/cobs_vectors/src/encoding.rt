@@ -1,4 +1,4 @@
-//! From messages to frames, by tables: the call, what it encodes, the buffer before it, its answer, and the buffer
+//! From messages to frames, by tables: the call, what it encodes, the buffer before it, its result, and the buffer
 //! after it.
 use crate::bytes::ONES;
 use crate::slices::Answer::{Length, NoRoom};
@@ -14,6 +14,13 @@ use std::test::Fail;
 const MESSAGE: [u8; 4] = [10, 11, 0, 12];
 
 /// A frame alone.
+///
+/// Tests of the original crate, in this order: `test_encode_0`; `issue_19_test_254_block_all_ones`, into 256 zeros;
+/// `encode_target_buf_too_small`, the message into 0 to 4 zeros; `issue_15`, into 128 zeros. Both tests named after an
+/// issue also decode the frame; those rows are in `decoding`.
+///
+/// `encode_target_buf_too_small_panicking` has no row. It expects a panic of `encode` without room for the frame; here
+/// room is a precondition, so the prover rejects such a call.
 const FRAMES: [EncoderRow; 15] = [
     EncoderRow(Encode, &[], &[&[255; 16]], Length(1), &[&[1], &[255; 15]]),
     EncoderRow(
@@ -75,6 +82,8 @@ const FRAMES: [EncoderRow; 15] = [
 ];
 
 /// A frame between its sentinels.
+///
+/// Test of the original crate: `try_encode_with_sentinels`, into 7 zeros. The way back is in `vectors`.
 const DELIMITED: [EncoderRow; 8] = [
     EncoderRow(
         IncludingSentinels,
@@ -135,6 +144,9 @@ fn messages_are_encoded_or_refused(rt: HostRuntime) -> Result<(), Fail> {
 }
 
 /// The length of a message, and for messages of that length the overhead and the length of a frame at most.
+///
+/// Tests of the original crate: `test_overhead_empty`, `test_overhead_one`, `test_overhead_larger`,
+/// `test_overhead_two`, `test_max_encoding_length`.
 const LENGTHS: [(usize, usize, usize); 8] = [
     (0, 1, 1),
     (1, 1, 2),
@@ -158,7 +170,7 @@ fn check_lengths(rt: &impl Abort, rows: &[(usize, usize, usize)]) {
 #[test]
 fn lengths_of_frames_without_zeros(rt: HostRuntime) {
     check_lengths(&rt, &LENGTHS);
-    // A constant can't call it, so the length of an array is a number.
+    // `test_buf_len` of the original crate. A constant can't call `max_encoding_length`: an array's length is a number.
     let frame = [0u8; 6];
     assert_eq!(rt; frame.len(), max_encoding_length(5));
 }

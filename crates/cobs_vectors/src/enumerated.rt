@@ -32,7 +32,7 @@ fn chosen(
     Ok(list)
 }
 
-/// So many bytes of 170, written over by the front of the output that fits.
+/// This many bytes of 170, written over by the front of the output that fits.
 fn written(alloc: Global, output: &[u8], room: usize) -> Result<Vec<u8>, AllocError> {
     let mut filled = output.to_vec(alloc)?;
     filled.resize(filled.len().max(room), 170)?;
@@ -150,7 +150,7 @@ fn check_kind(rt: &impl Abort, alloc: Global, source: &[u8]) -> Result<(), Fail>
     Ok(())
 }
 
-/// A list of bytes to a streaming decoder of `room` bytes.
+/// Bytes to a streaming decoder of `room` bytes.
 #[derive(Drop)]
 struct Fed<'a> {
     list: &'a [u8],
@@ -158,7 +158,7 @@ struct Fed<'a> {
 }
 
 impl Check for Fed<'_> {
-    /// Each zero is answered by the piece in front of it.
+    /// The result of each zero is that of the piece in front of it.
     fn check<D: StreamingDecoder + Drop>(
         &self,
         rt: &impl Abort,
@@ -203,7 +203,7 @@ impl Check for Fed<'_> {
     }
 }
 
-/// A list of bytes and a zero, as a stream to a decoder of `room` bytes.
+/// Bytes and a zero, as a stream to a decoder of `room` bytes.
 #[derive(Drop)]
 struct Streamed<'a> {
     list: &'a [u8],
@@ -270,7 +270,7 @@ fn check_list(rt: &impl Abort, alloc: Global, list: &[u8], rooms: &[usize]) -> R
     Ok(())
 }
 
-/// All lists of so many of the parts, for each count: the count, and how many lists there are.
+/// All lists of this many of the parts, for each count: the count, and how many lists there are.
 fn check_lists(
     rt: &impl Abort,
     alloc: Global,
@@ -339,7 +339,7 @@ fn check_two_pieces(rt: &impl Abort, alloc: Global, front: &[u8], back: &[u8]) -
     Ok(())
 }
 
-/// All messages of so many of the parts, for each count: the count, and how many messages there are.
+/// All messages of this many of the parts, for each count: the count, and how many messages there are.
 fn check_messages(
     rt: &impl Abort,
     alloc: Global,

@@ -12,6 +12,11 @@ use std::process::Abort;
 use std::test::Fail;
 
 /// A message and its encoded frame.
+///
+/// Tests of the original crate, in this order: `test_encode_empty`, `test_encode_4`, `test_encode_3`, `test_encode_1`,
+/// `test_encode_2`, `wikipedia_ex_6`, `wikipedia_ex_7`, `wikipedia_ex_8`, `wikipedia_ex_9`, `wikipedia_ex_10`. They
+/// encode into a buffer filled with 128, decode the frame and a zero into another one, and decode the frame in place by
+/// both calls; `check_there`, `check_back` and `check_in_place` do so.
 const EXAMPLES: [(Parts, Parts); 14] = [
     (&[], &[&[1]]),
     (&[&[0]], &[&[1, 1]]),

@@ -6,7 +6,7 @@ use std::alloc::Global;
 use std::process::Abort;
 use std::test::Fail;
 
-/// Over a buffer of so many bytes: bytes that lead from idle to each phase.
+/// Over a buffer of this many bytes: bytes that lead from idle to each phase.
 const FRONTS: [(usize, Parts); 10] = [
     // idle, at the start and after a frame
     (4, &[]),
@@ -35,7 +35,7 @@ struct Written<'a> {
     is_pushed: bool,
 }
 
-/// Gives the decoder bytes whose answers don't matter.
+/// Gives the decoder bytes whose results don't matter.
 fn give<D: StreamingDecoder>(decoder: &mut D, bytes: &[u8], is_pushed: bool) {
     if is_pushed {
         let _ = decoder.push_some(bytes);

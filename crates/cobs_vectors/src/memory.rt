@@ -1,7 +1,7 @@
 //! Out of memory.
 //!
-//! Each test here but the last passes whichever growth is refused: a call answers its value or that it is out of
-//! memory, and nothing else. The last one passes only where no growth is refused. `tests/fail-alloc.sh` refuses the
+//! Each test here but the last passes whichever growth fails: a call returns its value or that it is out of
+//! memory, and nothing else. The last one passes only if no growth fails. `tests/fail-alloc.sh` fails the
 //! growths one after another until that test passes.
 use crate::messages::{encode_few, three_messages};
 use crate::slices::{Answer, VectorCall, refused, vector};
@@ -12,7 +12,7 @@ use cobs::{
 use std::alloc::{AllocError, Global};
 use std::process::Abort;
 
-/// A call whose answer is a vector, what it is given, and its vector or its refusal.
+/// A call that returns a vector, its arguments, and its vector or its error.
 type Row = (VectorCall, &'static [u8], Result<&'static [u8], Answer>);
 
 /// A message with a zero.
@@ -21,7 +21,7 @@ const MESSAGE: &[u8] = &[10, 11, 0, 12];
 /// Its frame.
 const FRAME: &[u8] = &[3, 10, 11, 2, 12];
 
-/// Calls that take memory.
+/// Calls that allocate.
 const TAKING: [Row; 8] = [
     (VectorCall::Encode, MESSAGE, Ok(FRAME)),
     (
@@ -63,7 +63,7 @@ const TAKING_NONE: [Row; 2] = [
     ),
 ];
 
-/// Each call gives its vector or its refusal, or is out of memory where that may be.
+/// Each call returns its vector or its error, or is out of memory if that may be.
 fn check_vectors(rt: &impl Abort, alloc: Global, rows: &[Row], may_want: bool) {
     for (call, source, wanted) in rows {
         match vector(rt, alloc, *call, source) {
@@ -102,7 +102,7 @@ fn are_its_outcomes(outcomes: &[FrameOutcome]) -> bool {
     }
 }
 
-/// The outcomes of the stream, or out of memory and then an idle decoder: one refusal at most.
+/// The outcomes of the stream, or out of memory and then an idle decoder: one failure at most.
 fn check_outcomes<D: FrameDecoder + Drop>(
     rt: &impl Abort,
     alloc: Global,
@@ -131,7 +131,7 @@ fn check_idle<D: FrameDecoder + Drop>(rt: &impl Abort, alloc: Global, mut decode
     }
 }
 
-/// Each call that takes memory.
+/// Each call that allocates.
 fn check_calls(rt: &impl Abort, alloc: Global, may_want: bool) {
     check_vectors(rt, alloc, &TAKING, may_want);
     check_frames(rt, alloc, may_want);

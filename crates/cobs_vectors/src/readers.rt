@@ -12,10 +12,10 @@ use std::test::Fail;
 /// What a reader gives.
 #[derive(Clone, Copy)]
 enum Given {
-    /// The bytes, at most so many a read.
+    /// The bytes, at most this many a read.
     Bytes(&'static [u8], usize),
 
-    /// So many zeros and then the bytes, one a read.
+    /// This many zeros and then the bytes, one a read.
     Zeros(u64, &'static [u8]),
 
     /// The bytes, one a read, of which the second one fails, by an interruption or not.
@@ -79,7 +79,7 @@ enum Found {
     TooManyReads,
 }
 
-/// The answer that says so.
+/// The result that says so.
 fn answer_of(found: Found) -> Result<Next, ReadFault> {
     match found {
         Found::Message(message) => Ok(Next::Message(message.len())),

@@ -43,7 +43,7 @@ pub struct Reading {
     /// The bytes of its blocks, with the zeros that join them.
     pub output: Vec<u8>,
 
-    /// How many of them stand before the bytes of its last block, where that one breaks off.
+    /// How many of them are before the bytes of its last block, where that one breaks off.
     pub kept: usize,
 
     /// Whether its last block has as many bytes as its code says.
@@ -82,7 +82,7 @@ pub fn reading_of(alloc: Global, piece: &[u8]) -> Result<Reading, AllocError> {
     })
 }
 
-/// What stands before the first zero, and what stands after it where there is one.
+/// What is before the first zero, and what is after it where there is one.
 pub fn split_at_zero(bytes: &[u8]) -> (&[u8], Option<&[u8]>) {
     for (at, byte) in bytes.iter().enumerate() {
         if *byte == 0 {

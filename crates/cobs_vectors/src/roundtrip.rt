@@ -9,6 +9,8 @@ use std::process::Abort;
 use std::test::Fail;
 
 /// The vector forms, with a sentinel after the frame.
+///
+/// Tests of the original crate: `test_roundtrip_1`, for 1, 2 and 3; `test_roundtrip_2`, for 252 to 256 bytes.
 fn check_vectors(rt: &impl Abort, alloc: Global, message: &[u8]) -> Result<(), Fail> {
     let mut frame = vector(rt, alloc, VectorCall::Encode, message)?;
     frame.push(0)?;
@@ -30,7 +32,12 @@ fn vectors_go_there_and_back(rt: HostRuntime) -> Result<(), Fail> {
 /// A message with a zero.
 const MESSAGE: [u8; 4] = [10, 11, 0, 12];
 
-/// The frame of the message for this sentinel lacks it, and each sentinel form gives the message back.
+/// The frame of the message for this sentinel never contains it, and each sentinel form gives the message back.
+///
+/// Tests of the original crate: `test_encode_decode_with_sentinel`, and `test_encode_decode` for the sentinel 0. They
+/// try random messages. That each message comes back if there is memory, and that the frame is free of the sentinel,
+/// follows from the clauses `frame` and `no_sentinel` of `encode_vec_with_sentinel` and `reads` of
+/// `decode_vec_with_sentinel`.
 fn check_sentinel(rt: &impl Abort, alloc: Global, sentinel: u8) -> Result<(), Fail> {
     let frame = vector(
         rt,
@@ -84,6 +91,8 @@ fn ascending_from(alloc: Global, first: u16) -> Result<Vec<u8>, Fail> {
 }
 
 /// Encodes the message pushed by 17 bytes, decodes its frame pushed by 11, and a sentinel fed.
+///
+/// Test of the original crate: `stream_roundtrip`, for messages of 1 to 1,000 bytes.
 fn check_stream(rt: &impl Abort, alloc: Global, message: &[u8]) -> Result<(), Fail> {
     assert!(rt; message.len() <= 1000);
     let mut frame = repeated(alloc, 0, max_encoding_length(message.len()))?;
@@ -120,7 +129,7 @@ struct Pieces<'a> {
 }
 
 impl Check for Pieces<'_> {
-    /// Each piece finds nothing or is refused, and the sentinel gets the answer. Once a piece was refused, so is each
+    /// Each piece finds nothing or is an error, and the sentinel gets the result. Once a piece was an error, so is each
     /// one after it. The buffer then holds what of the message fits.
     fn check<D: StreamingDecoder + Drop>(
         &self,

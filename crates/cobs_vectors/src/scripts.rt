@@ -13,6 +13,10 @@ const FRAME: &[u8] = b"\x0chello world\0";
 const DELIMITED: &[u8] = b"\0\x0chello world\0";
 
 /// Byte by byte.
+///
+/// Tests of the original crate, which feed a frame ten times: `stream_continuously` over 16 bytes,
+/// `stream_continuously_owned` and `stream_continuously_heapless` over 32; with a sentinel on each side
+/// `stream_continuously_2` over 16 and `stream_continuously_2_owned` over 32.
 const FED: [(usize, &[Step]); 14] = [
     // a frame that breaks off after three of its bytes, and then a whole one
     (
@@ -68,7 +72,7 @@ const FED: [(usize, &[Step]); 14] = [
         3,
         &[Holds(&[0, 0, 0]), Overwrite(9), Reset, Holds(&[9, 9, 9])],
     ),
-    // what is written inside a piece stands in its message
+    // what is written inside a piece is in its message
     (
         2,
         &[
@@ -86,6 +90,10 @@ const FED: [(usize, &[Step]); 14] = [
 const DAMAGED: &[u8] = &[0, 3, 7, 8, 0, 5, 1, 0, 6, 1, 2, 3, 4, 5, 0, 2, 9, 0];
 
 /// Many bytes at a time.
+///
+/// Tests of the original crate, in this order: `test_decoder_push_function`, `test_owned_decoder_push_function` and
+/// `test_decoder_heapless_push_function` in one row, which each of the three decoders runs;
+/// `stream_chunk_with_2_frames`; `decoding_broken_packet`.
 const PUSHED: [(usize, &[Step]); 10] = [
     (32, &[Push(DELIMITED, Length(11), 14), Begins(HELLO)]),
     (
@@ -131,7 +139,7 @@ const PUSHED: [(usize, &[Step]); 10] = [
             Begins(HELLO),
         ],
     ),
-    // an error tells what was consumed, and the rest is pushed next
+    // an error says what was consumed, and the rest is pushed next
     (
         4,
         &[

@@ -1,4 +1,4 @@
-//! Calls over slices by tables: a row says the call, what it is given, what it has to answer, and what it has to leave.
+//! Calls over slices by tables: a row says the call, its arguments, what it must return, and what it must leave.
 use crate::bytes::{Parts, joined};
 use cobs::{
     DecodeError, DecodeReport, DecodeVecError, DestBufTooSmallError, decode, decode_in_place,
@@ -31,7 +31,7 @@ pub enum Decoder {
     InPlaceWithSentinel(u8),
 }
 
-/// A call whose answer is a vector.
+/// A call that returns a vector.
 #[derive(Clone, Copy)]
 pub enum VectorCall {
     Encode,
@@ -41,13 +41,13 @@ pub enum VectorCall {
     DecodeWithSentinel(u8),
 }
 
-/// What a call answers.
+/// What a call returns.
 #[derive(Clone, Copy, Debug, PartialEq, Eq)]
 pub enum Answer {
     /// Nothing is wrong, and no message has ended.
     Nothing,
 
-    /// So many bytes were written.
+    /// This many bytes were written.
     Length(usize),
 
     /// A report with this frame size and this parsed size.
@@ -59,14 +59,14 @@ pub enum Answer {
     /// There was no byte to decode.
     EmptyFrame,
 
-    /// The frame breaks off, with so many bytes decoded.
+    /// The frame breaks off, with this many bytes decoded.
     InvalidFrame(usize),
 
     /// The message doesn't fit.
     TooSmall,
 }
 
-/// The refusal of a decoder.
+/// The error of a decoder.
 pub fn refused(error: &DecodeError) -> Answer {
     match error {
         DecodeError::EmptyFrame => Answer::EmptyFrame,
@@ -75,7 +75,7 @@ pub fn refused(error: &DecodeError) -> Answer {
     }
 }
 
-/// The answer of a decoder that counts bytes.
+/// The result of a decoder that counts bytes.
 fn counted(answer: Result<usize, DecodeError>) -> Answer {
     match answer {
         Ok(count) => Answer::Length(count),
@@ -83,7 +83,7 @@ fn counted(answer: Result<usize, DecodeError>) -> Answer {
     }
 }
 
-/// The answer of a decoder that reports sizes.
+/// The result of a decoder that reports sizes.
 fn reported(answer: Result<DecodeReport, DecodeError>) -> Answer {
     match answer {
         Ok(report) => Answer::Sizes(report.frame_size(), report.parsed_size()),
@@ -91,7 +91,7 @@ fn reported(answer: Result<DecodeReport, DecodeError>) -> Answer {
     }
 }
 
-/// The answer of an encoder.
+/// The result of an encoder.
 fn written(answer: Result<usize, DestBufTooSmallError>) -> Answer {
     match answer {
         Ok(count) => Answer::Length(count),
@@ -99,7 +99,7 @@ fn written(answer: Result<usize, DestBufTooSmallError>) -> Answer {
     }
 }
 
-/// The call, what it encodes, the buffer before it, its answer, and the buffer after it.
+/// The call, what it encodes, the buffer before it, its result, and the buffer after it.
 pub struct EncoderRow(pub Encoder, pub Parts, pub Parts, pub Answer, pub Parts);
 
 /// Makes the call. One whose precondition is room is made where the call that looks for room finds it in a copy of the
@@ -160,7 +160,7 @@ pub fn check_encoders(rt: &impl Abort, alloc: Global, rows: &[EncoderRow]) -> Re
     Ok(())
 }
 
-/// The call, what it decodes (nothing in place), the buffer before it, its answer, and the buffer after it.
+/// The call, what it decodes (nothing in place), the buffer before it, its result, and the buffer after it.
 pub struct DecoderRow(pub Decoder, pub Parts, pub Parts, pub Answer, pub Parts);
 
 /// Makes the call.
@@ -204,7 +204,7 @@ pub fn check_decoders(rt: &impl Abort, alloc: Global, rows: &[DecoderRow]) -> Re
     Ok(())
 }
 
-/// The call, what it is given, and its vector or its refusal.
+/// The call, its arguments, and its vector or its error.
 pub struct VectorRow(pub VectorCall, pub Parts, pub Result<Parts, Answer>);
 
 /// Makes the call, for a source of less than 10,000 bytes.

@@ -44,7 +44,7 @@ fn seen(state: &DecoderState) -> State {
     }
 }
 
-/// What the decoder answered, in words of this table.
+/// What the decoder returned, in words of this table.
 fn told(answer: &Result<DecodeResult, DecodeError>) -> Option<Answer> {
     match answer {
         Ok(DecodeResult::NoData) => Some(Answer::NoData),
@@ -56,7 +56,7 @@ fn told(answer: &Result<DecodeResult, DecodeError>) -> Option<Answer> {
     }
 }
 
-/// The answer that is wanted.
+/// The result that is wanted.
 fn wanted_answer(state: State, byte: u8) -> Answer {
     match (state, byte) {
         (State::Idle, 0) => Answer::NoData,

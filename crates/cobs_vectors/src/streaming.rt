@@ -121,13 +121,13 @@ pub fn check_all(
 
 /// A call of a streaming decoder, or a look at its buffer.
 pub enum Step {
-    /// Feeds the bytes: the last of them gets this answer, and each before it brings nothing.
+    /// Feeds the bytes: the last of them gets this result, and each before it brings nothing.
     Feed(&'static [u8], Answer),
 
-    /// So many times: feeds the bytes, of which the last one completes this message.
+    /// This many times: feeds the bytes, of which the last one completes this message.
     FeedMessage(usize, &'static [u8], &'static [u8]),
 
-    /// Pushes the bytes: the answer, and how many of them were consumed.
+    /// Pushes the bytes: the result, and how many of them were consumed.
     Push(&'static [u8], Answer, usize),
 
     /// The buffer begins with these bytes.
@@ -143,7 +143,7 @@ pub enum Step {
     Reset,
 }
 
-/// The answer to a byte.
+/// The result for a byte.
 pub fn fed(answer: Result<Option<usize>, DecodeError>) -> Answer {
     match answer {
         Ok(None) => Answer::Nothing,
@@ -152,7 +152,7 @@ pub fn fed(answer: Result<Option<usize>, DecodeError>) -> Answer {
     }
 }
 
-/// The answer to so many bytes, and how many of them were consumed.
+/// The result for this many bytes, and how many of them were consumed.
 pub fn pushed(answer: Result<Option<DecodeReport>, PushError>, count: usize) -> (Answer, usize) {
     match answer {
         Ok(None) => (Answer::Nothing, count),
@@ -161,7 +161,7 @@ pub fn pushed(answer: Result<Option<DecodeReport>, PushError>, count: usize) -> 
     }
 }
 
-/// Feeds the bytes by the decoder's own method or by the trait's, and gives the last answer. Each before it has to be
+/// Feeds the bytes by the decoder's own method or by the trait's, and returns the last result. Each before it has to be
 /// that nothing has ended.
 pub fn feed_all<D: StreamingDecoder>(
     rt: &impl Abort,
@@ -252,7 +252,7 @@ impl Check for Script {
     }
 }
 
-/// Plays each script of the table, over a buffer of so many zeros, with each of the three decoders.
+/// Plays each script of the table, over a buffer of this many zeros, with each of the three decoders.
 pub fn play(
     rt: &impl Abort,
     alloc: Global,

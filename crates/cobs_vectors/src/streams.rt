@@ -29,7 +29,7 @@ fn outcomes_of(alloc: Global, wanted: &[Wanted]) -> Result<Vec<FrameOutcome>, Al
     Ok(outcomes)
 }
 
-/// A stream, and what comes of it over a buffer of so many bytes.
+/// A stream, and what comes of it over a buffer of this many bytes.
 type Case = (usize, &'static [u8], &'static [Wanted]);
 
 /// Over four bytes: a message, a broken piece, a piece that is too long, and a message.
@@ -88,7 +88,7 @@ const CASES: [Case; 5] = [
     ),
 ];
 
-/// Appends the outcomes of pushing the bytes, what is not yet consumed again after each answer.
+/// Appends the outcomes of pushing the bytes, what is not yet consumed again after each result.
 fn push_all<D: StreamingDecoder>(
     rt: &impl Abort,
     alloc: Global,
@@ -199,7 +199,7 @@ fn frames_of_several_messages(rt: HostRuntime) -> Result<(), Fail> {
     Ok(())
 }
 
-/// A stream that comes to these outcomes, then so many others, and then these.
+/// A stream that comes to these outcomes, then this many others, and then these.
 #[derive(Drop)]
 struct Damage<'a> {
     stream: &'a [u8],
@@ -236,7 +236,7 @@ impl Check for Damage<'_> {
     }
 }
 
-/// Where the nonzero bytes of the damaged stream stand, which piece each belongs to, and whether it is neither the
+/// The places of the nonzero bytes of the damaged stream, which piece each belongs to, and whether it is neither the
 /// first nor the last byte of it.
 const PLACES: [(usize, usize, bool); 13] = [
     (1, 0, false),
@@ -254,7 +254,7 @@ const PLACES: [(usize, usize, bool); 13] = [
     (16, 3, false),
 ];
 
-/// A stream that differs from the damaged one in one of its pieces has the outcomes of the others, and so many of its
+/// A stream that differs from the damaged one in one of its pieces has the outcomes of the others, and this many of its
 /// own.
 fn check_damage(
     rt: &impl Abort,

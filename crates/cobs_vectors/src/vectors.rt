@@ -1,5 +1,5 @@
-//! Calls whose answer is a vector, by a table: the call, what it is given, and its vector or its refusal. And the kinds
-//! of lists of bytes.
+//! Calls that return a vector, by a table: the call, its arguments, and its vector or its error. And the kinds
+//! of bytes.
 use crate::bytes::{LONG_FRAME, ONES, Parts, joined};
 use crate::slices::Answer::{EmptyFrame, InvalidFrame};
 use crate::slices::VectorCall::{
@@ -11,6 +11,11 @@ use std::alloc::Global;
 use std::process::Abort;
 use std::test::Fail;
 
+/// Calls that encode, calls that decode, and errors.
+///
+/// Tests of the original crate: `test_encoding_including_sentinels`, which encodes 1, 2 and 3, and decodes the frame
+/// between its sentinels, without the first, and without both; `try_encode_with_sentinels`, which decodes such a frame;
+/// `decode_empty`, by `decode_vec`.
 const VECTORS: [VectorRow; 24] = [
     VectorRow(Encode, &[&[10, 11, 0, 12]], Ok(&[&[3, 10, 11, 2, 12]])),
     VectorRow(Encode, &[&[0, 0, 1, 0]], Ok(&[&[1, 1, 2, 1, 1]])),

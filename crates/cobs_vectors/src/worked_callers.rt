@@ -27,7 +27,7 @@ fn encode_by_longest(source: &[u8], dest: &mut [u8]) -> usize
     encode(source, dest)
 }
 
-/// A caller who carries out each answer of an `EncoderState` in a vector has the open frame of the message.
+/// A caller who carries out each result of an `EncoderState` in a vector has the open frame of the message.
 fn encode_by_state(alloc: Global, source: &[u8]) -> Result<Vec<u8>, AllocError>
     ensures { IfOk result
         (λ bytes. (index code : ℕ) × IsOpenFrame bytes.items source.now index code) }
@@ -54,7 +54,7 @@ fn encode_by_state(alloc: Global, source: &[u8]) -> Result<Vec<u8>, AllocError>
     Ok(output)
 }
 
-/// Encodes a message of two pieces: they are taken exactly where the frame fits.
+/// Encodes a message of two pieces: they are taken exactly if the frame fits.
 fn encode_both(first: &[u8], second: &[u8], dest: &mut [u8]) -> Result<usize, DestBufTooSmallError>
     requires { 0 < length dest.old }
     ensures fits { IsOk result ↔ (encoded_len (first.now ++ second.now) ≤ length dest.old) }

@@ -1,0 +1,13 @@
+-- What contracts see of a decoder that feeds each byte by itself.
+use Rattle.std.specs.Prelude.{ℕ, List}
+use Rattle.cobs.specs.Feed.{Phase}
+use Rattle.cobs.specs.Fields.Decoders.{owned_buffer, owned_phase}
+use Rattle.cobs_conformance.specs.declared.streams.ByBytes.{ByBytes}
+
+-- the bytes of its buffer
+abbrev pub buffer_of : ByBytes → List ℕ
+buffer_of decoder = owned_buffer decoder.decoder
+
+-- where it is
+abbrev pub phase_of : ByBytes → Phase
+phase_of decoder = owned_phase decoder.decoder

@@ -1,0 +1,46 @@
+-- The block at an index of bytes that have no zero.
+use Rattle.std.proofs.Common.{◌≡◌, ◌≢◌, ◌∙◌, ℕ, ◌+◌, ◌-◌, ◌<◌, ◌≤◌, List, ◌∷◌, ◌++◌, length, take, drop, get_or, sym, ap, subst, arith, append-nil, length-drop, length-take-le, take-append-drop}
+use Rattle.std.proofs.lemmas.List.{drop-drop, drop_all, drop_more}
+use Rattle.std.proofs.lemmas.List.Elements.{All-drop, All-get_or, All-take}
+use Rattle.cobs.specs.Grammar.{HasNoZero, IsBlock}
+
+abbrev pub block_at : List ℕ → ℕ → List ℕ
+block_at list read = get_or list read 0 ∷ take (get_or list read 0 - 1) (drop (read + 1) list)
+
+module _ (list : List ℕ) (read : ℕ) (nonzero : HasNoZero list) (within : read < length list) where
+  abbrev code : ℕ
+  code = get_or list read 0
+
+  abbrev more : List ℕ
+  more = drop (read + 1) list
+
+  pub code_some : 0 < get_or list read 0
+  code_some = let other = All-get_or (λ b. b ≢ 0) list read 0 within nonzero in omega arith
+
+  cons : drop read list ≡ code ∷ more
+  cons = drop_more list read 0 within
+
+  -- fewer bytes are left than the code says
+  pub broken : (P : List ℕ → Type 0) → ((code : ℕ) (bytes : List ℕ) → length bytes + 1 < code → P (code ∷ bytes)) → length list - read < get_or list read 0
+      → P (drop read list)
+  broken P short less = subst P (sym cons) (short code more (let l = length-drop (read + 1) list in omega arith))
+
+  pub is_block : get_or list read 0 ≤ length list - read → get_or list read 0 < 256 → IsBlock (block_at list read)
+  is_block fits below =
+      let l = length-drop (read + 1) list in
+      let t = length-take-le (code - 1) more (omega arith) in
+      let some = code_some in
+      (omega arith, below, All-take (λ b. b ≢ 0) (code - 1) more (All-drop (λ b. b ≢ 0) (read + 1) list nonzero))
+
+  -- it and what is behind it
+  pub split : drop read list ≡ block_at list read ++ drop (read + get_or list read 0) list
+  split =
+      let some = code_some in
+      let next : drop (code - 1) more ≡ drop (read + code) list = drop-drop (code - 1) (read + 1) list ∙ ap (λ (n : ℕ). drop n list) (omega arith) in
+      cons ∙ ap (λ (x : List ℕ). code ∷ x) (sym (take-append-drop (code - 1) more)) ∙ ap (λ (x : List ℕ). block_at list read ++ x) next
+
+  -- nothing is behind it
+  pub last : length list - read ≡ get_or list read 0 → drop read list ≡ block_at list read
+  last end =
+      let none = drop_all (read + code) list (omega arith) in
+      split ∙ ap (λ (x : List ℕ). block_at list read ++ x) none ∙ append-nil (block_at list read)

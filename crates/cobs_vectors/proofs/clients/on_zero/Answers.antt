@@ -1,0 +1,18 @@
+use Rattle.std.proofs.Common.{◌≡◌, ◌∙◌, ap, length, sym, take, Ok}
+use Rattle.cobs_vectors.proofs.clients.on_zero.Goals as goal
+
+pub returns-in-Ok-Some : goal.returns-in-Ok-Some
+returns-in-Ok-Some g c = λ f m h r fits.
+    let w = c.law_18.ensures.fed _ _ f m _ _ c.feed_byte.result c.feed_byte.ensures.feeds h r fits in
+    let len : c.in-Ok-Some.len ≡ length m = (let e = sym (c.in-Ok-Some.is ∙ ap (λ v. Ok v) c.in-Ok-Some.field-0-is) ∙ w.0 in cc) in
+    (len, ap (λ n. take n (g.D.FrameDecoder.bytes c.feed_byte.new.self)) len ∙ w.1)
+
+pub returns-in-Ok-None : goal.returns-in-Ok-None
+returns-in-Ok-None g c = λ f m h r fits.
+    let w = c.law_18.ensures.fed _ _ f m _ _ c.feed_byte.result c.feed_byte.ensures.feeds h r fits in
+    absurd (let e = sym (c.in-Ok-None.is ∙ ap (λ v. Ok v) c.in-Ok-None.field-0-is) ∙ w.0 in cc)
+
+pub returns-in-Err : goal.returns-in-Err
+returns-in-Err g c = λ f m h r fits.
+    let w = c.law_18.ensures.fed _ _ f m _ _ c.feed_byte.result c.feed_byte.ensures.feeds h r fits in
+    absurd (let e = sym c.in-Err.is ∙ w.0 in cc)

@@ -1,0 +1,102 @@
+use Rattle.std.proofs.Common.{◌≡◌, ◌≢◌, ◌∙◌, ◌++◌, ◌∷◌, ◌+◌, ◌-◌, ◌<◌, ◌≤◌, ◌==◌, [], false, true, ℕ, List, length, take, drop, get_or, refl, sym, ap, arith, append_assoc, append-nil, length-drop}
+use Rattle.std.proofs.lemmas.Bool.{eq-eqb, ne_eqb, true≢false}
+use Rattle.std.proofs.lemmas.List.Elements.{All-from_get_or}
+use Rattle.cobs.specs.Grammar.{HasNoZero, IsBlock, bytes_of, joint}
+use Rattle.cobs.specs.Piece.{IsWhole, is_whole, kept_output, output}
+use Rattle.cobs_vectors.proofs.Blocks.{block_at, broken, is_block, last, split}
+use Rattle.cobs_vectors.proofs.own_coders.decode_by_code.Goals as goal
+use Rattle.cobs_vectors.proofs.own_coders.decode_by_code.Goals.{then-code-ne-FULL+in_ok-push, else-code-ne-FULL}
+
+module _ (list : List ℕ) (read : ℕ) (nonzero : HasNoZero list) (within : read < length list) (fits : get_or list read 0 ≤ length list - read) (below : get_or list read 0 < 256)
+    (one_whole : (block : List ℕ) → IsBlock block → IsWhole block) where
+  abbrev code : ℕ
+  code = get_or list read 0
+
+  block : IsBlock (block_at list read)
+  block = is_block list read nonzero within fits below
+
+  -- the block is the last one
+  module _ (end : length list - read ≡ get_or list read 0) where
+    whole_end : is_whole (drop read list) ≡ true
+    whole_end = ap is_whole (last list read nonzero within end) ∙ one_whole (block_at list read) block
+
+    kept_end : ((block : List ℕ) → IsBlock block → output block ≡ bytes_of block) → ((p : List ℕ) → IsWhole p → kept_output p ≡ output p)
+        → kept_output (drop read list) ≡ take (get_or list read 0 - 1) (drop (read + 1) list)
+    kept_end one all_kept = ap kept_output (last list read nonzero within end) ∙ all_kept (block_at list read) (one_whole (block_at list read) block) ∙ one (block_at list read) block
+
+  -- more follow
+  module _ (far : get_or list read 0 < length list - read) where
+    more_some : drop (read + get_or list read 0) list ≢ []
+    more_some none = let l = length-drop (read + code) list in let e = ap length none in omega arith
+
+    whole_more : ((block p : List ℕ) → IsBlock block → p ≢ [] → is_whole (block ++ p) ≡ is_whole p) → is_whole (drop read list) ≡ is_whole (drop (read + get_or list read 0) list)
+    whole_more whole = ap is_whole (split list read nonzero within) ∙ whole (block_at list read) (drop (read + code) list) block more_some
+
+    kept_more : ((block p : List ℕ) → IsBlock block → p ≢ [] → kept_output (block ++ p) ≡ bytes_of block ++ joint block ++ kept_output p)
+        → kept_output (drop read list) ≡ take (get_or list read 0 - 1) (drop (read + 1) list) ++ joint (block_at list read) ++ kept_output (drop (read + get_or list read 0) list)
+    kept_more kept = ap kept_output (split list read nonzero within) ∙ kept (block_at list read) (drop (read + code) list) block more_some
+
+-- the slice that was copied
+copied : (list : List ℕ) (read code : ℕ) → take (read + code - (read + 1)) (drop (read + 1) list) ≡ take (code - 1) (drop (read + 1) list)
+copied list read code = ap (λ (n : ℕ). take n (drop (read + 1) list)) (omega arith)
+
+pub returns-then-left-code-clause-reads : goal.returns-then-left-code-clause-reads
+returns-then-left-code-clause-reads c = λ m.
+    let none = broken c.args.piece.now c.by_block.read c.requires.1 c.by_block.invariant.within (λ p. is_whole p ≡ false) c.law_20.ensures.short c.if-left-code.true in (
+      λ both. absurd (true≢false (sym both.0)),
+      λ reads. absurd (true≢false (sym (c.law_1.ensures.only c.args.piece.now m reads).2 ∙ (c.by_block.invariant.whole ∙ none))),
+    )
+
+pub returns-then-left-code-2-clause-whole : goal.returns-then-left-code-2-clause-whole
+returns-then-left-code-2-clause-whole c =
+    let fits = c.type_inv.piece c.by_block.read in
+    let left = whole_end c.args.piece.now c.by_block.read c.requires.1 c.by_block.invariant.within c.if-left-code.false (omega arith) c.law_20.ensures.one_whole c.if-left-code-2.true in
+    sym (c.by_block.invariant.whole ∙ left)
+
+pub returns-then-left-code-2-clause-kept : goal.returns-then-left-code-2-clause-kept
+returns-then-left-code-2-clause-kept c =
+    let fits = c.type_inv.piece c.by_block.read in
+    let left = kept_end c.args.piece.now c.by_block.read c.requires.1 c.by_block.invariant.within c.if-left-code.false (omega arith) c.law_20.ensures.one_whole c.if-left-code-2.true c.law_20.ensures.one c.law_20.ensures.all_kept in
+    let e = copied c.args.piece.now c.by_block.read (get_or c.args.piece.now c.by_block.read 0) in
+    c.in_ok-extend_from_slice.ensures.items ∙ ap (λ (x : List ℕ). c.by_block.bytes.items ++ x) (e ∙ sym left) ∙ sym c.by_block.invariant.kept
+
+pub returns-then-left-code-2-clause-reads : goal.returns-then-left-code-2-clause-reads
+returns-then-left-code-2-clause-reads c = λ m.
+    let fits = c.type_inv.piece c.by_block.read in
+    let piece : List ℕ = c.args.piece.now in
+    let left = whole_end piece c.by_block.read c.requires.1 c.by_block.invariant.within c.if-left-code.false (omega arith) c.law_20.ensures.one_whole c.if-left-code-2.true in
+    let whole : IsWhole piece = c.by_block.invariant.whole ∙ left in
+    let kept : c.extend_from_slice.new.self.items ≡ output piece = returns-then-left-code-2-clause-kept c ∙ c.law_20.ensures.all_kept piece whole in
+    let below = All-from_get_or (λ b. b < 256) piece 0 (λ i within. (c.type_inv.piece i).fits) in (
+      λ both. (c.law_1.ensures.reads piece m below).1 (c.requires.0, c.requires.1, whole, sym both.1 ∙ kept),
+      λ reads. (refl, kept ∙ sym (c.law_1.ensures.only piece m reads).3),
+    )
+
+pub by_block-preserved : goal.by_block-preserved
+by_block-preserved c =
+    let list : List ℕ = c.args.piece.now in
+    let read : ℕ = c.by_block.read in
+    let code : ℕ = get_or list read 0 in
+    let byte = c.type_inv.piece read in
+    let other = c.if-left-code-2.false in
+    let fits = c.if-left-code.false in
+    let far : code < length list - read = omega arith in
+    let whole = whole_more list read c.requires.1 c.by_block.invariant.within fits (omega arith) c.law_20.ensures.one_whole far c.law_20.ensures.whole in
+    let kept = kept_more list read c.requires.1 c.by_block.invariant.within fits (omega arith) c.law_20.ensures.one_whole far c.law_20.ensures.kept in
+    let run : List ℕ = take (code - 1) (drop (read + 1) list) in
+    let rest : List ℕ = kept_output (drop (read + code) list) in
+    let before : List ℕ = c.by_block.bytes.items in
+    let now : c.extend_from_slice.new.self.items ≡ before ++ run = c.in_ok-extend_from_slice.ensures.items ∙ ap (λ (x : List ℕ). before ++ x) (copied list read code) in
+    let is : c.if-code-ne-FULL.bytes.items ≡ before ++ run ++ joint (block_at list read) = elim c.if-code-ne-FULL.branch [
+      | then-code-ne-FULL+in_ok-push w ↦
+          let short : (code == 255) ≡ false = ne_eqb code 255 w.if-code-ne-FULL.true in
+          rw (w.bytes-is, short) (w.in_ok-push.ensures.items ∙ ap (λ (x : List ℕ). x ++ 0 ∷ []) now)
+      | else-code-ne-FULL w ↦
+          let full : (code == 255) ≡ true = eq-eqb code 255 w.if-code-ne-FULL.false in
+          rw (w.bytes-is, full) (now ∙ sym (append-nil (before ++ run)))
+    ] in
+    record {
+      within = omega arith;
+      whole = c.by_block.invariant.whole ∙ whole;
+      kept = c.by_block.invariant.kept ∙ ap (λ (x : List ℕ). before ++ x) kept ∙ sym (ap (λ (x : List ℕ). x ++ rest) is ∙ simp append_assoc);
+    }

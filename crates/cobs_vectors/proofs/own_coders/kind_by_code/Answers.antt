@@ -1,0 +1,94 @@
+use Rattle.std.proofs.Common.{◌≡◌, ◌≢◌, ◌↔◌, ◌∙◌, ◌++◌, ◌+◌, ◌-◌, ◌<◌, [], ℕ, List, length, drop, get_or, refl, sym, ap, subst, arith, length-drop}
+use Rattle.std.proofs.lemmas.Bool.{true≢false}
+use Rattle.std.proofs.lemmas.List.{drop_more}
+use Rattle.cobs.specs.Grammar.{HasNoZero, IsBlock, IsCanonical, IsFrame, IsFull, lone_block, message_of}
+use Rattle.cobs_vectors.proofs.Blocks.{block_at, broken, code_some, is_block, last, split}
+use Rattle.cobs_vectors.proofs.own_coders.kind_by_code.Goals as goal
+use Rattle.cobs_vectors.proofs.own_coders.kind_by_code.Goals.{else-after_full-via-then-after_full+else-code-eq1, else-after_full-via-else-after_full}
+
+-- a canonical frame is a frame
+frame_of : (f : List ℕ) → IsCanonical f → IsFrame f
+frame_of f is = (message_of is.blocks, record { blocks = is.blocks; frame = is.frame; message = refl })
+
+module _ (list : List ℕ) (read : ℕ) (nonzero : HasNoZero list) (within : read < length list) (below : get_or list read 0 < 256) where
+  -- what is left is a block
+  one_left : ((block : List ℕ) → IsBlock block → IsCanonical block) → length list - read ≡ get_or list read 0 → IsCanonical (drop read list)
+  one_left one end = subst IsCanonical (sym (last list read nonzero within end)) (one (block_at list read) (is_block list read nonzero within (omega arith) below))
+
+  lone_left : drop read list ≡ lone_block → get_or list read 0 ≡ 1
+  lone_left lone = ap (λ (x : List ℕ). get_or x 0 0) (sym (drop_more list read 0 within) ∙ lone)
+
+  -- what is left is a block and more
+  module _ (far : get_or list read 0 < length list - read) where
+    more_some : drop (read + get_or list read 0) list ≢ []
+    more_some none = let l = length-drop (read + get_or list read 0) list in let e = ap length none in omega arith
+
+    block : IsBlock (block_at list read)
+    block = is_block list read nonzero within (omega arith) below
+
+    frame_left : ((block f : List ℕ) → IsBlock block → f ≢ [] → (IsFrame (block ++ f) ↔ IsFrame f)) → IsFrame (drop read list) ↔ IsFrame (drop (read + get_or list read 0) list)
+    frame_left law = subst (λ (x : List ℕ). IsFrame x ↔ IsFrame (drop (read + get_or list read 0) list)) (sym (split list read nonzero within)) (law (block_at list read) (drop (read + get_or list read 0) list) block more_some)
+
+    canonical_left : ((block f : List ℕ) → IsBlock block → f ≢ [] → (IsCanonical (block ++ f) ↔ (IsCanonical f × (IsFull block → f ≢ lone_block))))
+        → IsCanonical (drop read list) ↔ (IsCanonical (drop (read + get_or list read 0) list) × (IsFull (block_at list read) → drop (read + get_or list read 0) list ≢ lone_block))
+    canonical_left law = subst (λ (x : List ℕ). IsCanonical x ↔ (IsCanonical (drop (read + get_or list read 0) list) × (IsFull (block_at list read) → drop (read + get_or list read 0) list ≢ lone_block)))
+        (sym (split list read nonzero within)) (law (block_at list read) (drop (read + get_or list read 0) list) block more_some)
+
+    not_lone : drop read list ≢ lone_block
+    not_lone lone = let l = length-drop read list in let e = ap length lone in let some = code_some list read nonzero within in omega arith
+
+pub returns-then-left-code-clause-frame : goal.returns-then-left-code-clause-frame
+returns-then-left-code-clause-frame c =
+    let none = broken c.args.piece.now c.by_block.read c.requires.1 c.by_block.invariant.within (λ f. IsFrame f → ⊥) c.law_19.ensures.short c.if-left-code.true in
+    (λ _ frame. none (c.by_block.invariant.frame.0 frame), λ _. refl)
+
+pub returns-then-left-code-clause-canonical : goal.returns-then-left-code-clause-canonical
+returns-then-left-code-clause-canonical c =
+    let none = broken c.args.piece.now c.by_block.read c.requires.1 c.by_block.invariant.within (λ f. IsFrame f → ⊥) c.law_19.ensures.short c.if-left-code.true in
+    (λ same. absurd cc, λ is. absurd (none (frame_of (drop c.by_block.read c.args.piece.now) (c.by_block.invariant.canonical.0 is).0)))
+
+pub returns-then-code-eq1-clause-frame : goal.returns-then-code-eq1-clause-frame
+returns-then-code-eq1-clause-frame c =
+    let fits = c.type_inv.piece c.by_block.read in
+    let is = one_left c.args.piece.now c.by_block.read c.requires.1 c.by_block.invariant.within (omega arith) c.law_19.ensures.one c.if-left-code-2.true in
+    (λ same. absurd cc, λ none. absurd (none (c.by_block.invariant.frame.1 (frame_of (drop c.by_block.read c.args.piece.now) is))))
+
+pub returns-else-after_full-clause-frame : goal.returns-else-after_full-clause-frame
+returns-else-after_full-clause-frame c =
+    let fits = c.type_inv.piece c.by_block.read in
+    let is = one_left c.args.piece.now c.by_block.read c.requires.1 c.by_block.invariant.within (omega arith) c.law_19.ensures.one c.if-left-code-2.true in
+    (λ same. absurd cc, λ none. absurd (none (c.by_block.invariant.frame.1 (frame_of (drop c.by_block.read c.args.piece.now) is))))
+
+pub returns-else-after_full-clause-canonical : goal.returns-else-after_full-clause-canonical
+returns-else-after_full-clause-canonical c =
+    let fits = c.type_inv.piece c.by_block.read in
+    let is = one_left c.args.piece.now c.by_block.read c.requires.1 c.by_block.invariant.within (omega arith) c.law_19.ensures.one c.if-left-code-2.true in (
+      λ _. c.by_block.invariant.canonical.1 (
+        is,
+        λ full lone. elim c.else-after_full.branch [
+          | else-after_full-via-then-after_full+else-code-eq1 w ↦ w.if-code-eq1.false (lone_left c.args.piece.now c.by_block.read c.requires.1 c.by_block.invariant.within (omega arith) lone)
+          | else-after_full-via-else-after_full w ↦ true≢false (sym full ∙ w.if-after_full.false)
+        ],
+      ),
+      λ _. refl,
+    )
+
+pub by_block-preserved : goal.by_block-preserved
+by_block-preserved c =
+    let list : List ℕ = c.args.piece.now in
+    let read : ℕ = c.by_block.read in
+    let fits = c.type_inv.piece read in
+    let other = c.if-left-code-2.false in
+    let far : get_or list read 0 < length list - read = omega arith in
+    let below : get_or list read 0 < 256 = omega arith in
+    let within = c.by_block.invariant.within in
+    let frame = frame_left list read c.requires.1 within below far c.law_19.ensures.frame in
+    let canonical = canonical_left list read c.requires.1 within below far c.law_19.ensures.canonical in
+    record {
+      within = omega arith;
+      frame = (λ is. frame.0 (c.by_block.invariant.frame.0 is), λ is. c.by_block.invariant.frame.1 (frame.1 is));
+      canonical = (
+        λ is. canonical.0 (c.by_block.invariant.canonical.0 is).0,
+        λ both. c.by_block.invariant.canonical.1 (canonical.1 both, λ full. not_lone list read c.requires.1 within below far),
+      );
+    }

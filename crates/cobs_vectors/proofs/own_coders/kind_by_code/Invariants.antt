@@ -1,0 +1,14 @@
+use Rattle.std.proofs.Common.{◌≢◌, ◌↔◌, ◌-◌, ◌<◌, IsTrue, drop, length}
+use Rattle.cobs.specs.Grammar.{IsCanonical, IsFrame, lone_block}
+use Rattle.cobs_vectors.proofs.own_coders.kind_by_code.Given as goal
+
+-- which frame the piece is, by what is left of it
+abbrev pub invariant-by_block : goal.invariant-by_block
+invariant-by_block l = record {
+  within : l.read < length l.piece;
+  frame : IsFrame l.piece ↔ IsFrame (drop l.read l.piece);
+  canonical : IsCanonical l.piece ↔ (IsCanonical (drop l.read l.piece) × (IsTrue l.after_full → drop l.read l.piece ≢ lone_block));
+}
+
+abbrev pub decreases-by_block : goal.decreases-by_block
+decreases-by_block l = length l.piece - l.read

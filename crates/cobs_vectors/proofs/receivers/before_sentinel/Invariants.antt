@@ -1,0 +1,7 @@
+use Rattle.std.proofs.Common.{take}
+use Rattle.cobs.specs.Sentinel.{IsFreeOf}
+use Rattle.cobs_vectors.proofs.receivers.before_sentinel.Given as goal
+
+-- no sentinel so far
+abbrev pub invariant-by_byte : goal.invariant-by_byte
+invariant-by_byte l = IsFreeOf l.sentinel (take l.at l.received)

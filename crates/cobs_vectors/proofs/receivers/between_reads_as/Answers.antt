@@ -1,0 +1,5 @@
+use Rattle.cobs_vectors.proofs.Pieces.{coded_piece}
+use Rattle.cobs_vectors.proofs.receivers.between_reads_as.Goals as goal
+
+pub reads_for-requires : goal.reads_for-requires
+reads_for-requires c = coded_piece c.args.sentinel c.args.between.now c.requires.some (c.law_6.ensures.coded _ _ c.requires.free)

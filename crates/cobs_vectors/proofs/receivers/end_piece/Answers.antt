@@ -1,0 +1,5 @@
+use Rattle.cobs_vectors.proofs.receivers.end_piece.Goals as goal
+
+pub returns-in-Ok-Some : goal.returns-in-Ok-Some
+returns-in-Ok-Some g c = λ f taken bytes.
+    c.law_18.ensures.fed_only _ _ f _ _ c.in-Ok-Some.len (rw c.in-Ok-Some.field-0-is at c.in-Ok-Some.ensures.feeds) taken bytes

@@ -1,0 +1,10 @@
+use Rattle.cobs_vectors.proofs.Pieces.{coded_piece}
+use Rattle.cobs_vectors.proofs.receivers.message_for.Goals as goal
+
+pub returns-in-Ok : goal.returns-in-Ok
+returns-in-Ok c = λ m.
+    let piece = coded_piece c.args.sentinel c.args.between.now c.requires.some (c.law_6.ensures.coded _ _ c.requires.free) in
+    (λ is. c.in-Ok.ensures.only piece m is, λ reads. c.in-Ok.ensures.reads tt m reads)
+
+pub returns-in-Err-Decode : goal.returns-in-Err-Decode
+returns-in-Err-Decode c = λ m. (λ none. absurd none, λ reads. (rw c.in-Err-Decode.field-0-is at c.in-Err-Decode.ensures.reads) tt m reads)

@@ -1,0 +1,10 @@
+use Rattle.cobs_vectors.proofs.Pieces.{coded_piece}
+use Rattle.cobs_vectors.proofs.receivers.message_in_place_for.Goals as goal
+
+pub returns-in-Ok : goal.returns-in-Ok
+returns-in-Ok c = λ m.
+    let piece = coded_piece c.args.sentinel c.args.between.now c.requires.some (c.law_6.ensures.coded _ _ c.requires.free) in
+    (λ begins. c.in-Ok.ensures.only piece m begins, λ reads. c.in-Ok.ensures.reads m reads)
+
+pub returns-in-Err : goal.returns-in-Err
+returns-in-Err c = λ m. (λ none. absurd none, λ reads. c.in-Err.ensures.reads m reads)

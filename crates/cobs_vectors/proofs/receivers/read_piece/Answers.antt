@@ -1,0 +1,56 @@
+use Rattle.std.proofs.Common.{◌≡◌, ◌<◌, ◌≤◌, ◌∙◌, [], List, ℕ, Some, length, take, ap, subst, sym}
+use Rattle.std.proofs.lemmas.List.Elements.{All-from_get_or}
+use Rattle.cobs.specs.declared.dec.frame_decoder.PieceEnd.TheVariants.{Broken, Message, TooLong}
+use Rattle.cobs.specs.declared.dec.frame_decoder.PieceEnd.{PieceEnd}
+use Rattle.cobs_vectors.proofs.Pieces.{held_front, reads_front}
+use Rattle.cobs_vectors.proofs.receivers.read_piece.Goals as goal
+
+-- the ends of equal results are equal
+same_end : (x y : PieceEnd × ℕ) → Some x ≡ Some y → x.0 ≡ y.0
+same_end x y e = let same : x ≡ y = cc in ap (λ z. z.0) same
+
+told_len : (len n : ℕ) → ◌≡◌ {A = PieceEnd} (Message len) (Message n) → len ≡ n
+told_len len n e = cc
+
+not_broken : (count n : ℕ) → ◌≡◌ {A = PieceEnd} (Broken count) (Message n) → ⊥
+not_broken count n e = absurd cc
+
+not_too_long : (n : ℕ) → ◌≡◌ {A = PieceEnd} TooLong (Message n) → ⊥
+not_too_long n e = absurd cc
+
+pub returns-in-Some-Message-default : goal.returns-in-Some-Message-default
+returns-in-Some-Message-default g c = λ m.
+    let f : List ℕ = c.args.piece.now in
+    let buffer : List ℕ = g.D.FrameDecoder.bytes c.feed_piece.new.self in
+    let below = All-from_get_or (λ b. b < 256) f 0 (λ i within. (c.type_inv.piece i).fits) in
+    let takes = rw c.requires.ended at c.feed_piece.ensures.takes in
+    let told = rw (c.requires.ended, c.in-Some-Message-default.field-0-0-is) at c.in-Some-Message-default.ensures.takes in (
+      λ begins. (
+        reads_front f buffer m c.in-Some-Message-default.len (c.law_18.ensures.taken_only _ _ f [] _ _ _ _ told c.requires.idle c.requires.piece below) begins,
+        subst (λ n. length m ≤ n) takes.takes.len (held_front buffer m _ begins),
+      ),
+      λ r. let w = c.law_18.ensures.taken _ _ f [] m _ _ _ takes c.requires.idle r.0 r.1 in
+          let len = told_len _ _ (rw c.in-Some-Message-default.field-0-0-is at (same_end _ _ (sym c.in-Some-Message-default.is ∙ w.0))) in
+          (len, ap (λ n. take n buffer) len ∙ w.1),
+    )
+
+pub returns-in-Some-Broken-default : goal.returns-in-Some-Broken-default
+returns-in-Some-Broken-default g c = λ m. (
+  λ none. absurd none,
+  λ r. let w = c.law_18.ensures.taken _ _ c.args.piece.now [] m _ _ _ (rw c.requires.ended at c.feed_piece.ensures.takes) c.requires.idle r.0 r.1 in
+      not_broken _ _ (rw c.in-Some-Broken-default.field-0-0-is at (same_end _ _ (sym c.in-Some-Broken-default.is ∙ w.0))),
+)
+
+pub returns-in-Some-TooLong-default : goal.returns-in-Some-TooLong-default
+returns-in-Some-TooLong-default g c = λ m. (
+  λ none. absurd none,
+  λ r. let w = c.law_18.ensures.taken _ _ c.args.piece.now [] m _ _ _ (rw c.requires.ended at c.feed_piece.ensures.takes) c.requires.idle r.0 r.1 in
+      not_too_long _ (rw c.in-Some-TooLong-default.field-0-0-is at (same_end _ _ (sym c.in-Some-TooLong-default.is ∙ w.0))),
+)
+
+pub returns-in-None : goal.returns-in-None
+returns-in-None g c = λ m. (
+  λ none. absurd none,
+  λ r. let w = c.law_18.ensures.taken _ _ c.args.piece.now [] m _ _ _ (rw c.requires.ended at c.feed_piece.ensures.takes) c.requires.idle r.0 r.1 in
+      absurd (let e = rw c.in-None.is at w.0 in cc),
+)

@@ -1,0 +1,7 @@
+use Rattle.cobs_vectors.proofs.receivers.report_in_place.Goals as goal
+
+pub returns-in-Ok : goal.returns-in-Ok
+returns-in-Ok c = λ m. rw c.frame_size.ensures.size (λ begins. c.in-Ok.ensures.only c.requires m begins, λ reads. c.in-Ok.ensures.reads m reads)
+
+pub returns-in-Err : goal.returns-in-Err
+returns-in-Err c = λ m. (λ none. absurd none, λ reads. c.in-Err.ensures.reads m reads)

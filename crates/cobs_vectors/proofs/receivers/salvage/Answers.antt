@@ -1,0 +1,48 @@
+use Rattle.std.proofs.Common.{◌≡◌, ◌≢◌, ◌+◌, ◌∙◌, [], ◌∷◌, ◌++◌, List, ℕ, Option, Some, None, length, take, ap, arith, length-append, take_all}
+use Rattle.std.proofs.lemmas.List.Elements.{All-take}
+use Rattle.cobs.specs.Feed.{DecoderAfter, Phase}
+use Rattle.cobs.specs.FeedPiece.{TakesPiece, outcome_at}
+use Rattle.cobs.specs.Grammar.{HasNoZero}
+use Rattle.cobs.specs.Headline.{IsPiece}
+use Rattle.cobs.specs.Overwritten.{overwritten}
+use Rattle.cobs.specs.Piece.{output}
+use Rattle.cobs.specs.Push.{last_piece}
+use Rattle.cobs.specs.Stream.{outcome_of, stream_outcomes, unended}
+use Rattle.cobs.specs.declared.dec.frame_decoder.PieceEnd.{PieceEnd}
+use Rattle.cobs_vectors.proofs.receivers.salvage.Goals as goal
+
+module _ (buffer buffer' received : List ℕ) (phase phase' : Phase) (idle : DecoderAfter buffer phase [])
+    (no_outcomes : (x : List ℕ) (n : ℕ) → HasNoZero x → stream_outcomes x n ≡ [])
+    (same : (x : List ℕ) → HasNoZero x → unended x ≡ x) where
+  -- `law_12: last`
+  cut_off : ((t : List ℕ) (n : ℕ) → stream_outcomes t n ≡ [] → last_piece t ≡ unended t)
+      → (result : Option (PieceEnd × ℕ)) → TakesPiece buffer phase received result buffer' phase' → HasNoZero received
+      → buffer' ≡ overwritten buffer (output received)
+  cut_off last None t nonzero =
+      t.holds [] idle ∙ ap (λ (x : List ℕ). overwritten buffer (output x)) (last received (length buffer) (no_outcomes received (length buffer) nonzero) ∙ same received nonzero)
+  cut_off last (Some (end, count)) t nonzero =
+      let none = t.takes.outcomes [] idle ∙ no_outcomes (take count received) (length buffer) (All-take (λ b. b ≢ 0) count received nonzero) in
+      absurd cc
+
+  -- `law_12: last_ended`
+  ended : ((t : List ℕ) (n : ℕ) → stream_outcomes t n ≡ [] → last_piece (t ++ 0 ∷ []) ≡ unended t)
+      → (result : Option (PieceEnd × ℕ)) → TakesPiece buffer phase received result buffer' phase'
+      → (piece : List ℕ) → IsPiece piece → received ≡ piece ++ 0 ∷ []
+      → ((end : PieceEnd) × (result ≡ Some (end, length piece + 1)) × (outcome_at end buffer' ≡ outcome_of piece (length buffer)))
+      → buffer' ≡ overwritten buffer (output piece)
+  ended last None t piece is whole ends = absurd (let e = ends.1 in cc)
+  ended last (Some (end, count)) t piece is whole ends =
+      let n : ℕ = length buffer in
+      let same_end : ◌≡◌ {A = PieceEnd × ℕ} (end, count) (ends.0, length piece + 1) = (let e = ends.1 in cc) in
+      let counted : count ≡ length piece + 1 = ap (λ (x : PieceEnd × ℕ). x.1) same_end in
+      let all : take count received ≡ piece ++ 0 ∷ [] = take_all count received (omega (arith, counted, ap length whole, length-append piece (0 ∷ []))) ∙ whole in
+      t.holds [] idle ∙ ap (λ (x : List ℕ). overwritten buffer (output x)) (ap last_piece all ∙ last piece n (no_outcomes piece n is.1) ∙ same piece is.1)
+
+pub returns-clause-cut_off : goal.returns-clause-cut_off
+returns-clause-cut_off g c = cut_off _ _ _ _ _ ((c.law_14.ensures.idle _ _).1 c.requires) c.law_9.ensures.none c.law_9.ensures.same c.law_12.ensures.last _ c.feed_piece.ensures.takes
+
+pub returns-clause-ended : goal.returns-clause-ended
+returns-clause-ended g c = λ piece is whole.
+    let takes = c.feed_piece.ensures.takes in
+    ended _ _ _ _ _ ((c.law_14.ensures.idle _ _).1 c.requires) c.law_9.ensures.none c.law_9.ensures.same c.law_12.ensures.last_ended _ takes piece is whole
+    (c.law_18.ensures.ends _ _ piece [] _ _ _ (rw whole at takes) c.requires is)

@@ -1,0 +1,212 @@
+//! Coders of a user's own, proved from the laws only, and an encoder in a state that another program kept.
+ghost use Rattle.std.specs.Prelude.{◌≡◌, ◌≤◌, ◌<◌, ◌^◌, ◌↔◌, List, ℕ, length, take, IfOk, IsOk, IsTrue};
+ghost use Rattle.cobs.specs.Feed.{Feeds};
+ghost use Rattle.cobs.specs.FeedPiece.{TakesPiece, end_told};
+ghost use Rattle.cobs.specs.Fields.Decoders.{phase_of};
+ghost use Rattle.cobs.specs.Fields.Encoders.{reached_by};
+ghost use Rattle.cobs.specs.Grammar.{IsCanonical, IsEncodedFrame, IsFrame, Reads};
+ghost use Rattle.cobs.specs.Headline.{IsPiece};
+ghost use Rattle.cobs.specs.Length.{encoded_len, max_encoded_len};
+ghost use Rattle.cobs.specs.OpenBlock.{HasRoomFor};
+ghost use Rattle.cobs.specs.Piece.{is_whole, kept_output};
+ghost use Rattle.cobs.specs.Sentinel.{IsEncodedFrameFor};
+
+use cobs::laws::{law_1, law_4, law_6, law_15, law_16, law_17, law_19, law_20};
+use cobs::{
+    DecodeError, DecoderPhase, DestBufTooSmallError, FrameKind, PieceEnd, UnbufferedDecoder,
+    UnbufferedEncoder, encode, encode_with_sentinel,
+};
+use std::alloc::{AllocError, Global};
+
+/// The code of a full block.
+const FULL: usize = 255;
+
+/// Takes the last bytes of a message and ends it, in whatever state the encoder is: it does exactly if there is room.
+pub fn end_with(
+    encoder: &mut UnbufferedEncoder,
+    bytes: &[u8],
+    buffer: &mut [u8],
+) -> Result<usize, DestBufTooSmallError>
+    ensures { IsOk result ↔ HasRoomFor (length buffer.old) (reached_by encoder.old) bytes.now }
+{
+    encoder.push(buffer, bytes)?;
+    encoder.finalize(buffer)
+}
+
+/// Writes the frame for a link's sentinel; for 0 there is nothing to XOR.
+pub fn encode_for_link(message: &[u8], dest: &mut [u8], sentinel: u8) -> usize
+    requires { encoded_len message.now ≤ length dest.old }
+    ensures { IsEncodedFrameFor sentinel (take result dest.new) message.now }
+{
+    law_6();
+    if sentinel == 0 {
+        return encode(message, dest);
+    }
+    encode_with_sentinel(message, dest, sentinel)
+}
+
+/// The length of a message's frame, counted in one pass: nothing is written.
+pub fn frame_len(message: &[u8]) -> usize
+    requires { max_encoded_len (length message.now) < 2 ^ 64 }
+    ensures { result ≡ encoded_len message.now }
+{
+    law_4();
+    law_15();
+    let mut closed = 0;
+    let mut run = 0;
+    'by_byte: for byte in message {
+        if run == 254 {
+            closed += 255;
+            run = 0;
+        }
+        if *byte == 0 {
+            closed += run + 1;
+            run = 0;
+        } else {
+            run += 1;
+        }
+    }
+    closed + run + 1
+}
+
+/// Writes the frame of a message, byte by byte.
+pub fn encode_by_byte(message: &[u8], dest: &mut [u8]) -> usize
+    requires { encoded_len message.now ≤ length dest.old }
+    ensures { IsEncodedFrame (take result dest.new) message.now }
+{
+    law_4();
+    law_16();
+    let mut index = 0;
+    let mut code = 1u8;
+    let mut full = false;
+    'by_byte: for byte in message {
+        let next = index + code as usize;
+        if *byte == 0 {
+            dest[index] = code;
+            index = next;
+            code = 1;
+            full = false;
+        } else if code < 254 {
+            dest[next] = *byte;
+            code += 1;
+            full = false;
+        } else {
+            dest[next] = *byte;
+            dest[index] = 255;
+            index += 255;
+            code = 1;
+            full = true;
+        }
+    }
+    if full {
+        return index;
+    }
+    dest[index] = code;
+    index + code as usize
+}
+
+/// How the result for a zero ends a piece.
+fn piece_end(answer: Result<Option<usize>, DecodeError>) -> Option<PieceEnd>
+    ensures { result ≡ end_told answer }
+{
+    match answer {
+        Ok(None) | Err(DecodeError::EmptyFrame) => None,
+        Ok(Some(len)) => Some(PieceEnd::Message(len)),
+        Err(DecodeError::InvalidFrame { decoded_bytes }) => Some(PieceEnd::Broken(decoded_bytes)),
+        Err(DecodeError::TargetBufTooSmall) => Some(PieceEnd::TooLong),
+    }
+}
+
+/// Takes bytes one by one through the zero that ends the first piece, or all of them: this is `feed_piece`.
+pub fn feed_each(
+    decoder: &mut UnbufferedDecoder,
+    buffer: &mut [u8],
+    bytes: &[u8],
+) -> Option<(PieceEnd, usize)>
+    ensures { TakesPiece buffer.old (phase_of decoder.old) bytes.now result
+        buffer.new (phase_of decoder.new) }
+{
+    law_17();
+    'by_byte: for (i, byte) in bytes.iter().enumerate() {
+        let answer = decoder.feed(buffer, *byte);
+        if *byte == 0 {
+            if let Some(end) = piece_end(answer) {
+                return Some((end, i + 1));
+            }
+        }
+    }
+    None
+}
+
+/// Handles a byte, and leaves out the zeros between two frames: an idle decoder would only return that no piece has
+/// ended.
+pub fn feed_between(
+    decoder: &mut UnbufferedDecoder,
+    buffer: &mut [u8],
+    byte: u8,
+) -> Result<Option<usize>, DecodeError>
+    ensures { Feeds buffer.old (phase_of decoder.old) byte result
+        buffer.new (phase_of decoder.new) }
+{
+    law_17();
+    match (byte, decoder.phase()) {
+        (0, DecoderPhase::Idle) => Ok(None),
+        _ => decoder.feed(buffer, byte),
+    }
+}
+
+/// Which frame a piece is, found from code to code.
+pub fn kind_by_code(piece: &[u8]) -> FrameKind
+    requires { IsPiece piece.now }
+    ensures frame { (result ≡ FrameKind.NotAFrame) ↔ ¬ IsFrame piece.now }
+    ensures canonical { (result ≡ FrameKind.Canonical) ↔ IsCanonical piece.now }
+{
+    law_19();
+    let mut read = 0;
+    let mut after_full = false;
+    'by_block: loop {
+        let code = piece[read] as usize;
+        let left = piece.len() - read;
+        if left < code {
+            return FrameKind::NotAFrame;
+        }
+        if left == code {
+            return if after_full && code == 1 {
+                FrameKind::Longer
+            } else {
+                FrameKind::Canonical
+            };
+        }
+        after_full = code == FULL;
+        read += code;
+    }
+}
+
+/// Decodes a piece from code to code: returns whether it is whole, and what its whole blocks give.
+pub fn decode_by_code(alloc: Global, piece: &[u8]) -> Result<(bool, Vec<u8>), AllocError>
+    requires { IsPiece piece.now }
+    ensures whole { IfOk result (λ found. found.0 ≡ is_whole piece.now) }
+    ensures kept { IfOk result (λ found. found.1.items ≡ kept_output piece.now) }
+    ensures reads { (m : List ℕ) → IfOk result (λ found.
+        (IsTrue found.0 × (found.1.items ≡ m)) ↔ Reads piece.now m) }
+{
+    law_1();
+    law_20();
+    let mut bytes = Vec::new(alloc);
+    let mut read = 0;
+    'by_block: loop {
+        let code = piece[read] as usize;
+        let left = piece.len() - read;
+        if left < code {
+            return Ok((false, bytes));
+        }
+        bytes.extend_from_slice(&piece[read + 1..read + code])?;
+        if left == code {
+            return Ok((true, bytes));
+        }
+        if code != FULL {
+            bytes.push(0)?;
+        }
+        read += code;
+    }
+}

@@ -1,0 +1,188 @@
+//! Receivers that read what `encode` wrote and nothing else, whichever way the bytes come. What each promises is proved
+//! only from the public clauses of `cobs`.
+ghost use Rattle.std.specs.Prelude.{◌≡◌, ◌≢◌, ◌≤◌, ◌<◌, ◌↔◌, ◌∷◌, ◌++◌, [], All, length, take, List, ℕ, IfOk, IfSome, IsSomeAnd, IsTrue};
+ghost use Rattle.cobs.specs.Feed.{DecoderAfter, Idle};
+ghost use Rattle.cobs.specs.FeedPiece.{outcome_at};
+ghost use Rattle.cobs.specs.Grammar.{HasNoZero, Reads};
+ghost use Rattle.cobs.specs.Headline.{BeginsWith, IsPiece};
+ghost use Rattle.cobs.specs.Overwritten.{overwritten};
+ghost use Rattle.cobs.specs.Piece.{output};
+ghost use Rattle.cobs.specs.Sentinel.{IsFreeOf, xor_each};
+ghost use Rattle.cobs.specs.Stream.{head, outcome_of};
+
+use crate::callers::reads_for;
+use cobs::laws::{law_6, law_9, law_12, law_14, law_18};
+use cobs::{
+    DecodeVecError, FrameDecoder, PieceEnd, UnbufferedDecoder, decode_in_place,
+    decode_in_place_report, decode_in_place_with_sentinel, decode_vec, decode_vec_with_sentinel,
+};
+use std::alloc::{AllocError, Global};
+
+/// Ends a piece whose bytes were fed one by one: it reads as the message that comes.
+pub fn end_piece<D: FrameDecoder>(decoder: &mut D) -> Option<usize>
+    ensures { (f : List ℕ) → DecoderAfter (D.bytes decoder.old) (D.phase decoder.old) f
+        → All (λ byte. byte < 256) f → IfSome result (λ n. Reads f (take n (D.bytes decoder.new))) }
+{
+    law_18();
+    match decoder.feed_byte(0) {
+        Ok(Some(len)) => Some(len),
+        Ok(None) => None,
+        Err(_) => None,
+    }
+}
+
+/// Reads a piece and its zero by any idle decoder: a message comes exactly if the piece reads as it and the buffer holds
+/// it.
+pub fn read_piece<D: FrameDecoder>(decoder: &mut D, ended: &[u8], piece: &[u8]) -> Option<usize>
+    requires idle { D.phase decoder.old ≡ Idle }
+    requires piece { IsPiece piece.now }
+    requires ended { ended.now ≡ piece.now ++ 0 ∷ [] }
+    ensures { (m : List ℕ) → (IsSomeAnd result (λ n. BeginsWith (D.bytes decoder.new) n m)
+        ↔ (Reads piece.now m × (length m ≤ length (D.bytes decoder.old)))) }
+{
+    law_18();
+    match decoder.feed_piece(ended) {
+        Some((PieceEnd::Message(len), _)) => Some(len),
+        Some((PieceEnd::Broken(_), _)) => None,
+        Some((PieceEnd::TooLong, _)) => None,
+        None => None,
+    }
+}
+
+/// What becomes of a piece and its zero in any idle decoder: the piece and the buffer's length alone determine it.
+pub fn end_of<D: FrameDecoder>(decoder: &mut D, ended: &[u8], piece: &[u8]) -> PieceEnd
+    requires idle { D.phase decoder.old ≡ Idle }
+    requires piece { IsPiece piece.now }
+    requires ended { ended.now ≡ piece.now ++ 0 ∷ [] }
+    ensures { outcome_at result (D.bytes decoder.new)
+        ≡ outcome_of piece.now (length (D.bytes decoder.old)) }
+{
+    law_18();
+    match decoder.feed_piece(ended) {
+        Some((end, _)) => end,
+        None => unreachable!(),
+    }
+}
+
+/// Reads what has come of a piece, with its zero or cut off: the buffer begins with what that decodes to, whether it is a
+/// frame, breaks off or is too long.
+pub fn salvage<D: FrameDecoder>(decoder: &mut D, received: &[u8]) -> Option<(PieceEnd, usize)>
+    requires { D.phase decoder.old ≡ Idle }
+    ensures cut_off { HasNoZero received.now
+        → D.bytes decoder.new ≡ overwritten (D.bytes decoder.old) (output received.now) }
+    ensures ended { (piece : List ℕ) → IsPiece piece → received.now ≡ piece ++ 0 ∷ []
+        → D.bytes decoder.new ≡ overwritten (D.bytes decoder.old) (output piece) }
+{
+    law_9();
+    law_12();
+    law_14();
+    law_18();
+    decoder.feed_piece(received)
+}
+
+/// Reads a piece and its zero by one push of a decoder that has no buffer.
+pub fn push_reads_unbuffered(ended: &[u8], piece: &[u8], dest: &mut [u8]) -> Option<usize>
+    requires piece { IsPiece piece.now }
+    requires ended { ended.now ≡ piece.now ++ 0 ∷ [] }
+    ensures { (m : List ℕ) → (IsSomeAnd result (λ n. BeginsWith dest.new n m)
+        ↔ (Reads piece.now m × (length m ≤ length dest.old))) }
+{
+    law_18();
+    match UnbufferedDecoder::new().push(dest, ended) {
+        Ok(Some(report)) => Some(report.frame_size()),
+        Ok(None) => None,
+        Err(_) => None,
+    }
+}
+
+/// The message of a piece in a vector, or `None` if the piece is no frame.
+pub fn message_of(alloc: Global, piece: &[u8]) -> Result<Option<Vec<u8>>, AllocError>
+    requires { IsPiece piece.now }
+    ensures { (m : List ℕ) → IfOk result (λ found.
+        IsSomeAnd found (λ message. message.items ≡ m) ↔ Reads piece.now m) }
+{
+    match decode_vec(alloc, piece) {
+        Ok(message) => Ok(Some(message)),
+        Err(DecodeVecError::Decode(_)) => Ok(None),
+        Err(DecodeVecError::Memory(error)) => Err(error),
+    }
+}
+
+/// The same of what is between two sentinels.
+pub fn message_for(
+    alloc: Global,
+    sentinel: u8,
+    between: &[u8],
+) -> Result<Option<Vec<u8>>, AllocError>
+    requires some { between.now ≢ [] }
+    requires free { IsFreeOf sentinel between.now }
+    ensures { (m : List ℕ) → IfOk result (λ found.
+        IsSomeAnd found (λ message. message.items ≡ m) ↔ Reads (xor_each sentinel between.now) m) }
+{
+    law_6();
+    match decode_vec_with_sentinel(alloc, between, sentinel) {
+        Ok(message) => Ok(Some(message)),
+        Err(DecodeVecError::Decode(_)) => Ok(None),
+        Err(DecodeVecError::Memory(error)) => Err(error),
+    }
+}
+
+/// Decodes a piece where it lies: its message is then at the front.
+pub fn message_in_place(piece: &mut [u8]) -> Option<usize>
+    requires { IsPiece piece.old }
+    ensures { (m : List ℕ) → (IsSomeAnd result (λ n. BeginsWith piece.new n m) ↔ Reads piece.old m) }
+{
+    match decode_in_place(piece) {
+        Ok(len) => Some(len),
+        Err(_) => None,
+    }
+}
+
+/// The same by the form that also says where the piece ended.
+pub fn report_in_place(piece: &mut [u8]) -> Option<usize>
+    requires { IsPiece piece.old }
+    ensures { (m : List ℕ) → (IsSomeAnd result (λ n. BeginsWith piece.new n m) ↔ Reads piece.old m) }
+{
+    match decode_in_place_report(piece) {
+        Ok(report) => Some(report.frame_size()),
+        Err(_) => None,
+    }
+}
+
+/// The same of what is between two sentinels.
+pub fn message_in_place_for(between: &mut [u8], sentinel: u8) -> Option<usize>
+    requires some { between.old ≢ [] }
+    requires free { IsFreeOf sentinel between.old }
+    ensures { (m : List ℕ) → (IsSomeAnd result (λ n. BeginsWith between.new n m)
+        ↔ Reads (xor_each sentinel between.old) m) }
+{
+    law_6();
+    match decode_in_place_with_sentinel(between, sentinel) {
+        Ok(len) => Some(len),
+        Err(_) => None,
+    }
+}
+
+/// Whether what is between two sentinels reads as the message, and the message fits the buffer.
+pub fn between_reads_as(sentinel: u8, between: &[u8], message: &[u8], buffer: &mut [u8]) -> bool
+    requires some { between.now ≢ [] }
+    requires free { IsFreeOf sentinel between.now }
+    ensures { IsTrue result ↔ (Reads (xor_each sentinel between.now) message.now
+        × (length message.now ≤ length buffer.old)) }
+{
+    law_6();
+    reads_for(sentinel, between, message, buffer)
+}
+
+/// What came before the first sentinel, or all of it.
+pub fn before_sentinel(received: &[u8], sentinel: u8) -> &[u8]
+    ensures { xor_each sentinel result.now ≡ head (xor_each sentinel received.now) }
+{
+    law_12();
+    'by_byte: for (at, byte) in received.iter().enumerate() {
+        if *byte == sentinel {
+            return &received[..at];
+        }
+    }
+    received
+}
