@@ -9,12 +9,12 @@ use Rattle.cobs_tool.specs.declared.input.TheConstants.{READ_LEN}
 abbrev pub max_input : ℕ
 max_input = 1048576
 
--- a call that answers `result` has read these bytes, of a reader that had the bytes `old` and has the bytes `new` left,
--- where it tells them
+-- a call that returns `result` has read these bytes, of a reader that had the bytes `old` and has the bytes `new` left,
+-- if they are known
 pub record HasRead {A : Type 0} (old new : Option (List ℕ)) (result : Result A ToolFault) : Type 0 where
   pub bytes : List ℕ
   pub consumed : Consumes old new bytes
-  -- more than the limit exactly where the answer is that the input is too long, and then the last read went past it
+  -- more than the limit exactly if the result is that the input is too long, and then the last read went past it
   pub too_long : (result ≡ Err InputTooLong) ↔ (max_input < length bytes)
   pub stopped : length bytes ≤ max_input + READ_LEN
   -- all that there were where the call succeeds or came to its writes

@@ -7,7 +7,7 @@ use Rattle.cobs_tool.specs.Text.{hex_line}
 use Rattle.cobs_tool.specs.declared.mode.Mode.{Mode}
 use Rattle.cobs_tool.specs.declared.mode.Mode.TheVariants.{Show, Encode, Decode}
 
--- a writer that tells its bytes has got some more, of which P holds
+-- a writer whose contents are known has got some more bytes, of which P holds
 abbrev pub WritesSome : (List ℕ → Type 0) → Option (List ℕ) → Option (List ℕ) → Type 0
 WritesSome P old new = (bytes : List ℕ) × P bytes × Appends old new bytes
 

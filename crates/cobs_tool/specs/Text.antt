@@ -5,7 +5,7 @@ use Rattle.hex.specs.Hex.{encode_lower}
 use Rattle.cobs_tool.specs.declared.fault.ToolFault.{ToolFault}
 use Rattle.cobs_tool.specs.declared.fault.ToolFault.TheVariants.{ReadFailed, WriteFailed, OutOfMemory, InputTooLong}
 
--- what standard error tells of a fault
+-- what standard error says of a fault
 abbrev pub fault_text : ToolFault → List ℕ
 fault_text ReadFailed = codes "cobs_tool: read failed"
 fault_text WriteFailed = codes "cobs_tool: write failed"

@@ -13,7 +13,7 @@ pub enum ToolFault {
     /// A write of the output failed. How much of it went out is not known.
     WriteFailed,
 
-    /// Memory was refused. Nothing has been written.
+    /// Memory ran out. Nothing has been written.
     OutOfMemory,
 
     /// The input has more bytes than the program reads. Nothing has been written.

@@ -16,7 +16,7 @@ pub const READ_LEN: usize = 8_192;
 ///
 /// - `ReadFailed`: a read failed. An interrupted read is a failed read, and is not tried again.
 /// - `InputTooLong`: a read brought the byte after the first [`MAX_INPUT`]. No memory was taken for that read.
-/// - `OutOfMemory`: memory for a read's bytes was refused.
+/// - `OutOfMemory`: memory for a read's bytes ran out.
 ///
 /// Nothing is read once a read has failed, has given 0 bytes or has brought too many.
 pub fn read_input<R: Read>(alloc: Global, input: &mut R) -> Result<Vec<u8>, ToolFault>

@@ -16,8 +16,8 @@ pub enum Mode {
 }
 
 /// The mode that the words after the program's name ask for: `Show` for no word and for the one word `show`, `Encode`
-/// for the one word `encode`, `Decode` for the one word `decode`, and `None` for all others, which the program answers
-/// with its usage.
+/// for the one word `encode`, `Decode` for the one word `decode`, and `None` for all others, for which the program
+/// prints its usage.
 pub fn mode_of(words: &[String]) -> Option<Mode>
     ensures show { (result ≡ Some Mode.Show)
         ↔ ((texts words.now ≡ []) ⊎ (texts words.now ≡ codes "show" ∷ [])) }

@@ -42,7 +42,7 @@ pub fn run_mode<R: Read, W: Write>(
 ///
 /// - `ReadFailed`: a read failed. An interrupted read is a failed read.
 /// - `InputTooLong`: the reader gave more than [`MAX_INPUT`] bytes.
-/// - `OutOfMemory`: memory was refused for the input, its frame or the line.
+/// - `OutOfMemory`: memory ran out for the input, its frame or the line.
 /// - `WriteFailed`: a write or the flush failed.
 pub fn run_show<R: Read, W: Write>(
     alloc: Global,
@@ -64,7 +64,7 @@ pub fn run_show<R: Read, W: Write>(
 
 /// Writes the encoded frame of the input and a zero after it.
 ///
-/// The whole input is one message. It is read, and its faults are told, as [`run_show`] does it.
+/// The whole input is one message. It is read, and its faults are reported, as [`run_show`] does it.
 pub fn run_encode<R: Read, W: Write>(
     alloc: Global,
     input: &mut R,
@@ -85,7 +85,7 @@ pub fn run_encode<R: Read, W: Write>(
 /// Prints what becomes of each piece of the input, a stream of frames that are each ended by a zero, as
 /// [`report_of`] says it.
 ///
-/// The input is read, and its faults are told, as [`run_show`] does it.
+/// The input is read, and its faults are reported, as [`run_show`] does it.
 pub fn run_decode<R: Read, W: Write>(
     alloc: Global,
     input: &mut R,

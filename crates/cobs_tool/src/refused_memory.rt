@@ -1,7 +1,7 @@
 //! Out of memory in each mode.
 //!
-//! Each test here but the last passes whichever growth is refused: a mode writes its whole output, or answers out of
-//! memory and writes nothing. The last one passes only where no growth is refused. `tests/fail-alloc.sh` refuses the
+//! Each test here but the last passes whichever growth fails: a mode writes its whole output, or returns out of
+//! memory and writes nothing. The last one passes only if no growth fails. `tests/fail-alloc.sh` fails the
 //! growths one after another until that test passes.
 use crate::fault::ToolFault;
 use crate::mode::Mode;
@@ -34,7 +34,7 @@ impl Write for Page {
     }
 }
 
-/// Runs the mode, and answers whether it wrote its output.
+/// Runs the mode, and returns whether it wrote its output.
 fn writes(rt: &impl Abort, alloc: Global, mode: &Mode, input: &[u8], output: &[u8]) -> bool {
     let mut left = input;
     let mut page = Page {

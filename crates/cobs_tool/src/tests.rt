@@ -244,7 +244,7 @@ fn each_write_and_each_flush_may_fail(rt: HostRuntime) {
     check_writes(&rt, rt.alloc(), &ROWS);
 }
 
-/// The mode writes so many bytes of the longest input, and refuses one that is a byte longer, and one without end.
+/// The mode writes this many bytes of the longest input, and rejects one that is a byte longer, and one without end.
 fn check_limit(rt: &impl Abort, alloc: Global, mode: &Mode, zeros: &[u8], count: usize) {
     let mut output = Vec::new(alloc);
     let mut longest = zeros.split_last().map_or(zeros, |(_, front)| front);

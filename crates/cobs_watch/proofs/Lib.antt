@@ -1,4 +1,7 @@
 pub mod TallyLemmas
+pub mod TimeLemmas
 pub mod ShowLemmas
+pub mod SkipLemmas
+pub mod DumpLemmas
 pub mod RunLemmas
 pub mod SendLemmas

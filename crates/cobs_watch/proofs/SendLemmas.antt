@@ -1,5 +1,5 @@
 -- Lemmas on sending lines.
-use Rattle.std.proofs.Common.{◌≡◌, ◌≢◌, ◌↔◌, ◌==◌, ℕ, Bool, true, false, IsTrue, All, List, [], ◌∷◌, ◌++◌, refl, ap, ◌∙◌, append-nil, cond, sym, subst, append_assoc, ⊎_elim, Option, Some, None, IfSome, Result, Ok, Err}
+use Rattle.std.proofs.Common.{◌≡◌, ◌≢◌, ◌↔◌, ◌==◌, ℕ, Bool, true, false, IsTrue, All, List, [], ◌∷◌, ◌++◌, refl, ap, ◌∙◌, append-nil, sym, subst, append_assoc, ⊎_elim, Option, Some, None, IfSome, Result, Ok, Err}
 use Rattle.std.proofs.lemmas.Bool.{cases_Bool}
 use Rattle.std.specs.Prelude.{IsErrAnd}
 use Rattle.std.specs.List.{AllZip, concat}

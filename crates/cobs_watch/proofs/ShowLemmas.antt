@@ -1,81 +1,103 @@
 -- Lemmas on showing the pieces that end in some bytes.
-use Rattle.std.proofs.Common.{◌≡◌, ◌+◌, ◌-◌, ◌≤◌, ℕ, List, [], ◌∷◌, ◌++◌, length, take, drop, refl, sym, ap, ◌∙◌, subst, append_assoc, append-nil, arith, length-drop, take-append-drop, take_all, Option, Some, None}
-use Rattle.std.specs.List.{flat_map}
-use Rattle.std.proofs.lemmas.Grind.{flat_map-append}
+use Rattle.std.proofs.Common.{◌≡◌, ◌+◌, ◌-◌, ℕ, List, [], ◌∷◌, ◌++◌, length, take, drop, refl, sym, ap, ◌∙◌, subst, append_assoc, append-nil, arith, length-append, length-drop, take-append-drop, take_all, Option}
 use Rattle.std.proofs.Math.Seq.{take-add}
 use Rattle.std.proofs.KnownBytes.{Appends-nil, Appends-trans}
 use Rattle.std.specs.Io.KnownBytes.{Appends}
 use Rattle.cobs.specs.Stream.{Outcome, stream_outcomes, unended}
 use Rattle.cobs.specs.Feed.{DecoderAfter, Phase}
-use Rattle.cobs.specs.FeedPiece.{TakesPiece, outcome_at}
-use Rattle.cobs.specs.declared.dec.frame_decoder.PieceEnd.{PieceEnd}
 use Rattle.cobs.specs.Laws.{StreamLaw}
-use Rattle.cobs_watch.specs.Counted.{IsTallyOf}
-use Rattle.cobs_watch.specs.Shown.{shown, shown_pieces}
-use Rattle.cobs_watch.specs.declared.shown.Style.{Style}
+use Rattle.cobs_watch.specs.Counted.{IsTallyOf, counted}
+use Rattle.cobs_watch.specs.Live.{ShowsBytes}
+use Rattle.cobs_watch.specs.Seen.{Seen, seen_of}
+use Rattle.cobs_watch.specs.Shown.{in_view, shown, shown_from}
+use Rattle.cobs_watch.specs.Timed.{IsReadAt, time_of}
+use Rattle.cobs_watch.specs.declared.clock.Times.{Times}
+use Rattle.cobs_watch.specs.declared.shown.View.{View}
 use Rattle.cobs_watch.specs.declared.tally.Tally.{Tally}
 
--- what is shown of a stream in two parts
-pub shown_pieces-append : (law : StreamLaw) (style : Style) (n : ℕ) (t u : List ℕ) → shown_pieces style n (t ++ u) ≡ shown_pieces style n t ++ shown_pieces style n (unended t ++ u)
-shown_pieces-append law style n t u = ap (flat_map (shown style)) (law.cut t u n) ∙ flat_map-append (shown style) (stream_outcomes t n) (stream_outcomes (unended t ++ u) n)
+-- what is shown of outcomes, and of others behind them
+pub shown_from-append : (view : View) (times : ℕ → ℕ) (index : ℕ) (xs ys : List Outcome) → shown_from view times index (xs ++ ys) ≡ shown_from view times index xs ++ shown_from view times (index + length xs) ys
+unfolding shown_from
+shown_from-append view times index [] ys = ap (λ (k : ℕ). shown_from view times k ys) (omega arith)
+shown_from-append view times index (x ∷ xs) ys =
+    let next : index + 1 + length xs ≡ index + length (x ∷ xs) = omega arith in
+    ap (λ (l : List ℕ). shown view times index x ++ l) (shown_from-append view times (index + 1) xs ys ∙ ap (λ (k : ℕ). shown_from view times (index + 1) xs ++ shown_from view times k ys) next)
+    ∙ sym (append_assoc (shown view times index x) (shown_from view times (index + 1) xs) (shown_from view times (index + length (x ∷ xs)) ys))
 
--- a decoder over n bytes that had taken the front p of a piece has taken these bytes too, and the pieces that ended in them
--- are written and counted
-pub record HasTaken (style : Style) (n : ℕ) (p bytes buffer : List ℕ) (phase : Phase) (before after : Option (List ℕ)) (tally tally' : Tally) : Type 0 where
-  pub written : Appends before after (shown_pieces style n (p ++ bytes))
-  pub taken : DecoderAfter buffer phase (unended (p ++ bytes))
-  pub tallied : (outcomes : List Outcome) (read : ℕ) → IsTallyOf tally outcomes read → IsTallyOf tally' (outcomes ++ stream_outcomes (p ++ bytes) n) read
-  pub len : length buffer ≡ n
+pub shown_from-none : (view : View) (times : ℕ → ℕ) (index : ℕ) → shown_from view times index [] ≡ []
+unfolding shown_from
+shown_from-none view times index = refl
 
-pub HasTaken-start : (law : StreamLaw) (style : Style) (p buffer : List ℕ) (phase : Phase) (before : Option (List ℕ)) (tally : Tally) → DecoderAfter buffer phase p
-    → HasTaken style (length buffer) p [] buffer phase before before tally tally
-HasTaken-start law style p buffer phase before tally d =
+pub shown_from-one : (view : View) (times : ℕ → ℕ) (index : ℕ) (outcome : Outcome) → shown_from view times index (outcome ∷ []) ≡ shown view times index outcome
+unfolding shown_from
+shown_from-one view times index outcome = append-nil (shown view times index outcome)
+
+-- what is shown of an outcome, given the tally that counts it too, and the clock before it
+pub shown_now : (view : View) (times : ℕ → ℕ) (tally : Tally) (clock : Times) (gone : List Outcome) (outcome : Outcome) (read : ℕ) (before after : Option (List ℕ)) (seen : Seen) → seen ≡ seen_of view.checksum outcome
+    → IsTallyOf view.checksum tally (gone ++ outcome ∷ []) read → IsReadAt times (length gone) clock
+    → Appends before after (in_view view tally.pieces (time_of view.stamp clock.last clock.now) seen) → Appends before after (shown view times (length gone) outcome)
+shown_now view times tally clock gone outcome read before after seen same t r written =
+    let size : length (gone ++ outcome ∷ []) ≡ length gone + 1 = length-append gone (outcome ∷ []) in
+    let is : tally.pieces ≡ counted (length gone + 1) = t.pieces ∙ ap counted size in
+    let now : clock.now ≡ times (length gone + 1) = sym (r.now (length gone + 1) (omega arith)) in
+    subst (λ (s : Seen). Appends before after (in_view view (counted (length gone + 1)) (time_of view.stamp (times (length gone)) (times (length gone + 1))) s)) same
+    (subst (λ (k : ℕ). Appends before after (in_view view (counted (length gone + 1)) (time_of view.stamp (times (length gone)) k) seen)) now
+    (subst (λ (k : ℕ). Appends before after (in_view view (counted (length gone + 1)) (time_of view.stamp k clock.now) seen)) r.last
+    (subst (λ (k : ℕ). Appends before after (in_view view k (time_of view.stamp clock.last clock.now) seen)) is written)))
+
+pub ShowsBytes-start : (law : StreamLaw) (view : View) (times : ℕ → ℕ) (p buffer : List ℕ) (phase : Phase) (gone : List Outcome) (read : ℕ) (before : Option (List ℕ)) (tally : Tally) (clock : Times) → DecoderAfter buffer phase p
+    → IsTallyOf view.checksum tally gone read → IsReadAt times (length gone) clock → ShowsBytes view times (length buffer) p [] gone read buffer phase before before tally clock
+ShowsBytes-start law view times p buffer phase gone read before tally clock d t r =
     let none : stream_outcomes (p ++ []) (length buffer) ≡ [] = ap (λ (l : List ℕ). stream_outcomes l (length buffer)) (append-nil p) ∙ law.none p (length buffer) d.phased.piece in
     record {
-      written = rw none (Appends-nil before);
+      written = rw (none, shown_from-none view times (length gone)) (Appends-nil before);
       taken = rw (append-nil p, law.same p d.phased.piece) d;
-      tallied = λ outcomes read t. rw (none, append-nil) t;
+      tallied = rw (none, append-nil) t;
+      timed = rw (none, append-nil) r;
       len = refl;
     }
 
-module _ (law : StreamLaw) {style : Style} {n : ℕ} {p bytes buffer : List ℕ} {phase : Phase} {before after : Option (List ℕ)} {tally tally' : Tally}
-    (s : HasTaken style n p bytes buffer phase before after tally tally') (rest : List ℕ) where
+module _ (law : StreamLaw) {view : View} {times : ℕ → ℕ} {n : ℕ} {p bytes : List ℕ} {gone : List Outcome} {read : ℕ} {buffer : List ℕ} {phase : Phase} {before after : Option (List ℕ)} {tally : Tally} {clock : Times}
+    (s : ShowsBytes view times n p bytes gone read buffer phase before after tally clock) (rest : List ℕ) where
   left-on : unended (p ++ (bytes ++ rest)) ≡ unended (unended (p ++ bytes) ++ rest)
   left-on = ap unended (sym (append_assoc p bytes rest)) ∙ law.left (p ++ bytes) rest
 
   outcomes-on : stream_outcomes (p ++ (bytes ++ rest)) n ≡ stream_outcomes (p ++ bytes) n ++ stream_outcomes (unended (p ++ bytes) ++ rest) n
   outcomes-on = ap (λ (l : List ℕ). stream_outcomes l n) (sym (append_assoc p bytes rest)) ∙ law.cut (p ++ bytes) rest n
 
-  shown-on : shown_pieces style n (p ++ (bytes ++ rest)) ≡ shown_pieces style n (p ++ bytes) ++ shown_pieces style n (unended (p ++ bytes) ++ rest)
-  shown-on = ap (shown_pieces style n) (sym (append_assoc p bytes rest)) ∙ shown_pieces-append law style n (p ++ bytes) rest
-
   -- the bytes through the end of one more piece
-  pub HasTaken-piece : {buffer' : List ℕ} {phase' : Phase} {after' : Option (List ℕ)} {tally'' : Tally} (outcome : Outcome) → length buffer' ≡ length buffer → DecoderAfter buffer' phase' (unended (unended (p ++ bytes) ++ rest))
+  pub ShowsBytes-piece : {buffer' : List ℕ} {phase' : Phase} {after' : Option (List ℕ)} {tally' : Tally} {clock' : Times} (outcome : Outcome) → length buffer' ≡ length buffer → DecoderAfter buffer' phase' (unended (unended (p ++ bytes) ++ rest))
       → outcome ∷ [] ≡ stream_outcomes (unended (p ++ bytes) ++ rest) (length buffer)
-      → Appends after after' (shown style outcome)
-      → ((outcomes : List Outcome) (read : ℕ) → IsTallyOf tally' outcomes read → IsTallyOf tally'' (outcomes ++ outcome ∷ []) read)
-      → HasTaken style n p (bytes ++ rest) buffer' phase' before after' tally tally''
-  HasTaken-piece {after' = after'} outcome len taken told written counted =
+      → Appends after after' (shown view times (length (gone ++ stream_outcomes (p ++ bytes) n)) outcome)
+      → IsTallyOf view.checksum tally' ((gone ++ stream_outcomes (p ++ bytes) n) ++ outcome ∷ []) read
+      → IsReadAt times (length ((gone ++ stream_outcomes (p ++ bytes) n) ++ outcome ∷ [])) clock'
+      → ShowsBytes view times n p (bytes ++ rest) gone read buffer' phase' before after' tally' clock'
+  ShowsBytes-piece {after' = after'} outcome len taken told written counted timed =
       let one : outcome ∷ [] ≡ stream_outcomes (unended (p ++ bytes) ++ rest) n = subst (λ (k : ℕ). outcome ∷ [] ≡ stream_outcomes (unended (p ++ bytes) ++ rest) k) s.len told in
-      let text : shown_pieces style n (unended (p ++ bytes) ++ rest) ≡ shown style outcome = sym (ap (flat_map (shown style)) one) ∙ append-nil (shown style outcome) in
+      let text : shown_from view times (length gone) (stream_outcomes (p ++ (bytes ++ rest)) n) ≡ shown_from view times (length gone) (stream_outcomes (p ++ bytes) n) ++ shown view times (length (gone ++ stream_outcomes (p ++ bytes) n)) outcome =
+      ap (shown_from view times (length gone)) (outcomes-on ∙ ap (λ (l : List Outcome). stream_outcomes (p ++ bytes) n ++ l) (sym one))
+      ∙ shown_from-append view times (length gone) (stream_outcomes (p ++ bytes) n) (outcome ∷ [])
+      ∙ ap (λ (l : List ℕ). shown_from view times (length gone) (stream_outcomes (p ++ bytes) n) ++ l)
+      (shown_from-one view times (length gone + length (stream_outcomes (p ++ bytes) n)) outcome ∙ ap (λ (k : ℕ). shown view times k outcome) (sym (length-append gone (stream_outcomes (p ++ bytes) n)))) in
       record {
-        written = rw (shown-on, text) (Appends-trans before after after' _ _ s.written written);
+        written = rw text (Appends-trans before after after' _ _ s.written written);
         taken = rw left-on taken;
-        tallied = λ outcomes read t.
-            rw (outcomes-on, sym one, sym (append_assoc outcomes (stream_outcomes (p ++ bytes) n) (outcome ∷ []))) (counted (outcomes ++ stream_outcomes (p ++ bytes) n) read (s.tallied outcomes read t));
+        tallied = rw (outcomes-on, sym one, sym (append_assoc gone (stream_outcomes (p ++ bytes) n) (outcome ∷ []))) counted;
+        timed = rw (outcomes-on, sym one, sym (append_assoc gone (stream_outcomes (p ++ bytes) n) (outcome ∷ []))) timed;
         len = len ∙ s.len;
       }
 
   -- bytes in which no piece ends
-  pub HasTaken-rest : {buffer' : List ℕ} {phase' : Phase} → length buffer' ≡ length buffer → DecoderAfter buffer' phase' (unended (unended (p ++ bytes) ++ rest)) → [] ≡ stream_outcomes (unended (p ++ bytes) ++ rest) (length buffer)
-      → HasTaken style n p (bytes ++ rest) buffer' phase' before after tally tally'
-  HasTaken-rest len taken told =
+  pub ShowsBytes-rest : {buffer' : List ℕ} {phase' : Phase} → length buffer' ≡ length buffer → DecoderAfter buffer' phase' (unended (unended (p ++ bytes) ++ rest)) → [] ≡ stream_outcomes (unended (p ++ bytes) ++ rest) (length buffer)
+      → ShowsBytes view times n p (bytes ++ rest) gone read buffer' phase' before after tally clock
+  ShowsBytes-rest len taken told =
       let none : [] ≡ stream_outcomes (unended (p ++ bytes) ++ rest) n = subst (λ (k : ℕ). [] ≡ stream_outcomes (unended (p ++ bytes) ++ rest) k) s.len told in
-      let text : shown_pieces style n (unended (p ++ bytes) ++ rest) ≡ [] = sym (ap (flat_map (shown style)) none) in
+      let same : stream_outcomes (p ++ (bytes ++ rest)) n ≡ stream_outcomes (p ++ bytes) n = outcomes-on ∙ ap (λ (l : List Outcome). stream_outcomes (p ++ bytes) n ++ l) (sym none) ∙ append-nil (stream_outcomes (p ++ bytes) n) in
       record {
-        written = rw (shown-on, text, append-nil) s.written;
+        written = rw same s.written;
         taken = rw left-on taken;
-        tallied = λ outcomes read t. rw (outcomes-on, sym none, append-nil) (s.tallied outcomes read t);
+        tallied = rw same s.tallied;
+        timed = rw same s.timed;
         len = len ∙ s.len;
       }
 

@@ -1,14 +1,24 @@
 -- What is shown of a stream.
-use Rattle.std.specs.Prelude.{ℕ, ◌==◌, ◌&&◌, Bool, true, false, not, List, [], ◌∷◌, ◌++◌, length, codes, if◌then◌else◌}
+use Rattle.std.specs.Prelude.{ℕ, ◌+◌, ◌==◌, ◌&&◌, nat_le, Bool, true, false, not, List, [], ◌∷◌, ◌++◌, length, codes, if◌then◌else◌}
 use Rattle.std.specs.Fmt.{decimal}
-use Rattle.std.specs.List.{flat_map, list_all}
+use Rattle.std.specs.List.{list_all, starts_with}
 use Rattle.std.specs.Str.{chars}
 use Rattle.std.specs.Str.Lossy.{utf8_valid_len}
 use Rattle.std.specs.Char.{is_control}
-use Rattle.cobs.specs.Stream.{Outcome, Message, Broken, TooLong, is_nonempty, unended, stream_outcomes}
-use Rattle.cobs_lines.specs.Lines.{outcome_line}
+use Rattle.cobs.specs.Stream.{Outcome, is_nonempty, unended, stream_outcomes}
+use Rattle.cobs_lines.specs.Lines.{spaced_digits}
+use Rattle.cobs_watch.specs.Counted.{counted}
+use Rattle.cobs_watch.specs.Dump.{dump}
+use Rattle.cobs_watch.specs.Json.{json}
+use Rattle.cobs_watch.specs.Seen.{Seen, seen_of, title}
+use Rattle.cobs_watch.specs.Timed.{stamped, time_of}
+use Rattle.cobs_watch.specs.declared.clock.Stamp.{Stamp}
+use Rattle.cobs_watch.specs.declared.seen.Kind.{Kind}
+use Rattle.cobs_watch.specs.declared.seen.Kind.TheVariants.{Message, Broken, TooLong, BadCrc}
+use Rattle.cobs_watch.specs.declared.shown.Filter.{Filter}
+use Rattle.cobs_watch.specs.declared.shown.View.{View}
 use Rattle.cobs_watch.specs.declared.shown.Style.{Style}
-use Rattle.cobs_watch.specs.declared.shown.Style.TheVariants.{Hex, Text, Raw}
+use Rattle.cobs_watch.specs.declared.shown.Style.TheVariants.{Hex, Text, Raw, Hexdump, Json}
 use Rattle.cobs_watch.specs.declared.tally.Tally.{Tally}
 
 -- whether the bytes are UTF-8 without control characters
@@ -20,36 +30,86 @@ abbrev pub spaced : List ℕ → List ℕ
 spaced [] = []
 spaced (byte ∷ bytes) = codes " " ++ (byte ∷ bytes)
 
--- the line of a message as text
-abbrev pub text_line : List ℕ → List ℕ
-text_line message = codes "message " ++ decimal (length message) ++ spaced message ++ codes "\n"
+-- a piece's line, with its bytes as digits, as text, and sixteen a line below it
+abbrev pub hex_line : Seen → List ℕ
+hex_line seen = title seen.kind seen.len ++ spaced_digits seen.bytes ++ codes "\n"
 
--- what is shown of an outcome
-abbrev pub shown : Style → Outcome → List ℕ
-shown Hex outcome = outcome_line outcome
-shown Text (Message message) = if is_plain message then text_line message else outcome_line (Message message)
-shown Text (Broken count) = outcome_line (Broken count)
-shown Text TooLong = outcome_line TooLong
-shown Raw (Message message) = message ++ codes "\n"
-shown Raw (Broken count) = []
-shown Raw TooLong = []
+abbrev pub text_line : Seen → List ℕ
+text_line seen = title seen.kind seen.len ++ (if is_plain seen.bytes then spaced seen.bytes else spaced_digits seen.bytes) ++ codes "\n"
+
+abbrev pub dump_lines : Seen → List ℕ
+dump_lines seen = title seen.kind seen.len ++ codes "\n" ++ dump seen.bytes
+
+-- a message's bytes and a newline, and nothing of other pieces
+abbrev pub raw_of : Kind → List ℕ → List ℕ
+raw_of Message bytes = bytes ++ codes "\n"
+raw_of Broken bytes = []
+raw_of TooLong bytes = []
+raw_of BadCrc bytes = []
+
+-- what a style makes of a piece that has this number and time
+abbrev pub styled : Style → ℕ → Stamp → ℕ → Seen → List ℕ
+styled Hex number stamp time seen = hex_line seen
+styled Text number stamp time seen = text_line seen
+styled Raw number stamp time seen = raw_of seen.kind seen.bytes
+styled Hexdump number stamp time seen = dump_lines seen
+styled Json number stamp time seen = json number stamp time seen
+
+-- the time of a piece in front of its line, which JSON has inside, and raw bytes haven't
+abbrev pub in_front : Style → Stamp → ℕ → List ℕ
+in_front Hex stamp time = stamped stamp time
+in_front Text stamp time = stamped stamp time
+in_front Raw stamp time = []
+in_front Hexdump stamp time = stamped stamp time
+in_front Json stamp time = []
+
+-- the number of a piece in front of its line
+abbrev pub numbered : Bool → ℕ → List ℕ
+numbered true number = decimal number ++ codes " "
+numbered false number = []
+
+-- the kinds of pieces that a filter lets through
+abbrev pub has_kind : Filter → Kind → Bool
+has_kind filter Message = filter.messages
+has_kind filter Broken = filter.broken
+has_kind filter TooLong = filter.too_long
+has_kind filter BadCrc = filter.bad_crc
+
+-- whether a filter lets a piece through: by its kind, its length and its first bytes
+abbrev pub passes : Filter → Seen → Bool
+passes filter seen = has_kind filter seen.kind && (nat_le filter.min seen.len && (nat_le seen.len filter.max && starts_with (λ a b. a == b) seen.bytes filter.prefix.items))
+
+-- what a view makes of a piece that has this number and time
+abbrev pub in_view : View → ℕ → ℕ → Seen → List ℕ
+in_view view number time seen = if passes view.filter seen then in_front view.style view.stamp time ++ numbered view.number number ++ styled view.style number view.stamp time seen else []
+
+-- WHAT IS SHOWN OF AN OUTCOME that this many others have gone before: the outcomes are numbered from 1 on, and each has a time
+abbrev pub shown : View → (ℕ → ℕ) → ℕ → Outcome → List ℕ
+shown view times index outcome = in_view view (counted (index + 1)) (time_of view.stamp (times index) (times (index + 1))) (seen_of view.checksum outcome)
+
+-- what is shown of outcomes that this many others have gone before
+unfoldable pub shown_from : View → (ℕ → ℕ) → ℕ → List Outcome → List ℕ
+shown_from view times index [] = []
+shown_from view times index (outcome ∷ outcomes) = shown view times index outcome ++ shown_from view times (index + 1) outcomes
 
 -- what is shown of all pieces that have ended in a stream, over a buffer of n bytes
-abbrev pub shown_pieces : Style → ℕ → List ℕ → List ℕ
-shown_pieces style n stream = flat_map (shown style) (stream_outcomes stream n)
+abbrev pub shown_pieces : View → (ℕ → ℕ) → ℕ → List ℕ → List ℕ
+shown_pieces view times n stream = shown_from view times 0 (stream_outcomes stream n)
 
 -- what is shown after a stream that has come to its end: whether a piece has begun that no zero ended
 abbrev pub shown_end : Style → Bool → List ℕ
 shown_end style false = []
 shown_end Hex true = codes "unfinished\n"
 shown_end Text true = codes "unfinished\n"
+shown_end Hexdump true = codes "unfinished\n"
+shown_end Json true = codes "{\"kind\":\"unfinished\"}\n"
 shown_end Raw true = []
 
 -- what is shown of a stream that has come to its end
-abbrev pub shown_stream : Style → ℕ → List ℕ → List ℕ
-shown_stream style n stream = shown_pieces style n stream ++ shown_end style (is_nonempty (unended stream))
+abbrev pub shown_stream : View → (ℕ → ℕ) → ℕ → List ℕ → List ℕ
+shown_stream view times n stream = shown_pieces view times n stream ++ shown_end view.style (is_nonempty (unended stream))
 
--- the text of how much came
+-- the text of how much came; where messages are to end with checksums, how many were wrong too
 abbrev pub tally_text : Tally → List ℕ
 tally_text tally =
-    codes "messages " ++ decimal tally.messages ++ codes ", broken " ++ decimal tally.broken ++ codes ", too long " ++ decimal tally.too_long ++ codes ", bytes " ++ decimal tally.bytes
+    codes "messages " ++ decimal tally.messages ++ codes ", broken " ++ decimal tally.broken ++ codes ", too long " ++ decimal tally.too_long ++ (if tally.checked then codes ", bad crc " ++ decimal tally.bad_crc else []) ++ codes ", bytes " ++ decimal tally.bytes

@@ -1,5 +1,5 @@
 -- What a run has read, and what it has written of it.
-use Rattle.std.specs.Prelude.{ℕ, ◌≡◌, ◌≢◌, ◌⊎◌, ◌≤◌, Bool, List, [], length, Option, Result, Ok, Err}
+use Rattle.std.specs.Prelude.{ℕ, ◌≡◌, ◌≢◌, ◌⊎◌, ◌≤◌, ◌==◌, Bool, true, false, List, [], ◌∷◌, length, Option, Result, Ok, Err, if◌then◌else◌}
 use Rattle.std.specs.Io.KnownBytes.{Appends, Consumes, IsAtEnd, Keeps}
 use Rattle.std.specs.IoError.{error_kind}
 use Rattle.std.specs.declared.io.Error.{Error}
@@ -8,6 +8,7 @@ use Rattle.cobs.specs.Sentinel.{xor_each}
 use Rattle.cobs.specs.Stream.{stream_outcomes}
 use Rattle.cobs_watch.specs.Counted.{IsTallyOf}
 use Rattle.cobs_watch.specs.Shown.{shown_pieces, shown_stream}
+use Rattle.cobs_watch.specs.Timed.{IsTimeline}
 use Rattle.cobs_watch.specs.declared.fault.WatchFault.{WatchFault}
 use Rattle.cobs_watch.specs.declared.fault.WatchFault.TheVariants.{ReadFailed, WriteFailed, OutputClosed, OutOfMemory}
 use Rattle.cobs_watch.specs.declared.shown.Settings.{Settings}
@@ -15,28 +16,42 @@ use Rattle.cobs_watch.specs.declared.tally.Tally.{Tally}
 use Rattle.cobs_watch.specs.declared.options.Task.{Task}
 use Rattle.cobs_watch.specs.declared.options.Task.TheVariants.{Show, Send}
 
--- the stream of frames for the sentinel 0 that these bytes are
-abbrev pub stream_of : Settings → List ℕ → List ℕ
-stream_of settings bytes = xor_each settings.sentinel bytes
+-- what follows the first zero, if the bytes up to it are skipped
+abbrev pub begun : Bool → List ℕ → List ℕ
+begun false t = t
+begun true [] = []
+begun true (byte ∷ bytes) = if byte == 0 then bytes else begun true bytes
 
--- these bytes were read from a reader that had `from` left and has `to` left, and what a writer holds grew by this text
--- of them, from `before` to `after`
-pub record HasWritten (text : List ℕ → List ℕ) (from to before after : Option (List ℕ)) : Type 0 where
+-- whether the first zero is still awaited after these bytes
+abbrev pub skips_on : Bool → List ℕ → Bool
+skips_on false t = false
+skips_on true [] = true
+skips_on true (byte ∷ bytes) = if byte == 0 then false else skips_on true bytes
+
+-- the stream of frames for the sentinel 0 that these bytes are; with `skip_first`, from behind the first sentinel on
+abbrev pub stream_of : Settings → List ℕ → List ℕ
+stream_of settings bytes = begun settings.skip_first (xor_each settings.sentinel bytes)
+
+-- these bytes were read from a reader that had `from` left and has `to` left, their pieces at these times, and what a
+-- writer holds grew by this text of them, from `before` to `after`
+pub record HasWritten (text : (ℕ → ℕ) → List ℕ → List ℕ) (from to before after : Option (List ℕ)) : Type 0 where
   pub bytes : List ℕ
+  pub times : ℕ → ℕ
+  pub timeline : IsTimeline times
   pub read : Consumes from to bytes
-  pub written : Appends before after (text bytes)
+  pub written : Appends before after (text times bytes)
 
 -- the text of a whole stream is written, and the tally is that of its pieces and bytes
 pub record HasShownAll (settings : Settings) (tally : Tally) (from to before after : Option (List ℕ)) : Type 0 where
-  pub all : HasWritten (λ bytes. shown_stream settings.style settings.length (stream_of settings bytes)) from to before after
-  pub tallied : IsTallyOf tally (stream_outcomes (stream_of settings all.bytes) settings.length) (length all.bytes)
+  pub all : HasWritten (λ times bytes. shown_stream settings.view times settings.length (stream_of settings bytes)) from to before after
+  pub tallied : IsTallyOf settings.view.checksum tally (stream_outcomes (stream_of settings all.bytes) settings.length) (length all.bytes)
   pub end : IsAtEnd to
 
 -- a run of `show`, by its result: all that came is shown, also of a stream whose next read failed
 abbrev pub HasShown : Settings → Result Tally WatchFault → (from to before after : Option (List ℕ)) → Type 0
 HasShown settings (Ok tally) from to before after = HasShownAll settings tally from to before after
 HasShown settings (Err ReadFailed) from to before after =
-    HasWritten (λ bytes. shown_pieces settings.style settings.length (stream_of settings bytes)) from to before after
+    HasWritten (λ times bytes. shown_pieces settings.view times settings.length (stream_of settings bytes)) from to before after
 HasShown settings (Err OutOfMemory) from to before after = Keeps from to × Keeps before after
 HasShown settings (Err WriteFailed) from to before after = Unit {0}
 HasShown settings (Err OutputClosed) from to before after = Unit {0}

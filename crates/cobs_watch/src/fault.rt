@@ -21,7 +21,7 @@ pub enum WatchFault {
     #[error("output closed")]
     OutputClosed,
 
-    /// Memory was refused: at the start of `show`, which has then read and written nothing; or for a line of `send`.
+    /// Memory ran out: at the start of `show`, which has then read and written nothing; or for a line of `send`.
     #[error("out of memory")]
     OutOfMemory,
 }

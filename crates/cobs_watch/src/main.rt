@@ -9,15 +9,24 @@
 //! | one that breaks off inside a block and decodes to N bytes | `broken N` |
 //! | one that decodes to more bytes than are held | `too long` |
 //!
+//! Options show messages as text, as bytes, as `hexdump -C` does or as JSON, number the pieces, and hold some of them
+//! back. `cobs_watch --help` lists them.
+//!
 //! `cobs_watch send` reads lines and sends each one as a frame and its sentinel.
 //!
 //! At the end of the input `unfinished` says that a piece has begun that no sentinel ended. The status is then 0. It is
-//! 1 where a read or a write failed or memory was refused, with a line on standard error, and 2 for wrong arguments, with
+//! 1 where a read or a write failed or memory ran out, with a line on standard error, and 2 for wrong arguments, with
 //! the usage. Where nobody reads the output any more, the program ends with status 0.
 #![tactic(auto)]
 
+mod clock;
+mod crc;
+mod dump;
 mod fault;
+mod json;
+mod line;
 mod options;
+mod seen;
 mod send;
 mod show;
 mod shown;
@@ -25,6 +34,7 @@ mod tally;
 #[cfg(test)]
 mod tests;
 
+use clock::Timer;
 use fault::WatchFault;
 use options::{Task, task_of};
 use send::run_send;
@@ -33,6 +43,9 @@ use std::env;
 use std::io::{BufReader, BufWriter};
 use std::process::ExitCode;
 use tally::Tally;
+
+/// How many bytes of output are held before they are written, 128 KiB: the digits of a chunk of input.
+const OUTPUT_LEN: usize = 131_072;
 
 fn main(rt: HostRuntime) -> anyhow::Result<ExitCode> {
     let words: Vec<String> = env::args(&rt)?.collect(rt.alloc())?;
@@ -43,10 +56,11 @@ fn main(rt: HostRuntime) -> anyhow::Result<ExitCode> {
             return Ok(ExitCode::from(error.exit_code() as u8));
         }
     };
-    let mut output = BufWriter::new(rt.alloc(), rt.stdout())?;
+    let mut output = BufWriter::with_capacity(rt.alloc(), OUTPUT_LEN, rt.stdout())?;
     match task {
         Task::Show { settings, count } => {
-            let tally = run_show(rt.alloc(), &settings, &mut rt.stdin(), &mut output);
+            let timer = Timer::new(&rt, settings.view.stamp)?;
+            let tally = run_show(rt.alloc(), &settings, &timer, &mut rt.stdin(), &mut output);
             Ok(show_ended(&rt, tally, count))
         }
         Task::Send(settings) => {
@@ -63,7 +77,7 @@ fn main(rt: HostRuntime) -> anyhow::Result<ExitCode> {
     }
 }
 
-/// The status of a run of `show` that ended so, and what it tells on standard error.
+/// The status of a run of `show` that ended so, and what it says on standard error.
 fn show_ended(rt: &HostRuntime, tally: Result<Tally, WatchFault>, count: bool) -> ExitCode {
     match tally {
         Ok(tally) => {
@@ -76,7 +90,7 @@ fn show_ended(rt: &HostRuntime, tally: Result<Tally, WatchFault>, count: bool) -
     }
 }
 
-/// The status of a run of `send` that ended so, and what it tells on standard error.
+/// The status of a run of `send` that ended so, and what it says on standard error.
 fn send_ended(rt: &HostRuntime, sent: Result<bool, WatchFault>) -> ExitCode {
     match sent {
         Ok(true) => ExitCode::SUCCESS,

@@ -2,8 +2,11 @@
 ghost use Rattle.std.specs.Prelude.{◌≡◌, ◌≤◌, IfOk};
 ghost use Rattle.cobs_watch.specs.Watched.{IsOffered};
 
+use crate::clock::Stamp;
+use crate::crc::{Checksum, Crc};
 use crate::send;
-use crate::shown::{Settings, Style};
+use crate::shown::{Filter, Settings, Style, View};
+use clap::error::ErrorKind;
 use clap::{Arg, ArgAction, ArgMatches, Command, Error, value_parser};
 use std::alloc::Global;
 
@@ -12,6 +15,9 @@ pub const MAX_LENGTH: usize = 16_777_216;
 
 /// The length in bytes of the longest message, where none is asked for.
 const LENGTH: &str = "65536";
+
+/// The names of checksums.
+const CRCS: [&str; 4] = ["crc-8", "crc-16-ccitt-false", "crc-16-modbus", "crc-32"];
 
 /// What the program is to do.
 #[derive(Debug, PartialEq, Eq, Drop)]
@@ -33,10 +39,11 @@ pub fn task_of(alloc: Global, words: &[String]) -> Result<Task, Error>
         alloc,
         Command::new(alloc, "show").about("Show the frames that come on standard input"),
     )?;
-    let digits = Arg::new(alloc, "hex")
-        .long("hex")
-        .action(ArgAction::SetTrue)
-        .help("Each line is the hexadecimal digits of a message");
+    let digits = flag(
+        alloc,
+        "hex",
+        "Each line is the hexadecimal digits of a message",
+    );
     let send = Command::new(alloc, "send")
         .about("Send each line of standard input as a frame")
         .arg(digits)?
@@ -55,8 +62,8 @@ pub fn task_of(alloc: Global, words: &[String]) -> Result<Task, Error>
         }));
     }
     match matches.subcommand_matches("show") {
-        Some(shown) => Ok(show_task(shown)),
-        None => Ok(show_task(&matches)),
+        Some(shown) => show_task(alloc, shown),
+        None => show_task(alloc, &matches),
     }
 }
 
@@ -77,55 +84,216 @@ fn sentinel_of(matches: &ArgMatches<'_>) -> u8 {
 
 /// The command with the options of `show`.
 fn with_show_options<'a>(alloc: Global, command: Command<'a>) -> Result<Command<'a>, Error> {
-    let text = Arg::new(alloc, "text")
-        .long("text")
-        .action(ArgAction::SetTrue)
-        .conflicts_with("raw")?
-        .help("Show messages as text where they are UTF-8 without control characters");
-    let raw = Arg::new(alloc, "raw")
-        .long("raw")
-        .action(ArgAction::SetTrue)
-        .help("Write the bytes of messages, each followed by a newline, and nothing else");
-    let length = Arg::new(alloc, "length")
-        .long("length")
-        .value_name("N")
+    let length = number_option(alloc, "length", "The longest message, in bytes")
         .value_parser(value_parser!(u32).range(0..16_777_217))
-        .default_value(LENGTH)
-        .help("The longest message, in bytes");
-    let count = Arg::new(alloc, "count")
-        .long("count")
-        .action(ArgAction::SetTrue)
-        .help(
-            "At the end, count messages, broken pieces, too long ones and bytes on standard error",
-        );
+        .default_value(LENGTH);
+    let skip_first = flag(
+        alloc,
+        "skip-first",
+        "Skip all bytes up to the first sentinel: the line may be in the middle of a frame",
+    );
+    let count = flag(
+        alloc,
+        "count",
+        "At the end, count messages, broken pieces, too long ones and bytes on standard error",
+    );
+    let number = flag(
+        alloc,
+        "number",
+        "Begin each line with the number of its piece; those that aren't shown are counted too",
+    );
+    let command = with_styles(alloc, command)?
+        .arg(number)?
+        .arg(time_option(alloc)?)?;
+    let command = with_checksum(alloc, with_filters(alloc, command)?)?;
     Ok(
         command
-            .arg(text)?
-            .arg(raw)?
             .arg(length)?
             .arg(sentinel_option(alloc))?
+            .arg(skip_first)?
             .arg(count)?,
     )
 }
 
+/// The option that says which time of each piece is shown.
+fn time_option<'a>(alloc: Global) -> Result<Arg<'a>, Error> {
+    Ok(
+        Arg::new(alloc, "time")
+            .long("time")
+            .value_name("CLOCK")
+            .value_parser(["start", "last", "utc"].as_slice())
+            .help(
+                "Begin each line with the time at which it came: since the start, since the piece before it, or UTC",
+            )
+            .conflicts_with("raw")?,
+    )
+}
+
+/// The time that was asked for.
+fn stamp_of(matches: &ArgMatches<'_>) -> Stamp {
+    match matches.get_str("time") {
+        Some("start") => Stamp::Start,
+        Some("last") => Stamp::Last,
+        Some("utc") => Stamp::Utc,
+        Some(_) | None => Stamp::Untimed,
+    }
+}
+
+/// The command with the options of the checksum of messages.
+fn with_checksum<'a>(alloc: Global, command: Command<'a>) -> Result<Command<'a>, Error> {
+    let crc = Arg::new(alloc, "crc")
+        .long("crc")
+        .value_name("NAME")
+        .value_parser(CRCS.as_slice())
+        .help("The checksum at the end of each message");
+    let order = Arg::new(alloc, "crc-order")
+        .long("crc-order")
+        .value_name("ORDER")
+        .value_parser(["big", "little"].as_slice())
+        .requires_arg("crc")?
+        .help(
+            "Its first byte: the highest (big; crc-8, crc-16-ccitt-false) or the lowest (little; the others)",
+        );
+    Ok(command.arg(crc)?.arg(order)?)
+}
+
+/// The checksum that was asked for, if any.
+fn checksum_of(matches: &ArgMatches<'_>) -> Option<Checksum> {
+    let crc = match matches.get_str("crc")? {
+        "crc-8" => Crc::Crc8,
+        "crc-16-ccitt-false" => Crc::Crc16CcittFalse,
+        "crc-16-modbus" => Crc::Crc16Modbus,
+        _ => Crc::Crc32,
+    };
+    let little = match matches.get_str("crc-order") {
+        Some(order) => order == "little",
+        None => matches!(crc, Crc::Crc16Modbus | Crc::Crc32),
+    };
+    Some(Checksum { crc, little })
+}
+
+/// An option without a value.
+fn flag<'a>(alloc: Global, name: &'a str, help: &'a str) -> Arg<'a> {
+    Arg::new(alloc, name)
+        .long(name)
+        .action(ArgAction::SetTrue)
+        .help(help)
+}
+
+/// An option whose value is a number.
+fn number_option<'a>(alloc: Global, name: &'a str, help: &'a str) -> Arg<'a> {
+    Arg::new(alloc, name)
+        .long(name)
+        .value_name("N")
+        .value_parser(value_parser!(u64))
+        .help(help)
+}
+
+/// The command with the options that say how pieces are shown.
+fn with_styles<'a>(alloc: Global, command: Command<'a>) -> Result<Command<'a>, Error> {
+    let text = flag(
+        alloc,
+        "text",
+        "Show messages as text if they are UTF-8 without control characters",
+    )
+    .conflicts_with("raw")?
+    .conflicts_with("hexdump")?
+    .conflicts_with("json")?;
+    let raw = flag(
+        alloc,
+        "raw",
+        "Write the bytes of messages, each followed by a newline, and nothing else",
+    )
+    .conflicts_with("hexdump")?
+    .conflicts_with("json")?
+    .conflicts_with("number")?;
+    let hexdump = flag(
+        alloc,
+        "hexdump",
+        "Show messages as `hexdump -C` does: offset, bytes, characters",
+    )
+    .conflicts_with("json")?;
+    let json = flag(
+        alloc,
+        "json",
+        "Show each piece as an object of JSON, on a line",
+    )
+    .conflicts_with("number")?;
+    Ok(command.arg(text)?.arg(raw)?.arg(hexdump)?.arg(json)?)
+}
+
+/// The command with the options that say which pieces are shown.
+fn with_filters<'a>(alloc: Global, command: Command<'a>) -> Result<Command<'a>, Error> {
+    let only = Arg::new(alloc, "only")
+        .long("only")
+        .value_name("KIND")
+        .action(ArgAction::Append)
+        .value_parser(["message", "broken", "too-long", "bad-crc"].as_slice())
+        .help("Show pieces of this kind; give it again for another kind");
+    let min = number_option(alloc, "min", "Show pieces of at least N decoded bytes");
+    let max = number_option(alloc, "max", "Show pieces of at most N decoded bytes");
+    let prefix = Arg::new(alloc, "prefix")
+        .long("prefix")
+        .value_name("HEX")
+        .help("Show messages that begin with these bytes");
+    Ok(command.arg(only)?.arg(min)?.arg(max)?.arg(prefix)?)
+}
+
 /// The task of showing a stream, by its options.
-fn show_task(matches: &ArgMatches<'_>) -> Task
-    ensures offered { IsOffered result }
+fn show_task(alloc: Global, matches: &ArgMatches<'_>) -> Result<Task, Error>
+    ensures offered { IfOk result IsOffered }
 {
-    let style = if matches.get_flag("raw") {
+    let length = matches.get_one::<u32>("length").unwrap_or(65_536) as usize;
+    Ok(Task::Show {
+        settings: Settings {
+            view: View {
+                style: style_of(matches),
+                number: matches.get_flag("number"),
+                stamp: stamp_of(matches),
+                filter: filter_of(alloc, matches)?,
+                checksum: checksum_of(matches),
+            },
+            length: length.min(MAX_LENGTH),
+            sentinel: sentinel_of(matches),
+            skip_first: matches.get_flag("skip-first"),
+        },
+        count: matches.get_flag("count"),
+    })
+}
+
+/// The style that was asked for.
+fn style_of(matches: &ArgMatches<'_>) -> Style {
+    if matches.get_flag("raw") {
         Style::Raw
     } else if matches.get_flag("text") {
         Style::Text
+    } else if matches.get_flag("hexdump") {
+        Style::Hexdump
+    } else if matches.get_flag("json") {
+        Style::Json
     } else {
         Style::Hex
-    };
-    let length = matches.get_one::<u32>("length").unwrap_or(65_536) as usize;
-    Task::Show {
-        settings: Settings {
-            style,
-            length: length.min(MAX_LENGTH),
-            sentinel: sentinel_of(matches),
-        },
-        count: matches.get_flag("count"),
     }
+}
+
+/// The filter that was asked for.
+///
+/// # Errors
+/// An error that names the prefix if it isn't hexadecimal digits, and one if memory runs out.
+fn filter_of(alloc: Global, matches: &ArgMatches<'_>) -> Result<Filter, Error> {
+    let kinds = matches.get_strs("only").unwrap_or(&[]);
+    let prefix = matches.get_str("prefix").unwrap_or("");
+    let Ok(prefix) = hex::decode(alloc, prefix) else {
+        let message = "the value of '--prefix <HEX>' isn't pairs of hexadecimal digits";
+        return Err(Command::new(alloc, "cobs_watch").error(ErrorKind::ValueValidation, message)?);
+    };
+    Ok(Filter {
+        messages: kinds.is_empty() || kinds.contains(&"message"),
+        broken: kinds.is_empty() || kinds.contains(&"broken"),
+        too_long: kinds.is_empty() || kinds.contains(&"too-long"),
+        bad_crc: kinds.is_empty() || kinds.contains(&"bad-crc"),
+        min: matches.get_one::<u64>("min").unwrap_or(0) as usize,
+        max: matches.get_one::<u64>("max").unwrap_or(u64::MAX) as usize,
+        prefix,
+    })
 }

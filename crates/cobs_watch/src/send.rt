@@ -24,14 +24,14 @@ pub struct Settings {
 
 /// Sends each line of the input, without its newline, as a frame and its sentinel, and flushes the output after it.
 ///
-/// The answer is whether each line was sent: one that isn't hexadecimal digits, where these are wanted, is named on
+/// The result is whether each line was sent: one that isn't hexadecimal digits, where these are wanted, is named on
 /// `errors` with its number, counted from 1, and skipped. An interrupted read is tried again. Memory is taken for one
 /// line and its frame.
 ///
-/// - `ReadFailed`: a read failed, or memory was refused while a line was read. All lines before it were sent.
+/// - `ReadFailed`: a read failed, or memory ran out while a line was read. All lines before it were sent.
 /// - `WriteFailed`: a write or a flush failed. How much of it went out is not known.
 /// - `OutputClosed`: the same, since nobody reads the output any more.
-/// - `OutOfMemory`: memory was refused for a frame. All lines before it were sent.
+/// - `OutOfMemory`: memory ran out for a frame. All lines before it were sent.
 pub fn run_send<B: BufRead, W: Write + Drop, E: Write>(
     alloc: Global,
     settings: &Settings,
@@ -73,7 +73,7 @@ fn without_newline(line: &[u8]) -> &[u8]
     }
 }
 
-/// Sends the text of a line, and answers whether it was sent.
+/// Sends the text of a line, and returns whether it was sent.
 fn send_text<W: Write + Drop>(
     alloc: Global,
     settings: &Settings,
@@ -97,7 +97,7 @@ fn send_text<W: Write + Drop>(
     }
 }
 
-/// Sends the message whose hexadecimal digits the text has, and answers whether it has some.
+/// Sends the message whose hexadecimal digits the text has, and returns whether it has some.
 fn send_digits<W: Write + Drop>(
     alloc: Global,
     sentinel: u8,

@@ -1,24 +1,26 @@
 //! Showing a stream as it comes.
-ghost use Rattle.std.specs.Prelude.{◌≡◌, ◌≢◌, ◌≤◌, ◌<◌, ◌↔◌, ◌++◌, ℕ, List, [], length, take, OnOk, IfOk, IfErr, Option, Ok, Err, false};
-ghost use Rattle.std.specs.Io.KnownBytes.{Appends, Consumes, IsAtEnd, Keeps};
+ghost use Rattle.std.specs.Prelude.{◌≡◌, ◌≢◌, ◌≤◌, ◌<◌, ◌↔◌, ℕ, List, [], length, take, OnOk, IfOk, IfErr, Option, Ok, Err, false};
+ghost use Rattle.std.specs.Io.KnownBytes.{Consumes, IsAtEnd, Keeps};
 ghost use Rattle.std.specs.Io.Buffered.{writer_buffer, writer_inner};
 ghost use Rattle.cobs.specs.Feed.{DecoderAfter, Idle};
-ghost use Rattle.cobs.specs.FeedPiece.{IsWithin, outcome_at};
 ghost use Rattle.cobs.specs.Fields.Decoders.{phase_at, phase_of};
 ghost use Rattle.cobs.specs.Sentinel.{xor_each};
-ghost use Rattle.cobs.specs.Stream.{Outcome, stream_outcomes, unended};
+ghost use Rattle.cobs.specs.Stream.{Outcome};
 ghost use Rattle.cobs_watch.specs.Counted.{IsTallyOf};
 ghost use Rattle.cobs_watch.specs.declared.shown.Settings.{Settings};
-ghost use Rattle.cobs_watch.specs.Shown.{shown, shown_pieces};
-ghost use Rattle.cobs_watch.specs.Watched.{HasShown, IsFlushed};
+ghost use Rattle.cobs_watch.specs.Live.{ShowsBytes};
+ghost use Rattle.cobs_watch.specs.Timed.{IsReadAt};
+ghost use Rattle.cobs_watch.specs.Watched.{HasShown, IsFlushed, begun, skips_on};
 
+use crate::clock::{Timer, Times};
 use crate::fault::WatchFault;
-use crate::shown::{Settings, Style, show_broken, show_end, show_message, show_too_long};
+use crate::shown::{Settings, View, show_end, show_piece, sight_of};
 use crate::tally::Tally;
 use cobs::laws::law_9;
-use cobs::{DecoderPhase, PieceEnd, UnbufferedDecoder};
+use cobs::{DecoderPhase, UnbufferedDecoder};
 use std::alloc::{AllocError, Global};
-use std::io::{self, BufWriter, ErrorKind, Read, Write};
+use std::io::{BufWriter, ErrorKind, Read, Write};
+use std::rt::Clock;
 
 /// How many bytes are read at once, 64 KiB. What a read gives less is shown at once.
 pub const CHUNK_LEN: usize = 65_536;
@@ -33,9 +35,10 @@ pub const CHUNK_LEN: usize = 65_536;
 /// - `WriteFailed`: a write or a flush failed. How much of it went out is not known.
 /// - `OutputClosed`: the same, since nobody reads the output any more.
 /// - `OutOfMemory`: memory ran out. Nothing was read, and nothing written.
-pub fn run_show<R: Read, W: Write + Drop>(
+pub fn run_show<C: Clock + Drop, R: Read, W: Write + Drop>(
     alloc: Global,
     settings: &Settings,
+    timer: &Timer<C>,
     input: &mut R,
     output: &mut BufWriter<W>,
 ) -> Result<Tally, WatchFault>
@@ -44,10 +47,10 @@ pub fn run_show<R: Read, W: Write + Drop>(
         (W.contents (writer_inner output.old)) (W.contents (writer_inner output.new)) }
     ensures flushed { IsFlushed result (writer_buffer output.new) }
 {
-    let mut watch = Watch::new(alloc, *settings)?;
+    let mut watch = Watch::new(alloc, settings)?;
     let mut chunk = vec![in alloc; 0; CHUNK_LEN]?;
     'by_read: for _read in 0..usize::MAX {
-        if !watch.show_next(&mut chunk, input, output)? {
+        if !watch.show_next(timer, &mut chunk, input, output)? {
             return Ok(watch.tally);
         }
     }
@@ -56,26 +59,32 @@ pub fn run_show<R: Read, W: Write + Drop>(
 
 /// A stream that is being shown.
 #[derive(Drop)]
-pub struct Watch {
-    settings: Settings,
+pub struct Watch<'a> {
+    settings: &'a Settings,
     decoder: UnbufferedDecoder,
 
     /// The message that the decoder writes.
     message: Vec<u8>,
 
     tally: Tally,
+
+    /// When the last piece was read, and when the last bytes.
+    clock: Times,
+
+    /// Whether the first sentinel is still awaited, up to which all bytes are skipped.
+    skipping: bool,
 }
 
-impl Watch {
+impl<'a> Watch<'a> {
     ghost use Rattle.cobs_watch.specs.Live.{HasShownSoFar, ShowsNext};
 
     /// Shows nothing yet.
     ///
     /// # Errors
     /// `AllocError` if memory for a message of the greatest length runs out.
-    pub fn new(alloc: Global, settings: Settings) -> Result<Self, AllocError>
+    pub fn new(alloc: Global, settings: &'a Settings) -> Result<Self, AllocError>
         ensures start { IfOk result (λ watch. (from before : Option (List ℕ)) →
-            HasShownSoFar settings from from before before watch) }
+            HasShownSoFar settings.now from from before before watch) }
     {
         law_9();
         let message = vec![in alloc; 0; settings.length]?;
@@ -83,7 +92,9 @@ impl Watch {
             settings,
             decoder: UnbufferedDecoder::new(),
             message,
-            tally: Tally::new(),
+            tally: Tally::new(settings.view.checksum.is_some()),
+            clock: Times::new(),
+            skipping: settings.skip_first,
         })
     }
 
@@ -96,8 +107,9 @@ impl Watch {
     /// # Errors
     /// `ReadFailed` if the read failed; nothing has changed then. `WriteFailed` if a write or a flush failed, and
     /// `OutputClosed` if that was since nobody reads the output any more.
-    pub fn show_next<R: Read, W: Write + Drop>(
+    pub fn show_next<C: Clock + Drop, R: Read, W: Write + Drop>(
         &mut self,
+        timer: &Timer<C>,
         chunk: &mut [u8],
         input: &mut R,
         output: &mut BufWriter<W>,
@@ -116,19 +128,22 @@ impl Watch {
         let count = read_chunk(input, output, chunk)?;
         if count == 0 {
             let unfinished = has_begun(self.decoder.phase());
-            show_end(output, self.settings.style, unfinished)?;
+            show_end(output, self.settings.view.style, unfinished)?;
             output.flush()?;
             return Ok(false);
         }
         let bytes = &mut chunk[..count];
+        self.clock.update(timer);
         self.tally.count_bytes(count);
         xor_bytes(bytes, self.settings.sentinel);
+        let bytes = behind_first(&mut self.skipping, bytes);
         show_bytes(
             &mut self.decoder,
             &mut self.message,
             bytes,
-            self.settings.style,
+            &self.settings.view,
             &mut self.tally,
+            &mut self.clock,
             output,
         )?;
         output.flush()?;
@@ -190,23 +205,38 @@ fn xor_bytes(bytes: &mut [u8], sentinel: u8)
     }
 }
 
-/// Shows the pieces that end in the bytes.
+/// The bytes behind the first zero, if it is still awaited; else all of them.
+fn behind_first<'a>(skipping: &mut bool, bytes: &'a [u8]) -> &'a [u8]
+    ensures begun { result.now ≡ begun skipping.old bytes.now }
+    ensures skips { skipping.new ≡ skips_on skipping.old bytes.now }
+{
+    if !*skipping {
+        return bytes;
+    }
+    for (i, byte) in bytes.iter().enumerate() {
+        if *byte == 0 {
+            *skipping = false;
+            return &bytes[i + 1..];
+        }
+    }
+    &[]
+}
+
+/// Shows the pieces that end in the bytes, and counts them.
 fn show_bytes<W: Write>(
     decoder: &mut UnbufferedDecoder,
     message: &mut [u8],
     bytes: &[u8],
-    style: Style,
+    view: &View,
     tally: &mut Tally,
+    clock: &mut Times,
     output: &mut W,
 ) -> Result<(), WatchFault>
-    ensures written { (p : List ℕ) → DecoderAfter message.old (phase_of decoder.old) p → OnOk result
-        (Appends (W.contents output.old) (W.contents output.new)
-        (shown_pieces style (length message.old) (p ++ bytes.now))) }
-    ensures after { (p : List ℕ) → DecoderAfter message.old (phase_of decoder.old) p → OnOk result
-        (DecoderAfter message.new (phase_of decoder.new) (unended (p ++ bytes.now))) }
-    ensures tallied { (p : List ℕ) → DecoderAfter message.old (phase_of decoder.old) p
-        → (outcomes : List Outcome) (read : ℕ) → IsTallyOf tally.old outcomes read → OnOk result
-        (IsTallyOf tally.new (outcomes ++ stream_outcomes (p ++ bytes.now) (length message.old)) read) }
+    ensures shown { (p : List ℕ) → DecoderAfter message.old (phase_of decoder.old) p
+        → (gone : List Outcome) (read : ℕ) → IsTallyOf view.now.checksum tally.old gone read
+        → (times : ℕ → ℕ) → IsReadAt times (length gone) clock.old → OnOk result
+        (ShowsBytes view.now times (length message.old) p bytes.now gone read message.new (phase_of decoder.new)
+        (W.contents output.old) (W.contents output.new) tally.new clock.new) }
     ensures len { length message.new ≡ length message.old }
     ensures fault { IfErr result
         (λ fault. (fault ≢ WatchFault.ReadFailed) × (fault ≢ WatchFault.OutOfMemory)) }
@@ -214,27 +244,11 @@ fn show_bytes<W: Write>(
     law_9();
     let mut at = 0;
     'by_piece: while let Some((end, count)) = decoder.feed_piece(message, &bytes[at..]) {
-        tally.count_piece(&end);
-        show_piece(output, style, end, message)?;
+        let piece = sight_of(view.checksum, end, message);
+        tally.count_piece(piece.kind);
+        let time = clock.next(view.stamp);
+        show_piece(output, view, tally.pieces, time, &piece)?;
         at += count;
     }
     Ok(())
-}
-
-/// Shows a piece that ended so, over the buffer that it left.
-fn show_piece<W: Write>(
-    output: &mut W,
-    style: Style,
-    end: PieceEnd,
-    buffer: &[u8],
-) -> io::Result<()>
-    requires within { IsWithin (length buffer.now) end }
-    ensures shown { OnOk result (Appends (W.contents output.old) (W.contents output.new)
-        (shown style (outcome_at end buffer.now))) }
-{
-    match end {
-        PieceEnd::Message(len) => show_message(output, style, &buffer[..len]),
-        PieceEnd::Broken(count) => show_broken(output, style, count),
-        PieceEnd::TooLong => show_too_long(output, style),
-    }
 }

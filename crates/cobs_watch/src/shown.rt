@@ -1,104 +1,192 @@
-//! How pieces are shown.
-ghost use Rattle.std.specs.Prelude.{◌≡◌, OnOk, IfSome, IsSome, ◌↔◌, IsTrue};
+//! What is shown of a stream, and in which style.
+ghost use Rattle.std.specs.Prelude.{◌≡◌, OnOk, length};
 ghost use Rattle.std.specs.Io.KnownBytes.{Appends};
-ghost use Rattle.cobs.specs.Stream.{Broken, Message, TooLong};
-ghost use Rattle.cobs_watch.specs.Shown.{is_plain, shown, shown_end, text_line};
+ghost use Rattle.cobs.specs.FeedPiece.{IsWithin, outcome_at};
+ghost use Rattle.cobs_watch.specs.Seen.{seen_in, seen_message, seen_of, whole};
+ghost use Rattle.cobs_watch.specs.Shown.{has_kind, in_front, in_view, passes, shown_end};
 
-use cobs_lines::{write_broken, write_message, write_too_long};
+use crate::clock::{Stamp, write_stamp};
+use crate::crc::Checksum;
+use crate::line::write_line;
+use crate::seen::{Kind, Sight};
+use cobs::PieceEnd;
 use std::io::{self, Write};
-use std::str;
 
-/// How messages are shown.
+/// How a piece is written.
 #[derive(Debug, PartialEq, Eq, Clone, Copy)]
 pub enum Style {
-    /// As hexadecimal digits, on a line for each piece.
+    /// A line, with a message as hexadecimal digits.
     Hex,
 
-    /// As text where they are UTF-8 without control characters, else as hexadecimal digits; a line for each piece.
+    /// A line, with a message as text if it is UTF-8 without control characters, else as hexadecimal digits.
     Text,
 
-    /// The bytes themselves and a newline; no other piece is shown.
+    /// The bytes of a message and a newline; nothing of other pieces.
     Raw,
+
+    /// A line, and below it a message's bytes, sixteen a line, each line with its offset and the characters.
+    Hexdump,
+
+    /// A line with an object of JSON.
+    Json,
+}
+
+/// Which pieces are shown.
+#[derive(Debug, PartialEq, Eq, Drop)]
+pub struct Filter {
+    /// Whether messages are shown.
+    pub messages: bool,
+
+    /// Whether broken pieces are shown.
+    pub broken: bool,
+
+    /// Whether pieces that are too long are shown.
+    pub too_long: bool,
+
+    /// Whether messages with a wrong checksum are shown.
+    pub bad_crc: bool,
+
+    /// The least and the greatest number of bytes that a piece decodes to, if it is shown. A piece that is too long is
+    /// taken to decode to `usize::MAX` bytes.
+    pub min: usize,
+    pub max: usize,
+
+    /// The first bytes of each message that is shown. If there are any, no other piece is shown.
+    pub prefix: Vec<u8>,
+}
+
+/// How pieces are shown, and which.
+#[derive(Debug, PartialEq, Eq, Drop)]
+pub struct View {
+    /// How a piece is written.
+    pub style: Style,
+
+    /// Whether each piece's number is in front of it. Pieces that a filter holds back are counted too.
+    pub number: bool,
+
+    /// Which time is in front of each piece's line, or in its object.
+    pub stamp: Stamp,
+
+    /// Which pieces are shown.
+    pub filter: Filter,
+
+    /// The checksum that each message is to end with, if any. One that is right isn't shown.
+    pub checksum: Option<Checksum>,
 }
 
 /// How a stream is read and shown.
-#[derive(Debug, PartialEq, Eq, Clone, Copy)]
+#[derive(Debug, PartialEq, Eq, Drop)]
 pub struct Settings {
-    /// How messages are shown.
-    pub style: Style,
+    /// How pieces are shown, and which.
+    pub view: View,
 
     /// The length in bytes of the longest message that is shown: a piece that decodes to more is too long.
     pub length: usize,
 
     /// The byte that ends each frame.
     pub sentinel: u8,
+
+    /// Whether all bytes up to the first sentinel are skipped: the reader may have come in the middle of a frame.
+    pub skip_first: bool,
 }
 
-/// The text of a message that is UTF-8 without control characters.
-fn plain_text(message: &[u8]) -> Option<&str>
-    ensures text { IfSome result (λ text. text.now ≡ message.now) }
-    ensures plain { IsSome result ↔ IsTrue (is_plain message.now) }
+/// A piece that ended so, over the buffer that it left; each message is to end with such a checksum.
+pub fn sight_of(checksum: Option<Checksum>, end: PieceEnd, buffer: &[u8]) -> Sight<'_>
+    requires within { IsWithin (length buffer.now) end }
+    ensures seen { seen_in result ≡ seen_of checksum (outcome_at end buffer.now) }
 {
-    let text = str::from_utf8(message).ok()?;
-    for c in text.chars() {
-        if c.is_control() {
-            return None;
-        }
-    }
-    Some(text)
-}
-
-/// Shows a message.
-pub fn show_message<W: Write>(output: &mut W, style: Style, message: &[u8]) -> io::Result<()>
-    ensures shown { OnOk result (Appends (W.contents output.old) (W.contents output.new)
-        (shown style (Message message.now))) }
-{
-    match style {
-        Style::Hex => write_message(output, message),
-        Style::Text => match plain_text(message) {
-            Some(text) => write_text(output, text),
-            None => write_message(output, message),
+    match end {
+        PieceEnd::Message(len) => message_sight(checksum, &buffer[..len]),
+        PieceEnd::Broken(count) => Sight {
+            kind: Kind::Broken,
+            len: count,
+            bytes: &[],
         },
-        Style::Raw => {
-            output.write_all(message)?;
-            output.write_all(b"\n")
+        PieceEnd::TooLong => Sight {
+            kind: Kind::TooLong,
+            len: usize::MAX,
+            bytes: &[],
+        },
+    }
+}
+
+/// A message that is to end with such a checksum.
+fn message_sight(checksum: Option<Checksum>, message: &[u8]) -> Sight<'_>
+    ensures seen { seen_in result ≡ seen_message checksum message.now }
+{
+    let Some(checksum) = checksum else {
+        return whole(Kind::Message, message);
+    };
+    match checksum.checked(message) {
+        Some(body) => whole(Kind::Message, body),
+        None => whole(Kind::BadCrc, message),
+    }
+}
+
+/// A piece of this kind, all of whose bytes are shown.
+fn whole(kind: Kind, bytes: &[u8]) -> Sight<'_>
+    ensures seen { seen_in result ≡ whole kind bytes.now }
+{
+    Sight {
+        kind,
+        len: bytes.len(),
+        bytes,
+    }
+}
+
+impl Filter {
+    /// Returns whether a piece is shown.
+    fn passes(&self, piece: &Sight<'_>) -> bool
+        ensures passes { result ≡ passes self.now (seen_in piece.now) }
+    {
+        self.has_kind(piece.kind)
+            && self.min <= piece.len
+            && piece.len <= self.max
+            && piece.bytes.starts_with(&self.prefix)
+    }
+
+    /// Returns whether pieces of this kind are shown.
+    fn has_kind(&self, kind: Kind) -> bool
+        ensures kind { result ≡ has_kind self.now kind }
+    {
+        match kind {
+            Kind::Message => self.messages,
+            Kind::Broken => self.broken,
+            Kind::TooLong => self.too_long,
+            Kind::BadCrc => self.bad_crc,
         }
     }
 }
 
-/// Writes the line of a message as text.
-fn write_text<W: Write>(output: &mut W, text: &str) -> io::Result<()>
-    ensures { OnOk result
-        (Appends (W.contents output.old) (W.contents output.new) (text_line text.now)) }
-{
-    let len = text.len();
-    write!(output, "message {len}")?;
-    if len > 0 {
-        output.write_all(b" ")?;
-        output.write_all(text.as_bytes())?;
-    }
-    output.write_all(b"\n")
-}
-
-/// Shows a piece that breaks off inside a block and decodes to so many bytes.
-pub fn show_broken<W: Write>(output: &mut W, style: Style, count: usize) -> io::Result<()>
+/// Shows a piece that has this number and time.
+pub fn show_piece<W: Write>(
+    output: &mut W,
+    view: &View,
+    number: u64,
+    time: u64,
+    piece: &Sight<'_>,
+) -> io::Result<()>
     ensures shown { OnOk result (Appends (W.contents output.old) (W.contents output.new)
-        (shown style (Broken count))) }
+        (in_view view.now number time (seen_in piece.now))) }
 {
-    match style {
-        Style::Hex | Style::Text => write_broken(output, count),
-        Style::Raw => Ok(()),
+    if !view.filter.passes(piece) {
+        return Ok(());
     }
+    write_time(output, view, time)?;
+    if view.number {
+        write!(output, "{number} ")?;
+    }
+    write_line(output, view, number, time, piece)
 }
 
-/// Shows a piece that is too long.
-pub fn show_too_long<W: Write>(output: &mut W, style: Style) -> io::Result<()>
-    ensures shown { OnOk result
-        (Appends (W.contents output.old) (W.contents output.new) (shown style TooLong)) }
+/// Writes the time of a piece in front of its line, if the style has it there.
+fn write_time<W: Write>(output: &mut W, view: &View, time: u64) -> io::Result<()>
+    ensures written { OnOk result (Appends (W.contents output.old) (W.contents output.new)
+        (in_front view.now.style view.now.stamp time)) }
 {
-    match style {
-        Style::Hex | Style::Text => write_too_long(output),
-        Style::Raw => Ok(()),
+    match view.style {
+        Style::Hex | Style::Text | Style::Hexdump => write_stamp(output, view.stamp, time),
+        Style::Raw | Style::Json => Ok(()),
     }
 }
 
@@ -107,8 +195,12 @@ pub fn show_end<W: Write>(output: &mut W, style: Style, unfinished: bool) -> io:
     ensures shown { OnOk result (Appends (W.contents output.old) (W.contents output.new)
         (shown_end style unfinished)) }
 {
+    if !unfinished {
+        return Ok(());
+    }
     match style {
-        Style::Hex | Style::Text if unfinished => output.write_all(b"unfinished\n"),
-        _ => Ok(()),
+        Style::Hex | Style::Text | Style::Hexdump => output.write_all(b"unfinished\n"),
+        Style::Json => output.write_all(b"{\"kind\":\"unfinished\"}\n"),
+        Style::Raw => Ok(()),
     }
 }

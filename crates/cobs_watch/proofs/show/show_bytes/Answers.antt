@@ -1,13 +1,12 @@
-use Rattle.std.proofs.Common.{◌≡◌, ◌-◌, ◌≤◌, ℕ, List, length, take, drop, refl, ap, ◌∙◌, subst, arith, length-take, length-drop}
-use Rattle.cobs.specs.Feed.{DecoderAfter}
+use Rattle.std.proofs.Common.{◌-◌, ℕ, List, length, take, drop, refl, ap, sym, ◌∙◌, arith, length-take, length-drop}
 use Rattle.cobs.specs.FeedPiece.{outcome_at}
-use Rattle.cobs.specs.Fields.Decoders.{phase_of}
-use Rattle.cobs_watch.proofs.ShowLemmas.{HasTaken, HasTaken-start, HasTaken-piece, HasTaken-rest, take-piece, take-rest}
+use Rattle.cobs_watch.specs.Seen.{Seen}
+use Rattle.cobs_watch.proofs.ShowLemmas.{ShowsBytes-start, ShowsBytes-piece, ShowsBytes-rest, shown_now, take-piece, take-rest}
+use Rattle.cobs_watch.proofs.TimeLemmas.{IsReadAt-next}
 use Rattle.cobs_watch.proofs.show.show_bytes.Goals as goal
-use Rattle.cobs_watch.proofs.show.show_bytes.Goals.{After-feed_piece}
 
 pub by_piece-init : goal.by_piece-init
-by_piece-init g c = record { within = omega arith; len = refl; so_far = λ p d. HasTaken-start (assumption c.law_9.ensures) _ p _ _ _ _ d }
+by_piece-init g c = record { within = omega arith; len = refl; so_far = λ p d gone read t times r. ShowsBytes-start (assumption c.law_9.ensures) _ times p _ _ gone read _ _ _ d t r }
 
 pub by_piece-preserved : goal.by_piece-preserved
 by_piece-preserved g c =
@@ -18,28 +17,17 @@ by_piece-preserved g c =
     record {
       within = omega (arith, h.within.0, length-take (length c.args.bytes.now - at) (drop at c.args.bytes.now), length-drop at c.args.bytes.now, c.by_piece.invariant.within);
       len = h.takes.len ∙ c.by_piece.invariant.len;
-      so_far = λ p d.
-          (let s = c.by_piece.invariant.so_far p d in
-          rw (take-piece at count c.args.bytes.now) (HasTaken-piece (assumption c.law_9.ensures) s (take count stream) (outcome_at c.in-Some.end c.feed_piece.new.dest) h.takes.len (h.takes.after _ s.taken) (h.takes.outcomes _ s.taken) c.in_ok-show_piece.ensures.shown (λ outcomes read t. c.count_piece.ensures.one_more outcomes read c.feed_piece.new.dest t)));
+      so_far = λ p d gone read t times r.
+          (let s = c.by_piece.invariant.so_far p d gone read t times r in
+          let counted = c.count_piece.ensures.one_more _ _ _ (outcome_at c.in-Some.end c.feed_piece.new.dest) (sym (ap (λ (seen : Seen). seen.kind) c.sight_of-piece.ensures.seen)) s.tallied in
+          rw (take-piece at count c.args.bytes.now) (ShowsBytes-piece (assumption c.law_9.ensures) s (take count stream) (outcome_at c.in-Some.end c.feed_piece.new.dest) h.takes.len (h.takes.after _ s.taken) (h.takes.outcomes _ s.taken)
+          (shown_now c.args.view.now times _ _ _ _ _ _ _ _ c.sight_of-piece.ensures.seen counted s.timed (rw c.next-time.ensures.time at c.in_ok-show_piece.ensures.shown)) counted
+          (IsReadAt-next times _ _ _ _ s.timed c.next-time.ensures.last c.next-time.ensures.now)));
     }
 
-pub returns-clause-written : goal.returns-clause-written
-returns-clause-written g c = λ p d.
+pub returns-clause-shown : goal.returns-clause-shown
+returns-clause-shown g c = λ p d gone read t times r.
     let h = c.in_default.ensures.takes in
-    let s = c.by_piece.invariant.so_far p d in
-    let all = HasTaken-rest (assumption c.law_9.ensures) s (take (length c.args.bytes.now - c.by_piece.at) (drop c.by_piece.at c.args.bytes.now)) h.takes.len (h.takes.after _ s.taken) (h.takes.outcomes _ s.taken) in
-    (rw (take-rest c.by_piece.at c.args.bytes.now) at all).written
-
-pub returns-clause-after : goal.returns-clause-after
-returns-clause-after g c = λ p d.
-    let h = c.in_default.ensures.takes in
-    let s = c.by_piece.invariant.so_far p d in
-    let all = HasTaken-rest (assumption c.law_9.ensures) s (take (length c.args.bytes.now - c.by_piece.at) (drop c.by_piece.at c.args.bytes.now)) h.takes.len (h.takes.after _ s.taken) (h.takes.outcomes _ s.taken) in
-    (rw (take-rest c.by_piece.at c.args.bytes.now) at all).taken
-
-pub returns-clause-tallied : goal.returns-clause-tallied
-returns-clause-tallied g c = λ p d.
-    let h = c.in_default.ensures.takes in
-    let s = c.by_piece.invariant.so_far p d in
-    let all = HasTaken-rest (assumption c.law_9.ensures) s (take (length c.args.bytes.now - c.by_piece.at) (drop c.by_piece.at c.args.bytes.now)) h.takes.len (h.takes.after _ s.taken) (h.takes.outcomes _ s.taken) in
-    (rw (take-rest c.by_piece.at c.args.bytes.now) at all).tallied
+    let s = c.by_piece.invariant.so_far p d gone read t times r in
+    let all = ShowsBytes-rest (assumption c.law_9.ensures) s (take (length c.args.bytes.now - c.by_piece.at) (drop c.by_piece.at c.args.bytes.now)) h.takes.len (h.takes.after _ s.taken) (h.takes.outcomes _ s.taken) in
+    rw (take-rest c.by_piece.at c.args.bytes.now) at all

@@ -3,4 +3,4 @@ use Rattle.cobs_watch.proofs.RunLemmas.{HasShownSoFar-start}
 use Rattle.cobs_watch.proofs.show.Watch.new.Goals as goal
 
 pub returns : goal.returns
-returns c = record { start = λ from before. HasShownSoFar-start (assumption c.law_9.ensures) c.args.settings from before _ (c.new.ensures.after _) c.new-2.ensures.none (omega (arith, c.in_ok-message.message.ok.0, c.in_ok-message.ensures.len)) refl }
+returns c = record { start = λ from before. HasShownSoFar-start (assumption c.law_9.ensures) c.args.settings.now from before _ (c.new.ensures.after _) (c.new-2.ensures.none _ c.is_some.ensures) c.new-3.ensures.start (omega (arith, c.in_ok-message.message.ok.0, c.in_ok-message.ensures.len)) refl refl }

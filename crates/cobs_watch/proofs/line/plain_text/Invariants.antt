@@ -3,7 +3,7 @@ use Rattle.std.specs.List.{list_all}
 use Rattle.std.specs.Str.{IsUtf8, chars}
 use Rattle.std.specs.Str.Iter.{chars_rest}
 use Rattle.std.specs.Char.{is_control}
-use Rattle.cobs_watch.proofs.shown.plain_text.Given as goal
+use Rattle.cobs_watch.proofs.line.plain_text.Given as goal
 
 -- no character so far was a control character
 abbrev pub invariant-loop-c : goal.invariant-loop-c

@@ -6,7 +6,7 @@ use Rattle.std.specs.List.{list_all}
 use Rattle.std.specs.Str.Lossy.{utf8_valid_len}
 use Rattle.std.specs.Char.{is_control}
 use Rattle.cobs_watch.specs.Shown.{is_plain}
-use Rattle.cobs_watch.proofs.shown.plain_text.Goals as goal
+use Rattle.cobs_watch.proofs.line.plain_text.Goals as goal
 
 no_controls : List ℕ → Bool
 no_controls cs = list_all (λ c. not (is_control c)) cs

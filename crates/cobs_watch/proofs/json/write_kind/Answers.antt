@@ -1,0 +1,21 @@
+use Rattle.std.proofs.Common.{ℕ, List, ◌++◌, Option, Result, Ok, Err}
+use Rattle.std.specs.Prelude.{OnOk}
+use Rattle.std.specs.Io.KnownBytes.{Appends}
+use Rattle.std.proofs.KnownBytes.{Appends-trans}
+use Rattle.cobs_watch.proofs.json.write_kind.Goals as goal
+
+-- a text, and more behind it if that was written
+behind : {A E : Type 0} (r : Result A E) (a b c : Option (List ℕ)) (x y : List ℕ) → Appends a b x → OnOk r (Appends b c y) → OnOk r (Appends a c (x ++ y))
+behind (Ok v) a b c x y first more = Appends-trans a b c x y first more
+behind (Err e) a b c x y first more = tt
+
+pub returns-in_ok-write_all-in-Message : goal.returns-in_ok-write_all-in-Message
+returns-in_ok-write_all-in-Message g c = record { written = rw c.in-Message.is (behind c.write_message.result _ _ _ _ _ c.in_ok-write_all-in-Message.ensures.bytes c.write_message.ensures.written) }
+
+pub returns-in-Broken : goal.returns-in-Broken
+returns-in-Broken g c = record { written = rw c.in-Broken.is c.write.ensures.bytes }
+
+pub returns-in_ok-write_all-in-BadCrc : goal.returns-in_ok-write_all-in-BadCrc
+returns-in_ok-write_all-in-BadCrc g c = record {
+  written = rw c.in-BadCrc.is (behind c.write_message-in-BadCrc.result _ _ _ _ _ c.in_ok-write_all-in-BadCrc.ensures.bytes c.write_message-in-BadCrc.ensures.written);
+}

@@ -1,0 +1,31 @@
+-- Bytes sixteen a line, with the offset of the first and the characters, as `hexdump -C` prints them.
+use Rattle.std.specs.Prelude.{ℕ, zero, suc, ◌+◌, ◌*◌, ◌/◌, ◌^◌, ◌-◌, ◌&&◌, nat_le, nat_lt, false, List, [], ◌∷◌, ◌++◌, length, take, drop, map, slice_index, codes, if◌then◌else◌}
+use Rattle.std.specs.Fmt.{digits, padded_integral, format_spec}
+use Rattle.hex.specs.Hex.{encode_lower}
+
+-- the texts of 0 up to n
+unfoldable pub upto : (ℕ → List ℕ) → ℕ → List ℕ
+upto f zero = []
+upto f (suc n) = upto f n ++ f n
+
+-- an offset, as eight hexadecimal digits or more
+abbrev pub offset_text : ℕ → List ℕ
+offset_text offset = padded_integral (format_spec 32 0 4 8 (2 ^ 64 - 1)) false [] (digits 16 false offset)
+
+-- the digits of a row's byte, or spaces in their place
+abbrev pub cell : List ℕ → ℕ → List ℕ
+cell row i = if nat_lt i (length row) then encode_lower (slice_index row i ∷ []) ++ codes " " else codes "   "
+
+-- a byte as a character of ASCII, or a dot
+abbrev pub character : ℕ → ℕ
+character byte = if nat_le 32 byte && nat_le byte 126 then byte else 46
+
+abbrev pub dump_row : ℕ → List ℕ → List ℕ
+dump_row offset row = offset_text offset ++ codes "  " ++ upto (λ i. cell row (0 + i)) 8 ++ codes " " ++ upto (λ i. cell row (8 + i)) 8 ++ codes " |" ++ map character row ++ codes "|\n"
+
+-- the row of this number
+abbrev pub numbered_row : List ℕ → ℕ → List ℕ
+numbered_row bytes number = dump_row (16 * number) (take 16 (drop (16 * number) bytes))
+
+abbrev pub dump : List ℕ → List ℕ
+dump bytes = upto (numbered_row bytes) ((length bytes + 15) / 16)

@@ -1,0 +1,42 @@
+-- A piece as it is shown.
+use Rattle.std.specs.Prelude.{ℕ, ◌-◌, ◌^◌, List, [], ◌++◌, length, codes, Option, Some, None, if◌then◌else◌}
+use Rattle.std.specs.Fmt.{decimal}
+use Rattle.cobs.specs.Stream.{Outcome}
+use Rattle.cobs.specs.Stream.{Message as OfMessage, Broken as OfBroken, TooLong as OfTooLong}
+use Rattle.cobs_watch.specs.Crc.{body_of, is_checked}
+use Rattle.cobs_watch.specs.declared.crc.Checksum.{Checksum}
+use Rattle.cobs_watch.specs.declared.seen.Kind.{Kind}
+use Rattle.cobs_watch.specs.declared.seen.Kind.TheVariants.{Message, Broken, TooLong, BadCrc}
+use Rattle.cobs_watch.specs.declared.seen.Sight.{Sight}
+
+-- what became of a piece, how many bytes it decodes to, and those of them that are shown
+pub record Seen : Type 0 where
+  pub kind : Kind
+  pub len : ℕ
+  pub bytes : List ℕ
+
+-- what a `Sight` has
+abbrev pub seen_in : Sight → Seen
+seen_in sight = record { kind = sight.kind; len = sight.len; bytes = sight.bytes.now }
+
+-- the kind of a piece, and how many bytes it decodes to
+abbrev pub title : Kind → ℕ → List ℕ
+title Message len = codes "message " ++ decimal len
+title Broken len = codes "broken " ++ decimal len
+title TooLong len = codes "too long"
+title BadCrc len = codes "bad crc " ++ decimal len
+
+-- a piece of a kind, all of whose bytes are shown
+abbrev pub whole : Kind → List ℕ → Seen
+whole kind bytes = record { kind = kind; len = length bytes; bytes = bytes }
+
+-- what is seen of a message: where it is to end with its checksum, what is in front of that, if it is right
+abbrev pub seen_message : Option Checksum → List ℕ → Seen
+seen_message None message = whole Message message
+seen_message (Some checksum) message = if is_checked checksum message then whole Message (body_of checksum message) else whole BadCrc message
+
+-- what is seen of an outcome; a piece that is too long is longer than each limit
+abbrev pub seen_of : Option Checksum → Outcome → Seen
+seen_of checksum (OfMessage message) = seen_message checksum message
+seen_of checksum (OfBroken count) = record { kind = Broken; len = count; bytes = [] }
+seen_of checksum OfTooLong = record { kind = TooLong; len = 2 ^ 64 - 1; bytes = [] }

@@ -1,0 +1,125 @@
+//! What each style makes of a piece.
+ghost use Rattle.std.specs.Prelude.{◌≡◌, OnOk, IfSome, IsSome, ◌↔◌, IsTrue};
+ghost use Rattle.std.specs.Io.KnownBytes.{Appends};
+ghost use Rattle.cobs_lines.specs.Lines.{spaced_digits};
+ghost use Rattle.cobs_watch.specs.Seen.{seen_in, title};
+ghost use Rattle.cobs_watch.specs.Shown.{dump_lines, hex_line, is_plain, raw_of, spaced, styled, text_line};
+
+use crate::dump::write_dump;
+use crate::json::write_json;
+use crate::seen::{Kind, Sight};
+use crate::shown::{Style, View};
+use cobs_lines::write_digits;
+use std::io::{self, Write};
+use std::str;
+
+/// Writes what a view's style makes of a piece that has this number and time.
+pub fn write_line<W: Write>(
+    output: &mut W,
+    view: &View,
+    number: u64,
+    time: u64,
+    piece: &Sight<'_>,
+) -> io::Result<()>
+    ensures written { OnOk result (Appends (W.contents output.old) (W.contents output.new)
+        (styled view.now.style number view.now.stamp time (seen_in piece.now))) }
+{
+    match view.style {
+        Style::Hex => write_hex(output, piece),
+        Style::Text => write_text(output, piece),
+        Style::Raw => write_raw(output, piece),
+        Style::Hexdump => write_dumped(output, piece),
+        Style::Json => write_json(output, number, view.stamp, time, piece),
+    }
+}
+
+/// Writes the kind of a piece, and how many bytes it decodes to.
+fn write_title<W: Write>(output: &mut W, kind: Kind, len: usize) -> io::Result<()>
+    ensures written { OnOk result
+        (Appends (W.contents output.old) (W.contents output.new) (title kind len)) }
+{
+    match kind {
+        Kind::Message => write!(output, "message {len}"),
+        Kind::Broken => write!(output, "broken {len}"),
+        Kind::TooLong => output.write_all(b"too long"),
+        Kind::BadCrc => write!(output, "bad crc {len}"),
+    }
+}
+
+/// Writes a space and the bytes as digits, or nothing if there are no bytes.
+fn write_spaced<W: Write>(output: &mut W, bytes: &[u8]) -> io::Result<()>
+    ensures written { OnOk result
+        (Appends (W.contents output.old) (W.contents output.new) (spaced_digits bytes.now)) }
+{
+    if bytes.len() > 0 {
+        output.write_all(b" ")?;
+        write_digits(output, bytes)?;
+    }
+    Ok(())
+}
+
+/// Writes the line of a piece, with its bytes as digits.
+fn write_hex<W: Write>(output: &mut W, piece: &Sight<'_>) -> io::Result<()>
+    ensures written { OnOk result (Appends (W.contents output.old) (W.contents output.new)
+        (hex_line (seen_in piece.now))) }
+{
+    write_title(output, piece.kind, piece.len)?;
+    write_spaced(output, piece.bytes)?;
+    output.write_all(b"\n")
+}
+
+/// Writes the line of a piece, with its bytes as text if they are UTF-8 without control characters, else as digits.
+fn write_text<W: Write>(output: &mut W, piece: &Sight<'_>) -> io::Result<()>
+    ensures written { OnOk result (Appends (W.contents output.old) (W.contents output.new)
+        (text_line (seen_in piece.now))) }
+{
+    write_title(output, piece.kind, piece.len)?;
+    match plain_text(piece.bytes) {
+        Some(text) => {
+            if text.len() > 0 {
+                output.write_all(b" ")?;
+                output.write_all(text.as_bytes())?;
+            }
+        }
+        None => write_spaced(output, piece.bytes)?,
+    }
+    output.write_all(b"\n")
+}
+
+/// The text of a message that is UTF-8 without control characters.
+fn plain_text(message: &[u8]) -> Option<&str>
+    ensures text { IfSome result (λ text. text.now ≡ message.now) }
+    ensures plain { IsSome result ↔ IsTrue (is_plain message.now) }
+{
+    let text = str::from_utf8(message).ok()?;
+    for c in text.chars() {
+        if c.is_control() {
+            return None;
+        }
+    }
+    Some(text)
+}
+
+/// Writes the bytes of a message and a newline.
+fn write_raw<W: Write>(output: &mut W, piece: &Sight<'_>) -> io::Result<()>
+    ensures written { OnOk result (Appends (W.contents output.old) (W.contents output.new)
+        (raw_of (seen_in piece.now).kind (seen_in piece.now).bytes)) }
+{
+    match piece.kind {
+        Kind::Message => {
+            output.write_all(piece.bytes)?;
+            output.write_all(b"\n")
+        }
+        Kind::Broken | Kind::TooLong | Kind::BadCrc => Ok(()),
+    }
+}
+
+/// Writes the title of a piece, and its bytes sixteen a line.
+fn write_dumped<W: Write>(output: &mut W, piece: &Sight<'_>) -> io::Result<()>
+    ensures written { OnOk result (Appends (W.contents output.old) (W.contents output.new)
+        (dump_lines (seen_in piece.now))) }
+{
+    write_title(output, piece.kind, piece.len)?;
+    output.write_all(b"\n")?;
+    write_dump(output, piece.bytes)
+}

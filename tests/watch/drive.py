@@ -1,0 +1,521 @@
+#!/usr/bin/env python3
+"""Drives cobs_watch over pseudo-terminals, pipes and files, and compares what it writes with what Python makes of the frames.
+
+    drive.py WATCH        WATCH is the built program. Needs socat for the parts over pseudo-terminals.
+"""
+
+import binascii
+import json
+import os
+import random
+import select
+import shutil
+import subprocess
+import sys
+import tempfile
+import time
+import zlib
+from pathlib import Path
+
+WATCH = sys.argv[1]
+LIMIT = 65536
+failed = []
+
+
+def encode(message):
+    """The frame of a message, by the definition: blocks end at zeros and after 254 other bytes."""
+    out = bytearray()
+    runs = message.split(b"\0")
+    for number, run in enumerate(runs):
+        while len(run) >= 254:
+            out += b"\xff" + run[:254]
+            run = run[254:]
+            if not run and number == len(runs) - 1:
+                return bytes(out)
+        out += bytes([len(run) + 1]) + run
+    return bytes(out)
+
+
+def decode(piece):
+    """What a piece without zeros decodes to, and whether its last block is whole."""
+    out = bytearray()
+    at = 0
+    due = False
+    while at < len(piece):
+        if due:
+            out.append(0)
+        code = piece[at]
+        block = piece[at + 1 : at + code]
+        out += block
+        if len(block) < code - 1:
+            return bytes(out), False
+        due = code < 255
+        at += code
+    return bytes(out), True
+
+
+def pieces_of(stream, limit=LIMIT):
+    """The kind, the length and the bytes of each piece that a zero ends, and whether another one has begun."""
+    parts = stream.split(b"\0")
+    seen = []
+    for part in parts[:-1]:
+        if part:
+            output, whole = decode(part)
+            if len(output) > limit:
+                seen.append(("too long", None, b""))
+            else:
+                seen.append(("message" if whole else "broken", len(output), output if whole else b""))
+    return seen, bool(parts[-1])
+
+
+def text_of(data):
+    """The text of bytes that are UTF-8, or None."""
+    try:
+        return data.decode()
+    except UnicodeDecodeError:
+        return None
+
+
+def is_plain(data):
+    text = text_of(data)
+    return text is not None and not any(ord(c) < 32 or 127 <= ord(c) < 160 for c in text)
+
+
+def dump(data):
+    """The lines of `hexdump -C`, without its last one."""
+    lines = []
+    for at in range(0, len(data), 16):
+        row = data[at : at + 16]
+        halves = [row[:8].hex(" "), row[8:].hex(" ")]
+        text = "".join(chr(byte) if 32 <= byte < 127 else "." for byte in row)
+        lines.append(f"{at:08x}  {halves[0]:23}  {halves[1]:23}  |{text}|\n")
+    shown = "".join(lines)
+    if shutil.which("hexdump"):
+        true = subprocess.run(["hexdump", "-Cv"], input=data, stdout=subprocess.PIPE, check=True).stdout.decode()
+        same(shown, "".join(line + "\n" for line in true.splitlines()[:-1]))
+    return shown
+
+
+def line(style, kind, length, data):
+    title = kind if length is None else f"{kind} {length}"
+    if style == "--hexdump":
+        return (title + "\n" + dump(data)).encode()
+    if style == "--raw":
+        return data + b"\n" if kind == "message" else b""
+    if style == "--text" and is_plain(data):
+        return (title + " " if data else title).encode() + data + b"\n"
+    return (title + (" " + data.hex() if data else "") + "\n").encode()
+
+
+def run(words, stream, status=0, **more):
+    """The output of a run over a stream that is a file."""
+    done = subprocess.run(
+        [WATCH, *words], input=stream, stdout=subprocess.PIPE, stderr=subprocess.PIPE, timeout=60, **more
+    )
+    assert done.returncode == status, f"status {done.returncode}, {done.stderr.decode()}"
+    return done.stdout
+
+
+def part(check):
+    """Runs a check, and says how it ended."""
+    name = check.__name__.replace("_", " ")
+    try:
+        check()
+        print(f"ok: {name}")
+    except Exception as error:  # pylint: disable=broad-except
+        failed.append(name)
+        print(f"FAILED: {name}: {error!r}")
+
+
+def same(found, wanted):
+    assert found == wanted, f"{found[:300]!r} in place of {wanted[:300]!r}"
+
+
+def messages(count):
+    """Messages of all sorts: empty, text, control characters, quotes, wrong UTF-8, zeros, long runs."""
+    random.seed(count)
+    some = [
+        b"",
+        b"hello",
+        b"\0",
+        b'a "quoted" \\ text',
+        b"tab\there",
+        b"\xff\xfe",
+        "grüße €".encode(),
+        bytes(range(256)),
+        b"x" * 254,
+        b"y" * 255 + b"\0",
+    ]
+    while len(some) < count:
+        kind = random.randrange(3)
+        size = random.choice((1, 7, 15, 16, 17, 33, 300))
+        some.append(bytes(random.choice((0, 65, 66, 255) if kind else range(32, 127)) for _ in range(size)))
+    return some
+
+
+def a_stream():
+    """Frames, broken pieces, sentinels in a row, a piece that is too long, and the begin of a frame."""
+    out = bytearray()
+    for number, message in enumerate(messages(60)):
+        out += encode(message) + b"\0" * (1 + number % 3)
+        if number % 7 == 0:
+            out += b"\x09ab\0"
+    out += encode(b"z" * (LIMIT + 1)) + b"\0"
+    return bytes(out) + encode(b"last") + b"\0" + b"\x05ab"
+
+
+STREAM = a_stream()
+
+
+@part
+def every_view():
+    seen, _ = pieces_of(STREAM)
+    for style in (None, "--text", "--raw", "--hexdump"):
+        words = [style] if style else []
+        wanted = b"".join(line(style, *piece) for piece in seen) + (b"" if style == "--raw" else b"unfinished\n")
+        same(run(words, STREAM), wanted)
+    numbered = b"".join(str(i + 1).encode() + b" " + line(None, *piece) for i, piece in enumerate(seen))
+    same(run(["--number"], STREAM), numbered + b"unfinished\n")
+
+
+@part
+def json_lines():
+    seen, _ = pieces_of(STREAM)
+    found = [json.loads(text) for text in run(["--json"], STREAM).decode().splitlines()]
+    wanted = []
+    for number, (kind, length, data) in enumerate(seen):
+        item = {"frame": number + 1, "kind": kind}
+        if length is not None:
+            item["length"] = length
+        if kind == "message":
+            item["hex"] = data.hex()
+            if text_of(data) is not None:
+                item["text"] = text_of(data)
+        wanted.append(item)
+    assert found == wanted + [{"kind": "unfinished"}], (found, wanted)
+
+
+def timed(words, gaps, clock):
+    """The times in front of the lines of two frames that come after each gap, and the clock's: at the start, and as each pair is sent and shown."""
+    start, found, sent, shown = clock(), [], [], []
+    with subprocess.Popen([WATCH, *words], stdin=subprocess.PIPE, stdout=subprocess.PIPE) as watch:
+        for gap in gaps:
+            time.sleep(gap)
+            sent.append(clock())
+            watch.stdin.write(b"\x02a\0\x05b\0")
+            watch.stdin.flush()
+            found += [watch.stdout.readline().decode().rstrip("\n").split(" ", 1) for _ in range(2)]
+            shown.append(clock())
+        assert watch.communicate()[0] == b""
+    assert [text for _, text in found] == ["message 1 61", "broken 1"] * len(gaps), found
+    return [text for text, _ in found], start, sent, shown
+
+
+def lies_between(low, value, high):
+    """Whether a time with three digits lies between two that were measured; how busy the machine is has no part in it."""
+    return low - 0.001 <= value <= high + 0.001
+
+
+@part
+def times():
+    gaps = (0.3, 0.5, 0.2)
+    found, start, sent, shown = timed(["--time", "start"], gaps, time.monotonic)
+    since = [float(text) for text in found]
+    assert since == sorted(since), since
+    for number, _ in enumerate(gaps):
+        # The program starts after the test has, and before it shows the first frames.
+        low, high = sent[number] - shown[0], shown[number] - start
+        assert all(lies_between(max(0, low), value, high) for value in since[2 * number : 2 * number + 2]), since
+    found, start, sent, shown = timed(["--time", "last"], gaps, time.monotonic)
+    last = [float(text) for text in found]
+    assert lies_between(0, last[0], shown[0] - start), last
+    for number in range(1, len(gaps)):
+        assert lies_between(sent[number] - shown[number - 1], last[2 * number], shown[number] - sent[number - 1]), last
+    for number, _ in enumerate(gaps):
+        assert lies_between(0, last[2 * number + 1], shown[number] - sent[number]), last
+    found, start, sent, shown = timed(["--time", "utc"], (0.1, 0.1), time.time)
+    for number, text in enumerate(found):
+        hours, minutes, seconds = text.split(":")
+        passed = (int(hours) * 3600 + int(minutes) * 60 + float(seconds) - start + 1) % 86400 - 1
+        assert len(text) == 12 and lies_between(sent[number // 2] - start, passed, shown[number // 2] - start), text
+    seen = [json.loads(text) for text in run(["--json", "--time", "start"], STREAM).decode().splitlines()]
+    plain = [json.loads(text) for text in run(["--json"], STREAM).decode().splitlines()]
+    assert all(0 <= item.pop("time") < 60 for item in seen[:-1]) and seen == plain, seen
+
+
+@part
+def every_filter():
+    seen, _ = pieces_of(STREAM)
+    size = {"message": lambda p: p[1], "broken": lambda p: p[1], "too long": lambda p: 2**64 - 1}
+    filters = [
+        (["--only", "message"], lambda p: p[0] == "message"),
+        (["--only", "broken"], lambda p: p[0] == "broken"),
+        (["--only", "too-long"], lambda p: p[0] == "too long"),
+        (["--only", "broken", "--only", "too-long"], lambda p: p[0] != "message"),
+        (["--min", "17"], lambda p: size[p[0]](p) >= 17),
+        (["--max", "17"], lambda p: size[p[0]](p) <= 17),
+        (["--min", "5", "--max", "5"], lambda p: size[p[0]](p) == 5),
+        (["--prefix", "6865"], lambda p: p[2].startswith(b"he")),
+        (["--prefix", "FF"], lambda p: p[2].startswith(b"\xff")),
+    ]
+    for words, keeps in filters:
+        wanted = b"".join(str(i + 1).encode() + b" " + line(None, *p) for i, p in enumerate(seen) if keeps(p))
+        same(run(["--number", *words], STREAM), wanted + b"unfinished\n")
+
+
+def crc(data, width, poly, start, reflected, end):
+    """A checksum without a table, by the catalogue of parametrised CRC algorithms."""
+    turned = lambda value, bits: int(f"{value:0{bits}b}"[::-1], 2) if reflected else value
+    register = start
+    for byte in data:
+        register ^= turned(byte, 8) << width - 8
+        for _ in range(8):
+            register = (register << 1) ^ (poly if register >> width - 1 else 0)
+            register &= (1 << width) - 1
+    return turned(register, width) ^ end
+
+
+# By name: the bytes of a checksum, what makes it, and its order where none is asked for.
+CHECKSUMS = {
+    "crc-8": (1, lambda data: crc(data, 8, 0x07, 0, False, 0), "big"),
+    "crc-16-ccitt-false": (2, lambda data: binascii.crc_hqx(data, 0xFFFF), "big"),
+    "crc-16-modbus": (2, lambda data: crc(data, 16, 0x8005, 0xFFFF, True, 0), "little"),
+    "crc-32": (4, zlib.crc32, "little"),
+}
+
+
+@part
+def checksums():
+    some = messages(60)
+    for name, (size, made, usual) in CHECKSUMS.items():
+        for order in (None, "big", "little"):
+            stream, seen = b"\x09ab\0", [("broken", 2, b"")]
+            for number, message in enumerate(some):
+                whole = message + made(message).to_bytes(size, order or usual)
+                kind = "bad crc" if number % 3 == 0 else "message"
+                if kind == "bad crc":
+                    whole = whole[:-1] + bytes([whole[-1] ^ 1]) if number % 2 else whole[len(whole) - size + 1 :]
+                stream += encode(whole) + b"\0"
+                data = whole if kind == "bad crc" else message
+                seen.append((kind, len(data), data))
+            words = ["--crc", name] + (["--crc-order", order] if order else [])
+            for style in (None, "--text", "--hexdump", "--raw"):
+                wanted = b"".join(line(style, *piece) for piece in seen)
+                same(run(words + ([style] if style else []), stream), wanted)
+            bad = b"".join(line(None, *piece) for piece in seen if piece[0] == "bad crc")
+            same(run([*words, "--only", "bad-crc"], stream), bad)
+            kinds = [json.loads(text)["kind"] for text in run([*words, "--json"], stream).decode().splitlines()]
+            same(kinds, [piece[0].replace("bad crc", "bad-crc") for piece in seen])
+            counted = subprocess.run([WATCH, *words, "--count"], input=stream, capture_output=True, check=True)
+            same(
+                counted.stderr.decode(),
+                f"messages {kinds.count('message')}, broken 1, too long 0, bad crc {kinds.count('bad-crc')}, bytes {len(stream)}\n",
+            )
+
+
+@part
+def skip_first():
+    for cut in range(0, 400):
+        stream = STREAM[cut:]
+        _, _, rest = stream.partition(b"\0")
+        seen, _ = pieces_of(rest)
+        if cut % 40 == 0:
+            same(run(["--skip-first"], stream), b"".join(line(None, *piece) for piece in seen) + b"unfinished\n")
+    same(run(["--skip-first"], b"\x05ab"), b"")
+    same(run(["--skip-first"], b"\0\x02a\0"), b"message 1 61\n")
+
+
+@part
+def sentinels_and_lengths():
+    lines = b"line\nlonger line\n\n"
+    for sentinel in (0, 1, 10, 255):
+        frames = run(["send", "--sentinel", str(sentinel)], lines)
+        assert frames.count(bytes([sentinel])) == 3
+        same(
+            run(["--sentinel", str(sentinel), "--length", "4", "--text"], frames),
+            b"message 4 line\ntoo long\nmessage 0\n",
+        )
+
+
+@part
+def wrong_words():
+    for words in (
+        ["--length", "many"],
+        ["--only", "all"],
+        ["--prefix", "6"],
+        ["--prefix", "gg"],
+        ["--text", "--raw"],
+        ["--min", "-1"],
+        ["--number", "--json"],
+        ["--time", "start", "--raw"],
+        ["--time", "then"],
+        ["--crc", "crc-7"],
+        ["--crc-order", "big"],
+        ["nothing"],
+    ):
+        done = subprocess.run(
+            [WATCH, *words], input=b"\x02a\0", stdout=subprocess.PIPE, stderr=subprocess.PIPE, timeout=60, check=False
+        )
+        assert (done.returncode, done.stdout) == (2, b"") and done.stderr, (words, done)
+    done = subprocess.run(
+        [WATCH, "send", "--hex"],
+        input=b"00ff\nzz\n",
+        stdout=subprocess.PIPE,
+        stderr=subprocess.PIPE,
+        timeout=60,
+        check=False,
+    )
+    assert (done.returncode, done.stdout) == (1, b"\x01\x02\xff\0") and b"line 2" in done.stderr, done
+
+
+@part
+def counts():
+    seen, _ = pieces_of(STREAM)
+    kinds = [piece[0] for piece in seen]
+    done = subprocess.run(
+        [WATCH, "--count", "--raw"],
+        input=STREAM,
+        stdout=subprocess.PIPE,
+        stderr=subprocess.PIPE,
+        check=True,
+        timeout=60,
+    )
+    wanted = f"messages {kinds.count('message')}, broken {kinds.count('broken')}, too long {kinds.count('too long')}, bytes {len(STREAM)}\n"
+    same(done.stderr.decode(), wanted)
+
+
+@part
+def full_disk():
+    with open("/dev/full", "wb") as full:
+        for words, stream in ([["show"], STREAM], [["send"], b"line\n"]):
+            done = subprocess.run(
+                [WATCH, *words], input=stream, stdout=full, stderr=subprocess.PIPE, timeout=60, check=False
+            )
+            assert done.returncode == 1 and b"write failed" in done.stderr, done
+
+
+@part
+def closed_pipe():
+    many = (encode(b"line") + b"\0") * 200_000
+    with tempfile.TemporaryFile() as held:
+        held.write(many)
+        held.seek(0)
+        with subprocess.Popen([WATCH], stdin=held, stdout=subprocess.PIPE, stderr=subprocess.PIPE) as watch:
+            same(watch.stdout.readline(), b"message 4 6c696e65\n")
+            watch.stdout.close()
+            errors = watch.stderr.read()
+            assert (watch.wait(timeout=60), errors) == (0, b""), errors
+
+
+@part
+def slow_reader():
+    some = [b"frame %d" % i for i in range(20_000)]
+    with subprocess.Popen([WATCH, "--raw"], stdin=subprocess.PIPE, stdout=subprocess.PIPE) as watch:
+        if os.fork() == 0:
+            watch.stdin.write(b"".join(encode(message) + b"\0" for message in some))
+            watch.stdin.flush()
+            os._exit(0)
+        watch.stdin.close()
+        found = bytearray()
+        while data := os.read(watch.stdout.fileno(), 4096):
+            found += data
+            if len(found) < 40_000:
+                time.sleep(0.02)
+        same(bytes(found), b"".join(message + b"\n" for message in some))
+    os.wait()
+
+
+class Line:
+    """Two ends of a line by socat, and cobs_watch at one of them."""
+
+    def __init__(self, words):
+        self.room = tempfile.TemporaryDirectory()
+        ends = [Path(self.room.name, name) for name in ("device", "host")]
+        self.socat = subprocess.Popen(["socat", *(f"pty,raw,echo=0,link={end}" for end in ends)])
+        while not all(end.exists() for end in ends):
+            time.sleep(0.01)
+        self.device = os.open(ends[0], os.O_RDWR | os.O_NOCTTY)
+        host = os.open(ends[1], os.O_RDWR | os.O_NOCTTY)
+        self.watch = subprocess.Popen([WATCH, *words], stdin=host, stdout=subprocess.PIPE, stderr=subprocess.PIPE)
+        os.close(host)
+
+    def send(self, data):
+        while data:
+            data = data[os.write(self.device, data) :]
+
+    def receive(self, size, seconds=10):
+        """Reads this many bytes of the output."""
+        found = bytearray()
+        end = time.monotonic() + seconds
+        while len(found) < size and select.select([self.watch.stdout], [], [], max(0, end - time.monotonic()))[0]:
+            data = os.read(self.watch.stdout.fileno(), 65536)
+            if not data:
+                break
+            found += data
+        return bytes(found)
+
+    def hang_up(self):
+        self.socat.kill()
+        self.socat.wait()
+        os.close(self.device)
+        out, errors = self.watch.communicate(timeout=10)
+        self.room.cleanup()
+        return out, errors, self.watch.returncode
+
+
+def over_a_line(words, stream, size):
+    """Sends a stream in pieces of a size, reads what is shown at once, and hangs up."""
+    line_ = Line(words)
+    seen, _ = pieces_of(stream)
+    wanted = b"".join(line(None, *piece) for piece in seen)
+    found = bytearray()
+    for at in range(0, len(stream), size):
+        line_.send(stream[at : at + size])
+        if size > 1:
+            time.sleep(0.01)
+    found += line_.receive(len(wanted))
+    same(bytes(found), wanted)
+    return line_.hang_up()
+
+
+SHORT = b"".join(encode(m) + b"\0" for m in messages(40)) + b"\x09ab\0"
+
+
+def pseudo_terminals():
+    @part
+    def bursts():
+        over_a_line([], SHORT, 700)
+
+    @part
+    def single_bytes():
+        over_a_line([], SHORT, 1)
+
+    @part
+    def hang_up():
+        out, errors, status = over_a_line([], b"\x02a\0", 3)
+        # A line that hangs up is at its end, or its read fails; either ends the program with a clear status.
+        assert (out, errors, status) in ((b"", b"", 0), (b"", b"cobs_watch: read failed\n", 1)), (out, errors, status)
+
+    @part
+    def latency_below_a_millisecond():
+        line_ = Line([])
+        frame, shown = encode(b"ping") + b"\0", b"message 4 70696e67\n"
+        times = []
+        for _ in range(200):
+            start = time.monotonic()
+            line_.send(frame)
+            same(line_.receive(len(shown)), shown)
+            times.append(time.monotonic() - start)
+        line_.hang_up()
+        middle = sorted(times)[len(times) // 2]
+        print(f"from a frame's zero to its line, with socat between: {middle * 1e6:.0f} us in the middle of 200")
+        assert middle < 0.001, middle
+
+
+if shutil.which("socat"):
+    pseudo_terminals()
+else:
+    print("skipped: pseudo-terminals: no socat (Debian package socat)")
+
+print(f"{len(failed)} failed")
+sys.exit(bool(failed))
