@@ -3,7 +3,7 @@
 #[cfg(with_crate)]
 use crate::theirs;
 use crate::workload::{SIZES, messages};
-use crate::{machine, ours, plain, simd};
+use crate::{checked, machine, ours, plain, simd};
 use std::hint::black_box;
 
 /// The calls, and the sizes at which each is measured.
@@ -22,10 +22,9 @@ pub const CALLS: &[(&str, &[usize])] = &[
     ("decode_stream", &[SIZES[0], SIZES[1]]),
     ("FrameReader", &[SIZES[0], SIZES[1]]),
     ("feed", &[SIZES[0], SIZES[1]]),
-    ("feed by call", &[SIZES[0], SIZES[1]]),
 ];
 
-pub const WHO: [&str; 6] = ["ours", "crate", "machine", "plain", "simd", "memcpy"];
+pub const WHO: [&str; 8] = ["ours", "crate", "machine", "plain", "checked", "memchr", "simd", "memcpy"];
 
 /// The sentinel of the calls that take one.
 const SENTINEL: u8 = 0x7E;
@@ -88,8 +87,7 @@ pub fn once(call: &str, who: &str, work: &mut Work) -> Option<usize> {
         ("decode_stream", "ours") => ours::decode_stream(stream, room),
         ("FrameReader", "ours") => ours::read_frames(stream, room),
         ("feed", "ours") => ours::feed_each(stream, room).len,
-        ("feed by call", "ours") => ours::feed_by_call(stream, room).len,
-
+    
         #[cfg(with_crate)]
         ("encode", "crate") => messages.iter().map(|m| theirs::encode(m, room)).sum(),
         #[cfg(with_crate)]
@@ -124,7 +122,7 @@ pub fn once(call: &str, who: &str, work: &mut Work) -> Option<usize> {
         #[cfg(with_crate)]
         ("FrameReader", "crate") => theirs::read_frames(stream, room),
         #[cfg(with_crate)]
-        ("feed" | "feed by call", "crate") => theirs::feed_each(stream, room),
+        ("feed", "crate") => theirs::feed_each(stream, room),
 
         ("encode" | "try_encode", "machine") => messages.iter().map(|m| machine::encode(m, room).unwrap()).sum(),
         ("encoder 17", "machine") => messages.iter().map(|m| machine::encode_in_chunks(m, 17, room).unwrap()).sum(),
@@ -136,14 +134,34 @@ pub fn once(call: &str, who: &str, work: &mut Work) -> Option<usize> {
         ("push 64", "machine") => machine::push_in_chunks(stream, 64, room).len,
         ("push whole", "machine") => machine::push_in_chunks(stream, stream.len(), room).len,
         ("feed", "machine") => machine::feed_each(stream, room).len,
-        ("feed by call", "machine") => machine::feed_by_call(stream, room).len,
-
+    
         ("encode" | "try_encode", "plain") => messages.iter().map(|m| unsafe { plain::encode(m, dest) }).sum(),
         ("encoder 17", "plain") => messages.iter().map(|m| unsafe { plain::encode_in_chunks(m, 17, dest) }).sum(),
         ("decode" | "decode exact", "plain") => frames.iter().map(|f| unsafe { plain::decode(f, dest) }).sum(),
         ("in place", "plain") => work.copies.iter_mut().map(|f| unsafe { plain::decode_in_place(f) }).sum(),
         ("push 64" | "push whole" | "feed", "plain") => unsafe { plain::feed_each(stream, dest) },
-        ("feed by call", "plain") => unsafe { plain::feed_by_call(stream, dest) },
+    
+        ("encode" | "try_encode", "checked") => messages.iter().map(|m| checked::encode(m, room).unwrap()).sum(),
+        ("encoder 17", "checked") => messages.iter().map(|m| checked::encode_in_chunks(m, 17, room).unwrap()).sum(),
+        ("decode", "checked") => frames.iter().map(|f| checked::decode(f, room).unwrap()).sum(),
+        ("decode exact", "checked") => {
+            messages.iter().zip(frames).map(|(m, f)| checked::decode(f, &mut room[..m.len()]).unwrap()).sum()
+        }
+        ("in place", "checked") => work.copies.iter_mut().map(|f| checked::decode_in_place(f).unwrap()).sum(),
+        ("push 64", "checked") => checked::push_in_chunks(stream, 64, room).unwrap(),
+        ("push whole", "checked") => checked::push_in_chunks(stream, stream.len(), room).unwrap(),
+
+        ("encode" | "try_encode", "memchr") => messages.iter().map(|m| checked::memchr_encode(m, room).unwrap()).sum(),
+        ("encoder 17", "memchr") => {
+            messages.iter().map(|m| checked::memchr_encode_in_chunks(m, 17, room).unwrap()).sum()
+        }
+        ("decode", "memchr") => frames.iter().map(|f| checked::memchr_decode(f, room).unwrap()).sum(),
+        ("decode exact", "memchr") => {
+            messages.iter().zip(frames).map(|(m, f)| checked::memchr_decode(f, &mut room[..m.len()]).unwrap()).sum()
+        }
+        ("in place", "memchr") => work.copies.iter_mut().map(|f| checked::memchr_decode_in_place(f).unwrap()).sum(),
+        ("push 64", "memchr") => checked::memchr_push_in_chunks(stream, 64, room).unwrap(),
+        ("push whole", "memchr") => checked::memchr_push_in_chunks(stream, stream.len(), room).unwrap(),
 
         ("encode" | "try_encode", "simd") => messages.iter().map(|m| unsafe { simd::encode(m, dest) }).sum(),
         ("encoder 17", "simd") => messages.iter().map(|m| unsafe { simd::encode_in_chunks(m, 17, dest) }).sum(),
@@ -155,8 +173,7 @@ pub fn once(call: &str, who: &str, work: &mut Work) -> Option<usize> {
         ("push 64", "simd") => simd::push_in_chunks(stream, 64, room).unwrap(),
         ("push whole", "simd") => simd::push_in_chunks(stream, stream.len(), room).unwrap(),
         ("feed", "simd") => simd::feed_each(stream, room).unwrap(),
-        ("feed by call", "simd") => simd::feed_by_call(stream, room).unwrap(),
-        _ => return None,
+            _ => return None,
     };
     Some(sum)
 }

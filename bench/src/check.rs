@@ -5,7 +5,7 @@ use crate::machine::{EMPTY, OK, TOO_SMALL, answer, frame_of};
 #[cfg(with_crate)]
 use crate::theirs;
 use crate::workload::Dice;
-use crate::{machine, ours, plain, simd};
+use crate::{checked, machine, ours, plain, simd};
 
 /// A list of bytes, with zeros in one of several densities.
 fn some_bytes(dice: &mut Dice, len: usize) -> Vec<u8> {
@@ -68,12 +68,6 @@ fn check_decoders(dice: &mut Dice, source: &[u8], room: usize) {
     let (mut a, mut b) = (vec![170; room], vec![170; room]);
     let (x, y) = (ours::feed_each(source, &mut a), machine::feed_each(source, &mut b));
     same("feed_each", (x, &a), (y, &b));
-    let mut a = vec![170; room];
-    let x = ours::feed_by_call(source, &mut a);
-    same("feed_by_call", (x, &a), (y, &b));
-    let mut a = vec![170; room];
-    let x = machine::feed_by_call(source, &mut a);
-    same("the machine's feed_by_call", (x, &a), (y, &b));
     let mut room = vec![170; room];
     let outcomes = machine::count_outcomes(source, &mut room);
     assert_eq!(ours::decode_stream(source, &mut room), outcomes, "decode_stream");
@@ -85,9 +79,13 @@ fn check_others(dice: &mut Dice, m: &[u8], frame: &[u8]) {
     let chunk = 1 + dice.below(300) as usize;
     let mut room = vec![0; m.len() + frame.len() + 64];
     type Encoder = fn(&[u8], usize, &mut [u8]) -> usize;
-    let encoders: [(&str, Encoder); 4] = [
+    let encoders: [(&str, Encoder); 8] = [
         ("plain encode", |m, _, room| unsafe { plain::encode(m, room.as_mut_ptr()) }),
         ("plain encoder", |m, chunk, room| unsafe { plain::encode_in_chunks(m, chunk, room.as_mut_ptr()) }),
+        ("checked encode", |m, _, room| checked::encode(m, room).unwrap()),
+        ("checked encoder", |m, chunk, room| checked::encode_in_chunks(m, chunk, room).unwrap()),
+        ("memchr encode", |m, _, room| checked::memchr_encode(m, room).unwrap()),
+        ("memchr encoder", |m, chunk, room| checked::memchr_encode_in_chunks(m, chunk, room).unwrap()),
         ("simd encode", |m, _, room| unsafe { simd::encode(m, room.as_mut_ptr()) }),
         ("simd encoder", |m, chunk, room| unsafe { simd::encode_in_chunks(m, chunk, room.as_mut_ptr()) }),
     ];
@@ -99,21 +97,33 @@ fn check_others(dice: &mut Dice, m: &[u8], frame: &[u8]) {
     }
     let len = unsafe { plain::decode(frame, room.as_mut_ptr()) };
     same("plain decode", (len, &room[..len]), (m.len(), m));
-    let mut exact = vec![0; m.len()];
-    let len = simd::decode(frame, &mut exact);
-    same("simd decode", (len, &exact), (Some(m.len()), m));
-    for decode in [|b: &mut [u8]| unsafe { plain::decode_in_place(b) }, |b: &mut [u8]| simd::decode_in_place(b).unwrap()] {
+    type Decoder = fn(&[u8], &mut [u8]) -> Option<usize>;
+    let decoders: [(&str, Decoder); 3] =
+        [("simd decode", simd::decode), ("checked decode", checked::decode), ("memchr decode", checked::memchr_decode)];
+    for (what, decode) in decoders {
+        let mut exact = vec![0; m.len()];
+        let len = decode(frame, &mut exact);
+        same(what, (len, &exact), (Some(m.len()), m));
+    }
+    type InPlace = fn(&mut [u8]) -> Option<usize>;
+    let in_place: [InPlace; 4] = [
+        |b| Some(unsafe { plain::decode_in_place(b) }),
+        simd::decode_in_place,
+        checked::decode_in_place,
+        checked::memchr_decode_in_place,
+    ];
+    for decode in in_place {
         let mut copy = frame.to_vec();
-        let len = decode(&mut copy);
+        let len = decode(&mut copy).unwrap();
         same("in place", (len, &copy[..len]), (m.len(), m));
     }
     let stream = [frame, &[0], frame, &[0]].concat();
     assert_eq!(unsafe { plain::feed_each(&stream, room.as_mut_ptr()) }, 2 * m.len(), "plain feed");
-    assert_eq!(unsafe { plain::feed_by_call(&stream, room.as_mut_ptr()) }, 2 * m.len(), "plain feed by call");
+    assert_eq!(checked::push_in_chunks(&stream, chunk, &mut room), Some(2 * m.len()), "checked push");
+    assert_eq!(checked::memchr_push_in_chunks(&stream, chunk, &mut room), Some(2 * m.len()), "memchr push");
     assert_eq!(simd::push_in_chunks(&stream, chunk, &mut room), Some(2 * m.len()), "simd push");
     assert!(&room[..m.len()] == m, "simd push: the message");
     assert_eq!(simd::feed_each(&stream, &mut room), Some(2 * m.len()), "simd feed");
-    assert_eq!(simd::feed_by_call(&stream, &mut room), Some(2 * m.len()), "simd feed by call");
     #[cfg(with_crate)]
     {
         assert_eq!(theirs::push_in_chunks(&stream, chunk, &mut room), 2 * m.len(), "the crate's push");

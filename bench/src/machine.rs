@@ -18,14 +18,6 @@ pub const EMPTY: u32 = 3;
 /// No message has ended yet.
 pub const MORE: u32 = 4;
 
-/// What a byte of a stream brought, as `cobs_bench` has it.
-#[repr(C)]
-#[derive(Clone, Copy)]
-pub struct Fed {
-    pub status: u32,
-    pub len: usize,
-}
-
 pub fn answer(status: u32, parsed: usize, len: usize) -> Answer {
     Answer { status, parsed, len }
 }
@@ -308,46 +300,24 @@ pub fn push_in_chunks(stream: &[u8], chunk: usize, dest: &mut [u8]) -> Answer {
     answer(OK, messages, sum)
 }
 
-/// How many messages there are and the sum of their lengths, up to the first refusal, where `feed` takes each byte.
-#[inline(always)]
-pub fn sums(stream: &[u8], mut feed: impl FnMut(u8) -> Fed) -> Answer {
+/// The same, one byte a step.
+#[inline(never)]
+pub fn feed_each(stream: &[u8], dest: &mut [u8]) -> Answer {
+    let mut decoder = Decoder::new(dest);
     let mut messages = 0;
     let mut sum = 0;
     for &byte in stream {
-        let fed = feed(byte);
-        match fed.status {
+        let found = decoder.feed(byte);
+        match found.status {
             MORE => {}
             OK => {
                 messages += 1;
-                sum += fed.len;
+                sum += found.len;
             }
             status => return answer(status, messages, sum),
         }
     }
     answer(OK, messages, sum)
-}
-
-/// The same, one byte a step.
-#[inline(never)]
-pub fn feed_each(stream: &[u8], dest: &mut [u8]) -> Answer {
-    let mut decoder = Decoder::new(dest);
-    sums(stream, |byte| fed(decoder.feed(byte)))
-}
-
-fn fed(found: Answer) -> Fed {
-    Fed { status: found.status, len: found.len }
-}
-
-#[inline(never)]
-fn feed(decoder: &mut Decoder, byte: u8) -> Fed {
-    fed(decoder.feed(byte))
-}
-
-/// The same, by a call for each byte.
-#[inline(never)]
-pub fn feed_by_call(stream: &[u8], dest: &mut [u8]) -> Answer {
-    let mut decoder = Decoder::new(dest);
-    sums(stream, |byte| feed(&mut decoder, byte))
 }
 
 /// How many pieces of a stream end with a zero, refused ones too.

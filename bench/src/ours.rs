@@ -1,12 +1,12 @@
 //! The library's calls, through the C functions of `crates/cobs_bench`. They are safe to make: a slice is passed as a
 //! pointer and a length.
 
-use crate::machine::{Answer, Fed, sums};
+use crate::machine::Answer;
 use std::ffi::c_void;
 use std::ptr::NonNull;
 
 mod exports {
-    use super::{Answer, Decoder, Fed};
+    use super::Answer;
 
     unsafe extern "C" {
         pub fn bench_encode(source: *const u8, source_len: usize, dest: *mut u8, dest_len: usize) -> usize;
@@ -19,8 +19,6 @@ mod exports {
         pub fn bench_decode_in_place_with_sentinel(buffer: *mut u8, len: usize, sentinel: u8) -> Answer;
         pub fn bench_push(stream: *const u8, stream_len: usize, chunk: usize, dest: *mut u8, dest_len: usize) -> Answer;
         pub fn bench_feed_each(stream: *const u8, stream_len: usize, dest: *mut u8, dest_len: usize) -> Answer;
-        pub fn bench_decoder_reset(decoder: *mut Decoder);
-        pub fn bench_feed(decoder: *mut Decoder, dest: *mut u8, dest_len: usize, byte: u8) -> Fed;
         pub fn bench_decode_stream(stream: *const u8, stream_len: usize, dest: *mut u8, dest_len: usize) -> usize;
         pub fn bench_frame_reader(stream: *const u8, stream_len: usize, dest: *mut u8, dest_len: usize) -> usize;
     }
@@ -67,18 +65,6 @@ pub fn push_in_chunks(s: &[u8], chunk: usize, d: &mut [u8]) -> Answer {
 
 pub fn feed_each(s: &[u8], d: &mut [u8]) -> Answer {
     unsafe { bench_feed_each(s.as_ptr(), s.len(), d.as_mut_ptr(), d.len()) }
-}
-
-/// Room for a decoder of the library: `UnbufferedDecoder`, whose fields are the library's alone.
-#[repr(C)]
-#[derive(Default)]
-pub struct Decoder([u64; 2]);
-
-/// The same, by a call into the library for each byte.
-pub fn feed_by_call(s: &[u8], d: &mut [u8]) -> Answer {
-    let mut decoder = Decoder::default();
-    unsafe { bench_decoder_reset(&mut decoder) };
-    sums(s, |byte| unsafe { bench_feed(&mut decoder, d.as_mut_ptr(), d.len(), byte) })
 }
 
 /// How many outcomes the stream has.

@@ -185,26 +185,3 @@ pub unsafe fn feed_each(stream: &[u8], dest: *mut u8) -> usize {
     }
     sum
 }
-
-/// # Safety
-/// The destination has room for the message.
-#[inline(never)]
-unsafe fn feed(decoder: &mut Decoder, byte: u8, dest: *mut u8) -> Option<usize> {
-    unsafe { decoder.feed(byte, dest) }
-}
-
-/// The same, by a call for each byte.
-///
-/// # Safety
-/// The destination has room for each message, and no frame is broken.
-#[inline(never)]
-pub unsafe fn feed_by_call(stream: &[u8], dest: *mut u8) -> usize {
-    let mut decoder = Decoder::new();
-    let mut sum = 0;
-    for &byte in stream {
-        if let Some(len) = unsafe { feed(&mut decoder, byte, dest) } {
-            sum += len;
-        }
-    }
-    sum
-}

@@ -1,14 +1,11 @@
 //! The tables and the chart of measured figures.
 
 use crate::calls::{CALLS, WHO};
-use crate::workload::{SIZES, WORKLOADS};
+use crate::workload::{SHORT, SIZES, WORKLOADS};
 use std::collections::BTreeMap;
 
 /// The size that is reported row by row, beside each other implementation.
 const MAIN_SIZE: usize = SIZES[1];
-
-/// The workloads of short messages, which are reported at the least size too.
-const SHORT: [&str; 2] = ["telemetry", "below 20"];
 
 /// What is measured once: a call on a workload of a size.
 type Row = (String, String, usize);
@@ -51,10 +48,6 @@ impl Figures {
         self.at_each_place(call, workload, size, who).into_iter().max_by(f64::total_cmp)
     }
 
-    fn worst(&self, call: &str, workload: &str, size: usize, who: &str) -> Option<f64> {
-        self.at_each_place(call, workload, size, who).into_iter().min_by(f64::total_cmp)
-    }
-
     /// How many times as fast as that implementation, best place against best place.
     fn ratio(&self, call: &str, workload: &str, size: usize, who: &str) -> Option<f64> {
         Some(self.best(call, workload, size, "ours")? / self.best(call, workload, size, who)?)
@@ -83,84 +76,95 @@ fn name_of(who: &str) -> &str {
     match who {
         "crate" => "the crate",
         "machine" => "the state machine",
-        "plain" => "plain C",
+        "plain" => "plain C without checks",
+        "checked" => "checked C",
+        "memchr" => "C by memchr",
         "simd" => "SIMD by hand",
         other => other,
     }
 }
 
-/// A table of ratios to the baseline, a row for each workload and a column for each call.
-fn summary(figures: &Figures, size: usize) {
-    let calls: Vec<&str> = CALLS.iter().filter(|(_, sizes)| sizes.contains(&size)).map(|(call, _)| *call).collect();
-    println!("| {} in all | {} |", size_name(size), calls.join(" | "));
-    println!("|---|{}", "--:|".repeat(calls.len()));
-    for workload in WORKLOADS {
-        let cells: Vec<String> =
-            calls.iter().map(|call| shown_ratio(figures.ratio(call, workload, size, figures.baseline()))).collect();
-        println!("| {workload} | {} |", cells.join(" | "));
-    }
-    println!();
-}
-
-/// A call beside everyone who has it: the rates of the best and the worst place, and ratios of the best ones.
-fn beside(figures: &Figures, call: &str, sizes: &[usize]) {
-    let others: Vec<&str> =
-        WHO[1..].iter().copied().filter(|who| figures.best(call, "zeros", MAIN_SIZE, who).is_some()).collect();
-    let names: Vec<String> = others.iter().map(|who| format!("/ {}", name_of(who))).collect();
-    println!("| {call} | MB/s | at the worst place | {} |", names.join(" | "));
-    println!("|---|--:|--:|{}", "--:|".repeat(others.len()));
+/// The rows of the tables: each workload at the main size, and short messages at the least one.
+fn rows() -> Vec<(String, &'static str, usize)> {
     let mut rows: Vec<(String, &str, usize)> = WORKLOADS.iter().map(|w| (w.to_string(), *w, MAIN_SIZE)).collect();
-    if sizes.contains(&SIZES[0]) {
-        rows.extend(SHORT.iter().map(|w| (format!("{w}, {}", size_name(SIZES[0])), *w, SIZES[0])));
-    }
-    for (label, workload, size) in rows {
-        let ratios: Vec<String> =
-            others.iter().map(|who| shown_ratio(figures.ratio(call, workload, size, who))).collect();
-        let best = shown(figures.best(call, workload, size, "ours"), 0);
-        let worst = shown(figures.worst(call, workload, size, "ours"), 0);
-        println!("| {label} | {best} | {worst} | {} |", ratios.join(" | "));
+    rows.extend(SHORT.iter().map(|w| (format!("{w}, {}", size_name(SIZES[0])), *w, SIZES[0])));
+    rows
+}
+
+/// A table with a row for each workload and a column for each call that has a value.
+fn table(title: &str, value: impl Fn(&str, &str, usize) -> String) {
+    let calls: Vec<&str> =
+        CALLS.iter().map(|(call, _)| *call).filter(|call| value(call, "zeros", MAIN_SIZE) != "-").collect();
+    println!("| {title} | {} |", calls.join(" | "));
+    println!("|---|{}", "--:|".repeat(calls.len()));
+    for (label, workload, size) in rows() {
+        let cells: Vec<String> = calls.iter().map(|call| value(call, workload, size)).collect();
+        println!("| {label} | {} |", cells.join(" | "));
     }
     println!();
 }
 
-/// The rows below a limit of each other implementation, at the main size and on short messages.
-fn below(figures: &Figures) {
-    for (who, limit) in [("crate", 1.3), ("plain", 1.0), ("simd", 0.95), ("simd", 1.0)] {
-        let mut rows = 0;
-        let mut found = Vec::new();
-        for (call, sizes) in CALLS {
-            for &size in sizes.iter().filter(|size| **size <= MAIN_SIZE) {
-                for workload in WORKLOADS {
-                    if size != MAIN_SIZE && !SHORT.contains(&workload) {
-                        continue;
-                    }
-                    if let Some(ratio) = figures.ratio(call, workload, size, who) {
-                        rows += 1;
-                        if ratio < limit {
-                            found.push(format!("{call} on {workload} at {} {ratio:.2}", size_name(size)));
-                        }
-                    }
-                }
-            }
-        }
-        if rows > 0 {
-            println!("- Below {limit} of {}: {} of {rows} rows.", name_of(who), found.len());
-            if limit != 1.0 || who == "plain" {
-                found.iter().for_each(|row| println!("  - {row}"));
+/// The others that were measured and that someone would take instead.
+const RIVALS: [&str; 5] = ["crate", "plain", "checked", "memchr", "simd"];
+
+/// Each ratio to one of them, in the order of the calls.
+fn ratios(figures: &Figures, who: &str) -> Vec<(String, f64)> {
+    let mut found = Vec::new();
+    for (call, _) in CALLS {
+        for (label, workload, size) in rows() {
+            if let Some(ratio) = figures.ratio(call, workload, size, who) {
+                found.push((format!("{call} on {label}"), ratio));
             }
         }
     }
-    println!();
+    found
 }
 
-pub fn print(files: &[&str]) {
+/// What a reader is to know first: a paragraph with the range of ratios to each other one, and every row below 1.0.
+pub fn summary(files: &[&str]) {
     let figures = Figures::read(files);
-    println!("### Times as fast as {}\n", name_of(figures.baseline()));
-    SIZES.iter().for_each(|size| summary(&figures, *size));
-    println!("### Rows that fall short\n");
-    below(&figures);
-    println!("### Beside other code, {} in all\n", size_name(MAIN_SIZE));
-    CALLS.iter().for_each(|(call, sizes)| beside(&figures, call, sizes));
+    let mut ranges = Vec::new();
+    let mut below = Vec::new();
+    for who in RIVALS {
+        let all = ratios(&figures, who);
+        let mut sorted: Vec<f64> = all.iter().map(|(_, ratio)| *ratio).collect();
+        sorted.sort_by(f64::total_cmp);
+        let (Some(least), Some(most)) = (sorted.first(), sorted.last()) else { continue };
+        let slower: Vec<String> =
+            all.iter().filter(|(_, ratio)| *ratio < 1.0).map(|(row, ratio)| format!("{row} {ratio:.2}")).collect();
+        ranges.push(format!(
+            "{least:.2} to {most:.0} times as fast as {} (half of {} rows above {:.1}, {} below 1.0)",
+            name_of(who),
+            sorted.len(),
+            sorted[sorted.len() / 2],
+            slower.len()
+        ));
+        if !slower.is_empty() {
+            below.push(format!("- {}: {}.", name_of(who), slower.join("; ")));
+        }
+    }
+    println!("The library is {}.\n", ranges.join("; "));
+    if below.is_empty() {
+        println!("No row is below 1.0 of any of them.");
+    } else {
+        println!("Every row in which one of them is faster, as a fraction of its speed:\n");
+        below.iter().for_each(|line| println!("{line}"));
+    }
+}
+
+pub fn tables(files: &[&str]) {
+    let figures = Figures::read(files);
+    table("MB/s", |call, workload, size| shown(figures.best(call, workload, size, "ours"), 0));
+    for who in RIVALS {
+        if figures.best("encode", "zeros", MAIN_SIZE, who).is_some() {
+            table(&format!("/ {}", name_of(who)), |call, workload, size| {
+                shown_ratio(figures.ratio(call, workload, size, who))
+            });
+        }
+    }
+    if figures.baseline() == "machine" {
+        table("/ the state machine", |call, workload, size| shown_ratio(figures.ratio(call, workload, size, "machine")));
+    }
 }
 
 const PANEL: (f64, f64) = (340.0, 262.0);

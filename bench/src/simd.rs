@@ -435,19 +435,3 @@ pub fn feed_each(stream: &[u8], dest: &mut [u8]) -> Option<usize> {
     }
     Some(sum)
 }
-
-#[inline(never)]
-fn feed(decoder: &mut Decoder, byte: u8, dest: &mut [u8]) -> Option<Option<usize>> {
-    decoder.feed(byte, dest)
-}
-
-/// The same, by a call for each byte.
-#[inline(never)]
-pub fn feed_by_call(stream: &[u8], dest: &mut [u8]) -> Option<usize> {
-    let mut decoder = Decoder::new();
-    let mut sum = 0;
-    for &byte in stream {
-        sum += feed(&mut decoder, byte, dest)?.unwrap_or(0);
-    }
-    Some(sum)
-}

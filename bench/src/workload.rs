@@ -24,20 +24,27 @@ impl Dice {
     }
 }
 
-pub const WORKLOADS: [&str; 12] = [
+pub const WORKLOADS: [&str; 16] = [
     "zeros",
     "none",
     "every 16",
-    "every 33",
+    "runs of 20 to 45",
     "every 64",
     "random",
-    "telemetry",
     "alternating",
+    "text",
+    "i32",
+    "f32",
+    "telemetry",
+    "70 to 600",
     "below 20",
     "full, zeros",
     "full, every 16",
     "full, alternating",
 ];
+
+/// The workloads of short messages, which are reported at the least size too.
+pub const SHORT: [&str; 2] = ["telemetry", "below 20"];
 
 pub const SIZES: [usize; 3] = [1024, 65536, 1048576];
 
@@ -54,11 +61,15 @@ pub fn messages(workload: &str, size: usize) -> Vec<Vec<u8>> {
         "zeros" => vec![vec![0; size]],
         "none" => vec![periodic(size + 1, size, &mut dice)],
         "every 16" => vec![periodic(16, size, &mut dice)],
-        "every 33" => vec![periodic(33, size, &mut dice)],
+        "runs of 20 to 45" => vec![runs(20, 45, size, &mut dice)],
         "every 64" => vec![periodic(64, size, &mut dice)],
         "alternating" => vec![periodic(2, size, &mut dice)],
         "random" => vec![(0..size).map(|_| dice.next() as u8).collect()],
+        "text" => lines(size, &mut dice),
+        "i32" => vec![(0..size / 4).flat_map(|_| (dice.below(65536) as i32).to_le_bytes()).collect()],
+        "f32" => vec![(0..size / 4).flat_map(|_| (dice.below(4096) as f32 / 16.0).to_le_bytes()).collect()],
         "telemetry" => short(20, 64, size, &mut dice),
+        "70 to 600" => short(70, 600, size, &mut dice),
         "below 20" => short(1, 19, size, &mut dice),
         _ => panic!("no such workload: {workload}"),
     }
@@ -77,6 +88,35 @@ fn short(low: u64, high: u64, size: usize, dice: &mut Dice) -> Vec<Vec<u8>> {
         let len = (low + dice.below(high - low + 1)) as usize;
         found.push((0..len).map(|_| if dice.below(10) == 0 { 0 } else { dice.nonzero() }).collect());
         sum += len;
+    }
+    found
+}
+
+/// One message of runs without zeros, of these lengths, with a zero after each.
+fn runs(low: u64, high: u64, size: usize, dice: &mut Dice) -> Vec<u8> {
+    let mut found = Vec::new();
+    while found.len() < size {
+        let len = low + dice.below(high - low + 1);
+        found.extend((0..len).map(|_| dice.nonzero()));
+        found.push(0);
+    }
+    found.truncate(size);
+    found
+}
+
+/// Lines of ASCII text as a device logs them, a message each.
+fn lines(size: usize, dice: &mut Dice) -> Vec<Vec<u8>> {
+    let mut found = Vec::new();
+    let mut sum = 0;
+    while sum < size {
+        let (time, sensor, value) = (1000 + sum, dice.below(8), dice.below(10_000) as f64 / 100.0);
+        let line = match dice.below(3) {
+            0 => format!("{time} INFO sensor {sensor}: {value} degrees\n"),
+            1 => format!("{{\"t\":{time},\"id\":{sensor},\"v\":{value}}}\n"),
+            _ => format!("$SENS,{time},{sensor},{value},OK,battery at 3.30 V, link up, no error since the last report*5A\r\n"),
+        };
+        sum += line.len();
+        found.push(line.into_bytes());
     }
     found
 }

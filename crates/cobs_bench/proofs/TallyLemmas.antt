@@ -9,10 +9,10 @@ use Rattle.cobs.specs.Stream.{Outcome, Message, Broken, TooLong, outcome_of, str
 use Rattle.cobs.specs.Feed.{Phase, DecoderAfter, Feeds, fed, told, answer_to, answer_at_end}
 use Rattle.cobs.specs.Push.{PushesBytes, answer_at, StopsAfter, IsQuiet, Answers, consumed}
 use Rattle.cobs.specs.Fields.Report.{parsed_size_of, frame_size_of}
-use Rattle.cobs.specs.declared.dec.report.DecodeReport.{DecodeReport}
-use Rattle.cobs.specs.declared.dec.error.PushError.{PushError}
-use Rattle.cobs.specs.declared.dec.error.DecodeError.{DecodeError}
-use Rattle.cobs.specs.declared.dec.error.DecodeError.TheVariants.{InvalidFrame, TargetBufTooSmall}
+use Rattle.cobs.specs.declared.dec.DecodeReport.{DecodeReport}
+use Rattle.cobs.specs.declared.dec.PushError.{PushError}
+use Rattle.cobs.specs.declared.dec.DecodeError.{DecodeError}
+use Rattle.cobs.specs.declared.dec.DecodeError.TheVariants.{InvalidFrame, TargetBufTooSmall}
 use Rattle.cobs_bench.proofs.StreamFacts.{StreamFacts, outcomes_at, outcomes_at-nonzero, output-empty, fed-nonzero, unended-push, stream_outcomes-piece, stream_outcomes-push}
 use Rattle.cobs_bench.specs.Answer.{refusal_of}
 use Rattle.cobs_bench.specs.Tally.{tallied, outcomes_to_end}

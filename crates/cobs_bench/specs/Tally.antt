@@ -5,11 +5,11 @@ use Rattle.cobs.specs.Stream.{Outcome, Message, Broken, TooLong, stream_outcomes
 use Rattle.cobs_bench.specs.declared.answer.Answer.{Answer}
 use Rattle.cobs_bench.specs.declared.answer.TheConstants.{OK, TOO_SMALL, BROKEN}
 
--- how many bytes a chunk has: so many, or all the bytes where that is 0
+-- how many bytes a chunk has: this many, or all the bytes where that is 0
 abbrev pub chunk_len : ℕ → List ℕ → ℕ
 chunk_len chunk bytes = if chunk == 0 then length bytes else chunk
 
--- after so many messages with so many bytes: the count of messages and the sum of their lengths, up to the first
+-- after this many messages with this many bytes: the count of messages and the sum of their lengths, up to the first
 -- outcome that is no message, which gives the status
 abbrev pub tallied : ℕ → ℕ → List Outcome → Answer
 tallied count sum [] = record { status = OK; parsed = count; len = sum }

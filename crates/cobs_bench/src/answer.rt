@@ -1,4 +1,4 @@
-//! What a call answers, as C sees it.
+//! What a call returns, as C sees it.
 ghost use Rattle.std.specs.Prelude.{◌≡◌};
 
 use cobs::{DecodeError, DecodeReport};
@@ -15,10 +15,7 @@ pub const BROKEN: u32 = 2;
 /// There was no byte to decode.
 pub const EMPTY: u32 = 3;
 
-/// No piece has ended yet.
-pub const MORE: u32 = 4;
-
-/// A status, how many bytes of the source were consumed, and how many bytes stand at the front of the destination.
+/// A status, how many bytes of the source were consumed, and how many bytes are at the front of the destination.
 #[repr(C)]
 #[derive(Clone, Copy)]
 pub struct Answer {
@@ -27,15 +24,7 @@ pub struct Answer {
     pub len: usize,
 }
 
-/// What a byte of a stream brought: a status, and the length of a message, or how much of a broken piece decoded.
-#[repr(C)]
-#[derive(Clone, Copy)]
-pub struct Fed {
-    pub status: u32,
-    pub len: usize,
-}
-
-/// An answer of these parts.
+/// A result of these parts.
 pub(crate) fn answered(status: u32, parsed: usize, len: usize) -> Answer
     ensures { result ≡ record { status = status; parsed = parsed; len = len } }
 {
@@ -46,7 +35,7 @@ pub(crate) fn answered(status: u32, parsed: usize, len: usize) -> Answer
     }
 }
 
-/// The status that says why a frame was refused.
+/// The status that says why a frame was rejected.
 pub(crate) fn status_of(error: &DecodeError) -> u32
     ensures { result ≡ (refusal_of error.now).status }
 {
@@ -57,9 +46,9 @@ pub(crate) fn status_of(error: &DecodeError) -> u32
     }
 }
 
-ghost use Rattle.cobs_bench.specs.Answer.{answer_of, answer_of_size, refusal_of, told};
+ghost use Rattle.cobs_bench.specs.Answer.{answer_of, answer_of_size, refusal_of};
 
-/// The answer for a refusal.
+/// The result for an error.
 fn refusal_of(error: DecodeError) -> Answer
     ensures { result ≡ refusal_of error }
 {
@@ -71,7 +60,7 @@ fn refusal_of(error: DecodeError) -> Answer
     answered(status, 0, len)
 }
 
-/// The answer for what a decoding call answers.
+/// The result for what a decoding call returns.
 pub(crate) fn answer_of(decoded: Result<DecodeReport, DecodeError>) -> Answer
     ensures { result ≡ answer_of decoded }
 {
@@ -81,7 +70,7 @@ pub(crate) fn answer_of(decoded: Result<DecodeReport, DecodeError>) -> Answer
     }
 }
 
-/// The answer for what a decoding call answers that says the message's length alone.
+/// The result for what a decoding call returns that says only the message's length.
 pub(crate) fn answer_of_size(decoded: Result<usize, DecodeError>) -> Answer
     ensures { result ≡ answer_of_size decoded }
 {
@@ -89,18 +78,4 @@ pub(crate) fn answer_of_size(decoded: Result<usize, DecodeError>) -> Answer
         Ok(len) => answered(OK, 0, len),
         Err(error) => refusal_of(error),
     }
-}
-
-/// The answer for what a byte brought.
-pub(crate) fn fed_of(found: Result<Option<usize>, DecodeError>) -> Fed
-    ensures { told result ≡ found }
-{
-    let (status, len) = match found {
-        Ok(None) => (MORE, 0),
-        Ok(Some(len)) => (OK, len),
-        Err(DecodeError::EmptyFrame) => (EMPTY, 0),
-        Err(DecodeError::InvalidFrame { decoded_bytes }) => (BROKEN, decoded_bytes),
-        Err(DecodeError::TargetBufTooSmall) => (TOO_SMALL, 0),
-    };
-    Fed { status, len }
 }

@@ -15,7 +15,7 @@ ghost use Rattle.cobs_bench.specs.Answer.{answer_of, answer_of_size};
 mod answer;
 mod streams;
 
-pub use answer::{Answer, Fed};
+pub use answer::Answer;
 use answer::{OK, TOO_SMALL, answer_of, answer_of_size, answered};
 use cobs::{CobsDecoder, FrameReader, Next, Recorded};
 use std::alloc::Global;

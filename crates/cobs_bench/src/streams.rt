@@ -1,15 +1,12 @@
-//! The streaming encoder and decoder, driven in chunks; and a decoder that is fed by a call for each byte.
+//! The streaming encoder and decoder, driven in chunks, and byte by byte.
 ghost use Rattle.std.specs.Prelude.{◌≡◌, ◌≤◌, ◌<◌, ◌+◌, length, take, drop};
 ghost use Rattle.cobs.specs.Grammar.{IsEncodedFrame};
 ghost use Rattle.cobs.specs.Length.{encoded_len};
-ghost use Rattle.cobs.specs.Feed.{Feeds, Idle};
-ghost use Rattle.cobs.specs.Fields.Decoders.{phase_of};
-ghost use Rattle.cobs_bench.specs.Answer.{told};
 ghost use Rattle.cobs_bench.specs.Tally.{chunk_len, outcomes_to_end, tallied};
 
-use crate::answer::{Answer, Fed, OK, TOO_SMALL, answered, fed_of, status_of};
+use crate::answer::{Answer, OK, TOO_SMALL, answered, status_of};
 use cobs::laws::{law_1, law_4, law_9, law_10};
-use cobs::{CobsDecoder, CobsEncoder, UnbufferedDecoder};
+use cobs::{CobsDecoder, CobsEncoder};
 
 /// How many of the bytes that are left the next chunk has: `chunk` of them, or all where `chunk` is 0.
 fn next_len(chunk: usize, left: usize) -> usize
@@ -23,7 +20,7 @@ fn next_len(chunk: usize, left: usize) -> usize
 }
 
 /// Pushes the message to a `CobsEncoder`, `chunk` bytes at a time, or all at once where `chunk` is 0, up to the first
-/// chunk that it refuses, and ends the frame.
+/// chunk that doesn't fit, and ends the frame.
 #[unsafe(no_mangle)]
 pub extern "C" fn bench_encoder_push(source: &[u8], chunk: usize, dest: &mut [u8]) -> Answer
     ensures fits { encoded_len source.now ≤ length dest.old
@@ -61,7 +58,7 @@ pub extern "C" fn bench_encoder_push(source: &[u8], chunk: usize, dest: &mut [u8
 }
 
 /// Pushes the stream to a `CobsDecoder`, `chunk` bytes at a time, or all at once where `chunk` is 0, up to the first
-/// refusal.
+/// error.
 #[unsafe(no_mangle)]
 pub extern "C" fn bench_push(stream: &[u8], chunk: usize, dest: &mut [u8]) -> Answer
     ensures tallied { result ≡ tallied 0 0 (outcomes_to_end stream.now (length dest.old)) }
@@ -91,7 +88,7 @@ pub extern "C" fn bench_push(stream: &[u8], chunk: usize, dest: &mut [u8]) -> An
     answered(OK, messages, sum)
 }
 
-/// Feeds the stream to a `CobsDecoder` one byte after another, up to the first refusal.
+/// Feeds the stream to a `CobsDecoder` one byte after another, up to the first error.
 #[unsafe(no_mangle)]
 pub extern "C" fn bench_feed_each(stream: &[u8], dest: &mut [u8]) -> Answer
     ensures tallied { result ≡ tallied 0 0 (outcomes_to_end stream.now (length dest.old)) }
@@ -113,21 +110,4 @@ pub extern "C" fn bench_feed_each(stream: &[u8], dest: &mut [u8]) -> Answer
         }
     }
     answered(OK, messages, sum)
-}
-
-/// Makes a decoder that the caller keeps one that has taken nothing.
-#[unsafe(no_mangle)]
-pub extern "C" fn bench_decoder_reset(decoder: &mut UnbufferedDecoder)
-    ensures { phase_of decoder.new ≡ Idle }
-{
-    decoder.reset();
-}
-
-/// Feeds one byte to a decoder that the caller keeps, over the caller's buffer.
-#[unsafe(no_mangle)]
-pub extern "C" fn bench_feed(decoder: &mut UnbufferedDecoder, buffer: &mut [u8], byte: u8) -> Fed
-    ensures { Feeds buffer.old (phase_of decoder.old) byte (told result)
-        buffer.new (phase_of decoder.new) }
-{
-    fed_of(decoder.feed(buffer, byte))
 }
