@@ -4,10 +4,12 @@
 #     build.sh                 cobs.wasm, from the proved crate, and dist/ (needs the kit of Rattle; RATTLE is its folder)
 #     build.sh to FILE         cobs.wasm alone, written to FILE
 #     build.sh dist [FOLDER]   the files with the module inside, from cobs.wasm as it is (Node)
-#     build.sh site FOLDER     the page as static files for any host
+#     build.sh site FOLDER     the page as static files for any host; with REPOSITORY=URL, the address of this repository's files
+#                              there, it links to the proofs of what it shows
 #     build.sh pictures        the pictures of docs/FORMAT.md (Node)
 #     build.sh screenshots     the screenshots in docs/images/ (Node and Chromium)
-#     build.sh serve [PORT]    the page, at http://localhost:8000/ or another port (Node)
+#     build.sh serve [PORT [HOST]]    the page, at http://localhost:8000/ or another port (Node); with the host 0.0.0.0, other
+#                              devices of the network see it too
 #
 # Everything is proved before it is built: on a clone with no checks kept, that takes some minutes.
 set -eu
@@ -40,6 +42,18 @@ build() { # FILE
     python3 -B "$here/lower.py" "$1"
 }
 
+# Writes the repository's address into the page.
+link() { # FILE URL
+    case $2 in
+        '') return ;;
+        *[!A-Za-z0-9:/?=@%._~+-]*) echo "build.sh: REPOSITORY is no address: $2" >&2; exit 2 ;;
+        http://* | https://*) ;;
+        *) echo "build.sh: REPOSITORY begins with http:// or https://, not $2" >&2; exit 2 ;;
+    esac
+    sed "s|<meta name=\"repository\" content=\"\">|<meta name=\"repository\" content=\"$2\">|" "$1" >"$1.new"
+    mv "$1.new" "$1"
+}
+
 case ${1:-} in
     '') need "$node" nodejs; build "$here/cobs.wasm"; "$node" "$here/pack.mjs" "$here/dist"; ls -l "$here/cobs.wasm" "$here/dist" ;;
     to) build "$2" ;;
@@ -48,6 +62,7 @@ case ${1:-} in
         mkdir -p "$2/page"
         cp "$here/index.html" "$here/draw.js" "$here/jcobs.js" "$here/machine.js" "$here/cobs.wasm" "$2"
         cp "$here"/page/*.js "$here"/page/*.css "$2/page"
+        link "$2/index.html" "${REPOSITORY:-}"
         ;;
     pictures) need "$node" nodejs; "$node" "$here/figures.mjs" "$root/docs/images" ;;
     screenshots)
@@ -55,6 +70,6 @@ case ${1:-} in
         need "${CHROMIUM:-chromium}" chromium
         "$node" "$here/test/screenshots.mjs" "$root/docs/images"
         ;;
-    serve) need "$node" nodejs; exec "$node" "$here/serve.mjs" "${2:-8000}" ;;
-    *) sed -n '2,12s/^# \{0,1\}//p' "$0" >&2; exit 2 ;;
+    serve) need "$node" nodejs; exec "$node" "$here/serve.mjs" "${2:-8000}" "${3:-127.0.0.1}" ;;
+    *) sed -n '2,14s/^# \{0,1\}//p' "$0" >&2; exit 2 ;;
 esac

@@ -1,8 +1,8 @@
 // Pictures of frames, as SVG text. The page and figures.mjs draw by this module alone; it needs no DOM.
 //
-// A picture is a row of cells, one for each byte of the frame. Over each byte stands what it is in the
-// message: a data byte is itself (XORed with the sentinel, which changes nothing for 0), and a code stands where a zero of the message was, but the first one
-// and the one after a full block. Under the cells an arc leads from each code to the next.
+// A picture is a row of cells, one for each byte of the frame. Over each cell is the byte of the message that it is for: a
+// data byte itself (XORed with the sentinel, which changes nothing for 0), a zero over each code but the first and
+// one after a full block. Under the cells an arc leads from each code to the next.
 
 export const CELL = 32;          // width of a cell, in pixels
 export const ROW_HEIGHT = 100;   // height of a row with its arcs and a margin
@@ -96,7 +96,6 @@ export function cellsOf(piece, places, from, to, options = {}) {
       first: isCode,
       last: at + 1 === Math.min(part.end, piece.length),
       over: isCode ? overCode(piece, places, number, sentinel) : { text: showOver(piece[at] ^ sentinel), kind: "over" },
-      value: piece[at] ^ sentinel,
     });
     if (isCode || at === from) {
       const inside = part.end < to || (part.end === to && part.end === piece.length);
@@ -181,39 +180,22 @@ function cellText(cell, x) {
   return text + overText(cell.over, x);
 }
 
-/** A row of a long piece, as a whole SVG with the place of its first byte in front, and words for those who don't see it. */
-export function rowPicture(piece, places, from, to, options = {}) {
-  const margin = options.margin ?? 58;
-  const { cells, arcs } = cellsOf(piece, places, from, to, options);
-  const label = words(cells, from);
-  // the last arc leads to the place after the frame, where the sentinel will stand
-  if (to === piece.length) cells.push(sentinelCell((options.show ?? hex)(options.sentinel ?? 0)));
-  const width = margin + cells.length * CELL;
-  return `<svg width="${width}" height="${ROW_HEIGHT - 4}" viewBox="0 0 ${width} ${ROW_HEIGHT - 4}" role="img" aria-label="${escaped(label)}">`
-    + `<text class="at" x="${margin / 2}" y="${TOP + 19}">${from}</text>${row(cells, arcs, margin)}</svg>`;
-}
-
-/** The arcs of a row alone, to hang below cells that are `CELL` wide, `shift` pixels from the left. */
-export function arcsPicture(piece, places, from, to, { sentinel = 0, shift = 0 } = {}) {
-  const arcs = cellsOf(piece, places, from, to, { sentinel }).arcs.map((arc) => ({ ...arc, note: "" }));
-  const width = (to - from + 1) * CELL + shift;
-  const paths = arcs.map((arc) => arcPath(arc, shift, shift + (to - from) * CELL)).join("");
-  return `<svg width="${width}" height="${DEPTH + 6}" viewBox="0 ${TOP + HEIGHT} ${width} ${DEPTH + 6}" aria-hidden="true">${paths}</svg>`;
+/**
+ * A row of a stream as a whole SVG: `lead` sentinels, the bytes `from` up to `to` of a piece, `trail` sentinels. `label` is
+ * written in front of it, in a margin of so many pixels.
+ */
+export function rowPicture(piece, places, from, to, { sentinel = 0, margin = 58, label = from, lead = 0, trail = 0 } = {}) {
+  const part = from < to ? cellsOf(piece, places, from, to, { sentinel }) : { cells: [], arcs: [] };
+  const idle = (number) => new Array(number).fill(sentinelCell(hex(sentinel)));
+  const arcs = part.arcs.map((arc) => ({ ...arc, from: arc.from === null ? null : arc.from + lead, to: arc.to === null ? null : arc.to + lead }));
+  const cells = [...idle(lead), ...part.cells, ...idle(trail)];
+  const width = margin + (cells.length + 1) * CELL;
+  return `<svg width="${width}" height="${ROW_HEIGHT - 4}" viewBox="0 0 ${width} ${ROW_HEIGHT - 4}" aria-hidden="true">`
+    + `<text class="at" x="${margin / 2}" y="${TOP + 19}">${label}</text>${row(cells, arcs, margin)}</svg>`;
 }
 
 /** The place of the sentinel after a frame. */
 const sentinelCell = (text) => ({ text, first: true, last: true, ending: true, over: { text: "", kind: "over" } });
-
-/** A row in words. */
-function words(cells, from) {
-  const said = cells.map((cell) => {
-    const value = hex(cell.value) === cell.text ? cell.text : `${cell.text} for ${hex(cell.value)}`;
-    if (!cell.isCode) return value;
-    const joint = cell.over.kind === "zero" ? ", a zero of the message" : cell.over.kind === "note" ? ", no zero" : "";
-    return `${cell.full ? "full block, code" : "code"} ${value}${joint};`;
-  });
-  return `Bytes ${from} to ${from + cells.length - 1}: ${said.join(" ")}`;
-}
 
 /** `cells` and `arcs` without the cells `cut.from` up to `cut.to`, which one cell with their number stands for. */
 function elide({ cells, arcs }, cut) {

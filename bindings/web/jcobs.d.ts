@@ -7,7 +7,7 @@ export type Bytes = ArrayBuffer | SharedArrayBuffer | ArrayBufferView;
 export type Source = string | URL | Response | Bytes | WebAssembly.Module;
 
 export interface SentinelOptions {
-  /** The byte that a frame lacks, 0 to 255. Default 0. */
+  /** The byte that a frame never contains, 0 to 255. Default 0. */
   sentinel?: number;
 }
 
@@ -32,13 +32,13 @@ export interface DecoderOptions extends PieceOptions {
 export type Outcome =
   /** It is a frame, and this is its message. */
   | { message: Uint8Array; broken?: undefined; tooLong?: undefined }
-  /** It breaks off inside a block. What there is of it decodes to so many bytes. */
+  /** It breaks off inside a block. What there is of it decodes to this many bytes. */
   | { broken: number; message?: undefined; tooLong?: undefined }
   /** It decodes to more than `maxLength` bytes. */
   | { tooLong: true; message?: undefined; broken?: undefined };
 
 /**
- * Why a call was refused:
+ * Why a call failed:
  * - "empty": `decode` was given no bytes, or sentinels alone;
  * - "broken": the frame breaks off inside a block;
  * - "unsupported": this engine is too old to run the module.
@@ -60,7 +60,7 @@ export function isSupported(): boolean;
  */
 export function load(source?: Source): Promise<void>;
 
-/** The length of the longest frame of a message of so many bytes, without sentinels. */
+/** The length of the longest frame of a message of this many bytes, without sentinels. */
 export function maxEncodedLength(length: number): number;
 
 /** The frame of a message. */
@@ -74,7 +74,7 @@ export function encodeInto(message: Bytes, dest: Bytes, options?: EncodeOptions)
 
 /**
  * The message of the first frame: sentinels in front are skipped, and it ends at the next sentinel or with the
- * bytes. What stands after it isn't read.
+ * bytes. What is after it isn't read.
  * @throws CobsError "empty" or "broken"
  */
 export function decode(frame: Bytes, options?: SentinelOptions): Uint8Array;

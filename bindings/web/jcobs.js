@@ -6,7 +6,7 @@
 //     const frames = port.readable.pipeThrough(new FrameDecoderStream({ maxLength: 4096 }));
 //
 // This file copies bytes into the module's memory and results out of it. Which bytes a frame has and what a stream
-// decodes to is decided by the module alone.
+// decodes to is decided only by the module.
 import { BROKEN, CHUNK_SIZE, CobsError, KINDS, OK, STATE_SIZE, TOO_SMALL, bytesOf, loaded, machineFor } from "./machine.js";
 
 export { CobsError, isSupported, load } from "./machine.js";
@@ -297,7 +297,7 @@ export class FrameEncoder {
 
 /**
  * The two ends of a stream that `take(chunk, give)` carries each chunk through, as a TransformStream has them. `close` is
- * called once, however it ends: engines don't tell a TransformStream of every way.
+ * called once, however it ends: engines don't notify a TransformStream of every way.
  */
 function ends(take, close) {
   let out;

@@ -194,7 +194,7 @@ async function moduleOf(source) {
     throw new TypeError("load takes a URL, a Response, bytes, or a compiled module");
   }
   const url = new URL(source, import.meta.url);
-  // not `import`, which every bundler for browsers would have to be told to leave alone
+  // not `import`, which every bundler for browsers would have to be configured to leave alone
   const files = url.protocol === "file:" ? globalThis.process?.getBuiltinModule?.("node:fs/promises") : undefined;
   return WebAssembly.compile(files ? await files.readFile(url) : await bytesOfResponse(await fetch(url)));
 }
@@ -214,7 +214,7 @@ class Arena {
     machine.reach(this.end);
   }
 
-  /** A place of so many bytes: one that was given back, or a new one at the memory's end. */
+  /** A place of this many bytes: one that was given back, or a new one at the memory's end. */
   take(size) {
     const wanted = Math.ceil(size / 64) * 64;
     const found = this.#free.findIndex((place) => place.size >= wanted);

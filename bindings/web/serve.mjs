@@ -1,4 +1,4 @@
-// Serves this folder to this computer alone: node serve.mjs [PORT]
+// Serves this folder, to this computer alone unless another address to listen on is given: node serve.mjs [PORT [HOST]]
 import { createServer } from "node:http";
 import { readFile } from "node:fs/promises";
 import { extname, join, normalize } from "node:path";
@@ -28,20 +28,25 @@ async function answer(request, response, folders) {
   }
 }
 
-/** Starts serving, and returns the server and its address. Port 0 is any free one. `folders` are others, by their names. */
-export async function serve(port = 0, folders = {}) {
+/**
+ * Starts serving, and returns the server and its address. Port 0 is any free one. `folders` are others, by their names. `host`
+ * is the address to listen on: "127.0.0.1" is this computer, "0.0.0.0" all of its networks.
+ */
+export async function serve(port = 0, folders = {}, host = "127.0.0.1") {
   const server = createServer((request, response) => answer(request, response, folders).catch(() => response.destroy()));
-  await new Promise((done, failed) => server.once("error", failed).listen(port, "127.0.0.1", done));
-  return { server, address: `http://localhost:${server.address().port}/` };
+  await new Promise((done, failed) => server.once("error", failed).listen(port, host, done));
+  const name = ["127.0.0.1", "0.0.0.0", "::"].includes(host) ? "localhost" : host.includes(":") ? `[${host}]` : host;
+  return { server, address: `http://${name}:${server.address().port}/` };
 }
 
 if (process.argv[1] && import.meta.url === pathToFileURL(process.argv[1]).href) {
   const port = Number(process.argv[2] ?? 8000);
+  const host = process.argv[3];
   try {
-    const { address } = await serve(port);
+    const { address } = await serve(port, {}, host);
     console.log(`${address} (Ctrl+C ends it)`);
   } catch (error) {
-    console.error(`serve.mjs: port ${port} can't be used: ${error.message}`);
+    console.error(`serve.mjs: port ${port}${host ? ` of ${host}` : ""} can't be used: ${error.message}`);
     process.exitCode = 1;
   }
 }

@@ -249,20 +249,33 @@ static void run_encoder(void)
 {
     bytes buffer = argument(0);
     jcobs_encoder encoder = JCOBS_ENCODER_INIT;
+    jcobs_encoder other;
+    unsigned char *terminated;
     const char *told[MOST_WORDS];
     jcobs_answer answer;
+    jcobs_answer again;
     size_t pieces = argument_count() - 1;
     size_t i;
 
     for (i = 0; i < pieces; i++) {
         bytes piece = argument(i + 1);
-        answer = jcobs_encoder_push(&encoder, buffer.data, buffer.len, piece.data, piece.len);
+        answer = piece.len == 1 ? jcobs_encoder_feed(&encoder, buffer.data, buffer.len, piece.data[0])
+                                : jcobs_encoder_push(&encoder, buffer.data, buffer.len, piece.data, piece.len);
         told[i] = answer.status == JCOBS_OK ? "ok" : "too_small";
         expect("consumed", answer.consumed == (answer.status == JCOBS_OK ? piece.len : 0));
         free(piece.data);
     }
+    terminated = room_for(buffer.len);
+    memcpy(terminated, buffer.data, buffer.len);
+    other = encoder;
+    again = jcobs_encoder_finish_terminated(&other, terminated, buffer.len);
     answer = jcobs_encoder_finish(&encoder, buffer.data, buffer.len);
     expect("finished", answer.status == JCOBS_OK && answer.consumed == 0);
+    expect("terminated", answer.length == buffer.len ? again.status == JCOBS_TOO_SMALL
+                                                     : again.status == JCOBS_OK && again.length == answer.length + 1 &&
+                                                           memcmp(terminated, buffer.data, answer.length) == 0 &&
+                                                           terminated[answer.length] == 0);
+    free(terminated);
     expect_count("length", answer.length);
     expect_bytes("buffer", buffer.data, buffer.len);
     for (i = 0; i < pieces; i++)
@@ -398,7 +411,23 @@ static void pass_over_early(bytes stream)
     }
 }
 
-static void run_decoder(void)
+/* How a stream is pushed: its pieces as they are, or each byte by itself, for a sentinel. */
+enum { IN_PIECES = -1 };
+
+static const int streams[] = {IN_PIECES, 0, 1, 2, 10, 0x80, 0xff};
+
+static jcobs_answer push(jcobs_decoder *decoder, unsigned char *buffer, size_t room, const unsigned char *data,
+                         size_t len, int sentinel)
+{
+    unsigned char byte;
+
+    if (sentinel == IN_PIECES)
+        return jcobs_decoder_push(decoder, buffer, room, data, len);
+    byte = (unsigned char)(data[0] ^ sentinel);
+    return jcobs_decoder_push_with_sentinel(decoder, buffer, room, &byte, 1, (unsigned char)sentinel);
+}
+
+static void run_decoder(int sentinel)
 {
     bytes buffer = argument(0);
     bytes stream = {NULL, 0};
@@ -419,15 +448,14 @@ static void run_decoder(void)
         if (piece.len > 0)
             memcpy(stream.data + stream.len, piece.data, piece.len);
         while (at < piece.len) {
-            jcobs_answer answer =
-                jcobs_decoder_push(&decoder, buffer.data, buffer.len, piece.data + at, piece.len - at);
+            jcobs_answer answer = push(&decoder, buffer.data, buffer.len, piece.data + at, piece.len - at, sentinel);
             at += answer.consumed;
             if (answer.consumed == 0) {
                 fail("nothing consumed");
                 break;
             }
             if (answer.status == JCOBS_MORE) {
-                expect("all consumed", at == piece.len);
+                expect("all consumed", at == piece.len || sentinel != IN_PIECES);
                 continue;
             }
             pass_over_early(stream);
@@ -449,7 +477,7 @@ static void run_decoder(void)
     free(buffer.data);
 }
 
-static void run_decode_stream(void)
+static void run_decode_stream(int sentinel)
 {
     size_t room = (size_t)strtoul(words[3], NULL, 10);
     unsigned char *buffer = room_for(room);
@@ -461,8 +489,12 @@ static void run_decode_stream(void)
         size_t at = 0;
 
         while (at < piece.len) {
-            jcobs_answer answer = jcobs_decoder_push(&decoder, buffer, room, piece.data + at, piece.len - at);
+            jcobs_answer answer = push(&decoder, buffer, room, piece.data + at, piece.len - at, sentinel);
             at += answer.consumed;
+            if (answer.consumed == 0) {
+                fail("nothing consumed");
+                break;
+            }
             switch (answer.status) {
             case JCOBS_OK:
                 expect_word("message", "message");
@@ -485,6 +517,20 @@ static void run_decode_stream(void)
     if (next_answer < word_count && strcmp(words[next_answer], "-") == 0)
         next_answer++;
     free(buffer);
+}
+
+/* Runs a case of a streaming decoder in each way. */
+static void run_in_each_way(void (*run)(int))
+{
+    size_t first = next_answer;
+    size_t i;
+
+    for (i = 0; i < sizeof streams / sizeof streams[0]; i++) {
+        next_answer = first;
+        run(streams[i]);
+        if (next_answer != word_count)
+            fail("fewer answers than words");
+    }
 }
 
 static void run_frame_kind(void)
@@ -534,9 +580,9 @@ static int run_case(const char *call)
     else if (strcmp(call, "decode_in_place_with_sentinel") == 0)
         run_in_place(1, 0);
     else if (strcmp(call, "decoder") == 0)
-        run_decoder();
+        run_in_each_way(run_decoder);
     else if (strcmp(call, "decode_stream") == 0)
-        run_decode_stream();
+        run_in_each_way(run_decode_stream);
     else if (strcmp(call, "frame_kind") == 0)
         run_frame_kind();
     else

@@ -16,7 +16,7 @@ pub use report::DecodingResult;
 pub use report::{DecodeError, DecodeReport};
 pub use state::{DecodeResult, DecoderState};
 
-/// The message's length that a decoding call answers, or its refusal.
+/// The message's length that a decoding call returns, or its error.
 fn length_of(answer: Answer) -> Result<usize, DecodeError> {
     match answer.status {
         Status::Ok => Ok(answer.length),
@@ -33,7 +33,7 @@ fn length_of(answer: Answer) -> Result<usize, DecodeError> {
 ///
 /// The report counts what was parsed with the zeros in front, and the one after it where there is one.
 ///
-/// A frame that was cut off between two of its blocks is a frame too. Where the zero has to be there, test the last byte
+/// A frame that was cut off between two of its blocks is a frame too. If the zero has to be there, test the last byte
 /// that was parsed.
 ///
 /// ```
@@ -47,7 +47,7 @@ fn length_of(answer: Answer) -> Result<usize, DecodeError> {
 /// # Errors
 ///
 /// - [`DecodeError::EmptyFrame`]: `source` is empty.
-/// - [`DecodeError::InvalidFrame`]: the frame breaks off inside a block, after so many bytes of output, which stand at
+/// - [`DecodeError::InvalidFrame`]: the frame breaks off inside a block, after this many bytes of output, which are at
 ///   the front of `dest`; or `source` has zeros alone.
 /// - [`DecodeError::TargetBufTooSmall`]: the output of the frame, broken or not, is longer than `dest`, which holds as
 ///   much of it as fits.
@@ -59,7 +59,7 @@ pub fn decode(source: &[u8], dest: &mut [u8]) -> Result<DecodeReport, DecodeErro
     length_of(answer).map(|frame_size| DecodeReport::new(answer.consumed, frame_size))
 }
 
-/// Decodes the frame at the front of `buff` in its own place, and answers the message's length. It ends at the first
+/// Decodes the frame at the front of `buff` in its own place, and returns the message's length. It ends at the first
 /// zero, or with the buffer. No zero is skipped: one in front is an empty message. The bytes after the message stay as
 /// they are.
 ///
@@ -73,7 +73,7 @@ pub fn decode(source: &[u8], dest: &mut [u8]) -> Result<DecodeReport, DecodeErro
 ///
 /// - [`DecodeError::EmptyFrame`]: `buff` is empty.
 /// - [`DecodeError::InvalidFrame`]: the frame breaks off inside a block. The count is that of the output of the whole
-///   blocks, which stands at the front of `buff`.
+///   blocks, which is at the front of `buff`.
 pub fn decode_in_place(buff: &mut [u8]) -> Result<usize, DecodeError> {
     length_of(sys::decode_in_place(buff))
 }
@@ -102,9 +102,9 @@ pub fn decode_in_place_report(buf: &mut [u8]) -> Result<DecodeReport, DecodeErro
     ))
 }
 
-/// Decodes the frame at the front of `source`, for the given sentinel, to the front of `dest`, and answers the message's
-/// length. It ends at the first sentinel, or with the source. No sentinel is skipped: one in front is an empty message.
-/// The bytes of `dest` after the message stay as they are.
+/// Decodes the frame at the front of `source`, for the given sentinel, to the front of `dest`, and returns the
+/// message's length. It ends at the first sentinel, or with the source. No sentinel is skipped: one in front is an
+/// empty message. The bytes of `dest` after the message stay as they are.
 ///
 /// ```
 /// let mut frame = [0; 8];
@@ -118,9 +118,9 @@ pub fn decode_in_place_report(buf: &mut [u8]) -> Result<DecodeReport, DecodeErro
 ///
 /// - [`DecodeError::EmptyFrame`]: `source` is empty.
 /// - [`DecodeError::InvalidFrame`]: the frame breaks off inside a block. The count is that of the output of the whole
-///   blocks, which stands at the front of `dest`.
-/// - [`DecodeError::TargetBufTooSmall`]: that output, or the message, is longer than `dest`, which holds as much of it as
-///   fits.
+///   blocks, which is at the front of `dest`.
+/// - [`DecodeError::TargetBufTooSmall`]: that output, or the message, is longer than `dest`, which holds as much of it
+///   as fits.
 pub fn decode_with_sentinel(
     source: &[u8],
     dest: &mut [u8],
@@ -129,8 +129,8 @@ pub fn decode_with_sentinel(
     length_of(sys::decode_with_sentinel(source, dest, sentinel))
 }
 
-/// As [`decode_in_place`], for the given sentinel. Each byte of `buff`, those after the frame too, is first XORed with it,
-/// as the crate `cobs` does.
+/// As [`decode_in_place`], for the given sentinel. Each byte of `buff`, those after the frame too, is first XORed with
+/// it, as the crate `cobs` does.
 ///
 /// ```
 /// let mut buff = [0; 3];
@@ -161,7 +161,7 @@ pub fn decode_in_place_with_sentinel(buff: &mut [u8], sentinel: u8) -> Result<us
 ///
 /// # Errors
 ///
-/// [`DecodeError::EmptyFrame`] and [`DecodeError::InvalidFrame`], where [`decode`] answers them.
+/// [`DecodeError::EmptyFrame`] and [`DecodeError::InvalidFrame`], where [`decode`] returns them.
 #[cfg(feature = "alloc")]
 pub fn decode_vec(source: &[u8]) -> Result<alloc::vec::Vec<u8>, DecodeError> {
     let mut decoded = alloc::vec![0; source.len()];
@@ -179,7 +179,7 @@ pub fn decode_vec(source: &[u8]) -> Result<alloc::vec::Vec<u8>, DecodeError> {
 ///
 /// # Errors
 ///
-/// [`DecodeError::EmptyFrame`] and [`DecodeError::InvalidFrame`], where [`decode_with_sentinel`] answers them.
+/// [`DecodeError::EmptyFrame`] and [`DecodeError::InvalidFrame`], where [`decode_with_sentinel`] returns them.
 #[cfg(feature = "alloc")]
 pub fn decode_vec_with_sentinel(
     source: &[u8],

@@ -13,7 +13,7 @@ pub use state::{EncoderState, PushResult};
 
 /// The frame doesn't fit the buffer.
 ///
-/// A call that answers it has written nothing.
+/// A call that returns it has written nothing.
 #[derive(Debug, Clone, Copy, PartialEq, Eq)]
 pub struct DestBufTooSmallError;
 
@@ -25,7 +25,7 @@ impl fmt::Display for DestBufTooSmallError {
 
 impl Error for DestBufTooSmallError {}
 
-/// The length that an encoding call answers.
+/// The length that an encoding call returns.
 fn length_of(answer: Answer) -> Result<usize, DestBufTooSmallError> {
     match answer.status {
         Status::Ok => Ok(answer.length),
@@ -33,7 +33,7 @@ fn length_of(answer: Answer) -> Result<usize, DestBufTooSmallError> {
     }
 }
 
-/// Writes the frame of `source`, without sentinels, to the front of `dest`, and answers its length. The bytes after it
+/// Writes the frame of `source`, without sentinels, to the front of `dest`, and returns its length. The bytes after it
 /// stay as they are.
 ///
 /// ```
@@ -50,7 +50,7 @@ pub fn encode(source: &[u8], dest: &mut [u8]) -> usize {
     try_encode(source, dest).expect("room for the frame")
 }
 
-/// Writes the frame of `source`, without sentinels, to the front of `dest`, and answers its length. The bytes after it
+/// Writes the frame of `source`, without sentinels, to the front of `dest`, and returns its length. The bytes after it
 /// stay as they are.
 ///
 /// ```
@@ -69,7 +69,7 @@ pub fn try_encode(source: &[u8], dest: &mut [u8]) -> Result<usize, DestBufTooSma
     length_of(sys::encode(source, dest))
 }
 
-/// Writes 0, the frame of `source`, and 0 to the front of `dest`, and answers the length of all three. The bytes after
+/// Writes 0, the frame of `source`, and 0 to the front of `dest`, and returns the length of all three. The bytes after
 /// it stay as they are.
 ///
 /// ```
@@ -86,7 +86,7 @@ pub fn encode_including_sentinels(source: &[u8], dest: &mut [u8]) -> usize {
     try_encode_including_sentinels(source, dest).expect("room for the frame and its sentinels")
 }
 
-/// Writes 0, the frame of `source`, and 0 to the front of `dest`, and answers the length of all three. The bytes after
+/// Writes 0, the frame of `source`, and 0 to the front of `dest`, and returns the length of all three. The bytes after
 /// it stay as they are.
 ///
 /// ```
@@ -110,8 +110,8 @@ pub fn try_encode_including_sentinels(
     Ok(length + 1)
 }
 
-/// Writes the frame of `source` for the given sentinel to the front of `dest`, and answers its length: the frame for 0,
-/// each byte changed by exclusive or with `sentinel`. The bytes after it stay as they are.
+/// Writes the frame of `source` for the given sentinel to the front of `dest`, and returns its length: the frame for 0,
+/// each byte XORed with `sentinel`. The bytes after it stay as they are.
 ///
 /// ```
 /// let mut dest = [0; 4];
@@ -127,7 +127,7 @@ pub fn encode_with_sentinel(source: &[u8], dest: &mut [u8], sentinel: u8) -> usi
     try_encode_with_sentinel(source, dest, sentinel).expect("room for the frame")
 }
 
-/// As [`encode_with_sentinel`], with an error in place of the panic. The crate `cobs` lacks this call.
+/// As [`encode_with_sentinel`], with an error in place of the panic. The crate `cobs` doesn't have this call.
 ///
 /// ```
 /// let mut dest = [0; 2];
@@ -146,7 +146,7 @@ pub fn try_encode_with_sentinel(
     length_of(sys::encode_with_sentinel(source, dest, sentinel))
 }
 
-/// Memory for the longest frame of the message, and so many bytes more.
+/// Memory for the longest frame of the message, and this many bytes more.
 #[cfg(feature = "alloc")]
 fn room_for(source: &[u8], more: usize) -> alloc::vec::Vec<u8> {
     alloc::vec![0; crate::max_encoding_length(source.len()) + more]

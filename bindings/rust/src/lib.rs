@@ -1,9 +1,9 @@
 //! Consistent Overhead Byte Stuffing (COBS) with the names and signatures of the crate `cobs` 0.5.1, over the proved
 //! library jcobs.
 //!
-//! COBS encodes a message, any bytes, as a frame that never contains one byte value, the sentinel. So the sentinel, mostly
-//! 0, can mark where frames end on a serial line, in a stream or in a file. A frame is 1 byte longer than a message of up
-//! to 254 bytes, and at most 1 byte more for each 254 bytes after these.
+//! COBS encodes a message, any bytes, as a frame that never contains one byte value, the sentinel. So the sentinel,
+//! mostly 0, can mark where frames end on a serial line, in a stream or in a file. A frame is 1 byte longer than a
+//! message of up to 254 bytes, and at most 1 byte more for each 254 bytes after these.
 //!
 //! # Switching from `cobs`
 //!
@@ -41,8 +41,8 @@
 //! # What is proved
 //!
 //! The static library is written in Rattle, Rust with contracts: each of its functions is proved to meet its contract,
-//! to be safe and to return. This crate is a thin layer of Rust round it, which is tested; its README says which calls are
-//! proved code alone, and which have a few lines of Rust.
+//! to be safe and to return. This crate is a thin layer of Rust round it, which is tested; its README says which calls
+//! are proved code alone, and which have a few lines of Rust.
 //!
 //! # Features
 //!
@@ -62,8 +62,8 @@ mod sys;
 pub use crate::dec::*;
 pub use crate::enc::*;
 
-/// The greatest number of bytes by which a frame is longer than its message of `source_len` bytes: 1 for each 254 bytes,
-/// rounded up, and 1 for the empty message.
+/// The greatest number of bytes by which a frame is longer than its message of `source_len` bytes: 1 for each 254
+/// bytes, rounded up, and 1 for the empty message.
 ///
 /// ```
 /// assert_eq!(jcobs::max_encoding_overhead(0), 1);
@@ -80,7 +80,7 @@ pub const fn max_encoding_overhead(source_len: usize) -> usize {
     }
 }
 
-/// The length of the longest frame of a message of `source_len` bytes. With so much room no encoding call refuses;
+/// The length of the longest frame of a message of `source_len` bytes. With that much room no encoding call fails;
 /// sentinels need one byte each beside it.
 ///
 /// ```

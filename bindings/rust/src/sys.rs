@@ -1,8 +1,8 @@
 //! The calls of the library jcobs, over slices. All `unsafe` of this crate is here.
 //!
-//! The preconditions of `jcobs.h` are that each pointer with a length is one to so many bytes, which can be written
+//! The preconditions of `jcobs.h` are that each pointer with a length is one to this many bytes, which can be written
 //! where the pointer isn't `const`, that no two buffers of a call overlap each other or the state, and that lengths are
-//! at most `isize::MAX`. A slice is all of this, and an exclusive reference overlaps nothing. What stands in a state
+//! at most `isize::MAX`. A slice is all of this, and an exclusive reference overlaps nothing. What is in a state
 //! may be anything: no call touches a byte outside its buffers. So each function here is safe.
 //!
 //! `jcobs.h` calls the members of a state the library's own. They are read and written here alone, by the methods of
@@ -21,7 +21,7 @@ pub(crate) enum Status {
     Empty,
 }
 
-/// What a call answers: the table in `jcobs.h` says what each number is with each status.
+/// What a call returns: the table in `jcobs.h` says what each number is with each status.
 #[derive(Debug, Clone, Copy)]
 pub(crate) struct Answer {
     pub(crate) status: Status,
@@ -29,7 +29,7 @@ pub(crate) struct Answer {
     pub(crate) length: usize,
 }
 
-/// Where a streaming decoder stands.
+/// The state of a streaming decoder.
 #[repr(C)]
 #[derive(Debug, Clone)]
 #[cfg_attr(test, derive(PartialEq))]
@@ -72,8 +72,8 @@ impl Decoder {
         true
     }
 
-    /// A decoder within a frame whose message has one byte so far. Its open block lacks `lacking` bytes, and a zero
-    /// joins the next block to it if `is_joint`.
+    /// A decoder within a frame whose message has one byte so far. `lacking` bytes of its open block are missing, and a
+    /// zero joins the next block to it if `is_joint`.
     #[cfg(test)]
     pub(crate) const fn within(lacking: u8, is_joint: bool) -> Self {
         Self {
@@ -84,7 +84,7 @@ impl Decoder {
         }
     }
 
-    /// How many bytes the open block lacks, and whether a zero joins the next one to it.
+    /// How many bytes of the open block are missing, and whether a zero joins the next one to it.
     #[cfg(test)]
     pub(crate) fn block(&self) -> (u8, bool) {
         (self.lacking, self.joint != 0)
@@ -96,7 +96,7 @@ impl Decoder {
     }
 }
 
-/// Where a streaming encoder stands.
+/// The state of a streaming encoder.
 #[repr(C)]
 #[derive(Debug, Clone)]
 #[cfg_attr(test, derive(PartialEq))]
@@ -114,8 +114,9 @@ impl Encoder {
         full: 0,
     };
 
-    /// Takes a byte that neither fills the open block nor follows a full one, if it fits, as the library does; otherwise
-    /// nothing has changed. It saves a call for most bytes, and is tested equal to the library's step in every case.
+    /// Takes a byte that neither fills the open block nor follows a full one, if it fits, as the library does;
+    /// otherwise nothing has changed. It saves a call for most bytes, and is tested equal to the library's step in
+    /// every case.
     #[inline]
     pub(crate) fn take_inside(&mut self, buffer: &mut [u8], byte: u8) -> bool {
         if self.full != 0 || self.taken >= 253 {
@@ -166,7 +167,7 @@ impl Encoder {
     }
 }
 
-/// An answer as C passes it.
+/// A result as C passes it.
 #[repr(C)]
 struct RawAnswer {
     status: c_uint,
@@ -218,7 +219,7 @@ extern "C" {
 }
 
 /// The end of a call that returned a number that the library doesn't have. No call does; but so every caller needs the
-/// symbol `jcobs_abi_1`, and isn't linked with a library of another major version, which lacks it.
+/// symbol `jcobs_abi_1`, and isn't linked with a library of another major version, which doesn't have it.
 #[cold]
 pub(crate) fn unknown(number: c_uint) -> ! {
     // SAFETY: this call has no precondition.

@@ -46,9 +46,13 @@ if ! command -v cargo >/dev/null; then
     skip 'bindings/rust' 'cargo (rustup, or Debian package cargo, from Rust 1.83 on)'
     finish
 fi
-version=$(rustc --version | sed -n 's/^rustc 1\.\([0-9]*\)\..*/\1/p')
-if [ "${version:-83}" -lt 83 ]; then
-    skip 'bindings/rust' "Rust 1.83: this is 1.$version"
+# Whether a compiler is of the Rust that this crate needs.
+is_recent() { # COMPILER
+    version=$("$1" --version 2>/dev/null | sed -n 's/^rustc 1\.\([0-9]*\)\..*/\1/p')
+    [ "${version:-0}" -ge 83 ]
+}
+if ! is_recent rustc; then
+    skip 'bindings/rust' "Rust 1.83: this is $(rustc --version)"
     finish
 fi
 # With the toolchain, the library is proved and built; otherwise it is that of prebuilt/.
@@ -148,11 +152,24 @@ packaged() {
         grep -q 'LICENSE-MIT$' "$work/files" && grep -q 'LICENSE-APACHE$' "$work/files"
 }
 
+# The first compiler that has the standard library for aarch64: the one in the PATH, by rustup, or else Debian's.
+compiler_for_aarch64() {
+    for compiler in rustc /usr/bin/rustc; do
+        is_recent "$compiler" || continue
+        libraries=$("$compiler" --print target-libdir --target aarch64-unknown-linux-gnu 2>/dev/null) || continue
+        for library in "$libraries"/libcore-*; do
+            [ -e "$library" ] && echo "$compiler" && return
+        done
+    done
+    return 1
+}
+
 # The tests of an x86-64 machine, run on aarch64.
-on_aarch64() {
-    CARGO_TARGET_AARCH64_UNKNOWN_LINUX_GNU_LINKER=aarch64-linux-gnu-gcc \
+on_aarch64() { # COMPILER
+    RUSTC=$1 CARGO_TARGET_DIR=$work/aarch64 \
+        CARGO_TARGET_AARCH64_UNKNOWN_LINUX_GNU_LINKER=aarch64-linux-gnu-gcc \
         CARGO_TARGET_AARCH64_UNKNOWN_LINUX_GNU_RUNNER='qemu-aarch64 -L /usr/aarch64-linux-gnu' \
-        cargo test --offline --target aarch64-unknown-linux-gnu --lib --tests
+        timeout 300 cargo test --offline --target aarch64-unknown-linux-gnu --lib --tests
 }
 
 part 'units, signatures, differences and vectors' units
@@ -163,12 +180,12 @@ part 'the build script, for each system and folder' build_script
 part 'the package, built alone' packaged
 if [ "$(uname -m)" = aarch64 ]; then
     :
-elif ! rustc --print target-libdir --target aarch64-unknown-linux-gnu 2>/dev/null | xargs ls 2>/dev/null | grep -q '^libcore-'; then
-    skip 'on aarch64' 'the target (rustup target add aarch64-unknown-linux-gnu)'
-elif ! command -v aarch64-linux-gnu-gcc >/dev/null || ! command -v qemu-aarch64 >/dev/null; then
-    skip 'on aarch64' 'a compiler or an emulator (Debian packages gcc-aarch64-linux-gnu and qemu-user)'
+elif ! compiler=$(compiler_for_aarch64); then
+    skip 'on aarch64' 'the target (rustup target add aarch64-unknown-linux-gnu, or Debian packages rustc-web and libstd-rust-web-dev:arm64)'
+elif ! command -v aarch64-linux-gnu-gcc >/dev/null || [ ! -e /usr/aarch64-linux-gnu/lib/crti.o ] || ! command -v qemu-aarch64 >/dev/null; then
+    skip 'on aarch64' 'a compiler, its C library or an emulator (Debian packages gcc-aarch64-linux-gnu, libc6-dev-arm64-cross and qemu-user)'
 else
-    part 'on aarch64' on_aarch64
+    part "on aarch64, by $("$compiler" --version)" on_aarch64 "$compiler"
 fi
 if cargo fmt --version >/dev/null 2>&1; then
     part 'layout' cargo fmt --check

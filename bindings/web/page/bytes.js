@@ -5,6 +5,17 @@ const INVISIBLE = /[\u200b-\u200d\u2060\ufeff]/g;
 const DUMP = /^\s*[0-9a-f]{4,16}(?::|\s)\s*((?:[0-9a-f]{2,4}[ -]{1,2}){0,31}[0-9a-f]{2,4})(?:\s*\|.*\||\s{2,}.*)?\s*$/i;
 const ESCAPES = { a: 7, b: 8, e: 27, f: 12, n: 10, r: 13, t: 9, v: 11, "\\": 92, "'": 39, '"': 34 };
 
+/** The bytes of several lists, one after another. */
+export function joined(parts) {
+  const whole = new Uint8Array(parts.reduce((length, part) => length + part.length, 0));
+  let at = 0;
+  for (const part of parts) {
+    whole.set(part, at);
+    at += part.length;
+  }
+  return whole;
+}
+
 /**
  * `{bytes, as}` of a text in any of these forms, with `as` the name of the form; else `{error}`, which says what is wrong
  * with it as hex.
@@ -54,7 +65,7 @@ function parseList(text) {
   if (words.at(-1) === "") words.pop();
   const isHex = words.every((word) => /^0x[0-9a-f]{1,2}(u8)?$/i.test(word));
   const isDecimal = words.every((word) => /^\d{1,3}(u8)?$/.test(word) && parseInt(word, 10) < 256);
-  // without brackets `10, 11` is hex; a number that is no pair of digits tells
+  // without brackets `10, 11` is hex; a number that is no pair of digits decides
   if (!isHex && !(isDecimal && (inner !== bare || words.some((word) => word.length !== 2)))) return undefined;
   return { bytes: Uint8Array.from(words, (word) => parseInt(word, isHex ? 16 : 10)), as: isHex ? "a list" : "decimal numbers" };
 }

@@ -1,18 +1,21 @@
-// A serial port in use: one pipe from it, one writer to it, for as long as it is open. It knows nothing of the page.
-import { FrameDecoderStream, encode } from "../jcobs.js";
+// A serial port in use: one reader of it, one writer to it, for as long as it is open. It knows nothing of the page.
+import { FrameDecoder, encode } from "../jcobs.js";
+import { joined } from "./bytes.js";
+
+const KEPT = 65_536; // bytes of a piece that are kept as they came
 
 export class Connection {
   #port;
   #options;
   #on;
-  #reader = null;
-  #piped = Promise.resolve();
-  #writer = null;
   #isClosing = false;
+  #reader = null;
+  #reading = Promise.resolve();
+  #writer = null;
 
   /**
-   * `port` is an open Web Serial port. `on.outcome` gets what each frame decodes to, `on.left` how many bytes were left out
-   * before the first sentinel, `on.fault` what the line reports.
+   * `port` is an open Web Serial port. `on.outcome` gets what each frame decodes to, with its bytes as they came if it is no
+   * message; `on.left` how many bytes were left out before the first sentinel; `on.fault` what the line reports.
    */
   constructor(port, options, on) {
     this.#port = port;
@@ -24,31 +27,57 @@ export class Connection {
   async receive() {
     let { skipFirst } = this.#options;
     while (this.#port.readable && !this.#isClosing) {
-      const frames = new FrameDecoderStream({ ...this.#options, skipFirst });
-      this.#piped = this.#port.readable.pipeTo(frames.writable).catch(() => {});
-      this.#reader = frames.readable.getReader();
-      try {
-        await this.#readAll(frames);
-        return;
-      } catch (error) {
-        if (this.#isClosing) return;
-        this.#on.fault(error);
-        if (error.name === "NetworkError") return;
-      }
-      await this.#piped;
+      this.#reading = this.#readAll(skipFirst);
+      const fault = await this.#reading;
+      if (!fault || this.#isClosing) return;
+      this.#on.fault(fault);
+      if (fault.name === "NetworkError") return;
       skipFirst = true;
     }
   }
 
-  async #readAll(frames) {
-    let isFirst = true;
-    for (;;) {
-      const { value, done } = await this.#reader.read();
-      if (isFirst && frames.skipped > 1) this.#on.left(frames.skipped);
-      isFirst = false;
-      if (done) return;
-      this.#on.outcome(value);
+  /** Reads one stream of the port to its end, and returns the fault that ended it, if one did. */
+  async #readAll(skipFirst) {
+    const decoder = new FrameDecoder({ ...this.#options, skipFirst });
+    const take = this.#taker(decoder);
+    const reader = this.#port.readable.getReader();
+    this.#reader = reader;
+    try {
+      for (let next = await reader.read(); !next.done; next = await reader.read()) take(next.value);
+      return null;
+    } catch (fault) {
+      return fault;
+    } finally {
+      reader.releaseLock();
+      decoder.close();
     }
+  }
+
+  /** A function that takes the chunks of a stream. */
+  #taker(decoder) {
+    let given = 0;
+    let isLeftSaid = false;
+    let begun = []; // the bytes of the piece that no sentinel has ended yet
+    const sayLeft = () => {
+      if (!isLeftSaid && decoder.skipped > 1) this.#on.left(decoder.skipped);
+      isLeftSaid = true;
+    };
+    return (chunk) => {
+      const skipped = decoder.skipped;
+      let from = 0;
+      decoder.push(chunk, (outcome, end) => {
+        sayLeft();
+        from = Math.max(from, decoder.skipped - skipped);
+        this.#on.outcome(outcome, outcome.message ? undefined : keptOf([...begun, chunk.subarray(from, end)], this.#options.sentinel));
+        begun = [];
+        from = end;
+      });
+      given += chunk.length;
+      if (given > decoder.skipped) sayLeft();
+      from = Math.max(from, decoder.skipped - skipped);
+      if (!decoder.unfinished) begun = [];
+      else if (lengthOf(begun) <= KEPT) begun.push(chunk.slice(from));
+    };
   }
 
   /** Sends a message after those before it. */
@@ -69,13 +98,22 @@ export class Connection {
     this.#writer = null;
   }
 
-  /** Closes the port. Both of its streams must be unlocked before, and the pipe unlocks its one some time after `cancel`. */
+  /** Closes the port. Both of its streams must be unlocked before. */
   async close() {
     this.#isClosing = true;
     await this.#reader?.cancel().catch(() => {});
-    await this.#piped;
+    await this.#reading;
     await this.#writer?.abort().catch(() => {});
     this.#releaseWriter();
     await this.#port.close();
   }
+}
+
+const lengthOf = (parts) => parts.reduce((sum, part) => sum + part.length, 0);
+
+/** A piece out of its parts, without the sentinels before it, if it isn't too long to be kept. */
+function keptOf(parts, sentinel) {
+  if (lengthOf(parts) > KEPT) return undefined;
+  const bytes = joined(parts);
+  return bytes.subarray(bytes.findIndex((byte) => byte !== sentinel));
 }

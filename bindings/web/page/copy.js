@@ -5,15 +5,16 @@ import { printHex } from "./hex.js";
 const DRAWN = 64; // a picture of more bytes is too wide for a document
 const listed = (bytes) => Array.from(bytes, (byte) => `0x${byte.toString(16).padStart(2, "0")}`).join(", ");
 
-/** What a frame is copied as, by the choice's name. Each returns text, or null if it can't. */
+/** What a frame or a stream is copied as, by the choice's name. Each returns text, or null if it can't. */
 export const FORMS = {
   hex: (bytes) => printHex(bytes),
-  c: (bytes) => `static const unsigned char frame[${bytes.length}] = {${listed(bytes)}};\n`,
-  rust: (bytes) => `const FRAME: [u8; ${bytes.length}] = [${listed(bytes)}];\n`,
-  python: (bytes) => `frame = bytes.fromhex("${printHex(bytes)}")\n`,
-  svg(bytes, { sentinel, frame }) {
-    if (frame.length > DRAWN) return null;
-    return figure({ title: `A frame of ${frame.length} bytes`, sentinel, show: (byte) => printHex([byte]), lines: [{ label: "frame", pieces: [frame] }] });
+  c: (bytes, { name = "frame" }) => `static const unsigned char ${name}[${bytes.length}] = {${listed(bytes)}};\n`,
+  rust: (bytes, { name = "frame" }) => `const ${name.toUpperCase()}: [u8; ${bytes.length}] = [${listed(bytes)}];\n`,
+  python: (bytes, { name = "frame" }) => `${name} = bytes.fromhex("${printHex(bytes)}")\n`,
+  svg(bytes, { sentinel, pieces }) {
+    if (bytes.length > DRAWN + 1) return null;
+    const length = pieces.reduce((sum, piece) => sum + piece.length, 0);
+    return figure({ title: `A frame of ${length} bytes`, sentinel, show: (byte) => printHex([byte]), lines: [{ label: "frame", pieces }] });
   },
   link: () => location.href,
 };

@@ -1,5 +1,5 @@
 // A field for text that may be very long. What is pasted into it past LIMIT signs is held beside it, since a
-// browser lays out a whole field at once; the field shows how much is held, and nothing of it is lost.
+// browser lays out a whole field at once; the field shows how much is held.
 
 const LIMIT = 20_000;
 
@@ -9,10 +9,13 @@ export class Field {
   #note;
   #noteText;
   #changed;
+  #pasted;
 
-  constructor(area, changed) {
+  /** `changed()` is called after each change, `pasted(text)` before one with what is pasted, whose line ends the field changes. */
+  constructor(area, changed, pasted) {
     this.#area = area;
     this.#changed = changed;
+    this.#pasted = pasted;
     this.#note = document.createElement("div");
     this.#note.className = "held";
     this.#note.hidden = true;
@@ -23,12 +26,13 @@ export class Field {
     area.addEventListener("paste", (event) => this.#paste(event));
   }
 
-  /** All of the text. */
+  /** All of the text, with line feeds for line ends, as a browser's field has them. */
   get text() {
     return this.#held ?? this.#area.value;
   }
 
-  set text(text) {
+  set text(given) {
+    const text = given.replace(/\r\n?/g, "\n");
     this.#hold(text.length > LIMIT ? text : null);
     this.#area.value = this.#held === null ? text : "";
     this.#changed();
@@ -36,6 +40,7 @@ export class Field {
 
   #paste(event) {
     const pasted = event.clipboardData?.getData("text/plain") ?? "";
+    this.#pasted?.(pasted);
     if (pasted.length <= LIMIT) return;
     event.preventDefault();
     const { value, selectionStart, selectionEnd } = this.#area;

@@ -35,7 +35,7 @@ function signAt(text, at) {
   return code < 128 ? value[code] : code === 0xa0 ? SEPARATOR : -1;
 }
 
-/** Where a place in a text is, for a reader. */
+/** Describes a place in a text for a reader. */
 function placeOf(text, at) {
   const before = text.slice(0, at).split("\n");
   return `line ${before.length}, column ${before[before.length - 1].length + 1}`;

@@ -5,6 +5,7 @@ import { byId, complain, count, counted, once, readRoom, readSentinel, save, set
 import { Log, readLog, writeLog } from "./log.js";
 import { LoopPort } from "./loop.js";
 import { Rows } from "./rows.js";
+import { setLog } from "./stream.js";
 
 const SHOWN_BYTES = 64;
 const OPENED_BYTES = 4096;
@@ -56,17 +57,17 @@ function add(entry) {
   say();
 }
 
-function receive({ message, broken, tooLong }) {
+function receive({ message, broken, tooLong }, raw) {
   if (message) {
     totals.messages++;
     totals.bytes += message.length;
     add({ way: "in", kind: "message", message });
   } else if (tooLong) {
     totals.tooLong++;
-    add({ way: "in", kind: "too long", note: "for the buffer" });
+    add({ way: "in", kind: "too long", note: "for the buffer", raw });
   } else {
     totals.broken++;
-    add({ way: "in", kind: "broken", note: `after ${counted(broken, "byte")} of output` });
+    add({ way: "in", kind: "broken", note: `after ${counted(broken, "byte")} of output`, raw });
   }
 }
 
@@ -93,12 +94,13 @@ function open(number) {
   chosen = number;
   const at = log.entries.findIndex((entry) => entry.number === number);
   if (at < 0) return;
-  const { message, kind, note, time, way } = log.entries[at];
-  const more = message && message.length > OPENED_BYTES ? `\n… and ${counted(message.length - OPENED_BYTES, "more byte")}` : "";
+  const { message, kind, note, time, way, raw } = log.entries[at];
+  const shown = message ?? raw ?? new Uint8Array();
+  const more = shown.length > OPENED_BYTES ? `\n… and ${counted(shown.length - OPENED_BYTES, "more byte")}` : "";
   byId("line-opened").hidden = false;
-  byId("line-opened-title").textContent = `${way === "out" ? "Sent" : "Received"} at ${clock(time)}: ${message ? counted(message.length, "byte") : `${kind} ${note}`}`;
+  byId("line-opened-title").textContent = `${way === "out" ? "Sent" : "Received"} at ${clock(time)}: ${message ? counted(message.length, "byte") : `${kind} ${note}${raw ? ". Its bytes as they came:" : ""}`}`;
   byId("line-opened-text").textContent = message ? printText(message.subarray(0, OPENED_BYTES)) : "";
-  byId("line-opened-hex").textContent = message ? printHex(message.subarray(0, OPENED_BYTES)) + more : "";
+  byId("line-opened-hex").textContent = printHex(shown.subarray(0, OPENED_BYTES)) + more;
   rows.refresh();
   rows.reveal(at);
   byId("line-log").setAttribute("aria-activedescendant", `line-row-${number}`);
@@ -208,6 +210,12 @@ function pause() {
   paint();
 }
 
+/** Shows what came in, or if nothing did what was sent, in Stream. */
+function toStream() {
+  dispatchEvent(new CustomEvent("jcobs-open", { detail: "stream" }));
+  setLog(log.entries, { sentinel: byId("line-sentinel").value, room: byId("line-room").value });
+}
+
 async function loadLog(file) {
   if (!file) return;
   const { entries, error } = readLog(await file.text());
@@ -236,14 +244,16 @@ function choosePort() {
 const setSignal = (name, isOn) => connectedPort?.setSignals?.({ [name]: isOn }).catch((error) => fault(`The signal could not be set: ${error.message}`));
 
 export function startLine() {
-  rows = new Rows(byId("line-log"), { height: ROW_HEIGHT, fill: fillRow });
+  rows = new Rows(byId("line-log"), { topOf: (index) => index * ROW_HEIGHT, fill: fillRow });
   byId("line-lacking").hidden = "serial" in navigator;
+  if (!isSecureContext) byId("line-lacking").textContent = "A browser connects devices for pages at https addresses and at localhost alone. The loop gives back what is sent.";
   byId("line-connect").addEventListener("click", () => connect(choosePort, "the device", true));
   byId("line-loop").addEventListener("click", () => connect(async () => new LoopPort(() => byId("line-noise").checked), "the loop", false));
   byId("line-close").addEventListener("click", disconnect);
   byId("line-clear").addEventListener("click", clear);
   byId("line-pause").addEventListener("click", pause);
   byId("line-save").addEventListener("click", () => save("line.log", writeLog(log.entries)));
+  byId("line-stream").addEventListener("click", toStream);
   byId("line-load").addEventListener("change", async ({ target }) => {
     await loadLog(target.files[0]);
     target.value = ""; // so that the same file can be loaded again

@@ -1,21 +1,26 @@
 // What came in and went out on a line: the entries that are kept, and a log as text.
+import { encode } from "../jcobs.js";
+import { joined } from "./bytes.js";
 import { parseHex, printHex } from "./hex.js";
+import { counted } from "./inputs.js";
 
 const KEPT = 1000;
 const KEPT_BYTES = 16 << 20;
+
+const sizeOf = ({ message, raw }) => (message ?? raw)?.length ?? 0;
 
 export class Log {
   entries = [];
   #bytes = 0;
   #number = 0;
 
-  /** Adds `{way, kind, message, note}` with a number and the time, and returns how many of the oldest it drops. */
+  /** Adds `{way, kind, message, note, raw}` with a number and the time, and returns how many of the oldest it drops. */
   add(entry) {
     this.entries.push({ number: ++this.#number, time: new Date(), ...entry });
-    this.#bytes += entry.message?.length ?? 0;
+    this.#bytes += sizeOf(entry);
     let dropped = 0;
     while (this.entries.length - dropped > KEPT || (this.#bytes > KEPT_BYTES && this.entries.length - dropped > 1)) {
-      this.#bytes -= this.entries[dropped++].message?.length ?? 0;
+      this.#bytes -= sizeOf(this.entries[dropped++]);
     }
     this.entries.splice(0, dropped);
     return dropped;
@@ -27,22 +32,43 @@ export class Log {
   }
 }
 
-/** A log as text: a line for each entry, its time, `in` or `out`, and the message's bytes or what else it was. */
+/**
+ * A log as text: a line for each entry, its time, `in` or `out`, and the message's bytes or what else it was, with the bytes of
+ * the piece as they came.
+ */
 export function writeLog(entries) {
-  return entries.map(({ time, way, kind, message, note }) => `${time.toISOString()} ${way} ${message ? printHex(message) || "-" : `# ${kind}: ${note}`}\n`).join("");
+  const what = ({ message, kind, note, raw }) => (message ? printHex(message) || "-" : `# ${kind}: ${note}${raw ? `: ${printHex(raw)}` : ""}`);
+  return entries.map((entry) => `${entry.time.toISOString()} ${entry.way} ${what(entry)}\n`).join("");
 }
+
+/** Whether a text begins as a log does. */
+export const isLog = (text) => /^\s*\d{4}-\d\d-\d\dT\S+ (in|out) /.test(text.slice(0, 200));
 
 /** The entries of such a text, or `{error}` with the first line that isn't one. */
 export function readLog(text) {
   const entries = [];
   for (const [at, line] of text.split(/\r?\n/).entries()) {
-    if (line === "") continue;
-    const [, stamp, way, rest] = line.match(/^(\S+) (in|out) (.+)$/) ?? [];
+    if (line.trim() === "") continue;
+    const [, stamp, way, rest] = line.match(/^\s*(\S+) (in|out) (.+)$/) ?? [];
     const time = new Date(stamp);
-    const [, kind, note] = rest?.match(/^# ([a-z ]+): (.*)$/) ?? [];
-    const bytes = kind ? undefined : parseHex(rest === "-" ? "" : (rest ?? "?")).bytes;
-    if (Number.isNaN(time.getTime()) || (!kind && !bytes)) return { error: `Line ${at + 1} is no line of a log: “${line.slice(0, 60)}”.` };
-    entries.push(kind ? { time, way, kind, note } : { time, way, kind: "message", message: bytes });
+    const [, kind, note, digits] = rest?.match(/^# ([a-z ]+): ([^:]*)(?:: ([0-9a-f ]+))?$/) ?? [];
+    const { bytes } = parseHex(kind ? (digits ?? "") : rest === "-" ? "" : (rest ?? "?"));
+    if (Number.isNaN(time.getTime()) || !bytes) return { error: `Line ${at + 1} is no line of a log: “${line.slice(0, 60)}”.` };
+    entries.push(kind ? { time, way, kind, note, ...(digits && { raw: bytes }) } : { time, way, kind: "message", message: bytes });
   }
   return { entries };
+}
+
+/**
+ * `{bytes, said}`: the frames of a log's messages that came in, each with its sentinel, and the other pieces as they came; if
+ * nothing came in, of those that were sent. `said` says how many rows have no bytes.
+ */
+export function streamOf(entries, sentinel) {
+  const way = entries.some((entry) => entry.way === "in") ? "in" : "out";
+  const own = entries.filter((entry) => entry.way === way);
+  const known = own.filter(({ message, raw }) => message ?? raw);
+  const bytes = joined(known.map(({ message, raw }) => (message ? encode(message, { sentinel, terminated: true }) : raw)));
+  const lost = own.length - known.length;
+  const said = `Read as a log: ${counted(known.length, "row")} ${way === "in" ? "received" : "sent"}${lost > 0 ? `, and ${lost} without bytes` : ""}.`;
+  return { bytes, said };
 }

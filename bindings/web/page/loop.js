@@ -15,16 +15,22 @@ export class LoopPort {
 
   async open() {
     let frames = 0;
-    const line = new TransformStream({
-      transform: (frame, controller) => {
+    let line;
+    this.readable = new ReadableStream({
+      start: (controller) => void (line = controller),
+      cancel: () => void (line = null),
+    });
+    this.writable = new WritableStream({
+      write: (frame) => {
         const bytes = frame.slice();
         frames++;
         if (this.#isNoisy() && frames % EVERY === 0) bytes[0] ^= 0x80; // the first code, so that it leads astray
-        for (let at = 0; at < bytes.length; at += PIECE) controller.enqueue(bytes.subarray(at, at + PIECE));
+        // a while after it was written, as on a line
+        setTimeout(() => {
+          for (let at = 0; at < bytes.length; at += PIECE) line?.enqueue(bytes.subarray(at, at + PIECE));
+        });
       },
     });
-    this.readable = line.readable;
-    this.writable = line.writable;
   }
 
   async close() {

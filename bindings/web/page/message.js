@@ -1,40 +1,44 @@
 // The view of one message and its frame.
 import { decode, encode, frameKind, frames, maxEncodedLength } from "../jcobs.js";
-import { CELL, ROW_HEIGHT, codePlaces, rowPicture } from "../draw.js";
+import { codePlaces } from "../draw.js";
 import { keepState } from "./address.js";
-import { parseBytes } from "./bytes.js";
+import { joined, parseBytes } from "./bytes.js";
+import { Canvas } from "./canvas.js";
 import { FORMS, toClipboard } from "./copy.js";
 import { Field } from "./field.js";
 import { printHex } from "./hex.js";
 import { byId, complain, count, counted, once, readSentinel, settled } from "./inputs.js";
-import { Rows } from "./rows.js";
+import { BADGES, MESSAGE, Pieces } from "./pieces.js";
 import { LONGEST, setSteps, startSteps } from "./steps.js";
+import { setStream } from "./stream.js";
 
 const HEX_SHOWN = 2048;
 const EDITED = 600;       // bytes of a frame in its field
 const LINKED = 2000;      // bytes of a message in a link
 const OFFERED = 1 << 20;  // bytes that are looked at for a frame or a stream
-const WIDTHS = [32, 28, 24, 20, 16, 12, 8, 4];
+const ENDS = { LF: "\n", CRLF: "\r\n", CR: "\r" };
 
 let frame = new Uint8Array();
-let places = new Uint32Array();
+let typed = null; // what was written in place of the frame: no frame, several pieces, or the message's longer frame
+let pieces;
 let sentinel = 0;
-let columns = 8;
-let margin = 40;
 let message = new Uint8Array();
 let readAs = "";
+let endsNote = "";
 let asKind = "text"; // the kind that the field's text is of
 let field;
-let rows;
+let canvas;
 
 const kind = () => document.querySelector('input[name="message-kind"]:checked').value;
 
 /** The message, or null with a complaint. */
 function readMessage() {
-  if (kind() === "text") {
-    readAs = "";
+  const isText = kind() === "text";
+  byId("message-ends").closest("label").hidden = !isText || !field.text.includes("\n");
+  if (isText) {
+    readAs = endsNote + (/\p{Surrogate}/u.test(field.text) ? " A lone surrogate has no bytes in UTF-8; it became ef bf bd." : "");
     field.complain(null, byId("message-error"));
-    return new TextEncoder().encode(field.text);
+    return new TextEncoder().encode(field.text.replaceAll("\n", ENDS[byId("message-ends").value]));
   }
   const { bytes, error, as } = parseBytes(field.text);
   readAs = as && as !== "hex" ? ` Read as ${as}.` : "";
@@ -42,66 +46,110 @@ function readMessage() {
   return bytes ?? null;
 }
 
-function fullBlocks() {
-  let full = 0;
-  for (const at of places) if ((frame[at] ^ sentinel) === 255) full++;
-  return full;
+/** Notes which line ends a pasted text has, since the field has line feeds alone. */
+function notePasted(text) {
+  const found = new Set(text.match(/\r\n|\r|\n/g));
+  if (kind() !== "text" || found.size === 0) return;
+  byId("message-ends").value = found.size > 1 ? "LF" : Object.keys(ENDS).find((name) => found.has(ENDS[name]));
+  endsNote = found.size > 1 ? " The line ends that were pasted were of several kinds; each is LF now." : "";
 }
 
+const isFull = (at) => (frame[at] ^ sentinel) === 255;
+
 const say = settled(() => {
-  const zeros = places.length === 1 ? "one block" : `${count(places.length)} blocks`;
-  byId("message-status").textContent = `${counted(Number(byId("message-length").dataset.bytes), "byte")} in a frame of ${counted(frame.length, "byte")}: ${zeros}.${readAs}`
+  const blocks = byId("message-blocks").dataset.count;
+  byId("message-status").textContent = `${counted(message.length, "byte")} in a frame of ${counted(frame.length, "byte")}: ${blocks === "1" ? "one block" : `${count(Number(blocks))} blocks`}.${readAs}`
     + (sentinel === 0 ? "" : ` Each byte of the frame is XORed with ${printHex([sentinel])}, so that ${printHex([sentinel])} is in no frame.`);
 });
 
-function update() {
+const steps = () => setSteps(message, message.length <= LONGEST ? encode(message) : null);
+
+/** Reads the fields. `wanted` is shown in place of the frame; null is the frame itself. */
+function update(wanted) {
   const read = readMessage();
   const byte = readSentinel(byId("message-sentinel"), byId("message-sentinel-error"));
   if (read === null || byte === null) return;
+  const isSame = byte === sentinel && read.length === message.length && read.every((each, at) => each === message[at]);
+  if (wanted !== undefined || !isSame) typed = wanted ?? null;
   message = read;
   sentinel = byte;
   frame = encode(message, { sentinel });
-  places = codePlaces(frame, sentinel);
   byId("message-length").dataset.bytes = message.length;
   byId("message-length").textContent = counted(message.length, "byte");
   byId("message-frame-length").textContent = counted(frame.length, "byte");
   byId("message-greatest").textContent = counted(maxEncodedLength(message.length), "byte");
+  const places = codePlaces(frame, sentinel);
+  byId("message-blocks").dataset.count = places.length;
   byId("message-blocks").textContent = count(places.length);
-  byId("message-full").textContent = count(fullBlocks());
-  const left = frame.length - HEX_SHOWN;
-  byId("message-frame").textContent = printHex(frame, 0, Math.min(frame.length, HEX_SHOWN)) + (left > 0 ? ` … and ${counted(left, "more byte")}, which Copy takes too` : "");
-  byId("message-copied").textContent = "";
+  byId("message-full").textContent = count(places.reduce((full, at) => full + isFull(at), 0));
   offer();
   steps();
-  showEditable();
   keepState("message", { hex: printHex(message.subarray(0, LINKED + 1)).replaceAll(" ", ""), as: kind(), sentinel: printHex([sentinel]) });
-  draw();
+  showFrame();
   say();
 }
 
-const steps = () => setSteps(message, message.length <= LONGEST ? encode(message) : null);
-
-/** The frame in its field, but for while it is typed there. */
-function showEditable() {
+/** Shows the frame, or what was written in its place. */
+function showFrame() {
+  const shown = typed ?? frame;
+  pieces = new Pieces(joined([shown, [sentinel]]), { maxLength: shown.length, sentinel });
+  const left = shown.length - HEX_SHOWN;
+  byId("message-frame").textContent = printHex(shown, 0, Math.min(shown.length, HEX_SHOWN)) + (left > 0 ? ` … and ${counted(left, "more byte")}, which Copy takes too` : "");
+  byId("message-frame").hidden = shown.length <= EDITED;
+  byId("message-frame-box").hidden = shown.length > EDITED;
   const input = byId("message-frame-edit");
-  byId("message-frame-box").hidden = frame.length > EDITED;
-  if (document.activeElement === input) return;
-  input.value = frame.length > EDITED ? "" : printHex(frame);
-  complain(input, null, byId("message-frame-error"));
+  if (document.activeElement !== input) input.value = shown.length > EDITED ? "" : printHex(shown);
+  complainFrame(typed && faultOf(typed));
+  canvas.show(pieces, pieces.ended !== 1 || pieces.kinds[0] !== MESSAGE);
 }
 
-/** Takes a frame that is typed: its message is that of the field above. */
-function editFrame() {
-  const input = byId("message-frame-edit");
-  const { bytes, error } = parseBytes(input.value);
-  const place = byId("message-frame-error");
-  if (!bytes) return complain(input, error, place);
+/** What is wrong with bytes that are no frame; null for the longer frame of a message. */
+function faultOf(bytes) {
+  if (frameKind(bytes, { sentinel }) !== "notAFrame") return null;
+  if (bytes.length === 0) return "A frame has at least one byte.";
+  if (bytes.includes(sentinel)) return `A frame has no sentinel ${printHex([sentinel])} in it. The message above is that of the last frame.`;
+  return "The frame breaks off inside a block. The message above is that of the last frame.";
+}
+
+function complainFrame(error) {
+  complain(byId("message-frame-edit"), error, byId("message-frame-error"));
+  byId("message-typed").hidden = error === null;
+}
+
+/** Takes bytes in place of the frame. If they are one, its message is that of the field above. */
+function takeFrame(bytes) {
   const kindOfFrame = frameKind(bytes, { sentinel });
-  const wrong = bytes.includes(sentinel) ? `A frame has no sentinel ${printHex([sentinel])} in it.` : "The frame breaks off inside a block.";
-  if (kindOfFrame === "notAFrame") return complain(input, bytes.length === 0 ? "A frame has at least one byte." : wrong, place);
-  complain(input, null, place);
-  setInput("hex", printHex(decode(bytes, { sentinel })));
+  if (kindOfFrame !== "notAFrame") setBytes(decode(bytes, { sentinel }));
+  update(kindOfFrame === "canonical" ? null : bytes);
   byId("message-copied").textContent = kindOfFrame === "longer" ? "This is the longer of two frames of the message: encoders leave out its last 01." : "";
+}
+
+function editFrame() {
+  const { bytes, error } = parseBytes(byId("message-frame-edit").value);
+  if (bytes) takeFrame(bytes);
+  else complainFrame(error);
+}
+
+/** Back from what was written in place of the frame. */
+function mend() {
+  typed = null;
+  byId("message-frame-edit").value = "";
+  showFrame();
+  byId("message-drawing").focus();
+}
+
+/** Writes a byte of the frame, or one after it. */
+function write(i, byte) {
+  const shown = typed ?? frame;
+  takeFrame(joined([shown.subarray(0, i), [byte], shown.subarray(i + 1)]));
+}
+
+/** Changes bytes of the message. */
+function splice(at, index, removed, bytes) {
+  if (pieces.ended > 1) return "These are several pieces: Stream shows them, and changes the message of each.";
+  setBytes(joined([message.subarray(0, index), bytes, message.subarray(index + removed)]));
+  update();
+  return undefined;
 }
 
 /** Offers to read bytes that are a frame, or a stream of frames, as such. */
@@ -128,54 +176,61 @@ function isAllMessages() {
 export function setMessage(values) {
   byId("message-sentinel").value = values.get("sentinel") ?? "00";
   const { bytes } = parseBytes(values.get("hex"));
-  const text = bytes && values.get("as") === "text" ? plainText(bytes) : null;
-  setInput(text === null ? "hex" : "text", text ?? values.get("hex").replace(/..(?=.)/g, "$& "));
+  if (!bytes) setInput("hex", values.get("hex"));
+  else if (values.get("as") !== "text" || !setText(bytes)) setInput("hex", printHex(bytes));
 }
 
-/** Bytes as text that gives these bytes again, or null. */
-function plainText(bytes) {
+/** Bytes as `{text, ends}`, which give these bytes again, or null. */
+function textOf(bytes) {
   try {
     const text = new TextDecoder("utf-8", { fatal: true, ignoreBOM: true }).decode(bytes);
-    return /[^\P{C}\n\t]/u.test(text) ? null : text;
+    const found = new Set(text.match(/\r\n|\r|\n/g));
+    if (found.size > 1 || /[^\P{C}\n\r\t]/u.test(text)) return null;
+    return { text: text.replace(/\r\n?/g, "\n"), ends: Object.keys(ENDS).find((name) => found.has(ENDS[name])) ?? "LF" };
   } catch {
     return null;
   }
 }
 
+/** Puts bytes into the field as text, and says whether that can be done. */
+function setText(bytes) {
+  const found = textOf(bytes);
+  if (found === null) return false;
+  byId("message-ends").value = found.ends;
+  setInput("text", found.text);
+  return true;
+}
+
+/** Puts a message into the field, as text if the field is text and the message can be. */
+function setBytes(bytes) {
+  if (kind() !== "text" || !setText(bytes)) setInput("hex", printHex(bytes));
+}
+
 /** The other kind of input: what is in the field is written so, if it can be. */
 function changeKind() {
-  if (kind() !== asKind) {
-    const text = kind() === "hex" ? printHex(new TextEncoder().encode(field.text)) : plainText(parseBytes(field.text).bytes ?? Uint8Array.of(0));
-    if (text !== null) field.text = text;
+  if (kind() === asKind) return;
+  if (kind() === "hex") {
+    const text = field.text.replaceAll("\n", ENDS[byId("message-ends").value]);
+    field.text = printHex(new TextEncoder().encode(text));
+  } else {
+    const { bytes } = parseBytes(field.text);
+    if (bytes) setText(bytes);
   }
   asKind = kind();
 }
 
-function draw() {
-  const box = byId("message-drawing");
-  margin = Math.max(30, String(frame.length).length * 7 + 10);
-  const fitting = Math.floor((box.clientWidth - margin - CELL) / CELL);
-  columns = WIDTHS.find((width) => width <= fitting) ?? 4;
-  const lines = Math.ceil(frame.length / columns);
-  box.style.height = `${Math.min(lines, 6) * ROW_HEIGHT + 2}px`;
-  rows.reset(lines);
-}
-
-function fillRow(element, index) {
-  const from = index * columns;
-  element.innerHTML = rowPicture(frame, places, from, Math.min(frame.length, from + columns), { sentinel, margin });
-}
-
 async function copy() {
   const form = byId("message-form").value;
-  const bytes = byId("message-ended").checked ? Uint8Array.of(...frame, sentinel) : frame;
-  const text = FORMS[form](bytes, { sentinel, frame });
+  const shown = typed ?? frame;
+  const bytes = byId("message-ended").checked ? joined([shown, [sentinel]]) : shown;
+  const text = FORMS[form](bytes, { sentinel, pieces: Array.from({ length: pieces.ended }, (_, at) => pieces.piece(at)) });
   const said = byId("message-copied");
   if (text === null) said.textContent = "The frame is too long for a picture.";
   else if (form === "link" && message.length > LINKED) said.textContent = "The message is too long for a link.";
   else if (await toClipboard(text)) said.textContent = form === "link" ? "The link is copied." : `${counted(bytes.length, "byte")} copied.`;
   else {
-    getSelection().selectAllChildren(byId("message-frame"));
+    if (byId("message-frame").hidden) byId("message-frame-edit").select();
+    else getSelection().selectAllChildren(byId("message-frame"));
     said.textContent = "The browser refused the clipboard: what is shown is selected, copy it by the keyboard.";
   }
 }
@@ -183,6 +238,7 @@ async function copy() {
 function setInput(wanted, text) {
   document.querySelector(`input[name="message-kind"][value="${wanted}"]`).checked = true;
   asKind = wanted;
+  endsNote = "";
   field.text = text;
 }
 
@@ -193,32 +249,40 @@ function sample({ hex, text, run, zeros }) {
   else setInput("hex", printHex(new Uint8Array(Number(zeros))));
 }
 
+/** Says what a stream of the frame decodes to, if it isn't the message alone. */
+function fillOutcome(element, at) {
+  const kindOfPiece = BADGES[pieces.kinds[at]];
+  const badge = Object.assign(document.createElement("span"), { className: `badge ${kindOfPiece.replace(" ", "-")}`, textContent: kindOfPiece });
+  element.replaceChildren(`${count(at + 1)}`, badge, pieces.words(at));
+}
+
 export function startMessage() {
-  const asked = once(update);
-  field = new Field(byId("message-input"), asked);
+  const soon = once(() => update());
+  const asked = () => {
+    byId("message-copied").textContent = "";
+    soon();
+  };
+  field = new Field(byId("message-input"), asked, notePasted);
   startSteps(steps);
-  rows = new Rows(byId("message-drawing"), { height: ROW_HEIGHT, fill: fillRow });
-  let width = 0;
-  new ResizeObserver(([{ contentRect }]) => {
-    if (contentRect.width === width) return;
-    width = contentRect.width;
-    draw();
-  }).observe(byId("message-drawing"));
+  canvas = new Canvas(byId("message-drawing"), { name: "message", outcome: fillOutcome, write, splice });
   for (const radio of document.querySelectorAll('input[name="message-kind"]')) radio.addEventListener("change", () => {
     changeKind();
     asked();
   });
+  byId("message-ends").addEventListener("change", asked);
   byId("message-sentinel").addEventListener("input", asked);
   byId("message-copy").addEventListener("click", copy);
   byId("message-frame-edit").addEventListener("input", editFrame);
-  byId("message-frame-edit").addEventListener("blur", showEditable);
+  byId("message-frame-edit").addEventListener("blur", () => showFrame());
+  byId("message-back").addEventListener("click", mend);
   byId("message-decode").addEventListener("click", () => {
     setInput("hex", printHex(decode(message, { sentinel })));
     byId("message-input").focus();
   });
   byId("message-stream").addEventListener("click", () => {
     const values = new URLSearchParams({ hex: printHex(message), sentinel: printHex([sentinel]) });
-    dispatchEvent(new CustomEvent("jcobs-open", { detail: { view: "stream", values } }));
+    dispatchEvent(new CustomEvent("jcobs-open", { detail: "stream" }));
+    setStream(values);
   });
   for (const button of document.querySelectorAll("#message .samples button")) button.addEventListener("click", () => sample(button.dataset));
   byId("message").querySelector("form").addEventListener("submit", (event) => event.preventDefault());

@@ -42,12 +42,19 @@ function startTabs() {
   };
   addEventListener("hashchange", take);
   addEventListener("popstate", () => show(readAddress().view));
-  addEventListener("jcobs-open", ({ detail: { view, values } }) => {
+  addEventListener("jcobs-open", ({ detail: view }) => {
     goTo(view);
-    setStream(values);
     tab(view).focus();
   });
   take();
+}
+
+/** Links to the repository's files, if the site was built with its address. */
+function startLinks() {
+  const { content } = document.querySelector('meta[name="repository"]');
+  if (content === "") return;
+  for (const link of document.querySelectorAll("a[data-file]")) link.href = content.replace(/\/*$/, "/") + link.dataset.file;
+  for (const part of document.querySelectorAll(".proofs")) part.hidden = false;
 }
 
 // not an element, which the content security policy would have to allow
@@ -62,6 +69,7 @@ try {
   startMessage();
   startStream();
   startLine();
+  startLinks();
   startTabs();
   document.documentElement.dataset.ready = "yes";
 } catch (error) {

@@ -1,4 +1,5 @@
-// A list of rows of one height, of which only those in sight are in the document.
+// A list of rows, of which only those in sight are in the document.
+import { lastAtOrBefore } from "./search.js";
 
 const LONGEST = 8_000_000; // browsers draw no element much higher than this, so a longer list scrolls faster
 const MARGIN = 3;          // rows kept above and below those in sight
@@ -8,14 +9,14 @@ export class Rows {
   #spacer;
   #shown = new Map();
   #count = 0;
-  #height;
+  #topOf;
   #fill;
   #isAsked = false;
 
-  /** `fill(element, index)` writes row `index` into an element. */
-  constructor(box, { height, fill }) {
+  /** `fill(element, index)` writes row `index` into an element. Its top is `topOf(index)` pixels below that of the first. */
+  constructor(box, { topOf, fill }) {
     this.#box = box;
-    this.#height = height;
+    this.#topOf = topOf;
     this.#fill = fill;
     this.#spacer = document.createElement("div");
     this.#spacer.className = "spacer";
@@ -25,14 +26,10 @@ export class Rows {
     new ResizeObserver(() => this.#ask()).observe(box);
   }
 
-  get count() {
-    return this.#count;
-  }
-
-  /** So many rows from now on, each drawn anew. */
+  /** This many rows from now on, each drawn anew. */
   reset(count) {
     this.#count = count;
-    this.#spacer.style.height = `${Math.min(count * this.#height, LONGEST)}px`;
+    this.#spacer.style.height = `${Math.min(this.#total(), LONGEST)}px`;
     for (const element of this.#shown.values()) element.remove();
     this.#shown.clear();
     this.#draw();
@@ -45,21 +42,16 @@ export class Rows {
 
   /** Scrolls as little as brings a row into sight. */
   reveal(index) {
-    const top = index * this.#height;
+    const [top, bottom] = [this.#topOf(index), this.#topOf(index + 1)];
     const seen = this.#box.clientHeight;
     const offset = this.#offset();
     if (top < offset) this.#scrollTo(top);
-    else if (top + this.#height > offset + seen) this.#scrollTo(top + this.#height - seen);
+    else if (bottom > offset + seen) this.#scrollTo(bottom - seen);
     this.#draw();
   }
 
-  /** How many rows are in sight at a time. */
-  get page() {
-    return Math.max(1, Math.floor(this.#box.clientHeight / this.#height));
-  }
-
   #total() {
-    return this.#count * this.#height;
+    return this.#topOf(this.#count);
   }
 
   /** How far the list is scrolled, in pixels of the whole list. */
@@ -86,8 +78,8 @@ export class Rows {
 
   #draw() {
     const offset = this.#offset();
-    const first = Math.max(0, Math.floor(offset / this.#height) - MARGIN);
-    const last = Math.min(this.#count, Math.ceil((offset + this.#box.clientHeight) / this.#height) + MARGIN);
+    const first = Math.max(0, lastAtOrBefore(this.#topOf, offset, this.#count) - MARGIN);
+    const last = Math.min(this.#count, lastAtOrBefore(this.#topOf, offset + this.#box.clientHeight, this.#count) + 1 + MARGIN);
     const slip = this.#box.scrollTop - offset;
     for (const [index, element] of this.#shown) {
       if (index >= first && index < last) continue;
@@ -104,7 +96,7 @@ export class Rows {
         this.#shown.set(index, element);
         this.#spacer.insertBefore(element, before);
       }
-      element.style.transform = `translateY(${index * this.#height + slip}px)`;
+      element.style.transform = `translateY(${this.#topOf(index) + slip}px)`;
       before = element;
     }
   }

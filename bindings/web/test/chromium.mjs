@@ -13,9 +13,13 @@ const KEYS = {
   ArrowUp: { code: "ArrowUp", windowsVirtualKeyCode: 38 },
   ArrowRight: { code: "ArrowRight", windowsVirtualKeyCode: 39 },
   ArrowDown: { code: "ArrowDown", windowsVirtualKeyCode: 40 },
+  PageUp: { code: "PageUp", windowsVirtualKeyCode: 33 },
   PageDown: { code: "PageDown", windowsVirtualKeyCode: 34 },
   Home: { code: "Home", windowsVirtualKeyCode: 36 },
   End: { code: "End", windowsVirtualKeyCode: 35 },
+  Insert: { code: "Insert", windowsVirtualKeyCode: 45 },
+  Delete: { code: "Delete", windowsVirtualKeyCode: 46 },
+  Escape: { code: "Escape", windowsVirtualKeyCode: 27 },
   " ": { code: "Space", windowsVirtualKeyCode: 32, text: " " },
 };
 const CONTROL = 2;
@@ -132,7 +136,7 @@ export class Page {
     return result.value;
   }
 
-  async until(expression, milliseconds = 20_000) {
+  async until(expression, milliseconds = 60_000) {
     const end = Date.now() + milliseconds;
     for (;;) {
       try {

@@ -3,7 +3,7 @@ import { mkdtemp, readFile, rm, writeFile } from "node:fs/promises";
 import { tmpdir } from "node:os";
 import { join } from "node:path";
 import { equal, holds } from "./tally.mjs";
-import { check, on } from "./page-setup.mjs";
+import { badges, check, fillStream, on, summary } from "./page-setup.mjs";
 
 const counter = (page, name, wanted) => page.until(`document.getElementById("line-${name}").textContent === "${wanted}"`);
 const logged = (page) => page.value('[...document.querySelectorAll("#line-log .row")].map((row) => [...row.children].slice(1).map((each) => each.textContent))');
@@ -49,6 +49,7 @@ await check("line: broken and too long frames are counted, and the next comes th
   await counter(page, "broken", 1);
   await counter(page, "too-long", 1);
   await page.until('document.querySelectorAll("#line-log .row").length === 10');
+  equal((await logged(page)).slice(0, 2).map(([, way]) => way), ["→", "←"], "what is sent is above what comes of it");
   equal((await cameIn(page)).map(([first]) => first), ["one", "two", "broken", "too long", "five"], "what came in");
 }));
 
@@ -233,3 +234,51 @@ await check("line: a browser without Web Serial is told so, and has the loop", (
   holds((await page.text("#line-lacking")).includes("no Web Serial"), "it says why");
   equal(await page.value('document.getElementById("line-lacking").hidden'), false, "in sight");
 }, { before: "delete Navigator.prototype.serial" }));
+
+await check("line: what came in is shown in Stream, from the view, from a saved log, and from one that is pasted", () => on("line", async (page) => {
+  await page.fill("#line-sentinel", "55");
+  await page.fill("#line-room", "5");
+  await page.click("#line-connect");
+  await page.until(isConnected);
+  await page.value(`port.give(${xored([9, 0, 3, 104], 0x55)})`);
+  await page.value(`port.give(${xored([105, 0, 5, 1], 0x55)})`);
+  await page.value(`port.give(${xored([0, 0, 7, 1, 2, 3, 4, 5, 6, 0, 2, 7, 0, 2], 0x55)})`);
+  await counter(page, "messages", 2);
+  await counter(page, "too-long", 1);
+  await page.fill("#line-text", "sent");
+  await page.press("Enter");
+  await counter(page, "sent", 1);
+  await page.until('document.querySelectorAll("#line-log .row").length === 6');
+  await page.click("#line-row-3");
+  await page.until(`document.getElementById("line-opened-hex").textContent === "${xored([5, 1, 0], 0x55).split(",").map((byte) => Number(byte).toString(16).padStart(2, "0")).join(" ")}"`);
+  await page.value("URL.createObjectURL = (blob) => (globalThis.saved = blob.text(), 'data:,')");
+  await page.value("HTMLAnchorElement.prototype.click = () => {}");
+  await page.click("#line-save");
+  const log = await page.value("saved");
+  const isShown = async () => {
+    await summary(page, "18 bytes, 4 pieces: 2 messages, 1 broken, 1 too long. Read as a log: 4 rows received, and 1 without bytes.");
+    equal(await badges(page), ["message", "broken", "too long", "message"], "the badges");
+  };
+  await page.click("#line-stream");
+  await page.until('!document.getElementById("stream").hidden && document.activeElement.id === "tab-stream"');
+  equal(await page.value('[document.getElementById("stream-sentinel").value, document.getElementById("stream-room").value]'), ["55", "5"], "the sentinel and the buffer");
+  await isShown();
+  await fillStream(page, "00");
+  await summary(page, "0 pieces.");
+  const folder = await mkdtemp(join(tmpdir(), "jcobs-log-"));
+  try {
+    await writeFile(join(folder, "line.log"), log);
+    const { root } = await page.send("DOM.getDocument");
+    const { nodeId } = await page.send("DOM.querySelector", { nodeId: root.nodeId, selector: "#stream-file" });
+    await page.send("DOM.setFileInputFiles", { files: [join(folder, "line.log")], nodeId });
+    await isShown();
+  } finally {
+    await rm(folder, { recursive: true });
+  }
+  await fillStream(page, "00");
+  await summary(page, "0 pieces.");
+  await fillStream(page, log);
+  await isShown();
+  await fillStream(page, `${log}2026-11-23T10:00:00.000Z in 0g\n`);
+  await page.until('document.getElementById("stream-error").textContent.includes("Line 7 is no line of a log")');
+}, { ...withDevice, height: 1600 }));

@@ -1,7 +1,7 @@
 // The view of a message, in Chromium.
 import { encode as plainEncode } from "./plain.js";
 import { equal, holds } from "./tally.mjs";
-import { READY, browser, check, chooseHex, chooseText, hex, longestPause, number, on, summary } from "./page-setup.mjs";
+import { READY, browser, check, chooseHex, chooseText, hex, number, on, summary, timed } from "./page-setup.mjs";
 
 const facts = async (page) => {
   const read = (name) => page.text(`#message-${name}`);
@@ -24,9 +24,14 @@ await check("message: hex that is typed, and its drawing", () => on("message", a
   const drawn = await page.value(`(() => {
     const svg = document.querySelector("#message-drawing svg");
     const texts = (selector) => [...svg.querySelectorAll(selector)].map((each) => each.textContent);
-    return { codes: texts("text.on"), joints: texts("text.zero"), arcs: svg.querySelectorAll(".arc").length, blocks: svg.querySelectorAll(".edge").length, words: svg.getAttribute("aria-label") };
+    return { codes: texts("text.on"), joints: texts("text.zero"), arcs: svg.querySelectorAll(".arc").length, blocks: svg.querySelectorAll(".edge").length };
   })()`);
-  equal(drawn, { codes: ["03", "02"], joints: ["0"], arcs: 2, blocks: 2, words: "Bytes 0 to 4: code 03; 0a 0b code 02, a zero of the message; 0c" });
+  equal(drawn, { codes: ["03", "02"], joints: ["0"], arcs: 2, blocks: 2 });
+  const labels = await page.value('[...document.querySelectorAll("#message-drawing [role=option]")].map((each) => each.getAttribute("aria-label"))');
+  equal(labels, [
+    ...["message byte 0: 0a", "message byte 1: 0b", "message byte 2: 00", "message byte 3: 0c", "end of the message"],
+    ...["Byte 0: 03, code", "Byte 1: 0a", "Byte 2: 0b", "Byte 3: 02, code", "Byte 4: 0c", "Byte 5: 00, sentinel"],
+  ], "what a screen reader hears");
 }));
 
 await check("message: a full block is marked, and the joint behind it stands for no zero", () => on("message", async (page) => {
@@ -61,7 +66,8 @@ await check("message: over the bytes are those of the message, whatever the sent
   await page.fill("#message-sentinel", "20");
   await page.click('[data-text="hello world"]');
   await page.until('[...document.querySelectorAll("#message-drawing text.over")].map((each) => each.textContent).join("").startsWith("hello20world")');
-  holds((await page.value('document.querySelector("#message-drawing svg").getAttribute("aria-label")')).includes("48 for 68"), "a screen reader hears both bytes");
+  const label = (lane) => page.value(`document.getElementById("message-${lane}-1").getAttribute("aria-label")`);
+  equal([await label("over"), await label("byte")], ["message byte 0: 68", "Byte 1: 48"], "what a screen reader hears");
 }));
 
 await check("message: bad hex is named, and nothing is lost", () => on("message", async (page) => {
@@ -104,15 +110,15 @@ for (const [name, make, how] of [
     await page.click("#message-input");
     await page.selectAll();
     await page.value(`navigator.clipboard.writeText(${JSON.stringify(text)})`);
-    const pause = await longestPause(page, async () => {
+    const { pause, busy } = await timed(page, async () => {
       await page.send("Input.dispatchKeyEvent", { type: "keyDown", key: "v", code: "KeyV", windowsVirtualKeyCode: 86, modifiers: 2, commands: ["paste"] });
       await page.until(`document.getElementById("message-length").dataset.bytes === "${message.length}"`);
       await page.click("#message-drawing");
       await page.press("End");
-      await page.until(`[...document.querySelectorAll("#message-drawing svg")].some((each) => each.getAttribute("aria-label").includes(" to ${frame.length - 1}:"))`);
+      await page.until(`document.getElementById("message-byte-${frame.length - 1}")?.getClientRects().length > 0`);
     });
-    console.log(`page: ${name}: the longest pause between two frames was ${Math.round(pause)} ms`);
-    holds(pause < 2500, `a pause of ${pause} ms`);
+    console.log(`page: ${name}: the longest pause between two frames was ${Math.round(pause)} ms, processor time ${Math.round(busy)} ms`);
+    holds(busy < 2500, `the page was busy for ${busy} ms`);
     equal((await facts(page)).slice(0, 2), [message.length, frame.length], "the lengths");
     const rows = await page.value('document.querySelectorAll("#message-drawing .row").length');
     holds(rows > 0 && rows < 40, `${rows} rows are in the document`);
@@ -176,9 +182,13 @@ await check("message: a frame that is edited changes its message", () => on("mes
     await page.fill("#message-frame-edit", sentinel === "00" ? "05 0a" : "af a0");
     await page.until('document.getElementById("message-frame-error").textContent.includes("breaks off")');
     equal(await page.value('document.getElementById("message-input").value'), "0a 0b 00 0d", "the message stays");
+    await page.until('document.querySelector("#message-drawing .badge").textContent === "broken" && document.querySelectorAll("#message-drawing .arc.bad").length === 1');
     await page.fill("#message-frame-edit", `a0 ${sentinel} a1`);
     await page.until('document.getElementById("message-frame-error").textContent.includes("has no sentinel")');
-    await page.click("#message-input");
+    await page.until('document.querySelectorAll("#message-drawing .badge").length === 2');
+    await page.fill("#message-frame-edit", "0");
+    await page.until('document.getElementById("message-frame-error").textContent.includes("one digit")');
+    await page.click("#message-back");
     await page.until(`document.getElementById("message-frame-edit").value === "${changed}" && document.getElementById("message-frame-error").hidden`);
     await page.fill("#message-input", "0a 0b 00 0c");
     await page.until(`document.getElementById("message-frame").textContent === "${frame}"`);
@@ -202,4 +212,68 @@ await check("message: step by step", () => on("message", async (page) => {
   equal(await bytes("out"), "0a0b000c", "the message");
   await page.click('[data-run="255"]');
   await page.until('document.getElementById("steps-in").textContent.length === 2 * 257');
+}));
+
+await check("message: the line ends of pasted text are kept, whatever its length", () => on("message", async (page) => {
+  const isFrame = (bytes) => page.until(`document.getElementById("message-frame").textContent === "${hex(plainEncode(Buffer.from(bytes)))}"`);
+  const isLong = (bytes) => page.until(`document.getElementById("message-length").dataset.bytes === "${bytes}"`);
+  const ends = () => page.value('(({ value }) => value)(document.getElementById("message-ends"))');
+  const paste = async (text) => {
+    await page.click("#message-input");
+    await page.selectAll();
+    await page.paste(text);
+  };
+  await chooseText(page);
+  for (const [name, end] of [["CRLF", "\r\n"], ["LF", "\n"]]) {
+    await paste(`a${end}b${end}`);
+    await isFrame(`a${end}b${end}`);
+    equal(await ends(), name, "the line ends");
+  }
+  await page.value('(() => { const ends = document.getElementById("message-ends"); ends.value = "CR"; ends.dispatchEvent(new Event("change")); })()');
+  await isFrame("a\rb\r");
+  await paste("a\r\nb\nc");
+  await isFrame("a\nb\nc");
+  await page.until('document.getElementById("message-status").textContent.includes("line ends that were pasted were of several kinds")');
+  await paste("x\r\n".repeat(12_000));
+  await isLong(36_000);
+  await page.click(".held button:nth-of-type(2)");
+  await isLong(36_000);
+  await page.type("y");
+  await isLong(36_001);
+  await chooseHex(page); // which makes it longer
+  await page.click(".held button");
+  await page.fill("#message-input", "61 0d 0a 62");
+  await chooseText(page);
+  await page.until('document.getElementById("message-input").value === "a\\nb"');
+  await isFrame("a\r\nb");
+  await page.until('location.hash === "#message&hex=610d0a62&as=text&sentinel=00"');
+  const other = await browser.open(await page.value("location.href"));
+  await other.until(READY);
+  await other.until('document.getElementById("message-input").value === "a\\nb" && document.getElementById("message-ends").value === "CRLF"');
+  equal(await other.text("#message-frame"), hex(plainEncode(Buffer.from("a\r\nb"))), "the frame behind the link");
+  await other.close();
+  await page.value('(() => { const input = document.getElementById("message-input"); input.value = "a\\ud800"; input.dispatchEvent(new Event("input")); })()');
+  await page.until('document.getElementById("message-status").textContent.includes("A lone surrogate has no bytes in UTF-8; it became ef bf bd.")');
+}));
+
+await check("message: a long frame is copied with its sentinel, and a picture of one that breaks off", () => on("message", async (page) => {
+  await chooseHex(page);
+  await page.click("#message-input");
+  await page.selectAll();
+  await page.paste("01 00 ".repeat(200_000));
+  await page.until('document.getElementById("message-length").dataset.bytes === "400000"');
+  await page.click("#message-ended");
+  await page.click("#message-copy");
+  await page.until('document.getElementById("message-copied").textContent === "400,002 bytes copied."');
+  holds((await page.value("navigator.clipboard.readText()")).endsWith(" 01 00"), "the sentinel is the last byte");
+  await page.click(".held button");
+  await page.fill("#message-input", "07 08");
+  await page.until('document.getElementById("message-frame").textContent === "03 07 08"');
+  await page.fill("#message-frame-edit", "04 07 00 02");
+  await page.until('document.querySelectorAll("#message-drawing .badge").length === 2');
+  await page.value('document.getElementById("message-form").value = "svg"');
+  await page.click("#message-copy");
+  await page.until('document.getElementById("message-copied").textContent.includes("copied")');
+  const picture = await page.value("navigator.clipboard.readText()");
+  equal([picture.match(/class="arc bad"/g).length, picture.match(/class="end"/g).length], [2, 2], "broken arcs and sentinels of the picture");
 }));

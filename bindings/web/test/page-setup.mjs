@@ -31,8 +31,14 @@ export async function on(view, act, options = {}) {
   }
 }
 
-/** The longest time between two frames while `act` goes on, in milliseconds. */
-export async function longestPause(page, act) {
+/**
+ * Milliseconds of `act`: `pause`, the longest time between two frames, and `busy`, the processor time of the page's thread, which
+ * doesn't grow with what else the machine does.
+ */
+export async function timed(page, act) {
+  await page.send("Performance.enable", { timeDomain: "threadTicks" });
+  const busy = async () => (await page.send("Performance.getMetrics")).metrics.find(({ name }) => name === "TaskDuration").value * 1000;
+  const before = await busy();
   await page.value(`(() => {
     const watch = (globalThis.watch = { longest: 0, isOn: true });
     let last = performance.now();
@@ -45,7 +51,7 @@ export async function longestPause(page, act) {
     requestAnimationFrame(look);
   })()`);
   await act();
-  return page.value("(watch.isOn = false, watch.longest)");
+  return { pause: await page.value("(watch.isOn = false, watch.longest)"), busy: (await busy()) - before };
 }
 
 export const summary = (page, words) => page.until(`document.getElementById("stream-status").textContent.includes(${JSON.stringify(words)})`);

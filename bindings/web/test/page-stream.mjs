@@ -4,7 +4,10 @@ import { tmpdir } from "node:os";
 import { join } from "node:path";
 import { encode as plainEncode } from "./plain.js";
 import { equal, holds } from "./tally.mjs";
-import { READY, STREAM, badges, browser, check, fillStream, hex, longestPause, on, outcomes, summary } from "./page-setup.mjs";
+import { READY, STREAM, badges, browser, check, fillStream, hex, on, outcomes, summary, timed } from "./page-setup.mjs";
+
+const TALL = { height: 1600 }; // so that all pieces are in sight
+const isByte = (page, at, digits) => page.until(`document.getElementById("stream-byte-${at}").getAttribute("aria-label").startsWith("Byte ${at}: ${digits},")`);
 
 await check("stream: pieces and their outcomes over a buffer", () => on("stream", async (page) => {
   await page.fill("#stream-room", "5");
@@ -20,17 +23,17 @@ await check("stream: a damaged byte changes its piece alone, and is mended", () 
   await fillStream(page, STREAM);
   await summary(page, "5 pieces: 4 messages, 1 broken");
   const before = await outcomes(page);
-  await page.click("#byte-8");
+  await page.click("#stream-byte-8");
   await summary(page, "1 byte damaged: 4 of the 5 pieces came through as before");
   const after = await outcomes(page);
   equal(after.filter((row, i) => row !== before[i]).length, 1, "changed rows");
   holds(after[1].includes("broken"), "a code that is one too great breaks its piece");
-  equal(await page.value('document.getElementById("byte-8").getAttribute("aria-selected")'), "true", "the byte is marked");
-  await page.click("#byte-8");
+  equal(await page.value('document.getElementById("stream-byte-8").getAttribute("aria-selected")'), "true", "the byte is marked");
+  await page.click("#stream-byte-8");
   await summary(page, "4 messages, 1 broken");
   equal(await outcomes(page), before, "all is as before");
   await page.value('document.getElementById("stream-damage").value = "zero"');
-  await page.click("#byte-3");
+  await page.click("#stream-byte-3");
   await summary(page, "4 of the 5 pieces came through as before");
   await page.click("#stream-mend");
   await page.until('document.getElementById("stream-mend").disabled');
@@ -40,7 +43,7 @@ await check("stream: a damaged byte changes its piece alone, and is mended", () 
 await check("stream: a damaged sentinel joins two pieces", () => on("stream", async (page) => {
   await fillStream(page, STREAM);
   await summary(page, "5 pieces");
-  await page.click("#byte-5");
+  await page.click("#stream-byte-5");
   await summary(page, "1 byte damaged: 3 of the 5 pieces came through as before");
 }));
 
@@ -57,9 +60,17 @@ await check("stream: another sentinel", () => on("stream", async (page) => {
   equal(await marked("end"), [5, 10, 11, 15, 18, 26], "the sentinels");
   equal(await marked("code"), [0, 3, 6, 8, 12, 16, 19, 27], "the codes");
   await page.value('document.getElementById("stream-damage").value = "sentinel"');
-  await page.click("#byte-1");
-  await page.until('document.getElementById("byte-1").textContent === "55"');
+  await page.click("#stream-byte-1");
+  await isByte(page, 1, "55");
   await summary(page, "1 byte damaged");
+}, TALL));
+
+await check("stream: the example has the sentinel that is set", () => on("stream", async (page) => {
+  await summary(page, "142 bytes, 7 pieces: 5 messages, 1 broken, 1 too long. The last bytes have no sentinel");
+  await page.fill("#stream-sentinel", "aa");
+  await summary(page, "0 pieces.");
+  await page.click("#stream-example");
+  await summary(page, "142 bytes, 7 pieces: 5 messages, 1 broken, 1 too long. The last bytes have no sentinel");
 }));
 
 await check("stream: sentinels after the last frame are no unfinished piece", () => on("stream", async (page) => {
@@ -82,20 +93,20 @@ await check("stream: each kind of damage writes what it says", () => on("stream"
   await summary(page, "5 pieces");
   for (const [how, at, wanted] of [["flip", 1, "0b"], ["zero", 2, "00"], ["ff", 4, "ff"], ["sentinel", 9, "00"]]) {
     await page.value(`document.getElementById("stream-damage").value = "${how}"`);
-    await page.click(`#byte-${at}`);
-    await page.until(`document.getElementById("byte-${at}").textContent === "${wanted}"`);
+    await page.click(`#stream-byte-${at}`);
+    await isByte(page, at, wanted);
   }
 }));
 
 await check("stream: damage that makes another message is called so", () => on("stream", async (page) => {
   await fillStream(page, STREAM);
   await summary(page, "5 pieces");
-  await page.click("#byte-1");
+  await page.click("#stream-byte-1");
   await summary(page, "4 of the 5 pieces came through as before. 1 message that nobody sent");
   equal(await badges(page), ["altered message", "message", "message", "broken", "message", "unfinished"], "the badges");
-  await page.click("#byte-1");
+  await page.click("#stream-byte-1");
   await summary(page, "4 messages, 1 broken");
-  await page.click("#byte-5"); // a sentinel becomes 01: two frames become one message
+  await page.click("#stream-byte-5"); // a sentinel becomes 01: two frames become one message
   await summary(page, "3 of the 5 pieces came through as before. 1 message that nobody sent");
   equal((await badges(page))[0], "altered message", "the first badge");
 }));
@@ -106,29 +117,33 @@ await check("stream: a list that is higher than browsers draw", () => on("stream
   await summary(page, `${count.toLocaleString("en")} pieces: ${count.toLocaleString("en")} messages`);
   const inSight = (at) => page.until(`(() => {
     const box = document.getElementById("stream-pieces").getBoundingClientRect();
-    const cell = document.getElementById("byte-${at}")?.getBoundingClientRect();
+    const cell = document.getElementById("stream-byte-${at}")?.getBoundingClientRect();
     return cell && cell.top >= box.top - 1 && cell.bottom <= box.bottom + 1;
   })()`);
   await page.click("#stream-pieces");
   await page.press("End");
   await inSight(2 * count - 1);
   await page.press("ArrowUp");
+  for (let i = 0; i < 8; i++) await page.press("PageUp");
+  const at = await page.value('document.getElementById("stream-pieces").getAttribute("aria-activedescendant").match(/\\d+/)[0]');
+  holds(at < 2 * count - 50, "Page Up leads up");
+  await inSight(at);
   await page.press("Home");
   await inSight(0);
   await page.value('(() => { const box = document.getElementById("stream-pieces"); box.scrollTop = (box.scrollHeight - box.clientHeight) / 2; })()');
   await inSight(count);
-  const rows = await page.value('[...document.querySelectorAll("#stream-pieces .row")].map((row) => row.getBoundingClientRect().top)');
-  const steps = new Set(rows.slice(1).map((top, i) => Math.round(top - rows[i])));
-  equal([...steps], [52], "how far rows are from each other");
+  const rows = await page.value('[...document.querySelectorAll("#stream-pieces .row")].map((row) => [row.classList.contains("outcome"), row.getBoundingClientRect().top])');
+  const steps = new Set(rows.slice(1).map(([, top], i) => `${rows[i][0] ? "outcome" : "bytes"} ${Math.round(top - rows[i][1])}`));
+  equal([...steps].sort(), ["bytes 93", "outcome 36"], "how far rows are from each other");
 }));
 
 await check("stream: a link gives the same stream with its damage", () => on("stream", async (page) => {
   await page.fill("#stream-room", "5");
   await fillStream(page, STREAM);
   await summary(page, "1 too long");
-  await page.click("#byte-8");
+  await page.click("#stream-byte-8");
   await summary(page, "1 byte damaged");
-  await page.click("#stream-link");
+  await page.click("#stream-copy");
   await page.until('document.getElementById("stream-copied").textContent === "The link is copied."');
   const [rows, said] = [await outcomes(page), await page.text("#stream-status")];
   const other = await browser.open(await page.value("navigator.clipboard.readText()"));
@@ -136,6 +151,16 @@ await check("stream: a link gives the same stream with its damage", () => on("st
   await other.until(`document.getElementById("stream-status").textContent === ${JSON.stringify(said)}`);
   equal(await outcomes(other), rows, "the outcomes");
   await other.close();
+  await fillStream(page, "02 07 00 01");
+  await summary(page, "4 bytes, 1 piece");
+  await page.click("#stream-byte-1");
+  await summary(page, "1 byte damaged");
+  for (const [form, wanted] of [["hex", "02 06 00 01"], ["c", "static const unsigned char stream[4] = {0x02, 0x06, 0x00, 0x01};\n"], ["rust", "const STREAM: [u8; 4] = [0x02, 0x06, 0x00, 0x01];\n"], ["python", 'stream = bytes.fromhex("02 06 00 01")\n']]) {
+    await page.value(`document.getElementById("stream-copied").textContent = "", document.getElementById("stream-form").value = "${form}"`);
+    await page.click("#stream-copy");
+    await page.until('document.getElementById("stream-copied").textContent === "4 bytes copied."');
+    equal(await page.value("navigator.clipboard.readText()"), wanted, form);
+  }
 }));
 
 await check("stream: arcs lead from code to code, and each byte is explained", () => on("stream", async (page) => {
@@ -148,14 +173,14 @@ await check("stream: arcs lead from code to code, and each byte is explained", (
     await page.until(`JSON.stringify(${arcs}.filter(([good, bad]) => good + bad > 0)) === ${JSON.stringify(wanted)}`);
     await page.value('document.getElementById("stream-pieces").focus()');
     await page.press("Home");
-    for (const words of ["the first code. The next code, or the end, is 3 bytes on.", "a byte of the message, as it is.", "a byte of the message", "a code, in place of a zero of the message. The next code, or the end, is 2 bytes on.", "a byte of the message", "the sentinel. It ends piece 1."]) {
+    for (const words of ["the first code. The next code, or the end, is 3 bytes on.", "byte 0 of the message", "byte 1 of the message", "a code, in place of a zero of the message. The next code, or the end, is 2 bytes on.", "byte 3 of the message", "the sentinel. It ends piece 1."]) {
       await page.until(`document.getElementById("stream-explained").textContent.includes(${JSON.stringify(words)})`);
       await page.press("ArrowRight");
     }
     await page.press("End");
     await page.until('document.getElementById("stream-explained").textContent.includes("It leads past the end of the piece")');
   }
-}));
+}, TALL));
 
 await check("stream: by the keyboard alone", () => on("stream", async (page) => {
   await fillStream(page, STREAM);
@@ -166,19 +191,19 @@ await check("stream: by the keyboard alone", () => on("stream", async (page) => 
   }
   equal(await page.value("document.activeElement.id"), "stream-pieces", "Tab leads to the pieces");
   for (let i = 0; i < 8; i++) await page.press("ArrowRight");
-  equal(await page.value('document.getElementById("stream-pieces").getAttribute("aria-activedescendant")'), "byte-8", "the byte that is named");
+  equal(await page.value('document.getElementById("stream-pieces").getAttribute("aria-activedescendant")'), "stream-byte-8", "the byte that is named");
   await page.press("Enter");
   await summary(page, "1 byte damaged: 4 of the 5 pieces");
   await page.press(" ");
   await page.press("End");
-  equal(await page.value('document.getElementById("stream-pieces").getAttribute("aria-activedescendant")'), "byte-27", "the last byte");
-  holds((await page.value('document.getElementById("byte-27").getAttribute("aria-label")')) === "Byte 27: 02, code, piece 6: unfinished no sentinel yet", "what it is called");
+  equal(await page.value('document.getElementById("stream-pieces").getAttribute("aria-activedescendant")'), "stream-byte-27", "the last byte");
+  holds((await page.value('document.getElementById("stream-byte-27").getAttribute("aria-label")')) === "Byte 27: 02, code, piece 6: unfinished no sentinel yet", "what it is called");
 }));
 
 await check("stream: bad hex is named, and nothing is lost", () => on("stream", async (page) => {
   await fillStream(page, STREAM);
   await summary(page, "5 pieces");
-  await page.click("#byte-8");
+  await page.click("#stream-byte-8");
   await summary(page, "1 byte damaged");
   const before = await outcomes(page);
   await page.click("#stream-input");
@@ -203,10 +228,10 @@ await check("stream: 1 MB is pasted, and a byte at its end damaged", () => on("s
   await page.value(`navigator.clipboard.writeText(${JSON.stringify(text)})`);
   await page.click("#stream-input");
   await page.selectAll();
-  const pause = await longestPause(page, async () => {
+  const { pause, busy } = await timed(page, async () => {
     await page.send("Input.dispatchKeyEvent", { type: "keyDown", key: "v", code: "KeyV", windowsVirtualKeyCode: 86, modifiers: 2, commands: ["paste"] });
     await summary(page, `${count.toLocaleString("en")} pieces: ${count.toLocaleString("en")} messages`);
-    await page.click("#stream-pieces");
+    await page.click("#stream-byte-1");
     await summary(page, "1 byte damaged");
     await page.press("End");
     await page.press("ArrowLeft");
@@ -215,12 +240,12 @@ await check("stream: 1 MB is pasted, and a byte at its end damaged", () => on("s
     await page.press("Home");
     await page.until(`(() => {
       const box = document.getElementById("stream-pieces").getBoundingClientRect();
-      const { top, bottom } = document.getElementById("byte-0").getBoundingClientRect();
+      const { top, bottom } = document.getElementById("stream-byte-0").getBoundingClientRect();
       return top >= box.top && bottom <= box.bottom;
     })()`);
   });
-  console.log(`page: 1 MB in ${count} pieces: the longest pause between two frames was ${Math.round(pause)} ms`);
-  holds(pause < 2500, `a pause of ${pause} ms`);
+  console.log(`page: 1 MB in ${count} pieces: the longest pause between two frames was ${Math.round(pause)} ms, processor time ${Math.round(busy)} ms`);
+  holds(busy < 2500, `the page was busy for ${busy} ms`);
   const rows = await page.value('document.querySelectorAll("#stream-pieces .row").length');
   holds(rows > 0 && rows < 80, `${rows} rows are in the document`);
 }));

@@ -1,11 +1,13 @@
 // The page as a whole, in Chromium.
-import { execFileSync } from "node:child_process";
+import { execFileSync, spawnSync } from "node:child_process";
+import { existsSync } from "node:fs";
 import { mkdtemp, readFile, readdir, rm, writeFile } from "node:fs/promises";
 import { tmpdir } from "node:os";
 import { join } from "node:path";
 import { fileURLToPath, pathToFileURL } from "node:url";
 import { serve } from "../serve.mjs";
-import { count as countAny, equal, holds } from "./tally.mjs";
+import { Browser } from "./chromium.mjs";
+import { count as countAny, equal, holds, throws } from "./tally.mjs";
 import { READY, address, browser, check, conformance, hex, on, server } from "./page-setup.mjs";
 
 await check("page: the tabs by the keyboard", () => on("message", async (page) => {
@@ -49,6 +51,14 @@ for (const view of ["message", "stream", "line"]) {
           return [255, 255, 255];
         };
         const faint = [];
+        const inside = ({ left, top, width, height }, box) => left + width / 2 > box.left && left + width / 2 < box.right && top + height / 2 > box.top && top + height / 2 < box.bottom;
+        for (const text of document.querySelectorAll(".rows svg text")) {
+          if (text.getClientRects().length === 0) continue;
+          const place = text.getBoundingClientRect();
+          const rect = [...text.closest("svg").querySelectorAll("rect:not(.end)")].find((each) => inside(place, each.getBoundingClientRect()));
+          const [a, b] = [shine(parse(getComputedStyle(text).fill)), shine(rect ? parse(getComputedStyle(rect).fill) : ground(text))].sort((x, y) => y - x);
+          if ((a + 0.05) / (b + 0.05) < 4.5) faint.push(text.outerHTML);
+        }
         for (const element of document.querySelectorAll("main *, header *, footer *")) {
           if (element.closest("svg") || element.closest(":disabled") || element.getClientRects().length === 0) continue;
           if (![...element.childNodes].some((node) => node.nodeType === 3 && node.textContent.trim())) continue;
@@ -98,6 +108,57 @@ await check("page: the folder that build.sh makes serves it, under its content s
   }
 });
 
+await check("page: the site links to the repository's files if it is told their address, and runs at any address", async () => {
+  const folder = await mkdtemp(join(tmpdir(), "jcobs-linked-"));
+  const build = (repository) => execFileSync(fileURLToPath(new URL("../build.sh", import.meta.url)), ["site", folder], { env: { ...process.env, REPOSITORY: repository }, stdio: "pipe" });
+  const links = (page) => page.value('[...document.querySelectorAll("a[data-file]")].map((link) => [link.getClientRects().length > 0 || !link.closest("[role=tabpanel]:not([hidden]), footer"), link.href])');
+  const other = await Browser.start(process.env.CHROMIUM ?? "chromium", ["--host-resolver-rules=MAP cobs.test 127.0.0.1"]);
+  const site = await serve(0, { deep: folder });
+  try {
+    await throws(() => build("javascript:alert(1)"), (error) => String(error.stderr).includes("REPOSITORY"), "an address that is none");
+    build("https://example.org/cobs/blob/main");
+    // by plain HTTP from elsewhere, which is no secure context: there is no clipboard and no Web Serial
+    const page = await other.open(`${site.address.replace("localhost", "cobs.test")}deep/index.html`);
+    await page.until(READY);
+    const found = await links(page);
+    equal(found.every(([isSeen]) => isSeen), true, "the links are seen");
+    const files = found.map(([, href]) => href.replace("https://example.org/cobs/blob/main/", ""));
+    holds(files.length >= 12 && files.every((file) => existsSync(new URL(`../../../${file}`, import.meta.url))), `each is a file of the repository: ${files}`);
+    equal(await page.text("#message-frame"), "03 0a 0b 02 0c", "the frame");
+    await page.click("#message-copy");
+    await page.until('document.getElementById("message-copied").textContent.includes("refused the clipboard")');
+    await page.click("#tab-line");
+    holds((await page.text("#line-lacking")).includes("https"), "why there is no Web Serial");
+    equal(page.faults, [], "what the page complained of on its console");
+    build("");
+    const bare = await browser.open(`${site.address}deep/index.html`);
+    await bare.until(READY);
+    equal((await links(bare)).map(([, href]) => href).filter((href) => href !== ""), [], "links without an address");
+    equal(await bare.value('[...document.querySelectorAll(".proofs")].every((part) => part.hidden)'), true, "nothing speaks of them");
+    await bare.close();
+  } finally {
+    await other.close();
+    site.server.close();
+    await rm(folder, { recursive: true });
+  }
+});
+
+await check("page: serve.mjs listens where it is told, and says in a line that it can't", async () => {
+  const file = fileURLToPath(new URL("../serve.mjs", import.meta.url));
+  const { server: own, address: there } = await serve(0, {}, "127.0.0.2");
+  try {
+    holds(there.startsWith("http://127.0.0.2:"), "its address");
+    equal((await fetch(there)).status, 200, "the page's status");
+    const port = new URL(there).port;
+    const { status, stderr } = spawnSync(process.execPath, [file, port, "127.0.0.2"], { encoding: "utf8" });
+    equal([status, stderr.split("\n").length], [1, 2], "the status and the lines of a second one");
+    holds(stderr.includes(`port ${port} of 127.0.0.2 can't be used`), "what it says");
+  } finally {
+    own.close();
+    own.closeAllConnections();
+  }
+});
+
 await check("page: a page that is opened as a file, with dist/jcobs.cjs", async () => {
   const folder = await mkdtemp(join(tmpdir(), "jcobs-opened-"));
   try {
@@ -121,8 +182,14 @@ await check("page: opened as a file it says why nothing is there", async () => {
 
 await check("page: in forced colours", () => on("stream", async (page) => {
   await page.send("Emulation.setEmulatedMedia", { features: [{ name: "forced-colors", value: "active" }] });
-  const seen = await page.value('(() => { const { backgroundColor, color } = getComputedStyle(document.querySelector(".byte.code")); return backgroundColor !== color && backgroundColor !== getComputedStyle(document.querySelector(".byte:not(.code)")).backgroundColor; })()');
-  holds(seen, "codes differ from other bytes");
+  const fill = (selector) => page.value(`getComputedStyle(document.querySelector("#stream-pieces svg ${selector}")).fill`);
+  const [code, data, ink, onCode] = [await fill("rect.code"), await fill("rect.data"), await fill("text:not([class])"), await fill("text.on")];
+  equal(new Set([code, data, ink]).size, 3, "colours of codes, of other bytes, of their digits");
+  holds(onCode !== code, "the digits of codes are seen");
+  await page.value('document.getElementById("stream-pieces").focus()');
+  await page.press("Enter");
+  await page.until('document.querySelector("#stream-pieces [aria-selected=true]") !== null');
+  holds((await page.value('getComputedStyle(document.querySelector("#stream-pieces [aria-selected=true]")).outlineStyle')) === "solid", "damage is seen");
 }));
 
 await check("page: it asks for nothing but its own files", () => on("message", async (page) => {

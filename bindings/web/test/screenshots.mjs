@@ -16,7 +16,7 @@ async function shot(name, view, options, act) {
   await page.until("document.documentElement.dataset.ready === 'yes'");
   await act(page);
   await new Promise((done) => setTimeout(done, 1200)); // until the status lines have been set
-  await page.value("document.activeElement.blur(), scrollTo({ top: 0, behavior: 'instant' })");
+  await page.value("document.activeElement.matches('.rows') || document.activeElement.blur(), scrollTo({ top: 0, behavior: 'instant' })");
   await page.screenshot(join(folder, name));
   await page.close();
 }
@@ -24,12 +24,15 @@ async function shot(name, view, options, act) {
 async function message(page) {
   await page.click('input[name="message-kind"][value="hex"]');
   await page.fill("#message-input", "48 65 6c 6c 6f 00 00 77 6f 72 6c 64");
+  await page.until('document.getElementById("message-byte-13") !== null');
+  await page.click("#message-byte-6");
 }
 
 async function stream(page) {
-  await page.click("#byte-3");
-  await page.click("#byte-24");
-  await page.value('document.getElementById("stream-pieces").scrollTop = 0');
+  await page.click("#stream-byte-3");
+  await page.click("#stream-byte-24");
+  await page.until('document.querySelectorAll("#stream-pieces [aria-selected=true]").length > 0');
+  await page.value('document.getElementById("stream-pieces").scrollTop = 0, document.activeElement.blur()');
 }
 
 async function line(page) {
@@ -41,6 +44,8 @@ async function line(page) {
     await page.press("Enter");
     await new Promise((done) => setTimeout(done, 60));
   }
+  await page.until('document.querySelectorAll("#line-log .row").length === 8');
+  await page.click("#line-row-6 .badge");
 }
 
 const VIEWS = { message, stream, line };

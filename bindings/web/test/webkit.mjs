@@ -26,7 +26,7 @@ async function call(method, path, body) {
 }
 
 async function until(act) {
-  const end = Date.now() + 20_000;
+  const end = Date.now() + 60_000;
   for (;;) {
     try {
       const found = await act();
@@ -45,6 +45,21 @@ const value = (expression) => call("POST", `/session/${session}/execute/async`, 
   script: `const done = arguments[0]; Promise.resolve().then(() => (${expression})).then(done, (error) => done({ threw: String(error) }))`,
   args: [],
 });
+/** Keys as a user presses them, at the place of the focus. */
+const type = (keys) => call("POST", `/session/${session}/actions`, {
+  actions: [{ type: "key", id: "keys", actions: [...keys].flatMap((key) => [{ type: "keyDown", value: key }, { type: "keyUp", value: key }]) }],
+});
+/** The mouse to the middle of an element, and a click if it is wanted. */
+async function point(id, isClick = false) {
+  const [x, y] = await value(`(() => {
+    const element = document.getElementById("${id}");
+    element.scrollIntoView({ block: "center", behavior: "instant" });
+    const { left, top, width, height } = element.getBoundingClientRect();
+    return [left + width / 2, top + height / 2].map(Math.round);
+  })()`);
+  const press = isClick ? [{ type: "pointerDown", button: 0 }, { type: "pointerUp", button: 0 }] : [];
+  await call("POST", `/session/${session}/actions`, { actions: [{ type: "pointer", id: "mouse", actions: [{ type: "pointerMove", x, y, duration: 0 }, ...press] }] });
+}
 const go = (path) => call("POST", `/session/${session}/url`, { url: address + path });
 
 try {
@@ -68,10 +83,22 @@ try {
     await until(() => value("document.querySelectorAll('#message-drawing .arc').length === 2"));
     await value("document.getElementById('tab-stream').click()");
     await until(() => value("document.getElementById('stream-status').textContent.includes('7 pieces: 5 messages')"));
-    await value("document.getElementById('byte-1').click()");
+    await value("document.getElementById('stream-byte-1').click()");
     await until(() => value("document.querySelector('#stream-pieces .badge').textContent === 'altered message'"));
   });
-  await check("webkit: the loop gives back what is sent", async () => {
+  await check("webkit: bytes of the canvas are explained and written", async () => {
+    await go("#message&hex=0a0b000c&as=hex&sentinel=00");
+    await until(() => value("document.querySelectorAll('#message-drawing .arc').length === 2"));
+    await point("message-byte-3");
+    await until(() => value("document.getElementById('message-explained').textContent.startsWith('Byte 3, 02: a code, in place of a zero')"));
+    await point("message-over-1", true);
+    await type("1f");
+    await until(() => value("document.getElementById('message-frame').textContent === '03 1f 0b 02 0c'"));
+    await type("\uE015"); // arrow down
+    await type("00"); // a sentinel in the frame
+    await until(() => value("[...document.querySelectorAll('#message-drawing .badge')].map((badge) => badge.textContent).join() === 'broken,message'"));
+  });
+  await check("webkit: the loop gives back what is sent, and Stream shows it", async () => {
     await value("document.getElementById('tab-line').click()");
     await value("document.getElementById('line-loop').click()");
     await until(() => value("!document.getElementById('line-submit').disabled"));
@@ -79,6 +106,8 @@ try {
     await until(() => value("document.getElementById('line-messages').textContent === '1'"));
     await value("document.getElementById('line-close').click()");
     await until(() => value("document.getElementById('line-status').textContent === 'Not connected.'"));
+    await value("document.getElementById('line-stream').click()");
+    await until(() => value("document.getElementById('stream-status').textContent.startsWith('7 bytes, 1 piece: 1 message. Read as a log: 1 row received.')"));
   });
   await check("webkit: dist/jcobs.js has the module inside", async () => {
     const said = await value('import("/dist/jcobs.js").then(async (cobs) => (await cobs.load(), [...cobs.encode(Uint8Array.of(10, 11, 0, 12))].join(" ")))');

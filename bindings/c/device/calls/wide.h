@@ -1,7 +1,7 @@
 /* wide.h: between the calls of jcobs.h where size_t has 32 bits and the proved functions, whose lengths have 64.
  *
- * Each file beside this one has one call. It widens its lengths and its state, calls the proved function of that name,
- * and narrows what that returns. This loses nothing: each number that comes back is a length within a buffer, or a
+ * Each call in the files beside this one widens its lengths and its state, calls the proved function of that name, and
+ * narrows what that returns. This loses nothing: each number that comes back is a length within a buffer, or a
  * place in one. No proof covers these files; tests/device.sh runs them on each target.
  *
  * The build compiles each file and the proved module into one object, so that the widening costs next to nothing.

@@ -136,9 +136,9 @@ extern "C" {
 #define JCOBS_VERSION_PATCH 0
 #define JCOBS_VERSION (JCOBS_VERSION_MAJOR * 10000 + JCOBS_VERSION_MINOR * 100 + JCOBS_VERSION_PATCH)
 
-/* What became of a call. In an answer it is as large as an unsigned int in every language and on every target. So its
- * type is given where the language can; and where enums may be shorter, as for ARM without a system, an answer has an
- * unsigned int. Elsewhere -Wswitch tests a switch over it. */
+/* The result of a call. In jcobs_answer it has the size of unsigned int in every language and on every target. So its
+ * type is fixed if the language allows it. If enums may be shorter, as on bare-metal ARM, jcobs_answer has an unsigned
+ * int instead. Elsewhere -Wswitch checks a switch over it. */
 #if (defined(__cplusplus) && __cplusplus >= 201103L) || (defined(__STDC_VERSION__) && __STDC_VERSION__ >= 202311L)
 #define JCOBS_ENUM(name) enum name : unsigned int
 #define JCOBS_STATUS jcobs_status
@@ -178,7 +178,7 @@ enum jcobs_kind {
 /* The state of a streaming decoder. The members are for the library only. */
 typedef struct jcobs_decoder {
     size_t written;         /* bytes of the open message in the buffer */
-    unsigned char lacking;  /* bytes that the open block lacks */
+    unsigned char lacking;  /* bytes missing in the open block */
     unsigned char joint;    /* whether a zero joins the next block to the open one */
     unsigned char too_long; /* whether the open message was too long for the buffer */
 } jcobs_decoder;

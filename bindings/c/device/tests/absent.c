@@ -9,10 +9,7 @@
         abort();                                                                                                       \
     }
 
-ABSENT(jcobs_decode)
-ABSENT(jcobs_decode_in_place)
 ABSENT(jcobs_decode_in_place_with_sentinel)
 ABSENT(jcobs_decode_with_sentinel)
 ABSENT(jcobs_encode_terminated_with_sentinel)
 ABSENT(jcobs_encode_with_sentinel)
-ABSENT(jcobs_frame_kind)

@@ -148,3 +148,87 @@ jcobs_answer plain_encode_terminated(const void *message, size_t message_len, vo
     }
     return answer;
 }
+
+jcobs_answer plain_encoder_finish_terminated(jcobs_encoder *encoder, void *buffer, size_t buffer_len)
+{
+    jcobs_answer answer = {JCOBS_TOO_SMALL, 0, 0};
+
+    if (buffer_len == 0)
+        return answer;
+    answer = plain_encoder_finish(encoder, buffer, buffer_len - 1);
+    if (answer.status == JCOBS_OK)
+        ((unsigned char *)buffer)[answer.length++] = 0;
+    return answer;
+}
+
+/* The end of the source ends its last piece, as a zero does. */
+jcobs_answer plain_decode_frame(const void *source, size_t source_len, void *message, size_t message_len)
+{
+    jcobs_decoder decoder = JCOBS_DECODER_INIT;
+    jcobs_answer answer = plain_decoder_push(&decoder, message, message_len, source, source_len);
+
+    if (answer.status == JCOBS_MORE) {
+        answer = plain_decoder_push(&decoder, message, message_len, "", 1);
+        answer.consumed = source_len;
+        if (answer.status == JCOBS_MORE)
+            answer.status = JCOBS_EMPTY;
+    }
+    return answer;
+}
+
+static size_t length_to_zero(const unsigned char *bytes, size_t len)
+{
+    size_t i;
+
+    for (i = 0; i < len && bytes[i] != 0; i++)
+        ;
+    return i;
+}
+
+/* A broken block stays where it is. */
+jcobs_answer plain_decode_in_place(void *buffer, size_t buffer_len)
+{
+    unsigned char *at = buffer;
+    jcobs_answer answer = {JCOBS_EMPTY, 0, 0};
+    size_t end;
+    size_t read = 0;
+    size_t i;
+
+    if (buffer_len == 0)
+        return answer;
+    end = length_to_zero(at, buffer_len);
+    answer.status = JCOBS_OK;
+    answer.consumed = end < buffer_len ? end + 1 : end;
+    while (read < end) {
+        size_t code = at[read++];
+
+        if (code - 1 > end - read) {
+            answer.status = JCOBS_BROKEN;
+            break;
+        }
+        for (i = 1; i < code; i++)
+            at[answer.length++] = at[read++];
+        if (code != 255 && read < end)
+            at[answer.length++] = 0;
+    }
+    return answer;
+}
+
+unsigned int plain_frame_kind(const void *bytes, size_t len)
+{
+    const unsigned char *from = bytes;
+    size_t at = 0;
+    size_t code = 0;
+    size_t before = 0;
+
+    if (len == 0 || length_to_zero(from, len) < len)
+        return JCOBS_NOT_A_FRAME;
+    while (at < len) {
+        before = code;
+        code = from[at];
+        at += code;
+    }
+    if (at > len)
+        return JCOBS_NOT_A_FRAME;
+    return before == 255 && code == 1 ? JCOBS_LONGER : JCOBS_CANONICAL;
+}

@@ -11,8 +11,6 @@
 #define ROOM 300
 #define AROUND 16
 
-jcobs_answer jcobs_decoder_feed(jcobs_decoder *decoder, void *buffer, size_t buffer_len, unsigned char byte);
-
 static unsigned long seed = 1;
 static unsigned char mine[AROUND + ROOM + AROUND];
 static unsigned char theirs[AROUND + ROOM + AROUND];
@@ -63,10 +61,15 @@ static int encodes(jcobs_encoder *encoder, size_t room, size_t len)
     jcobs_answer plain;
 
     if (any(4) == 0) {
-        answer = jcobs_encoder_finish(encoder, to, room);
-        plain = plain_encoder_finish(&other, theirs + AROUND, room);
+        int terminated = any(2) != 0;
+
+        answer =
+            terminated ? jcobs_encoder_finish_terminated(encoder, to, room) : jcobs_encoder_finish(encoder, to, room);
+        plain = terminated ? plain_encoder_finish_terminated(&other, theirs + AROUND, room)
+                           : plain_encoder_finish(&other, theirs + AROUND, room);
     } else {
-        answer = jcobs_encoder_push(encoder, room ? to : NULL, room, len ? bytes : NULL, len);
+        answer = len == 1 && any(2) ? jcobs_encoder_feed(encoder, to, room, bytes[0])
+                                    : jcobs_encoder_push(encoder, room ? to : NULL, room, len ? bytes : NULL, len);
         plain = plain_encoder_push(&other, theirs + AROUND, room, bytes, len);
     }
     return same(answer, plain) && encoder->index == other.index && encoder->taken == other.taken &&
@@ -88,6 +91,36 @@ static int encodes_whole(size_t room, size_t len)
     return memcmp(mine, theirs, sizeof mine) == 0;
 }
 
+/* A frame that the library has written is canonical, and any bytes are what plain C says. */
+static int is_canonical(size_t len)
+{
+    static unsigned char frame[ROOM + ROOM / 254 + 1];
+    jcobs_answer answer = jcobs_encode(bytes, len, frame, sizeof frame);
+
+    return answer.status == JCOBS_OK && jcobs_frame_kind(frame, answer.length) == JCOBS_CANONICAL &&
+           jcobs_frame_kind(len ? bytes : NULL, len) == plain_frame_kind(bytes, len);
+}
+
+static int decodes_whole(size_t room, size_t len)
+{
+    jcobs_answer answer = jcobs_decode(len ? bytes : NULL, len, mine + AROUND, room);
+
+    return same(answer, plain_decode_frame(bytes, len, theirs + AROUND, room));
+}
+
+/* Half of the buffers begin with a frame and its zero, as the library writes them. */
+static int decodes_in_place(size_t room, size_t len)
+{
+    if (len > room)
+        len = room;
+    if (len > 2 && any(2))
+        jcobs_encode_terminated(bytes, len - 2, mine + AROUND, room);
+    else
+        memcpy(mine + AROUND, bytes, len);
+    memcpy(theirs, mine, sizeof mine);
+    return same(jcobs_decode_in_place(len ? mine + AROUND : NULL, len), plain_decode_in_place(theirs + AROUND, len));
+}
+
 static int run(unsigned long calls)
 {
     jcobs_decoder decoder = JCOBS_DECODER_INIT;
@@ -97,7 +130,7 @@ static int run(unsigned long calls)
 
     for (i = 0; i < calls; i++) {
         size_t len = any(4) ? any(40) : any(ROOM + 1);
-        unsigned int kind = any(3);
+        unsigned int kind = any(6);
         int holds;
 
         if (any(8) == 0) {
@@ -120,7 +153,10 @@ static int run(unsigned long calls)
             memset(bytes, 1 + (int)any(255), len);
         holds = kind == 0   ? decodes(&decoder, room, len)
                 : kind == 1 ? encodes(&encoder, room, len)
-                            : encodes_whole(room, len);
+                : kind == 2 ? encodes_whole(room, len)
+                : kind == 3 ? decodes_whole(room, len)
+                : kind == 4 ? decodes_in_place(room, len)
+                            : is_canonical(len);
         if (!holds) {
             printf("call %lu of kind %u differs: room %u, %u bytes\n", i, kind, (unsigned)room, (unsigned)len);
             return 1;

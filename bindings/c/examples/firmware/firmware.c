@@ -7,7 +7,7 @@
  *     'a' bytes..   add: adds the bytes up, and sends the sum in two bytes
  *     's'           statistics: sends how many frames were received, broken, and too long
  *
- * A damaged frame is counted, and costs no other. */
+ * A damaged frame is counted, and never affects another. */
 #include <jcobs.h>
 
 #include "board.h"

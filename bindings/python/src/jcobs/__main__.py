@@ -18,7 +18,7 @@ NAMES = {jcobs.Message: "message", jcobs.Broken: "broken", jcobs.TooLong: "too l
 
 
 class Fault(Exception):
-    """What the user is told before the program ends with status 1."""
+    """What the user reads before the program ends with status 1."""
 
 
 def arguments() -> argparse.ArgumentParser:

@@ -65,8 +65,8 @@ macro_rules! decoder_methods {
         /// # Errors
         ///
         /// - [`DecodeError::InvalidFrame`]: the byte is a zero inside a block. The next byte begins a frame.
-        /// - [`DecodeError::TargetBufTooSmall`]: the message is longer than the buffer. It is answered to the byte that
-        ///   no longer fits, and to each further one, through the zero that ends the frame.
+        /// - [`DecodeError::TargetBufTooSmall`]: the message is longer than the buffer. It is the result of the byte
+        ///   that no longer fits, and of each further one, through the zero that ends the frame.
         #[inline]
         pub fn feed(&mut self, data: u8) -> Result<Option<usize>, DecodeError> {
             self.progress.feed(&mut self.dest[..], data)
@@ -76,23 +76,24 @@ macro_rules! decoder_methods {
         /// that zero aren't looked at: push them next.
         ///
         /// - `Ok(None)`: all were taken, and no frame has ended.
-        /// - `Ok(Some(report))`: a frame has ended, after [`parsed_size`](DecodeReport::parsed_size) of these bytes, and
-        ///   its message is the first [`frame_size`](DecodeReport::frame_size) bytes of [`dest`](Self::dest).
+        /// - `Ok(Some(report))`: a frame has ended, after [`parsed_size`](DecodeReport::parsed_size) of these bytes,
+        ///   and its message is the first [`frame_size`](DecodeReport::frame_size) bytes of [`dest`](Self::dest).
         ///
         /// # Errors
         ///
         /// - [`DecodeError::InvalidFrame`]: the frame breaks off inside a block. The bytes were taken through its zero.
-        /// - [`DecodeError::TargetBufTooSmall`]: the message is longer than the buffer. It is answered to each push that
-        ///   has bytes of what no longer fits, or the zero after it. The bytes were taken through that zero, or all.
+        /// - [`DecodeError::TargetBufTooSmall`]: the message is longer than the buffer. It is the result of each push
+        ///   that has bytes of what no longer fits, or the zero after it. The bytes were taken through that zero, or
+        ///   all.
         ///
-        /// Behind an error, go on with the bytes from [`parsed_size`](Self::parsed_size) on: then a refused frame costs
-        /// no other.
+        /// After an error, go on with the bytes from [`parsed_size`](Self::parsed_size) on: then a broken frame
+        /// never affects another.
         pub fn push(&mut self, data: &[u8]) -> Result<Option<DecodeReport>, DecodeError> {
             self.progress.push(&mut self.dest[..], data)
         }
 
-        /// How many bytes the last [`push`](Self::push) or [`feed`](Self::feed) took, whatever it answered; 0 before the
-        /// first. The crate `cobs` lacks this call.
+        /// How many bytes the last [`push`](Self::push) or [`feed`](Self::feed) took, whatever it returned; 0 before
+        /// the first. The crate `cobs` doesn't have this call.
         #[inline]
         #[must_use]
         pub fn parsed_size(&self) -> usize {
@@ -108,8 +109,8 @@ macro_rules! decoder_methods {
 
         /// The buffer, which messages are decoded to.
         ///
-        /// It may be changed while no frame is open. Otherwise nothing is said of the open frame's answer, nor of the
-        /// buffer then.
+        /// It may be changed while no frame is open. Otherwise nothing is specified about the open frame's result, nor
+        /// the buffer then.
         #[inline]
         pub fn dest_mut(&mut self) -> &mut [u8] {
             &mut self.dest[..]

@@ -2,7 +2,7 @@
 
 use crate::sys;
 
-/// What a list of bytes is, taken as a frame for the sentinel 0 without sentinels round it.
+/// What bytes are, taken as a frame for the sentinel 0 without sentinels round it.
 #[derive(Debug, Clone, Copy, PartialEq, Eq)]
 pub enum FrameKind {
     /// It is empty, has a zero, or breaks off inside a block.
@@ -13,7 +13,7 @@ pub enum FrameKind {
     Longer,
 }
 
-/// Whether the bytes are a frame, and which one of its message. The crate `cobs` lacks this call.
+/// Whether the bytes are a frame, and which one of its message. The crate `cobs` doesn't have this call.
 ///
 /// ```
 /// use jcobs::{frame_kind, FrameKind};

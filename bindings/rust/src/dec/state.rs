@@ -2,7 +2,7 @@
 
 use crate::dec::DecodeError;
 
-/// Where a decoder stands that writes into a container of the caller's own.
+/// A decoder that writes into a container of the caller's own.
 ///
 /// ```
 /// use jcobs::{DecodeResult, DecoderState};
@@ -25,10 +25,10 @@ pub enum DecoderState {
     #[default]
     Idle,
 
-    /// The open block lacks so many bytes, and a zero of the message joins the next block to it.
+    /// This many bytes of the open block are missing, and a zero of the message joins the next block to it.
     Grab(u8),
 
-    /// The open block is a full one and lacks so many bytes, and the next block follows it without a zero.
+    /// The open block is a full one with this many bytes missing, and the next block follows it without a zero.
     GrabChain(u8),
 }
 

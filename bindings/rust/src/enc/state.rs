@@ -3,7 +3,7 @@
 /// How many bytes a full block has after its code.
 const FULL: u8 = 254;
 
-/// Where an encoder stands that writes into a container of the caller's own.
+/// An encoder that writes into a container of the caller's own.
 ///
 /// The container begins with one byte, the place of the first code. Each [`PushResult`] then says what to write. At the
 /// end [`finalize`](Self::finalize) says what the last code is, and where it belongs.
@@ -31,7 +31,7 @@ const FULL: u8 = 254;
 /// assert_eq!(frame, b"\x02a\x02b");
 /// ```
 ///
-/// Where the message ends in a full block, the place after that block is left over: it is the last byte, and the frame
+/// If the message ends in a full block, the place after that block is left over: it is the last byte, and the frame
 /// without it is the encoded one. Both stand for the same message.
 #[derive(Debug, Clone)]
 pub struct EncoderState {
@@ -68,16 +68,15 @@ impl EncoderState {
     #[inline]
     pub fn push(&mut self, data: u8) -> PushResult {
         let Self { index: at, code } = *self;
-        if data == 0 {
-            self.index = at + usize::from(code);
-            self.code = 1;
-            PushResult::ModifyFromStartAndSkip((at, code))
-        } else if code < FULL {
+        if data != 0 && code < FULL {
             self.code = code + 1;
-            PushResult::AddSingle(data)
+            return PushResult::AddSingle(data);
+        }
+        self.index = at + usize::from(code) + usize::from(data != 0);
+        self.code = 1;
+        if data == 0 {
+            PushResult::ModifyFromStartAndSkip((at, code))
         } else {
-            self.index = at + usize::from(FULL) + 1;
-            self.code = 1;
             PushResult::ModifyFromStartAndPushAndSkip((at, FULL + 1, data))
         }
     }
@@ -98,8 +97,8 @@ mod tests {
     /// The code of a block, its 254 bytes, and the place of the next code.
     const ROOM: usize = 256;
 
-    /// The same by the proved library: a push of one byte, with the open block in a buffer of its own, as if it were the
-    /// first one.
+    /// The same by the proved library: a push of one byte, with the open block in a buffer of its own, as if it were
+    /// the first one.
     fn pushed(state: &EncoderState, data: u8) -> (PushResult, usize, u8) {
         let mut block = [0; ROOM];
         let end = usize::from(state.code);

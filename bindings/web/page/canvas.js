@@ -1,0 +1,356 @@
+// A stream on a canvas: over each byte the byte of the message that it is for, under it the arcs from code to code. Each
+// byte is explained under the mouse and at the cursor, and can be written: in the message or in the frame.
+import { CELL, rowPicture } from "../draw.js";
+import { explainFrame, explainMessage } from "./explain.js";
+import { printHex } from "./hex.js";
+import { BADGES, MESSAGE } from "./pieces.js";
+import { Rows } from "./rows.js";
+import { lastAtOrBefore } from "./search.js";
+
+const LINE_HEIGHT = 93;   // pixels of a line of bytes
+const OUTCOME_HEIGHT = 36;
+const WIDTHS = [32, 28, 24, 20, 16, 12, 8, 6, 4];
+const FAR = 4096; // bytes that the cursor skips at most on the way to the next byte of a message
+const FRAME = "frame";
+const OVER = "over"; // the lane of the messages
+
+export class Canvas {
+  #box;
+  #on;
+  #rows;
+  #pieces = null;
+  #hasOutcomes = true;
+  #columns = 8;
+  #margin = 60;
+  #rowStarts = new Float64Array(1);
+  #tops = new Float64Array(1);
+  #active = 0;
+  #lane = FRAME;
+  #digit = "";
+  #mouse = { x: -1, y: -1 };
+
+  /**
+   * `on` has `name`, for the elements' ids; `outcome(element, at)`, which fills the row over a piece; `mark(i)`, a note on a byte
+   * that is marked; `act(i)`, for a click on a byte or Enter; `write(i, byte)` and `splice(at, index, removed, bytes)`, which
+   * change a byte of the stream and bytes of a piece's message, and return what is wrong if they can't.
+   */
+  constructor(box, on) {
+    this.#box = box;
+    this.#on = on;
+    this.#rows = new Rows(box, { topOf: (index) => this.#topOf(index), fill: (element, index) => this.#fillRow(element, index) });
+    let width = 0;
+    new ResizeObserver(([{ contentRect }]) => {
+      if (contentRect.width === width) return;
+      width = contentRect.width;
+      this.#layOut();
+    }).observe(box);
+    box.addEventListener("click", (event) => this.#click(event));
+    box.addEventListener("mousemove", (event) => this.#hover(event));
+    box.addEventListener("mouseleave", () => this.#explain(this.#active, this.#lane));
+    box.addEventListener("keydown", (event) => this.#key(event));
+    box.addEventListener("blur", () => this.#begin(""));
+    this.#part("byte").addEventListener("input", (event) => this.#takeField(event.target));
+  }
+
+  #part(name) {
+    return document.getElementById(`${this.#on.name}-${name}`);
+  }
+
+  /** Shows pieces, with a row over each that says what it decodes to, or without. */
+  show(pieces, hasOutcomes = true) {
+    const digit = this.#digit !== "" && pieces.stream.every((byte, i) => byte === this.#pieces.stream[i]) ? this.#digit : "";
+    this.#pieces = pieces;
+    this.#hasOutcomes = hasOutcomes;
+    this.#active = Math.max(0, Math.min(this.#active, pieces.stream.length - 1));
+    if (this.#lane === OVER && !this.#isThere(this.#active)) this.#lane = FRAME;
+    this.#layOut();
+    this.#begin(digit); // the first of two digits stays, if nothing changed since
+  }
+
+  /** Puts the cursor on a byte of the stream. */
+  goTo(i) {
+    this.#active = i;
+    this.#lane = FRAME;
+    this.#mark();
+  }
+
+  get active() {
+    return this.#active;
+  }
+
+  #layOut() {
+    const pieces = this.#pieces;
+    if (!pieces) return;
+    this.#margin = Math.max(30, String(pieces.stream.length).length * 7 + 10);
+    const fitting = Math.floor((this.#box.clientWidth - this.#margin) / CELL) - 1; // and the sentinel
+    this.#columns = WIDTHS.find((width) => width <= fitting) ?? 4;
+    this.#rowStarts = new Float64Array(pieces.count + 1);
+    this.#tops = new Float64Array(pieces.count + 1);
+    const [extra, head] = this.#hasOutcomes ? [1, OUTCOME_HEIGHT] : [0, 0];
+    for (let at = 0; at < pieces.count; at++) {
+      const lines = this.#lines(at);
+      this.#rowStarts[at + 1] = this.#rowStarts[at] + extra + lines;
+      this.#tops[at + 1] = this.#tops[at] + head + lines * LINE_HEIGHT;
+    }
+    this.#box.style.height = `${Math.max(LINE_HEIGHT, Math.min(this.#tops[pieces.count], 8.5 * LINE_HEIGHT)) + 2}px`;
+    this.#rows.reset(this.#rowStarts[pieces.count]);
+    this.#mark();
+  }
+
+  /** How many rows the bytes of a piece take. The sentinel that ends it is beside its last byte. */
+  #lines(at) {
+    const { ends, ended } = this.#pieces;
+    return Math.max(1, Math.ceil((ends[at] - this.#pieces.start(at) - (at < ended ? 1 : 0)) / this.#columns));
+  }
+
+  /** The first byte of a piece's line, and the place after its last. */
+  #range(at, line) {
+    const from = this.#pieces.start(at) + line * this.#columns;
+    return [from, line + 1 >= this.#lines(at) ? this.#pieces.ends[at] : from + this.#columns];
+  }
+
+  #pieceOfRow(index) {
+    return lastAtOrBefore((at) => this.#rowStarts[at], index, this.#pieces.count);
+  }
+
+  #topOf(index) {
+    if (!this.#pieces?.count) return 0;
+    const at = this.#pieceOfRow(index);
+    const inside = index - this.#rowStarts[at];
+    const isBelow = this.#hasOutcomes && inside > 0;
+    return this.#tops[at] + (isBelow ? OUTCOME_HEIGHT - LINE_HEIGHT : 0) + inside * LINE_HEIGHT;
+  }
+
+  /** The piece and the line that a byte is in. */
+  #lineOf(i) {
+    const at = this.#pieces.at(i);
+    return [at, Math.min(this.#lines(at) - 1, Math.floor((i - this.#pieces.start(at)) / this.#columns))];
+  }
+
+  #fillRow(element, index) {
+    const at = this.#pieceOfRow(index);
+    const line = index - this.#rowStarts[at] - (this.#hasOutcomes ? 1 : 0);
+    element.setAttribute("role", "presentation");
+    if (line < 0) {
+      element.className = "row outcome";
+      this.#on.outcome(element, at);
+      return;
+    }
+    const pieces = this.#pieces;
+    const [from, to] = this.#range(at, line);
+    const [front, back] = [pieces.fronts[at], pieces.back(at)];
+    const first = Math.min(Math.max(from, front), to);
+    const last = Math.min(Math.max(first, back), to);
+    element.className = "row";
+    element.innerHTML = rowPicture(pieces.piece(at), pieces.codes(at).places, first - front, last - front, {
+      sentinel: pieces.sentinel, margin: this.#margin, label: from, lead: first - from, trail: to - last,
+    }) + `<span class="lane over" role="presentation">${this.#spots(from, to, OVER)}</span><span class="lane frame" role="presentation">${this.#spots(from, to, FRAME)}</span>`;
+    for (const lane of element.querySelectorAll(".lane")) lane.style.left = `${this.#margin}px`; // a style attribute would be against the policy
+  }
+
+  #spots(from, to, lane) {
+    let spots = "";
+    for (let i = from; i < to; i++) spots += lane === FRAME ? this.#frameSpot(i) : this.#overSpot(i);
+    return spots;
+  }
+
+  #id(i, lane) {
+    return `${this.#on.name}-${lane === FRAME ? "byte" : "over"}-${i}`;
+  }
+
+  #frameSpot(i) {
+    const pieces = this.#pieces;
+    const { at, value, role } = pieces.about(i);
+    const note = this.#on.mark?.(i) ?? "";
+    const said = role === "sentinel" ? ", sentinel" : role === "data" ? "" : value === 255 ? ", code of a full block" : ", code";
+    const outcome = i === pieces.fronts[at] || i === this.#active ? `, ${pieces.name(at)}: ${BADGES[pieces.kinds[at]]} ${pieces.words(at)}` : "";
+    const names = `spot byte${role === "sentinel" ? " end" : role === "code" ? " code" : ""}`;
+    return `<span role="option" id="${this.#id(i, FRAME)}" data-at="${i}" class="${names}" aria-selected="${note !== ""}" aria-posinset="${i + 1}" aria-setsize="${pieces.stream.length}"`
+      + ` aria-label="Byte ${i}: ${printHex(pieces.stream, i, i + 1)}${said}${note}${this.#hasOutcomes ? outcome : ""}"></span>`;
+  }
+
+  #overSpot(i) {
+    const { at, value, role, index } = this.#pieces.about(i);
+    if (index < 0) return `<span class="spot none" data-at="${i}"></span>`;
+    const said = role === "sentinel" ? "end of the message" : `message byte ${index}: ${role === "code" ? "00" : printHex([value])}`;
+    return `<span role="option" id="${this.#id(i, OVER)}" data-at="${i}" class="spot" aria-selected="false" aria-posinset="${index + 1}" aria-setsize="${this.#pieces.lengths[at] + 1}"`
+      + ` aria-label="${said}"></span>`;
+  }
+
+  #isThere(i) {
+    return i >= 0 && i < this.#pieces.stream.length && this.#pieces.about(i).index >= 0;
+  }
+
+  #explain(i, lane) {
+    const pieces = this.#pieces;
+    const isThere = i < (pieces?.stream.length ?? 0);
+    this.#part("explained").textContent = !isThere ? "" : lane === FRAME ? explainFrame(pieces, i) : explainMessage(pieces, i);
+  }
+
+  #mark() {
+    if (!this.#pieces) return;
+    const box = this.#box;
+    this.#begin("");
+    const last = box.querySelector(".active");
+    last?.classList.remove("active");
+    last?.removeAttribute("aria-describedby");
+    this.#explain(this.#active, this.#lane);
+    this.#say("");
+    const spot = document.getElementById(this.#id(this.#active, this.#lane));
+    spot?.classList.add("active");
+    spot?.setAttribute("aria-describedby", this.#part("explained").id);
+    if (spot) box.setAttribute("aria-activedescendant", spot.id);
+    else box.removeAttribute("aria-activedescendant");
+    const field = this.#part("byte");
+    if (document.activeElement !== field) field.value = this.#digitsAt();
+  }
+
+  /** The byte at the cursor as digits. */
+  #digitsAt() {
+    const { stream } = this.#pieces;
+    if (stream.length === 0) return "";
+    if (this.#lane === FRAME) return printHex(stream, this.#active, this.#active + 1);
+    const { role, value } = this.#pieces.about(this.#active);
+    return role === "sentinel" ? "" : role === "code" ? "00" : printHex([value]);
+  }
+
+  #laneOf(element) {
+    return element.closest(".lane").classList.contains("over") ? OVER : FRAME;
+  }
+
+  #click(event) {
+    const spot = event.target.closest("[data-at]");
+    if (!spot) return;
+    const i = Number(spot.dataset.at);
+    this.#lane = this.#laneOf(spot) === OVER && this.#isThere(i) ? OVER : FRAME;
+    this.#active = i;
+    if (this.#lane === FRAME && this.#on.act) this.#on.act(i);
+    else this.#mark();
+  }
+
+  /** Explains the byte that the mouse was moved to, and not one that came under it when the bytes changed. */
+  #hover(event) {
+    const spot = event.target.closest("[data-at]");
+    const isMoved = event.clientX !== this.#mouse.x || event.clientY !== this.#mouse.y;
+    this.#mouse = { x: event.clientX, y: event.clientY };
+    if (spot && isMoved && this.#digit === "") this.#explain(Number(spot.dataset.at), this.#laneOf(spot));
+  }
+
+  #key(event) {
+    if (event.ctrlKey || event.metaKey || event.altKey || !this.#pieces?.stream.length) return;
+    if (this.#edit(event.key) || this.#move(event.key)) event.preventDefault();
+  }
+
+  /** Moves the cursor by a key, and says whether the key does. */
+  #move(key) {
+    const length = this.#pieces.stream.length;
+    const page = Math.max(1, Math.floor(this.#box.clientHeight / LINE_HEIGHT));
+    if (key === "ArrowLeft" || key === "ArrowRight") this.#step(key === "ArrowLeft" ? -1 : 1);
+    else if (key === "ArrowUp" || key === "ArrowDown") this.#climb(key === "ArrowUp" ? -1 : 1);
+    else if (key === "PageUp" || key === "PageDown") for (let i = 0; i < page; i++) this.#active = this.#beyond(key === "PageUp" ? -1 : 1);
+    else if (key === "Home" || key === "End") [this.#active, this.#lane] = [key === "Home" ? 0 : length - 1, FRAME];
+    else return false;
+    if (this.#lane === OVER && !this.#isThere(this.#active)) this.#lane = FRAME;
+    this.#reveal();
+    return true;
+  }
+
+  #reveal() {
+    const [at, line] = this.#lineOf(this.#active);
+    if (line === 0 && this.#hasOutcomes) this.#rows.reveal(this.#rowStarts[at]);
+    this.#rows.reveal(this.#rowStarts[at] + line + (this.#hasOutcomes ? 1 : 0));
+    this.#mark();
+  }
+
+  /** To the byte before or after, of the same lane. */
+  #step(by) {
+    let i = this.#active + by;
+    if (this.#lane === OVER) while (Math.abs(i - this.#active) < FAR && i >= 0 && i < this.#pieces.stream.length && !this.#isThere(i)) i += by;
+    if (i < 0 || i >= this.#pieces.stream.length || (this.#lane === OVER && !this.#isThere(i))) return;
+    this.#active = i;
+  }
+
+  /** To the lane above or below. */
+  #climb(by) {
+    const isUp = by < 0;
+    if (isUp ? this.#lane === FRAME && this.#isThere(this.#active) : this.#lane === OVER) {
+      this.#lane = isUp ? OVER : FRAME;
+      return;
+    }
+    const i = this.#beyond(by);
+    if (i === this.#active) return;
+    this.#active = i;
+    this.#lane = !isUp && this.#isThere(i) ? OVER : FRAME;
+  }
+
+  /** The byte above or below the cursor, in the next line of bytes. */
+  #beyond(by) {
+    const [at, line] = this.#lineOf(this.#active);
+    const column = this.#active - this.#range(at, line)[0];
+    let [piece, there] = [at, line + by];
+    if (there < 0) there = --piece >= 0 ? this.#lines(piece) - 1 : 0;
+    else if (there >= this.#lines(at)) [piece, there] = [at + 1, 0];
+    if (piece < 0 || piece >= this.#pieces.count) return this.#active;
+    const [from, to] = this.#range(piece, there);
+    return Math.min(from + column, to - 1);
+  }
+
+  /** Changes a byte by a key, and says whether the key does. */
+  #edit(key) {
+    if (/^[0-9a-f]$/i.test(key)) {
+      if (this.#digit === "") this.#begin(key.toLowerCase());
+      else this.#write(parseInt(this.#digit + key, 16), true);
+      return true;
+    }
+    if (key === "Escape" && this.#digit !== "") this.#mark();
+    else if ((key === "Enter" || key === " ") && this.#on.act) this.#on.act(this.#active);
+    else if (this.#lane === OVER && ["Delete", "Backspace", "Insert"].includes(key)) this.#cut(key);
+    else return false;
+    return true;
+  }
+
+  /** Shows the first of two digits, or takes it away. */
+  #begin(digit) {
+    if (digit === this.#digit) return;
+    this.#digit = digit;
+    const spot = this.#box.querySelector(".active");
+    if (spot) spot.textContent = digit && `${digit}_`;
+    spot?.classList.toggle("typed", digit !== "");
+    if (digit) this.#part("explained").textContent = `${digit}_: a second digit writes the byte, Escape leaves it as it is.`;
+  }
+
+  #write(byte, isGoingOn) {
+    const { at, index, role } = this.#pieces.about(this.#active);
+    this.#begin("");
+    const fault = this.#lane === FRAME ? this.#on.write(this.#active, byte) : this.#splice(at, index, role === "sentinel" ? 0 : 1, [byte]);
+    if (!fault && isGoingOn) {
+      this.#step(1);
+      this.#reveal();
+    }
+    this.#say(fault ?? "");
+  }
+
+  #cut(key) {
+    const { at, index, role } = this.#pieces.about(this.#active);
+    if ((key === "Delete" && role === "sentinel") || (key === "Backspace" && index === 0)) return;
+    if (key === "Backspace") this.#step(-1);
+    const fault = key === "Insert" ? this.#splice(at, index, 0, [0]) : this.#splice(at, key === "Delete" ? index : index - 1, 1, []);
+    this.#say(fault ?? "");
+  }
+
+  #splice(at, index, removed, bytes) {
+    if (this.#pieces.kinds[at] !== MESSAGE) return `There is no message in ${this.#pieces.name(at)} to change; the bytes below can be changed.`;
+    return this.#on.splice(at, index, removed, bytes);
+  }
+
+  /** Says why a byte can't be changed. */
+  #say(fault) {
+    this.#part("fault").textContent = fault;
+  }
+
+  #takeField(field) {
+    if (!/^[0-9a-f]{2}$/i.test(field.value) || !this.#pieces?.stream.length) return;
+    this.#write(parseInt(field.value, 16), false);
+    field.select();
+  }
+}

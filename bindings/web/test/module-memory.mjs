@@ -1,0 +1,88 @@
+// The memory that calls, decoders and streams share.
+import * as cobs from "../jcobs.js";
+import { memoryOf } from "./memory.mjs";
+import { FRAME, MESSAGE, all, bytes, fresh, randomBytes, source, wasm } from "./module-setup.mjs";
+import { check, equal, holds, throws } from "./tally.mjs";
+
+await check("10,000 decoders are closed in any order in no time", () => {
+  const decoders = Array.from({ length: 10_000 }, () => new cobs.FrameDecoder({ maxLength: 10 }));
+  const order = randomBytes(20_000, 0, 5);
+  decoders.forEach((decoder, i) => (decoder.order = order[2 * i] * 256 + order[2 * i + 1]));
+  decoders.sort((a, b) => a.order - b.order);
+  const begun = process.cpuUsage();
+  for (const decoder of decoders) decoder.close();
+  const { user } = process.cpuUsage(begun);
+  holds(user < 1_000_000, `it took ${Math.round(user / 1000)} ms of processor time`);
+});
+await check("a stream that isn't read to its end gives its memory back at once", () => memoryOf(async (pages) => {
+  const own = await fresh();
+  await own.load(wasm);
+  const before = pages();
+  const chunk = bytes(...FRAME, 0);
+  for (let i = 0; i < 50; i++) {
+    const cancelled = new own.FrameDecoderStream({ maxLength: 1 << 20 });
+    const writer = cancelled.writable.getWriter();
+    const written = writer.write(chunk).catch(() => {});
+    const reader = cancelled.readable.getReader();
+    equal((await reader.read()).value, { message: MESSAGE });
+    await reader.cancel(new Error("no more"));
+    await written;
+    await throws(() => writer.write(chunk), (error) => error.message === "no more", "a write after the reader's cancel");
+    const aborted = new own.FrameDecoderStream({ maxLength: 1 << 20 });
+    await aborted.writable.abort(new Error("enough"));
+    await throws(() => aborted.readable.getReader().read(), (error) => error.message === "enough", "a read after the writer's abort");
+    await throws(() => all(source(["text"]).pipeThrough(new own.FrameDecoderStream({ maxLength: 1 << 20 }))), (error) => error instanceof TypeError, "a chunk that is no bytes");
+    const waiting = new own.FrameDecoderStream({ maxLength: 1 << 20 });
+    const held = waiting.writable.getWriter();
+    const late = held.write(chunk).then(() => "written", () => "failed");
+    await waiting.readable.cancel(new Error("no more"));
+    equal(await Promise.race([late, new Promise((done) => setTimeout(done, 500))]) !== undefined, true, "a write that waits has an end");
+  }
+  holds(pages() <= before + 3 * 17, `memory had ${before} pages and has ${pages()}`);
+}));
+await check("memory doesn't grow with a stream, nor with the number of streams", async () => {
+  const frame = cobs.encode(randomBytes(900, 0.05, 5), { terminated: true });
+  await memoryOf(async (pages) => {
+    const cobs = await fresh();
+    await cobs.load(wasm);
+    const decoder = new cobs.FrameDecoder({ maxLength: 1000 });
+    const before = pages();
+    let count = 0;
+    for (let i = 0; i < 5000; i++) decoder.push(frame, () => count++);
+    equal(count, 5000, "messages");
+    decoder.close();
+    for (let i = 0; i < 2000; i++) {
+      const next = new cobs.FrameDecoder({ maxLength: 100_000 });
+      next.push(frame, () => count++);
+      next.close();
+    }
+    for (let i = 0; i < 300; i++) await all(source([frame]).pipeThrough(new cobs.FrameDecoderStream({ maxLength: 50_000 })));
+    holds(pages() <= before + 3, `memory had ${before} pages and has ${pages()}`);
+  });
+});
+await check("places that lie together serve a longer one when they are given back, in any order", () => memoryOf(async (pages) => {
+  const cobs = await fresh();
+  await cobs.load(wasm);
+  for (const order of [[0, 1, 2], [0, 2, 1], [1, 0, 2], [1, 2, 0], [2, 0, 1], [2, 1, 0]]) {
+    const held = [1 << 20, 1 << 20, 1 << 20, 10].map((maxLength) => new cobs.FrameDecoder({ maxLength }));
+    const before = pages();
+    for (const at of order) held[at].close();
+    const longer = new cobs.FrameDecoder({ maxLength: 3 << 20 });
+    equal(pages(), before, `pages after ${order}`);
+    longer.close();
+    held[3].close();
+  }
+}));
+if (globalThis.gc) {
+  await check("the memory of decoders that were let go is used again", () => memoryOf(async (pages) => {
+    const cobs = await fresh();
+    await cobs.load(wasm);
+    const before = pages();
+    for (let round = 0; round < 20; round++) {
+      for (let i = 0; i < 20; i++) new cobs.FrameDecoder({ maxLength: 1 << 20 }).push(bytes(1, 0), () => {});
+      globalThis.gc();
+      await new Promise((done) => setTimeout(done, 5));
+    }
+    holds(pages() < before + 100 * 17, `memory had ${before} pages and has ${pages()}, and 400 decoders of 17 pages were made`);
+  }));
+}

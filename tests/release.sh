@@ -1,0 +1,247 @@
+#!/bin/sh
+# Makes the artifacts of a release and checks each: tests/release.sh [FOLDER]
+#
+# In FOLDER, which a second run fills again with the same bytes, or in a folder that goes away:
+#   jcobs-VERSION-source.tar.gz            the repository
+#   jcobs-VERSION-{x86_64,aarch64}-linux.tar.gz     the library for C, as `make dist` packs it
+#   jcobs-VERSION-device.tar.gz            the library for microcontrollers
+#   jcobs-VERSION.tar.gz, jcobs-VERSION-*.whl       the package for Python: source distribution, wheel
+#   jcobs-VERSION.tgz                      the package for Node and browsers, by npm
+#   jcobs-VERSION.crate                    the crate for Rust
+#   SHA256SUMS
+# Nothing is proved or compiled by the Rattle toolchain: the libraries are those of the folders prebuilt/, whose sums are
+# compared first. Each artifact is then unpacked or installed elsewhere, and an example of it runs. No network is used.
+#
+# Prints a line for each part: 'ok', 'FAILED' with what it said, or 'skipped' with the Debian packages that are missing. The
+# last line counts them; the status is 0 only if nothing failed.
+#
+# The functions are called by 'part'.
+# shellcheck disable=SC2317
+set -u
+root=$(cd "$(dirname "$0")/.." && pwd)
+work=$(mktemp -d)
+trap 'rm -rf "$work"' EXIT
+folder=${1:-$work/release}
+version=$(cat "$root/VERSION")
+SOURCE_DATE_EPOCH=1767225600
+TZ=UTC
+LC_ALL=C
+PIP_NO_INDEX=1
+PIP_DISABLE_PIP_VERSION_CHECK=1
+PYTHONDONTWRITEBYTECODE=1
+CARGO_NET_OFFLINE=true
+npm_config_cache=$work/npm
+npm_config_update_notifier=false
+PATH=$PATH:$HOME/.cargo/bin
+export SOURCE_DATE_EPOCH TZ LC_ALL PIP_NO_INDEX PIP_DISABLE_PIP_VERSION_CHECK PYTHONDONTWRITEBYTECODE CARGO_NET_OFFLINE
+export npm_config_cache npm_config_update_notifier PATH
+unset JCOBS_LIB_DIR PKG_CONFIG_PATH MAKEFLAGS MAKELEVEL PYTHONPATH PYTHONHOME
+umask 022
+passed=0
+failed=0
+skipped=0
+
+part() { # NAME COMMAND..
+    name=$1
+    shift
+    if "$@" </dev/null >"$work/said" 2>&1; then
+        passed=$((passed + 1))
+        echo "ok: $name"
+    else
+        failed=$((failed + 1))
+        echo "FAILED: $name"
+        tail -20 "$work/said" | sed 's/^/    /'
+        return 1
+    fi
+}
+
+has() { # TOOL-OR-FILE PACKAGE PART
+    command -v "$1" >/dev/null || [ -f "$1" ] && return 0
+    skipped=$((skipped + 1))
+    echo "skipped: $3: $1 is missing (Debian package $2)"
+    return 1
+}
+
+finish() {
+    echo "$passed passed, $failed failed, $skipped skipped"
+    [ "$failed" -eq 0 ]
+    exit
+}
+
+packed() { # ARCHIVE FOLDER NAME: the folder's NAME, the same bytes each time
+    tar --sort=name --owner=0 --group=0 --numeric-owner --mode=u+rw,go+r-w,a+X --mtime="@$SOURCE_DATE_EPOCH" --format=ustar \
+        -C "$2" -cf "$work/packed.tar" "$3" && gzip -9nc "$work/packed.tar" >"$1"
+}
+
+unpacked() { # ARCHIVE FOLDER: its contents, without the one folder that they are in
+    mkdir -p "$2" && tar -xzf "$1" -C "$2" --strip-components 1
+}
+
+prints() { # EXPECTED COMMAND..
+    expected=$1
+    shift
+    "$@" >"$work/printed" && printf '%b' "$expected" | cmp - "$work/printed"
+}
+
+# What is built is built in a copy, as a build writes beside what it builds.
+copy() {
+    mkdir -p "$tree" && (cd "$root" && git ls-files -z -co --exclude-standard | tar -c --null --files-from=-) | tar -x -C "$tree"
+}
+
+sums() {
+    (cd "$tree/bindings/c/prebuilt" && sha256sum -c SHA256SUMS) && cmp "$tree/bindings/c/include/jcobs.h" "$tree/bindings/c/prebuilt/include/jcobs.h"
+}
+
+source_archive() { packed "$folder/$name_of-source.tar.gz" "$work" "$name_of"; }
+
+c_archive() { # ARCH
+    make -C "$tree/bindings/c" dist RT= TARGET="$1-unknown-linux-gnu" &&
+        cp "$tree/bindings/c/build/$1-unknown-linux-gnu/$name_of-$1-linux.tar.gz" "$folder"
+}
+
+device_archive() {
+    there=$work/device/$name_of-device
+    mkdir -p "$there" &&
+        (cd "$tree/bindings/c/device" && cp -R README.md src cmake library.json library.properties platformio.py "$there") &&
+        cp "$tree"/LICENSE-* "$there" && cp "$tree/bindings/c/include/jcobs.h" "$there/src/jcobs.h" &&
+        packed "$folder/$name_of-device.tar.gz" "$work/device" "$name_of-device"
+}
+
+python_packages() {
+    (cd "$tree/bindings/python" && CFLAGS="-g0 -ffile-prefix-map=$tree=." "$python" -m build --no-isolation --outdir "$work/python") &&
+        mkdir -p "$work/sdist" && tar -xzf "$work/python/$name_of.tar.gz" -C "$work/sdist" &&
+        packed "$folder/$name_of.tar.gz" "$work/sdist" "$name_of" && cp "$work/python"/*.whl "$folder"
+}
+
+node_package() { (cd "$tree/bindings/web" && npm pack --offline --pack-destination "$folder"); }
+
+rust_crate() {
+    (cd "$tree/bindings/rust" && cargo package --offline --no-verify --allow-dirty --target-dir "$work/cargo") &&
+        cp "$work/cargo/package/$name_of.crate" "$folder"
+}
+
+write_sums() { (cd "$folder" && sha256sum -- jcobs-* >SHA256SUMS.new && mv SHA256SUMS.new SHA256SUMS); }
+
+# The checks.
+
+source_runs() { # the README's command for C, in what the archive has
+    unpacked "$folder/$name_of-source.tar.gz" "$work/source" && (cd "$work/source" &&
+        cp bindings/c/examples/send_lines.c program.c &&
+        cc -Ibindings/c/include program.c "bindings/c/prebuilt/$(uname -m)-linux/libjcobs.a" -o program &&
+        echo hello | prints '\006hello\000' ./program)
+}
+
+c_runs() { # ARCH COMPILER [RUNNER..]
+    arch=$1
+    compiler=$2
+    shift 2
+    there=$work/c-$arch
+    unpacked "$folder/$name_of-$arch-linux.tar.gz" "$there" && (cd "$work" &&
+        export PKG_CONFIG_PATH="$there/lib/pkgconfig" &&
+        for example in send_lines read_frames; do
+            # shellcheck disable=SC2046 # the flags are words
+            "$compiler" "$there/share/doc/jcobs/examples/$example.c" $(pkg-config --cflags jcobs) \
+                $(pkg-config --variable=archive jcobs) -o "$example-$arch" || exit 1
+        done
+        echo hello | "$@" "./send_lines-$arch" >frames &&
+        prints 'message 5 68656c6c6f\n' "$@" "./read_frames-$arch" <frames)
+}
+
+device_runs() {
+    there=$work/device-unpacked
+    unpacked "$folder/$name_of-device.tar.gz" "$there" && cat >"$work/device.c" <<'PROGRAM' &&
+#include <stdio.h>
+#include <stdlib.h>
+#include "jcobs.h"
+
+int main(void)
+{
+    unsigned char frame[JCOBS_MAX_LENGTH(5) + 1], message[5];
+    jcobs_decoder decoder = JCOBS_DECODER_INIT;
+    jcobs_answer sent = jcobs_encode_terminated("hello", 5, frame, sizeof frame);
+    jcobs_answer got = jcobs_decoder_push(&decoder, message, sizeof message, frame, sent.length);
+
+    printf("%u %.*s\n", (unsigned)got.status, (int)got.length, (char *)message);
+    fflush(stdout);
+    exit(0);
+}
+PROGRAM
+        arm-none-eabi-gcc -mcpu=cortex-m4 -mthumb -Os -std=c99 -I"$there/src" --specs=rdimon.specs \
+            -T "$tree/bindings/c/device/tests/mps2.ld" "$tree/bindings/c/device/tests/start_arm.c" "$work/device.c" \
+            "$there/src/cortex-m4/libjcobs.a" -o "$work/device.elf" &&
+        prints '0 hello\n' timeout 60 qemu-system-arm -M mps2-an386 -nographic -monitor none -serial null \
+            -semihosting-config enable=on,target=native,arg=program -kernel "$work/device.elf"
+}
+
+python_runs() { # ARTIFACT
+    rm -rf "$work/environment" && "$python" -m venv --system-site-packages "$work/environment" &&
+        (cd "$work" && environment/bin/python -m pip install -q --no-build-isolation --no-deps "$1" &&
+            prints "0668656c6c6f $version\n" environment/bin/python -c 'import jcobs; print(jcobs.encode(b"hello").hex(), jcobs.__version__)')
+}
+
+node_runs() {
+    mkdir -p "$work/node" && cp "$tree/bindings/web/examples/first.js" "$work/node" && (cd "$work/node" &&
+        echo '{ "type": "module" }' >package.json && npm install --offline --no-audit --no-fund "$folder/$name_of.tgz" &&
+        prints '3 10 11 2 12\n10 11 0 12\n3 10 11 2 12 0\n9 0 1 8 6\n' node first.js)
+}
+
+crate_runs() {
+    unpacked "$folder/$name_of.crate" "$work/crate" && mkdir -p "$work/program/src" && (cd "$work/program" &&
+        printf '[package]\nname = "program"\nversion = "0.1.0"\nedition = "2021"\n\n[dependencies]\ncobs = { package = "jcobs", path = "../crate" }\n' >Cargo.toml &&
+        printf 'fn main() {\n    let frame = cobs::encode_vec(b"hello");\n    println!("{:?} {:?}", frame, cobs::decode_vec(&frame));\n}\n' >src/main.rs &&
+        prints '[6, 104, 101, 108, 108, 111] Ok([104, 101, 108, 108, 111])\n' cargo run -q --offline)
+}
+
+name_of=jcobs-$version
+tree=$work/$name_of
+mkdir -p "$folder"
+folder=$(cd "$folder" && pwd)
+rm -f "$folder"/jcobs-* "$folder/SHA256SUMS"
+part 'a copy of the repository' copy || finish
+part 'the sums of the libraries' sums
+
+part 'source archive' source_archive && has cc gcc 'the source archive runs' && part 'the source archive runs' source_runs
+for arch in x86_64 aarch64; do
+    compiler=$arch-linux-gnu-gcc
+    [ "$arch" != "$(uname -m)" ] || compiler=gcc
+    has make make "C archive, $arch" || continue
+    has "$compiler" "gcc-$arch-linux-gnu" "C archive, $arch" || continue
+    # A cross compiler can come without its C library.
+    has "$("$compiler" -print-file-name=crti.o)" "libc6-dev for $arch" "C archive, $arch" || continue
+    part "C archive, $arch" c_archive "$arch" || continue
+    has pkg-config pkgconf "the C archive runs, $arch" || continue
+    if [ "$compiler" = gcc ]; then
+        part "the C archive runs, $arch" c_runs "$arch" gcc env
+    elif has "qemu-$arch" qemu-user "the C archive runs, $arch"; then
+        part "the C archive runs, $arch" c_runs "$arch" "$compiler" "qemu-$arch" -L "/usr/$arch-linux-gnu"
+    fi
+done
+part 'device archive' device_archive && has arm-none-eabi-gcc gcc-arm-none-eabi 'the device archive runs' &&
+    has /usr/lib/arm-none-eabi/include/stdio.h libnewlib-arm-none-eabi 'the device archive runs' &&
+    has qemu-system-arm qemu-system-arm 'the device archive runs' && part 'the device archive runs, Cortex-M4' device_runs
+
+python=
+for candidate in ${PYTHON:-/usr/bin/python3 python3}; do
+    "$candidate" -c 'import build, setuptools, wheel, ensurepip' >/dev/null 2>&1 && python=$candidate && break
+done
+if [ -n "$python" ]; then
+    part 'Python packages' python_packages && {
+        part 'the wheel runs' python_runs "$(echo "$folder/$name_of"-*.whl)"
+        part 'the source distribution runs' python_runs "$folder/$name_of.tar.gz"
+    }
+else
+    skipped=$((skipped + 1))
+    echo 'skipped: Python packages: a module is missing (Debian packages python3-build python3-setuptools python3-wheel python3-venv)'
+fi
+has npm npm 'Node package' && part 'Node package' node_package && part 'the Node package runs' node_runs
+has cargo cargo 'crate' && part 'crate' rust_crate && {
+    if [ "$(rustc --version | sed -n 's/^rustc 1\.\([0-9]*\)\..*/\1/p')" -ge 83 ]; then
+        part 'the crate runs' crate_runs
+    else
+        has 'rustc 1.83' rustc 'the crate runs'
+    fi
+}
+
+part 'SHA256SUMS' write_sums
+[ -z "${1:-}" ] || (cd "$folder" && cat SHA256SUMS)
+finish
