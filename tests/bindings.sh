@@ -1,7 +1,7 @@
 #!/bin/sh
 # Builds and runs the bindings: for each folder of bindings/ its tests/run.sh, whose last line counts what passed, failed and
-# was skipped where a tool is missing; then the commands of the READMEs for C and for Rust, in a copy of the repository and
-# without the toolchain. The last line here is their sum; the status is 0 only if nothing failed.
+# was skipped where a tool is missing; then the commands of the READMEs of the bindings and of the one at the top, in a copy of the
+# repository and without the toolchain. The last line here is their sum; the status is 0 only if nothing failed.
 set -u
 root=$(cd "$(dirname "$0")/.." && pwd)
 # The toolchain, if it is there.
@@ -34,6 +34,7 @@ counted() { # NAME COMMAND..
 for run in "$root"/bindings/*/tests/run.sh; do
     counted "bindings/$(basename "$(dirname "$(dirname "$run")")")" "$run"
 done
-counted 'the commands of the READMEs' "$root/tests/readme.sh" bindings/c/README.md bindings/rust/README.md
+counted 'the commands of the READMEs' "$root/tests/readme.sh" bindings/c/README.md bindings/rust/README.md \
+    bindings/python/README.md bindings/web/README.md README.md
 echo "$passed passed, $failed failed, $skipped skipped"
 [ "$failed" -eq 0 ]

@@ -46,7 +46,7 @@ finish() {
 }
 
 # The cases whose calls the library has.
-awk '$3 ~ /^(encode_vec|encode|try_encode|encoder|encode_frames|decoder|decode_stream|max_encoding_length|max_encoding_overhead)$/' \
+awk '$3 ~ /^(encode_vec|encode|try_encode|encoder|encode_frames|decode_vec|decode|decode_in_place|decode_in_place_report|frame_kind|decoder|decode_stream|max_encoding_length|max_encoding_overhead)$/' \
     "$top"/conformance/*.txt >"$work/cases"
 
 arm() { # CPU OUTPUT SOURCE..
@@ -89,7 +89,7 @@ archive() { # TARGET
     echo "$device/build/$1/libjcobs.a"
 }
 
-# Each case that is run passes, and so many are run.
+# Each case that is run passes, and this many are run.
 vectors_pass() { # COMMAND..
     "$@" >"$work/vectors" || { cat "$work/vectors"; return 1; }
     sed 's/^/= /' "$work/vectors"
@@ -103,14 +103,14 @@ random_pass() { # COMMAND..
 }
 
 arm_target() { # TARGET CPU MACHINE
-    part "$1: build the tests" arm "$2" "$work/$1.vectors" "$top/bindings/c/tests/vectors.c" "$device/tests/absent.c" "$(archive "$1")"
+    part "$1: build the tests" arm "$2" "$work/$1.vectors" "$top/bindings/c/tests/vectors.c" "$device/tests/absent.c" "$device/tests/pushed.c" "$(archive "$1")"
     part "$1: vectors" vectors_pass on_arm "$3" "$work/$1.vectors" "$work/cases"
     part "$1: build random calls" arm "$2" "$work/$1.random" "$device/tests/random.c" "$device/tests/plain.c" "$(archive "$1")"
     part "$1: random calls" random_pass on_arm "$3" "$work/$1.random" 100000
 }
 
 riscv_target() { # TARGET
-    part "$1: build the tests" riscv "$work/$1.vectors" "$top/bindings/c/tests/vectors.c" "$device/tests/absent.c" "$(archive "$1")"
+    part "$1: build the tests" riscv "$work/$1.vectors" "$top/bindings/c/tests/vectors.c" "$device/tests/absent.c" "$device/tests/pushed.c" "$(archive "$1")"
     part "$1: vectors" vectors_pass on_riscv "$work/$1.vectors" "$work/cases"
     part "$1: build random calls" riscv "$work/$1.random" "$device/tests/random.c" "$device/tests/plain.c" "$(archive "$1")"
     part "$1: random calls" random_pass on_riscv "$work/$1.random" 100000
@@ -137,13 +137,17 @@ plain_flash() { # CALL..: the same of plain C, for comparison
     echo "= $(arm-none-eabi-size "$work/flash" | awk 'NR == 2 { print $1 + $2 }') bytes"
 }
 
-# A call's stack: all functions of its object, and for a feed those of the push that it makes.
+# A call's stack: all functions of its object, and for the calls that are made of others those of the push that they make.
+stack_of() { # USAGE
+    awk -F '\t' '{ n += $2 } END { print n }' "$1"
+}
+
 stack() {
     most=0
     for usage in "$device"/build/*/objects/*.su; do
-        taken=$(awk -F '\t' '{ n += $2 } END { print n }' "$usage")
+        taken=$(stack_of "$usage")
         case $usage in
-        */decoder_feed.su) taken=$((taken + $(awk -F '\t' '{ n += $2 } END { print n }' "${usage%feed.su}push.su"))) ;;
+        */decoder_feed.su | */encoder_feed.su) taken=$((taken + $(stack_of "${usage%feed.su}push.su"))) ;;
         esac
         [ "$taken" -le "$most" ] || most=$taken
         echo "$taken $usage"
@@ -177,6 +181,19 @@ cmake_example() {
         cmake --build "$work/project/build"
 }
 
+# A sketch in C++, against the header and the archive that Arduino takes for this processor.
+sketch() {
+    cmp "$include/jcobs.h" "$device/src/jcobs.h" || return 1
+    printf '#include <jcobs.h>\nint main() {\n    jcobs_decoder decoder = JCOBS_DECODER_INIT;\n    unsigned char buffer[8];\n    return static_cast<int>(jcobs_decoder_feed(&decoder, buffer, sizeof buffer, 0).status);\n}\n' >"$work/sketch.cpp"
+    for cpu in cortex-m0plus cortex-m4; do
+        arm-none-eabi-g++ -mcpu="$cpu" -mthumb -Os -std=gnu++11 -fno-exceptions -Wall -Wextra -Werror -I"$device/src" \
+            -c "$work/sketch.cpp" -o "$work/sketch.o" || return 1
+        # Linked as C, since Debian's compiler comes without a library for C++ and the sketch uses none.
+        arm-none-eabi-gcc -mcpu="$cpu" -mthumb --specs=nosys.specs "$work/sketch.o" -L"$device/src/$cpu" \
+            "$(sed -n 's/^ldflags=//p' "$device/library.properties")" -Wl,--gc-sections -o "$work/sketch" || return 1
+    done
+}
+
 if ! command -v rt >/dev/null; then
     echo "skipped tests/device.sh: it needs Rattle's toolchain"
     exit 0
@@ -197,8 +214,8 @@ part 'flash: streaming encoder' flash 700 encoder_push encoder_finish encoder_re
 part 'flash: the same in plain C' plain_flash encoder_push encoder_finish
 part 'flash: decoder and encode_terminated' flash 1000 decoder_push decoder_feed decoder_reset decoder_is_idle encode_terminated
 part 'flash: the same in plain C' plain_flash decoder_push encode_terminated
-part 'flash: everything' flash 2500 decoder_push decoder_feed decoder_reset decoder_is_idle encoder_push encoder_finish encoder_reset \
-    encode encode_terminated max_length
+part 'flash: everything' flash 2500 decoder_push decoder_feed decoder_reset decoder_is_idle encoder_push encoder_feed encoder_finish \
+    encoder_finish_terminated encoder_reset encode encode_terminated decode decode_in_place frame_kind max_length
 part 'stack' stack
 part 'state: at most 16 bytes' state
 part 'instructions a byte' instructions
@@ -211,6 +228,8 @@ else
     skipped=$((skipped + 1))
     echo "skipped: firmware shown by cobs_watch: it is not built (rt run in crates/cobs_watch)"
 fi
+part 'library.json and library.properties' python3 "$device/tests/packages.py"
+part 'an Arduino sketch' sketch
 if has cmake cmake 'the CMake example'; then
     part 'the CMake example' cmake_example
 fi

@@ -1,25 +1,29 @@
 #!/usr/bin/env python3
-"""Compares the documentation with what it documents: that of crates/cobs, README.md and docs/MAP.md.
+"""Checks the documents, and the documentation of crates/cobs, against what they are about.
 
 usage: tests/docs.py [--write]
 
 - Each public item of crates/cobs/src has an example in its doc comment: types, traits, functions, methods, the methods
   of public traits, the methods of impls of other traits that have a doc comment of their own, and modules.
-- Each example stands, with the same lines, in doc_examples.rt, doc_decoders.rt or doc_laws.rt of
-  crates/cobs_vectors/src, whose tests run it, or as a caller in worked_callers.rt. Lines that begin with 'use ' are
-  left out.
+- Each example is, with the same lines, in doc_examples.rt, doc_decoders.rt or doc_laws.rt of crates/cobs_vectors/src,
+  whose tests run it, or a caller in worked_callers.rt. Lines that begin with 'use ' are left out.
 - So do the functions that README.md and crates/cobs/CALLING.md show, or in callers.rt; of a test, its statements.
-- The contracts in crates/cobs/CALLING.md are those of the public calls in src, and of `default` and `clone` where
-  they have clauses of their own. With --write they are written.
+- The contracts in crates/cobs/CALLING.md are those of src, of the calls in QUOTED. With --write they are written.
 - No file outside crates/cobs names its proofs: what a caller cites are its specs and its laws.
 - docs/MAP.md names each file of the repository, or a folder that it is in.
+- Each document is in plain words and short enough; its links, the paths and commands that it shows, and the clauses
+  that it names are there; all versions are that of the file VERSION (prose.py).
 
 It prints what differs, and the status is then 1.
 """
 import re
 import subprocess
 import sys
+
+sys.dont_write_bytecode = True
 from pathlib import Path, PurePosixPath
+
+import prose
 
 TOP = Path(__file__).resolve().parent.parent
 SRC = TOP / "crates/cobs/src"
@@ -28,12 +32,10 @@ TESTS = [TOP / f"crates/cobs_vectors/src/{name}.rt" for name in RUN]
 CALLING = TOP / "crates/cobs/CALLING.md"
 PAGES = [TOP / "README.md", CALLING]
 MAP = TOP / "docs/MAP.md"
-FILES = """lib enc enc/sentinel enc/vector enc/encoder enc/state enc/unbuffered dec dec/forms dec/in_place
-    dec/blocks dec/error dec/report dec/state dec/frame_decoder dec/borrowed dec/owned dec/heapless dec/unbuffered
-    stream framed laws""".split()
+# The calls whose contracts CALLING.md quotes.
+QUOTED = """encode try_encode encode_vec CobsEncoder::push CobsEncoder::finalize EncoderState::default EncoderState::clone
+    decode CobsDecoder::push encode_frames FrameReader::next_frame""".split()
 HEADING = "## Contracts\n"
-# Crates whose proofs still cite lemmas of cobs.
-NOT_YET = ["cobs_c", "cobs_small"]
 
 
 def examples(path):
@@ -114,38 +116,33 @@ def contract(lines):
     return [signature] + [f"  {kind}{' ' + name.strip() if name else ''}: {fact}" for kind, name, fact in clauses]
 
 
-def contracts(path):
-    """The public calls of a file, under the types and traits that they belong to."""
-    lines, owner, said = path.read_text().splitlines(), None, None
-    for at, line in enumerate(lines):
-        if re.match(r"(pub )?(impl|trait)\b.*\{$", line):
-            of_trait = " for " in line and not re.match(r"impl(<.*>)? (Default|Clone) for ", line)
-            owner = None if of_trait else line.removesuffix(" {").removeprefix("pub ")
-        elif line == "}":
-            owner = None
-        in_trait = owner is not None and (owner.startswith("trait") or " for " in owner)
-        indent = re.match(r"( *)(pub fn|fn) ", line)
-        if not indent or (indent[1] and owner is None) or (indent[2] == "fn" and not (in_trait and indent[1])):
-            continue
-        end = next(i for i in range(at, len(lines)) if re.match(indent[1] + r"\{|.*;$", lines[i]))
-        body = lines[end].strip().startswith("{")
-        parts = contract(lines[at : end if body else end + 1])
-        if owner is not None and " for " in owner and len(parts) == 1:
-            continue
-        if indent[1] and owner != said:
-            yield owner
-            said = owner
-        yield from (indent[1] + part for part in parts)
+def quoted(call):
+    """The contract of a public call, under its type."""
+    of_type, _, name = call.rpartition("::")
+    for path in sorted(SRC.rglob("*.rt")):
+        lines, owner = path.read_text().splitlines(), ""
+        for at, line in enumerate(lines):
+            block = re.match(r"(?:pub )?(?:impl|trait)\b(?:<[^{]*?>)? *(?:\w+(?:<.*>)? for )?(\w+).*\{$", line)
+            if block:
+                owner = block[1]
+            elif line == "}":
+                owner = ""
+            indent = re.match(rf"( *)(?:pub )?fn {name}\b", line)
+            if indent and owner == of_type:
+                end = next(i for i in range(at, len(lines)) if lines[i].startswith(indent[1] + "{"))
+                signature, *rest = contract(lines[at:end])
+                return [f"{of_type}::{signature.removeprefix('fn ')}" if of_type else signature, *rest]
+    raise SystemExit(f"tests/docs.py: QUOTED names {call}, which isn't in src")
 
 
 def all_contracts():
-    return "```text\n" + "\n".join(line for name in FILES for line in contracts(SRC / f"{name}.rt")) + "\n```\n"
+    return "```text\n" + "\n".join(line for call in QUOTED for line in quoted(call)) + "\n```\n"
 
 
 def private_names():
     """A line for each file outside crates/cobs that names its proofs."""
     for path in sorted((TOP / "crates").glob("*/*/")):
-        if path.name not in ("src", "specs", "proofs") or path.parent.name in ["cobs", *NOT_YET]:
+        if path.name not in ("src", "specs", "proofs") or path.parent.name == "cobs":
             continue
         for file in sorted([*path.rglob("*.rt"), *path.rglob("*.antt")]):
             for number, line in enumerate(file.read_text().splitlines(), 1):
@@ -154,7 +151,7 @@ def private_names():
 
 
 def names_on_map():
-    """The names that the map gives, by the folder that the table is about; None for what stands outside tables."""
+    """The names that the map gives, by the folder that the table is about; None for what is outside tables."""
     names, base, section = {}, None, ""
     for line in MAP.read_text().splitlines():
         if line.startswith("## "):
@@ -184,16 +181,27 @@ def files_off_map():
             yield f"docs/MAP.md: it doesn't name {file}"
 
 
+def names_without_file():
+    """A line for each file that the map names and that isn't there."""
+    command = ["git", "-C", str(TOP), "ls-files", "-co", "--exclude-standard"]
+    listed = subprocess.run(command, capture_output=True, text=True, check=True).stdout.splitlines()
+    files = {f"/{file}" for file in listed if (TOP / file).is_file()}
+    for name in sorted(set().union(*names_on_map().values())):
+        if re.fullmatch(r"[\w./-]+\.[a-z]{1,6}", name) and not any(file.endswith(f"/{name.removeprefix('../')}") for file in files):
+            yield f"docs/MAP.md: it names {name}, which isn't there"
+
+
 def main():
-    said = [*items_without_example(), *unrun_examples(), *files_off_map(), *private_names()]
+    said = [*items_without_example(), *unrun_examples(), *files_off_map(), *names_without_file(), *private_names()]
     head, heading, tail = CALLING.read_text().partition(HEADING)
-    prose = tail.partition("```text\n")[0]
-    wanted = head + heading + prose + all_contracts()
+    before = tail.partition("```text\n")[0]
+    wanted = head + heading + before + all_contracts()
     if "--write" in sys.argv[1:]:
         CALLING.write_text(wanted)
     elif CALLING.read_text() != wanted:
         said.append(f"{CALLING.relative_to(TOP)}: its contracts are not those of src; tests/docs.py --write writes them")
-    print("\n".join(said) if said else "each public item has an example that is run, and CALLING.md has the contracts of src")
+    said += prose.complaints()
+    print("\n".join(said) if said else "each public item has an example that is run; the documents name and quote what is there")
     return 1 if said else 0
 
 

@@ -1,12 +1,12 @@
 #!/bin/sh
-# Refuses the growths of memory one after another, and sees that each call then answers its value or out of memory.
+# Fails the growths of memory one after another, and checks that each call then returns its value or out of memory.
 #
 # usage: tests/fail-alloc.sh [--rounds N] [FIRST]
 #
 # Two files of tests run again and again, unproved: crates/cobs_vectors/src/memory.rt and
-# crates/cobs_tool/src/refused_memory.rt. At round N the Nth growth that a test asks for is refused. All of a file's
+# crates/cobs_tool/src/refused_memory.rt. At round N the Nth growth that a test asks for fails. All of a file's
 # tests but the last have to pass in each round. The last one, which makes every call and wants its value, fails as long
-# as a growth of its own is refused; the first round in which it passes has met no refusal, and is that file's last.
+# as a growth of its own fails; the first round in which it passes has met no failure, and is that file's last.
 # With --rounds, each file gets at most N rounds, from the first growth on or from FIRST on. A round takes about a quarter
 # of a minute; the gate runs three of each file.
 set -u
@@ -52,7 +52,7 @@ copy() {
     grep -E "^$1( [a-z_]+=[^ :]+)*:" "$top/crates.txt" >> "$work/crates.txt"
 }
 
-# refuse CRATE LAST: round after round until the last test passes, or until there were as many as were asked for
+# `refuse CRATE LAST`: round after round until the last test passes, or until there were as many as were asked for
 refuse() {
     cd "$work/crates/$1" || exit 2
     round=$first

@@ -37,7 +37,7 @@ has_module() { # PYTHON MODULE
     "$1" -c "import $2" >/dev/null 2>&1
 }
 
-# Debian's packages that an interpreter lacks: without the first ones nothing can be tested.
+# Debian's packages that an interpreter needs and doesn't have: without the first ones nothing can be tested.
 missing() { # PYTHON
     "$1" -c 'import sys; sys.exit(sys.version_info < (3, 9))' >/dev/null 2>&1 || { echo "python3"; return; }
     for module in setuptools:python3-setuptools wheel:python3-wheel pytest:python3-pytest \

@@ -1,18 +1,22 @@
 #!/bin/sh
 # Runs the commands of a README as they are written: tests/readme.sh README..
 #
-# They are run in a copy of the repository that has nothing built, each README's in its own folder, block by block, with a
-# home folder of their own. A program.c is there for those who read of one. The Rattle toolchain isn't in the PATH, so
-# what passes here passes for those who have none.
+# They are run in a copy of the repository that has nothing built, block by block, with a home folder of their own: what is
+# in a fence for sh in the README's own folder, and an indented block at the top of the repository. A program.c is there for
+# those who read of one. The Rattle toolchain isn't in the PATH, so what passes here passes for those who have none. pip and
+# npm ask no network, and pip installs into an empty environment. Lines for Cargo.toml and src/main.rs make a program that
+# is run.
 #
-# Prints a line for each block: 'ok', or 'FAILED' with what it said. A block that takes more than a minute has failed, but
-# for the tests (make check). The last line counts; the status is 0 only if nothing failed.
+# Prints a line for each block: 'ok', or 'FAILED' with what it said; and 'skipped' for each line that isn't run, with the
+# reason. A block that takes more than a minute has failed, but for the tests (make check). The last line counts; the status
+# is 0 only if nothing failed.
 set -u
 root=$(cd "$(dirname "$0")/.." && pwd)
 work=$(mktemp -d)
 trap 'rm -rf "$work"' EXIT
 passed=0
 failed=0
+skipped=0
 
 # The PATH without the folders that have rt.
 path=
@@ -30,27 +34,99 @@ unset JCOBS_LIB_DIR PKG_CONFIG_PATH MAKEFLAGS MAKELEVEL
 
 mkdir "$work/copy" "$work/home"
 (cd "$root" && git ls-files -z -co --exclude-standard | tar -c --null --files-from=-) | tar -x -C "$work/copy" || exit 1
+# An environment for Python in front of the PATH, if this machine has what pip needs to build.
+environment() {
+    [ ! -d "$work/python" ] || return 0
+    /usr/bin/python3 -c 'import os, setuptools, sysconfig, venv, wheel; os.stat(sysconfig.get_path("include") + "/Python.h")' \
+        2>/dev/null && /usr/bin/python3 -m venv --system-site-packages "$work/python" >/dev/null 2>&1 || return 1
+    PATH=$work/python/bin:$PATH
+    # A switch that is named for what it turns off: 0 turns it off.
+    PIP_NO_BUILD_ISOLATION=0
+    PIP_NO_INDEX=1
+    PIP_DISABLE_PIP_VERSION_CHECK=1
+    export PIP_NO_BUILD_ISOLATION PIP_NO_INDEX PIP_DISABLE_PIP_VERSION_CHECK
+    unset PYTHONPATH PYTHONHOME
+}
+
+# npm asks no network.
+npm_config_offline=true
+npm_config_audit=false
+npm_config_fund=false
+export npm_config_offline npm_config_audit npm_config_fund
+
+# Why a line of a README isn't run; nothing if it is.
+why_not() { # LINE
+    case $1 in
+    'cobs: '* | 'app: '*) echo 'a line of crates.txt' ;;
+    rt' '* | *'&& '*' rt '*) echo 'lacks rt' ;;
+    'bindings/web/build.sh '*'# cobs.wasm'*) echo 'lacks rt' ;;
+    tests/*.sh*) echo 'a test of its own' ;;
+    *'build.sh serve'*) echo "a server, which doesn't end" ;;
+    */dev/tty*) echo 'lacks a serial port' ;;
+    *'build.sh screenshots'*) echo 'takes more than a minute' ;;
+    *build.sh*) command -v node >/dev/null || echo "lacks Debian's nodejs" ;;
+    'npm '* | 'node '*) command -v node >/dev/null && command -v npm >/dev/null || echo "lacks Debian's nodejs and npm" ;;
+    'pip '* | python*) environment || echo "lacks Debian's python3-dev, python3-venv, python3-setuptools or python3-wheel" ;;
+    cargo' '* | *'# in Cargo.toml'* | *'// in src/main.rs') command -v cargo >/dev/null || echo 'lacks cargo' ;;
+    esac
+}
+
+# Cuts the blocks of a README into files: block.1.own for those in fences, block.2.top for the indented ones.
+cut_blocks() { # README
+    awk -v to="$work/block" '
+        /^```/ { in_fence = !in_fence; file = in_fence && $0 == "```sh" ? to "." ++n ".own" : ""; if (file) printf "" >file; next }
+        in_fence { if (file) print >file; next }
+        /^    [^ ]/ { if (!indented) { indented = 1; file = to "." ++n ".top" }; print substr($0, 5) >file; next }
+        { indented = 0 }' "$1"
+}
+
+# What is run of a block: its lines, without those that are skipped. Two lines for a Rust program become its files.
+to_script() { # README BLOCK
+    while IFS= read -r line; do
+        why=$(why_not "$line")
+        if [ -n "$why" ]; then
+            echo "skipped: $1: $line: $why" >>"$work/skips"
+            continue
+        fi
+        case $line in
+        *'# in Cargo.toml'*)
+            printf 'mkdir -p src\ncat >Cargo.toml <<"END"\n[package]\nname = "app"\nedition = "2021"\n[dependencies]\n%s\nEND\n' "$line"
+            ;;
+        *'// in src/main.rs') printf 'cat >src/main.rs <<"END"\nfn main() {\n%s\n}\nEND\ncargo run --offline\n' "$line" ;;
+        *) printf '%s\n' "$line" ;;
+        esac
+    done <"$2"
+}
+
 for readme; do
-    folder=$work/copy/$(dirname "$readme")
-    cp "$root/bindings/c/examples/send_lines.c" "$folder/program.c"
-    awk -v to="$work/block" '/^```sh$/ { to_file = to "." ++n; printf "" >to_file; next } /^```/ { to_file = "" } to_file { print >to_file }' "$root/$readme"
+    own=$work/copy/$(dirname "$readme")
+    cp "$root/bindings/c/examples/send_lines.c" "$own/program.c"
+    cut_blocks "$root/$readme"
+    grep -q '^ *pip ' "$root/$readme" && environment
     n=1
-    while [ -e "$work/block.$n" ]; do
+    while block=$(ls "$work/block.$n".* 2>/dev/null); do
+        folder=$own
+        [ "$block" = "${block%.top}" ] || folder=$work/copy
+        : >"$work/skips"
+        to_script "$readme" "$block" >"$work/script"
+        cat "$work/skips"
+        skipped=$((skipped + $(wc -l <"$work/skips")))
+        rm "$block"
+        n=$((n + 1))
+        [ -s "$work/script" ] || continue
         begun=$(date +%s)
-        if (cd "$folder" && sh -eux "$work/block.$n") </dev/null >"$work/said" 2>&1 &&
+        if (cd "$folder" && sh -eux "$work/script") </dev/null >"$work/said" 2>&1 &&
             seconds=$(($(date +%s) - begun)) &&
-            { [ "$seconds" -le 60 ] || grep -q '^make check' "$work/block.$n"; }; then
+            { [ "$seconds" -le 60 ] || grep -q '^make check' "$work/script"; }; then
             passed=$((passed + 1))
-            echo "ok: $readme, block $n, $seconds s: $(head -1 "$work/block.$n")"
+            echo "ok: $readme, block $((n - 1)), $seconds s: $(head -1 "$work/script")"
         else
             failed=$((failed + 1))
-            echo "FAILED: $readme, block $n, $(($(date +%s) - begun)) s"
+            echo "FAILED: $readme, block $((n - 1)), $(($(date +%s) - begun)) s"
             sed 's/^/    /' "$work/said"
         fi
-        rm "$work/block.$n"
-        n=$((n + 1))
     done
     [ "$n" -gt 1 ] || { failed=$((failed + 1)); echo "FAILED: $readme has no commands"; }
 done
-echo "$passed passed, $failed failed"
+echo "$passed passed, $failed failed, $skipped skipped"
 [ "$failed" -eq 0 ]

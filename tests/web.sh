@@ -6,7 +6,7 @@
 #   - the types in jcobs.d.ts, by the TypeScript compiler;
 #   - the vectors and the page in Chromium, by keys, clicks and pastes; both in a WebKit engine too;
 #   - the pictures of docs/FORMAT.md, drawn anew and compared.
-# A part whose tool is lacking is skipped, and the tool named. The last line counts; the status is 0 only if nothing failed.
+# A part whose tool is missing is skipped, and the tool named. The last line counts; the status is 0 only if nothing failed.
 set -u
 root=$(cd "$(dirname "$0")/.." && pwd)
 web=$root/bindings/web

@@ -1,20 +1,20 @@
 #!/bin/sh
-# Tries wrong definitions and wrong bodies on copies of the library, one at a time, and sees the prover refuse each.
+# Tries wrong definitions and wrong bodies on copies of the library, one at a time, and checks that the prover rejects each.
 #
 # usage: tests/wrong-definitions.sh [--jobs N] [WORD..]
 #
 # Each block of tests/wrong-definitions.txt changes a line or two of crates/cobs, a definition of specs/ or a body of src/.
 # A block begins with a line '== NAME' and ends at an empty line. It has the format of a must-fail edit, after a line
-# 'only: FUNCTION' that names the function that has to refuse it. Only that function and what its proof cites are checked,
+# 'only: FUNCTION' that names the function that must reject it. Only that function and what its proof cites are checked,
 # over the work that an earlier `rt check` of crates/cobs kept. A line 'crate: NAME' in front of it says that the function
-# is in crates/NAME, which uses the library; the library has to be proved with the change. With words, only the blocks are tried whose names contain
-# one of them. With --jobs, N blocks are tried at once, each on a copy of its own; a copy takes a gigabyte or two, and a
-# check as much memory.
+# is in crates/NAME, which uses the library; the library has to be proved with the change. A file of that crate is named
+# '../NAME/specs/..'. With words, only the blocks are tried whose names contain one of them. With --jobs, N blocks are
+# tried at once, each on a copy of its own; a copy takes a gigabyte or two, and a check as much memory.
 #
-# For each block it prints a line, in the order of the file: its name, the function that was refused, and which of its
+# For each block it prints a line, in the order of the file: its name, the function that was rejected, and which of its
 # clauses; if a loop invariant is left without a proof, the loop's name, after the word 'loop'.
 # A block takes from five seconds to a minute, all of them twenty minutes of a processor, so this is no part of the gate.
-# The status is 0 if each was refused.
+# The status is 0 if each was rejected.
 set -u
 
 PATH=/opt/rattle/bin:$PATH
@@ -45,16 +45,27 @@ copy() {
     git init -q "$copy"
     mkdir -p "$copy/crates"
     cp -r "$top/crates/cobs" "$crate"
-    mkdir "$copy/unchanged"
-    cp -r "$crate/src" "$crate/specs" "$crate/proofs" "$copy/unchanged"
-    grep '^cobs:' "$top/crates.txt" > "$copy/crates.txt"
     for user in $users; do
         cp -r "$top/crates/$user" "$copy/crates"
-        grep "^$user:" "$top/crates.txt" >> "$copy/crates.txt"
     done
+    for each in cobs $users; do
+        mkdir -p "$copy/unchanged/$each"
+        for folder in src specs proofs; do
+            [ ! -d "$copy/crates/$each/$folder" ] || cp -r "$copy/crates/$each/$folder" "$copy/unchanged/$each"
+        done
+        grep -E "^$each( staticlib)?:" "$top/crates.txt"
+    done > "$copy/crates.txt"
 }
 
-# change EDIT: applies each pair of lines 'old:' and 'new:', whose old text has to stand once in the file before them
+# with_what_they_use: the crates on standard input and those of the repository that they are built on, but for the library
+with_what_they_use() {
+    while read -r user; do
+        echo "$user"
+        sed -n -E "s/^$user( staticlib)?: //p" "$top/crates.txt" | tr ' ' '\n' | grep '^cobs_' || true
+    done | sort -u
+}
+
+# change EDIT: applies each pair of lines 'old:' and 'new:', whose old text must occur once in the file before them
 change() {
     awk -v crate="$crate" '
         function read_file(path,    text, line) {
@@ -82,7 +93,7 @@ change() {
 # restore EDIT: the files that it changed, as they were
 restore() {
     sed -n 's/^file: //p' "$1" | while read -r path; do
-        cp "$copy/unchanged/$path" "$crate/$path"
+        cp "$copy/unchanged/cobs/$path" "$crate/$path"
     done
 }
 
@@ -103,7 +114,7 @@ clauses_of() {
 }
 
 # open_goals: the names of what the last check left without a proof, one a line; where it names none so, of what rests on
-# a lemma that it refused
+# a lemma that it rejected
 open_goals() {
     said=$(grep -E '^(note: )?(\./)?(src|proofs)/' "$copy/log")
     names=$(echo "$said" | sed -n -E 's/.*Answers\.antt:[0-9:]* error: `([^`]+)`:.*/\1/p; s/.*it is not proved .*\(`([^`]+)`\).*/\1/p; s/.*Answers\.antt.*was not checked: (.*)/\1/p')
@@ -135,7 +146,7 @@ left_open() {
     fi
 }
 
-# tell NAME STATUS: what the last check said of it
+# `tell NAME STATUS`: what the last check said of it
 tell() {
     if grep -q -E '^(\./)?(specs|src)/[^ ]*: error' "$copy/log"; then
         echo "$1: CANNOT BE READ: $(grep -m 1 -E '^(\./)?(specs|src)/[^ ]*: error' "$copy/log")"
@@ -150,7 +161,7 @@ tell() {
     echo "$1: $(echo "$refused" | in_line)${open:+: $open}"
 }
 
-# try NAME: tells of the block of this name
+# `try NAME`: reports the block of this name
 try() {
     edit=$work/edits/$1
     function=$(sed -n 's/^only: //p' "$edit")
@@ -193,7 +204,7 @@ while read -r name; do
     wanted "$name" "$@" && echo "$name"
 done < "$work/all" > "$work/names"
 
-users=$(while read -r name; do sed -n 's/^crate: //p' "$work/edits/$name"; done < "$work/names" | sort -u)
+users=$(while read -r name; do sed -n 's/^crate: //p' "$work/edits/$name"; done < "$work/names" | sort -u | with_what_they_use)
 
 number=1
 while [ "$number" -le "$jobs" ]; do

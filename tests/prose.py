@@ -1,0 +1,264 @@
+"""What tests/docs.py checks in the documents as text: words, lengths, links, commands, names and versions.
+
+A document is each Markdown file of the repository. Of the sources the comments are read.
+"""
+import re
+import subprocess
+from pathlib import Path
+
+TOP = Path(__file__).resolve().parent.parent
+
+# Words that say less plainly what another one says. Names in backticks and code are left out.
+WORDS = [
+    (r"\banswer(s|ed|ing)?\b", "returns, the result"),
+    (r"\brefus(e|es|ed|ing|al|als)\b", "returns an error, rejects"),
+    (r"\b(take|takes|taken|took) (some |no )?memory\b|\bwant of memory\b", "allocates, out of memory"),
+    (r"\bpassed an allocator\b", "takes an allocator as its first argument"),
+    (r"\b(exactly|only|except|unless) where\b", "if, exactly if"),
+    (r"(?:^|[.;:] )Where (?:the|a|an|it|no|there|one|nothing|all|both|its)\b[^.,]*, (?!or\b|and\b)", "If the .."),
+    (r"\b(stand|stands|stood|standing)\b(?! for\b|-)", "is"),
+    (r"\black(s|ed|ing)?\b", "never contains, is missing"),
+    (r"\bow(e|es|ed)\b", "must"),
+    (r"\b(tell|tells|telling|told)\b", "says, known"),
+    (r"\blists? of bytes\b", "bytes"),
+    (r"\bexclusive or\b", "XOR, XORed"),
+    (r"\bWhat is neither\b|^Trusted (is|are)\b", "a plain heading; you have to trust"),
+    (r"\bcosts? no other\b", "never affects another"),
+    (r"\bso many\b", "up to N, at most"),
+    (r"\bby [^.;:|]{0,60} alone\b", "only on"),
+]
+# Where such a word is meant. A longer list would be another dialect.
+EXCEPTIONS = {
+    "**For every message, the frames": "the headline of PROMISES.md is quoted word for word",
+    "only where ..": "a part of the headline",
+    "each piece is answered by": "a part of the headline",
+}
+LIMITS = {"README.md": 900}
+ALL_DOCUMENTS = 18_000
+CALLING_LINES = 120
+RT_COMMANDS = set("all check ci doc expand fmt lemma lib must-fail new plant run selftest test tidy try verdict version".split())
+
+
+def files():
+    """Each file of the repository, as a path from its top."""
+    command = ["git", "-C", str(TOP), "ls-files", "-co", "--exclude-standard"]
+    listed = subprocess.run(command, capture_output=True, text=True, check=True).stdout.splitlines()
+    return [name for name in listed if (TOP / name).is_file()]
+
+
+def documents():
+    return [name for name in files() if name.endswith(".md")]
+
+
+def blank(pattern, text, flags=0):
+    """`text` with what matches blanked, so that lines keep their numbers."""
+    return re.sub(pattern, lambda found: "\n" * found[0].count("\n"), text, flags=flags)
+
+
+def prose(text):
+    """A Markdown text without generated parts, code and addresses."""
+    text = blank(r"<!-- (\w+) -->.*?<!-- end of \1 -->", text, re.S)
+    text = blank(r"^```.*?^```$", text, re.S | re.M)
+    text = blank(r"^(    |\t).*$", text, re.M)
+    text = re.sub(r"`[^`\n]*`", "`", text)
+    return re.sub(r"\]\([^)\n]*\)", "]", text)
+
+
+def comments(name):
+    """What a source says in comments, without code; every other line is empty."""
+    text, lines, inside, block = (TOP / name).read_text(), [], False, False
+    if name.endswith(".html"):
+        return re.sub(r"<[^>]*>", " ", blank(r"<(script|style)\b.*?</\1>|<!--.*?-->", text, re.S))
+    if name.endswith(".3"):
+        text = blank(r"^\.(EX|nf)$.*?^\.(EE|fi)$", text, re.S | re.M)
+        return re.sub(r"\\f[BI][^\\]*\\f[RP]|^\..*$", " ", text, flags=re.M)
+    if name.endswith(".py"):
+        text = re.sub(r'"""(.*?)"""', lambda said: re.sub("^ *", "# ", said[1], flags=re.M), text, flags=re.S)
+    opening = {".antt": r"--", ".py": r"#", ".sh": r"#"}.get(Path(name).suffix, r"//[/!]?|/\*\*?")
+    for line in text.splitlines():
+        begun = re.match(rf"\s*(?:{opening}) ?(.*)", line)
+        said = begun[1] if begun else re.sub(r"^ *\*/? ?", "", line) if block else ""
+        block = not re.search(r"\*/", line) if block or begun and "/*" in line else False
+        fence = said.startswith("```")
+        lines.append("" if inside or fence or said.startswith("    ") else re.sub(r"`[^`]*`|\*/", "`", said))
+        inside = inside != fence
+    return "\n".join(lines)
+
+
+SOURCES = re.compile(
+    r"crates/[^/]+/(src|specs)/.*\.(rt|antt)|bindings/c/include/.*|bindings/c/man/.*|bindings/c/examples/.*\.c(pp)?"
+    r"|bindings/rust/src/.*\.rs|bindings/python/src/.*\.(py|c|h)|bindings/web/(jcobs|machine)\.(js|d\.ts)"
+    r"|bindings/web/(page/.*\.js|index\.html)|tests/.*\.(sh|py)"
+)
+
+
+def sources():
+    """The files whose comments are checked."""
+    for name in files():
+        if SOURCES.fullmatch(name):
+            yield name
+
+
+def unplain_words():
+    """A line for each word that has a plainer one."""
+    texts = [(name, prose((TOP / name).read_text())) for name in documents()]
+    texts += [(name, comments(name)) for name in sources()]
+    for name, text in texts:
+        for number, line in enumerate(text.splitlines(), 1):
+            if any(exception in line for exception in EXCEPTIONS):
+                continue
+            for pattern, plain in WORDS:
+                for found in re.finditer(pattern, line, 0 if "Where (" in pattern else re.I):
+                    yield f"{name}:{number}: '{found[0].strip()}': write {plain}"
+
+
+def count(text):
+    """How many words a document's prose has: what has a letter, outside code and generated parts."""
+    return sum(1 for word in prose(text).split() if re.search("[A-Za-z]", word))
+
+
+def lengths():
+    """A line for each document that is too long."""
+    for name, limit in LIMITS.items():
+        words = len((TOP / name).read_text().split())
+        if words > limit:
+            yield f"{name}: {words} words, of at most {limit}"
+    total = sum(count((TOP / name).read_text()) for name in documents())
+    if total > ALL_DOCUMENTS:
+        yield f"all documents have {total} words, of at most {ALL_DOCUMENTS}"
+    lines = len((TOP / "crates/cobs/CALLING.md").read_text().splitlines())
+    if lines > CALLING_LINES:
+        yield f"crates/cobs/CALLING.md: {lines} lines, of at most {CALLING_LINES}"
+
+
+def anchors(text):
+    """The names by which a link reaches the headings of a document."""
+    headings = re.findall(r"^#+ (.*)$", blank(r"^```.*?^```$", text, re.S | re.M), re.M)
+    return {re.sub(r"[^\w\- ]", "", heading.lower()).replace(" ", "-") for heading in headings}
+
+
+def dead_links():
+    """A line for each link to a file or a heading that isn't there."""
+    for name in documents():
+        path = TOP / name
+        text = blank(r"^```.*?^```$", path.read_text(), re.S | re.M)
+        for number, line in enumerate(text.splitlines(), 1):
+            for target in re.findall(r"\]\(([^)\s]+)\)", line):
+                if re.match(r"https?:|mailto:", target):
+                    continue
+                file, _, anchor = target.partition("#")
+                there = (path.parent / file).resolve() if file else path
+                if not there.exists():
+                    yield f"{name}:{number}: there is no {file}"
+                elif anchor and anchor not in anchors(there.read_text()):
+                    yield f"{name}:{number}: {file} has no heading {anchor}"
+
+
+def dead_commands():
+    """A line for each path in code that is no path of the repository, nor the end of one, and each unknown command of rt."""
+    names = files()
+    tops = sorted({name.split("/")[0] for name in names if "/" in name})
+    place = re.compile(rf"(?<![\w/.*-])((?:{'|'.join(map(re.escape, tops))})/[\w./*-]*[\w*])")
+    ends = {"/".join(path.parts[at:]) for name in names for path in (Path(name), *Path(name).parents) for at in range(len(path.parts))}
+    for name in documents():
+        for number, line in enumerate((TOP / name).read_text().splitlines(), 1):
+            code = line if line.startswith("    ") else " | ".join(re.findall(r"`([^`]+)`", line))
+            for found in place.findall(code):
+                built = re.search(r"(^|/)(out|build)(/|$)", found)
+                if found not in ends and not built and not ("*" in found and any(TOP.glob(found))):
+                    yield f"{name}:{number}: there is no {found}"
+            for command in re.findall(r"(?:^|[(;`&|]) *rt ([a-z][a-z-]*)", code):
+                if command not in RT_COMMANDS:
+                    yield f"{name}:{number}: rt has no command {command}"
+
+
+VERSIONS = [
+    ("CHANGELOG.md", r"^## (\d[\w.]*)"),
+    ("bindings/c/Makefile", r"^VERSION = (.*)$"),
+    ("bindings/c/cmake/jcobs-config-version.cmake", r"PACKAGE_VERSION ([\d.]+)"),
+    ("bindings/c/man/jcobs.3", r'^\.TH .*"jcobs ([\d.]+)"'),
+    ("bindings/c/device/library.json", r'"version": "([^"]*)"'),
+    ("bindings/c/device/library.properties", r"^version=(.*)$"),
+    ("bindings/python/src/jcobs/__init__.py", r'^__version__ = "([^"]*)"'),
+    ("bindings/rust/Cargo.toml", r'^version = "([^"]*)"'),
+    ("bindings/web/package.json", r'"version": "([^"]*)"'),
+    ("bindings/web/dist/jcobs.js", r"^// jcobs ([\d.]+),"),
+    ("bindings/web/dist/jcobs.cjs", r"^// jcobs ([\d.]+),"),
+]
+
+
+def other_versions():
+    """A line for each place whose version isn't that of the file VERSION."""
+    version = (TOP / "VERSION").read_text().strip()
+    for name, pattern in VERSIONS:
+        found = re.search(pattern, (TOP / name).read_text(), re.M)
+        if not found or found[1] != version:
+            yield f"{name}: its version is {found[1] if found else 'missing'}, that of VERSION {version}"
+    header = (TOP / "bindings/c/include/jcobs.h").read_text()
+    parts = [re.search(rf"#define JCOBS_VERSION_{part} (\d+)", header)[1] for part in ("MAJOR", "MINOR", "PATCH")]
+    if ".".join(parts) != version:
+        yield f"bindings/c/include/jcobs.h: its version is {'.'.join(parts)}, that of VERSION {version}"
+    for name in documents():
+        for found in re.findall(r"\bjcobs-(\d+\.\d+\.\d+)", (TOP / name).read_text()):
+            if found != version:
+                yield f"{name}: jcobs-{found}, where VERSION is {version}"
+
+
+def clauses():
+    """The clauses of each function and the fields of each record, by its name, and by its type's name with it."""
+    known = {}
+    for path in sorted((TOP / "crates").glob("*/src/**/*.rt")):
+        owner, name = None, None
+        for line in path.read_text().splitlines():
+            block = re.match(r"(?:pub )?(?:impl|trait)\b(?:<[^{]*?>)? *(?:[\w:]+(?:<.*>)? for )?(\w+).*\{$", line)
+            function = re.match(r" *(?:pub )?(?:extern \"C\" )?fn (\w+)", line)
+            clause = re.match(r" *ensures\*? (\w+) \{", line)
+            if block:
+                owner = block[1]
+            elif line == "}":
+                owner = None
+            elif function:
+                name = function[1]
+                for key in (name, f"{owner}::{name}"):
+                    known.setdefault(key, set())
+            elif clause and name:
+                for key in (name, f"{owner}::{name}"):
+                    known[key].add(clause[1])
+    for path in sorted((TOP / "crates").glob("*/specs/**/*.antt")):
+        record = None
+        for line in path.read_text().splitlines():
+            begun = re.match(r"(?:pub )?record (\w+)", line)
+            field = re.match(r"  (?:pub )?(\w+) :", line)
+            if begun:
+                record = begun[1]
+                known.setdefault(record, set())
+            elif line and not line.startswith(" ") and not line.startswith("--"):
+                record = None
+            elif field and record:
+                known[record].add(field[1])
+    return known
+
+
+def unknown_names():
+    """A line for each clause, definition or call that a document names and no crate has."""
+    known = clauses()
+    folders = [path for kind in ("src", "specs") for path in (TOP / "crates").glob(f"*/{kind}/**/*") if path.is_file()]
+    folders.append(TOP / "bindings/c/include/jcobs.h")
+    words = {word for path in folders for word in re.findall(r"\w+", path.read_text())}
+    words |= {path.name for path in (TOP / "crates").iterdir()}
+    for name in ("docs/PROMISES.md", "docs/FORMAT.md", "SECURITY.md", "crates/cobs/CALLING.md"):
+        text = blank(r"^```.*?^```$", (TOP / name).read_text(), re.S | re.M)
+        for number, line in enumerate(text.splitlines(), 1):
+            for call, named in re.findall(r"`([\w:]+): ([a-z_0-9]+(?:, [a-z_0-9]+)*)`", line):
+                for clause in named.split(", "):
+                    if f"{call}: {named}" != "call: clause" and clause not in known.get(call, ()):
+                        yield f"{name}:{number}: no contract of {call} has a clause {clause}"
+            for word in re.findall(r"`([A-Za-z]\w+)`", line):
+                if ("_" in word or re.search("[a-z][A-Z]", word)) and word not in words:
+                    yield f"{name}:{number}: no crate has {word}"
+
+
+def complaints():
+    """Everything that is wrong in the documents as text."""
+    checks = (unplain_words, lengths, dead_links, dead_commands, other_versions, unknown_names)
+    return [line for check in checks for line in check()]
