@@ -7,6 +7,7 @@
 import binascii
 import json
 import os
+import pty
 import random
 import select
 import shutil
@@ -14,6 +15,7 @@ import subprocess
 import sys
 import tempfile
 import time
+import tty
 import zlib
 from pathlib import Path
 
@@ -96,8 +98,13 @@ def dump(data):
     return shown
 
 
-def line(style, kind, length, data):
+COLORS = {"message": 32, "broken": 33, "too long": 35, "bad crc": 31}
+
+
+def line(style, kind, length, data, color=False):
     title = kind if length is None else f"{kind} {length}"
+    if color:
+        title = f"\x1b[{COLORS[kind]}m{title}\x1b[0m"
     if style == "--hexdump":
         return (title + "\n" + dump(data)).encode()
     if style == "--raw":
@@ -167,6 +174,20 @@ def a_stream():
 STREAM = a_stream()
 
 
+def crc_32(message):
+    """A message with its CRC-32 behind it."""
+    return message + zlib.crc32(message).to_bytes(4, "little")
+
+
+def checked_32(piece):
+    """A piece, where messages end with their CRC-32."""
+    kind, length, data = piece
+    if kind != "message":
+        return piece
+    body = data[:-4]
+    return ("message", len(body), body) if crc_32(body) == data else ("bad crc", length, data)
+
+
 @part
 def every_view():
     seen, _ = pieces_of(STREAM)
@@ -176,6 +197,62 @@ def every_view():
         same(run(words, STREAM), wanted)
     numbered = b"".join(str(i + 1).encode() + b" " + line(None, *piece) for i, piece in enumerate(seen))
     same(run(["--number"], STREAM), numbered + b"unfinished\n")
+
+
+@part
+def colors():
+    whole = [crc_32(message) for message in (b"right", b"")] + [b"wrong"]
+    stream = b"".join(encode(message) + b"\0" for message in whole) + STREAM
+    for words in ([], ["--crc", "crc-32"]):
+        seen, _ = pieces_of(stream)
+        if words:
+            seen = [checked_32(piece) for piece in seen]
+            assert {piece[0] for piece in seen} == set(COLORS)
+        for style in (None, "--text", "--hexdump"):
+            wanted = b"".join(line(style, *piece, color=True) for piece in seen) + b"unfinished\n"
+            same(run([*words, "--color", "always"] + ([style] if style else []), stream), wanted)
+        for style in ("--raw", "--json"):
+            same(run([*words, "--color", "always", style], stream), run([*words, style], stream))
+
+
+def on_a_terminal(words, no_color):
+    """What is written to a terminal, with the variable NO_COLOR set to a text, or not set."""
+    master, slave = pty.openpty()
+    tty.setraw(slave)
+    env = {name: value for name, value in os.environ.items() if name != "NO_COLOR"}
+    if no_color is not None:
+        env["NO_COLOR"] = no_color
+    subprocess.run([WATCH, *words], input=b"\x02a\0\x05b\0", stdout=slave, check=True, timeout=60, env=env)
+    os.close(slave)
+    found = bytearray()
+    try:
+        while data := os.read(master, 4096):
+            found += data
+    except OSError:  # What reading a terminal without another end comes to on Linux.
+        pass
+    os.close(master)
+    return bytes(found)
+
+
+@part
+def colors_on_a_terminal():
+    plain, colored = (
+        b"".join(line(None, *piece, color=color) for piece in (("message", 1, b"a"), ("broken", 1, b"")))
+        for color in (False, True)
+    )
+    for when, no_color, wanted in (
+        ([], None, colored),
+        ([], "", colored),
+        ([], "1", plain),
+        (["--color", "auto"], None, colored),
+        (["--color", "auto"], "\udcff", plain),
+        (["--color", "never"], None, plain),
+        (["--color", "always"], "1", colored),
+    ):
+        same(on_a_terminal(when, no_color), wanted)
+    # Into a pipe there are no colours unless they are asked for.
+    same(run([], b"\x02a\0\x05b\0"), plain)
+    same(run(["--color", "auto"], b"\x02a\0\x05b\0"), plain)
 
 
 @part
@@ -349,6 +426,7 @@ def wrong_words():
         ["--number", "--json"],
         ["--time", "start", "--raw"],
         ["--time", "then"],
+        ["--color", "sometimes"],
         ["--crc", "crc-7"],
         ["--crc-order", "big"],
         ["nothing"],

@@ -1,5 +1,5 @@
 -- A piece as it is shown.
-use Rattle.std.specs.Prelude.{ℕ, ◌-◌, ◌^◌, List, [], ◌++◌, length, codes, Option, Some, None, if◌then◌else◌}
+use Rattle.std.specs.Prelude.{ℕ, ◌-◌, ◌^◌, Bool, true, false, List, [], ◌++◌, length, codes, Option, Some, None, if◌then◌else◌}
 use Rattle.std.specs.Fmt.{decimal}
 use Rattle.cobs.specs.Stream.{Outcome}
 use Rattle.cobs.specs.Stream.{Message as OfMessage, Broken as OfBroken, TooLong as OfTooLong}
@@ -25,6 +25,21 @@ title Message len = codes "message " ++ decimal len
 title Broken len = codes "broken " ++ decimal len
 title TooLong len = codes "too long"
 title BadCrc len = codes "bad crc " ++ decimal len
+
+-- the escape sequences that begin the colour of a kind (green, yellow, magenta and red), and end it
+abbrev pub color_of : Kind → List ℕ
+color_of Message = codes "\u{1b}[32m"
+color_of Broken = codes "\u{1b}[33m"
+color_of TooLong = codes "\u{1b}[35m"
+color_of BadCrc = codes "\u{1b}[31m"
+
+abbrev pub color_end : List ℕ
+color_end = codes "\u{1b}[0m"
+
+-- the same title, in the colour of its kind where that is wanted
+abbrev pub titled : (color : Bool) → Kind → ℕ → List ℕ
+titled false kind len = title kind len
+titled true kind len = color_of kind ++ title kind len ++ color_end
 
 -- a piece of a kind, all of whose bytes are shown
 abbrev pub whole : Kind → List ℕ → Seen

@@ -10,7 +10,7 @@ use Rattle.cobs_lines.specs.Lines.{spaced_digits}
 use Rattle.cobs_watch.specs.Counted.{counted}
 use Rattle.cobs_watch.specs.Dump.{dump}
 use Rattle.cobs_watch.specs.Json.{json}
-use Rattle.cobs_watch.specs.Seen.{Seen, seen_of, title}
+use Rattle.cobs_watch.specs.Seen.{Seen, seen_of, titled}
 use Rattle.cobs_watch.specs.Timed.{stamped, time_of}
 use Rattle.cobs_watch.specs.declared.clock.Stamp.{Stamp}
 use Rattle.cobs_watch.specs.declared.seen.Kind.{Kind}
@@ -30,15 +30,15 @@ abbrev pub spaced : List ℕ → List ℕ
 spaced [] = []
 spaced (byte ∷ bytes) = codes " " ++ (byte ∷ bytes)
 
--- a piece's line, with its bytes as digits, as text, and sixteen a line below it
-abbrev pub hex_line : Seen → List ℕ
-hex_line seen = title seen.kind seen.len ++ spaced_digits seen.bytes ++ codes "\n"
+-- a piece's line, with its bytes as digits, as text, and sixteen a line below it; what becomes of it may have a colour
+abbrev pub hex_line : (color : Bool) → Seen → List ℕ
+hex_line color seen = titled color seen.kind seen.len ++ spaced_digits seen.bytes ++ codes "\n"
 
-abbrev pub text_line : Seen → List ℕ
-text_line seen = title seen.kind seen.len ++ (if is_plain seen.bytes then spaced seen.bytes else spaced_digits seen.bytes) ++ codes "\n"
+abbrev pub text_line : (color : Bool) → Seen → List ℕ
+text_line color seen = titled color seen.kind seen.len ++ (if is_plain seen.bytes then spaced seen.bytes else spaced_digits seen.bytes) ++ codes "\n"
 
-abbrev pub dump_lines : Seen → List ℕ
-dump_lines seen = title seen.kind seen.len ++ codes "\n" ++ dump seen.bytes
+abbrev pub dump_lines : (color : Bool) → Seen → List ℕ
+dump_lines color seen = titled color seen.kind seen.len ++ codes "\n" ++ dump seen.bytes
 
 -- a message's bytes and a newline, and nothing of other pieces
 abbrev pub raw_of : Kind → List ℕ → List ℕ
@@ -47,13 +47,13 @@ raw_of Broken bytes = []
 raw_of TooLong bytes = []
 raw_of BadCrc bytes = []
 
--- what a style makes of a piece that has this number and time
-abbrev pub styled : Style → ℕ → Stamp → ℕ → Seen → List ℕ
-styled Hex number stamp time seen = hex_line seen
-styled Text number stamp time seen = text_line seen
-styled Raw number stamp time seen = raw_of seen.kind seen.bytes
-styled Hexdump number stamp time seen = dump_lines seen
-styled Json number stamp time seen = json number stamp time seen
+-- what a style makes of a piece that has this number and time; JSON and raw bytes have no colour
+abbrev pub styled : Style → (color : Bool) → ℕ → Stamp → ℕ → Seen → List ℕ
+styled Hex color number stamp time seen = hex_line color seen
+styled Text color number stamp time seen = text_line color seen
+styled Raw color number stamp time seen = raw_of seen.kind seen.bytes
+styled Hexdump color number stamp time seen = dump_lines color seen
+styled Json color number stamp time seen = json number stamp time seen
 
 -- the time of a piece in front of its line, which JSON has inside, and raw bytes haven't
 abbrev pub in_front : Style → Stamp → ℕ → List ℕ
@@ -81,7 +81,7 @@ passes filter seen = has_kind filter seen.kind && (nat_le filter.min seen.len &&
 
 -- what a view makes of a piece that has this number and time
 abbrev pub in_view : View → ℕ → ℕ → Seen → List ℕ
-in_view view number time seen = if passes view.filter seen then in_front view.style view.stamp time ++ numbered view.number number ++ styled view.style number view.stamp time seen else []
+in_view view number time seen = if passes view.filter seen then in_front view.style view.stamp time ++ numbered view.number number ++ styled view.style view.color number view.stamp time seen else []
 
 -- WHAT IS SHOWN OF AN OUTCOME that this many others have gone before: the outcomes are numbered from 1 on, and each has a time
 abbrev pub shown : View → (ℕ → ℕ) → ℕ → Outcome → List ℕ

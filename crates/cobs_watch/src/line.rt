@@ -2,7 +2,7 @@
 ghost use Rattle.std.specs.Prelude.{◌≡◌, OnOk, IfSome, IsSome, ◌↔◌, IsTrue};
 ghost use Rattle.std.specs.Io.KnownBytes.{Appends};
 ghost use Rattle.cobs_lines.specs.Lines.{spaced_digits};
-ghost use Rattle.cobs_watch.specs.Seen.{seen_in, title};
+ghost use Rattle.cobs_watch.specs.Seen.{color_end, color_of, seen_in, title, titled};
 ghost use Rattle.cobs_watch.specs.Shown.{dump_lines, hex_line, is_plain, raw_of, spaced, styled, text_line};
 
 use crate::dump::write_dump;
@@ -22,14 +22,39 @@ pub fn write_line<W: Write>(
     piece: &Sight<'_>,
 ) -> io::Result<()>
     ensures written { OnOk result (Appends (W.contents output.old) (W.contents output.new)
-        (styled view.now.style number view.now.stamp time (seen_in piece.now))) }
+        (styled view.now.style view.now.color number view.now.stamp time (seen_in piece.now))) }
 {
     match view.style {
-        Style::Hex => write_hex(output, piece),
-        Style::Text => write_text(output, piece),
+        Style::Hex => write_hex(output, view.color, piece),
+        Style::Text => write_text(output, view.color, piece),
         Style::Raw => write_raw(output, piece),
-        Style::Hexdump => write_dumped(output, piece),
+        Style::Hexdump => write_dumped(output, view.color, piece),
         Style::Json => write_json(output, number, view.stamp, time, piece),
+    }
+}
+
+/// Writes the kind of a piece, and how many bytes it decodes to, in the colour of the kind if that is wanted.
+fn write_titled<W: Write>(output: &mut W, color: bool, kind: Kind, len: usize) -> io::Result<()>
+    ensures written { OnOk result
+        (Appends (W.contents output.old) (W.contents output.new) (titled color kind len)) }
+{
+    if !color {
+        return write_title(output, kind, len);
+    }
+    output.write_all(color_of(kind))?;
+    write_title(output, kind, len)?;
+    output.write_all(b"\x1b[0m")
+}
+
+/// The escape sequence that begins the colour of a kind.
+fn color_of(kind: Kind) -> &'static [u8]
+    ensures color { result.now ≡ color_of kind }
+{
+    match kind {
+        Kind::Message => b"\x1b[32m",
+        Kind::Broken => b"\x1b[33m",
+        Kind::TooLong => b"\x1b[35m",
+        Kind::BadCrc => b"\x1b[31m",
     }
 }
 
@@ -59,21 +84,21 @@ fn write_spaced<W: Write>(output: &mut W, bytes: &[u8]) -> io::Result<()>
 }
 
 /// Writes the line of a piece, with its bytes as digits.
-fn write_hex<W: Write>(output: &mut W, piece: &Sight<'_>) -> io::Result<()>
+fn write_hex<W: Write>(output: &mut W, color: bool, piece: &Sight<'_>) -> io::Result<()>
     ensures written { OnOk result (Appends (W.contents output.old) (W.contents output.new)
-        (hex_line (seen_in piece.now))) }
+        (hex_line color (seen_in piece.now))) }
 {
-    write_title(output, piece.kind, piece.len)?;
+    write_titled(output, color, piece.kind, piece.len)?;
     write_spaced(output, piece.bytes)?;
     output.write_all(b"\n")
 }
 
 /// Writes the line of a piece, with its bytes as text if they are UTF-8 without control characters, else as digits.
-fn write_text<W: Write>(output: &mut W, piece: &Sight<'_>) -> io::Result<()>
+fn write_text<W: Write>(output: &mut W, color: bool, piece: &Sight<'_>) -> io::Result<()>
     ensures written { OnOk result (Appends (W.contents output.old) (W.contents output.new)
-        (text_line (seen_in piece.now))) }
+        (text_line color (seen_in piece.now))) }
 {
-    write_title(output, piece.kind, piece.len)?;
+    write_titled(output, color, piece.kind, piece.len)?;
     match plain_text(piece.bytes) {
         Some(text) => {
             if text.len() > 0 {
@@ -115,11 +140,11 @@ fn write_raw<W: Write>(output: &mut W, piece: &Sight<'_>) -> io::Result<()>
 }
 
 /// Writes the title of a piece, and its bytes sixteen a line.
-fn write_dumped<W: Write>(output: &mut W, piece: &Sight<'_>) -> io::Result<()>
+fn write_dumped<W: Write>(output: &mut W, color: bool, piece: &Sight<'_>) -> io::Result<()>
     ensures written { OnOk result (Appends (W.contents output.old) (W.contents output.new)
-        (dump_lines (seen_in piece.now))) }
+        (dump_lines color (seen_in piece.now))) }
 {
-    write_title(output, piece.kind, piece.len)?;
+    write_titled(output, color, piece.kind, piece.len)?;
     output.write_all(b"\n")?;
     write_dump(output, piece.bytes)
 }

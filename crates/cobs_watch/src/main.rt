@@ -9,7 +9,7 @@
 //! | one that breaks off inside a block and decodes to N bytes | `broken N` |
 //! | one that decodes to more bytes than are held | `too long` |
 //!
-//! Options show messages as text, as bytes, as `hexdump -C` does or as JSON, number the pieces, and hold some of them
+//! Options colour the lines, show messages as text, as bytes, as `hexdump -C` does or as JSON, number the pieces, and hold some of them
 //! back. `cobs_watch --help` lists them.
 //!
 //! `cobs_watch send` reads lines and sends each one as a frame and its sentinel.
@@ -39,8 +39,8 @@ use fault::WatchFault;
 use options::{Task, task_of};
 use send::run_send;
 use show::run_show;
-use std::env;
-use std::io::{BufReader, BufWriter};
+use std::env::{self, VarError};
+use std::io::{BufReader, BufWriter, IsTerminal};
 use std::process::ExitCode;
 use tally::Tally;
 
@@ -49,7 +49,7 @@ const OUTPUT_LEN: usize = 131_072;
 
 fn main(rt: HostRuntime) -> anyhow::Result<ExitCode> {
     let words: Vec<String> = env::args(&rt)?.collect(rt.alloc())?;
-    let task = match task_of(rt.alloc(), &words) {
+    let task = match task_of(rt.alloc(), &words, auto_color(&rt)) {
         Ok(task) => task,
         Err(error) => {
             error.print(&rt)?;
@@ -75,6 +75,16 @@ fn main(rt: HostRuntime) -> anyhow::Result<ExitCode> {
             Ok(send_ended(&rt, sent))
         }
     }
+}
+
+/// Whether lines have colours if the arguments leave it open: standard output is a terminal, and the variable `NO_COLOR`
+/// isn't set, or is empty.
+fn auto_color(rt: &HostRuntime) -> bool {
+    let no_color = match env::var(rt, "NO_COLOR") {
+        Ok(value) => !value.is_empty(),
+        Err(error) => error != VarError::NotPresent,
+    };
+    !no_color && rt.stdout().is_terminal()
 }
 
 /// The status of a run of `show` that ended so, and what it says on standard error.

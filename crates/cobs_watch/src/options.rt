@@ -29,10 +29,11 @@ pub enum Task {
     Send(send::Settings),
 }
 
-/// The task that the words ask for, the program's own name among them.
+/// The task that the words ask for, the program's own name among them. `auto_color` says whether lines have colours if the
+/// words leave that open.
 ///
 /// An error is also how help and the version are asked for: it has the text to print and the status to end with.
-pub fn task_of(alloc: Global, words: &[String]) -> Result<Task, Error>
+pub fn task_of(alloc: Global, words: &[String], auto_color: bool) -> Result<Task, Error>
     ensures offered { IfOk result IsOffered }
 {
     let show = with_show_options(
@@ -62,8 +63,8 @@ pub fn task_of(alloc: Global, words: &[String]) -> Result<Task, Error>
         }));
     }
     match matches.subcommand_matches("show") {
-        Some(shown) => show_task(alloc, shown),
-        None => show_task(alloc, &matches),
+        Some(shown) => show_task(alloc, shown, auto_color),
+        None => show_task(alloc, &matches, auto_color),
     }
 }
 
@@ -104,7 +105,8 @@ fn with_show_options<'a>(alloc: Global, command: Command<'a>) -> Result<Command<
     );
     let command = with_styles(alloc, command)?
         .arg(number)?
-        .arg(time_option(alloc)?)?;
+        .arg(time_option(alloc)?)?
+        .arg(color_option(alloc))?;
     let command = with_checksum(alloc, with_filters(alloc, command)?)?;
     Ok(
         command
@@ -113,6 +115,27 @@ fn with_show_options<'a>(alloc: Global, command: Command<'a>) -> Result<Command<
             .arg(skip_first)?
             .arg(count)?,
     )
+}
+
+/// The option that says whether lines have colours.
+fn color_option<'a>(alloc: Global) -> Arg<'a> {
+    Arg::new(alloc, "color")
+        .long("color")
+        .value_name("WHEN")
+        .value_parser(["auto", "always", "never"].as_slice())
+        .default_value("auto")
+        .help(
+            "Colour what becomes of each piece; auto: if standard output is a terminal and NO_COLOR is not set",
+        )
+}
+
+/// Whether lines have colours.
+fn color_of(matches: &ArgMatches<'_>, auto_color: bool) -> bool {
+    match matches.get_str("color") {
+        Some("always") => true,
+        Some("never") => false,
+        Some(_) | None => auto_color,
+    }
 }
 
 /// The option that says which time of each piece is shown.
@@ -240,7 +263,7 @@ fn with_filters<'a>(alloc: Global, command: Command<'a>) -> Result<Command<'a>, 
 }
 
 /// The task of showing a stream, by its options.
-fn show_task(alloc: Global, matches: &ArgMatches<'_>) -> Result<Task, Error>
+fn show_task(alloc: Global, matches: &ArgMatches<'_>, auto_color: bool) -> Result<Task, Error>
     ensures offered { IfOk result IsOffered }
 {
     let length = matches.get_one::<u32>("length").unwrap_or(65_536) as usize;
@@ -248,6 +271,7 @@ fn show_task(alloc: Global, matches: &ArgMatches<'_>) -> Result<Task, Error>
         settings: Settings {
             view: View {
                 style: style_of(matches),
+                color: color_of(matches, auto_color),
                 number: matches.get_flag("number"),
                 stamp: stamp_of(matches),
                 filter: filter_of(alloc, matches)?,

@@ -61,6 +61,9 @@ pub struct View {
     /// How a piece is written.
     pub style: Style,
 
+    /// Whether the kind of a piece and how many bytes it decodes to have a colour. `Raw` and `Json` have none.
+    pub color: bool,
+
     /// Whether each piece's number is in front of it. Pieces that a filter holds back are counted too.
     pub number: bool,
 

@@ -47,6 +47,27 @@ const SHOWN: [(Style, &[u8]); 5] = [
     ),
 ];
 
+/// The same in colours, by style.
+const COLORED: [(Style, &[u8]); 3] = [
+    (
+        Style::Hex,
+        b"\x1b[32mmessage 2\x1b[0m 0708\n\x1b[33mbroken 1\x1b[0m\n\x1b[35mtoo long\x1b[0m\n\
+        \x1b[32mmessage 2\x1b[0m 6869\nunfinished\n",
+    ),
+    (
+        Style::Text,
+        b"\x1b[32mmessage 2\x1b[0m 0708\n\x1b[33mbroken 1\x1b[0m\n\x1b[35mtoo long\x1b[0m\n\
+        \x1b[32mmessage 2\x1b[0m hi\nunfinished\n",
+    ),
+    (
+        Style::Hexdump,
+        b"\x1b[32mmessage 2\x1b[0m\n\
+        00000000  07 08                                             |..|\n\
+        \x1b[33mbroken 1\x1b[0m\n\x1b[35mtoo long\x1b[0m\n\x1b[32mmessage 2\x1b[0m\n\
+        00000000  68 69                                             |hi|\nunfinished\n",
+    ),
+];
+
 /// The same with the time of each piece, if a byte is read every 250 ms from 23:59:58.123 on.
 const TIMED: [(Style, Stamp, &[u8]); 4] = [
     (
@@ -201,6 +222,7 @@ fn settings(alloc: Global, style: Style, stamp: Stamp) -> Settings {
     Settings {
         view: View {
             style,
+            color: false,
             number: false,
             stamp,
             filter: Filter {
@@ -258,6 +280,27 @@ fn a_stream_is_shown_in_each_style(rt: HostRuntime) -> Result<(), Fail> {
                 checked: false,
             })
         );
+    }
+    Ok(())
+}
+
+#[test]
+fn each_kind_has_its_colour(rt: HostRuntime) -> Result<(), Fail> {
+    let alloc = rt.alloc();
+    for (style, shown) in COLORED {
+        let mut how = settings(alloc, style, Stamp::Untimed);
+        how.view.color = true;
+        let mut input = STREAM;
+        let mut output = BufWriter::new(alloc, Vec::new(alloc))?;
+        let done = run_show(
+            alloc,
+            &how,
+            &timer(Stamp::Untimed)?,
+            &mut input,
+            &mut output,
+        );
+        assert!(rt; done.is_ok());
+        assert_eq!(rt; output.get_ref().as_slice(), shown);
     }
     Ok(())
 }
