@@ -288,9 +288,9 @@ def timed(words, gaps, clock):
     return [text for text, _ in found], start, sent, shown
 
 
-def lies_between(low, value, high):
+def lies_between(low, value, high, cut=0.001):
     """Whether a time with three digits lies between two that were measured; how busy the machine is has no part in it."""
-    return low - 0.001 <= value <= high + 0.001
+    return low - cut <= value <= high + 0.001
 
 
 @part
@@ -314,7 +314,9 @@ def times():
     for number, text in enumerate(found):
         hours, minutes, seconds = text.split(":")
         passed = (int(hours) * 3600 + int(minutes) * 60 + float(seconds) - start + 1) % 86400 - 1
-        assert len(text) == 12 and lies_between(sent[number // 2] - start, passed, shown[number // 2] - start), text
+        # Both parts of the sum, the clock at the start and the time since, are cut to milliseconds.
+        low, high = sent[number // 2] - start, shown[number // 2] - start
+        assert len(text) == 12 and lies_between(low, passed, high, 0.002), text
     seen = [json.loads(text) for text in run(["--json", "--time", "start"], STREAM).decode().splitlines()]
     plain = [json.loads(text) for text in run(["--json"], STREAM).decode().splitlines()]
     assert all(0 <= item.pop("time") < 60 for item in seen[:-1]) and seen == plain, seen
