@@ -9,6 +9,7 @@ import json
 import os
 import pty
 import random
+import re
 import select
 import shutil
 import subprocess
@@ -446,6 +447,60 @@ def wrong_words():
         check=False,
     )
     assert (done.returncode, done.stdout) == (1, b"\x01\x02\xff\0") and b"line 2" in done.stderr, done
+
+
+TOPICS = {
+    "Options": ["--help", "--version"],
+    "Styles": ["--text", "--raw", "--hexdump", "--json", "--number", "--time", "--color"],
+    "Filters": ["--only", "--min", "--max", "--prefix"],
+    "Checksums": ["--crc", "--crc-order"],
+    "The stream": ["--length", "--sentinel", "--skip-first", "--count"],
+}
+SEND_TOPICS = {"Options": ["--hex", "--sentinel", "--help"]}
+
+
+def topics_of(text):
+    """The options that a help text has below each heading, and its examples."""
+    parts = dict(re.findall(r"^(\w[\w ]*):\n((?: .*\n|\n(?= ))+)", text, re.MULTILINE))
+    examples = [line_.strip() for line_ in parts.pop("Examples").splitlines()]
+    parts.pop("Commands", None)
+    return {
+        topic: re.findall(r"^ +(?:-\w, )?(--[\w-]+)", part_, re.MULTILINE) for topic, part_ in parts.items()
+    }, examples
+
+
+def run_example(example, lines, device):
+    """Runs an example in a shell, with a file as the device, and returns what it wrote."""
+    with tempfile.TemporaryDirectory() as room:
+        Path(room, "lines.txt").write_bytes(lines)
+        Path(room, "device").write_bytes(device)
+        env = {**os.environ, "PATH": f"{Path(WATCH).resolve().parent}:{os.environ['PATH']}"}
+        words = ["sh", "-euc", example.replace("/dev/ttyUSB0", "device")]
+        done = subprocess.run(words, cwd=room, env=env, capture_output=True, timeout=60, check=True)
+        assert done.stderr == b"", done
+        log = Path(room, "log.json")
+        return done.stdout, Path(room, "device").read_bytes(), log.read_bytes() if log.exists() else b""
+
+
+@part
+def help_by_topics():
+    for words in ([], ["show"]):
+        found, examples = topics_of(run([*words, "--help"], b"").decode())
+        wanted = TOPICS if not words else {**TOPICS, "Options": ["--help"]}
+        assert {topic: sorted(names) for topic, names in found.items()} == {
+            topic: sorted(names) for topic, names in wanted.items()
+        }, found
+        assert len(examples) == 3, examples
+        for example in examples:
+            stream = encode(b"ping") + b"\0"
+            shown, device, log = run_example(example, b"", stream)
+            assert (b"ping" in shown or b"70696e67" in shown + log) and device == stream, (example, shown, log)
+    found, examples = topics_of(run(["send", "--help"], b"").decode())
+    assert found == SEND_TOPICS, found
+    assert len(examples) == 3, examples
+    for example in examples:
+        shown, device, log = run_example(example, b"ping\n", b"")
+        assert device and shown == b"" and log == b"", (example, device)
 
 
 @part

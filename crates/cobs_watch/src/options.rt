@@ -19,6 +19,18 @@ const LENGTH: &str = "65536";
 /// The names of checksums.
 const CRCS: [&str; 4] = ["crc-8", "crc-16-ccitt-false", "crc-16-modbus", "crc-32"];
 
+/// Examples of `show`, below the options.
+const SHOW_EXAMPLES: &str = "Examples:
+  cobs_watch --time utc --number < /dev/ttyUSB0
+  cobs_watch --json --only message < /dev/ttyUSB0 > log.json
+  cobs_watch --crc crc-16-modbus --only bad-crc --hexdump < /dev/ttyUSB0";
+
+/// Examples of `send`, below the options.
+const SEND_EXAMPLES: &str = "Examples:
+  printf 'ping\\n' | cobs_watch send > /dev/ttyUSB0
+  cobs_watch send --sentinel 10 < lines.txt > /dev/ttyUSB0
+  echo '00 ff' | tr -d ' ' | cobs_watch send --hex > /dev/ttyUSB0";
+
 /// What the program is to do.
 #[derive(Debug, PartialEq, Eq, Drop)]
 pub enum Task {
@@ -47,6 +59,7 @@ pub fn task_of(alloc: Global, words: &[String], auto_color: bool) -> Result<Task
     );
     let send = Command::new(alloc, "send")
         .about("Send each line of standard input as a frame")
+        .after_help(SEND_EXAMPLES)
         .arg(digits)?
         .arg(sentinel_option(alloc))?;
     let command = with_show_options(alloc, Command::new(alloc, "cobs_watch"))?
@@ -83,7 +96,7 @@ fn sentinel_of(matches: &ArgMatches<'_>) -> u8 {
     matches.get_one::<u8>("sentinel").unwrap_or(0)
 }
 
-/// The command with the options of `show`.
+/// The command with the options of `show`, by topics, and its examples.
 fn with_show_options<'a>(alloc: Global, command: Command<'a>) -> Result<Command<'a>, Error> {
     let length = number_option(alloc, "length", "The longest message, in bytes")
         .value_parser(value_parser!(u32).range(0..16_777_217))
@@ -103,13 +116,16 @@ fn with_show_options<'a>(alloc: Global, command: Command<'a>) -> Result<Command<
         "number",
         "Begin each line with the number of its piece; those that aren't shown are counted too",
     );
-    let command = with_styles(alloc, command)?
+    let command = with_styles(alloc, command.next_help_heading("Styles"))?
         .arg(number)?
         .arg(time_option(alloc)?)?
         .arg(color_option(alloc))?;
-    let command = with_checksum(alloc, with_filters(alloc, command)?)?;
+    let command = with_filters(alloc, command.next_help_heading("Filters"))?;
+    let command = with_checksum(alloc, command.next_help_heading("Checksums"))?;
     Ok(
         command
+            .after_help(SHOW_EXAMPLES)
+            .next_help_heading("The stream")
             .arg(length)?
             .arg(sentinel_option(alloc))?
             .arg(skip_first)?
