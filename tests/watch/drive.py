@@ -176,7 +176,7 @@ STREAM = a_stream()
 
 
 def crc_32(message):
-    """A message with its CRC-32 behind it."""
+    """A message followed by its CRC-32."""
     return message + zlib.crc32(message).to_bytes(4, "little")
 
 
@@ -394,6 +394,30 @@ def checksums():
 
 
 @part
+def sent_checksums():
+    lines = [b"ping", b"", b"123456789", b"x" * 253, b"y" * 600, bytes(range(11, 256)), b"\0\0"]
+    text = b"".join(line_ + b"\n" for line_ in lines)
+    digits = b"".join(line_.hex().encode() + b"\n" for line_ in lines)
+    for name, (size, made, usual) in CHECKSUMS.items():
+        for order in (None, "big", "little"):
+            words = ["--crc", name] + (["--crc-order", order] if order else [])
+            sums = [made(line_).to_bytes(size, order or usual) for line_ in lines]
+            frames = b"".join(encode(line_ + sum_) + b"\0" for line_, sum_ in zip(lines, sums))
+            same(run(["send", *words], text), frames)
+            same(run(["send", "--hex", *words], digits), frames)
+            same(run([*words, "--raw"], frames), text)
+    for sentinel in (1, 10, 255):
+        words = ["--sentinel", str(sentinel), "--crc", "crc-32"]
+        frames = run(["send", *words], text)
+        turned = bytes(byte ^ sentinel for byte in frames)
+        seen, begun = pieces_of(turned)
+        same([(kind, data) for kind, _, data in seen], [("message", crc_32(line_)) for line_ in lines])
+        assert not begun and frames.count(bytes([sentinel])) == len(lines)
+        same(run([*words, "--raw"], frames), text)
+    same(run(["send"], text), b"".join(encode(line_) + b"\0" for line_ in lines))
+
+
+@part
 def skip_first():
     for cut in range(0, 400):
         stream = STREAM[cut:]
@@ -432,6 +456,8 @@ def wrong_words():
         ["--color", "sometimes"],
         ["--crc", "crc-7"],
         ["--crc-order", "big"],
+        ["send", "--crc", "crc-7"],
+        ["send", "--crc-order", "big"],
         ["nothing"],
     ):
         done = subprocess.run(
@@ -456,7 +482,7 @@ TOPICS = {
     "Checksums": ["--crc", "--crc-order"],
     "The stream": ["--length", "--sentinel", "--skip-first", "--count"],
 }
-SEND_TOPICS = {"Options": ["--hex", "--sentinel", "--help"]}
+SEND_TOPICS = {"Options": ["--hex", "--sentinel", "--help"], "Checksums": ["--crc", "--crc-order"]}
 
 
 def topics_of(text):

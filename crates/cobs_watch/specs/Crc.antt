@@ -1,5 +1,5 @@
 -- Checksums at the end of messages, by the catalogue of parametrised CRC algorithms.
-use Rattle.std.specs.Prelude.{ℕ, zero, suc, ◌-◌, ◌*◌, ◌/◌, ◌^◌, ◌==◌, nat_lt, Bool, true, false, List, length, take, reverse, if◌then◌else◌}
+use Rattle.std.specs.Prelude.{ℕ, zero, suc, ◌-◌, ◌*◌, ◌/◌, ◌^◌, ◌==◌, nat_lt, Bool, true, false, List, ◌++◌, length, take, reverse, Option, Some, None, if◌then◌else◌}
 use Rattle.std.specs.Int.{reverse_bits, to_le_bytes, w8, w32}
 use Rattle.std.specs.Int.Bits.{bit_xor}
 use Rattle.std.specs.List.{ends_with, fold}
@@ -43,6 +43,11 @@ in_order c bytes = if c.little then bytes else reverse bytes
 -- the bytes of the checksum of a message
 abbrev pub sum_of : Checksum → List ℕ → List ℕ
 sum_of c message = in_order c (take (params_of c.crc).size (to_le_bytes w32 (crc (params_of c.crc) message)))
+
+-- a message with its checksum behind it, if it is to have one
+abbrev pub with_sum : Option Checksum → List ℕ → List ℕ
+with_sum None message = message
+with_sum (Some c) message = message ++ sum_of c message
 
 -- what is in front of a checksum
 abbrev pub body_of : Checksum → List ℕ → List ℕ

@@ -5,6 +5,7 @@ use Rattle.std.specs.Io.{StopsAt}
 use Rattle.std.specs.Io.KnownBytes.{Appends, Consumes, IsAtEnd}
 use Rattle.hex.specs.Hex.{decode_of}
 use Rattle.cobs.specs.Sentinel.{IsEncodedFrameFor}
+use Rattle.cobs_watch.specs.Crc.{with_sum}
 use Rattle.cobs_watch.specs.declared.fault.WatchFault.{WatchFault}
 use Rattle.cobs_watch.specs.declared.fault.WatchFault.TheVariants.{ReadFailed, WriteFailed, OutputClosed, OutOfMemory}
 use Rattle.cobs_watch.specs.declared.send.Settings.{Settings}
@@ -19,13 +20,17 @@ pub record IsSent (sentinel : ℕ) (message bytes : List ℕ) : Type 0 where
   pub encoded : IsEncodedFrameFor sentinel frame message
   pub ended : bytes ≡ frame ++ sentinel ∷ []
 
--- what is written of a line's text: its frame, or that of the bytes whose digits it has; nothing where it has none
-abbrev pub SendsAs : (hex : Bool) → ℕ → List ℕ → List ℕ → Type 0
-SendsAs false sentinel text bytes = IsSent sentinel text bytes
-SendsAs true sentinel text bytes = MatchResult (decode_of text) (λ message. IsSent sentinel message bytes) (λ error. bytes ≡ [])
+-- what is written of a message: its frame, or with a checksum the frame of the message with its checksum behind it
+abbrev pub SendsMessage : Settings → List ℕ → List ℕ → Type 0
+SendsMessage settings message bytes = IsSent settings.sentinel (with_sum settings.checksum message) bytes
+
+-- what is written of a line's text: as a message, or of the message whose digits it has; nothing where it has none
+abbrev pub SendsAs : (hex : Bool) → Settings → List ℕ → List ℕ → Type 0
+SendsAs false settings text bytes = SendsMessage settings text bytes
+SendsAs true settings text bytes = MatchResult (decode_of text) (λ message. SendsMessage settings message bytes) (λ error. bytes ≡ [])
 
 abbrev pub SendsText : Settings → List ℕ → List ℕ → Type 0
-SendsText settings text bytes = SendsAs settings.hex settings.sentinel text bytes
+SendsText settings text bytes = SendsAs settings.hex settings text bytes
 
 -- a line's text stands for a message: where its digits are wanted, it has them
 abbrev pub IsSendable : Settings → List ℕ → Type 0

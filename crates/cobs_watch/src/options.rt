@@ -28,7 +28,7 @@ const SHOW_EXAMPLES: &str = "Examples:
 /// Examples of `send`, below the options.
 const SEND_EXAMPLES: &str = "Examples:
   printf 'ping\\n' | cobs_watch send > /dev/ttyUSB0
-  cobs_watch send --sentinel 10 < lines.txt > /dev/ttyUSB0
+  cobs_watch send --crc crc-16-modbus < lines.txt > /dev/ttyUSB0
   echo '00 ff' | tr -d ' ' | cobs_watch send --hex > /dev/ttyUSB0";
 
 /// What the program is to do.
@@ -62,6 +62,7 @@ pub fn task_of(alloc: Global, words: &[String], auto_color: bool) -> Result<Task
         .after_help(SEND_EXAMPLES)
         .arg(digits)?
         .arg(sentinel_option(alloc))?;
+    let send = with_checksum(alloc, send, "Append this checksum to each message")?;
     let command = with_show_options(alloc, Command::new(alloc, "cobs_watch"))?
         .about("Watch COBS frames on a live line")
         .version("0.5.1")
@@ -72,6 +73,7 @@ pub fn task_of(alloc: Global, words: &[String], auto_color: bool) -> Result<Task
     if let Some(sent) = matches.subcommand_matches("send") {
         return Ok(Task::Send(send::Settings {
             hex: sent.get_flag("hex"),
+            checksum: checksum_of(sent),
             sentinel: sentinel_of(sent),
         }));
     }
@@ -121,7 +123,7 @@ fn with_show_options<'a>(alloc: Global, command: Command<'a>) -> Result<Command<
         .arg(time_option(alloc)?)?
         .arg(color_option(alloc))?;
     let command = with_filters(alloc, command.next_help_heading("Filters"))?;
-    let command = with_checksum(alloc, command.next_help_heading("Checksums"))?;
+    let command = with_checksum(alloc, command, "The checksum at the end of each message")?;
     Ok(
         command
             .after_help(SHOW_EXAMPLES)
@@ -178,13 +180,17 @@ fn stamp_of(matches: &ArgMatches<'_>) -> Stamp {
     }
 }
 
-/// The command with the options of the checksum of messages.
-fn with_checksum<'a>(alloc: Global, command: Command<'a>) -> Result<Command<'a>, Error> {
+/// The command with the options of the checksum of messages; the text is what help says of it.
+fn with_checksum<'a>(
+    alloc: Global,
+    command: Command<'a>,
+    help: &'a str,
+) -> Result<Command<'a>, Error> {
     let crc = Arg::new(alloc, "crc")
         .long("crc")
         .value_name("NAME")
         .value_parser(CRCS.as_slice())
-        .help("The checksum at the end of each message");
+        .help(help);
     let order = Arg::new(alloc, "crc-order")
         .long("crc-order")
         .value_name("ORDER")
@@ -193,6 +199,7 @@ fn with_checksum<'a>(alloc: Global, command: Command<'a>) -> Result<Command<'a>,
         .help(
             "Its first byte: the highest (big; crc-8, crc-16-ccitt-false) or the lowest (little; the others)",
         );
+    let command = command.next_help_heading("Checksums");
     Ok(command.arg(crc)?.arg(order)?)
 }
 

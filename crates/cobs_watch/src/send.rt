@@ -1,11 +1,13 @@
 //! Sending lines as frames.
-ghost use Rattle.std.specs.Prelude.{◌≡◌, ◌≢◌, ◌↔◌, List, [], OnOk, IfOk, IfErr, IsOk, IsTrue, ℕ, true};
+ghost use Rattle.std.specs.Prelude.{◌≡◌, ◌≢◌, ◌↔◌, List, [], OnOk, IfOk, IfErr, IsOk, IsTrue, ℕ, Some, true};
 ghost use Rattle.std.specs.Io.Buffered.{writer_buffer, writer_inner};
 ghost use Rattle.std.specs.Io.KnownBytes.{Appends, Keeps};
 ghost use Rattle.hex.specs.Hex.{decode_of};
-ghost use Rattle.cobs_watch.specs.Sent.{HasSent, IsSendable, IsSent, SendsAs, SendsText, text_of};
+ghost use Rattle.cobs_watch.specs.Crc.{with_sum};
+ghost use Rattle.cobs_watch.specs.Sent.{HasSent, IsSendable, IsSent, SendsAs, SendsMessage, SendsText, text_of};
 ghost use Rattle.cobs_watch.specs.Watched.{IsFlushed};
 
+use crate::crc::Checksum;
 use crate::fault::WatchFault;
 use cobs::encode_vec_with_sentinel;
 use hex::FromHexError;
@@ -18,11 +20,15 @@ pub struct Settings {
     /// Whether a line is the hexadecimal digits of a message, and not the message itself.
     pub hex: bool,
 
+    /// The checksum that is behind each message in its frame, if any.
+    pub checksum: Option<Checksum>,
+
     /// The byte that ends each frame.
     pub sentinel: u8,
 }
 
-/// Sends each line of the input, without its newline, as a frame and its sentinel, and flushes the output after it.
+/// Sends each line of the input, without its newline, as a frame and its sentinel, and flushes the output after it. With a
+/// checksum, it is behind the line's bytes in the frame.
 ///
 /// The result is whether each line was sent: one that isn't hexadecimal digits, where these are wanted, is named on
 /// `errors` with its number, counted from 1, and skipped. An interrupted read is tried again. Memory is taken for one
@@ -90,9 +96,9 @@ fn send_text<W: Write + Drop>(
     ensures flushed { IsFlushed result (writer_buffer output.new) }
 {
     if settings.hex {
-        send_digits(alloc, settings.sentinel, text, output)
+        send_digits(alloc, settings, text, output)
     } else {
-        send_message(alloc, settings.sentinel, text, output)?;
+        send_message(alloc, settings, text, output)?;
         Ok(true)
     }
 }
@@ -100,12 +106,12 @@ fn send_text<W: Write + Drop>(
 /// Sends the message whose hexadecimal digits the text has, and returns whether it has some.
 fn send_digits<W: Write + Drop>(
     alloc: Global,
-    sentinel: u8,
+    settings: &Settings,
     text: &[u8],
     output: &mut BufWriter<W>,
 ) -> Result<bool, WatchFault>
     requires flushed { writer_buffer output.old ≡ [] }
-    ensures sent { OnOk result ((bytes : List ℕ) × SendsAs true sentinel text.now bytes
+    ensures sent { OnOk result ((bytes : List ℕ) × SendsAs true settings.now text.now bytes
         × Appends (W.contents (writer_inner output.old)) (W.contents (writer_inner output.new)) bytes) }
     ensures answer { IfOk result (λ sent. IsTrue sent ↔ IsOk (decode_of text.now)) }
     ensures fault { IfErr result (λ fault. fault ≢ WatchFault.ReadFailed) }
@@ -115,7 +121,7 @@ fn send_digits<W: Write + Drop>(
 {
     match hex::decode(alloc, text) {
         Ok(message) => {
-            send_message(alloc, sentinel, &message, output)?;
+            send_message(alloc, settings, &message, output)?;
             Ok(true)
         }
         Err(error) => {
@@ -127,25 +133,51 @@ fn send_digits<W: Write + Drop>(
     }
 }
 
-/// Sends a message.
+/// Sends a message, with its checksum behind it if it is to have one.
 fn send_message<W: Write + Drop>(
     alloc: Global,
-    sentinel: u8,
+    settings: &Settings,
     message: &[u8],
     output: &mut BufWriter<W>,
 ) -> Result<(), WatchFault>
     requires flushed { writer_buffer output.old ≡ [] }
-    ensures sent { OnOk result ((bytes : List ℕ) × IsSent sentinel message.now bytes
+    ensures sent { OnOk result ((bytes : List ℕ) × SendsMessage settings.now message.now bytes
         × Appends (W.contents (writer_inner output.old)) (W.contents (writer_inner output.new)) bytes) }
     ensures fault { IfErr result (λ fault. fault ≢ WatchFault.ReadFailed) }
     ensures unwritten { IfErr result (λ fault. fault ≡ WatchFault.OutOfMemory
         → Keeps (W.contents (writer_inner output.old)) (W.contents (writer_inner output.new))) }
     ensures flushed { IsFlushed result (writer_buffer output.new) }
 {
-    let bytes = ended_frame(alloc, sentinel, message)?;
+    let bytes = summed_frame(alloc, settings.sentinel, settings.checksum, message)?;
     output.write_all(&bytes)?;
     output.flush()?;
     Ok(())
+}
+
+/// The frame and the sentinel of a message, with its checksum behind it if it is to have one.
+fn summed_frame(
+    alloc: Global,
+    sentinel: u8,
+    checksum: Option<Checksum>,
+    message: &[u8],
+) -> Result<Vec<u8>, AllocError>
+    ensures frame { IfOk result (λ bytes. IsSent sentinel (with_sum checksum message.now) bytes.items) }
+{
+    let Some(checksum) = checksum else {
+        return ended_frame(alloc, sentinel, message);
+    };
+    let whole = with_sum(alloc, checksum, message)?;
+    ended_frame(alloc, sentinel, &whole)
+}
+
+/// A message with its checksum behind it.
+fn with_sum(alloc: Global, checksum: Checksum, message: &[u8]) -> Result<Vec<u8>, AllocError>
+    ensures sum { IfOk result (λ whole. whole.items ≡ with_sum (Some checksum) message.now) }
+{
+    let mut whole = Vec::new(alloc);
+    whole.extend_from_slice(message)?;
+    whole.extend_from_slice(checksum.sum(message, &mut [0; 4]))?;
+    Ok(whole)
 }
 
 /// The frame of a message and its sentinel.

@@ -405,7 +405,11 @@ fn a_failed_write_ends_a_run(rt: HostRuntime) -> Result<(), Fail> {
 fn lines_are_sent(rt: HostRuntime) -> Result<(), Fail> {
     let alloc = rt.alloc();
     for (hex, lines, sent, all) in SENT {
-        let how = send::Settings { hex, sentinel: 0 };
+        let how = send::Settings {
+            hex,
+            checksum: None,
+            sentinel: 0,
+        };
         let mut input = BufReader::new(alloc, reader(lines, usize::MAX, ErrorKind::Other))?;
         let mut output = BufWriter::new(alloc, Vec::new(alloc))?;
         let mut errors = Vec::new(alloc);
@@ -414,6 +418,28 @@ fn lines_are_sent(rt: HostRuntime) -> Result<(), Fail> {
         assert_eq!(rt; output.get_ref().as_slice(), sent);
         assert_eq!(rt; errors.is_empty(), all);
     }
+    Ok(())
+}
+
+#[test]
+fn a_checksum_is_behind_each_line(rt: HostRuntime) -> Result<(), Fail> {
+    let alloc = rt.alloc();
+    let how = send::Settings {
+        hex: false,
+        checksum: Some(Checksum {
+            crc: Crc::Crc16Modbus,
+            little: true,
+        }),
+        sentinel: 0,
+    };
+    let mut input: &[u8] = b"123456789\n\n";
+    let mut output = BufWriter::new(alloc, Vec::new(alloc))?;
+    let done = run_send(alloc, &how, &mut input, &mut output, &mut Vec::new(alloc));
+    assert_eq!(rt; done, Ok(true));
+    assert_eq!(rt;
+        output.get_ref().as_slice(),
+        b"\x0C123456789\x37\x4B\x00\x03\xFF\xFF\x00".as_slice()
+    );
     Ok(())
 }
 
