@@ -12,6 +12,7 @@ import random
 import re
 import select
 import shutil
+import signal
 import subprocess
 import sys
 import tempfile
@@ -566,6 +567,27 @@ def closed_pipe():
             watch.stdout.close()
             errors = watch.stderr.read()
             assert (watch.wait(timeout=60), errors) == (0, b""), errors
+
+
+@part
+def interrupt_within_a_frame():
+    # A shell that runs this in the background may have it ignore SIGINT, and a child would too.
+    as_usual = lambda: signal.signal(signal.SIGINT, signal.SIG_DFL)
+    with subprocess.Popen(
+        [WATCH, "--count"],
+        stdin=subprocess.PIPE,
+        stdout=subprocess.PIPE,
+        stderr=subprocess.PIPE,
+        preexec_fn=as_usual,
+    ) as watch:
+        watch.stdin.write(encode(b"one") + b"\0" + encode(b"two") + b"\0" + encode(b"three")[:3])
+        watch.stdin.flush()
+        # Both lines are there before the signal.
+        same(watch.stdout.readline() + watch.stdout.readline(), b"message 3 6f6e65\nmessage 3 74776f\n")
+        watch.send_signal(signal.SIGINT)
+        out, errors = watch.communicate(timeout=60)
+        # Neither the third frame, nor `unfinished`, nor the counts follow.
+        same((watch.returncode, out, errors), (-signal.SIGINT, b"", b""))
 
 
 @part
