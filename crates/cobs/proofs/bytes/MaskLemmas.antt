@@ -24,8 +24,7 @@ zero_mask-lanes (b ∷ bytes) = ap (λ m. cond (eqb b 0) 1 0 + 2 * m) (zero_mask
 
 -- what a store of n bytes leaves
 pub put_is : (dest bytes : List ℕ) (at n : ℕ) → length bytes ≡ n → at + n ≤ length dest → put_chunk at dest bytes ≡ take at dest ++ (bytes ++ drop (at + n) dest)
-put_is dest bytes at n l room =
-    put_chunk_is at dest bytes (omega arith) ∙ ap (λ (x : List ℕ). take at dest ++ (bytes ++ x)) (ap (λ (k : ℕ). drop k (drop at dest)) l ∙ drop-drop n at dest)
+put_is dest bytes at n l room = grind (arith, put_chunk_is, drop-drop)
 
 -- the bits that a comparison with 0 gives
 pub zeros_by_lanes : (source : List ℕ) (at n : ℕ) → at + n ≤ length source → n ≤ 64
@@ -56,13 +55,7 @@ nonzero_len bytes = prefix_len (λ b. not (eqb b 0)) bytes
 
 pub nonzero_len-lt : (bytes : List ℕ) → zero_mask bytes ≢ 0 → nonzero_len bytes < length bytes
 nonzero_len-lt [] some = absurd (some refl)
-nonzero_len-lt (b ∷ bytes) some =
-    elim (cases_eq b 0) [
-      | inl is ↦ (let c : nonzero_len (b ∷ bytes) ≡ 0 = ap (λ t. cond (not t) (1 + nonzero_len bytes) 0) (eq-eqb b 0 is) in omega arith)
-      | inr other ↦ (let c : nonzero_len (b ∷ bytes) ≡ 1 + nonzero_len bytes = ap (λ t. cond (not t) (1 + nonzero_len bytes) 0) (ne_eqb b 0 other) in
-          let m : zero_mask (b ∷ bytes) ≡ 0 + 2 * zero_mask bytes = ap (λ t. (if t then 1 else 0) + 2 * zero_mask bytes) (ne_eqb b 0 other) in
-          let ih = nonzero_len-lt bytes (λ e. some (omega arith)) in omega arith)
-    ]
+nonzero_len-lt (b ∷ bytes) some = grind (arith, cases_eq, eq-eqb, ne_eqb, nonzero_len-lt bytes)
 
 -- the bytes in front of the first zero
 pub nonzero_len-before : (bytes : List ℕ) → zero_mask bytes ≢ 0 → HasNoZero (take (nonzero_len bytes) bytes)
@@ -99,25 +92,7 @@ nonzero_len-behind (suc d) bytes = let ih = nonzero_len-behind d bytes in let e 
 -- the first zero taken from a mask
 mask-less : (bytes : List ℕ) → zero_mask bytes ≢ 0 → zero_mask bytes ≡ 2 ^ nonzero_len bytes + mask_behind (nonzero_len bytes + 1) (drop (nonzero_len bytes + 1) bytes)
 mask-less [] some = absurd (some refl)
-mask-less (b ∷ bytes) some =
-    elim (cases_eq b 0) [
-      | inl is ↦ (let c : nonzero_len (b ∷ bytes) ≡ 0 = ap (λ t. cond (not t) (1 + nonzero_len bytes) 0) (eq-eqb b 0 is) in
-          let m : zero_mask (b ∷ bytes) ≡ 1 + 2 * zero_mask bytes = ap (λ t. (if t then 1 else 0) + 2 * zero_mask bytes) (eq-eqb b 0 is) in
-          let z : 2 ^ 0 ≡ 1 = refl in
-          let one : mask_behind 1 bytes ≡ 0 + 2 * zero_mask bytes = refl in
-          let sum : 2 ^ 0 + mask_behind (0 + 1) (drop (0 + 1) (b ∷ bytes)) ≡ 1 + 2 * zero_mask bytes = omega arith in
-          m ∙ sym sum ∙ ap (λ k. 2 ^ k + mask_behind (k + 1) (drop (k + 1) (b ∷ bytes))) (sym c))
-      | inr other ↦ (let c : nonzero_len (b ∷ bytes) ≡ 1 + nonzero_len bytes = ap (λ t. cond (not t) (1 + nonzero_len bytes) 0) (ne_eqb b 0 other) in
-          let m : zero_mask (b ∷ bytes) ≡ 0 + 2 * zero_mask bytes = ap (λ t. (if t then 1 else 0) + 2 * zero_mask bytes) (ne_eqb b 0 other) in
-          let k : ℕ = nonzero_len bytes in
-          let ih = mask-less bytes (λ e. some (omega arith)) in
-          let more = mask_behind-more (k + 1) (drop (k + 1) bytes) in
-          let p = pow-suc 2 k in
-          let sum : 2 ^ suc k + mask_behind (suc (k + 1)) (drop (suc (k + 1)) (b ∷ bytes)) ≡ zero_mask (b ∷ bytes) = omega arith in
-          let n : suc k ≡ nonzero_len (b ∷ bytes) = omega arith in
-          let n' : suc (k + 1) ≡ nonzero_len (b ∷ bytes) + 1 = omega arith in
-          sym sum ∙ ap (λ i. 2 ^ i + mask_behind (suc (k + 1)) (drop (suc (k + 1)) (b ∷ bytes))) n ∙ ap (λ i. 2 ^ nonzero_len (b ∷ bytes) + mask_behind i (drop i (b ∷ bytes))) n')
-    ]
+mask-less (b ∷ bytes) some = grind (arith, cases_eq, eq-eqb, ne_eqb, mask_behind-more, pow-suc, mask-less bytes)
 
 -- the lowest bits, and the others
 and-step : (a b x y : ℕ) → a ≤ 1 → b ≤ 1 → bit_and (a + 2 * x) (b + 2 * y) ≡ min a b + 2 * bit_and x y
@@ -187,8 +162,7 @@ module _ (d : ℕ) (bytes : List ℕ) (few : d + length bytes ≤ 64) (some : ma
       let l = length-ones d in
       let left : drop (d + k + 1) (replicate d 1 ++ bytes) ≡ drop (k + 1) bytes =
       ap (λ n. drop n (replicate d 1 ++ bytes)) (let s : d + k + 1 ≡ length {A = ℕ} (replicate d 1) + (k + 1) = omega arith in s) ∙ drop-append-add (replicate d 1) bytes (k + 1) in
-      mask-less (replicate d 1 ++ bytes) some ∙ ap (λ n. 2 ^ n + mask_behind (n + 1) (drop (n + 1) (replicate d 1 ++ bytes))) e
-      ∙ ap (λ (x : List ℕ). 2 ^ (d + k) + mask_behind (d + k + 1) x) left
+      grind (arith, nonzero_len-behind, length-ones, drop-append-add, mask-less)
 
   pub mask_behind-and : bit_and (mask_behind d bytes) (mask_behind d bytes - 1) ≡ mask_behind (d + nonzero_len bytes + 1) (drop (nonzero_len bytes + 1) bytes)
   mask_behind-and =
@@ -215,12 +189,7 @@ zero_mask-lt bytes = rw (← zero_mask-lanes bytes) (subst (λ (n : ℕ). mask_l
 -- where every bit is set, each byte is 0
 pub zero_mask-all : (bytes : List ℕ) → zero_mask bytes + 1 ≡ 2 ^ length bytes → bytes ≡ replicate (length bytes) 0
 zero_mask-all [] e = refl
-zero_mask-all (b ∷ bytes) e =
-    let p = pow-suc 2 (length bytes) in
-    elim (cases_eq b 0) [
-      | inl is ↦ (let ih : bytes ≡ replicate (length bytes) 0 = zero_mask-all bytes (omega (arith, set_if b is)) in cc)
-      | inr other ↦ absurd (omega (arith, clear_if b other))
-    ]
+zero_mask-all (b ∷ bytes) e = grind (arith, pow-suc, cases_eq, set_if, clear_if, zero_mask-all bytes)
 
 pub window_all : (bytes : List ℕ) → length bytes ≤ 32 → zero_mask bytes ≡ 4294967295 → (length bytes ≡ 32) × (bytes ≡ replicate 32 0)
 window_all bytes few e =
@@ -280,12 +249,7 @@ module _ (source dest first after : List ℕ) (read at len n front back : ℕ) (
 -- one byte more
 pub zero_mask-push : (bytes : List ℕ) (b : ℕ) → zero_mask (bytes ++ b ∷ []) ≡ zero_mask bytes + (if b == 0 then 1 else 0) * 2 ^ length bytes
 zero_mask-push [] b = let z : 2 ^ 0 ≡ 1 = refl in let n : ℕ = if b == 0 then 1 else 0 in let m = mul-one n in omega arith
-zero_mask-push (x ∷ bytes) b =
-    let ih = zero_mask-push bytes b in
-    let n : ℕ = if b == 0 then 1 else 0 in
-    let p = pow-suc 2 (length bytes) in
-    let m : n * 2 ^ suc (length bytes) ≡ 2 * (n * 2 ^ length bytes) = ap (λ k. n * k) p ∙ sym (mul_assoc n (2 ^ length bytes) 2) ∙ mul_comm (n * 2 ^ length bytes) 2 in
-    omega arith
+zero_mask-push (x ∷ bytes) b = grind (arith, pow-suc, mul_assoc, mul_comm, zero_mask-push bytes b)
 
 -- the bit of a byte in its place
 pub byte_bit : (b i : ℕ) → i < 64 → bool_byte (eqb b 0) * 2 ^ i % 18446744073709551616 ≡ (if b == 0 then 1 else 0) * 2 ^ i

@@ -44,9 +44,7 @@ parts-moved old from len n inside some few =
     let place : 0 + n ≡ n = omega arith in
     let first : put_chunk 0 old (take n (drop from old)) ≡ moved old from n =
     put_is old (take n (drop from old)) 0 n (length-chunk from n old (omega arith)) (omega arith) ∙ ap (λ (k : ℕ). take n (drop from old) ++ drop k old) place in
-    ap (λ (k : ℕ). put_chunk (len - n) (put_chunk 0 old (take n (drop from old))) (take n (drop k old))) at
-    ∙ moved-more old (put_chunk 0 old (take n (drop from old))) from n (len - n) n first (omega arith) (omega arith) (omega arith)
-    ∙ ap (moved old from) sum
+    grind (arith, put_chunk, put_is, length-chunk, moved-more)
 
 -- one byte, two or three
 pub few-moved : (old : List ℕ) (from len : ℕ) → from + len ≤ length old → 0 < len → len ≤ 3
@@ -55,7 +53,4 @@ few-moved old from len inside some few =
     let half : len / 2 ≡ 0 + len / 2 = omega arith in
     let last : len - 1 ≡ 0 + (len - 1) = omega arith in
     let all : 0 + len ≡ len = omega arith in
-    ap (λ (i : ℕ). set (set (set old 0 (get_or old from 0)) i (get_or old (from + len / 2) 0)) (len - 1) (get_or old (from + (len - 1)) 0)) half
-    ∙ ap (λ (i : ℕ). set (set (set old 0 (get_or old from 0)) (0 + len / 2) (get_or old (from + len / 2) 0)) i (get_or old (from + (len - 1)) 0)) last
-    ∙ few-copied old old from 0 len inside some few (omega arith)
-    ∙ ap (λ (k : ℕ). take len (drop from old) ++ drop k old) all
+    grind (arith, few-copied)

@@ -105,11 +105,4 @@ module _ (source dest : List ℕ) (s : ℕ) (some : 0 < length source) (few : le
       let to-half : half ≡ 0 + half = omega arith in
       let to-last : last ≡ 0 + last = omega arith in
       let all : 0 + length source ≡ length source = omega arith in
-      ap (λ (b : ℕ). set (set (set dest 0 b) half (x half)) last (x last)) (byte-is 0 some)
-      ∙ ap (λ (b : ℕ). set (set (set dest 0 (g 0)) half b) last (x last)) (byte-is half (omega arith))
-      ∙ ap (λ (b : ℕ). set (set (set dest 0 (g 0)) half (g (0 + half))) last b) (byte-is last (omega arith))
-      ∙ ap (λ (i : ℕ). set (set (set dest 0 (g 0)) i (g (0 + half))) last (g (0 + last))) to-half
-      ∙ ap (λ (i : ℕ). set (set (set dest 0 (g 0)) (0 + half) (g (0 + half))) i (g (0 + last))) to-last
-      ∙ few-copied (xor_each s source) dest 0 0 (length source) (omega arith) some few (omega arith)
-      ∙ ap (λ (y : List ℕ). y ++ drop (0 + length source) dest) (take_all (length source) (xor_each s source) (omega arith))
-      ∙ ap (λ (k : ℕ). xor_each s source ++ drop k dest) all
+      grind (arith, xored-long, byte-is, few-copied, take_all)

@@ -164,9 +164,6 @@ module _ (first : ℕ) (rest new after : List ℕ) (front : ℕ) (some : 0 < fro
   new-long : length (take (front - 1) new) ≡ front - 1
   new-long = length-take-le (front - 1) new (omega arith)
 
-  pub first-begins : take (front - 1) after ≡ take (front - 1) new
-  first-begins = ap (take (front - 1)) is ∙ take_at (take (front - 1) new) (drop (front - 1) (first ∷ new)) (front - 1) new-long
-
   after-rest : drop (front - 1) after ≡ drop (front - 1) (first ∷ new)
   after-rest = ap (drop (front - 1)) is ∙ drop_at (take (front - 1) new) (drop (front - 1) (first ∷ new)) (front - 1) new-long
 

@@ -1,5 +1,5 @@
 -- Frames in which no block but the last is full, decoded in their own place.
-use Rattle.std.proofs.Common.{take_at, drop_at, bit_xor, append-nil, length-append, zero, suc, ◌≤◌, ◌++◌, replicate, subst, append_assoc, take-append-drop, length-take-le, set, ◌≡◌, ◌≢◌, ℕ, ◌+◌, ◌-◌, ◌<◌, true, List, [], ◌∷◌, length, take, drop, get_or, Ok, refl, sym, ap, ◌∙◌, arith, length-drop, inl, inr}
+use Rattle.std.proofs.Common.{take_at, drop_at, bit_xor, append-nil, length-append, zero, suc, ◌≤◌, ◌++◌, replicate, subst, append_assoc, take-append-drop, length-take-le, set, ◌≡◌, ◌≢◌, ℕ, ◌+◌, ◌-◌, ◌<◌, true, List, [], ◌∷◌, length, take, drop, get_or, Ok, refl, sym, ap, ◌∙◌, arith, length-drop}
 use Rattle.std.proofs.lemmas.Bool.{eq-eqb}
 use Rattle.std.proofs.lemmas.List.{take-map, drop-map, take-take, drop_all, take_rest, length-set, drop-set-lt, take_more_set, drop-drop, drop_more, get_or-take, get_or-drop}
 use borrow.Rule.Slice.PartMut.{put_mid}
@@ -28,22 +28,7 @@ module _ (piece : List ℕ) (read code : ℕ) (f : FlatSoFar piece read) (is : c
 
   -- one more part
   pub flat-more : 0 < code → code < length piece - read → code ≢ 255 → FlatSoFar piece (read + code)
-  flat-more some more other =
-      let l = length-drop (read + 1) piece in
-      let next : drop (code - 1) (drop (read + 1) piece) ≡ drop (read + code) piece = drop-drop (code - 1) (read + 1) piece ∙ ap (λ (k : ℕ). drop k piece) (omega arith) in
-      let o = length-output-more piece read f.within (omega arith) (omega arith) in
-      let at : read + get_or piece read 0 ≡ read + code = omega arith in
-      let same : length (output (drop (read + get_or piece read 0) piece)) ≡ length (output (drop (read + code) piece)) = ap (λ (k : ℕ). length (output (drop k piece))) at in
-      let j : length (joint_of (get_or piece read 0)) ≡ 1 = elim (joint-length (get_or piece read 0)) [
-        | inl full ↦ absurd (other (is ∙ full.0))
-        | inr short ↦ short.1
-      ] in
-      let c = f.count in
-      record {
-        within = omega arith;
-        count = omega arith;
-        last = sym (ap last_part cons ∙ last_part-more code (drop (read + 1) piece) (omega arith) ∙ ap last_part next) ∙ f.last;
-      }
+  flat-more some more other = grind (arith, length-drop, drop-drop, length-output-more, joint_of, joint-length, cons, last_part-more)
 
   -- the last part, where it is whole
   pub flat-whole : length piece - read ≡ code → IsFlat piece
@@ -60,10 +45,7 @@ module _ (piece : List ℕ) (read code : ℕ) (f : FlatSoFar piece read) (is : c
       }
 
   pub flat-code : length piece - read ≡ code → code_of (last_part piece) ≡ code
-  flat-code ends =
-      let w = f.within in
-      let l = length-drop (read + 1) piece in
-      ap code_of (sym f.last ∙ ap last_part cons ∙ last_part-last code (drop (read + 1) piece) (omega arith))
+  flat-code ends = grind (arith, length-drop, cons, last_part-last)
 
 -- the blocks in front of `read` are whole and not full, whatever stands behind
 pub record FrontSoFar (piece : List ℕ) (read : ℕ) : Type 0 where
@@ -81,12 +63,7 @@ front-started piece some = record {
 module _ (piece : List ℕ) (read code : ℕ) (f : FrontSoFar piece read) (is : code ≡ get_or piece read 0) (some : 0 < code) where
   -- a whole block
   pub front-whole : read + code ≤ length piece → IsFlat (take (read + code) piece) × (code_of (last_part (take (read + code) piece)) ≡ code)
-  front-whole le =
-      let end : ℕ = read + code in
-      let l = length-take-le end piece le in
-      let g = f.front end (omega arith) le in
-      let is' : code ≡ get_or (take end piece) read 0 = is ∙ sym (get_or-take end piece read 0 (omega arith)) in
-      (flat-whole (take end piece) read code g is' (omega arith), flat-code (take end piece) read code g is' (omega arith))
+  front-whole le = grind (arith, length-take-le, get_or-take, flat-whole, flat-code)
 
   -- one that isn't full, and more behind it
   pub front-more : read + code < length piece → code ≢ 255 → FrontSoFar piece (read + code)
@@ -178,15 +155,7 @@ copied-ones piece old dest after read f ones lt room is =
 -- a buffer that begins with what stands behind the first code
 pub joints-start : (dest : List ℕ) (first len : ℕ) → 0 < len → len ≤ length dest + 1
     → FlatCopied (first ∷ take (len - 1) dest) dest dest 0 first
-joints-start dest first len some room =
-    let piece : List ℕ = first ∷ take (len - 1) dest in
-    let few = length-take-le (len - 1) dest (omega arith) in
-    let long : length piece - (0 + 1) ≡ len - 1 = omega arith in
-    record {
-      decoded = record { within = omega arith; left = omega arith; front = refl; rest = refl; last = refl };
-      copied = record { within = omega arith; bytes = ap (λ (k : ℕ). take k dest) long ∙ sym (ap (λ (k : ℕ). take k (take (len - 1) dest)) long ∙ take-take (len - 1) (len - 1) dest (omega arith)) };
-      at-read = refl;
-    }
+joints-start dest first len some room = grind (arith, length-take-le, take-take)
 
 -- a copy of one
 pub flat-copy : (copy p : List ℕ) (n : ℕ) → copy ≡ p → IsFlat p → length p ≡ n → length (output copy) + 1 ≡ n
@@ -205,8 +174,7 @@ module _ (old after : List ℕ) (from len : ℕ) (inside : from + len ≤ length
   pub moved-piece : get_or old from 0 ∷ take (len - 1) after ≡ take len (drop from old)
   moved-piece =
       let l : len ≡ suc (len - 1) = omega arith in
-      ap (λ (x : List ℕ). get_or old from 0 ∷ x) (ap (take (len - 1)) is ∙ take_at (take (len - 1) (drop (from + 1) old)) (drop (len - 1) old) (len - 1) moved-long)
-      ∙ ap (take (suc (len - 1))) (sym (drop_more old from 0 (omega arith))) ∙ ap (λ (k : ℕ). take k (drop from old)) (sym l)
+      grind (arith, take_at, moved-long, drop_more)
 
   pub moved-rest : drop (len - 1) after ≡ drop (len - 1) old
   moved-rest = ap (drop (len - 1)) is ∙ drop_at (take (len - 1) (drop (from + 1) old)) (drop (len - 1) old) (len - 1) moved-long

@@ -1,5 +1,5 @@
 -- The output of a front of a piece is a front of its output.
-use Rattle.std.proofs.Common.{◌≡◌, ◌≢◌, ℕ, zero, ◌+◌, ◌-◌, ◌<◌, ◌≤◌, List, [], ◌∷◌, ◌++◌, length, take, drop, get_or, suc, refl, sym, ap, ◌∙◌, arith, length-take-le, length-drop, length-append, append_assoc, inl, inr}
+use Rattle.std.proofs.Common.{◌≡◌, ◌≢◌, ℕ, zero, ◌+◌, ◌-◌, ◌<◌, ◌≤◌, List, [], ◌∷◌, ◌++◌, length, take, drop, get_or, suc, sym, ap, ◌∙◌, arith, length-take-le, length-drop, length-append, append_assoc, inl, inr}
 use Rattle.std.proofs.lemmas.Bool.{cases_lt}
 use Rattle.std.proofs.lemmas.List.{drop-drop, drop-take, drop_more, take-take, take-append-le, take_all}
 use Rattle.std.proofs.lemmas.List.Elements.{All-head, All-tail, All-drop}
@@ -56,12 +56,7 @@ pub record FrontSought (piece : List ℕ) (n read left : ℕ) : Type 0 where
   pub suffices : (k : ℕ) → 0 < k → read + k ≤ length piece → output (take k (drop read piece)) ≡ take left (output (drop read piece)) → output (take (read + k) piece) ≡ take n (output piece)
 
 pub front-started : (piece : List ℕ) (n : ℕ) → 0 < length piece → FrontSought piece n 0 n
-front-started piece n some = record {
-  within = some;
-  few = omega arith;
-  counted = refl;
-  suffices = λ k pos within is. (let z : 0 + k ≡ k = omega arith in ap (λ (j : ℕ). output (take j piece)) z ∙ is);
-}
+front-started piece n some = grind (arith)
 
 module _ (piece : List ℕ) (n read left code : ℕ) (s : FrontSought piece n read left) (is : code ≡ get_or piece read 0) where
   cons : drop read piece ≡ code ∷ drop (read + 1) piece
@@ -76,13 +71,7 @@ module _ (piece : List ℕ) (n read left code : ℕ) (s : FrontSought piece n re
 
   -- what is left fits as a whole
   pub front-whole : length (output (drop read piece)) ≤ left → output (take (length piece) piece) ≡ take n (output piece)
-  front-whole fits =
-      let d = length-drop read piece in
-      let w = s.within in
-      let rest : ℕ = length piece - read in
-      let sum : length piece ≡ read + rest = omega arith in
-      ap (λ (k : ℕ). output (take k piece)) sum
-      ∙ s.suffices rest (omega arith) (omega arith) (ap output (take_all rest (drop read piece) (omega arith)) ∙ sym (take_all left (output (drop read piece)) fits))
+  front-whole fits = grind (arith, length-drop, take_all)
 
   -- or another part follows
   module _ (pos : 0 < code) (more : code < length piece - read) where
@@ -93,20 +82,14 @@ module _ (piece : List ℕ) (n read left code : ℕ) (s : FrontSought piece n re
     next = drop-drop (code - 1) (read + 1) piece ∙ ap (λ (k : ℕ). drop k piece) (omega arith)
 
     long : length part ≡ code - 1 + length (joint_of code)
-    long =
-        let d = length-drop (read + 1) piece in
-        length-append (take (code - 1) (drop (read + 1) piece)) (joint_of code) ∙ ap (λ (k : ℕ). k + length (joint_of code)) (length-take-le (code - 1) (drop (read + 1) piece) (omega (arith, s.within, more)))
+    long = grind (arith, length-drop, length-append, joint_of, length-take-le)
 
     whole : output (drop read piece) ≡ part ++ output (drop (read + code) piece)
-    whole =
-        let d = length-drop (read + 1) piece in
-        ap output cons ∙ output-more code (drop (read + 1) piece) (omega (arith, s.within, more, pos)) ∙ ap (λ (x : List ℕ). part ++ output x) next
+    whole = grind (arith, length-drop, cons, output-more, next)
 
     -- where the part alone is too long
     pub front-too_long : left < code - 1 + length (joint_of code) → n < length (output piece)
-    front-too_long few =
-        let o = ap length whole ∙ length-append part (output (drop (read + code) piece)) in
-        omega (arith, long, s.counted)
+    front-too_long few = grind (arith, whole, length-append, long)
 
     pub front-more-left : (left' : ℕ) → left' + (code - 1 + length (joint_of code)) ≡ left → FrontSought piece n (read + code) left'
     front-more-left left' sum =

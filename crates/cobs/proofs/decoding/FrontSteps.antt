@@ -160,9 +160,7 @@ module _ (piece old dest : List ℕ) (read written : ℕ) (p : Decoded piece old
     finished-long = let l = left-is in omega arith
 
     pub finished-begins : take (written + count) (put_mid written k dest new) ≡ output piece
-    finished-begins =
-        ap (take (written + count)) joined-is ∙ take-past (take written dest) new written count (written + count) front-long refl
-        ∙ ap (λ (x : List ℕ). take written dest ++ x) (begins ∙ ap output part-is) ∙ p.front
+    finished-begins = grind (arith, joined-is, take-past, front-long)
 
     pub finished-rest : drop (written + count) (put_mid written k dest new) ≡ drop (written + count) old
     finished-rest = grind (arith, joined-is, drop-past, front-long, drop-drop, finished-long)
@@ -181,10 +179,7 @@ module _ (piece old dest : List ℕ) (read written : ℕ) (p : Decoded piece old
         ∙ take-past (take written dest) (output part) written (length dest - written) (length old) front-long (omega arith) in
         let rest : drop (length (output part)) back ≡ drop (length (output piece)) old =
         ap (drop (length (output part))) back-is ∙ drop-drop (length (output part)) written dest ∙ ap (λ (n : ℕ). drop n dest) l ∙ p.rest in
-        joined-is ∙ ap (λ (x : List ℕ). take written dest ++ x) (sym (take-append-drop count new) ∙ ap (λ (x : List ℕ). x ++ drop count new) (begins ∙ out)
-        ∙ ap (λ (x : List ℕ). take (length dest - written) (output part) ++ x) (behind ∙ kept ∙ rest))
-        ∙ sym (append_assoc (take written dest) (take (length dest - written) (output part)) (drop (length (output piece)) old))
-        ∙ ap (λ (x : List ℕ). x ++ drop (length (output piece)) old) (sym front)
+        grind (arith, left-is, take-past, front-long, drop-drop, joined-is, take-append-drop, kept, append_assoc)
 
 -- BYTES THAT ARE COPIED BEFORE THEIR BLOCK IS KNOWN TO BE WHOLE
 
@@ -201,13 +196,7 @@ output-some piece code done is few within = elim (cases_lt code (length piece)) 
 ]
 
 pub stayed : (piece old new bytes : List ℕ) (done : ℕ) → 0 < length piece → new ≡ bytes ++ drop done old → length bytes ≡ done → done ≤ length (output piece) → Decoded piece old new 0 0
-stayed piece old new bytes done some is long few = record {
-  within = some;
-  left = omega arith;
-  front = refl;
-  rest = ap (drop (length (output piece))) is ∙ drop-append-drop done old bytes (length (output piece)) few long;
-  last = refl;
-}
+stayed piece old new bytes done some is long few = grind (arith, drop-append-drop)
 
 -- the first block of a source
 module _ (source old : List ℕ) (code : ℕ) (some : 0 < length (head source)) (is : code ≡ get_or source 0 0) where

@@ -1,5 +1,5 @@
 -- What stands before the first zero of a list, and the first piece behind its leading zeros.
-use Rattle.std.proofs.Common.{◌≡◌, ◌≢◌, ℕ, zero, suc, ◌+◌, ◌<◌, ◌≤◌, Bool, cond, List, [], ◌∷◌, length, take, drop, get_or, Some, None, refl, sym, ap, ◌∙◌, subst, arith, length-drop, length-take-le, get_or-take}
+use Rattle.std.proofs.Common.{◌≡◌, ◌≢◌, ℕ, zero, suc, ◌+◌, ◌<◌, ◌≤◌, Bool, cond, List, [], ◌∷◌, length, take, drop, get_or, Some, None, refl, sym, ap, ◌∙◌, arith, length-drop, length-take-le, get_or-take}
 use Rattle.std.proofs.lemmas.Bool.{ne_eqb}
 use Rattle.std.proofs.lemmas.List.Elements.{All-head, All-tail, All-get_or}
 use Rattle.cobs.specs.Grammar.{HasNoZero}
@@ -24,17 +24,14 @@ leading_zeros-none b t some = ap (λ (v : Bool). cond v (1 + leading_zeros t) 0)
 pub first_piece_behind : (t : List ℕ) → first_piece t ≡ first_piece (drop (leading_zeros t) t)
 unfolding first_piece
 first_piece_behind [] = refl
-first_piece_behind (zero ∷ t) =
-    let n : leading_zeros (zero ∷ t) ≡ suc (leading_zeros t) = omega arith in
-    first_piece_behind t ∙ ap (λ (k : ℕ). first_piece (drop k (zero ∷ t))) (sym n)
+first_piece_behind (zero ∷ t) = grind (arith, first_piece_behind t)
 first_piece_behind (suc b ∷ t) = ap (λ (k : ℕ). first_piece (drop k (suc b ∷ t))) (sym (leading_zeros-none (suc b) t (λ e. omega arith)))
 
 -- and behind them stands no zero
 pub leading_zeros-stop : (t : List ℕ) → leading_zeros t < length t → get_or (drop (leading_zeros t) t) 0 0 ≢ 0
 leading_zeros-stop [] some = absurd (omega arith)
 leading_zeros-stop (zero ∷ t) some = grind (arith, (leading_zeros-stop t (omega arith)))
-leading_zeros-stop (suc b ∷ t) some =
-    subst (λ (k : ℕ). get_or (drop k (suc b ∷ t)) 0 0 ≢ 0) (sym (leading_zeros-none (suc b) t (λ e. omega arith))) (λ e. omega arith)
+leading_zeros-stop (suc b ∷ t) some = grind (arith, leading_zeros-none)
 
 -- no piece is in an empty list
 pub first_piece_empty : (t : List ℕ) → length t ≡ 0 → first_piece t ≡ None

@@ -8,7 +8,7 @@ use Rattle.cobs.specs.Sentinel.{xor_each}
 use Rattle.cobs.specs.Overwritten.{overwritten}
 use Rattle.cobs.specs.Grammar.{Reads}
 use Rattle.cobs.specs.Piece.{output, kept_output, is_whole, IsWhole}
-use Rattle.cobs.specs.Stream.{Message, Broken, TooLong, outcome_of, head}
+use Rattle.cobs.specs.Stream.{Broken, TooLong, outcome_of, head}
 use Rattle.cobs.specs.Decode.{sized, reported, len_through_piece, decode_answer, first_output, head_answer, head_answer_within, in_place, in_place_answer, in_place_report, source_answer, output_of, answer_by_piece}
 use Rattle.cobs.specs.Headline.{IsPiece, BeginsWith, AnswersMessage, ReportsMessage}
 use Rattle.cobs.specs.declared.dec.DecodeReport.{DecodeReport}
@@ -71,8 +71,7 @@ outcome_of_broken p n fits broken = grind (arith, le-leb, broken)
 
 pub outcome_of_long : (p : List ℕ) (n : ℕ) → n < length (output p) → outcome_of p n ≡ TooLong
 unfolding outcome_of
-outcome_of_long p n more =
-    ap (λ (t : Bool). cond t (cond (is_whole p) (Message (output p)) (Broken (length (output p)))) TooLong) (lt-leb (length (output p)) n more)
+outcome_of_long p n more = grind (arith, lt-leb)
 
 decode_answer_alone : (f : List ℕ) (n : ℕ) → IsPiece f → decode_answer f n ≡ reported (len_through_piece f f) (sized (outcome_of f n))
 decode_answer_alone [] n piece = absurd (piece.0 refl)

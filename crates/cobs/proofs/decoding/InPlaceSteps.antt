@@ -65,8 +65,7 @@ module _ (before : List ℕ) (end : ℕ) (buffer : List ℕ) (read written : ℕ
     code-is : code ≡ get_or (take end before) read 0
     code-is =
         let k : written + (read - written) ≡ read = let o = s.order in omega arith in
-        is ∙ sym (get_or-drop written buffer (read - written) 0 ∙ ap (λ (m : ℕ). get_or buffer m 0) k) ∙ ap (λ (xs : List ℕ). get_or xs (read - written) 0) s.rest
-        ∙ get_or-drop written before (read - written) 0 ∙ ap (λ (m : ℕ). get_or before m 0) k ∙ sym (get_or-take end before read 0 here)
+        grind (arith, get_or-drop, get_or-take)
 
     -- where a block is broken
     module _ (broken : end - read < code) where
@@ -84,24 +83,14 @@ module _ (before : List ℕ) (end : ℕ) (buffer : List ℕ) (read written : ℕ
   left-is =
       let w = s.within in
       let sum : end ≡ read + (end - read) = omega arith in
-      ap (take (end - read)) (drop-later written read buffer before s.order s.rest)
-      ∙ sym (ap (λ (k : ℕ). drop read (take k before)) sum ∙ drop-take read (end - read) before)
+      grind (arith, drop-later, drop-take)
 
   pub left-nonzero : HasNoZero (take end before) → HasNoZero (take (end - read) (drop read buffer))
   left-nonzero none = subst HasNoZero (sym left-is) (All-drop (λ byte. byte ≢ 0) read (take end before) none)
 
   -- where no block is whole
   pub left-broken : read < end → length (take (end - read) (drop read buffer)) < get_or (take (end - read) (drop read buffer)) 0 0 → end - read < get_or buffer read 0
-  left-broken here broken =
-      let w = s.within in
-      let f = s.fits in
-      let l = s.len in
-      let d = length-drop read buffer in
-      let n = length-take-le (end - read) (drop read buffer) (omega arith) in
-      let k : read + 0 ≡ read = omega arith in
-      let code : get_or (take (end - read) (drop read buffer)) 0 0 ≡ get_or buffer read 0 =
-      get_or-take (end - read) (drop read buffer) 0 0 (omega arith) ∙ get_or-drop read buffer 0 0 ∙ ap (λ (j : ℕ). get_or buffer j 0) k in
-      omega arith
+  left-broken here broken = grind (arith, length-drop, length-take-le, get_or-take, get_or-drop)
 
   -- a stretch of whole blocks
   module _ (none : HasNoZero (take end before)) (len : ℕ) (p : List ℕ) (some : 0 < len) (fits : len ≤ length (take (end - read) (drop read buffer))) (p-is : p ≡ take len (take (end - read) (drop read buffer)))
@@ -136,32 +125,13 @@ module _ (before : List ℕ) (end : ℕ) (buffer : List ℕ) (read written : ℕ
       after-front = ap (take (written + w)) after-is ∙ take-past (take written buffer) new written w (written + w) done-long refl ∙ ap (λ (x : List ℕ). take written buffer ++ x) begins
 
       after-rest : drop (written + w) (put_mid written k buffer new) ≡ drop (written + w) before
-      after-rest =
-          ap (drop (written + w)) after-is ∙ drop-past (take written buffer) new written w (written + w) done-long refl ∙ rest-is
-          ∙ drop-drop w written buffer ∙ drop-later written (written + w) buffer before (omega arith) s.rest
+      after-rest = grind (arith, after-is, drop-past, done-long, drop-drop, drop-later)
 
       pub after-len : length (put_mid written k buffer new) ≡ length before
-      after-len =
-          let d = done-long in
-          let l = s.len in
-          let o = s.order in
-          let i = s.within in
-          let f = s.fits in
-          ap length after-is ∙ length-append (take written buffer) new ∙ omega arith
+      after-len = grind (arith, done-long, after-is, length-append)
 
       blocks-after : (done joint : List ℕ) → joint ≡ joins (code_of (last_part p)) q → done ≡ (take written buffer ++ output p) ++ joint → BlocksRead (take end before) done (read + len)
-      blocks-after done joint joint-is done-is =
-          let f = in_front p q (let l = p-long in omega arith) stretch-nonzero whole in
-          let along : (xs : List ℕ) → take written buffer ++ (output p ++ (joins (code_of (last_part p)) q ++ xs)) ≡ done ++ xs =
-          λ xs. (sym (append_assoc (take written buffer) (output p) (joins (code_of (last_part p)) q ++ xs))
-          ∙ ap (λ (x : List ℕ). (take written buffer ++ output p) ++ (x ++ xs)) (sym joint-is)
-          ∙ sym (append_assoc (take written buffer ++ output p) joint xs) ∙ ap (λ (x : List ℕ). x ++ xs) (sym done-is)) in
-          record {
-            within = (let l = long in let m = left-long in let i = s.within in omega arith);
-            outs = s.blocks.outs ∙ ap (λ (x : List ℕ). take written buffer ++ x) (ap output split ∙ f.outs) ∙ along (output q);
-            kepts = s.blocks.kepts ∙ ap (λ (x : List ℕ). take written buffer ++ x) (ap kept_output split ∙ f.kepts) ∙ along (kept_output q);
-            whole = s.blocks.whole ∙ ap whole_left split ∙ f.whole;
-          }
+      blocks-after done joint joint-is done-is = grind (arith, in_front, p-long, stretch-nonzero, joins, append_assoc, long, left-long, split, whole_left)
 
       -- no zero is due
       pub stretch-last : (end ≤ read + len) ⊎ (is_full (last_part p) ≡ true) → DecodedInPlace before end (put_mid written k buffer new) (read + len) (written + w)

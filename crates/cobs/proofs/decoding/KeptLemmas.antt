@@ -39,13 +39,11 @@ module _ (code : ℕ) (bytes : List ℕ) where
   output-part [] fits is =
       let d = length-drop (code - 1) bytes in
       let l = ap length is in
-      output-last code bytes (omega arith) ∙ sym (take_all (code - 1) bytes (omega arith)) ∙ sym (append-nil (take (code - 1) bytes))
-      ∙ ap (λ (x : List ℕ). take (code - 1) bytes ++ x) (sym (output-empty [] refl))
+      grind (arith, length-drop, output-last, take_all, append-nil, output-empty)
   output-part (byte ∷ rest) fits is =
       let d = length-drop (code - 1) bytes in
       let l = ap length is in
-      output-more code bytes (omega arith) ∙ ap (λ (x : List ℕ). (take (code - 1) bytes ++ joint_of code) ++ output x) is
-      ∙ append_assoc (take (code - 1) bytes) (joint_of code) (output (byte ∷ rest))
+      grind (arith, length-drop, output-more, joint_of, append_assoc)
 
   pub whole-part : (rest : List ℕ) → 0 < code → code - 1 ≤ length bytes → drop (code - 1) bytes ≡ rest → is_whole (code ∷ bytes) ≡ whole_left rest
   whole-part [] some fits is =
@@ -59,8 +57,7 @@ module _ (code : ℕ) (bytes : List ℕ) where
       ∙ sym (is_whole-of (byte ∷ rest) (omega arith))
 
   pub broken-part : length bytes < code - 1 → is_whole (code ∷ bytes) ≡ false
-  broken-part short =
-      is_whole-of (code ∷ bytes) (omega arith) ∙ ap (λ (x : List ℕ). eqb (lacks x) 0) (last_part-last code bytes (omega arith)) ∙ ne_eqb (lacks (code ∷ bytes)) 0 (λ e. omega arith)
+  broken-part short = grind (arith, is_whole-of, last_part-last, ne_eqb)
 
   pub kept-part : (rest : List ℕ) → 0 < code → code - 1 ≤ length bytes → drop (code - 1) bytes ≡ rest → kept_output (code ∷ bytes) ≡ take (code - 1) bytes ++ (joins code rest ++ kept_output rest)
   kept-part [] some fits is =
@@ -91,10 +88,4 @@ module _ (code : ℕ) (bytes : List ℕ) where
       both false a b d = refl
 
   pub kept-broken : length bytes < code - 1 → kept_output (code ∷ bytes) ≡ []
-  kept-broken short =
-      let o = ap length (output-last code bytes (omega arith)) in
-      let last = ap (λ (x : List ℕ). length (bytes_of x)) (last_part-last code bytes (omega arith)) in
-      let none : length (output (code ∷ bytes)) - length (bytes_of (last_part (code ∷ bytes))) ≡ 0 = omega arith in
-      kept-is (code ∷ bytes)
-      ∙ ap (λ (v : Bool). cond v (output (code ∷ bytes)) (take (length (output (code ∷ bytes)) - length (bytes_of (last_part (code ∷ bytes)))) (output (code ∷ bytes)))) (broken-part short)
-      ∙ ap (λ (k : ℕ). take k (output (code ∷ bytes))) none
+  kept-broken short = grind (arith, output-last, last_part-last, kept-is, broken-part)

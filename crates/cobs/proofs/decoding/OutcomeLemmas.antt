@@ -1,5 +1,5 @@
 -- What a whole piece comes to, and the first piece of a stream.
-use Rattle.std.proofs.Common.{◌≡◌, ◌≢◌, ℕ, zero, suc, ◌-◌, ◌<◌, ◌≤◌, ◌==◌, ◌↔◌, true, false, List, [], ◌∷◌, ◌++◌, length, filter, All, Some, if◌then◌else◌, refl, sym, ap, ◌∙◌, subst, arith, length-append, ⊎_elim}
+use Rattle.std.proofs.Common.{◌≡◌, ◌≢◌, ℕ, zero, suc, ◌-◌, ◌<◌, ◌≤◌, ◌==◌, ◌↔◌, true, false, List, [], ◌∷◌, ◌++◌, length, filter, All, Some, if◌then◌else◌, refl, sym, ap, ◌∙◌, subst, arith, length-append}
 use Rattle.std.specs.List.{concat, onto_first}
 use Rattle.std.proofs.lemmas.Bool.{cases_Bool, cases_eq, ne_eqb, le-leb}
 use Rattle.std.proofs.lemmas.List.Elements.{All-head, All-tail, All-cons, All-nil, All-weaker}
@@ -93,11 +93,7 @@ head_all P (byte ∷ bytes) h = grind (arith, All-nil, head-cons, All-cons, All-
 pub length-head : (t : List ℕ) → length (head t) ≤ length t
 unfolding head
 length-head [] = omega arith
-length-head (byte ∷ bytes) =
-    ⊎_elim
-    (λ (e : byte ≡ 0). subst (λ (x : ℕ). length (head (x ∷ bytes)) ≤ length (x ∷ bytes)) (sym e) (omega arith))
-    (λ (some : byte ≢ 0). let k = length-head bytes in omega (arith, ap length (head-cons byte bytes some)))
-    (cases_eq byte 0)
+length-head (byte ∷ bytes) = grind (arith, head-cons, cases_eq, length-head bytes)
 
 -- the first piece of a stream that begins with one
 first_found-onto : (x : ℕ) (parts : List (List ℕ)) → first_found (filter is_nonempty (onto_first x parts)) ≡ Some (x ∷ first_of parts)

@@ -42,8 +42,7 @@ module _ (source p : List ℕ) (n : ℕ) (some : 0 < length source) (is : first_
   decode_answer-refused error e = ap (reported (len_through_piece source p)) (sym e ∙ result-is) ∙ decode_answer-some source p n some is
 
   pub decode_answer-decoded : (size parsed : ℕ) → result ≡ Ok size → parsed ≡ len_through_piece source p → (report : DecodeReport) → report ≡ report_of parsed size → Ok report ≡ decode_answer source n
-  decode_answer-decoded size parsed e count report r =
-      ap Ok (r ∙ ap (λ (k : ℕ). report_of k size) count) ∙ ap (reported (len_through_piece source p)) (sym e ∙ result-is) ∙ decode_answer-some source p n some is
+  decode_answer-decoded size parsed e count report r = grind (arith, decode_answer-some)
 
 -- a buffer over which nothing is written
 pub overwritten-none : (buffer : List ℕ) → overwritten buffer [] ≡ buffer

@@ -1,5 +1,5 @@
 -- A piece is its first part and what follows it: what that says of its output and of its last part.
-use Rattle.std.proofs.Common.{◌≡◌, ◌≢◌, ℕ, zero, suc, ◌+◌, ◌-◌, ◌/◌, ◌⊎◌, ◌<◌, ◌≤◌, eqb, List, [], ◌∷◌, ◌++◌, length, take, drop, replicate, if◌then◌else◌, ◌==◌, refl, ap, ◌∙◌, inl, inr, arith, length-append, take_all, length-take-le, length-drop, get_or}
+use Rattle.std.proofs.Common.{◌≡◌, ◌≢◌, ℕ, zero, suc, ◌+◌, ◌-◌, ◌/◌, ◌⊎◌, ◌<◌, ◌≤◌, eqb, List, [], ◌∷◌, ◌++◌, length, take, drop, replicate, if◌then◌else◌, ◌==◌, refl, ap, ◌∙◌, arith, length-append, take_all, length-take-le, length-drop, get_or}
 use Rattle.std.proofs.lemmas.List.{drop-drop, drop_more}
 use Rattle.std.proofs.lemmas.Bool.{cases_lt, cases_eq, ne_eqb, eq-eqb}
 use Rattle.cobs.specs.Grammar.{bytes_of, joint, message_of, last_of}
@@ -63,8 +63,7 @@ parts_after-none (suc n) (x ∷ p) h = parts_after-none n p (omega arith)
 
 pub last_part-last : (code : ℕ) (bytes : List ℕ) → length bytes ≤ code - 1 → last_part (code ∷ bytes) ≡ code ∷ bytes
 unfolding last_part parts parts_after
-last_part-last code bytes short =
-    ap (λ (x : List (List ℕ)). last_of ((code ∷ take (code - 1) bytes) ∷ x)) (parts_after-none (code - 1) bytes short) ∙ ap (λ (x : List ℕ). code ∷ x) (take_all (code - 1) bytes short)
+last_part-last code bytes short = grind (arith, parts_after-none, take_all)
 
 pub is_whole-of : (p : List ℕ) → 0 < length p → is_whole p ≡ eqb (lacks (last_part p)) 0
 unfolding is_whole
@@ -73,9 +72,7 @@ is_whole-of (x ∷ p) h = refl
 
 pub last_part-ones : (n : ℕ) (p : List ℕ) → 0 < length p → last_part (replicate n 1 ++ p) ≡ last_part p
 last_part-ones zero p some = refl
-last_part-ones (suc n) p some =
-    let l = length-append (replicate n 1) p in
-    last_part-more 1 (replicate n 1 ++ p) (omega arith) ∙ last_part-ones n p some
+last_part-ones (suc n) p some = grind (arith, length-append, last_part-more, last_part-ones n p some)
 
 -- an output is at most one byte in 255 shorter than its piece, and one
 long_step : (code : ℕ) (bytes : List ℕ) → code - 1 < length bytes → length (drop (code - 1) bytes) ≤ length (output (drop (code - 1) bytes)) + 1 + length (drop (code - 1) bytes) / 255
@@ -85,10 +82,7 @@ long_step code bytes more ih = grind (arith, output-more, length-append, joint_o
 long_by : (n : ℕ) (p : List ℕ) → length p ≤ n → length p ≤ length (output p) + 1 + length p / 255
 long_by n [] h = omega arith
 long_by zero (code ∷ bytes) h = absurd (omega arith)
-long_by (suc n) (code ∷ bytes) h = elim (cases_lt (code - 1) (length bytes)) [
-  | inl more ↦ long_step code bytes more (long_by n (drop (code - 1) bytes) (let d = length-drop (code - 1) bytes in omega arith))
-  | inr short ↦ (let e = ap length (output-last code bytes short) in omega arith)
-]
+long_by (suc n) (code ∷ bytes) h = grind (arith, cases_lt, long_step, length-drop, output-last, long_by n)
 
 le_step : (code : ℕ) (bytes : List ℕ) → code - 1 < length bytes → length (output (drop (code - 1) bytes)) + 1 ≤ length (drop (code - 1) bytes) → length (output (code ∷ bytes)) + 1 ≤ length (code ∷ bytes)
 le_step code bytes more ih = grind (arith, output-more, length-append, joint_of, length-take-le, length-drop, joint-length)
@@ -96,10 +90,7 @@ le_step code bytes more ih = grind (arith, output-more, length-append, joint_of,
 le_by : (n : ℕ) (p : List ℕ) → length p ≤ n → 0 < length p → length (output p) + 1 ≤ length p
 le_by n [] h some = absurd (omega arith)
 le_by zero (code ∷ bytes) h some = absurd (omega arith)
-le_by (suc n) (code ∷ bytes) h some = elim (cases_lt (code - 1) (length bytes)) [
-  | inl more ↦ le_step code bytes more (let d = length-drop (code - 1) bytes in le_by n (drop (code - 1) bytes) (omega arith) (omega arith))
-  | inr short ↦ (let e = ap length (output-last code bytes short) in omega arith)
-]
+le_by (suc n) (code ∷ bytes) h some = grind (arith, cases_lt, le_step, length-drop, output-last, le_by n)
 
 -- an output is shorter than its piece
 pub output-le : (p : List ℕ) → 0 < length p → length (output p) + 1 ≤ length p

@@ -78,8 +78,7 @@ message_of-grown_more (part ∷ next ∷ more) b h = grind (arith, message_of-co
 pub last_of-grown_more : (more : List (List ℕ)) (b : ℕ) → 0 < lacks (last_of more) → last_of (grown more b) ≡ last_of more ++ b ∷ []
 last_of-grown_more [] b h = absurd (omega arith)
 last_of-grown_more (part ∷ []) b h = ap last_of (grown-last part b h)
-last_of-grown_more (part ∷ next ∷ more) b h =
-    last_of-cons part (grown (next ∷ more) b) (length-grown (next ∷ more) b) ∙ last_of-grown_more (next ∷ more) b h
+last_of-grown_more (part ∷ next ∷ more) b h = grind (arith, last_of-cons, length-grown, last_of-grown_more (next ∷ more) b h)
 
 -- the last part lacks nothing: the byte is the code of the next one
 pub message_of-grown_next : (part : List ℕ) (more : List (List ℕ)) (b : ℕ) → lacks (last_of (part ∷ more)) ≡ 0 → message_of (grown (part ∷ more) b) ≡ message_of (part ∷ more) ++ joint (last_of (part ∷ more))
@@ -88,8 +87,7 @@ message_of-grown_next part (next ∷ more) b h = grind (arith, message_of-cons, 
 
 pub last_of-grown_next : (part : List ℕ) (more : List (List ℕ)) (b : ℕ) → lacks (last_of (part ∷ more)) ≡ 0 → last_of (grown (part ∷ more) b) ≡ b ∷ []
 last_of-grown_next part [] b h = ap last_of (grown-cons part [] b h)
-last_of-grown_next part (next ∷ more) b h =
-    last_of-cons part (grown (next ∷ more) b) (length-grown (next ∷ more) b) ∙ last_of-grown_next next more b h
+last_of-grown_next part (next ∷ more) b h = grind (arith, last_of-cons, length-grown, last_of-grown_next next more b h)
 
 -- The step lemma, by what the last part of p lacks
 

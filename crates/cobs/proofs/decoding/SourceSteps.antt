@@ -89,9 +89,7 @@ module _ (source : List ℕ) (s : ℕ) (old dest : List ℕ) (read written : ℕ
     all-buffer = overwritten-front old dest (kept_output h) written d.len d.room d.rest kept
 
     pub all-count : Ok written ≡ head_answer_within h (length old)
-    all-count =
-        ap Ok (sym done-long) ∙ all-answer h (take written dest) read d.blocks (let l = long in omega arith)
-        ∙ answer-fits h (length old) (let k = ap length kept in let l = done-long in let r = d.room in omega arith)
+    all-count = grind (arith, done-long, all-answer, long, answer-fits, kept)
 
   module _ (code : ℕ) (more : read < length source) (is : code ≡ bit_xor (get_or source read 0) s) where
     here : read < length h
@@ -111,6 +109,4 @@ module _ (source : List ℕ) (s : ℕ) (old dest : List ℕ) (read written : ℕ
       broken-buffer = overwritten-front old dest (kept_output h) written d.len d.room d.rest kept-is
 
       pub broken-count : Err (InvalidFrame written) ≡ head_answer_within h (length old)
-      broken-count =
-          ap (λ (n : ℕ). Err (InvalidFrame n)) (sym done-long) ∙ broken-answer h (take written dest) read d.blocks code here code-is broken-long
-          ∙ answer-fits h (length old) (let k = ap length kept-is in let l = done-long in let r = d.room in omega arith)
+      broken-count = grind (arith, done-long, broken-answer, here, code-is, broken-long, answer-fits, kept-is)

@@ -1,5 +1,5 @@
 -- What a buffer as long as the source holds once the source is decoded into it.
-use Rattle.std.proofs.Common.{◌≡◌, ◌≢◌, ℕ, zero, suc, ◌<◌, ◌≤◌, Bool, true, false, List, [], ◌∷◌, length, take, drop, Option, Some, None, Result, Ok, Err, if◌then◌else◌, refl, sym, ap, ◌∙◌, subst, arith, take_at, take_all, length-take, ◌-◌}
+use Rattle.std.proofs.Common.{◌≡◌, ◌≢◌, ℕ, zero, suc, ◌<◌, ◌≤◌, Bool, true, false, List, [], ◌∷◌, length, take, Option, Some, None, Result, Ok, Err, if◌then◌else◌, refl, sym, ap, ◌∙◌, arith, take_at, take_all, length-take, ◌-◌}
 use Rattle.std.proofs.lemmas.Bool.{le-leb}
 use Rattle.std.specs.Result.{result_map_both}
 use Rattle.cobs.specs.Overwritten.{overwritten}
@@ -16,8 +16,7 @@ use Rattle.cobs.proofs.decoding.SourceSteps.{answer-fits}
 
 -- a buffer that has room begins with what is written
 overwritten-begins : (buffer bytes : List ℕ) → length bytes ≤ length buffer → take (length bytes) (overwritten buffer bytes) ≡ bytes
-overwritten-begins buffer bytes fits =
-    take_at (take (length buffer) bytes) (drop (length bytes) buffer) (length bytes) (ap length (take_all (length buffer) bytes fits)) ∙ take_all (length buffer) bytes fits
+overwritten-begins buffer bytes fits = grind (arith, take_at, take_all)
 
 -- the first piece is no longer than the stream
 first_piece_within : (t p : List ℕ) → first_piece t ≡ Some p → length p ≤ length t
@@ -73,13 +72,11 @@ module _ (source : List ℕ) (n : ℕ) (room : n ≡ length source) where
       nonempty (b ∷ s) some = refl
 
   pub decoded-refused : (error : DecodeError) → 0 < length source → Err error ≡ decode_answer source n → Refused (decoded source) error
-  decoded-refused error some e =
-      subst (λ (a : Result (List ℕ) DecodeError). Refused a error) (sym (decoded-is some)) (piece-refused error (first_piece source) refl (e ∙ answer-is some))
+  decoded-refused error some e = grind (arith, decoded-is, piece-refused, answer-is)
 
   pub decoded-message : (report : DecodeReport) (old new : List ℕ) → 0 < length source → length old ≡ n → Ok report ≡ decode_answer source n → new ≡ overwritten old (first_output source)
       → decoded source ≡ Ok (take (frame_size_of report) new)
-  decoded-message report old new some long e is =
-      decoded-is some ∙ piece-message report old (first_piece source) refl long (e ∙ answer-is some) ∙ ap (λ (x : List ℕ). Ok (take (frame_size_of report) x)) (sym is)
+  decoded-message report old new some long e is = grind (arith, decoded-is, piece-message, answer-is)
 
 -- WHAT STANDS BEFORE THE FIRST ZERO
 
@@ -127,10 +124,7 @@ module _ (source : List ℕ) (n : ℕ) (room : n ≡ length source) where
       cases : (w : Bool) → Ok size ≡ result_map_both length (λ (e : DecodeError). e) (if w then Ok (output p) else Err (InvalidFrame (length (if w then output p else cut))))
           → (if w then Ok (output p) else Err (InvalidFrame (length (if w then output p else cut)))) ≡ Ok (take size (overwritten old (if w then output p else cut)))
       cases false e' = absurd (cc)
-      cases true e' =
-          let is : size ≡ length (output p) = cc in
-          let o = output_within p in
-          ap Ok (sym (overwritten-begins old (output p) (omega arith))) ∙ ap (λ (k : ℕ). Ok (take k (overwritten old (output p)))) (sym is)
+      cases true e' = grind (arith, output_within, overwritten-begins)
 
   pub decoded_head-message : (size : ℕ) (old new : List ℕ) → 0 < length source → length old ≡ n → Ok size ≡ source_answer source n → new ≡ overwritten old (kept_output (head source))
       → decoded_head source ≡ Ok (take size new)

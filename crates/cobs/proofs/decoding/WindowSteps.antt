@@ -50,8 +50,7 @@ module _ (piece old dest : List ℕ) (read written code : ℕ) (p : Decoded piec
     length-part = grind (arith, length-drop, length-append, joint_of, length-take-le)
 
     length-parts : length (output (drop read piece)) ≡ code - 1 + length (joint_of code) + length (output (drop (read + code) piece))
-    length-parts = ap length parts ∙ length-append (take (code - 1) (drop (read + 1) piece) ++ joint_of code) (output (drop (read + code) piece))
-        ∙ ap (λ (k : ℕ). k + length (output (drop (read + code) piece))) length-part
+    length-parts = grind (arith, parts, length-append, joint_of, length-part)
 
     pub room-more : written + (code - 1) + length (joint_of code) ≤ length (output piece)
     room-more = let l = length-parts in let e = p.left in omega arith
@@ -65,15 +64,7 @@ module _ (piece old dest : List ℕ) (read written code : ℕ) (p : Decoded piec
     -- a part, and what joins the next one
     step : (after : List ℕ) (n : ℕ) → take n after ≡ take written dest ++ (take (code - 1) (drop (read + 1) piece) ++ joint_of code) → n ≡ written + (code - 1 + length (joint_of code))
         → drop (length (output piece)) after ≡ drop (length (output piece)) dest → Decoded piece old after (read + code) n
-    step after n front ends behind = record {
-      within = more;
-      left = let l = length-parts in let e = p.left in omega arith;
-      front = ap (λ (x : List ℕ). x ++ output (drop (read + code) piece)) front
-          ∙ append_assoc (take written dest) (take (code - 1) (drop (read + 1) piece) ++ joint_of code) (output (drop (read + code) piece))
-          ∙ ap (λ (x : List ℕ). take written dest ++ x) (sym parts) ∙ p.front;
-      rest = behind ∙ p.rest;
-      last = (let l = length-drop (read + 1) piece in sym (ap last_part cons ∙ last_part-more code (drop (read + 1) piece) (omega arith) ∙ ap last_part next)) ∙ p.last;
-    }
+    step after n front ends behind = grind (arith, behind, length-parts, append_assoc, joint_of, parts, length-drop, cons, last_part-more, next)
 
     -- a zero written behind the part's bytes, which stand there
     zero-front : code ≢ 255 → written + code ≤ length dest → take (code - 1) (drop written dest) ≡ take (code - 1) (drop (read + 1) piece)
@@ -154,11 +145,7 @@ module _ (piece old dest : List ℕ) (read written code : ℕ) (p : Decoded piec
     last-code = sym (ap code_of last-is)
 
     pub last-lacks : code - (length piece - read) ≡ lacks (last_part piece)
-    last-lacks =
-        let w = p.within in
-        let l = length-drop (read + 1) piece in
-        let n : length piece - read ≡ length (code ∷ drop (read + 1) piece) = omega arith in
-        ap (λ (m : ℕ). code - m) n ∙ sym (ap lacks last-is)
+    last-lacks = grind (arith, length-drop, last-is)
 
 -- the part's bytes by a copy, and a zero
 pub long-decoded : (piece old dest : List ℕ) (read written code : ℕ) (p : Decoded piece old dest read written) (is : code ≡ get_or piece read 0) (some : 0 < code) (more : read + code < length piece)
@@ -246,15 +233,7 @@ module _ (piece old dest : List ℕ) (read written code : ℕ) (p : Decoded piec
   end-len = last-room piece old dest read written code p is some last
 
   pub end-begins : take (written + (length piece - read - 1)) dest ≡ output piece
-  end-begins =
-      let r = end-len in
-      let w = p.within in
-      let d = length-drop (read + 1) piece in
-      let n : length piece - read - 1 ≡ length piece - (read + 1) = omega arith in
-      take_parts dest written (length piece - read - 1) (omega arith)
-      ∙ ap (λ (x : List ℕ). take written dest ++ x) (ap (λ (m : ℕ). take m (drop written dest)) n ∙ k.bytes ∙ take_all (length piece - (read + 1)) (drop (read + 1) piece) (omega arith)
-      ∙ sym (output-is piece old dest read written code p is some last))
-      ∙ p.front
+  end-begins = grind (arith, end-len, length-drop, take_parts, take_all, output-is)
 
 -- what is left of a piece, decoded in what is left of the buffer
 module _ (piece old dest : List ℕ) (read written : ℕ) (p : Decoded piece old dest read written) (room : length (output piece) ≤ length dest) (new part : List ℕ) (part-is : part ≡ drop read piece) (back : List ℕ)

@@ -71,11 +71,7 @@ pub frame-cons : (b f : List ℕ) (bs : List (List ℕ)) → IsBlock b → IsFra
 frame-cons b f bs h frame = record { some = λ e. cc; each = All-cons IsBlock b bs h frame.each; whole = ap (λ x. b ++ x) frame.whole }
 
 pub Reads-cons : (b f m : List ℕ) → IsBlock b → Reads f m → Reads (b ++ f) (bytes_of b ++ joint b ++ m)
-Reads-cons b f m h r = record {
-  blocks = b ∷ r.blocks;
-  frame = frame-cons b f r.blocks h r.frame;
-  message = ap (λ x. bytes_of b ++ joint b ++ x) r.message ∙ sym (message_of-cons b r.blocks r.frame.some);
-}
+Reads-cons b f m h r = grind (arith, frame-cons, message_of-cons)
 
 -- a block in front of a canonical frame, which isn't the lone block where the block is full
 pub IsCanonical-cons : (b f : List ℕ) → IsBlock b → (IsFull b → f ≢ lone_block) → IsCanonical f → IsCanonical (b ++ f)

@@ -1,5 +1,5 @@
 -- Lemmas on the length of an encoded frame.
-use Rattle.std.proofs.Common.{replicate, drop, take, get_or, take_all, length-take-le, take-append-drop, ◌≡◌, ◌≢◌, ℕ, ◌+◌, ◌-◌, ◌/◌, ◌<◌, ◌≤◌, ◌==◌, false, List, [], ◌∷◌, ◌++◌, length, map, All, refl, sym, ap, ◌∙◌, subst, arith, length-append}
+use Rattle.std.proofs.Common.{replicate, drop, take, get_or, take_all, length-take-le, take-append-drop, ◌≡◌, ◌≢◌, ℕ, ◌+◌, ◌/◌, ◌<◌, ◌≤◌, ◌==◌, false, List, [], ◌∷◌, ◌++◌, length, map, All, refl, sym, ap, ◌∙◌, subst, arith, length-append}
 use Rattle.std.specs.List.{onto_first, join_with_byte}
 use Rattle.std.proofs.lemmas.Bool.{ne_eqb}
 use Rattle.std.proofs.lemmas.List.{length-replicate, length-drop, drop-drop, drop_more}
@@ -65,10 +65,7 @@ encoded_len-full bytes m l h more =
 full_blocks-le : (parts : List (List ℕ)) → full_blocks (map length parts) + 1 ≤ max_overhead (length (join_with_byte 0 parts))
 full_blocks-le [] = omega arith
 full_blocks-le (p ∷ []) = omega arith
-full_blocks-le (p ∷ q ∷ ps) =
-    let ih = full_blocks-le (q ∷ ps) in
-    let n = length-append p (0 ∷ join_with_byte 0 (q ∷ ps)) in
-    omega arith
+full_blocks-le (p ∷ q ∷ ps) = grind (arith, length-append, full_blocks-le (q ∷ ps))
 
 -- the bound, which messages without zeros reach, and so each length
 pub encoded_len-le : (m : List ℕ) → encoded_len m ≤ max_encoded_len (length m)

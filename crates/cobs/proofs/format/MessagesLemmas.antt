@@ -46,8 +46,7 @@ room-some vectors i = subst (λ (x : List (List ℕ)). room_for_frames x ≤ roo
 -- the room behind one of the vectors
 pub room-step : (vectors : List (Vec ℕ)) (i : ℕ) (vector : Vec ℕ) → i < length vectors → vector ≡ get_or vectors i vector
     → room_for_frames (messages_in (take (i + 1) vectors)) ≡ room_for_frames (messages_in (take i vectors)) + (max_encoded_len (length vector.items) + 1)
-room-step vectors i vector within is =
-    room-more vectors i vector within ∙ ap (λ (v : Vec ℕ). room_for_frames (messages_in (take i vectors)) + (max_encoded_len (length v.items) + 1)) (sym is)
+room-step vectors i vector within is = grind (arith, room-more)
 
 -- behind the frames of some of the messages there is room for the next one's frame and a zero
 pub room-left : (vectors : List (Vec ℕ)) (i : ℕ) (vector : Vec ℕ) (end n : ℕ) → i < length vectors → vector ≡ get_or vectors i vector → end ≤ room_for_frames (messages_in (take i vectors)) → room_for_frames (messages_in vectors) ≤ n

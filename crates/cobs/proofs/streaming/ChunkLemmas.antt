@@ -110,6 +110,4 @@ module _ (before : List ℕ) (phase : Phase) (stretch : List ℕ) (base : ℕ) w
     marked-end full next dest behind marked =
         let m : MarkedTo (length stretch) full next dest = to (length stretch) full next dest marked marked.1.within behind (omega arith) in
         let phase' : Phase = phase_with full (next - length stretch) (base + length stretch) in
-        subst (λ (z : List ℕ). FedInTurn before phase stretch z phase')
-        (sym (m.is ∙ ap (λ (z : List ℕ). m.front ++ (z ++ drop (base + length stretch) before)) (drop_all (length stretch) stretch (omega arith))))
-        (subst (λ (z : List ℕ). FedInTurn before phase z (m.front ++ drop (base + length stretch) before) phase') (take_all (length stretch) stretch (omega arith)) m.fed)
+        grind (arith, to, drop_all, take_all)

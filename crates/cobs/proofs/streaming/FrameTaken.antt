@@ -124,10 +124,7 @@ module _ (buffer buffer' f more : List ℕ) (phase phase' : Phase) (idle : phase
       some end k = Some (end, k)
 
       by_end : (end : PieceEnd) → IsWithin (length buffer) end → outcome_at end buffer' ≡ Message m → count ≡ length f + 1 → (some end count ≡ some (ends.Message (length m)) (length f + 1)) × (take (length m) buffer' ≡ m)
-      by_end (ends.Message n) small e is =
-          let front : take n buffer' ≡ m = cc in
-          let len : n ≡ length m = sym (length-take-le n buffer' (omega (arith, t.takes.len, small))) ∙ ap length front in
-          (ap (λ (k : ℕ). some (ends.Message k) count) len ∙ ap (λ (k : ℕ). some (ends.Message (length m)) k) is, ap (λ (k : ℕ). take k buffer') (sym len) ∙ front)
+      by_end (ends.Message n) small e is = grind (arith, length-take-le)
       by_end (ends.Broken k) small e is = absurd cc
       by_end ends.TooLong small e is = absurd cc
 

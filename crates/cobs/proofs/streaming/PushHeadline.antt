@@ -38,8 +38,7 @@ module _ (f : List ℕ) (n : ℕ) (piece : IsPiece f) where
       let byte : get_or (f ++ 0 ∷ []) place 0 ≡ get_or f place 0 = get_or_append_left f (0 ∷ []) 0 place within in
       let more = ap (λ (x : List ℕ). length (output x)) (take_more f place 0 within) in
       let below = output-take f (place + 1) in
-      ap (λ (x : List ℕ). answer_to x (get_or (f ++ 0 ∷ []) place 0) n) same ∙ ap (λ (b : ℕ). answer_to (take place f) b n) byte
-      ∙ answer_to-quiet (take place f) (get_or f place 0) n (All-get_or (λ b. b ≢ 0) f place 0 within piece.1) (omega arith)
+      grind (arith, take-append-le, unended-no_zero, All-take, get_or_append_left, take_more, output-take, answer_to-quiet, All-get_or)
 
   -- a front of the piece alone has no outcome
   no_outcome : (k : ℕ) → k ≤ length f → stream_outcomes (take k (f ++ 0 ∷ [])) n ≡ []
@@ -65,10 +64,7 @@ module _ (buffer bytes buffer' f : List ℕ) (phase phase' : Phase) (idle : phas
       let k = parsed_size_of report in
       let n = length buffer in
       let o : stream_outcomes (take k (f ++ 0 ∷ [])) n ≡ Message (take (frame_size_of report) buffer') ∷ [] = ap (λ (x : List ℕ). stream_outcomes (take k x) n) (sym is) ∙ w.outcomes [] (DecoderAfter-idle buffer phase idle) in
-      ⊎_elim
-      (λ (all : length f < k). let one = one_outcome f n piece k all in cc)
-      (λ (short : k ≤ length f). absurd (let none = no_outcome f n piece k short in cc))
-      (cases_lt (length f) k)
+      grind (arith, DecoderAfter-idle, one_outcome, no_outcome, cases_lt)
 
   pushes_from : length (output f) ≤ length buffer → (result : Result (Option DecodeReport) PushError) → PushesBytes buffer phase bytes result buffer' phase' → PushesMessage result buffer' m → Reads f m
   pushes_from fits (Ok None) w h = absurd h

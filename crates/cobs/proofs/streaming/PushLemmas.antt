@@ -8,7 +8,7 @@ use Rattle.cobs.specs.Grammar.{HasNoZero, last_of}
 use Rattle.cobs.specs.Piece.{output, parts, parts_after}
 use Rattle.cobs.specs.Stream.{stretches, is_nonempty, but_last, ended_pieces, unended, Message, outcome_of, stream_outcomes}
 use Rattle.cobs.specs.Overwritten.{overwritten}
-use Rattle.cobs.specs.Feed.{Phase, Idle, PhaseAfter, DecoderAfter, fed, told, answer_at_end, answer_to, Feeds}
+use Rattle.cobs.specs.Feed.{Phase, Idle, PhaseAfter, DecoderAfter, fed, answer_at_end, answer_to, Feeds}
 use Rattle.cobs.specs.Push.{FeedsInTurn, last_piece, answer_at, IsQuiet, StopsAfter, refused_outcomes, PushesBytes}
 use Rattle.cobs.specs.Fields.Report.{report_of}
 use Rattle.cobs.specs.declared.dec.DecodeError.{DecodeError}
@@ -102,8 +102,7 @@ FeedsInTurn-push : (xs buffer₀ : List ℕ) (phase₀ : Phase) {buffer buffer' 
     → FeedsInTurn buffer₀ phase₀ xs (Ok None) buffer phase → Feeds buffer phase byte answer buffer' phase' → FeedsInTurn buffer₀ phase₀ (xs ++ byte ∷ []) answer buffer' phase'
 FeedsInTurn-push [] buffer₀ phase₀ {buffer} {buffer'} {phase} {phase'} {byte} {answer} f g = grind arith
 FeedsInTurn-push (x ∷ []) buffer₀ phase₀ {buffer} {buffer'} {phase} f g = (buffer, phase, f, g)
-FeedsInTurn-push (x ∷ y ∷ xs) buffer₀ phase₀ (between, phase_between, f, more) g =
-    (between, phase_between, f, FeedsInTurn-push (y ∷ xs) between phase_between more g)
+FeedsInTurn-push (x ∷ y ∷ xs) buffer₀ phase₀ (between, phase_between, f, more) g = grind (arith, FeedsInTurn-push (y ∷ xs) between phase_between more g)
 
 no_push : (front : List ℕ) (b : ℕ) → [] ≡ front ++ b ∷ [] → ⊥
 no_push [] b e = cc

@@ -8,10 +8,10 @@ use Rattle.cobs.specs.declared.dec.unbuffered.UnbufferedDecoder.{UnbufferedDecod
 use Rattle.std.proofs.lemmas.List.Elements.{All-head, All-tail}
 use Rattle.std.proofs.lemmas.Bool.{ne_eqb, lt-ltb}
 use Rattle.cobs.specs.Grammar.{HasNoZero}
-use Rattle.cobs.specs.Feed.{Phase, Idle, Within, Over, Feeds}
+use Rattle.cobs.specs.Feed.{Phase, Within, Feeds}
 use Rattle.cobs.specs.Fields.Decoders.{phase_of, phase_with}
 use Rattle.cobs.specs.Internal.FedInTurn.{FedInTurn}
-use Rattle.cobs.specs.Step.{grows, next_phase, next_buffer, next_answer, end_answer, if_over}
+use Rattle.cobs.specs.Step.{next_phase, next_buffer, next_answer}
 use Rattle.cobs.proofs.streaming.FeedLemmas.{Feeds-step}
 use Rattle.cobs.proofs.streaming.PushLemmas.{Pushed, Pushed-more}
 
@@ -39,12 +39,10 @@ over-push base buffer xs x room =
 
 module _ (n : ℕ) (full : Bool) (left count x : ℕ) (nz : 0 < x) (room : count < n) where
   phase_is : next_phase n (Within full (suc left) count) x ≡ Within full left (count + 1)
-  phase_is = ap (λ (v : Bool). cond v Idle (grows n full left count)) (ne_eqb x 0 (λ e. omega arith))
-      ∙ ap (λ (v : Bool). cond v (Within full left (count + 1)) Over) (lt-ltb count n room)
+  phase_is = grind (arith, ne_eqb, lt-ltb)
 
   answer_is : next_answer n (Within full (suc left) count) x ≡ Ok None
-  answer_is = ap (λ (v : Bool). cond v (end_answer n (Within full (suc left) count)) (if_over (next_phase n (Within full (suc left) count) x))) (ne_eqb x 0 (λ e. omega arith))
-      ∙ ap if_over phase_is
+  answer_is = grind (arith, ne_eqb, phase_is)
 
 -- THE BULK LEMMA: bytes of a block that fit are fed by one copy
 pub FedInTurn-within : (xs buffer : List ℕ) (full : Bool) (left count : ℕ) → HasNoZero xs → length xs ≤ left → count + length xs ≤ length buffer
@@ -107,12 +105,7 @@ begun true zero zero some = absurd (omega arith)
 -- bytes of the open block that fit, written behind what was written
 run_written : (full : Bool) (left count run : ℕ) (dest bytes : List ℕ) → 0 < run → run ≤ left → count + run ≤ length dest → run ≤ length bytes → HasNoZero (take run bytes)
     → FedInTurn dest (phase_with full left count) (take run bytes) (over count dest (take run bytes)) (phase_with full (left - run) (count + run))
-run_written full left count run dest bytes some most room within nz =
-    let long : length (take run bytes) ≡ run = length-take-le run bytes within in
-    let fed : FedInTurn dest (Within full left count) (take run bytes) (over count dest (take run bytes)) (Within full (left - length (take run bytes)) (count + length (take run bytes)))
-    = FedInTurn-within (take run bytes) dest full left count nz (omega arith) (omega arith) in
-    rw (begun full left count (omega arith), begun full (left - run) (count + run) (omega arith))
-    (subst (λ (k : ℕ). FedInTurn dest (Within full left count) (take run bytes) (over count dest (take run bytes)) (Within full (left - k) (count + k))) long fed)
+run_written full left count run dest bytes some most room within nz = grind (arith, length-take-le, FedInTurn-within, begun)
 
 over-put : (count run : ℕ) (buffer xs : List ℕ) → length xs ≡ run → over count buffer xs ≡ put_mid count (count + run - count) buffer xs
 over-put count run buffer xs e = ap (λ (l : List ℕ). take count buffer ++ (xs ++ l)) (ap (λ (k : ℕ). drop k buffer) (omega arith) ∙ sym (drop-drop (count + run - count) count buffer))

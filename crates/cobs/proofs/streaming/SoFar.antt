@@ -8,7 +8,7 @@ use Rattle.std.proofs.Math.Seq.{take-add}
 use Rattle.cobs.specs.Grammar.{HasNoZero}
 use Rattle.cobs.specs.Piece.{output}
 use Rattle.cobs.specs.Stream.{ended_pieces, unended, Outcome, Message, Broken, TooLong, outcome_of, stream_outcomes}
-use Rattle.cobs.specs.Feed.{Phase, PhaseAfter, DecoderAfter, Feeds, fed, told, answer_to, answer_at_end}
+use Rattle.cobs.specs.Feed.{Phase, PhaseAfter, DecoderAfter, Feeds, fed, answer_to, answer_at_end}
 use Rattle.cobs.specs.Push.{last_piece}
 use Rattle.cobs.specs.Internal.PieceEnds.{LeavesRest, outcome_told}
 use Rattle.cobs.specs.FeedPiece.{AreAlike, AreAlikeAtFirst, FeedsEach, TakesBytes, TakesPiece, outcome_at, IsWithin}

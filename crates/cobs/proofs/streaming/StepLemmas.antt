@@ -1,10 +1,10 @@
 -- One byte that is no zero, by the fields in which a streaming decoder keeps its phase.
-use Rattle.std.proofs.Common.{◌≡◌, ◌≢◌, ℕ, zero, suc, ◌+◌, ◌-◌, ◌<◌, Bool, true, false, cond, eqb, List, [], ◌∷◌, ◌++◌, length, set, refl, sym, ap, ◌∙◌, arith, None, Ok, Result, Option}
+use Rattle.std.proofs.Common.{◌≡◌, ◌≢◌, ℕ, zero, suc, ◌+◌, ◌-◌, ◌<◌, Bool, true, false, cond, eqb, List, [], ◌∷◌, ◌++◌, length, set, refl, ap, arith, None, Ok, Result, Option}
 use Rattle.std.proofs.lemmas.Bool.{ne_eqb, eqb-true, lt-ltb}
 use Rattle.cobs.specs.Feed.{Phase, Within, Over}
 use Rattle.cobs.specs.Fields.Decoders.{phase_with}
 use Rattle.cobs.specs.Internal.FedInTurn.{FedInTurn}
-use Rattle.cobs.specs.Step.{grows, next_phase, next_buffer, next_answer, end_answer, if_over}
+use Rattle.cobs.specs.Step.{grows, next_phase, next_buffer, next_answer, if_over}
 use Rattle.cobs.specs.declared.dec.DecodeError.{DecodeError}
 use Rattle.cobs.proofs.streaming.RunLemmas.{begun}
 use Rattle.cobs.proofs.streaming.StretchLemmas.{FedInTurn-append}
@@ -25,11 +25,7 @@ module _ (buffer : List ℕ) (x : ℕ) (nz : x ≢ 0) where
   is a b = ap (λ (v : Bool). cond v a b) (ne_eqb x 0 nz)
 
   leads : (phase phase' : Phase) (buffer' : List ℕ) → next_phase (length buffer) phase x ≡ phase' → next_buffer buffer phase x ≡ buffer' → Leads buffer phase x (if_over phase') buffer' phase'
-  leads phase phase' buffer' p b = record {
-    answer_is = is (end_answer (length buffer) phase) (if_over (next_phase (length buffer) phase x)) ∙ ap if_over p;
-    phase_is = p;
-    buffer_is = b;
-  }
+  leads phase phase' buffer' p b = grind (arith, is)
 
   room-grows : (full : Bool) (left count : ℕ) → count < length buffer → grows (length buffer) full left count ≡ Within full left (count + 1)
   room-grows full left count room = ap (λ (v : Bool). cond v (Within full left (count + 1)) Over) (lt-ltb count (length buffer) room)
@@ -46,5 +42,4 @@ module _ (buffer : List ℕ) (x : ℕ) (nz : x ≢ 0) where
 -- one more byte is fed
 pub fed-more : (xs buffer₀ buffer buffer' : List ℕ) (phase₀ phase phase' : Phase) (x : ℕ) → FedInTurn buffer₀ phase₀ xs buffer phase
     → Leads buffer phase x (Ok None) buffer' phase' → FedInTurn buffer₀ phase₀ (xs ++ x ∷ []) buffer' phase'
-fed-more xs buffer₀ buffer buffer' phase₀ phase phase' x f l =
-    FedInTurn-append xs (x ∷ []) buffer₀ buffer buffer' phase₀ phase phase' f (l.answer_is, (sym l.buffer_is, sym l.phase_is))
+fed-more xs buffer₀ buffer buffer' phase₀ phase phase' x f l = grind (arith, FedInTurn-append)

@@ -77,13 +77,7 @@ FedInTurn-on base buffer c q (x ∷ tail) h room =
     = step_at base buffer c q x _ _ refl refl (All-head (λ b. b ≢ 0) x tail h) (omega (arith, output-grows (c ∷ q ++ x ∷ []) tail)) in
     let again : FedInTurn (over base buffer (output (c ∷ q ++ x ∷ []))) (phase_at base (c ∷ q ++ x ∷ [])) tail (over base buffer (output ((c ∷ q ++ x ∷ []) ++ tail))) (phase_at base ((c ∷ q ++ x ∷ []) ++ tail))
     = FedInTurn-on base buffer c (q ++ x ∷ []) tail (All-tail (λ b. b ≢ 0) x tail h) fits in
-    let to : FedInTurn (over base buffer (output (c ∷ q ++ x ∷ []))) (phase_at base (c ∷ q ++ x ∷ [])) tail (over base buffer (output (c ∷ q ++ x ∷ tail))) (phase_at base (c ∷ q ++ x ∷ tail))
-    = subst (λ (z : List ℕ). FedInTurn (over base buffer (output (c ∷ q ++ x ∷ []))) (phase_at base (c ∷ q ++ x ∷ [])) tail (over base buffer (output z)) (phase_at base z)) same again in (
-      ap (λ (n : ℕ). next_answer n (phase_at base (c ∷ q)) x) long ∙ s.answer,
-      subst (λ (z : List ℕ). FedInTurn z (next_phase (length (over base buffer (output (c ∷ q)))) (phase_at base (c ∷ q)) x) tail (over base buffer (output (c ∷ q ++ x ∷ tail))) (phase_at base (c ∷ q ++ x ∷ tail))) (sym s.buffer_is)
-          (subst (λ (z : Phase). FedInTurn (over base buffer (output (c ∷ q ++ x ∷ []))) z tail (over base buffer (output (c ∷ q ++ x ∷ tail))) (phase_at base (c ∷ q ++ x ∷ tail)))
-          (sym (ap (λ (n : ℕ). next_phase n (phase_at base (c ∷ q)) x) long ∙ s.phase_is)) to),
-    )
+    grind (arith, append_assoc, over, length-over, output-grows, step_at, All-head, All-tail)
 
 -- where the output of a stretch begins that stands behind a block boundary
 abbrev pub base_of : Bool → ℕ → ℕ
@@ -165,10 +159,7 @@ blocks_fed inner code left dest dest₁ piece ys at written going boundary nz so
     ap (λ (k : ℕ). phase_at k piece) (sym at-is) ∙ sym (phase_with-at at piece (is_full (last_part piece)) (lacks (last_part piece)) some refl refl)
     ∙ ap (λ (v : Bool). phase_with v (lacks (last_part piece)) (at + length (output piece))) (sym (ap (λ (k : ℕ). eqb k 255) code-is))
     ∙ ap (λ (k : ℕ). phase_with (eqb code 255) k (at + length (output piece))) (sym left-is) ∙ ap (λ (k : ℕ). phase_with (eqb code 255) left (at + k)) (sym long) in
-    subst (λ (v : Bool). FedInTurn dest (cond v Over (phase_with (eqb inner.code 255) inner.left inner.dest_idx)) piece (put_mid at (length dest₁ - at) dest₁ ys) (cond v Over (phase_with (eqb code 255) left (at + written)))) (sym going)
-    (subst (λ (k : ℕ). FedInTurn dest (phase_with (eqb inner.code 255) k inner.dest_idx) piece (put_mid at (length dest₁ - at) dest₁ ys) (phase_with (eqb code 255) left (at + written))) (sym boundary)
-    (subst (λ (z : Phase). FedInTurn dest (phase_with (eqb inner.code 255) 0 inner.dest_idx) piece (put_mid at (length dest₁ - at) dest₁ ys) z) phase_is
-    (subst (λ (z : List ℕ). FedInTurn dest (phase_with (eqb inner.code 255) 0 inner.dest_idx) piece z (phase_at (base_of (eqb inner.code 255) inner.dest_idx) piece)) buffer_is fed)))
+    grind (arith, over, some_fed, put_over, phase_with-at)
 
 -- the last part of a piece of bytes has a code below 256, and lacks less
 last_by : (n : ℕ) (p : List ℕ) → length p ≤ n → All (λ b. b < 256) p → code_of (last_part p) < 256

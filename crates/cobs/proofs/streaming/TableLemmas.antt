@@ -1,5 +1,5 @@
 -- The table of `DecoderState` against the grammar.
-use Rattle.std.proofs.Common.{◌≡◌, ◌≢◌, ℕ, zero, suc, ◌+◌, ◌-◌, ◌<◌, ◌↔◌, Bool, true, false, cond, eqb, ltb, Some, List, [], ◌∷◌, ◌++◌, All, Ok, Err, refl, sym, ap, ◌∙◌, arith}
+use Rattle.std.proofs.Common.{◌≡◌, ◌≢◌, ℕ, zero, suc, ◌-◌, ◌<◌, ◌↔◌, Bool, true, false, cond, eqb, Some, List, [], ◌∷◌, ◌++◌, All, Ok, Err, refl, sym, ap, ◌∙◌, arith}
 use Rattle.std.proofs.lemmas.Bool.{eqb-true, ne_eqb}
 use Rattle.std.proofs.lemmas.List.{append-nil}
 use Rattle.std.proofs.lemmas.List.Elements.{All-nil, All-push}
@@ -11,7 +11,7 @@ use Rattle.cobs.specs.declared.dec.state.DecoderState.TheVariants.{Idle, Grab, G
 use Rattle.cobs.specs.Feed.{Phase, Within, Over, state_in}
 use Rattle.cobs.specs.Feed as phases
 use Rattle.cobs.specs.Step.{next_phase}
-use Rattle.cobs.specs.declared.dec.state.DecodeResult.TheVariants.{NoData, DataStart, DataComplete, DataContinue}
+use Rattle.cobs.specs.declared.dec.state.DecodeResult.TheVariants.{DataComplete, DataContinue}
 use Rattle.cobs.specs.declared.dec.DecodeError.TheVariants.{InvalidFrame}
 use Rattle.cobs.proofs.decoding.OutcomeLemmas.{reads_iff}
 use Rattle.cobs.proofs.decoding.PieceLemmas.{output-one, last_part-one, output-push_more, output-push_next, last_part-push_next, lacks-push_more, is_full-push_more}
