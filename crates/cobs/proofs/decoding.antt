@@ -15,7 +15,6 @@ pub mod SourceFronts
 pub mod VectorSteps
 pub mod HeadlineLemmas
 pub mod WholeLemmas
-pub mod FrontBlock
 pub mod FlatLemmas
 pub mod VectorHeadline
 pub mod FirstFront

@@ -7,7 +7,6 @@ pub mod SoFar
 pub mod ReadingLemmas
 pub mod StretchLemmas
 pub mod BorrowedSlice
-pub mod BrokenLemmas
 pub mod StepLemmas
 pub mod PushHeadline
 pub mod TakenLemmas

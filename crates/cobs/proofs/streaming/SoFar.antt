@@ -1,9 +1,9 @@
 -- A stream so far: what a loop that feeds one byte after another keeps.
-use Rattle.std.proofs.Common.{◌≡◌, ◌≢◌, ℕ, zero, suc, ◌+◌, ◌-◌, ◌<◌, ◌≤◌, List, [], ◌∷◌, ◌++◌, length, take, drop, get_or, refl, sym, ap, ◌∙◌, subst, arith, append_assoc, length-append, length-take, length-drop, map, inl, inr, ◌⊎◌, Option, Some, None, Result}
+use Rattle.std.proofs.Common.{◌≡◌, ◌≢◌, ℕ, zero, suc, ◌+◌, ◌-◌, ◌<◌, ◌≤◌, List, [], ◌∷◌, ◌++◌, length, take, drop, get_or, refl, sym, ap, ◌∙◌, subst, arith, append_assoc, length-append, length-take, length-drop, map, inl, inr, ◌⊎◌, Option, Some, None, Result, nat_le}
 use Rattle.std.specs.List.{Contains}
 use Rattle.std.proofs.lemmas.List.{append-nil, take_all, take_more, take-append-drop}
 use Rattle.std.proofs.lemmas.List.Elements.{All-nil, All-cons, All-append, Contains-push_cases, Contains-append_cases}
-use Rattle.std.proofs.lemmas.Bool.{leb-true}
+use Rattle.std.proofs.lemmas.Bool.{leb-true, cases_Bool}
 use Rattle.std.proofs.Math.Seq.{take-add}
 use Rattle.cobs.specs.Grammar.{HasNoZero}
 use Rattle.cobs.specs.Piece.{output}
@@ -11,10 +11,10 @@ use Rattle.cobs.specs.Stream.{ended_pieces, unended, Outcome, Message, Broken, T
 use Rattle.cobs.specs.Feed.{Phase, PhaseAfter, DecoderAfter, Feeds, fed, answer_to, answer_at_end}
 use Rattle.cobs.specs.Push.{last_piece}
 use Rattle.cobs.specs.Internal.PieceEnds.{LeavesRest, outcome_told}
-use Rattle.cobs.specs.FeedPiece.{AreAlike, AreAlikeAtFirst, FeedsEach, TakesBytes, TakesPiece, outcome_at, IsWithin}
+use Rattle.cobs.specs.FeedPiece.{AreAlike, AreAlikeAtFirst, FeedsEach, TakesBytes, TakesPiece, outcome_at, IsWithin, IsCountWithin}
 use Rattle.cobs.specs.declared.dec.frame_decoder.PieceEnd.{PieceEnd}
+use Rattle.cobs.specs.declared.dec.frame_decoder.PieceEnd.TheVariants as ends
 use Rattle.cobs.specs.declared.dec.DecodeError.{DecodeError}
-use Rattle.cobs.proofs.streaming.BrokenLemmas.{count-within}
 use Rattle.cobs.proofs.streaming.FeedLemmas.{DecoderAfter-idle}
 use Rattle.cobs.proofs.streaming.PushLemmas.{begun, drop-later, output-longer, last_piece-unended, last_piece-zero}
 use Rattle.cobs.proofs.format.StreamLemmas.{fed-nonzero, stream_outcomes-no_zero, unended-no_zero, stream_outcomes-push, unended-push, outcomes_at, outcomes_at-nonzero, stream_outcomes-append, unended-append}
@@ -71,6 +71,31 @@ zero_or_none : (xs : List ℕ) → Contains xs 0 ⊎ HasNoZero xs
 zero_or_none [] = inr (All-nil (λ b. b ≢ 0))
 zero_or_none (zero ∷ xs) = inl (0, omega arith, refl)
 zero_or_none (suc b ∷ xs) = elim (zero_or_none xs) [ inl h ↦ inl (suc h.0, omega arith, h.2) | inr h ↦ inr (All-cons (λ b. b ≢ 0) (suc b) xs (λ e. omega arith) h) ]
+
+-- WHAT A BROKEN PIECE DECODES TO IS WITHIN THE BUFFER
+
+fits-outcome : (p : List ℕ) (count n : ℕ) → Broken count ≡ outcome_of p n → count ≤ n
+unfolding outcome_of
+fits-outcome p count n e = grind (arith, nat_le, leb-true, cases_Bool)
+
+fits-map : (ps : List (List ℕ)) (count n : ℕ) → Broken count ∷ [] ≡ map (λ p. outcome_of p n) ps → count ≤ n
+fits-map [] count n e = absurd cc
+fits-map (p ∷ ps) count n e = fits-outcome p count n cc
+
+fits-stream : (t : List ℕ) (count n : ℕ) → Broken count ∷ [] ≡ stream_outcomes t n → count ≤ n
+unfolding stream_outcomes
+fits-stream t count n e = fits-map (ended_pieces t) count n e
+
+-- one outcome, alike to a broken piece's
+alike-same : (found : List Outcome) (count : ℕ) → AreAlikeAtFirst (Broken count ∷ []) found → Broken count ∷ [] ≡ found
+alike-same [] count h = absurd h
+alike-same (x ∷ xs) count h = ap (λ (y : Outcome). y ∷ []) h.0 ∙ ap (λ (ys : List Outcome). x ∷ ys) h.1
+
+-- so what an answer counts is within it
+count-within : (end : PieceEnd) (buffer t : List ℕ) (n : ℕ) → AreAlikeAtFirst (outcome_at end buffer ∷ []) (stream_outcomes t n) → IsWithin n end → IsCountWithin n end
+count-within (ends.Message k) buffer t n h within = within
+count-within (ends.Broken count) buffer t n h within = fits-stream t count n (alike-same (stream_outcomes t n) count h)
+count-within ends.TooLong buffer t n h within = tt
 
 -- THE STEPS
 

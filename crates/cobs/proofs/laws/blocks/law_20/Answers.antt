@@ -1,5 +1,5 @@
 use Rattle.cobs.proofs.decoding.KeptLemmas.{broken-part, kept-broken}
-use Rattle.cobs.proofs.decoding.FrontBlock.{all-kept, front-kept, front-whole, one-output, one-whole}
+use Rattle.cobs.proofs.decoding.KeptLemmas.{all-kept, front-kept, front-whole, one-output, one-whole}
 use Rattle.std.proofs.Common.{arith}
 use Rattle.cobs.proofs.laws.blocks.law_20.Goals as goal
 
