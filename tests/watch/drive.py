@@ -419,6 +419,39 @@ def sent_checksums():
 
 
 @part
+def checksums_with_times_and_numbers():
+    size, made, order = CHECKSUMS["crc-16-modbus"]
+    stream, wanted = b"\x09ab\0", [("broken", 2, None)]
+    for number, message in enumerate(messages(30)):
+        whole = message + made(message).to_bytes(size, order)
+        wrong = number % 4 == 0
+        if wrong:
+            whole = bytes([whole[0] ^ 1]) + whole[1:]
+        stream += encode(whole) + b"\0"
+        data = whole if wrong else message
+        wanted.append(("bad-crc" if wrong else "message", len(data), data))
+    words = ["--crc", "crc-16-modbus", "--time", "start"]
+    start = time.monotonic()
+    objects = [json.loads(text) for text in run([*words, "--json"], stream).decode().splitlines()]
+    lines = run([*words, "--number"], stream).decode().splitlines()
+    passed = time.monotonic() - start
+    assert len(objects) == len(lines) == len(wanted), (objects, lines)
+    for number, (item, text, (kind, length, data)) in enumerate(zip(objects, lines, wanted), 1):
+        assert lies_between(0, item.pop("time"), passed), item
+        fields = {"frame": number, "kind": kind, "length": length}
+        if data is not None:
+            fields["hex"] = data.hex()
+            if text_of(data) is not None:
+                fields["text"] = text_of(data)
+        same(item, fields)
+        seconds, _, rest = text.partition(" ")
+        assert len(seconds.partition(".")[2]) == 3 and lies_between(0, float(seconds), passed), text
+        same(rest, f"{number} " + line(None, kind.replace("-", " "), length, data or b"").decode().rstrip("\n"))
+    only = run([*words, "--json", "--only", "bad-crc"], stream).decode().splitlines()
+    same([json.loads(text)["frame"] for text in only], [i for i, piece in enumerate(wanted, 1) if piece[0] == "bad-crc"])
+
+
+@part
 def skip_first():
     for cut in range(0, 400):
         stream = STREAM[cut:]
