@@ -153,16 +153,25 @@ export class Page {
     return this.value(`document.querySelector(${JSON.stringify(selector)}).textContent`);
   }
 
-  /** A click with the mouse on the middle of an element. */
-  async click(selector) {
+  /** The middle of an element, scrolled into view, once it no longer moves: the page may still take what was typed before. */
+  async placeOf(selector) {
     const find = `document.querySelector(${JSON.stringify(selector)})`;
     await this.until(`${find}?.getClientRects().length > 0`);
-    const place = await this.value(`(() => {
-      const element = ${find};
-      element.scrollIntoView({ block: "center", behavior: "instant" });
-      const { left, top, width, height } = element.getBoundingClientRect();
-      return { x: left + width / 2, y: top + height / 2 };
+    return this.value(`(async () => {
+      for (let last = {}; ; await new Promise((done) => requestAnimationFrame(() => requestAnimationFrame(done)))) {
+        const element = ${find};
+        element.scrollIntoView({ block: "center", behavior: "instant" });
+        const { left, top, width, height } = element.getBoundingClientRect();
+        const place = { x: left + width / 2, y: top + height / 2 };
+        if (place.x === last.x && place.y === last.y) return place;
+        last = place;
+      }
     })()`);
+  }
+
+  /** A click with the mouse on the middle of an element. */
+  async click(selector) {
+    const place = await this.placeOf(selector);
     for (const type of ["mousePressed", "mouseReleased"]) await this.send("Input.dispatchMouseEvent", { type, ...place, button: "left", clickCount: 1 });
   }
 

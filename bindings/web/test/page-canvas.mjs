@@ -9,13 +9,7 @@ const isMessage = (page, text) => page.until(`document.getElementById("message-i
 
 /** Puts the mouse on the middle of an element. */
 async function point(page, selector) {
-  const place = await page.value(`(() => {
-    const element = document.querySelector("${selector}");
-    element.scrollIntoView({ block: "center", behavior: "instant" });
-    const { left, top, width, height } = element.getBoundingClientRect();
-    return { x: left + width / 2, y: top + height / 2 };
-  })()`);
-  await page.send("Input.dispatchMouseEvent", { type: "mouseMoved", ...place });
+  await page.send("Input.dispatchMouseEvent", { type: "mouseMoved", ...(await page.placeOf(selector)) });
 }
 
 for (const [sentinel, over, code] of [["00", "0b: the frame has it as it is.", "Byte 3, 02: a code"], ["aa", "0b: the frame has it XORed with the sentinel, as a1.", "Byte 3, a8 (02 XORed with the sentinel): a code"]]) {
@@ -42,6 +36,7 @@ for (const [sentinel, over, code] of [["00", "0b: the frame has it as it is.", "
 for (const [name, options] of [["a phone", { width: 360, isPhone: true }], ["a computer", { width: 900 }]]) {
   await check(`canvas: an explanation moves nothing under the mouse, on ${name}`, () => on("message", async (page) => {
     await page.fill("#message-sentinel", "aa");
+    await page.until('document.getElementById("message-byte-5").getAttribute("aria-label").includes("aa, sentinel")');
     await page.click('[data-run="255"]');
     await page.until('document.getElementById("message-length").dataset.bytes === "255"');
     const top = () => page.value('document.getElementById("message-byte-0").getBoundingClientRect().top + scrollY');
