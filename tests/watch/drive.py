@@ -201,6 +201,54 @@ def every_view():
     same(run(["--number"], STREAM), numbered + b"unfinished\n")
 
 
+def partial_pieces_of(stream, limit):
+    """The same, with what was decoded of each piece, as far as it is within the limit."""
+    seen = []
+    for part in stream.split(b"\0")[:-1]:
+        if part:
+            output, whole = decode(part)
+            kind = "too long" if len(output) > limit else "message" if whole else "broken"
+            seen.append((kind, None if kind == "too long" else len(output), output[:limit]))
+    return seen
+
+
+def partial_line(style, kind, length, data):
+    """A piece's line with --partial: the word is in front of bytes that are no message."""
+    whole = line(style, kind, length, data)
+    if kind == "message" or not data:
+        return whole
+    title = (kind if length is None else f"{kind} {length}").encode()
+    assert whole.startswith(title)
+    return title + b" partial" + whole[len(title) :]
+
+
+@part
+def partial():
+    cut = b"".join(
+        encode(message)[: -1 - number % 3] + b"\0" for number, message in enumerate(messages(60)) if len(message) > 3
+    )
+    for stream, limit in ((STREAM, LIMIT), (STREAM, 20), (STREAM, 0), (cut + STREAM, 7)):
+        words = ["--partial", "--length", str(limit)]
+        seen = partial_pieces_of(stream, limit)
+        for style in (None, "--text", "--hexdump"):
+            wanted = b"".join(partial_line(style, *piece) for piece in seen) + b"unfinished\n"
+            same(run(words + ([style] if style else []), stream), wanted)
+        found = [json.loads(text) for text in run([*words, "--json"], stream).decode().splitlines()]
+        for number, (item, (kind, length, data)) in enumerate(zip(found, seen, strict=False), 1):
+            fields = {"frame": number, "kind": kind}
+            if length is not None:
+                fields["length"] = length
+            if kind == "message" or data:
+                fields["hex"] = data.hex()
+            if kind == "message" and text_of(data) is not None:
+                fields["text"] = text_of(data)
+            same(item, fields)
+        assert len(found) == len(seen) + 1
+        begin = b"ab".hex()
+        wanted = b"".join(partial_line(None, *piece) for piece in seen if piece[2].startswith(b"ab"))
+        same(run([*words, "--prefix", begin], stream), wanted + b"unfinished\n")
+
+
 @part
 def colors():
     whole = [crc_32(message) for message in (b"right", b"")] + [b"wrong"]
@@ -486,6 +534,7 @@ def wrong_words():
         ["--min", "-1"],
         ["--number", "--json"],
         ["--time", "start", "--raw"],
+        ["--partial", "--raw"],
         ["--time", "then"],
         ["--color", "sometimes"],
         ["--crc", "crc-7"],
@@ -511,7 +560,7 @@ def wrong_words():
 
 TOPICS = {
     "Options": ["--help", "--version"],
-    "Styles": ["--text", "--raw", "--hexdump", "--json", "--number", "--time", "--color"],
+    "Styles": ["--text", "--raw", "--hexdump", "--json", "--partial", "--number", "--time", "--color"],
     "Filters": ["--only", "--min", "--max", "--prefix"],
     "Checksums": ["--crc", "--crc-order"],
     "The stream": ["--length", "--sentinel", "--skip-first", "--count"],

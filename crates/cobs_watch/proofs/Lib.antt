@@ -1,5 +1,7 @@
 pub mod TallyLemmas
 pub mod TimeLemmas
+pub mod StretchLemmas
+pub mod PartLemmas
 pub mod ShowLemmas
 pub mod SkipLemmas
 pub mod DumpLemmas

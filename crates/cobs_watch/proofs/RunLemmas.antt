@@ -11,11 +11,13 @@ use Rattle.cobs.specs.Stream.{Outcome, is_nonempty, stream_outcomes, unended}
 use Rattle.cobs.specs.Feed.{DecoderAfter, Phase, Idle, phase_after}
 use Rattle.cobs.specs.Fields.Decoders.{phase_of}
 use Rattle.cobs.specs.Laws.{StreamLaw}
+use Rattle.cobs_watch.proofs.PartLemmas.{all_ended-append, all_ended-none, length-all_ended}
 use Rattle.cobs_watch.proofs.ShowLemmas.{shown_from-append, shown_from-none}
 use Rattle.cobs_watch.proofs.SkipLemmas.{begun-append, begun-none, skips_on-append, skips_on-none}
 use Rattle.cobs_watch.proofs.TimeLemmas.{extended, IsReadAt-extended, IsTimeline-extended, shown_from-extended}
 use Rattle.cobs_watch.specs.Counted.{IsTallyOf}
 use Rattle.cobs_watch.specs.Live.{HasShownSoFar}
+use Rattle.cobs_watch.specs.Seen.{all_ended}
 use Rattle.cobs_watch.specs.Shown.{shown_from, shown_pieces, shown_end}
 use Rattle.cobs_watch.specs.Timed.{IsReadAt}
 use Rattle.cobs_watch.specs.declared.clock.Times.{Times}
@@ -46,7 +48,7 @@ HasShownSoFar-start law settings from before watch idle none first len same skip
         times = λ number. 0;
         timeline = record { start = refl; rises = λ number. omega arith };
         read = Consumes-nil from;
-        written = rw (no_outcomes, shown_from-none settings.view (λ number. 0) 0) (Appends-nil before);
+        written = rw (all_ended-none (begun settings.skip_first []) settings.length no_outcomes, shown_from-none settings.view (λ number. 0) 0) (Appends-nil before);
       };
       taken = rw (begun-none settings.skip_first, law.same [] no_zero) idle;
       tallied = rw no_outcomes none;
@@ -94,6 +96,11 @@ module _ (law : StreamLaw) {settings : Settings} {from to before after : Option 
   more-outcomes more = ap (λ (t : List ℕ). stream_outcomes t settings.length) (more-stream more) ∙ law.cut (stream_of settings s.ended.bytes) (newly more) settings.length
       ∙ ap (λ (k : ℕ). stream_outcomes (stream_of settings s.ended.bytes) settings.length ++ stream_outcomes (unended (stream_of settings s.ended.bytes) ++ newly more) k) (sym s.len)
 
+  pub more-pieces : (more : List ℕ) → all_ended (stream_of settings (s.ended.bytes ++ more)) settings.length
+      ≡ all_ended (stream_of settings s.ended.bytes) settings.length ++ all_ended (unended (stream_of settings s.ended.bytes) ++ newly more) (length watch.message.items)
+  more-pieces more = ap (λ (t : List ℕ). all_ended t settings.length) (more-stream more) ∙ all_ended-append (stream_of settings s.ended.bytes) (newly more) settings.length
+      ∙ ap (λ (k : ℕ). all_ended (stream_of settings s.ended.bytes) settings.length ++ all_ended (unended (stream_of settings s.ended.bytes) ++ newly more) k) (sym s.len)
+
   pub more-tallied : (tally : Tally) (more : List ℕ)
       → IsTallyOf watch.settings.now.view.checksum tally (stream_outcomes (stream_of settings s.ended.bytes) settings.length ++ stream_outcomes (unended (stream_of settings s.ended.bytes) ++ newly more) (length watch.message.items)) (length s.ended.bytes + length more)
       → IsTallyOf settings.view.checksum tally (stream_outcomes (stream_of settings (s.ended.bytes ++ more)) settings.length) (length (s.ended.bytes ++ more))
@@ -116,15 +123,15 @@ module _ (law : StreamLaw) {settings : Settings} {from to before after : Option 
   more-timed clock now more r = rw (more-outcomes more) r.last
 
   abbrev pub more-ended : {to' after' : Option (List ℕ)} (more : List ℕ) (now : ℕ) → watch.clock.last ≤ now → Consumes to to' more
-      → Appends after after' (shown_from watch.settings.now.view (more-times now) known (stream_outcomes (unended (stream_of settings s.ended.bytes) ++ newly more) (length watch.message.items)))
+      → Appends after after' (shown_from watch.settings.now.view (more-times now) known (all_ended (unended (stream_of settings s.ended.bytes) ++ newly more) (length watch.message.items)))
       → HasWritten (λ times bytes. shown_pieces settings.view times settings.length (stream_of settings bytes)) from to' before after'
   more-ended {to' = to'} {after' = after'} more now later r written = record {
     bytes = s.ended.bytes ++ more;
     times = more-times now;
     timeline = IsTimeline-extended s.ended.times known now s.ended.timeline (omega (arith, later, s.timed));
     read = Consumes-trans from to to' s.ended.bytes more s.ended.read r;
-    written = rw (more-outcomes more, shown_from-append settings.view (more-times now) 0 (stream_outcomes (stream_of settings s.ended.bytes) settings.length) (stream_outcomes (unended (stream_of settings s.ended.bytes) ++ newly more) (length watch.message.items)), zero-add, shown_from-extended s.ended.times known now settings.view 0 (stream_outcomes (stream_of settings s.ended.bytes) settings.length) (omega arith))
-        (Appends-trans before after after' _ _ s.ended.written (subst (λ (w : Settings). Appends after after' (shown_from w.view (more-times now) known (stream_outcomes (unended (stream_of settings s.ended.bytes) ++ newly more) (length watch.message.items)))) s.same written));
+    written = rw (more-pieces more, shown_from-append settings.view (more-times now) 0 (all_ended (stream_of settings s.ended.bytes) settings.length) (all_ended (unended (stream_of settings s.ended.bytes) ++ newly more) (length watch.message.items)), zero-add, length-all_ended (stream_of settings s.ended.bytes) settings.length, shown_from-extended s.ended.times known now settings.view 0 (all_ended (stream_of settings s.ended.bytes) settings.length) (omega (arith, length-all_ended (stream_of settings s.ended.bytes) settings.length)))
+        (Appends-trans before after after' _ _ s.ended.written (subst (λ (w : Settings). Appends after after' (shown_from w.view (more-times now) known (all_ended (unended (stream_of settings s.ended.bytes) ++ newly more) (length watch.message.items)))) s.same written));
   }
 
   -- the next read failed

@@ -8,7 +8,8 @@ use Rattle.cobs.specs.Feed.{DecoderAfter, Phase}
 use Rattle.cobs.specs.Laws.{StreamLaw}
 use Rattle.cobs_watch.specs.Counted.{IsTallyOf, counted}
 use Rattle.cobs_watch.specs.Live.{ShowsBytes}
-use Rattle.cobs_watch.specs.Seen.{Seen, seen_of}
+use Rattle.cobs_watch.proofs.PartLemmas.{all_ended-append, all_ended-none, length-all_ended}
+use Rattle.cobs_watch.specs.Seen.{Ended, Seen, all_ended, seen_piece}
 use Rattle.cobs_watch.specs.Shown.{in_view, shown, shown_from}
 use Rattle.cobs_watch.specs.Timed.{IsReadAt, time_of}
 use Rattle.cobs_watch.specs.declared.clock.Times.{Times}
@@ -16,7 +17,7 @@ use Rattle.cobs_watch.specs.declared.shown.View.{View}
 use Rattle.cobs_watch.specs.declared.tally.Tally.{Tally}
 
 -- what is shown of outcomes, and of others behind them
-pub shown_from-append : (view : View) (times : ℕ → ℕ) (index : ℕ) (xs ys : List Outcome) → shown_from view times index (xs ++ ys) ≡ shown_from view times index xs ++ shown_from view times (index + length xs) ys
+pub shown_from-append : (view : View) (times : ℕ → ℕ) (index : ℕ) (xs ys : List Ended) → shown_from view times index (xs ++ ys) ≡ shown_from view times index xs ++ shown_from view times (index + length xs) ys
 unfolding shown_from
 shown_from-append view times index [] ys = ap (λ (k : ℕ). shown_from view times k ys) (omega arith)
 shown_from-append view times index (x ∷ xs) ys =
@@ -28,15 +29,15 @@ pub shown_from-none : (view : View) (times : ℕ → ℕ) (index : ℕ) → show
 unfolding shown_from
 shown_from-none view times index = refl
 
-pub shown_from-one : (view : View) (times : ℕ → ℕ) (index : ℕ) (outcome : Outcome) → shown_from view times index (outcome ∷ []) ≡ shown view times index outcome
+pub shown_from-one : (view : View) (times : ℕ → ℕ) (index : ℕ) (piece : Ended) → shown_from view times index (piece ∷ []) ≡ shown view times index piece
 unfolding shown_from
-shown_from-one view times index outcome = append-nil (shown view times index outcome)
+shown_from-one view times index piece = append-nil (shown view times index piece)
 
--- what is shown of an outcome, given the tally that counts it too, and the clock before it
-pub shown_now : (view : View) (times : ℕ → ℕ) (tally : Tally) (clock : Times) (gone : List Outcome) (outcome : Outcome) (read : ℕ) (before after : Option (List ℕ)) (seen : Seen) → seen ≡ seen_of view.checksum outcome
+-- what is shown of a piece, given the tally that counts it too, and the clock before it
+pub shown_now : (view : View) (times : ℕ → ℕ) (tally : Tally) (clock : Times) (gone : List Outcome) (outcome : Outcome) (read : ℕ) (before after : Option (List ℕ)) (seen : Seen) (piece : Ended) → seen ≡ seen_piece view.checksum view.partial piece
     → IsTallyOf view.checksum tally (gone ++ outcome ∷ []) read → IsReadAt times (length gone) clock
-    → Appends before after (in_view view tally.pieces (time_of view.stamp clock.last clock.now) seen) → Appends before after (shown view times (length gone) outcome)
-shown_now view times tally clock gone outcome read before after seen same t r written =
+    → Appends before after (in_view view tally.pieces (time_of view.stamp clock.last clock.now) seen) → Appends before after (shown view times (length gone) piece)
+shown_now view times tally clock gone outcome read before after seen piece same t r written =
     let size : length (gone ++ outcome ∷ []) ≡ length gone + 1 = length-append gone (outcome ∷ []) in
     let is : tally.pieces ≡ counted (length gone + 1) = t.pieces ∙ ap counted size in
     let now : clock.now ≡ times (length gone + 1) = sym (r.now (length gone + 1) (omega arith)) in
@@ -49,8 +50,9 @@ pub ShowsBytes-start : (law : StreamLaw) (view : View) (times : ℕ → ℕ) (p 
     → IsTallyOf view.checksum tally gone read → IsReadAt times (length gone) clock → ShowsBytes view times (length buffer) p [] gone read buffer phase before before tally clock
 ShowsBytes-start law view times p buffer phase gone read before tally clock d t r =
     let none : stream_outcomes (p ++ []) (length buffer) ≡ [] = ap (λ (l : List ℕ). stream_outcomes l (length buffer)) (append-nil p) ∙ law.none p (length buffer) d.phased.piece in
+    let no_piece : all_ended (p ++ []) (length buffer) ≡ [] = all_ended-none (p ++ []) (length buffer) none in
     record {
-      written = rw (none, shown_from-none view times (length gone)) (Appends-nil before);
+      written = rw (no_piece, shown_from-none view times (length gone)) (Appends-nil before);
       taken = rw (append-nil p, law.same p d.phased.piece) d;
       tallied = rw (none, append-nil) t;
       timed = rw (none, append-nil) r;
@@ -65,20 +67,26 @@ module _ (law : StreamLaw) {view : View} {times : ℕ → ℕ} {n : ℕ} {p byte
   outcomes-on : stream_outcomes (p ++ (bytes ++ rest)) n ≡ stream_outcomes (p ++ bytes) n ++ stream_outcomes (unended (p ++ bytes) ++ rest) n
   outcomes-on = ap (λ (l : List ℕ). stream_outcomes l n) (sym (append_assoc p bytes rest)) ∙ law.cut (p ++ bytes) rest n
 
+  pieces-on : all_ended (p ++ (bytes ++ rest)) n ≡ all_ended (p ++ bytes) n ++ all_ended (unended (p ++ bytes) ++ rest) n
+  pieces-on = ap (λ (l : List ℕ). all_ended l n) (sym (append_assoc p bytes rest)) ∙ all_ended-append (p ++ bytes) rest n
+
   -- the bytes through the end of one more piece
-  pub ShowsBytes-piece : {buffer' : List ℕ} {phase' : Phase} {after' : Option (List ℕ)} {tally' : Tally} {clock' : Times} (outcome : Outcome) → length buffer' ≡ length buffer → DecoderAfter buffer' phase' (unended (unended (p ++ bytes) ++ rest))
+  pub ShowsBytes-piece : {buffer' : List ℕ} {phase' : Phase} {after' : Option (List ℕ)} {tally' : Tally} {clock' : Times} (outcome : Outcome) (piece : Ended) → length buffer' ≡ length buffer → DecoderAfter buffer' phase' (unended (unended (p ++ bytes) ++ rest))
       → outcome ∷ [] ≡ stream_outcomes (unended (p ++ bytes) ++ rest) (length buffer)
-      → Appends after after' (shown view times (length (gone ++ stream_outcomes (p ++ bytes) n)) outcome)
+      → all_ended (unended (p ++ bytes) ++ rest) (length buffer) ≡ piece ∷ []
+      → Appends after after' (shown view times (length (gone ++ stream_outcomes (p ++ bytes) n)) piece)
       → IsTallyOf view.checksum tally' ((gone ++ stream_outcomes (p ++ bytes) n) ++ outcome ∷ []) read
       → IsReadAt times (length ((gone ++ stream_outcomes (p ++ bytes) n) ++ outcome ∷ [])) clock'
       → ShowsBytes view times n p (bytes ++ rest) gone read buffer' phase' before after' tally' clock'
-  ShowsBytes-piece {after' = after'} outcome len taken told written counted timed =
+  ShowsBytes-piece {after' = after'} outcome piece len taken told ended written counted timed =
       let one : outcome ∷ [] ≡ stream_outcomes (unended (p ++ bytes) ++ rest) n = subst (λ (k : ℕ). outcome ∷ [] ≡ stream_outcomes (unended (p ++ bytes) ++ rest) k) s.len told in
-      let text : shown_from view times (length gone) (stream_outcomes (p ++ (bytes ++ rest)) n) ≡ shown_from view times (length gone) (stream_outcomes (p ++ bytes) n) ++ shown view times (length (gone ++ stream_outcomes (p ++ bytes) n)) outcome =
-      ap (shown_from view times (length gone)) (outcomes-on ∙ ap (λ (l : List Outcome). stream_outcomes (p ++ bytes) n ++ l) (sym one))
-      ∙ shown_from-append view times (length gone) (stream_outcomes (p ++ bytes) n) (outcome ∷ [])
-      ∙ ap (λ (l : List ℕ). shown_from view times (length gone) (stream_outcomes (p ++ bytes) n) ++ l)
-      (shown_from-one view times (length gone + length (stream_outcomes (p ++ bytes) n)) outcome ∙ ap (λ (k : ℕ). shown view times k outcome) (sym (length-append gone (stream_outcomes (p ++ bytes) n)))) in
+      let last : all_ended (unended (p ++ bytes) ++ rest) n ≡ piece ∷ [] = subst (λ (k : ℕ). all_ended (unended (p ++ bytes) ++ rest) k ≡ piece ∷ []) s.len ended in
+      let number : length gone + length (all_ended (p ++ bytes) n) ≡ length (gone ++ stream_outcomes (p ++ bytes) n) = omega (arith, length-append gone (stream_outcomes (p ++ bytes) n), length-all_ended (p ++ bytes) n) in
+      let text : shown_from view times (length gone) (all_ended (p ++ (bytes ++ rest)) n) ≡ shown_from view times (length gone) (all_ended (p ++ bytes) n) ++ shown view times (length (gone ++ stream_outcomes (p ++ bytes) n)) piece =
+      ap (shown_from view times (length gone)) (pieces-on ∙ ap (λ (l : List Ended). all_ended (p ++ bytes) n ++ l) last)
+      ∙ shown_from-append view times (length gone) (all_ended (p ++ bytes) n) (piece ∷ [])
+      ∙ ap (λ (l : List ℕ). shown_from view times (length gone) (all_ended (p ++ bytes) n) ++ l)
+      (shown_from-one view times (length gone + length (all_ended (p ++ bytes) n)) piece ∙ ap (λ (k : ℕ). shown view times k piece) number) in
       record {
         written = rw text (Appends-trans before after after' _ _ s.written written);
         taken = rw left-on taken;
@@ -93,8 +101,9 @@ module _ (law : StreamLaw) {view : View} {times : ℕ → ℕ} {n : ℕ} {p byte
   ShowsBytes-rest len taken told =
       let none : [] ≡ stream_outcomes (unended (p ++ bytes) ++ rest) n = subst (λ (k : ℕ). [] ≡ stream_outcomes (unended (p ++ bytes) ++ rest) k) s.len told in
       let same : stream_outcomes (p ++ (bytes ++ rest)) n ≡ stream_outcomes (p ++ bytes) n = outcomes-on ∙ ap (λ (l : List Outcome). stream_outcomes (p ++ bytes) n ++ l) (sym none) ∙ append-nil (stream_outcomes (p ++ bytes) n) in
+      let same_pieces : all_ended (p ++ (bytes ++ rest)) n ≡ all_ended (p ++ bytes) n = pieces-on ∙ ap (λ (l : List Ended). all_ended (p ++ bytes) n ++ l) (all_ended-none (unended (p ++ bytes) ++ rest) n (sym none)) ∙ append-nil (all_ended (p ++ bytes) n) in
       record {
-        written = rw same s.written;
+        written = rw same_pieces s.written;
         taken = rw left-on taken;
         tallied = rw same s.tallied;
         timed = rw same s.timed;

@@ -4,6 +4,7 @@ use Rattle.std.specs.Prelude.{nat_le, if◌then◌else◌}
 use Rattle.std.proofs.lemmas.Bool.{le-leb}
 use Rattle.std.proofs.lemmas.Bool.Decides.{leb_tells}
 use Rattle.cobs.specs.Stream.{Outcome}
+use Rattle.cobs_watch.specs.Seen.{Ended}
 use Rattle.cobs_watch.specs.Shown.{shown_from}
 use Rattle.cobs_watch.specs.Timed.{IsReadAt, IsTimeline}
 use Rattle.cobs_watch.specs.declared.clock.Times.{Times}
@@ -38,10 +39,10 @@ module _ (times : ℕ → ℕ) (known now : ℕ) where
   pub IsReadAt-extended : (clock : Times) → clock.last ≡ times known → clock.now ≡ now → IsReadAt (extended times known now) known clock
   IsReadAt-extended clock last is = record { last = last ∙ sym (early known (omega arith)); now = λ later h. late later h ∙ sym is }
 
-  pub shown_from-extended : (view : View) (index : ℕ) (outcomes : List Outcome) → index + length outcomes ≤ known → shown_from view (extended times known now) index outcomes ≡ shown_from view times index outcomes
+  pub shown_from-extended : (view : View) (index : ℕ) (pieces : List Ended) → index + length pieces ≤ known → shown_from view (extended times known now) index pieces ≡ shown_from view times index pieces
   unfolding shown_from
   shown_from-extended view index [] h = refl
-  shown_from-extended view index (outcome ∷ outcomes) h = rw (early index (omega arith), early (index + 1) (omega arith), shown_from-extended view (index + 1) outcomes (omega arith)) refl
+  shown_from-extended view index (piece ∷ pieces) h = rw (early index (omega arith), early (index + 1) (omega arith), shown_from-extended view (index + 1) pieces (omega arith)) refl
 
 -- with one piece more that is read now
 pub IsReadAt-next : (times : ℕ → ℕ) (gone : List Outcome) (outcome : Outcome) (clock clock' : Times) → IsReadAt times (length gone) clock → clock'.last ≡ clock.now → clock'.now ≡ clock.now → IsReadAt times (length (gone ++ outcome ∷ [])) clock'

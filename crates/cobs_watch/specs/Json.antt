@@ -22,11 +22,16 @@ json_text bytes = if utf8_valid_len bytes == length bytes then codes ",\"text\":
 abbrev pub json_message : ℕ → List ℕ → List ℕ
 json_message len bytes = codes ",\"length\":" ++ decimal len ++ codes ",\"hex\":\"" ++ encode_lower bytes ++ codes "\"" ++ json_text bytes
 
+-- the bytes of a piece that is no message, if they are shown
+abbrev pub json_partial : List ℕ → List ℕ
+json_partial [] = []
+json_partial (byte ∷ bytes) = codes ",\"hex\":\"" ++ encode_lower (byte ∷ bytes) ++ codes "\""
+
 -- a kind, and the length of what the piece decodes to
 abbrev pub json_kind : Kind → ℕ → List ℕ → List ℕ
 json_kind Message len bytes = codes "\"message\"" ++ json_message len bytes
-json_kind Broken len bytes = codes "\"broken\",\"length\":" ++ decimal len
-json_kind TooLong len bytes = codes "\"too long\""
+json_kind Broken len bytes = codes "\"broken\",\"length\":" ++ decimal len ++ json_partial bytes
+json_kind TooLong len bytes = codes "\"too long\"" ++ json_partial bytes
 json_kind BadCrc len bytes = codes "\"bad-crc\"" ++ json_message len bytes
 
 abbrev pub json : ℕ → Stamp → ℕ → Seen → List ℕ

@@ -5,6 +5,7 @@ use Rattle.cobs.specs.Feed.{DecoderAfter, Phase}
 use Rattle.cobs.specs.Fields.Decoders.{phase_of}
 use Rattle.cobs.specs.Stream.{Outcome, stream_outcomes, unended}
 use Rattle.cobs_watch.specs.Counted.{IsTallyOf}
+use Rattle.cobs_watch.specs.Seen.{all_ended}
 use Rattle.cobs_watch.specs.Shown.{shown_from, shown_pieces}
 use Rattle.cobs.specs.Sentinel.{xor_each}
 use Rattle.cobs_watch.specs.Watched.{HasShown, HasWritten, skips_on, stream_of}
@@ -36,7 +37,7 @@ ShowsNext settings (Err fault) from to before after watch = HasShown settings (E
 -- a decoder over n bytes that had taken the front p of a piece has taken these bytes too; the pieces that ended in them,
 -- which these outcomes have gone before, are shown and counted
 pub record ShowsBytes (view : View) (times : ℕ → ℕ) (n : ℕ) (p bytes : List ℕ) (gone : List Outcome) (read : ℕ) (buffer : List ℕ) (phase : Phase) (before after : Option (List ℕ)) (tally : Tally) (clock : Times) : Type 0 where
-  pub written : Appends before after (shown_from view times (length gone) (stream_outcomes (p ++ bytes) n))
+  pub written : Appends before after (shown_from view times (length gone) (all_ended (p ++ bytes) n))
   pub taken : DecoderAfter buffer phase (unended (p ++ bytes))
   pub tallied : IsTallyOf view.checksum tally (gone ++ stream_outcomes (p ++ bytes) n) read
   pub timed : IsReadAt times (length (gone ++ stream_outcomes (p ++ bytes) n)) clock

@@ -5,12 +5,12 @@ use Rattle.std.specs.List.{list_all, starts_with}
 use Rattle.std.specs.Str.{chars}
 use Rattle.std.specs.Str.Lossy.{utf8_valid_len}
 use Rattle.std.specs.Char.{is_control}
-use Rattle.cobs.specs.Stream.{Outcome, is_nonempty, unended, stream_outcomes}
+use Rattle.cobs.specs.Stream.{is_nonempty, unended}
 use Rattle.cobs_lines.specs.Lines.{spaced_digits}
 use Rattle.cobs_watch.specs.Counted.{counted}
 use Rattle.cobs_watch.specs.Dump.{dump}
 use Rattle.cobs_watch.specs.Json.{json}
-use Rattle.cobs_watch.specs.Seen.{Seen, seen_of, titled}
+use Rattle.cobs_watch.specs.Seen.{Ended, Seen, all_ended, heading, seen_piece}
 use Rattle.cobs_watch.specs.Timed.{stamped, time_of}
 use Rattle.cobs_watch.specs.declared.clock.Stamp.{Stamp}
 use Rattle.cobs_watch.specs.declared.seen.Kind.{Kind}
@@ -32,13 +32,13 @@ spaced (byte ∷ bytes) = codes " " ++ (byte ∷ bytes)
 
 -- a piece's line, with its bytes as digits, as text, and sixteen a line below it; what becomes of it may have a colour
 abbrev pub hex_line : (color : Bool) → Seen → List ℕ
-hex_line color seen = titled color seen.kind seen.len ++ spaced_digits seen.bytes ++ codes "\n"
+hex_line color seen = heading color seen ++ spaced_digits seen.bytes ++ codes "\n"
 
 abbrev pub text_line : (color : Bool) → Seen → List ℕ
-text_line color seen = titled color seen.kind seen.len ++ (if is_plain seen.bytes then spaced seen.bytes else spaced_digits seen.bytes) ++ codes "\n"
+text_line color seen = heading color seen ++ (if is_plain seen.bytes then spaced seen.bytes else spaced_digits seen.bytes) ++ codes "\n"
 
 abbrev pub dump_lines : (color : Bool) → Seen → List ℕ
-dump_lines color seen = titled color seen.kind seen.len ++ codes "\n" ++ dump seen.bytes
+dump_lines color seen = heading color seen ++ codes "\n" ++ dump seen.bytes
 
 -- a message's bytes and a newline, and nothing of other pieces
 abbrev pub raw_of : Kind → List ℕ → List ℕ
@@ -83,18 +83,18 @@ passes filter seen = has_kind filter seen.kind && (nat_le filter.min seen.len &&
 abbrev pub in_view : View → ℕ → ℕ → Seen → List ℕ
 in_view view number time seen = if passes view.filter seen then in_front view.style view.stamp time ++ numbered view.number number ++ styled view.style view.color number view.stamp time seen else []
 
--- WHAT IS SHOWN OF AN OUTCOME that this many others have gone before: the outcomes are numbered from 1 on, and each has a time
-abbrev pub shown : View → (ℕ → ℕ) → ℕ → Outcome → List ℕ
-shown view times index outcome = in_view view (counted (index + 1)) (time_of view.stamp (times index) (times (index + 1))) (seen_of view.checksum outcome)
+-- WHAT IS SHOWN OF A PIECE that this many others have gone before: the pieces are numbered from 1 on, and each has a time
+abbrev pub shown : View → (ℕ → ℕ) → ℕ → Ended → List ℕ
+shown view times index piece = in_view view (counted (index + 1)) (time_of view.stamp (times index) (times (index + 1))) (seen_piece view.checksum view.partial piece)
 
--- what is shown of outcomes that this many others have gone before
-unfoldable pub shown_from : View → (ℕ → ℕ) → ℕ → List Outcome → List ℕ
+-- what is shown of pieces that this many others have gone before
+unfoldable pub shown_from : View → (ℕ → ℕ) → ℕ → List Ended → List ℕ
 shown_from view times index [] = []
-shown_from view times index (outcome ∷ outcomes) = shown view times index outcome ++ shown_from view times (index + 1) outcomes
+shown_from view times index (piece ∷ pieces) = shown view times index piece ++ shown_from view times (index + 1) pieces
 
 -- what is shown of all pieces that have ended in a stream, over a buffer of n bytes
 abbrev pub shown_pieces : View → (ℕ → ℕ) → ℕ → List ℕ → List ℕ
-shown_pieces view times n stream = shown_from view times 0 (stream_outcomes stream n)
+shown_pieces view times n stream = shown_from view times 0 (all_ended stream n)
 
 -- what is shown after a stream that has come to its end: whether a piece has begun that no zero ended
 abbrev pub shown_end : Style → Bool → List ℕ

@@ -3,7 +3,7 @@ ghost use Rattle.std.specs.Prelude.{◌≡◌, ◌==◌, OnOk, length};
 ghost use Rattle.std.specs.Str.Lossy.{utf8_valid_len};
 ghost use Rattle.std.specs.Io.KnownBytes.{Appends};
 ghost use Rattle.std.specs.List.{flat_map};
-ghost use Rattle.cobs_watch.specs.Json.{escaped, json, json_kind, json_message, json_text};
+ghost use Rattle.cobs_watch.specs.Json.{escaped, json, json_kind, json_message, json_partial, json_text};
 ghost use Rattle.cobs_watch.specs.Seen.{seen_in};
 
 use crate::clock::{Stamp, write_json_time};
@@ -41,13 +41,32 @@ fn write_kind<W: Write>(output: &mut W, piece: &Sight<'_>) -> io::Result<()>
             output.write_all(b"\"message\"")?;
             write_message(output, len, piece.bytes)
         }
-        Kind::Broken => write!(output, "\"broken\",\"length\":{len}"),
-        Kind::TooLong => output.write_all(b"\"too long\""),
+        Kind::Broken => {
+            write!(output, "\"broken\",\"length\":{len}")?;
+            write_partial(output, piece.bytes)
+        }
+        Kind::TooLong => {
+            output.write_all(b"\"too long\"")?;
+            write_partial(output, piece.bytes)
+        }
         Kind::BadCrc => {
             output.write_all(b"\"bad-crc\"")?;
             write_message(output, len, piece.bytes)
         }
     }
+}
+
+/// Writes the bytes of a piece that is no message, if there are any.
+fn write_partial<W: Write>(output: &mut W, bytes: &[u8]) -> io::Result<()>
+    ensures written { OnOk result
+        (Appends (W.contents output.old) (W.contents output.new) (json_partial bytes.now)) }
+{
+    if bytes.len() == 0 {
+        return Ok(());
+    }
+    output.write_all(b",\"hex\":\"")?;
+    write_digits(output, bytes)?;
+    output.write_all(b"\"")
 }
 
 /// Writes the length and the bytes of a message.

@@ -2,7 +2,7 @@
 ghost use Rattle.std.specs.Prelude.{◌≡◌, OnOk, IfSome, IsSome, ◌↔◌, IsTrue};
 ghost use Rattle.std.specs.Io.KnownBytes.{Appends};
 ghost use Rattle.cobs_lines.specs.Lines.{spaced_digits};
-ghost use Rattle.cobs_watch.specs.Seen.{color_end, color_of, seen_in, title, titled};
+ghost use Rattle.cobs_watch.specs.Seen.{color_end, color_of, heading, mark, seen_in, title, titled};
 ghost use Rattle.cobs_watch.specs.Shown.{dump_lines, hex_line, is_plain, raw_of, spaced, styled, text_line};
 
 use crate::dump::write_dump;
@@ -71,6 +71,31 @@ fn write_title<W: Write>(output: &mut W, kind: Kind, len: usize) -> io::Result<(
     }
 }
 
+/// Writes what begins the line of a piece: its title, and a mark if it has bytes that are no message.
+fn write_heading<W: Write>(output: &mut W, color: bool, piece: &Sight<'_>) -> io::Result<()>
+    ensures written { OnOk result (Appends (W.contents output.old) (W.contents output.new)
+        (heading color (seen_in piece.now))) }
+{
+    write_titled(output, color, piece.kind, piece.len)?;
+    write_mark(output, piece.kind, piece.bytes)
+}
+
+/// Writes the mark in front of bytes that are no message, if there are any.
+fn write_mark<W: Write>(output: &mut W, kind: Kind, bytes: &[u8]) -> io::Result<()>
+    ensures written { OnOk result
+        (Appends (W.contents output.old) (W.contents output.new) (mark kind bytes.now)) }
+{
+    match kind {
+        Kind::Message | Kind::BadCrc => Ok(()),
+        Kind::Broken | Kind::TooLong => {
+            if bytes.len() > 0 {
+                output.write_all(b" partial")?;
+            }
+            Ok(())
+        }
+    }
+}
+
 /// Writes a space and the bytes as digits, or nothing if there are no bytes.
 fn write_spaced<W: Write>(output: &mut W, bytes: &[u8]) -> io::Result<()>
     ensures written { OnOk result
@@ -88,7 +113,7 @@ fn write_hex<W: Write>(output: &mut W, color: bool, piece: &Sight<'_>) -> io::Re
     ensures written { OnOk result (Appends (W.contents output.old) (W.contents output.new)
         (hex_line color (seen_in piece.now))) }
 {
-    write_titled(output, color, piece.kind, piece.len)?;
+    write_heading(output, color, piece)?;
     write_spaced(output, piece.bytes)?;
     output.write_all(b"\n")
 }
@@ -98,7 +123,7 @@ fn write_text<W: Write>(output: &mut W, color: bool, piece: &Sight<'_>) -> io::R
     ensures written { OnOk result (Appends (W.contents output.old) (W.contents output.new)
         (text_line color (seen_in piece.now))) }
 {
-    write_titled(output, color, piece.kind, piece.len)?;
+    write_heading(output, color, piece)?;
     match plain_text(piece.bytes) {
         Some(text) => {
             if text.len() > 0 {
@@ -144,7 +169,7 @@ fn write_dumped<W: Write>(output: &mut W, color: bool, piece: &Sight<'_>) -> io:
     ensures written { OnOk result (Appends (W.contents output.old) (W.contents output.new)
         (dump_lines color (seen_in piece.now))) }
 {
-    write_titled(output, color, piece.kind, piece.len)?;
+    write_heading(output, color, piece)?;
     output.write_all(b"\n")?;
     write_dump(output, piece.bytes)
 }

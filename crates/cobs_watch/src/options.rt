@@ -120,6 +120,7 @@ fn with_show_options<'a>(alloc: Global, command: Command<'a>) -> Result<Command<
     );
     let command = with_styles(alloc, command.next_help_heading("Styles"))?
         .arg(number)?
+        .arg(partial_option(alloc)?)?
         .arg(time_option(alloc)?)?
         .arg(color_option(alloc))?;
     let command = with_filters(alloc, command.next_help_heading("Filters"))?;
@@ -133,6 +134,16 @@ fn with_show_options<'a>(alloc: Global, command: Command<'a>) -> Result<Command<
             .arg(skip_first)?
             .arg(count)?,
     )
+}
+
+/// The option that shows what was decoded of other pieces than messages.
+fn partial_option<'a>(alloc: Global) -> Result<Arg<'a>, Error> {
+    let partial = flag(
+        alloc,
+        "partial",
+        "Show what was decoded of broken and too long pieces, behind the word partial",
+    );
+    Ok(partial.conflicts_with("raw")?)
 }
 
 /// The option that says whether lines have colours.
@@ -281,7 +292,7 @@ fn with_filters<'a>(alloc: Global, command: Command<'a>) -> Result<Command<'a>, 
     let prefix = Arg::new(alloc, "prefix")
         .long("prefix")
         .value_name("HEX")
-        .help("Show messages that begin with these bytes");
+        .help("Show messages that begin with these bytes; with --partial also other pieces");
     Ok(command.arg(only)?.arg(min)?.arg(max)?.arg(prefix)?)
 }
 
@@ -299,6 +310,7 @@ fn show_task(alloc: Global, matches: &ArgMatches<'_>, auto_color: bool) -> Resul
                 stamp: stamp_of(matches),
                 filter: filter_of(alloc, matches)?,
                 checksum: checksum_of(matches),
+                partial: matches.get_flag("partial"),
             },
             length: length.min(MAX_LENGTH),
             sentinel: sentinel_of(matches),

@@ -25,6 +25,7 @@ pub struct Sight<'a> {
     /// How many bytes it decodes to; `usize::MAX` if they are too many to be held.
     pub len: usize,
 
-    /// The bytes of a message, without a checksum that is right; none of broken pieces and of those that are too long.
+    /// The bytes of a message, without a checksum that is right; of a piece that is broken or too long what was decoded
+    /// of it, or none if that isn't shown.
     pub bytes: &'a [u8],
 }

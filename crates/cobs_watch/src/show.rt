@@ -14,9 +14,9 @@ ghost use Rattle.cobs_watch.specs.Watched.{HasShown, IsFlushed, begun, skips_on}
 
 use crate::clock::{Timer, Times};
 use crate::fault::WatchFault;
-use crate::shown::{Settings, View, show_end, show_piece, sight_of};
+use crate::shown::{Settings, View, show_end, show_piece, sight_of, with_part};
 use crate::tally::Tally;
-use cobs::laws::law_9;
+use cobs::laws::{law_9, law_12};
 use cobs::{DecoderPhase, UnbufferedDecoder};
 use std::alloc::{AllocError, Global};
 use std::io::{BufWriter, ErrorKind, Read, Write};
@@ -242,11 +242,13 @@ fn show_bytes<W: Write>(
         (λ fault. (fault ≢ WatchFault.ReadFailed) × (fault ≢ WatchFault.OutOfMemory)) }
 {
     law_9();
+    law_12();
     let mut at = 0;
     'by_piece: while let Some((end, count)) = decoder.feed_piece(message, &bytes[at..]) {
         let piece = sight_of(view.checksum, end, message);
         tally.count_piece(piece.kind);
         let time = clock.next(view.stamp);
+        let piece = with_part(view.partial, &piece, message);
         show_piece(output, view, tally.pieces, time, &piece)?;
         at += count;
     }

@@ -2,7 +2,7 @@
 ghost use Rattle.std.specs.Prelude.{◌≡◌, OnOk, length};
 ghost use Rattle.std.specs.Io.KnownBytes.{Appends};
 ghost use Rattle.cobs.specs.FeedPiece.{IsWithin, outcome_at};
-ghost use Rattle.cobs_watch.specs.Seen.{seen_in, seen_message, seen_of, whole};
+ghost use Rattle.cobs_watch.specs.Seen.{held, seen_in, seen_message, seen_of, whole, with_part};
 ghost use Rattle.cobs_watch.specs.Shown.{has_kind, in_front, in_view, passes, shown_end};
 
 use crate::clock::{Stamp, write_stamp};
@@ -51,7 +51,7 @@ pub struct Filter {
     pub min: usize,
     pub max: usize,
 
-    /// The first bytes of each message that is shown. If there are any, no other piece is shown.
+    /// The first bytes of each piece that is shown. If there are any, pieces whose bytes aren't shown are held back.
     pub prefix: Vec<u8>,
 }
 
@@ -75,6 +75,9 @@ pub struct View {
 
     /// The checksum that each message is to end with, if any. One that is right isn't shown.
     pub checksum: Option<Checksum>,
+
+    /// Whether the bytes that were decoded of a piece that is broken or too long are shown, as far as they are held.
+    pub partial: bool,
 }
 
 /// How a stream is read and shown.
@@ -133,6 +136,26 @@ fn whole(kind: Kind, bytes: &[u8]) -> Sight<'_>
     Sight {
         kind,
         len: bytes.len(),
+        bytes,
+    }
+}
+
+/// With `partial`, the piece with what the buffer holds of it, if it is broken or too long; else the piece itself.
+pub fn with_part<'a>(partial: bool, piece: &Sight<'a>, buffer: &'a [u8]) -> Sight<'a>
+    ensures seen { seen_in result
+        ≡ with_part partial (seen_in piece.now) (held piece.now.kind piece.now.len buffer.now) }
+{
+    if !partial {
+        return *piece;
+    }
+    let bytes = match piece.kind {
+        Kind::Message | Kind::BadCrc => piece.bytes,
+        Kind::Broken => &buffer[..piece.len.min(buffer.len())],
+        Kind::TooLong => buffer,
+    };
+    Sight {
+        kind: piece.kind,
+        len: piece.len,
         bytes,
     }
 }

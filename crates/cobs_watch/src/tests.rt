@@ -97,6 +97,36 @@ const TIMED: [(Style, Stamp, &[u8]); 4] = [
     ),
 ];
 
+/// A broken piece, one that is too long for four bytes, one that decodes to nothing, and a message, with what was
+/// decoded of each.
+const PARTIAL: [(Style, &[u8]); 5] = [
+    (
+        Style::Hex,
+        b"broken 2 partial 6162\ntoo long partial 76777879\nbroken 0\nmessage 1 63\n",
+    ),
+    (
+        Style::Text,
+        b"broken 2 partial ab\ntoo long partial vwxy\nbroken 0\nmessage 1 c\n",
+    ),
+    (Style::Raw, b"c\n"),
+    (
+        Style::Hexdump,
+        b"broken 2 partial\n\
+        00000000  61 62                                             |ab|\n\
+        too long partial\n\
+        00000000  76 77 78 79                                       |vwxy|\n\
+        broken 0\nmessage 1\n\
+        00000000  63                                                |c|\n",
+    ),
+    (
+        Style::Json,
+        b"{\"frame\":1,\"kind\":\"broken\",\"length\":2,\"hex\":\"6162\"}\n\
+        {\"frame\":2,\"kind\":\"too long\",\"hex\":\"76777879\"}\n\
+        {\"frame\":3,\"kind\":\"broken\",\"length\":0}\n\
+        {\"frame\":4,\"kind\":\"message\",\"length\":1,\"hex\":\"63\",\"text\":\"c\"}\n",
+    ),
+];
+
 /// Lines, and what they are sent as.
 const SENT: [(bool, &[u8], &[u8], bool); 3] = [
     (
@@ -235,6 +265,7 @@ fn settings(alloc: Global, style: Style, stamp: Stamp) -> Settings {
                 prefix: Vec::new(alloc),
             },
             checksum: None,
+            partial: false,
         },
         length: 4,
         sentinel: 0,
@@ -344,6 +375,27 @@ fn a_right_checksum_is_stripped_and_a_wrong_one_named(rt: HostRuntime) -> Result
     assert!(rt;
         tally.is_ok_and(|tally| tally.messages == 1 && tally.bad_crc == 2 && tally.checked)
     );
+    Ok(())
+}
+
+#[test]
+fn what_was_decoded_of_other_pieces_is_marked(rt: HostRuntime) -> Result<(), Fail> {
+    let alloc = rt.alloc();
+    for (style, shown) in PARTIAL {
+        let mut how = settings(alloc, style, Stamp::Untimed);
+        how.view.partial = true;
+        let mut input: &[u8] = b"\x05ab\x00\x06vwxyz\x00\x05\x00\x02c\x00";
+        let mut output = BufWriter::new(alloc, Vec::new(alloc))?;
+        let done = run_show(
+            alloc,
+            &how,
+            &timer(Stamp::Untimed)?,
+            &mut input,
+            &mut output,
+        );
+        assert!(rt; done.is_ok());
+        assert_eq!(rt; output.get_ref().as_slice(), shown);
+    }
     Ok(())
 }
 

@@ -1,6 +1,7 @@
 use Rattle.std.proofs.Common.{◌-◌, ℕ, List, length, take, drop, refl, ap, sym, ◌∙◌, arith, length-take, length-drop}
 use Rattle.cobs.specs.FeedPiece.{outcome_at}
-use Rattle.cobs_watch.specs.Seen.{Seen}
+use Rattle.cobs_watch.specs.Seen.{Seen, seen_in}
+use Rattle.cobs_watch.proofs.PartLemmas.{IsLastPiece-taken}
 use Rattle.cobs_watch.proofs.ShowLemmas.{ShowsBytes-start, ShowsBytes-piece, ShowsBytes-rest, shown_now, take-piece, take-rest}
 use Rattle.cobs_watch.proofs.TimeLemmas.{IsReadAt-next}
 use Rattle.cobs_watch.proofs.show.show_bytes.Goals as goal
@@ -20,8 +21,9 @@ by_piece-preserved g c =
       so_far = λ p d gone read t times r.
           (let s = c.by_piece.invariant.so_far p d gone read t times r in
           let counted = c.count_piece.ensures.one_more _ _ _ (outcome_at c.in-Some.end c.feed_piece.new.dest) (sym (ap (λ (seen : Seen). seen.kind) c.sight_of-piece.ensures.seen)) s.tallied in
-          rw (take-piece at count c.args.bytes.now) (ShowsBytes-piece (assumption c.law_9.ensures) s (take count stream) (outcome_at c.in-Some.end c.feed_piece.new.dest) h.takes.len (h.takes.after _ s.taken) (h.takes.outcomes _ s.taken)
-          (shown_now c.args.view.now times _ _ _ _ _ _ _ _ c.sight_of-piece.ensures.seen counted s.timed (rw c.next-time.ensures.time at c.in_ok-show_piece.ensures.shown)) counted
+          let last = IsLastPiece-taken (assumption c.law_9.ensures) c.law_12.ensures.last_ended h _ s.taken c.args.view.now.checksum c.args.view.now.partial (seen_in c.sight_of-piece.result) c.sight_of-piece.ensures.seen in
+          rw (take-piece at count c.args.bytes.now) (ShowsBytes-piece (assumption c.law_9.ensures) s (take count stream) (outcome_at c.in-Some.end c.feed_piece.new.dest) last.piece h.takes.len (h.takes.after _ s.taken) (h.takes.outcomes _ s.taken) last.ended
+          (shown_now c.args.view.now times _ _ _ _ _ _ _ _ last.piece (c.with_part-piece.ensures.seen ∙ last.seen_so) counted s.timed (rw c.next-time.ensures.time at c.in_ok-show_piece.ensures.shown)) counted
           (IsReadAt-next times _ _ _ _ s.timed c.next-time.ensures.last c.next-time.ensures.now)));
     }
 
