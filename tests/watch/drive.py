@@ -563,7 +563,7 @@ TOPICS = {
     "Styles": ["--text", "--raw", "--hexdump", "--json", "--partial", "--number", "--time", "--color"],
     "Filters": ["--only", "--min", "--max", "--prefix"],
     "Checksums": ["--crc", "--crc-order"],
-    "The stream": ["--length", "--sentinel", "--skip-first", "--count"],
+    "The stream": ["--length", "--sentinel", "--skip-first", "--count", "--count-every"],
 }
 SEND_TOPICS = {"Options": ["--hex", "--sentinel", "--help"], "Checksums": ["--crc", "--crc-order"]}
 
@@ -626,6 +626,27 @@ def counts():
     )
     wanted = f"messages {kinds.count('message')}, broken {kinds.count('broken')}, too long {kinds.count('too long')}, bytes {len(STREAM)}\n"
     same(done.stderr.decode(), wanted)
+
+
+def counted_while_read(words, gap):
+    """What is on standard error after three frames, each sent when the one before has been shown and the gap is over."""
+    with subprocess.Popen([WATCH, *words], stdin=subprocess.PIPE, stdout=subprocess.PIPE, stderr=subprocess.PIPE) as watch:
+        for _ in range(3):
+            watch.stdin.write(b"\x02a\0")
+            watch.stdin.flush()
+            same(watch.stdout.readline(), b"message 1 61\n")
+            time.sleep(gap)
+        return watch.communicate(timeout=60)[1].decode().splitlines()
+
+
+@part
+def counts_while_bytes_come():
+    each = [f"messages {n}, broken 0, too long 0, bytes {3 * n}" for n in (1, 2, 3)]
+    same(counted_while_read(["--count-every", "0"], 0), each)
+    same(counted_while_read(["--count-every", "0", "--count"], 0), [*each, each[2]])
+    same(counted_while_read(["--count-every", "4294967295"], 0), [])
+    # How long the start takes decides whether the first frame is counted by itself, but a second passes before the others.
+    same(counted_while_read(["--count-every", "1"], 1.1)[-2:], each[1:])
 
 
 @part

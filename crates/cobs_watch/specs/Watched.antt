@@ -72,5 +72,5 @@ IsWriteFault error fault = ((error_kind error ≡ BrokenPipe) × (fault ≡ Outp
 
 -- a task that the command line offers: no message longer than 16 MiB is held
 abbrev pub IsOffered : Task → Type 0
-IsOffered (Show settings count) = settings.length ≤ 16777216
+IsOffered (Show settings count count_every) = settings.length ≤ 16777216
 IsOffered (Send settings) = Unit {0}

@@ -80,12 +80,32 @@ impl Times {
         Times { last: 0, now: 0 }
     }
 
+    /// The clock was read at the start.
+    pub fn at_start<C: Clock + Drop>(timer: &Timer<C>) -> Self {
+        Times {
+            last: 0,
+            now: timer.base,
+        }
+    }
+
     /// Reads the clock.
     pub fn update<C: Clock + Drop>(&mut self, timer: &Timer<C>)
         ensures later { self.old.last ≤ self.new.now }
         ensures last { self.new.last ≡ self.old.last }
     {
         self.now = timer.read(self.last);
+    }
+
+    /// Whether this many milliseconds, if a number is given, have passed since this was read. It is read now then.
+    pub fn is_over(&mut self, interval: Option<u64>, now: u64) -> bool {
+        let Some(interval) = interval else {
+            return false;
+        };
+        if now.saturating_sub(self.now) < interval {
+            return false;
+        }
+        self.now = now;
+        true
     }
 
     /// The time of a piece that was read now.

@@ -58,9 +58,21 @@ fn main(rt: HostRuntime) -> anyhow::Result<ExitCode> {
     };
     let mut output = BufWriter::with_capacity(rt.alloc(), OUTPUT_LEN, rt.stdout())?;
     match task {
-        Task::Show { settings, count } => {
+        Task::Show {
+            settings,
+            count,
+            count_every,
+        } => {
             let timer = Timer::new(&rt, settings.view.stamp)?;
-            let tally = run_show(rt.alloc(), &settings, &timer, &mut rt.stdin(), &mut output);
+            let tally = run_show(
+                rt.alloc(),
+                &settings,
+                count_every,
+                &timer,
+                &mut rt.stdin(),
+                &mut output,
+                &mut rt.stderr(),
+            );
             Ok(show_ended(&rt, tally, count))
         }
         Task::Send(settings) => {

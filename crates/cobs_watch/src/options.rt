@@ -34,8 +34,12 @@ const SEND_EXAMPLES: &str = "Examples:
 /// What the program is to do.
 #[derive(Debug, PartialEq, Eq, Drop)]
 pub enum Task {
-    /// Show a stream, and at its end the count of what came where it is asked for.
-    Show { settings: Settings, count: bool },
+    /// Show a stream. Count what came, where it is asked for: at its end, and at intervals of this many milliseconds.
+    Show {
+        settings: Settings,
+        count: bool,
+        count_every: Option<u64>,
+    },
 
     /// Send lines as frames.
     Send(send::Settings),
@@ -108,11 +112,6 @@ fn with_show_options<'a>(alloc: Global, command: Command<'a>) -> Result<Command<
         "skip-first",
         "Skip all bytes up to the first sentinel: the line may be in the middle of a frame",
     );
-    let count = flag(
-        alloc,
-        "count",
-        "At the end, count messages, broken pieces, too long ones and bytes on standard error",
-    );
     let number = flag(
         alloc,
         "number",
@@ -125,15 +124,28 @@ fn with_show_options<'a>(alloc: Global, command: Command<'a>) -> Result<Command<
         .arg(color_option(alloc))?;
     let command = with_filters(alloc, command.next_help_heading("Filters"))?;
     let command = with_checksum(alloc, command, "The checksum at the end of each message")?;
-    Ok(
-        command
-            .after_help(SHOW_EXAMPLES)
-            .next_help_heading("The stream")
-            .arg(length)?
-            .arg(sentinel_option(alloc))?
-            .arg(skip_first)?
-            .arg(count)?,
-    )
+    let command = command
+        .after_help(SHOW_EXAMPLES)
+        .next_help_heading("The stream")
+        .arg(length)?
+        .arg(sentinel_option(alloc))?
+        .arg(skip_first)?;
+    with_counts(alloc, command)
+}
+
+/// The command with the options that count.
+fn with_counts<'a>(alloc: Global, command: Command<'a>) -> Result<Command<'a>, Error> {
+    let count = flag(
+        alloc,
+        "count",
+        "At the end, count messages, broken pieces, too long ones and bytes on standard error",
+    );
+    let count_every = Arg::new(alloc, "count-every")
+        .long("count-every")
+        .value_name("SECONDS")
+        .value_parser(value_parser!(u32))
+        .help("Count what came so far, each time that bytes come SECONDS after the last count");
+    Ok(command.arg(count)?.arg(count_every)?)
 }
 
 /// The option that shows what was decoded of other pieces than messages.
@@ -317,6 +329,9 @@ fn show_task(alloc: Global, matches: &ArgMatches<'_>, auto_color: bool) -> Resul
             skip_first: matches.get_flag("skip-first"),
         },
         count: matches.get_flag("count"),
+        count_every: matches
+            .get_one::<u32>("count-every")
+            .map(|seconds| 1_000 * u64::from(seconds)),
     })
 }
 

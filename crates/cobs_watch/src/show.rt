@@ -31,16 +31,21 @@ pub const CHUNK_LEN: usize = 65_536;
 /// whatever has ended in the bytes that came has left the program while the next ones are waited for. Memory is
 /// allocated before the first read alone: for a message of the greatest length, and for a chunk of the input.
 ///
+/// With `count_every`, the counts so far are written to `errors` each time that bytes come and this many milliseconds have
+/// passed since the start, or since they were written last. A failure to write them there is no fault.
+///
 /// - `ReadFailed`: a read failed. What had ended in all bytes before it is shown.
 /// - `WriteFailed`: a write or a flush failed. How much of it went out is not known.
 /// - `OutputClosed`: the same, since nobody reads the output any more.
 /// - `OutOfMemory`: memory ran out. Nothing was read, and nothing written.
-pub fn run_show<C: Clock + Drop, R: Read, W: Write + Drop>(
+pub fn run_show<C: Clock + Drop, R: Read, W: Write + Drop, E: Write>(
     alloc: Global,
     settings: &Settings,
+    count_every: Option<u64>,
     timer: &Timer<C>,
     input: &mut R,
     output: &mut BufWriter<W>,
+    errors: &mut E,
 ) -> Result<Tally, WatchFault>
     requires flushed { writer_buffer output.old ≡ [] }
     ensures shown { HasShown settings.now result (R.remaining input.old) (R.remaining input.new)
@@ -49,9 +54,13 @@ pub fn run_show<C: Clock + Drop, R: Read, W: Write + Drop>(
 {
     let mut watch = Watch::new(alloc, settings)?;
     let mut chunk = vec![in alloc; 0; CHUNK_LEN]?;
+    let mut counted = Times::at_start(timer);
     'by_read: for _read in 0..usize::MAX {
         if !watch.show_next(timer, &mut chunk, input, output)? {
             return Ok(watch.tally);
+        }
+        if counted.is_over(count_every, watch.clock.now) {
+            let _ = writeln!(errors, "{}", watch.tally);
         }
     }
     Err(WatchFault::ReadFailed)

@@ -282,7 +282,15 @@ fn show<R: Read, W: Write + Drop>(
     requires flushed { writer_buffer output.old ≡ [] }
 {
     let settings = settings(alloc, Style::Hex, Stamp::Untimed);
-    Ok(run_show(alloc, &settings, &timer(Stamp::Untimed)?, input, output))
+    Ok(run_show(
+        alloc,
+        &settings,
+        None,
+        &timer(Stamp::Untimed)?,
+        input,
+        output,
+        &mut Vec::new(alloc),
+    ))
 }
 
 #[test]
@@ -294,9 +302,11 @@ fn a_stream_is_shown_in_each_style(rt: HostRuntime) -> Result<(), Fail> {
         let tally = run_show(
             alloc,
             &settings(alloc, style, Stamp::Untimed),
+            None,
             &timer(Stamp::Untimed)?,
             &mut input,
             &mut output,
+            &mut Vec::new(alloc),
         );
         assert_eq!(rt; output.get_ref().as_slice(), shown);
         assert_eq!(rt;
@@ -326,13 +336,40 @@ fn each_kind_has_its_colour(rt: HostRuntime) -> Result<(), Fail> {
         let done = run_show(
             alloc,
             &how,
+            None,
             &timer(Stamp::Untimed)?,
             &mut input,
             &mut output,
+            &mut Vec::new(alloc),
         );
         assert!(rt; done.is_ok());
         assert_eq!(rt; output.get_ref().as_slice(), shown);
     }
+    Ok(())
+}
+
+#[test]
+fn counts_are_written_after_each_interval(rt: HostRuntime) -> Result<(), Fail> {
+    let alloc = rt.alloc();
+    let settings = settings(alloc, Style::Hex, Stamp::Untimed);
+    // A read each 250 ms, of one byte: the fourth and the eighth end a second.
+    let mut input = reader(b"\x02a\x00\x03b\x00\x02c\x00", usize::MAX, ErrorKind::Other);
+    let mut output = BufWriter::new(alloc, Vec::new(alloc))?;
+    let mut errors = Vec::new(alloc);
+    let done = run_show(
+        alloc,
+        &settings,
+        Some(1_000),
+        &timer(Stamp::Utc)?,
+        &mut input,
+        &mut output,
+        &mut errors,
+    );
+    assert!(rt; done.is_ok());
+    assert_eq!(rt;
+        errors.as_slice(),
+        b"messages 1, broken 0, too long 0, bytes 4\nmessages 1, broken 1, too long 0, bytes 8\n".as_slice(),
+    );
     Ok(())
 }
 
@@ -343,7 +380,15 @@ fn each_piece_has_its_time(rt: HostRuntime) -> Result<(), Fail> {
         let mut input = reader(STREAM, usize::MAX, ErrorKind::Other);
         let mut output = BufWriter::new(alloc, Vec::new(alloc))?;
         let settings = settings(alloc, style, stamp);
-        let done = run_show(alloc, &settings, &timer(stamp)?, &mut input, &mut output);
+        let done = run_show(
+            alloc,
+            &settings,
+            None,
+            &timer(stamp)?,
+            &mut input,
+            &mut output,
+            &mut Vec::new(alloc),
+        );
         assert!(rt; done.is_ok());
         assert_eq!(rt; output.get_ref().as_slice(), shown);
     }
@@ -364,9 +409,11 @@ fn a_right_checksum_is_stripped_and_a_wrong_one_named(rt: HostRuntime) -> Result
     let tally = run_show(
         alloc,
         &how,
+        None,
         &timer(Stamp::Untimed)?,
         &mut input,
         &mut output,
+        &mut Vec::new(alloc),
     );
     assert_eq!(rt;
         output.get_ref().as_slice(),
@@ -389,9 +436,11 @@ fn what_was_decoded_of_other_pieces_is_marked(rt: HostRuntime) -> Result<(), Fai
         let done = run_show(
             alloc,
             &how,
+            None,
             &timer(Stamp::Untimed)?,
             &mut input,
             &mut output,
+            &mut Vec::new(alloc),
         );
         assert!(rt; done.is_ok());
         assert_eq!(rt; output.get_ref().as_slice(), shown);
