@@ -57,8 +57,8 @@ pub fn law_1()
 /// Each message has exactly one encoded frame.
 ///
 /// So what encoders give may be compared byte by byte, be it to find a message in a store or to check a signature, and
-/// two encoders that keep to the definition agree. Its length is that by which `try_encode` and `CobsEncoder` accept
-/// and an error. If the message is one of bytes, so is its frame.
+/// two encoders that keep to the definition agree. By its length `try_encode` and `CobsEncoder` decide whether it fits.
+/// If the message is one of bytes, so is its frame.
 ///
 /// ```
 /// fn encode_again(message: &[u8], frame: &[u8], dest: &mut [u8]) -> usize
@@ -245,7 +245,7 @@ pub fn law_9()
 
 /// Damage between two sentinels stays between them: what is changed, lost or added there, sentinels too, leaves the
 /// outcomes before the first and after the second as they are. If no sentinel is between them, one piece
-/// does, with one outcome; two sentinels side by side have none between them.
+/// is, with one outcome; two sentinels side by side have none between them.
 ///
 /// So a receiver of a noisy link, or a reader of a damaged file of records, loses no message but those that the damage
 /// touches.

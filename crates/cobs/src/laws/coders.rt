@@ -96,8 +96,8 @@ pub fn law_16()
 {}
 
 /// A decoder, byte by byte. The step of the table takes a byte in any phase as the streaming decoders do. Bytes that
-/// are taken one by one, of which no zero returns the end of a piece, are all taken as `feed_piece` takes them; and so
-/// are those through the first zero that is.
+/// are taken one by one, none of them a zero that ends a piece, are all taken as `feed_piece` takes them; and so are
+/// those through the first zero that ends one.
 ///
 /// So a decoder of one's own that keeps to the step decodes what the streaming decoders decode, and a loop over
 /// `feed_byte` is a `feed_piece`.
