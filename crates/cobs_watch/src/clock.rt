@@ -1,5 +1,5 @@
 //! When pieces were read.
-ghost use Rattle.std.specs.Prelude.{◌≡◌, ◌≤◌, OnOk};
+ghost use Rattle.std.specs.Prelude.{◌≡◌, ◌≤◌, ◌-◌, ◌↔◌, OnOk, IfSome, IsTrue, None, false, if◌then◌else◌};
 ghost use Rattle.std.specs.Io.KnownBytes.{Appends};
 ghost use Rattle.cobs_watch.specs.Timed.{json_time, seconds, stamped, time_of, time_of_day};
 
@@ -81,7 +81,9 @@ impl Times {
     }
 
     /// The clock was read at the start.
-    pub fn at_start<C: Clock + Drop>(timer: &Timer<C>) -> Self {
+    pub fn at_start<C: Clock + Drop>(timer: &Timer<C>) -> Self
+        ensures last { result.last ≡ 0 }
+    {
         Times {
             last: 0,
             now: timer.base,
@@ -97,7 +99,12 @@ impl Times {
     }
 
     /// Whether this many milliseconds, if a number is given, have passed since this was read. It is read now then.
-    pub fn is_over(&mut self, interval: Option<u64>, now: u64) -> bool {
+    pub fn is_over(&mut self, interval: Option<u64>, now: u64) -> bool
+        ensures unasked { interval ≡ None → result ≡ false }
+        ensures over { IfSome interval (λ interval. IsTrue result ↔ interval ≤ now - self.old.now) }
+        ensures now { self.new.now ≡ (if result then now else self.old.now) }
+        ensures last { self.new.last ≡ self.old.last }
+    {
         let Some(interval) = interval else {
             return false;
         };
