@@ -1,7 +1,7 @@
 #!/usr/bin/env python3
 """Measures cobs_watch over much data: its speed beside a plain program's, and its memory.
 
-    speed.py WATCH PLAIN [MIB]     PLAIN is the built plain.c. MIB of telemetry are read, 128 if not given.
+    speed.py WATCH PLAIN [MIB]     PLAIN is the built plain.c. MIB of each of three streams are read, 128 if not given.
 """
 
 import os
@@ -14,15 +14,32 @@ WATCH, PLAIN = sys.argv[1:3]
 MIB = int(sys.argv[3]) if len(sys.argv) > 3 else 128
 
 
+def frame_of(message):
+    """The frame of a message of less than 254 bytes, and its sentinel."""
+    return b"".join(bytes([len(run) + 1]) + run for run in message.split(b"\0")) + b"\0"
+
+
 def telemetry():
-    """A mebibyte and a little more: frames of messages of 20 to 59 bytes, of which two in five are zeros."""
+    """A message of 20 to 64 bytes, of which a tenth are zeros: what bench/ calls telemetry."""
+    return bytes(0 if random.random() < 0.1 else random.randrange(1, 256) for _ in range(random.randrange(20, 65)))
+
+
+def dense():
+    """A message of 20 to 59 bytes, of which two in five are zeros."""
+    return bytes(random.choice((0, 0, 1, 255, random.randrange(256))) for _ in range(random.randrange(20, 60)))
+
+
+def noise():
+    """A message of 200 to 250 random bytes."""
+    return random.randbytes(random.randrange(200, 251))
+
+
+def stream_of(message):
+    """A mebibyte and a little more of frames of such messages."""
     random.seed(7)
     out = bytearray()
     while len(out) < 1 << 20:
-        message = bytes(random.choice((0, 0, 1, 255, random.randrange(256))) for _ in range(random.randrange(20, 60)))
-        for run in message.split(b"\0"):
-            out += bytes([len(run) + 1]) + run
-        out += b"\0"
+        out += frame_of(message())
     return bytes(out)
 
 
@@ -49,32 +66,43 @@ def memory_of(words, block):
     return int(most.split()[1]) / 1024
 
 
-def main():
-    """Measures each style three times, in turn, and takes the best."""
-    block = telemetry()
+STYLES = (("hexadecimal", []), ("--raw", ["--raw"]))
+
+
+def same_output(held, words):
+    """Whether both programs write the same."""
+    said = []
+    for program in (WATCH, PLAIN):
+        held.seek(0)
+        said.append(subprocess.run([program, *words], stdin=held, stdout=subprocess.PIPE, check=True).stdout)
+    return said[0] == said[1]
+
+
+def measure(name, block):
+    """Prints how fast both programs are in each style: the best of three runs, in turn."""
     with tempfile.TemporaryFile() as held:
         held.write(block)
         held.flush()
-        held.seek(0)
-        wanted = subprocess.run([PLAIN], stdin=held, stdout=subprocess.PIPE, check=True).stdout
-        held.seek(0)
-        same = subprocess.run([WATCH], stdin=held, stdout=subprocess.PIPE, check=True).stdout == wanted
-        held.seek(0, os.SEEK_END)
+        for style, words in STYLES:
+            assert same_output(held, words), (name, style)
         for _ in range(MIB - 1):
             held.write(block)
         held.flush()
-        size = len(block) * MIB
-        for name, words, plain in (("hexadecimal", [], []), ("--raw", ["--raw"], ["--raw"])):
-            best = [
-                min(timed([program, *more], held) for _ in range(3))
-                for program, more in ((WATCH, words), (PLAIN, plain))
-            ]
-            print(
-                f"{name}: cobs_watch {size / best[0] / 1e6:.0f} MB/s, plain C {size / best[1] / 1e6:.0f} MB/s of processor time"
-            )
-        memory = max(memory_of([WATCH, *words], block) for words in ([], ["--hexdump"], ["--json"]))
-        print(f"{size} bytes, at most {memory:.1f} MiB")
-        sys.exit(not (same and memory <= 16))
+        size = len(block) * MIB / 1e6
+        for style, words in STYLES:
+            runs = [[timed([program, *words], held) for program in (WATCH, PLAIN)] for _ in range(3)]
+            watch, plain = (size / min(times) for times in zip(*runs))
+            print(f"{name}, {style}: cobs_watch {watch:.0f} MB/s, plain C {plain:.0f} MB/s of processor time")
+
+
+def main():
+    """Measures streams of three kinds, and the memory over the first one."""
+    for name, message in (("telemetry", telemetry), ("dense", dense), ("random", noise)):
+        measure(name, stream_of(message))
+    block = stream_of(telemetry)
+    memory = max(memory_of([WATCH, *words], block) for words in ([], ["--hexdump"], ["--json"]))
+    print(f"{len(block) * MIB} bytes, at most {memory:.1f} MiB")
+    assert memory <= 16
 
 
 main()
