@@ -11,7 +11,7 @@ ghost use Rattle.cobs.specs.Internal.FedInTurn.{FedInTurn};
 
 use crate::dec::piece::{decode_head, piece_len};
 use crate::dec::unbuffered::{FULL, UnbufferedDecoder};
-use crate::dec::{LONG, MANY};
+use crate::dec::{FEW, LONG, MANY};
 use crate::enc::FULL_CODE;
 use crate::lanes::copy_to_zero;
 use crate::window::{WIDE_WINDOW, WINDOW, is_all, write_zeros};
@@ -333,7 +333,7 @@ impl UnbufferedDecoder {
             dest.new (phase_of self.new) }
     {
         // A piece that is too long has a result for each byte.
-        if self.over {
+        if self.over || bytes.len() <= FEW {
             return 0;
         }
         // A copy, so that it stays in registers.

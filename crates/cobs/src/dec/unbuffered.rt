@@ -10,7 +10,7 @@ ghost use Rattle.cobs.specs.FeedPiece.{TakesBytes, TakesPiece};
 
 use crate::dec::frame_decoder::{PieceEnd, piece_end};
 use crate::dec::piece::piece_len;
-use crate::dec::{DecodeError, DecodeReport, FEW, PushError};
+use crate::dec::{DecodeError, DecodeReport, PushError};
 use crate::enc::FULL_CODE;
 use std::mem;
 
@@ -272,25 +272,6 @@ impl UnbufferedDecoder {
         self.step(dest, byte)
     }
 
-    /// Does what `push` does, by a step for each byte.
-    fn push_few(&mut self, dest: &mut [u8], bytes: &[u8]) -> Result<Option<DecodeReport>, PushError>
-        ensures pushes { PushesBytes dest.old (phase_of self.old) bytes.now result
-            dest.new (phase_of self.new) }
-    {
-        'by_byte: for i in 0..bytes.len() {
-            let parsed = i + 1;
-            match self.feed(dest, bytes[i]) {
-                Ok(None) => {}
-                Ok(Some(len)) => return Ok(Some(DecodeReport::new(parsed, len))),
-                Err(error) => return Err(PushError {
-                    error,
-                    parsed_size: parsed,
-                }),
-            }
-        }
-        Ok(None)
-    }
-
     /// Takes bytes of the stream, over this buffer, up to the first one whose result by `feed` isn't `Ok(None)`, as
     /// [`CobsDecoder::push`](crate::CobsDecoder::push) does.
     ///
@@ -311,9 +292,6 @@ impl UnbufferedDecoder {
         ensures pushes { PushesBytes dest.old (phase_of self.old) bytes.now result
             dest.new (phase_of self.new) }
     {
-        if bytes.len() <= FEW {
-            return self.push_few(dest, bytes);
-        }
         let mut at = 0;
         'by_run: while at < bytes.len() {
             at += self.take_run(dest, &bytes[at..]);
