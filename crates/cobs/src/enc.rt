@@ -17,7 +17,7 @@ pub(crate) use blocks::FULL_CODE;
 use blocks::{append_short, append_windows, close, close_runs, is_short};
 pub use encoder::CobsEncoder;
 pub use error::DestBufTooSmallError;
-use room::fits_any;
+use room::fits;
 pub(crate) use sentinel::xor_bytes;
 pub use sentinel::{
     encode_including_sentinels, encode_with_sentinel, try_encode_including_sentinels,
@@ -129,7 +129,7 @@ fn try_encode_long(source: &[u8], dest: &mut [u8]) -> Result<usize, DestBufTooSm
     ensures rest { IfOk result (λ n. drop n dest.new ≡ drop n dest.old) }
     ensures refused { OnErr result (dest.new ≡ dest.old) }
 {
-    if !fits_any(1, source, dest.len()) {
+    if !fits(1, source, dest.len()) {
         return Err(DestBufTooSmallError);
     }
     Ok(encode(source, dest))

@@ -2,7 +2,7 @@
 ghost use Rattle.std.specs.Prelude.{◌≡◌, ◌<◌, ◌≤◌, ◌+◌, ◌-◌, ◌++◌, ◌↔◌, IsTrue, length, replicate};
 ghost use Rattle.cobs.specs.Length.{full_blocks, runs, open_len};
 
-use crate::enc::blocks::{FULL_CODE, run_len};
+use crate::enc::blocks::run_len;
 use crate::max_encoding_overhead;
 use memchr::memrchr;
 
@@ -10,24 +10,10 @@ use memchr::memrchr;
 const FULL_BLOCK_BYTES: usize = 254;
 
 /// Whether `room` bytes, counted from the index of an open block with this code, are enough for the frame once the
-/// block has taken `source`. If the source is too short for a full block with bytes after it, its length
-/// decides that.
-#[inline(always)]
-pub(crate) fn fits(code: usize, source: &[u8], room: usize) -> bool
-    requires some { 0 < code }
-    requires open_block { code < 255 }
-    ensures fits { IsTrue result ↔ (open_len code source.now ≤ room) }
-{
-    if code + source.len() <= room.min(FULL_CODE) {
-        return true;
-    }
-    fits_any(code, source, room)
-}
-
-/// The same question, of a source of any length. Most of the time the lengths decide it: the frame is longest
-/// where no byte is a zero, and shortest where no block becomes full.
+/// block has taken `source`. Most of the time the lengths decide it: the frame is longest where no byte is a zero, and
+/// shortest where no block becomes full.
 #[inline(never)]
-pub(crate) fn fits_any(code: usize, source: &[u8], room: usize) -> bool
+pub(crate) fn fits(code: usize, source: &[u8], room: usize) -> bool
     requires some { 0 < code }
     requires open_block { code < 255 }
     ensures fits { IsTrue result ↔ (open_len code source.now ≤ room) }
