@@ -9,7 +9,8 @@ ghost use Rattle.cobs.specs.Grammar.{HasNoZero};
 ghost use Rattle.cobs.specs.Sentinel.{xor_each};
 
 use crate::window::{
-    WIDE_WINDOW, WINDOW, copy_nonzero_two, copy_window, first_zero_of_few, zeros_at,
+    WIDE_WINDOW, WINDOW, copy_nonzero_two, copy_window, first_zero_of_few, zeros_at, zeros_few,
+    zeros_two,
 };
 use std::simd::prelude::*;
 
@@ -180,7 +181,7 @@ pub(crate) fn move_to_front(buffer: &mut [u8], from: usize, len: usize)
 /// Moves `N` to `2 * N` bytes if none is a zero, and says whether it did: as two parts that may overlap.
 #[inline(always)]
 fn move_nonzero_two<const N: usize>(buffer: &mut [u8], from: usize, len: usize) -> bool
-    requires lanes { N ≤ 64 }
+    requires lanes { N ≤ 32 }
     requires within { from + len ≤ length buffer.old }
     requires some { N ≤ len }
     requires few { len ≤ N + N }
@@ -189,20 +190,14 @@ fn move_nonzero_two<const N: usize>(buffer: &mut [u8], from: usize, len: usize) 
         → buffer.new ≡ take len (drop from buffer.old) ++ drop len buffer.old }
     ensures kept { result ≡ false → buffer.new ≡ buffer.old }
 {
-    let front = Simd::<u8, N>::from_slice(&buffer[from..]);
-    let back = Simd::<u8, N>::from_slice(&buffer[from + len - N..]);
-    let zeros = front.simd_eq(Simd::splat(0)).to_bitmask()
-        | back.simd_eq(Simd::splat(0)).to_bitmask();
-    if zeros != 0 {
+    if zeros_two::<N>(&buffer[from..from + len]) != 0 {
         return false;
     }
-    front.copy_to_slice(buffer);
-    back.copy_to_slice(&mut buffer[len - N..]);
+    move_two::<N>(buffer, from, len);
     true
 }
 
-/// Moves one, two or three bytes if none is a zero, and says whether it did: the first one, the one in the middle and
-/// the last one, some of which may be the same.
+/// Moves one, two or three bytes if none is a zero, and says whether it did.
 #[inline(always)]
 fn move_nonzero_few(buffer: &mut [u8], from: usize, len: usize) -> bool
     requires within { from + len ≤ length buffer.old }
@@ -213,20 +208,10 @@ fn move_nonzero_few(buffer: &mut [u8], from: usize, len: usize) -> bool
         → buffer.new ≡ take len (drop from buffer.old) ++ drop len buffer.old }
     ensures kept { result ≡ false → buffer.new ≡ buffer.old }
 {
-    let half = len / 2;
-    let last = len - 1;
-    let front = buffer[from];
-    let middle = buffer[from + half];
-    let back = buffer[from + last];
-    let zeros = (front == 0) as u64
-        | (((middle == 0) as u64) << half)
-        | (((back == 0) as u64) << last);
-    if zeros != 0 {
+    if zeros_few(&buffer[from..from + len]) != 0 {
         return false;
     }
-    buffer[0] = front;
-    buffer[half] = middle;
-    buffer[last] = back;
+    move_few(buffer, from, len);
     true
 }
 

@@ -26,7 +26,7 @@ pub(crate) fn zeros_at<const N: usize>(bytes: &[u8], at: usize) -> u64
 /// Which of one, two or three bytes are zeros: the first one, the one in the middle and the last one, some of which may
 /// be the same.
 #[inline(always)]
-fn zeros_few(bytes: &[u8]) -> u64
+pub(crate) fn zeros_few(bytes: &[u8]) -> u64
     requires some { 0 < length bytes.now }
     requires few { length bytes.now ≤ 3 }
     ensures { result ≡ zero_mask bytes.now }
@@ -40,8 +40,8 @@ fn zeros_few(bytes: &[u8]) -> u64
 
 /// Which of `N` to `2 * N` bytes are zeros, looked at as two parts that may overlap.
 #[inline(always)]
-fn zeros_two<const N: usize>(bytes: &[u8]) -> u64
-    requires lanes { N ≤ 16 }
+pub(crate) fn zeros_two<const N: usize>(bytes: &[u8]) -> u64
+    requires lanes { N ≤ 32 }
     requires some { N ≤ length bytes.now }
     requires few { length bytes.now ≤ N + N }
     ensures { result ≡ zero_mask bytes.now }

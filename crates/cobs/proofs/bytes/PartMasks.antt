@@ -61,7 +61,7 @@ mask-times (suc k) bytes =
     omega arith
 
 -- the mask of a window, from those of its first n bytes and its last n
-pub or-window : (w : List ℕ) (len n front back : ℕ) → length w ≡ len → n ≤ len → len ≤ n + n → n ≤ 16 → front ≡ zero_mask (take n w) → back ≡ zero_mask (drop (len - n) w)
+pub or-window : (w : List ℕ) (len n front back : ℕ) → length w ≡ len → n ≤ len → len ≤ n + n → n ≤ 32 → front ≡ zero_mask (take n w) → back ≡ zero_mask (drop (len - n) w)
     → bit_or front (back * 2 ^ (len - n) % 18446744073709551616) ≡ zero_mask w
 or-window w len n front back long some few small front-is back-is =
     let k : ℕ = len - n in
@@ -70,6 +70,6 @@ or-window w len n front back long some few small front-is back-is =
     let a = length-append (replicate k 1) (drop k w) in
     let b : length {A = ℕ} (replicate k 1) ≡ k = length-replicate k 1 in
     let d = length-drop k w in
-    let most : 2 ^ length (replicate k 1 ++ drop k w) ≤ 2 ^ 32 = pow-le-pow_right {n = 2} (omega arith) {i = length (replicate k 1 ++ drop k w)} {j = 32} (omega arith) in
+    let most : 2 ^ length (replicate k 1 ++ drop k w) ≤ 2 ^ 64 = pow-le-pow_right {n = 2} (omega arith) {i = length (replicate k 1 ++ drop k w)} {j = 64} (omega arith) in
     let kept : back * 2 ^ k % 18446744073709551616 ≡ mask_behind k (drop k w) = ap (λ (m : ℕ). m % 18446744073709551616) times ∙ (let e : mask_behind k (drop k w) % 18446744073709551616 ≡ mask_behind k (drop k w) = omega arith in e) in
     ap (λ (m : ℕ). bit_or m (back * 2 ^ k % 18446744073709551616)) front-is ∙ ap (bit_or (zero_mask (take n w))) kept ∙ or-parts n k w (omega arith) (omega arith)
