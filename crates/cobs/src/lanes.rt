@@ -9,7 +9,7 @@ ghost use Rattle.cobs.specs.Grammar.{HasNoZero};
 ghost use Rattle.cobs.specs.Sentinel.{xor_each};
 
 use crate::window::{
-    WIDE_WINDOW, WINDOW, copy_nonzero_two, copy_window, first_zero_of_few, zeros_at, zeros_few,
+    WIDE_WINDOW, WINDOW, copy_nonzero, copy_window, first_zero_of_few, zeros_at, zeros_few,
     zeros_two,
 };
 use std::simd::prelude::*;
@@ -95,8 +95,9 @@ pub(crate) fn copy_to_zero(chunk: &[u8], dest: &mut [u8], at: usize) -> usize
     ensures kept { result ≡ 0 → dest.new ≡ dest.old }
 {
     if WIDE_WINDOW <= chunk.len() {
-        if copy_nonzero_two::<32>(chunk, 0, WIDE_WINDOW, dest, at) {
-            return WIDE_WINDOW;
+        let len = copy_nonzero(chunk, 0, WIDE_WINDOW, dest, at);
+        if len > 0 {
+            return len;
         }
         copy_wide_to_zero(chunk, dest, at)
     } else if WINDOW <= chunk.len() {

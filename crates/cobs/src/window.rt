@@ -1,5 +1,5 @@
 //! Windows of up to 32 bytes, in vectors: where their zeros are, copied, and written.
-ghost use Rattle.std.specs.Prelude.{◌≡◌, ◌<◌, ◌≤◌, ◌+◌, ◌^◌, ◌++◌, ◌↔◌, IsTrue, false, length, take, drop, replicate, slice_index};
+ghost use Rattle.std.specs.Prelude.{◌≡◌, ◌<◌, ◌≤◌, ◌+◌, ◌^◌, ◌++◌, ◌↔◌, IsTrue, length, take, drop, replicate, slice_index};
 ghost use Rattle.cobs.specs.Grammar.{HasNoZero};
 ghost use Rattle.cobs.specs.Internal.Mask.{zero_mask};
 
@@ -149,58 +149,6 @@ pub(crate) fn copy_window(source: &[u8], read: usize, len: usize, dest: &mut [u8
     } else {
         copy_few(source, read, len, dest, at)
     }
-}
-
-/// Copies the 32 bytes from `read` on if none of them is a zero, and says whether it did.
-#[inline(always)]
-pub(crate) fn copy_nonzero_32(source: &[u8], read: usize, dest: &mut [u8], at: usize) -> bool
-    requires source { read + 32 ≤ length source.now }
-    requires room { at + 32 ≤ length dest.old }
-    ensures nonzero { IsTrue result ↔ HasNoZero (take 32 (drop read source.now)) }
-    ensures copied { IsTrue result
-        → dest.new ≡ take at dest.old
-        ++ (take 32 (drop read source.now) ++ drop (at + 32) dest.old) }
-    ensures kept { result ≡ false → dest.new ≡ dest.old }
-{
-    let bytes = u8x32::from_slice(&source[read..]);
-    if bytes.simd_eq(u8x32::splat(0)).to_bitmask() != 0 {
-        return false;
-    }
-    bytes.copy_to_slice(&mut dest[at..]);
-    true
-}
-
-/// Copies the `len` bytes from `read` on, `N` to `2 * N` of them, if none is a zero, and says whether it did: as two
-/// windows that may overlap.
-#[inline(always)]
-pub(crate) fn copy_nonzero_two<const N: usize>(
-    source: &[u8],
-    read: usize,
-    len: usize,
-    dest: &mut [u8],
-    at: usize,
-) -> bool
-    requires lanes { N ≤ 64 }
-    requires source { read + len ≤ length source.now }
-    requires some { N ≤ len }
-    requires few { len ≤ N + N }
-    requires room { at + len ≤ length dest.old }
-    ensures nonzero { IsTrue result → HasNoZero (take len (drop read source.now)) }
-    ensures copied { IsTrue result
-        → dest.new ≡ take at dest.old
-        ++ (take len (drop read source.now) ++ drop (at + len) dest.old) }
-    ensures kept { result ≡ false → dest.new ≡ dest.old }
-{
-    let front = Simd::<u8, N>::from_slice(&source[read..]);
-    let back = Simd::<u8, N>::from_slice(&source[read + len - N..]);
-    let zeros = front.simd_eq(Simd::splat(0)).to_bitmask()
-        | back.simd_eq(Simd::splat(0)).to_bitmask();
-    if zeros != 0 {
-        return false;
-    }
-    front.copy_to_slice(&mut dest[at..]);
-    back.copy_to_slice(&mut dest[at + len - N..]);
-    true
 }
 
 /// Copies the `len` bytes from `read` on, at least 64 of them, up to the first 64 of which one is a zero, and returns

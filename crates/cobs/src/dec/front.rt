@@ -7,7 +7,8 @@ ghost use Rattle.cobs.specs.Stream.{head};
 
 use crate::dec::piece::piece_len;
 use crate::enc::FULL_CODE;
-use crate::window::{WINDOW, copy_nonzero, copy_nonzero_32, copy_nonzero_two, is_all, write_zeros};
+use crate::lanes::copy_xored_short;
+use crate::window::{WINDOW, copy_at, copy_nonzero, is_all, write_zeros, zeros_at};
 
 /// No step reads or writes more bytes than a full block and the code after it.
 const LONGEST_STEP: usize = FULL_CODE + 1;
@@ -40,9 +41,10 @@ pub(crate) fn decode_window(source: &[u8], dest: &mut [u8]) -> usize
         write_zeros(dest);
         return WINDOW;
     }
-    if !copy_nonzero_32(source, 1, dest, 0) {
+    if zeros_at::<32>(source, 1) != 0 {
         return 0;
     }
+    copy_at::<32>(source, 1, dest, 0);
     let mut read = 0;
     'by_code: loop {
         'alike: loop {
@@ -97,7 +99,7 @@ fn decode_long(source: &[u8], dest: &mut [u8]) -> usize
 {
     let code = source[0] as usize;
     let copied = if code <= 2 * WINDOW {
-        copy_nonzero_two::<32>(source, 1, code, dest, 0)
+        copy_xored_short(&source[1..code + 1], dest, 0)
     } else {
         copy_nonzero(source, 1, code, dest, 0) == code
     };

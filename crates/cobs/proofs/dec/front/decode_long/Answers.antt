@@ -3,7 +3,10 @@ use Rattle.std.proofs.lemmas.Bool.{eqb-true, eqb-false}
 use Rattle.std.proofs.Math.ListN.{set}
 use Rattle.cobs.specs.Grammar.{HasNoZero}
 use Rattle.cobs.specs.Internal.Decoded.{Decoded}
+use Rattle.cobs.specs.Sentinel.{xor_each}
 use Rattle.cobs.specs.Stream.{head}
+use Rattle.std.proofs.lemmas.Simd.{length-chunk}
+use Rattle.cobs.proofs.format.SentinelLemmas.{xor_each-zero}
 use Rattle.cobs.proofs.decoding.FrontSteps.{head-behind, block-stayed, long-copied}
 use Rattle.cobs.proofs.decoding.WindowSteps.{started}
 use Rattle.cobs.proofs.dec.front.decode_long.Goals as goal
@@ -16,7 +19,7 @@ returns-then-not-copied-clause-decoded c =
     let code : ℕ = get_or source 0 0 in
     elim c.if-code.branch [
       | then-code w ↦
-          subst (λ (x : List ℕ). Decoded (head source) dest x 0 0) (sym (w.dest-is ∙ w.copy_nonzero_two-copied.ensures.kept (sym w.copied-is ∙ c.if-not-copied.true))) (started (head source) dest c.requires.begun)
+          subst (λ (x : List ℕ). Decoded (head source) dest x 0 0) (sym (w.dest-is ∙ w.copy_xored_short-copied.ensures.kept (sym w.copied-is ∙ c.if-not-copied.true))) (started (head source) dest c.requires.begun)
       | else-code w ↦ (
           let e = w.copy_nonzero.ensures in
           let done : ℕ = w.copy_nonzero.result in
@@ -40,9 +43,12 @@ returns-clause-decoded c =
     elim c.if-code.branch [
       | then-code w ↦ (
           let done = sym w.copied-is ∙ c.if-not-copied.false in
-          let e = w.copy_nonzero_two-copied.ensures in
+          let e = w.copy_xored_short-copied.ensures in
+          let plain : xor_each 0 (take (code + 1 - 1) (drop 1 source)) ≡ take code (drop 1 source) = xor_each-zero _ ∙ ap (λ (n : ℕ). take n (drop 1 source)) (omega arith) in
+          let long : length (take (code + 1 - 1) (drop 1 source)) ≡ 0 + code = length-chunk 1 (code + 1 - 1) source (omega (arith, c.requires.source)) ∙ omega arith in
           subst (λ (x : List ℕ). Decoded (head source) dest (set x (code - 1) 0) code code) (sym w.dest-is)
-          (whole (e.nonzero done) w.copy_nonzero_two-copied.new.dest (e.copied done) (omega arith))
+          (whole (subst HasNoZero plain (e.nonzero done)) w.copy_xored_short-copied.new.dest
+          (e.copied done ∙ ap (λ (x : List ℕ). x ++ drop (length (take (code + 1 - 1) (drop 1 source))) dest) plain ∙ ap (λ (n : ℕ). take code (drop 1 source) ++ drop n dest) long) (omega arith))
           )
       | else-code w ↦ (
           let e = w.copy_nonzero.ensures in

@@ -1,9 +1,10 @@
 use Rattle.std.proofs.Common.{◌≡◌, ◌≢◌, ◌≤◌, ◌++◌, ◌∙◌, ℕ, List, length, take, drop, get_or, replicate, refl, sym, ap, subst, arith}
-use Rattle.std.proofs.lemmas.Bool.{true≢false}
 use Rattle.std.proofs.lemmas.List.{take_rest, drop-take}
 use Rattle.std.proofs.lemmas.List.Elements.{All-drop}
 use Rattle.cobs.specs.Grammar.{HasNoZero}
 use Rattle.cobs.specs.Stream.{head}
+use Rattle.cobs.proofs.bytes.MaskLemmas.{zero_mask-none}
+use Rattle.cobs.proofs.bytes.NonzeroCopies.{zero_mask-clear}
 use Rattle.cobs.proofs.decoding.OutcomeLemmas.{head_nonzero}
 use Rattle.cobs.proofs.decoding.FrontSteps.{head-behind, head-get, head-part, ones-front}
 use Rattle.cobs.proofs.decoding.WindowSteps.{code-pos, window-decoded, window-copied, ones-decoded, code-decoded-within, code-copied}
@@ -16,21 +17,21 @@ returns-then-is_all-clause-decoded c =
     let front = ones-front source c.requires.long c.if-code-eq1.true ones in
     ones-decoded (head source) c.args.dest.now c.write_zeros.new.dest front.0 front.1 c.write_zeros.ensures
 
-pub returns-then-not-copy_nonzero_32-clause-some : goal.returns-then-not-copy_nonzero_32-clause-some
-returns-then-not-copy_nonzero_32-clause-some c clear =
+pub returns-then-zeros_at-ne0-clause-some : goal.returns-then-zeros_at-ne0-clause-some
+returns-then-zeros_at-ne0-clause-some c clear =
     let source : List ℕ = c.args.source.now in
     let behind : HasNoZero (take 32 (drop 1 source)) = subst HasNoZero (drop-take 1 32 source) (All-drop (λ b. b ≢ 0) 1 (take 33 source) clear) in
-    absurd (true≢false (sym (c.copy_nonzero_32.ensures.nonzero.1 behind) ∙ c.if-not-copy_nonzero_32.true))
+    absurd (c.if-zeros_at-ne0.true (c.zeros_at.ensures ∙ zero_mask-clear (take 32 (drop 1 source)) behind))
 
 pub by_code-init : goal.by_code-init
 by_code-init c =
     let source : List ℕ = c.args.source.now in
-    let done = c.if-not-copy_nonzero_32.false in
-    let long : 33 ≤ length (head source) = head-behind 32 source c.requires.begun c.requires.long (c.copy_nonzero_32.ensures.nonzero.0 done) in
-    let is = c.copy_nonzero_32.ensures.copied done ∙ ap (λ (xs : List ℕ). xs ++ drop 32 c.args.dest.now) (sym (head-part 32 1 source long)) in
+    let nonzero = zero_mask-none (take 32 (drop 1 source)) (sym c.zeros_at.ensures ∙ c.if-zeros_at-ne0.false) in
+    let long : 33 ≤ length (head source) = head-behind 32 source c.requires.begun c.requires.long nonzero in
+    let is = c.copy_at.ensures.copied ∙ ap (λ (xs : List ℕ). xs ++ drop 32 c.args.dest.now) (sym (head-part 32 1 source long)) in
     record {
-      decoded = window-decoded (head source) c.args.dest.now c.copy_nonzero_32.new.dest long is;
-      copied = window-copied (head source) c.args.dest.now c.copy_nonzero_32.new.dest long is;
+      decoded = window-decoded (head source) c.args.dest.now c.copy_at.new.dest long is;
+      copied = window-copied (head source) c.args.dest.now c.copy_at.new.dest long is;
       code = refl;
       inside = omega arith;
     }
