@@ -109,6 +109,7 @@ fn copy_few(source: &[u8], read: usize, len: usize, dest: &mut [u8], at: usize) 
         ++ (take len (drop read source.now) ++ drop (at + len) dest.old) }
     ensures zeros { result ≡ zero_mask (take len (drop read source.now)) }
 {
+    let zeros = zeros_few(&source[read..read + len]);
     let half = len / 2;
     let last = len - 1;
     let front = source[read];
@@ -117,7 +118,33 @@ fn copy_few(source: &[u8], read: usize, len: usize, dest: &mut [u8], at: usize) 
     dest[at] = front;
     dest[at + half] = middle;
     dest[at + last] = back;
-    (front == 0) as u64 | (((middle == 0) as u64) << half) | (((back == 0) as u64) << last)
+    zeros
+}
+
+/// Copies `N` to `2 * N` bytes, as two parts that may overlap.
+#[inline(always)]
+fn copy_two<const N: usize>(
+    source: &[u8],
+    read: usize,
+    len: usize,
+    dest: &mut [u8],
+    at: usize,
+) -> u64
+    requires lanes { N ≤ 32 }
+    requires source { read + len ≤ length source.now }
+    requires some { N ≤ len }
+    requires few { len ≤ N + N }
+    requires room { at + len ≤ length dest.old }
+    ensures copied { dest.new ≡ take at dest.old
+        ++ (take len (drop read source.now) ++ drop (at + len) dest.old) }
+    ensures zeros { result ≡ zero_mask (take len (drop read source.now)) }
+{
+    let front = Simd::<u8, N>::from_slice(&source[read..]);
+    let back = Simd::<u8, N>::from_slice(&source[read + len - N..]);
+    let zeros = zeros_two::<N>(&source[read..read + len]);
+    front.copy_to_slice(&mut dest[at..]);
+    back.copy_to_slice(&mut dest[at + len - N..]);
+    zeros
 }
 
 /// Copies the `len` bytes from `read` on to `dest`, from `at` on, and returns which of them are zeros: bit `i` is set
@@ -135,17 +162,11 @@ pub(crate) fn copy_window(source: &[u8], read: usize, len: usize, dest: &mut [u8
     if len == WINDOW {
         copy_at::<32>(source, read, dest, at)
     } else if len >= 16 {
-        let front = copy_at::<16>(source, read, dest, at);
-        let back = copy_at::<16>(source, read + len - 16, dest, at + len - 16);
-        front | (back << (len - 16))
+        copy_two::<16>(source, read, len, dest, at)
     } else if len >= 8 {
-        let front = copy_at::<8>(source, read, dest, at);
-        let back = copy_at::<8>(source, read + len - 8, dest, at + len - 8);
-        front | (back << (len - 8))
+        copy_two::<8>(source, read, len, dest, at)
     } else if len >= 4 {
-        let front = copy_at::<4>(source, read, dest, at);
-        let back = copy_at::<4>(source, read + len - 4, dest, at + len - 4);
-        front | (back << (len - 4))
+        copy_two::<4>(source, read, len, dest, at)
     } else {
         copy_few(source, read, len, dest, at)
     }
@@ -221,8 +242,9 @@ fn write_ones_two<const N: usize>(dest: &mut [u8], at: usize, len: usize)
     requires room { at + len ≤ length dest.old }
     ensures { dest.new ≡ take at dest.old ++ (replicate len 1 ++ drop (at + len) dest.old) }
 {
-    write_ones::<N>(dest, at);
-    write_ones::<N>(dest, at + len - N);
+    let ones = Simd::<u8, N>::splat(1);
+    ones.copy_to_slice(&mut dest[at..]);
+    ones.copy_to_slice(&mut dest[at + len - N..]);
 }
 
 /// Writes 8 to 32 blocks with no bytes.

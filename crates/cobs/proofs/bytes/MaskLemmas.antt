@@ -4,8 +4,8 @@ use Rattle.std.proofs.Math.ListN.{set}
 use mir.Val.{bool_byte}
 use Rattle.std.proofs.Math.Nat.{pow-suc, mul_comm, mul_assoc, mul-one, pow-le-pow_right}
 use Rattle.std.proofs.lemmas.Bool.{ne_eqb, eq-eqb, eqb-true, not-true, not-false, cases_eq, cases_lt}
-use Rattle.std.proofs.lemmas.List.{drop-take, get_or-take, drop-drop, length-map, length-replicate, take-take, take_more, get_or-drop, drop_more, set_at, take-append-le, take-append-drop}
-use Rattle.std.proofs.Math.Seq.{drop-append-add, take-append-add}
+use Rattle.std.proofs.lemmas.List.{get_or-take, drop-drop, length-map, length-replicate, take-take, take_more, get_or-drop, drop_more, set_at}
+use Rattle.std.proofs.Math.Seq.{drop-append-add}
 use Rattle.std.proofs.lemmas.List.Elements.{All-nil, All-cons, All-take, All-from_get_or}
 use Rattle.std.proofs.lemmas.List.Sums.{prefix_len_passes, prefix_len_stops}
 use Rattle.std.proofs.lemmas.Simd.{bitmask_splat, mask_l-lt, trailing_mask_l, put_chunk_is, length-chunk}
@@ -199,52 +199,6 @@ window_all bytes few e =
       | inr enough ↦ omega arith
     ] in
     (long, zero_mask-all bytes (omega (arith, ap (λ k. 2 ^ k) long)) ∙ ap (λ k. replicate k 0) long)
-
--- a window that is copied as two parts of n bytes, which may overlap
-module _ (source dest first after : List ℕ) (read at len n front back : ℕ) (inside : read + len ≤ length source) (room : at + len ≤ length dest) (some : n ≤ len) (few : len ≤ n + n) (small : n ≤ 16)
-    (is : first ≡ take at dest ++ (take n (drop read source) ++ drop (at + n) dest))
-    (is' : after ≡ take (at + len - n) first ++ (take n (drop (read + len - n) source) ++ drop (at + len - n + n) first))
-    (bits : front ≡ zero_mask (take n (drop read source))) (bits' : back ≡ zero_mask (take n (drop (read + len - n) source))) where
-  abbrev w : List ℕ
-  w = take len (drop read source)
-
-  pub length-w : length w ≡ len
-  length-w = length-take-le len (drop read source) (let d = length-drop read source in omega arith)
-
-  front-is : take n (drop read source) ≡ take n w
-  front-is = sym (take-take n len (drop read source) some)
-
-  back-is : take n (drop (read + len - n) source) ≡ drop (len - n) w
-  back-is = grind (arith, drop-take, drop-drop)
-
-  pub parts-copied : after ≡ take at dest ++ (w ++ drop (at + len) dest)
-  parts-copied =
-      let l = length-w in
-      let a : length (take at dest) ≡ at = length-take-le at dest (omega arith) in
-      let b : length (take n w) ≡ n = length-take-le n w (omega arith) in
-      let first-is : first ≡ (take at dest ++ take n w) ++ drop (at + n) dest = is ∙ ap (λ (x : List ℕ). take at dest ++ (x ++ drop (at + n) dest)) front-is ∙ sym (append_assoc (take at dest) (take n w) (drop (at + n) dest)) in
-      let c : length (take at dest ++ take n w) ≡ at + n = length-append (take at dest) (take n w) ∙ omega arith in
-      let sum : at + len - n ≡ length (take at dest) + (len - n) = omega arith in
-      let low : take (at + len - n) first ≡ take at dest ++ take (len - n) w =
-      ap (take (at + len - n)) (is ∙ ap (λ (x : List ℕ). take at dest ++ (x ++ drop (at + n) dest)) front-is)
-      ∙ ap (λ (k : ℕ). take k (take at dest ++ (take n w ++ drop (at + n) dest))) sum ∙ take-append-add (take at dest) (take n w ++ drop (at + n) dest) (len - n)
-      ∙ ap (λ (x : List ℕ). take at dest ++ x) (take-append-le (len - n) (take n w) (drop (at + n) dest) (omega arith) ∙ take-take (len - n) n w (omega arith)) in
-      let sum' : at + len - n + n ≡ length (take at dest ++ take n w) + (len - n) = omega arith in
-      let high : drop (at + len - n + n) first ≡ drop (at + len) dest =
-      ap (drop (at + len - n + n)) first-is ∙ ap (λ (k : ℕ). drop k ((take at dest ++ take n w) ++ drop (at + n) dest)) sum'
-      ∙ drop-append-add (take at dest ++ take n w) (drop (at + n) dest) (len - n) ∙ drop-drop (len - n) (at + n) dest ∙ ap (λ (k : ℕ). drop k dest) (omega arith) in
-      is' ∙ ap (λ (x : List ℕ). x ++ (take n (drop (read + len - n) source) ++ drop (at + len - n + n) first)) low
-      ∙ ap (λ (x : List ℕ). (take at dest ++ take (len - n) w) ++ (x ++ drop (at + len - n + n) first)) back-is
-      ∙ ap (λ (x : List ℕ). (take at dest ++ take (len - n) w) ++ (drop (len - n) w ++ x)) high
-      ∙ append_assoc (take at dest) (take (len - n) w) (drop (len - n) w ++ drop (at + len) dest)
-      ∙ ap (λ (x : List ℕ). take at dest ++ x) (sym (append_assoc (take (len - n) w) (drop (len - n) w) (drop (at + len) dest)) ∙ ap (λ (x : List ℕ). x ++ drop (at + len) dest) (take-append-drop (len - n) w))
-
-  -- the masks of the two parts
-  pub front-mask : front ≡ zero_mask (take n w)
-  front-mask = bits ∙ ap zero_mask front-is
-
-  pub back-mask : back ≡ zero_mask (drop (len - n) w)
-  back-mask = bits' ∙ ap zero_mask back-is
 
 -- one byte more
 pub zero_mask-push : (bytes : List ℕ) (b : ℕ) → zero_mask (bytes ++ b ∷ []) ≡ zero_mask bytes + (if b == 0 then 1 else 0) * 2 ^ length bytes

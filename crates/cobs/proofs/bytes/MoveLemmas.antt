@@ -1,9 +1,7 @@
 -- Bytes of a buffer that are moved to its front.
 use Rattle.std.proofs.Common.{◌≡◌, ℕ, ◌+◌, ◌-◌, ◌/◌, ◌<◌, ◌≤◌, List, ◌++◌, length, drop, take, get_or, set, ap, ◌∙◌, arith, length-drop, length-append, length-take-le, drop_at}
-use Rattle.std.proofs.lemmas.Simd.{length-chunk}
 use lib.Lanes.{put_chunk}
 use Rattle.cobs.proofs.decoding.InPlaceSteps.{drop-later}
-use Rattle.cobs.proofs.bytes.MaskLemmas.{put_is}
 use Rattle.cobs.proofs.bytes.NonzeroCopies.{more-copied}
 use Rattle.cobs.proofs.bytes.ShortLemmas.{few-copied}
 
@@ -34,17 +32,6 @@ moved-next old buffer from done n is inside =
     let m = moved-more old buffer from done done n is inside (omega arith) (omega arith) in
     let same = drop-later done (from + done) buffer old (omega arith) (moved-behind old buffer from done done n is inside (omega arith) (omega arith)) in
     ap (λ (x : List ℕ). put_chunk done buffer (take n x)) same ∙ m
-
--- two parts
-pub parts-moved : (old : List ℕ) (from len n : ℕ) → from + len ≤ length old → n ≤ len → len ≤ n + n
-    → put_chunk (len - n) (put_chunk 0 old (take n (drop from old))) (take n (drop (from + len - n) old)) ≡ moved old from len
-parts-moved old from len n inside some few =
-    let at : from + len - n ≡ from + (len - n) = omega arith in
-    let sum : len - n + n ≡ len = omega arith in
-    let place : 0 + n ≡ n = omega arith in
-    let first : put_chunk 0 old (take n (drop from old)) ≡ moved old from n =
-    put_is old (take n (drop from old)) 0 n (length-chunk from n old (omega arith)) (omega arith) ∙ ap (λ (k : ℕ). take n (drop from old) ++ drop k old) place in
-    grind (arith, put_chunk, put_is, length-chunk, moved-more)
 
 -- one byte, two or three
 pub few-moved : (old : List ℕ) (from len : ℕ) → from + len ≤ length old → 0 < len → len ≤ 3

@@ -4,7 +4,7 @@ use Rattle.std.proofs.Math.Seq.{drop-append-add, take-append-add}
 use Rattle.std.proofs.lemmas.Bool.{ne_eqb}
 use Rattle.std.proofs.lemmas.List.{drop-drop, take-take, take-append-le}
 use Rattle.std.proofs.lemmas.List.Elements.{All-head, All-tail, All-take, All-append, All-same}
-use Rattle.std.proofs.lemmas.Simd.{length-chunk}
+use Rattle.std.proofs.lemmas.Simd.{length-chunk, length-put_chunk}
 use Rattle.std.proofs.lemmas.Nat.{le_or_l, le_or_r}
 use Rattle.std.specs.Int.Bits.{bit_or}
 use lib.Lanes.{put_chunk}
@@ -66,3 +66,15 @@ module _ (source old dest : List ℕ) (read at done start n : ℕ) (inside : rea
       ∙ ap (λ (x : List ℕ). (take at old ++ take start w) ++ (x ++ drop (at + (start + n)) old)) chunk-is
       ∙ append_assoc (take at old) (take start w) (take n (drop start w) ++ drop (at + (start + n)) old)
       ∙ ap (λ (x : List ℕ). take at old ++ x) (sym (append_assoc (take start w) (take n (drop start w)) (drop (at + (start + n)) old)) ∙ ap (λ (x : List ℕ). x ++ drop (at + (start + n)) old) (sym front-is))
+
+-- two parts of n bytes, which may overlap
+pub two-copied : (source dest : List ℕ) (read at len n from to end : ℕ) → read + len ≤ length source → at + len ≤ length dest → n ≤ len → len ≤ n + n → from + n ≡ read + len → to + n ≡ at + len → end ≡ at + len
+    → put_chunk to (put_chunk at dest (take n (drop read source))) (take n (drop from source)) ≡ take at dest ++ (take len (drop read source) ++ drop end dest)
+two-copied source dest read at len n from to end inside room some few from-is to-is end-is =
+    let start : ℕ = len - n in
+    let first : List ℕ = put_chunk at dest (take n (drop read source)) in
+    ap (λ (k : ℕ). put_chunk k first (take n (drop from source))) {x = to} {y = at + start} (omega arith)
+    ∙ ap (λ (k : ℕ). put_chunk (at + start) first (take n (drop k source))) {x = from} {y = read + start} (omega arith)
+    ∙ more-copied source dest first read at n start n (omega arith) (omega arith) (omega arith) (omega arith) (length-put_chunk _ _ _) (put_is dest (take n (drop read source)) at n (length-chunk read n source (omega arith)) (omega arith))
+    ∙ ap (λ (k : ℕ). take at dest ++ (take k (drop read source) ++ drop (at + k) dest)) {x = start + n} {y = len} (omega arith)
+    ∙ ap (λ (k : ℕ). take at dest ++ (take len (drop read source) ++ drop k dest)) (sym end-is)

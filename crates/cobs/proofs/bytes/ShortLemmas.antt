@@ -1,12 +1,12 @@
--- A few bytes copied with no branch, and blocks with no bytes written as two parts.
-use Rattle.std.proofs.Common.{◌≡◌, ℕ, ◌+◌, ◌-◌, ◌*◌, ◌/◌, ◌%◌, ◌^◌, ◌<◌, ◌≤◌, eqb, Bool, true, false, List, ◌++◌, length, drop, take, get_or, replicate, refl, sym, ap, ◌∙◌, inl, inr, arith, take-append-drop}
+-- A few bytes copied with no branch.
+use Rattle.std.proofs.Common.{◌≡◌, ℕ, ◌+◌, ◌-◌, ◌*◌, ◌/◌, ◌%◌, ◌^◌, ◌<◌, ◌≤◌, eqb, Bool, true, false, List, ◌++◌, length, drop, take, get_or, refl, sym, ap, ◌∙◌, inl, inr, arith, take-append-drop}
 use Rattle.std.proofs.Math.ListN.{set}
 use Rattle.std.proofs.lemmas.Bool.{cases_eq}
-use Rattle.std.proofs.lemmas.List.{set-set, take-replicate, drop-replicate, length-replicate}
+use Rattle.std.proofs.lemmas.List.{set-set}
 use Rattle.std.specs.Int.Bits.{bit_or}
 use mir.Val.{bool_byte}
 use Rattle.cobs.specs.Internal.Mask.{zero_mask}
-use Rattle.cobs.proofs.bytes.MaskLemmas.{copied-more, mask-grown, parts-copied}
+use Rattle.cobs.proofs.bytes.MaskLemmas.{copied-more, mask-grown}
 
 -- a bit in its place
 abbrev placed : Bool → ℕ → ℕ
@@ -115,21 +115,3 @@ module _ (source dest : List ℕ) (read at len : ℕ) (inside : read + len ≤ l
           all-bits 1 2 (omega arith) (omega arith) ∙ or-three (zero 0) (zero 1) (zero 2) ∙ three-mask (omega arith) ∙ ap mask three)
     ]
   ]
-
--- ones written as two parts of n, which may overlap
-pub ones-written : (dest first after : List ℕ) (at len n : ℕ) → at + len ≤ length dest → n ≤ len → len ≤ n + n → n ≤ 16
-    → first ≡ take at dest ++ (replicate n 1 ++ drop (at + n) dest)
-    → after ≡ take (at + len - n) first ++ (replicate n 1 ++ drop (at + len - n + n) first)
-    → after ≡ take at dest ++ (replicate len 1 ++ drop (at + len) dest)
-ones-written dest first after at len n room some few small is is' =
-    let ones : List ℕ = replicate len 1 in
-    let l : length ones ≡ len = length-replicate len 1 in
-    let front : take n ones ≡ replicate n 1 = take-replicate n len 1 some in
-    let whole : take len ones ≡ ones = take-replicate len len 1 (omega arith) in
-    let back : take n (drop (0 + len - n) ones) ≡ replicate n 1 =
-    ap (take n) (drop-replicate (0 + len - n) len 1) ∙ take-replicate n (len - (0 + len - n)) 1 (omega arith) in
-    let p = parts-copied ones dest first after 0 at len n (zero_mask (take n (drop 0 ones))) (zero_mask (take n (drop (0 + len - n) ones))) (omega arith) room some few small
-    (is ∙ ap (λ (x : List ℕ). take at dest ++ (x ++ drop (at + n) dest)) (sym front))
-    (is' ∙ ap (λ (x : List ℕ). take (at + len - n) first ++ (x ++ drop (at + len - n + n) first)) (sym back))
-    refl refl in
-    p ∙ ap (λ (x : List ℕ). take at dest ++ (x ++ drop (at + len) dest)) whole

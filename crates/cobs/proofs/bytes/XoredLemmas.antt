@@ -1,15 +1,15 @@
 -- Short stretches that are copied, each byte changed by exclusive or.
 use Rattle.std.proofs.Common.{◌≡◌, ℕ, ◌+◌, ◌-◌, ◌*◌, ◌/◌, ◌%◌, ◌^◌, ◌<◌, ◌≤◌, cond, eqb, List, ◌++◌, length, map, drop, take, get_or, set, replicate, bit_xor, sym, ap, ◌∙◌, subst, arith, take_all, w8}
 use Rattle.std.proofs.lemmas.List.{take-map, drop-map, length-map, get_or-map}
-use Rattle.std.proofs.lemmas.Simd.{zip2_splat, length-chunk, length-put_chunk, bitmask_splat}
+use Rattle.std.proofs.lemmas.Simd.{zip2_splat, length-chunk, bitmask_splat}
 use Rattle.std.specs.Int.Bits.{bit_or}
 use mir.Val.{bool_byte}
 use lib.Lanes.{zip2, put_chunk, mask_l, top}
 use Rattle.cobs.specs.Grammar.{HasNoZero}
 use Rattle.cobs.specs.Internal.Mask.{zero_mask}
 use Rattle.cobs.specs.Sentinel.{xor_each}
-use Rattle.cobs.proofs.bytes.MaskLemmas.{put_is, zero_mask-lanes, zero_mask-none}
-use Rattle.cobs.proofs.bytes.NonzeroCopies.{or-none, more-nonzero, more-copied}
+use Rattle.cobs.proofs.bytes.MaskLemmas.{zero_mask-lanes, zero_mask-none}
+use Rattle.cobs.proofs.bytes.NonzeroCopies.{or-none, more-nonzero, two-copied}
 use Rattle.cobs.proofs.bytes.ShortLemmas.{few-copied, few-mask}
 
 -- two parts of n bytes, which may overlap
@@ -53,15 +53,10 @@ module _ (source dest : List ℕ) (s n : ℕ) (long : n ≤ length source) (shor
   pub parts-copied : put_chunk at (put_chunk 0 dest (part 0)) (part at) ≡ h ++ drop (length source) dest
   parts-copied =
       let l = h-long in
-      let first : List ℕ = put_chunk 0 dest (take n (drop 0 h)) in
-      let first-is : first ≡ take 0 dest ++ (take n (drop 0 h) ++ drop (0 + n) dest) = put_is dest (take n (drop 0 h)) 0 n (length-chunk 0 n h (omega arith)) (omega arith) in
-      let sum : at ≡ 0 + at = omega arith in
-      let all : 0 + (at + n) ≡ length source = omega arith in
       ap (λ (x : List ℕ). put_chunk at (put_chunk 0 dest x) (part at)) (part-is 0 (omega arith))
-      ∙ ap (put_chunk at first) (part-is at (omega arith))
-      ∙ ap (λ (k : ℕ). put_chunk k first (take n (drop k h))) sum
-      ∙ more-copied h dest first 0 0 n at n (omega arith) (omega arith) (omega arith) (omega arith) (length-put_chunk _ _ _) first-is
-      ∙ ap (λ (x : List ℕ). x ++ drop (0 + (at + n)) dest) whole ∙ ap (λ (k : ℕ). h ++ drop k dest) all
+      ∙ ap (put_chunk at (put_chunk 0 dest (take n h))) (part-is at (omega arith))
+      ∙ two-copied h dest 0 0 (length source) n at at (length source) (omega arith) (omega arith) long short (omega arith) (omega arith) (omega arith)
+      ∙ ap (λ (x : List ℕ). x ++ drop (length source) dest) (take_all (length source) h (omega arith))
 
 -- one byte, two or three
 module _ (source dest : List ℕ) (s : ℕ) (some : 0 < length source) (few : length source ≤ 3) (room : length source ≤ length dest) where
