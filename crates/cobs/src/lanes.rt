@@ -14,13 +14,15 @@ use crate::window::{
 };
 use std::simd::prelude::*;
 
-/// Copies the first `len` of 32 bytes, by one load and one store of a whole window for each number of them.
+/// Copies the first `len` of the 32 bytes from `read` on, by one load and one store of a whole window for each number
+/// of them.
 #[inline(always)]
-fn copy_first(window: &[u8], len: usize, dest: &mut [u8], at: usize)
-    requires source { 32 ≤ length window.now }
+fn copy_first(source: &[u8], read: usize, len: usize, dest: &mut [u8], at: usize)
+    requires source { read + 32 ≤ length source.now }
     requires few { len ≤ 32 }
     requires room { at + 32 ≤ length dest.old }
-    ensures { dest.new ≡ take at dest.old ++ (take len window.now ++ drop (at + len) dest.old) }
+    ensures { dest.new ≡ take at dest.old
+        ++ (take len (drop read source.now) ++ drop (at + len) dest.old) }
 {
     let places = u8x32::from_array([
         0, 1, 2, 3, 4, 5, 6, 7, 8, 9, 10, 11, 12, 13, 14, 15, 16, 17, 18, 19, 20, 21, 22, 23, 24,
@@ -29,22 +31,22 @@ fn copy_first(window: &[u8], len: usize, dest: &mut [u8], at: usize)
     let kept = u8x32::from_slice(&dest[at..]);
     places
         .simd_lt(u8x32::splat(len as u8))
-        .select(u8x32::from_slice(window), kept)
+        .select(u8x32::from_slice(&source[read..]), kept)
         .copy_to_slice(&mut dest[at..]);
 }
 
-/// Copies the first of 32 bytes, up to a zero, and returns how many.
+/// Copies the first of the 32 bytes from `read` on, up to a zero, and returns how many.
 #[inline(always)]
-fn copy_window_to_zero(window: &[u8], dest: &mut [u8], at: usize) -> usize
-    requires source { 32 ≤ length window.now }
+fn copy_window_to_zero(source: &[u8], read: usize, dest: &mut [u8], at: usize) -> usize
+    requires source { read + 32 ≤ length source.now }
     requires room { at + 32 ≤ length dest.old }
     ensures within { result ≤ 32 }
-    ensures nonzero { HasNoZero (take result window.now) }
+    ensures nonzero { HasNoZero (take result (drop read source.now)) }
     ensures copied { dest.new ≡ take at dest.old
-        ++ (take result window.now ++ drop (at + result) dest.old) }
+        ++ (take result (drop read source.now) ++ drop (at + result) dest.old) }
 {
-    let len = (zeros_at::<32>(window, 0).trailing_zeros() as usize).min(WINDOW);
-    copy_first(window, len, dest, at);
+    let len = (zeros_at::<32>(source, read).trailing_zeros() as usize).min(WINDOW);
+    copy_first(source, read, len, dest, at);
     len
 }
 
@@ -58,11 +60,11 @@ fn copy_wide_to_zero(wide: &[u8], dest: &mut [u8], at: usize) -> usize
     ensures copied { dest.new ≡ take at dest.old
         ++ (take result wide.now ++ drop (at + result) dest.old) }
 {
-    let front = copy_window_to_zero(wide, dest, at);
+    let front = copy_window_to_zero(wide, 0, dest, at);
     if front < WINDOW {
         return front;
     }
-    WINDOW + copy_window_to_zero(&wide[WINDOW..], dest, at + WINDOW)
+    WINDOW + copy_window_to_zero(wide, WINDOW, dest, at + WINDOW)
 }
 
 /// Copies the first of fewer than 32 bytes, up to a zero, and returns how many.
@@ -101,7 +103,7 @@ pub(crate) fn copy_to_zero(chunk: &[u8], dest: &mut [u8], at: usize) -> usize
         }
         copy_wide_to_zero(chunk, dest, at)
     } else if WINDOW <= chunk.len() {
-        copy_window_to_zero(chunk, dest, at)
+        copy_window_to_zero(chunk, 0, dest, at)
     } else if chunk.is_empty() {
         0
     } else {

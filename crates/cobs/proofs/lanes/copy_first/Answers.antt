@@ -1,7 +1,7 @@
 use Rattle.std.proofs.Common.{◌≡◌, ◌+◌, ◌-◌, ◌++◌, ◌∷◌, ◌∙◌, ℕ, zero, suc, List, [], Bool, cond, length, map, take, drop, sym, ap, arith, inl, inr, append_assoc}
 use Rattle.std.proofs.Math.Dec.{ltb}
 use Rattle.std.proofs.lemmas.Bool.{lt-ltb, le-ltb, cases_lt}
-use Rattle.std.proofs.lemmas.List.{take-take, take_all, drop_all, drop-append-le, drop-drop, length-take-le}
+use Rattle.std.proofs.lemmas.List.{take-take, take_all, drop_all, drop-append-le, drop-drop}
 use Rattle.std.proofs.lemmas.Simd.{chunk-drop, length-chunk, length-sel_l}
 use Rattle.std.specs.List.{range_with_len}
 use lib.Lanes.{sel_l, top}
@@ -36,14 +36,14 @@ selected (suc n) from len (x ∷ xs) (y ∷ ys) l k =
 pub returns : goal.returns
 unfolding places_below
 returns c =
-    let window : List ℕ = c.args.window.now in
+    let window : List ℕ = drop c.args.read c.args.source.now in
     let dest : List ℕ = c.args.dest.now in
     let here : ℕ = c.args.at in
     let len : ℕ = c.args.len in
     let old : List ℕ = take 32 (drop here dest) in
     let new : List ℕ = take 32 window in
     let old-long : length old ≡ 32 = length-chunk here 32 dest c.requires.room in
-    let new-long : length new ≡ 32 = length-take-le 32 window c.requires.source in
+    let new-long : length new ≡ 32 = length-chunk c.args.read 32 c.args.source.now c.requires.source in
     let is : sel_l (places_below len 0 32) new old ≡ take len window ++ drop len old = selected 32 0 len new old new-long old-long
     ∙ ap (λ (m : ℕ). take m new ++ drop m old) {x = len - 0} {y = len} (omega arith) ∙ ap (λ (z : List ℕ). z ++ drop len old) (take-take len 32 window c.requires.few) in
     let rest : drop len old ++ drop (here + 32) dest ≡ drop (here + len) dest = sym (drop-append-le len old (drop (here + 32) dest) (omega arith))

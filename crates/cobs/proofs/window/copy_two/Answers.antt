@@ -1,4 +1,4 @@
-use Rattle.std.proofs.Common.{◌+◌, ◌-◌, refl, arith}
+use Rattle.std.proofs.Common.{◌+◌, refl, arith}
 use Rattle.cobs.proofs.bytes.NonzeroCopies.{two-copied}
 use Rattle.cobs.proofs.window.copy_two.Goals as goal
 
