@@ -2,7 +2,7 @@
 //! byte after the first code gives one byte; and whether a list is a frame.
 ghost use Rattle.std.specs.Prelude.{◌≡◌, ◌↔◌, ◌+◌, ◌-◌, ◌<◌, ◌≤◌, ◌∷◌, length, take, drop, slice_index, IsTrue, ℕ, false, List, ◌++◌};
 ghost use Rattle.cobs.specs.Grammar.{HasNoZero, code_of, IsCanonical, IsFrame};
-ghost use Rattle.cobs.specs.Piece.{last_part, output};
+ghost use Rattle.cobs.specs.Piece.{lacks, last_part, output};
 ghost use Rattle.cobs.specs.Internal.Decoded.{IsFlat};
 ghost use Rattle.cobs.specs.Sentinel.{xor_each};
 ghost use Rattle.cobs.specs.Fields.Decoders.{phase_of};
@@ -81,20 +81,26 @@ pub(crate) fn is_flat(source: &[u8], sentinel: u8) -> bool
 }
 
 /// Writes a zero over each code in the first bytes of `dest`, which are what follows the first code of such a stretch
-/// of `len` bytes, or of one that is cut. Each byte after them stays.
+/// of `len` bytes, or of one that is cut. Each byte after them stays. Returns the code of the last part, and how many
+/// of its bytes are missing.
+///
+/// `alike` says that rows of empty blocks, and codes of one value in a row, are worth loops of their own, which needn't
+/// wait for each.
 #[inline(always)]
-pub(crate) fn write_joints(dest: &mut [u8], first: usize, len: usize)
+pub(crate) fn write_joints(dest: &mut [u8], first: usize, len: usize, alike: bool) -> (usize, usize)
     requires some { 0 < len }
     requires room { len ≤ length dest.old + 1 }
     requires nonzero { HasNoZero (first ∷ take (len - 1) dest.old) }
     requires flat { length (output (first ∷ take (len - 1) dest.old)) + 1 ≡ len }
     ensures begins { take (len - 1) dest.new ≡ output (first ∷ take (len - 1) dest.old) }
     ensures rest { drop (len - 1) dest.new ≡ drop (len - 1) dest.old }
+    ensures code { result.0 ≡ code_of (last_part (first ∷ take (len - 1) dest.old)) }
+    ensures left { result.1 ≡ lacks (last_part (first ∷ take (len - 1) dest.old)) }
 {
     let mut code = first;
     let mut read = 0;
     'by_code: while code < len - read {
-        if code == 1 && len - read > WINDOW && is_all(&dest[read..], 1) {
+        if alike && code == 1 && len - read > WINDOW && is_all(&dest[read..], 1) {
             write_zeros(&mut dest[read..]);
             read += WINDOW;
         } else {
@@ -103,13 +109,14 @@ pub(crate) fn write_joints(dest: &mut [u8], first: usize, len: usize)
                 let next = dest[at] as usize;
                 dest[at] = 0;
                 read += code;
-                if next != code || len - read <= code {
+                if !alike || next != code || len - read <= code {
                     code = next;
                     break;
                 }
             }
         }
     }
+    (code, code - (len - read))
 }
 
 /// What bytes are to a decoder. (The names are this library's own.)

@@ -42,7 +42,7 @@ fn decode_xored_flat(source: &[u8], dest: &mut [u8], sentinel: u8)
 {
     let first = (source[0] ^ sentinel) as usize;
     copy_xored(&source[1..], dest, 0, sentinel);
-    write_joints(dest, first, source.len());
+    write_joints(dest, first, source.len(), true);
 }
 
 /// Decodes the blocks of a source that has no sentinel, and returns how many bytes they give.
@@ -98,7 +98,7 @@ fn decode_xored_short(source: &[u8], dest: &mut [u8], sentinel: u8) -> bool
     if !is_flat(source, sentinel) || !copy_xored_short(&source[1..], dest, sentinel) {
         return false;
     }
-    write_joints(dest, (source[0] ^ sentinel) as usize, len);
+    write_joints(dest, (source[0] ^ sentinel) as usize, len, true);
     true
 }
 

@@ -138,7 +138,7 @@ fn decode_flat_in_place(buffer: &mut [u8], from: usize, len: usize)
 {
     let first = buffer[from] as usize;
     move_to_front(buffer, from + 1, len - 1);
-    write_joints(buffer, first, len);
+    write_joints(buffer, first, len, true);
 }
 
 /// Decodes the blocks in the first `end` bytes of the buffer, and returns how many bytes they give.
@@ -190,7 +190,7 @@ fn decode_short_in_place(buffer: &mut [u8], len: usize) -> bool
     if !move_nonzero_short(buffer, 1, len - 1) {
         return false;
     }
-    write_joints(buffer, first, len);
+    write_joints(buffer, first, len, true);
     true
 }
 

@@ -7,6 +7,7 @@ ghost use Rattle.cobs.specs.Internal.Decoded.{Decoded};
 ghost use Rattle.cobs.specs.Piece.{output, last_part, lacks};
 ghost use Rattle.cobs.specs.Stream.{head, outcome_of};
 
+use crate::dec::blocks::write_joints;
 use crate::dec::front::{decode_front, decode_window};
 use crate::dec::{DecodeError, MANY};
 use crate::enc::FULL_CODE;
@@ -108,17 +109,11 @@ fn write_codes(piece: &[u8], dest: &mut [u8]) -> PieceOutput
     ensures code { result.code ≡ code_of (last_part piece.now) }
     ensures left { result.left ≡ lacks (last_part piece.now) }
 {
-    let mut read = 0;
-    let mut code = piece[0] as usize;
-    'by_code: while code < piece.len() - read {
-        dest[read + (code - 1)] = 0;
-        read += code;
-        code = piece[read] as usize;
-    }
+    let (code, left) = write_joints(dest, piece[0] as usize, piece.len(), false);
     PieceOutput {
         written: piece.len() - 1,
         code,
-        left: code - (piece.len() - read),
+        left,
     }
 }
 

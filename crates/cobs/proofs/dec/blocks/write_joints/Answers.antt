@@ -1,7 +1,7 @@
 use Rattle.std.proofs.Common.{refl, ◌≡◌, ◌<◌, ◌+◌, ◌-◌, ◌∙◌, ◌∷◌, ℕ, List, length, take, drop, replicate, length-take-le, ap, sym, subst, arith}
 use Rattle.std.proofs.lemmas.List.{length-set, take_rest}
 use borrow.Rule.Slice.PartMut.{put_mid}
-use Rattle.cobs.proofs.decoding.WindowSteps.{code-pos, code-decoded, code-copied, flat-short, end-begins}
+use Rattle.cobs.proofs.decoding.WindowSteps.{code-pos, code-decoded, code-copied, flat-short, end-begins, last-code, last-lacks}
 use Rattle.cobs.proofs.decoding.FlatLemmas.{FlatCopied, joints-start, copied-ones, next-code, zeros-put, zeros-put-len}
 use Rattle.cobs.proofs.dec.blocks.write_joints.Goals as goal
 
@@ -86,6 +86,25 @@ returns-clause-begins c =
     let all : c.args.len - 1 ≡ c.by_code.read + (length piece - c.by_code.read - 1) = omega arith in
     ap (λ (n : ℕ). take n c.by_code.dest) all
     ∙ end-begins piece c.args.dest.now c.by_code.dest c.by_code.read c.by_code.read c.by_code.code f.decoded f.at-read pos (omega arith) f.copied (omega arith)
+
+pub returns-clause-code : goal.returns-clause-code
+returns-clause-code c =
+    let f = c.by_code.invariant.flat in
+    let piece : List ℕ = c.args.first ∷ take (c.args.len - 1) c.args.dest.now in
+    let few = length-take-le (c.args.len - 1) c.args.dest.now (omega arith) in
+    let pos : 0 < c.by_code.code = subst (λ (n : ℕ). 0 < n) (sym f.at-read) (code-pos piece c.by_code.read c.requires.nonzero f.decoded.within) in
+    last-code piece c.args.dest.now c.by_code.dest c.by_code.read c.by_code.read c.by_code.code f.decoded f.at-read pos (omega arith)
+
+pub returns-clause-left : goal.returns-clause-left
+returns-clause-left c =
+    let f = c.by_code.invariant.flat in
+    let piece : List ℕ = c.args.first ∷ take (c.args.len - 1) c.args.dest.now in
+    let few = length-take-le (c.args.len - 1) c.args.dest.now (omega arith) in
+    let some = c.requires.some in
+    let long : length piece ≡ c.args.len = omega arith in
+    let pos : 0 < c.by_code.code = subst (λ (n : ℕ). 0 < n) (sym f.at-read) (code-pos piece c.by_code.read c.requires.nonzero f.decoded.within) in
+    ap (λ (n : ℕ). c.by_code.code - (n - c.by_code.read)) (sym long)
+    ∙ last-lacks piece c.args.dest.now c.by_code.dest c.by_code.read c.by_code.read c.by_code.code f.decoded f.at-read pos (omega arith)
 
 pub returns-clause-rest : goal.returns-clause-rest
 returns-clause-rest c = grind (arith, length-take-le)

@@ -1,51 +1,24 @@
-use Rattle.std.proofs.Common.{◌≡◌, ◌<◌, ◌+◌, ◌-◌, ◌∙◌, ℕ, length, take, ap, refl, sym, subst, arith}
-use Rattle.cobs.proofs.decoding.WindowSteps.{code-pos, code-decoded, code-copied, room-zero, flat-short, end-begins, last-code, last-lacks}
+use Rattle.std.proofs.Common.{◌≡◌, ◌<◌, ◌+◌, ◌∙◌, ◌∷◌, [], ℕ, List, length, drop, get_or, ap, sym, subst, arith}
+use Rattle.cobs.specs.Grammar.{HasNoZero, code_of}
+use Rattle.cobs.specs.Piece.{output, last_part, lacks}
 use Rattle.cobs.proofs.dec.piece.write_codes.Goals as goal
 
-pub bounds-dest-read : goal.bounds-dest-read
-bounds-dest-read c =
-    let i = c.by_code.invariant in
-    let pos : 0 < c.by_code.code = subst (λ (n : ℕ). 0 < n) (sym i.code) (code-pos c.args.piece.now c.by_code.read c.requires.nonzero i.decoded.within) in
-    let more : c.by_code.read + c.by_code.code < length c.args.piece.now = omega arith in
-    let short = flat-short c.args.piece.now c.args.dest.now c.by_code.dest c.by_code.read i.decoded c.requires.flat c.by_code.code i.code pos more in
-    let room = room-zero c.args.piece.now c.args.dest.now c.by_code.dest c.by_code.read c.by_code.read c.by_code.code i.decoded i.code pos more short in
-    omega arith
+-- the first code, and a copy of what follows it
+copy-is : (piece copy : List ℕ) → 0 < length piece → copy ≡ drop 1 piece → get_or piece 0 0 ∷ copy ≡ piece
+copy-is [] copy some is = absurd (omega arith)
+copy-is (code ∷ bytes) copy some is = ap (λ (x : List ℕ). code ∷ x) is
 
-pub by_code-smaller : goal.by_code-smaller
-by_code-smaller c =
-    let i = c.by_code.invariant in
-    let pos : 0 < c.by_code.code = subst (λ (n : ℕ). 0 < n) (sym i.code) (code-pos c.args.piece.now c.by_code.read c.requires.nonzero i.decoded.within) in
-    omega arith
+pub write_joints-code-requires-clause-nonzero : goal.write_joints-code-requires-clause-nonzero
+write_joints-code-requires-clause-nonzero c = subst HasNoZero (sym (copy-is c.args.piece.now _ c.requires.some c.requires.copied)) c.requires.nonzero
 
-pub by_code-preserved : goal.by_code-preserved
-by_code-preserved c =
-    let i = c.by_code.invariant in
-    let pos : 0 < c.by_code.code = subst (λ (n : ℕ). 0 < n) (sym i.code) (code-pos c.args.piece.now c.by_code.read c.requires.nonzero i.decoded.within) in
-    let more : c.by_code.read + c.by_code.code < length c.args.piece.now = omega arith in
-    let short = flat-short c.args.piece.now c.args.dest.now c.by_code.dest c.by_code.read i.decoded c.requires.flat c.by_code.code i.code pos more in
-    record {
-      decoded = code-decoded c.args.piece.now c.args.dest.now c.by_code.dest c.by_code.read c.by_code.read c.by_code.code i.decoded i.code pos more (length c.args.piece.now) i.copied more short (omega arith);
-      copied = code-copied c.args.piece.now c.args.dest.now c.by_code.dest c.by_code.read c.by_code.read c.by_code.code i.decoded i.code pos more (length c.args.piece.now) i.copied more short;
-      code = refl;
-    }
+pub write_joints-code-requires-clause-flat : goal.write_joints-code-requires-clause-flat
+write_joints-code-requires-clause-flat c = ap (λ (x : List ℕ). length (output x) + 1) (copy-is c.args.piece.now _ c.requires.some c.requires.copied) ∙ c.requires.flat
 
 pub returns-clause-begins : goal.returns-clause-begins
-returns-clause-begins c =
-    let i = c.by_code.invariant in
-    let w = i.decoded.within in
-    let pos : 0 < c.by_code.code = subst (λ (n : ℕ). 0 < n) (sym i.code) (code-pos c.args.piece.now c.by_code.read c.requires.nonzero i.decoded.within) in
-    let all : length c.args.piece.now - 1 ≡ c.by_code.read + (length c.args.piece.now - c.by_code.read - 1) = omega arith in
-    ap (λ (n : ℕ). take n c.by_code.dest) all
-    ∙ end-begins c.args.piece.now c.args.dest.now c.by_code.dest c.by_code.read c.by_code.read c.by_code.code i.decoded i.code pos (omega arith) i.copied (omega arith)
+returns-clause-begins c = c.write_joints-code.ensures.begins ∙ ap output (copy-is c.args.piece.now _ c.requires.some c.requires.copied)
 
 pub returns-clause-code : goal.returns-clause-code
-returns-clause-code c =
-    let i = c.by_code.invariant in
-    let pos : 0 < c.by_code.code = subst (λ (n : ℕ). 0 < n) (sym i.code) (code-pos c.args.piece.now c.by_code.read c.requires.nonzero i.decoded.within) in
-    last-code c.args.piece.now c.args.dest.now c.by_code.dest c.by_code.read c.by_code.read c.by_code.code i.decoded i.code pos (omega arith)
+returns-clause-code c = c.write_joints-code.ensures.code ∙ ap (λ (x : List ℕ). code_of (last_part x)) (copy-is c.args.piece.now _ c.requires.some c.requires.copied)
 
 pub returns-clause-left : goal.returns-clause-left
-returns-clause-left c =
-    let i = c.by_code.invariant in
-    let pos : 0 < c.by_code.code = subst (λ (n : ℕ). 0 < n) (sym i.code) (code-pos c.args.piece.now c.by_code.read c.requires.nonzero i.decoded.within) in
-    last-lacks c.args.piece.now c.args.dest.now c.by_code.dest c.by_code.read c.by_code.read c.by_code.code i.decoded i.code pos (omega arith)
+returns-clause-left c = c.write_joints-code.ensures.left ∙ ap (λ (x : List ℕ). lacks (last_part x)) (copy-is c.args.piece.now _ c.requires.some c.requires.copied)
