@@ -11,7 +11,7 @@ use Rattle.cobs.specs.Decode.{head_answer}
 use Rattle.cobs.specs.Sentinel.{xor_each}
 use Rattle.cobs.proofs.format.SentinelLemmas.{xor_twice}
 use Rattle.cobs.proofs.decoding.PieceCuts.{output-le, last_part-more, last_part-last, is_whole-of, length-output-last, length-output-more, joint_of, joint-length}
-use Rattle.cobs.proofs.decoding.WindowSteps.{CopiedTo, Decoded, code-decoded, code-copied}
+use Rattle.cobs.proofs.decoding.WindowSteps.{CopiedTo, Decoded, code-pos, code-decoded, code-copied, flat-short, end-begins, last-code, last-lacks}
 
 -- the parts in front of `read` aren't full, and what is left ends as the piece does
 pub record FlatSoFar (piece : List ℕ) (read : ℕ) : Type 0 where
@@ -122,6 +122,37 @@ pub record FlatCopied (piece old dest : List ℕ) (read code : ℕ) : Type 0 whe
   pub decoded : Decoded piece old dest read read
   pub copied : CopiedTo piece dest read (length piece) read
   pub at-read : code ≡ get_or piece read 0
+
+-- such a list, as far as it is walked
+module _ (piece old dest : List ℕ) (read code : ℕ) (f : FlatCopied piece old dest read code) (nonzero : HasNoZero piece) where
+  pub joint-code : 0 < code
+  joint-code = subst (λ (n : ℕ). 0 < n) (sym f.at-read) (code-pos piece read nonzero f.decoded.within)
+
+  -- one zero more
+  pub joint-more : (next : ℕ) → length (output piece) + 1 ≡ length piece → length piece ≤ length dest + 1 → read + code < length piece → next ≡ get_or dest (read + (code - 1)) 0
+      → FlatCopied piece old (set dest (read + (code - 1)) 0) (read + code) next
+  joint-more next flat room more is =
+      let pos = joint-code in
+      let short = flat-short piece old dest read f.decoded flat code f.at-read pos more in
+      record {
+        decoded = code-decoded piece old dest read read code f.decoded f.at-read pos more (length piece) f.copied more short (omega arith);
+        copied = code-copied piece old dest read read code f.decoded f.at-read pos more (length piece) f.copied more short;
+        at-read = is ∙ next-code piece dest read code f.copied pos more;
+      }
+
+  -- at the last part
+  module _ (last : length piece ≤ read + code) where
+    pub joints-written : length (output piece) ≤ length dest → take (length piece - 1) dest ≡ output piece
+    joints-written room =
+        let w = f.decoded.within in
+        ap (λ (n : ℕ). take n dest) {x = length piece - 1} {y = read + (length piece - read - 1)} (omega arith)
+        ∙ end-begins piece old dest read read code f.decoded f.at-read joint-code last f.copied room
+
+    pub joints-code : code ≡ code_of (last_part piece)
+    joints-code = last-code piece old dest read read code f.decoded f.at-read joint-code last
+
+    pub joints-lack : code - (length piece - read) ≡ lacks (last_part piece)
+    joints-lack = last-lacks piece old dest read read code f.decoded f.at-read joint-code last
 
 copied-ones-by : (n : ℕ) (piece old dest : List ℕ) (read : ℕ) → FlatCopied piece old dest read 1 → take n (drop read dest) ≡ replicate n 1 → read + n < length piece → length piece ≤ length dest + 1
     → FlatCopied piece old (zeroed n read dest) (read + n) 1

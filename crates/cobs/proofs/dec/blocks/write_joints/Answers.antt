@@ -1,9 +1,12 @@
-use Rattle.std.proofs.Common.{refl, ◌≡◌, ◌<◌, ◌+◌, ◌-◌, ◌∙◌, ◌∷◌, ℕ, List, length, take, drop, replicate, length-take-le, ap, sym, subst, arith}
+use Rattle.std.proofs.Common.{refl, ◌≡◌, ◌<◌, ◌≤◌, ◌+◌, ◌-◌, ◌∙◌, ◌∷◌, ℕ, List, length, take, drop, replicate, length-take-le, ap, sym, subst, arith}
 use Rattle.std.proofs.lemmas.List.{length-set, take_rest}
 use borrow.Rule.Slice.PartMut.{put_mid}
-use Rattle.cobs.proofs.decoding.WindowSteps.{code-pos, code-decoded, code-copied, flat-short, end-begins, last-code, last-lacks}
-use Rattle.cobs.proofs.decoding.FlatLemmas.{FlatCopied, joints-start, copied-ones, next-code, zeros-put, zeros-put-len}
+use Rattle.cobs.proofs.decoding.FlatLemmas.{FlatCopied, joint-code, joint-more, joints-written, joints-code, joints-lack, joints-start, copied-ones, zeros-put, zeros-put-len}
 use Rattle.cobs.proofs.dec.blocks.write_joints.Goals as goal
+
+-- the length of the stretch
+long-is : (dest : List ℕ) (first len : ℕ) → 0 < len → len ≤ length dest + 1 → length (first ∷ take (len - 1) dest) ≡ len
+long-is dest first len some room = let l = length-take-le (len - 1) dest (omega arith) in omega arith
 
 pub by_code-init : goal.by_code-init
 by_code-init c = record {
@@ -15,11 +18,9 @@ pub by_code-preserved-then-is_all : goal.by_code-preserved-then-is_all
 by_code-preserved-then-is_all c =
     let i = c.by_code.invariant in
     let piece : List ℕ = c.args.first ∷ take (c.args.len - 1) c.args.dest.now in
-    let few = length-take-le (c.args.len - 1) c.args.dest.now (omega arith) in
-    let some = c.requires.some in
     let dest : List ℕ = c.by_code.dest in
     let read : ℕ = c.by_code.read in
-    let long : length piece ≡ c.args.len = omega arith in
+    let long : length piece ≡ c.args.len = long-is c.args.dest.now c.args.first c.args.len c.requires.some c.requires.room in
     let first : c.by_code.code ≡ 1 = c.if-code-eq1.true in
     let ones : take 32 (drop read dest) ≡ replicate 32 1 = ap (take 32) (sym (take_rest dest read)) ∙ c.is_all.ensures c.if-is_all.true in
     let put = zeros-put read dest c.write_zeros.new.dest c.write_zeros.ensures in
@@ -33,21 +34,12 @@ by_code-preserved-then-is_all c =
 pub alike-preserved : goal.alike-preserved
 alike-preserved c =
     let i = c.alike.invariant in
-    let f = i.flat in
     let piece : List ℕ = c.args.first ∷ take (c.args.len - 1) c.args.dest.now in
-    let few = length-take-le (c.args.len - 1) c.args.dest.now (omega arith) in
-    let some = c.requires.some in
-    let long : length piece ≡ c.args.len = omega arith in
-    let pos : 0 < c.alike.code = subst (λ (n : ℕ). 0 < n) (sym f.at-read) (code-pos piece c.alike.read c.requires.nonzero f.decoded.within) in
-    let more : c.alike.read + c.alike.code < length piece = omega arith in
-    let short = flat-short piece c.args.dest.now c.alike.dest c.alike.read f.decoded (omega arith) c.alike.code f.at-read pos more in
+    let long : length piece ≡ c.args.len = long-is c.args.dest.now c.args.first c.args.len c.requires.some c.requires.room in
+    let pos = joint-code piece c.args.dest.now c.alike.dest c.alike.read c.alike.code i.flat c.requires.nonzero in
     let set = length-set c.alike.dest (c.alike.read + (c.alike.code - 1)) 0 in
     record {
-      flat = record {
-        decoded = code-decoded piece c.args.dest.now c.alike.dest c.alike.read c.alike.read c.alike.code f.decoded f.at-read pos more (length piece) f.copied more short (omega arith);
-        copied = code-copied piece c.args.dest.now c.alike.dest c.alike.read c.alike.read c.alike.code f.decoded f.at-read pos more (length piece) f.copied more short;
-        at-read = sym c.if-next-code.false ∙ next-code piece c.alike.dest c.alike.read c.alike.code f.copied pos more;
-      };
+      flat = joint-more piece c.args.dest.now c.alike.dest c.alike.read c.alike.code i.flat c.requires.nonzero c.alike.code (omega arith) (omega arith) (omega arith) (sym c.if-next-code.false);
       len = set ∙ i.len;
       more = omega arith;
       onward = omega arith;
@@ -56,55 +48,32 @@ alike-preserved c =
 pub by_code-preserved : goal.by_code-preserved
 by_code-preserved c =
     let i = c.alike.invariant in
-    let f = i.flat in
     let piece : List ℕ = c.args.first ∷ take (c.args.len - 1) c.args.dest.now in
-    let few = length-take-le (c.args.len - 1) c.args.dest.now (omega arith) in
-    let some = c.requires.some in
-    let long : length piece ≡ c.args.len = omega arith in
-    let pos : 0 < c.alike.code = subst (λ (n : ℕ). 0 < n) (sym f.at-read) (code-pos piece c.alike.read c.requires.nonzero f.decoded.within) in
-    let more : c.alike.read + c.alike.code < length piece = omega arith in
-    let short = flat-short piece c.args.dest.now c.alike.dest c.alike.read f.decoded (omega arith) c.alike.code f.at-read pos more in
+    let long : length piece ≡ c.args.len = long-is c.args.dest.now c.args.first c.args.len c.requires.some c.requires.room in
     let set = length-set c.alike.dest (c.alike.read + (c.alike.code - 1)) 0 in
     record {
-      flat = record {
-        decoded = code-decoded piece c.args.dest.now c.alike.dest c.alike.read c.alike.read c.alike.code f.decoded f.at-read pos more (length piece) f.copied more short (omega arith);
-        copied = code-copied piece c.args.dest.now c.alike.dest c.alike.read c.alike.read c.alike.code f.decoded f.at-read pos more (length piece) f.copied more short;
-        at-read = next-code piece c.alike.dest c.alike.read c.alike.code f.copied pos more;
-      };
+      flat = joint-more piece c.args.dest.now c.alike.dest c.alike.read c.alike.code i.flat c.requires.nonzero _ (omega arith) (omega arith) (omega arith) refl;
       len = set ∙ i.len;
     }
 
 pub returns-clause-begins : goal.returns-clause-begins
 returns-clause-begins c =
-    let f = c.by_code.invariant.flat in
     let piece : List ℕ = c.args.first ∷ take (c.args.len - 1) c.args.dest.now in
-    let few = length-take-le (c.args.len - 1) c.args.dest.now (omega arith) in
-    let some = c.requires.some in
-    let w = f.decoded.within in
-    let long : length piece ≡ c.args.len = omega arith in
-    let pos : 0 < c.by_code.code = subst (λ (n : ℕ). 0 < n) (sym f.at-read) (code-pos piece c.by_code.read c.requires.nonzero f.decoded.within) in
-    let all : c.args.len - 1 ≡ c.by_code.read + (length piece - c.by_code.read - 1) = omega arith in
-    ap (λ (n : ℕ). take n c.by_code.dest) all
-    ∙ end-begins piece c.args.dest.now c.by_code.dest c.by_code.read c.by_code.read c.by_code.code f.decoded f.at-read pos (omega arith) f.copied (omega arith)
+    let long : length piece ≡ c.args.len = long-is c.args.dest.now c.args.first c.args.len c.requires.some c.requires.room in
+    let i = c.by_code.invariant in
+    ap (λ (n : ℕ). take (n - 1) c.by_code.dest) (sym long)
+    ∙ joints-written piece c.args.dest.now c.by_code.dest c.by_code.read c.by_code.code i.flat c.requires.nonzero (omega arith) (omega arith)
 
 pub returns-clause-code : goal.returns-clause-code
 returns-clause-code c =
-    let f = c.by_code.invariant.flat in
-    let piece : List ℕ = c.args.first ∷ take (c.args.len - 1) c.args.dest.now in
-    let few = length-take-le (c.args.len - 1) c.args.dest.now (omega arith) in
-    let pos : 0 < c.by_code.code = subst (λ (n : ℕ). 0 < n) (sym f.at-read) (code-pos piece c.by_code.read c.requires.nonzero f.decoded.within) in
-    last-code piece c.args.dest.now c.by_code.dest c.by_code.read c.by_code.read c.by_code.code f.decoded f.at-read pos (omega arith)
+    let long = long-is c.args.dest.now c.args.first c.args.len c.requires.some c.requires.room in
+    joints-code _ c.args.dest.now c.by_code.dest c.by_code.read c.by_code.code c.by_code.invariant.flat c.requires.nonzero (omega arith)
 
 pub returns-clause-left : goal.returns-clause-left
 returns-clause-left c =
-    let f = c.by_code.invariant.flat in
-    let piece : List ℕ = c.args.first ∷ take (c.args.len - 1) c.args.dest.now in
-    let few = length-take-le (c.args.len - 1) c.args.dest.now (omega arith) in
-    let some = c.requires.some in
-    let long : length piece ≡ c.args.len = omega arith in
-    let pos : 0 < c.by_code.code = subst (λ (n : ℕ). 0 < n) (sym f.at-read) (code-pos piece c.by_code.read c.requires.nonzero f.decoded.within) in
+    let long = long-is c.args.dest.now c.args.first c.args.len c.requires.some c.requires.room in
     ap (λ (n : ℕ). c.by_code.code - (n - c.by_code.read)) (sym long)
-    ∙ last-lacks piece c.args.dest.now c.by_code.dest c.by_code.read c.by_code.read c.by_code.code f.decoded f.at-read pos (omega arith)
+    ∙ joints-lack _ c.args.dest.now c.by_code.dest c.by_code.read c.by_code.code c.by_code.invariant.flat c.requires.nonzero (omega arith)
 
 pub returns-clause-rest : goal.returns-clause-rest
 returns-clause-rest c = grind (arith, length-take-le)
