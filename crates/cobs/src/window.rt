@@ -11,6 +11,9 @@ pub(crate) const WINDOW: usize = 32;
 /// How many bytes of a long block are copied at once.
 pub(crate) const WIDE_WINDOW: usize = 64;
 
+/// The codes of a row of blocks with no bytes.
+const ONES: [u8; WINDOW] = [1; WINDOW];
+
 /// Which of the `N` bytes from `at` on are zeros.
 #[inline(always)]
 pub(crate) fn zeros_at<const N: usize>(bytes: &[u8], at: usize) -> u64
@@ -233,33 +236,15 @@ pub(crate) fn write_ones<const N: usize>(dest: &mut [u8], at: usize)
     Simd::<u8, N>::splat(1).copy_to_slice(&mut dest[at..]);
 }
 
-/// Writes `N` to `2 * N` blocks with no bytes, as two parts that may overlap.
-#[inline(always)]
-fn write_ones_two<const N: usize>(dest: &mut [u8], at: usize, len: usize)
-    requires lanes { N ≤ 16 }
-    requires some { N ≤ len }
-    requires few { len ≤ N + N }
-    requires room { at + len ≤ length dest.old }
-    ensures { dest.new ≡ take at dest.old ++ (replicate len 1 ++ drop (at + len) dest.old) }
-{
-    let ones = Simd::<u8, N>::splat(1);
-    ones.copy_to_slice(&mut dest[at..]);
-    ones.copy_to_slice(&mut dest[at + len - N..]);
-}
-
-/// Writes 8 to 32 blocks with no bytes.
+/// Writes up to 32 blocks with no bytes.
 #[inline(always)]
 pub(crate) fn write_some_ones(dest: &mut [u8], at: usize, len: usize)
-    requires some { 8 ≤ len }
+    requires some { 0 < len }
     requires few { len ≤ 32 }
     requires room { at + len ≤ length dest.old }
     ensures { dest.new ≡ take at dest.old ++ (replicate len 1 ++ drop (at + len) dest.old) }
 {
-    if len >= 16 {
-        write_ones_two::<16>(dest, at, len);
-    } else {
-        write_ones_two::<8>(dest, at, len);
-    }
+    copy_window(&ONES, 0, len, dest, at);
 }
 
 /// Whether this is the mask of a window of `len` bytes, at least 8, that has no byte but zeros.
