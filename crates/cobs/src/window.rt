@@ -206,34 +206,25 @@ pub(crate) fn copy_nonzero(
     done
 }
 
-/// Whether the first 32 bytes are all this one.
+/// Whether the 32 bytes from `at` on are all this one.
 #[inline(always)]
-pub(crate) fn is_all(bytes: &[u8], byte: u8) -> bool
-    requires { 32 ≤ length bytes.now }
-    ensures { IsTrue result → take 32 bytes.now ≡ replicate 32 byte }
+pub(crate) fn is_all(bytes: &[u8], at: usize, byte: u8) -> bool
+    requires { at + 32 ≤ length bytes.now }
+    ensures { IsTrue result → take 32 (drop at bytes.now) ≡ replicate 32 byte }
 {
-    u8x32::from_slice(bytes)
+    u8x32::from_slice(&bytes[at..])
         .simd_ne(u8x32::splat(byte))
         .to_bitmask()
         == 0
 }
 
-/// Writes 32 zeros.
+/// Writes this byte 32 times.
 #[inline(always)]
-pub(crate) fn write_zeros(dest: &mut [u8])
-    requires { 32 ≤ length dest.old }
-    ensures { dest.new ≡ replicate 32 0 ++ drop 32 dest.old }
+pub(crate) fn write_row(dest: &mut [u8], at: usize, byte: u8)
+    requires { at + 32 ≤ length dest.old }
+    ensures { dest.new ≡ take at dest.old ++ (replicate 32 byte ++ drop (at + 32) dest.old) }
 {
-    u8x32::splat(0).copy_to_slice(dest);
-}
-
-/// Writes `N` blocks with no bytes.
-#[inline(always)]
-pub(crate) fn write_ones<const N: usize>(dest: &mut [u8], at: usize)
-    requires { at + N ≤ length dest.old }
-    ensures { dest.new ≡ take at dest.old ++ (replicate N 1 ++ drop (at + N) dest.old) }
-{
-    Simd::<u8, N>::splat(1).copy_to_slice(&mut dest[at..]);
+    u8x32::splat(byte).copy_to_slice(&mut dest[at..]);
 }
 
 /// Writes up to 32 blocks with no bytes.

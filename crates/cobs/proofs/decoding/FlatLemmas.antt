@@ -1,7 +1,7 @@
 -- Frames in which no block but the last is full, decoded in their own place.
-use Rattle.std.proofs.Common.{take_at, drop_at, bit_xor, append-nil, length-append, zero, suc, ◌≤◌, ◌++◌, replicate, subst, append_assoc, take-append-drop, length-take-le, set, ◌≡◌, ◌≢◌, ℕ, ◌+◌, ◌-◌, ◌<◌, true, List, [], ◌∷◌, length, take, drop, get_or, Ok, refl, sym, ap, ◌∙◌, arith, length-drop}
+use Rattle.std.proofs.Common.{take_at, drop_at, bit_xor, append-nil, zero, suc, ◌≤◌, ◌++◌, replicate, subst, append_assoc, take-append-drop, length-take-le, set, ◌≡◌, ◌≢◌, ℕ, ◌+◌, ◌-◌, ◌<◌, true, List, [], ◌∷◌, length, take, drop, get_or, Ok, refl, sym, ap, ◌∙◌, arith, length-drop}
 use Rattle.std.proofs.lemmas.Bool.{eq-eqb}
-use Rattle.std.proofs.lemmas.List.{take-map, drop-map, take-take, drop_all, take_rest, length-set, drop-set-lt, take_more_set, drop-drop, drop_more, get_or-take, get_or-drop}
+use Rattle.std.proofs.lemmas.List.{take-map, drop-map, take-take, drop_all, length-set, drop-set-lt, take_more_set, drop-drop, drop_more, get_or-take, get_or-drop}
 use borrow.Rule.Slice.PartMut.{put_mid}
 use Rattle.std.proofs.lemmas.List.Elements.{All-cons}
 use Rattle.cobs.specs.Grammar.{code_of, HasNoZero}
@@ -220,16 +220,6 @@ piece-nonzero (x ∷ old) len some le first others =
 -- a slice from some place on, put back
 pub put-back : (read : ℕ) (buffer new : List ℕ) → put_mid read (length buffer - read) buffer new ≡ take read buffer ++ new
 put-back read buffer new = grind (arith, drop-drop, drop_all, append-nil)
-
--- 32 zeros written there
-pub zeros-put : (read : ℕ) (buffer new : List ℕ) → new ≡ replicate 32 0 ++ drop 32 (take (length buffer - read) (drop read buffer))
-    → put_mid read (length buffer - read) buffer new ≡ take read buffer ++ (replicate 32 0 ++ drop (read + 32) buffer)
-zeros-put read buffer new is =
-    put-back read buffer new ∙ ap (λ (x : List ℕ). take read buffer ++ x)
-    (is ∙ ap (λ (x : List ℕ). replicate 32 0 ++ drop 32 x) (take_rest buffer read) ∙ ap (λ (x : List ℕ). replicate 32 0 ++ x) (drop-drop 32 read buffer))
-
-pub zeros-put-len : (read : ℕ) (buffer : List ℕ) → read + 32 ≤ length buffer → length (take read buffer ++ (replicate 32 0 ++ drop (read + 32) buffer)) ≡ length buffer
-zeros-put-len read buffer le = grind (arith, length-append, length-take-le, length-drop)
 
 -- such a frame is whole, so all its output is kept
 module _ (h : List ℕ) (flat : IsFlat h) where

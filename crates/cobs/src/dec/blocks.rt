@@ -14,7 +14,7 @@ use crate::dec::unbuffered::{FULL, UnbufferedDecoder};
 use crate::dec::{FEW, LONG, MANY};
 use crate::enc::FULL_CODE;
 use crate::lanes::copy_to_zero;
-use crate::window::{WIDE_WINDOW, WINDOW, is_all, write_zeros};
+use crate::window::{WIDE_WINDOW, WINDOW, is_all, write_row};
 
 /// How many bytes the first whole blocks of a piece have, through the first full one, and whether the last of them is
 /// full. 0 bytes: the first block is broken. Each byte of the piece is XORed with the sentinel.
@@ -37,7 +37,7 @@ pub(crate) fn flat_front(piece: &[u8], sentinel: u8) -> (usize, bool)
     }
     'by_code: loop {
         let code = (piece[read] ^ sentinel) as usize;
-        if code == 1 && piece.len() - read > WINDOW && is_all(&piece[read..], 1 ^ sentinel) {
+        if code == 1 && piece.len() - read > WINDOW && is_all(piece, read, 1 ^ sentinel) {
             read += WINDOW;
         } else {
             'alike: loop {
@@ -100,8 +100,8 @@ pub(crate) fn write_joints(dest: &mut [u8], first: usize, len: usize, alike: boo
     let mut code = first;
     let mut read = 0;
     'by_code: while code < len - read {
-        if alike && code == 1 && len - read > WINDOW && is_all(&dest[read..], 1) {
-            write_zeros(&mut dest[read..]);
+        if alike && code == 1 && len - read > WINDOW && is_all(dest, read, 1) {
+            write_row(dest, read, 0);
             read += WINDOW;
         } else {
             'alike: loop {

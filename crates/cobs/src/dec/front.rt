@@ -8,7 +8,7 @@ ghost use Rattle.cobs.specs.Stream.{head};
 use crate::dec::piece::piece_len;
 use crate::enc::FULL_CODE;
 use crate::lanes::copy_xored_short;
-use crate::window::{WINDOW, copy_at, copy_nonzero, is_all, write_zeros, zeros_at};
+use crate::window::{WINDOW, copy_at, copy_nonzero, is_all, write_row, zeros_at};
 
 /// No step reads or writes more bytes than a full block and the code after it.
 const LONGEST_STEP: usize = FULL_CODE + 1;
@@ -37,8 +37,8 @@ pub(crate) fn decode_window(source: &[u8], dest: &mut [u8]) -> usize
     ensures some { HasNoZero (take 33 source.now) → 0 < result }
 {
     let mut code = source[0] as usize;
-    if code == 1 && is_all(&source[1..], 1) {
-        write_zeros(dest);
+    if code == 1 && is_all(source, 1, 1) {
+        write_row(dest, 0, 0);
         return WINDOW;
     }
     if zeros_at::<32>(source, 1) != 0 {

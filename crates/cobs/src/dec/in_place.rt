@@ -14,7 +14,7 @@ use crate::dec::piece::{len_without, piece_len};
 use crate::dec::{DecodeError, DecodeReport};
 use crate::enc::{FULL_CODE, xor_bytes};
 use crate::lanes::{move_nonzero_short, move_to_front};
-use crate::window::{WIDE_WINDOW, WINDOW, is_all, write_zeros};
+use crate::window::{WIDE_WINDOW, WINDOW, is_all, write_row};
 
 /// Writes a zero over each code but the first of the first whole blocks of a piece, through the first full one; returns
 /// how many bytes these blocks have, and the code of the last of them. `rest` begins with what follows the first code.
@@ -40,8 +40,8 @@ fn mark_front(first: usize, rest: &mut [u8], len: usize) -> (usize, usize)
     let mut code = first;
     let mut read = 0;
     'by_code: while code < len - read && code != FULL_CODE {
-        if code == 1 && len - read > WINDOW && is_all(&rest[read..], 1) {
-            write_zeros(&mut rest[read..]);
+        if code == 1 && len - read > WINDOW && is_all(rest, read, 1) {
+            write_row(rest, read, 0);
             read += WINDOW;
         } else {
             let at = read + (code - 1);

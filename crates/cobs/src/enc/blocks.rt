@@ -8,7 +8,7 @@ ghost use Rattle.cobs.specs.Internal.Taking.{TakesFront};
 
 use crate::enc::unbuffered::EncoderProgress;
 use crate::window::{
-    WINDOW, copy_at, copy_window, first_zero_of_few, is_all_zeros, write_ones, write_some_ones,
+    WINDOW, copy_at, copy_window, first_zero_of_few, is_all_zeros, write_row, write_some_ones,
     zeros_at,
 };
 use memchr::memchr;
@@ -118,14 +118,14 @@ fn write_rows(source: &[u8], read: usize, dest: &mut [u8], at: usize) -> usize
     ensures ones { dest.new ≡ take at dest.old
         ++ (replicate result 1 ++ drop (at + result) dest.old) }
 {
-    write_ones::<32>(dest, at);
+    write_row(dest, at, 1);
     let last = source.len() - read - WINDOW;
     let mut count = WINDOW;
     'by_row: while count < last {
         if zeros_at::<32>(source, read + count) != ALL_ZEROS {
             return count;
         }
-        write_ones::<32>(dest, at + count);
+        write_row(dest, at + count, 1);
         count += WINDOW;
     }
     count

@@ -1,5 +1,5 @@
-use Rattle.std.proofs.Common.{ap, ◌∙◌, take, bit_xor, ◌<◌, ℕ, List, get_or, arith, sym, subst}
-use Rattle.std.proofs.lemmas.List.{take_rest, length-map, get_or-map}
+use Rattle.std.proofs.Common.{◌∙◌, bit_xor, ◌<◌, ℕ, List, get_or, arith, sym, subst}
+use Rattle.std.proofs.lemmas.List.{length-map, get_or-map}
 use Rattle.std.proofs.lemmas.Bool.{eqb-true, eqb-false, eq-eqb}
 use Rattle.cobs.specs.Sentinel.{xor_each}
 use Rattle.cobs.proofs.decoding.WindowSteps.{code-pos}
@@ -13,7 +13,7 @@ pub by_code-preserved-then-is_all : goal.by_code-preserved-then-is_all
 by_code-preserved-then-is_all c =
     let long = length-map c.args.piece.now (λ (byte : ℕ). bit_xor byte c.args.sentinel) in
     front-ones (xor_each c.args.sentinel c.args.piece.now) c.by_code.read c.by_code.invariant
-    (xored-ones c.args.piece.now c.args.sentinel c.by_code.read (ap (take 32) (sym (take_rest c.args.piece.now c.by_code.read)) ∙ c.is_all.ensures c.if-is_all.true)) (omega arith)
+    (xored-ones c.args.piece.now c.args.sentinel c.by_code.read (c.is_all.ensures c.if-is_all.true)) (omega arith)
 
 pub returns-then-piece-read-clause-flat : goal.returns-then-piece-read-clause-flat
 returns-then-piece-read-clause-flat c = grind (arith, length-map, code-pos, front-whole)

@@ -1,7 +1,6 @@
-use Rattle.std.proofs.Common.{refl, ◌≡◌, ◌<◌, ◌≤◌, ◌+◌, ◌-◌, ◌∙◌, ◌∷◌, ℕ, List, length, take, drop, replicate, length-take-le, ap, sym, subst, arith}
-use Rattle.std.proofs.lemmas.List.{length-set, take_rest}
-use borrow.Rule.Slice.PartMut.{put_mid}
-use Rattle.cobs.proofs.decoding.FlatLemmas.{FlatCopied, joint-code, joint-more, joints-written, joints-code, joints-lack, joints-start, copied-ones, zeros-put, zeros-put-len}
+use Rattle.std.proofs.Common.{refl, ◌≡◌, ◌<◌, ◌≤◌, ◌+◌, ◌-◌, ◌∙◌, ◌∷◌, ℕ, List, length, take, length-take-le, ap, sym, subst, arith}
+use Rattle.std.proofs.lemmas.List.{length-set}
+use Rattle.cobs.proofs.decoding.FlatLemmas.{FlatCopied, joint-code, joint-more, joints-written, joints-code, joints-lack, joints-start, copied-ones}
 use Rattle.cobs.proofs.dec.blocks.write_joints.Goals as goal
 
 -- the length of the stretch
@@ -22,13 +21,10 @@ by_code-preserved-then-is_all c =
     let read : ℕ = c.by_code.read in
     let long : length piece ≡ c.args.len = long-is c.args.dest.now c.args.first c.args.len c.requires.some c.requires.room in
     let first : c.by_code.code ≡ 1 = c.if-code-eq1.true in
-    let ones : take 32 (drop read dest) ≡ replicate 32 1 = ap (take 32) (sym (take_rest dest read)) ∙ c.is_all.ensures c.if-is_all.true in
-    let put = zeros-put read dest c.write_zeros.new.dest c.write_zeros.ensures in
-    let after : List ℕ = put_mid read (length dest - read) dest c.write_zeros.new.dest in
     record {
-      flat = subst (FlatCopied piece c.args.dest.now after (read + 32)) (sym first)
-          (copied-ones piece c.args.dest.now dest after read (subst (FlatCopied piece c.args.dest.now dest read) first i.flat) ones (omega arith) (omega arith) put);
-      len = ap length put ∙ zeros-put-len read dest (omega arith) ∙ i.len;
+      flat = subst (FlatCopied piece c.args.dest.now c.write_row.new.dest (read + 32)) (sym first)
+          (copied-ones piece c.args.dest.now dest c.write_row.new.dest read (subst (FlatCopied piece c.args.dest.now dest read) first i.flat) (c.is_all.ensures c.if-is_all.true) (omega arith) (omega arith) c.write_row.ensures);
+      len = omega arith;
     }
 
 pub alike-preserved : goal.alike-preserved

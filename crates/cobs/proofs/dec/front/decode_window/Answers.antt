@@ -1,5 +1,5 @@
-use Rattle.std.proofs.Common.{◌≡◌, ◌≢◌, ◌≤◌, ◌++◌, ◌∙◌, ℕ, List, length, take, drop, get_or, replicate, refl, sym, ap, subst, arith}
-use Rattle.std.proofs.lemmas.List.{take_rest, drop-take}
+use Rattle.std.proofs.Common.{◌≡◌, ◌≢◌, ◌≤◌, ◌++◌, ◌∙◌, ℕ, List, length, take, drop, get_or, refl, sym, ap, subst, arith}
+use Rattle.std.proofs.lemmas.List.{drop-take}
 use Rattle.std.proofs.lemmas.List.Elements.{All-drop}
 use Rattle.cobs.specs.Grammar.{HasNoZero}
 use Rattle.cobs.specs.Stream.{head}
@@ -13,9 +13,8 @@ use Rattle.cobs.proofs.dec.front.decode_window.Goals as goal
 pub returns-then-is_all-clause-decoded : goal.returns-then-is_all-clause-decoded
 returns-then-is_all-clause-decoded c =
     let source : List ℕ = c.args.source.now in
-    let ones : take 32 (drop 1 source) ≡ replicate 32 1 = ap (take 32) (sym (take_rest source 1)) ∙ c.is_all.ensures c.if-is_all.true in
-    let front = ones-front source c.requires.long c.if-code-eq1.true ones in
-    ones-decoded (head source) c.args.dest.now c.write_zeros.new.dest front.0 front.1 c.write_zeros.ensures
+    let front = ones-front source c.requires.long c.if-code-eq1.true (c.is_all.ensures c.if-is_all.true) in
+    ones-decoded (head source) c.args.dest.now c.write_row.new.dest front.0 front.1 c.write_row.ensures
 
 pub returns-then-zeros_at-ne0-clause-some : goal.returns-then-zeros_at-ne0-clause-some
 returns-then-zeros_at-ne0-clause-some c clear =

@@ -1,6 +1,4 @@
-use Rattle.std.proofs.Common.{◌≡◌, ap, ◌∙◌, length, take, drop, replicate, ℕ, List, arith, sym}
-use Rattle.std.proofs.lemmas.List.{take_rest}
-use Rattle.cobs.proofs.decoding.FlatLemmas.{zeros-put, zeros-put-len}
+use Rattle.std.proofs.Common.{ℕ, List, arith}
 use Rattle.cobs.proofs.decoding.FirstFront.{marked-code, marked-turn, marked-ones, marked-flat, marked-last, marked-begins, marked-rest, marked-empty, marked-kept}
 use Rattle.cobs.proofs.dec.in_place.mark_front.Goals as goal
 
@@ -11,10 +9,7 @@ by_code-preserved-then-is_all c =
     let read : ℕ = c.by_code.read in
     let same = m.same in
     let room = c.requires.room in
-    let ones : take 32 (drop read dest) ≡ replicate 32 1 = ap (take 32) (sym (take_rest dest read)) ∙ c.is_all.ensures c.if-is_all.true in
-    let put = zeros-put read dest c.write_zeros.new.dest c.write_zeros.ensures in
-    marked-ones c.args.first c.args.rest.now dest c.args.len read c.by_code.code m room _ c.if-code-eq1.true (omega arith) ones put
-    (ap length put ∙ zeros-put-len read dest (omega arith))
+    marked-ones c.args.first c.args.rest.now dest c.args.len read c.by_code.code m room _ c.if-code-eq1.true (omega arith) (c.is_all.ensures c.if-is_all.true) c.write_row.ensures (omega arith)
 
 pub in_turn-init : goal.in_turn-init
 in_turn-init c = record {

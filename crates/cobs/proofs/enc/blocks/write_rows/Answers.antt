@@ -14,5 +14,5 @@ by_row-preserved c =
       some = omega arith;
       within = omega arith;
       zeros = more-zeros source c.args.read c.by_row.count 32 i.zeros all.1;
-      ones = more-ones c.args.dest.now c.by_row.dest c.write_ones-in-by_row.new.dest c.args.at c.by_row.count 32 (omega arith) i.ones c.write_ones-in-by_row.ensures;
+      ones = more-ones c.args.dest.now c.by_row.dest c.write_row-in-by_row.new.dest c.args.at c.by_row.count 32 (omega arith) i.ones c.write_row-in-by_row.ensures;
     }
