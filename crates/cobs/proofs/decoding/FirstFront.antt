@@ -96,8 +96,6 @@ module _ (first : ℕ) (old dest : List ℕ) (len read code : ℕ) (m : Marked f
   marked-begins =
       let l = long in
       let some = m.some in
-      let same = m.same in
-      let whole = m.whole in
       let o = output-le q (omega arith) in
       let all : read + code - 1 ≡ read + (length q - read - 1) = omega arith in
       ap (λ (n : ℕ). take n dest) all ∙ end-begins q old dest read read code ends.decoded ends.at-read some (omega arith) ends.copied (omega arith)
@@ -117,9 +115,7 @@ module _ (first : ℕ) (old dest : List ℕ) (len read code : ℕ) (m : Marked f
 
   pub marked-kept : code ≢ 1 → get_or (first ∷ dest) (read + code - 1) 0 ≡ get_or (first ∷ old) (read + code - 1) 0
   marked-kept other =
-      let some = m.some in
       let l = long in
-      let more : 1 < code = omega (arith, other) in
       let at : read + code - 1 ≡ suc (read + (code - 1 - 1)) = omega arith in
       let place : read + (code - 1) ≡ read + code - 1 = omega arith in
       ap (λ (n : ℕ). get_or (first ∷ dest) n 0) at
@@ -132,11 +128,9 @@ pub marked-turn : (first : ℕ) (old dest : List ℕ) (len read code other : ℕ
     → Marked first old (set (set dest (read + (code - 1)) 0) (read + (other + code - 1)) 0) len (read + (other + code)) code
 marked-turn first old dest len read code other m room none short short' fits here then =
     let some = m.some in
-    let whole = m.whole in
     let once : List ℕ = set dest (read + (code - 1)) 0 in
     let n : Marked first old once len (read + code) other =
     subst (Marked first old once len (read + code)) here (marked-code first old dest len read code m room (omega arith) short none (omega arith)) in
-    let some' = n.some in
     let at : read + code + (other - 1) ≡ read + (other + code - 1) = omega arith in
     let sum : read + code + other ≡ read + (other + code) = omega arith in
     let is : get_or once (read + code + (other - 1)) 0 ≡ code =

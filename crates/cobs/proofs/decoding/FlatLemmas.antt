@@ -33,10 +33,8 @@ module _ (piece : List ℕ) (read code : ℕ) (f : FlatSoFar piece read) (is : c
   -- the last part, where it is whole
   pub flat-whole : length piece - read ≡ code → IsFlat piece
   flat-whole ends =
-      let w = f.within in
       let l = length-drop (read + 1) piece in
       let o = length-output-last piece read f.within (omega arith) in
-      let c = f.count in
       let part : last_part piece ≡ code ∷ drop (read + 1) piece = sym f.last ∙ ap last_part cons ∙ last_part-last code (drop (read + 1) piece) (omega arith) in
       record {
         some = omega arith;

@@ -93,10 +93,7 @@ module _ (piece : List ℕ) (n read left code : ℕ) (s : FrontSought piece n re
 
     pub front-more-left : (left' : ℕ) → left' + (code - 1 + length (joint_of code)) ≡ left → FrontSought piece n (read + code) left'
     front-more-left left' sum =
-        let w = s.within in
-        let e = s.counted in
         let l = long in
-        let m = more in
         let bytes : List ℕ = drop (read + 1) piece in
         let d = length-drop (read + 1) piece in
         let o = ap length whole ∙ length-append part (output (drop (read + code) piece)) in

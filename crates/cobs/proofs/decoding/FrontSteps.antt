@@ -137,7 +137,6 @@ module _ (piece old dest : List ℕ) (read written : ℕ) (p : Decoded piece old
       let d = length-drop read piece in
       let long = ap length part-is in
       let e = left-is in
-      let w = q.within in
       let l : m + length (output (drop (read + n) piece)) ≡ length (output part) = ap (λ (x : List ℕ). m + length (output x)) (sym next) ∙ q.left in
       record {
         within = omega arith;

@@ -81,7 +81,6 @@ module _ (before : List ℕ) (end : ℕ) (buffer : List ℕ) (read written : ℕ
   -- what is left of the frame is as it was
   pub left-is : take (end - read) (drop read buffer) ≡ drop read (take end before)
   left-is =
-      let w = s.within in
       let sum : end ≡ read + (end - read) = omega arith in
       grind (arith, drop-later, drop-take)
 
@@ -153,11 +152,7 @@ module _ (before : List ℕ) (end : ℕ) (buffer : List ℕ) (read written : ℕ
       pub stretch-zero : read + len < end → is_full (last_part p) ≡ false → DecodedInPlace before end (set (put_mid written k buffer new) (written + w) 0) (read + len) (written + w + 1)
       stretch-zero before-end other =
           let r = stretch-shorter in
-          let o = s.order in
-          let m = left-long in
-          let i = s.within in
           let l = after-len in
-          let f = s.fits in
           record {
             order = omega arith;
             within = omega arith;

@@ -54,7 +54,6 @@ module _ (source dest new : List ℕ) (s end : ℕ) (within : end ≤ length sou
       let l = front-long in
       let t = length-take-le end source within in
       let k = kept-len in
-      let f = flat.some in
       flat-answer _ flat n (omega arith) ∙ answer-fits (xor_each s (take end source)) (length dest) (omega arith)
       ∙ ap (λ (h : List ℕ). head_answer_within h (length dest)) front-head ∙ source_answer-head source s (length dest) some
 
@@ -172,8 +171,6 @@ module _ (source : List ℕ) (s : ℕ) (old dest : List ℕ) (read written : ℕ
       pub stretch-zero : read + len < length source → written + w < length dest → is_full (last_part p) ≡ false → DecodedSource h old (set (put_mid written k dest new) (written + w) 0) (read + len) (written + w + 1)
       stretch-zero before-end space other =
           let l = after-len in
-          let r = d.room in
-          let e = d.len in
           record {
             room = omega arith;
             len = length-set (put_mid written k dest new) (written + w) 0 ∙ after-len;

@@ -22,7 +22,6 @@ message_reads f m count below piece answer is = (
       let same : output f ≡ m = cc in
       subst (λ (x : List ℕ). Reads f x) same (reads_output f piece.0 piece.1 below whole))
       (λ (broken : is_whole f ≡ false).
-      let given : answer ≡ Err (InvalidFrame count) = is ∙ ap (λ (t : Bool). cond t (Ok (output f)) (Err (InvalidFrame count))) broken in
       absurd (cc))
       (cases_Bool (is_whole f)),
   λ r. is ∙ ap (λ (t : Bool). cond t (Ok (output f)) (Err (InvalidFrame count))) (frame_whole f m r) ∙ ap Ok (sym (frame_output f m r)),

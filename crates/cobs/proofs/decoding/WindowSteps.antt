@@ -70,7 +70,6 @@ module _ (piece old dest : List ℕ) (read written code : ℕ) (p : Decoded piec
     zero-front : code ≢ 255 → written + code ≤ length dest → take (code - 1) (drop written dest) ≡ take (code - 1) (drop (read + 1) piece)
         → take (written + code) (set dest (written + (code - 1)) 0) ≡ take written dest ++ (take (code - 1) (drop (read + 1) piece) ++ joint_of code)
     zero-front other room here =
-        let r = room-zero other in
         let at : ℕ = written + (code - 1) in
         let joint-is : joint_of code ≡ 0 ∷ [] = ap (λ t. if t then [] else 0 ∷ []) (ne_eqb code 255 other) in
         let split : set dest at 0 ≡ (take at dest ++ 0 ∷ []) ++ drop (suc at) dest = set_split dest at 0 (omega arith) ∙ sym (append_assoc (take at dest) (0 ∷ []) (drop (suc at) dest)) in
@@ -211,10 +210,9 @@ module _ (piece dest after : List ℕ) (long : 33 ≤ length piece) where
       let whole : piece ≡ replicate 32 1 ++ next = sym (take-append-drop 32 piece) ∙ ap (λ (x : List ℕ). x ++ next) ones in
       let d = length-drop 32 piece in
       let o : output piece ≡ replicate 32 0 ++ output next = ap output whole ∙ output-ones 32 next (omega arith) in
-      let l : length (output piece) ≡ 32 + length (output next) = ap length o ∙ omega arith in
       record {
         within = omega arith;
-        left = sym l;
+        left = sym (ap length o ∙ omega arith);
         front = ap (λ (x : List ℕ). take 32 x ++ output next) is ∙ ap (λ (x : List ℕ). x ++ output next) (take_at (replicate 32 0) (drop 32 dest) 32 refl) ∙ sym o;
         rest = behind-window (replicate 32 0) refl is;
         last = sym (ap last_part whole ∙ last_part-ones 32 next (omega arith));

@@ -88,7 +88,6 @@ encoded-full m front each full message = record {
 after_open : (slice m : List ℕ) (index next code : ℕ) → index + code ≡ next → code < 255 → next ≤ length slice → Opened slice m index next false → CobsEncoderAfter slice (at index code false) m
 unfolding encoded-open
 after_open slice m index next code is short fits o =
-    let p = o.place in
     let code_is : length o.bytes + 1 ≡ code = omega arith in
     let block : List ℕ = code ∷ o.bytes in
     let is_block : IsBlock block = (sym code_is, omega arith, o.nonzero) in
@@ -119,7 +118,6 @@ after_open slice m index next code is short fits o =
 after_full : (slice m : List ℕ) (index next code : ℕ) → index + code ≡ next → index ≤ length slice → Opened slice m index next true → CobsEncoderAfter slice (at index code true) m
 unfolding encoded-full
 after_full slice m index next code is fits o =
-    let p = o.place in
     let n = no_bytes o.front o.bytes o.noted in
     let none : o.bytes ≡ [] = n.0 in
     let one : code ≡ 1 = (let l = ap length none in omega arith) in
@@ -182,7 +180,6 @@ opened_open slice m r h open' =
     let o = h.follows.1 in
     let parts = All-front o.front (r.block.code ∷ o.bytes) o.frame.each in
     let is = parts.1 in
-    let code_is : r.block.code ≡ length o.bytes + 1 = is.0 in
     let b = o.begins in
     let whole : h.follows.0 ≡ concat o.front ++ r.block.code ∷ o.bytes = o.frame.whole ∙ concat-append o.front ((r.block.code ∷ o.bytes) ∷ []) ∙ ap (λ (x : List ℕ). concat o.front ++ x) (append-nil (r.block.code ∷ o.bytes)) in
     let same : h.frame ≡ h.follows.0 = sym (append-nil h.frame) ∙ ap (λ (t : Bool). h.frame ++ (if t then lone_block else [])) (sym open' ∙ h.noted) ∙ sym (open-same h.frame m h.follows.0 r.block.index r.block.code h.encoded o) in
@@ -197,7 +194,7 @@ opened_open slice m r h open' =
       each = parts.0;
       nonzero = is.2;
       few = (let n = o.not_full in omega arith);
-      message = subst (λ (n : ℕ). m ≡ message_of (o.front ++ (n ∷ o.bytes) ∷ [])) code_is o.message;
+      message = subst (λ (n : ℕ). m ≡ message_of (o.front ++ (n ∷ o.bytes) ∷ [])) is.0 o.message;
       begins = o.begins;
       place = omega arith;
       written = sym (take-take r.block.index (next_of r) slice (omega arith)) ∙ ap (take r.block.index) front ∙ take_at (concat o.front) (x ∷ o.bytes) r.block.index (sym b);
@@ -222,8 +219,6 @@ opened_full slice m r h full =
       whole = longer_is ∙ ap (λ (x : List ℕ). x ++ lone_block) fr.whole ∙ sym (concat-append blocks (lone_block ∷ []));
     } in
     let same = same_from_push o.front blocks (r.block.code ∷ o.bytes) lone_block (one_frame h.follows.0 (o.front ++ (r.block.code ∷ o.bytes) ∷ []) (blocks ++ lone_block ∷ []) o.frame with_lone) in
-    let last : r.block.code ∷ o.bytes ≡ lone_block = same.1 in
-    let code_is : r.block.code ≡ 1 = cc in
     let none : o.bytes ≡ [] = cc in
     let z = ap length none in
     let parts = All-front o.front (r.block.code ∷ o.bytes) o.frame.each in
@@ -254,8 +249,6 @@ end-is slice m r h =
     let l = sym (length-encoded h.frame m h.encoded) in
     let o = h.follows.1 in
     let is = (All-front o.front (r.block.code ∷ o.bytes) o.frame.each).1 in
-    let code_is = is.0 in
-    let b = o.begins in
     let whole : length h.follows.0 ≡ length (concat o.front) + r.block.code = ap length (o.frame.whole ∙ concat-append o.front ((r.block.code ∷ o.bytes) ∷ []) ∙ ap (λ (x : List ℕ). concat o.front ++ x) (append-nil (r.block.code ∷ o.bytes)))
     ∙ length-append (concat o.front) (r.block.code ∷ o.bytes) ∙ omega arith in
     let opened = from_after slice m r h in
@@ -264,7 +257,6 @@ end-is slice m r h =
     elim (cases_Bool r.full) [
       | inl full ↦ (let n = no_bytes opened.front opened.bytes (sym full ∙ opened.noted) in
           let z = ap length n.0 in
-          let p = opened.place in
           let t : length (if r.full then lone_block else []) ≡ 1 = ap (λ (v : Bool). length {A = ℕ} (if v then lone_block else [])) full in
           let e : end_of r ≡ r.block.index = ap (λ (v : Bool). if v then r.block.index else next_of r) full in
           omega arith)

@@ -63,7 +63,6 @@ after-zero slice m r h fits =
     let code : ℕ = r.block.code in
     let after : List ℕ = set slice r.block.index code in
     let l = length-set slice r.block.index code in
-    let short = h.follows.1.not_full in
     let other : (code == 255) ≡ false = ne_eqb code 255 (λ e. omega arith) in
     let closed = Opened-close slice m r.block.index (next_of r) code r.full (omega arith) refl (opened slice m r h fits) in
     let goes : m ++ joint (code ∷ []) ≡ m ++ 0 ∷ [] = ap (λ (b : Bool). m ++ (if b then [] else 0 ∷ [])) other in

@@ -42,7 +42,6 @@ pub after-so-far : (H : List ℕ → Type 0) (source old slice : List ℕ) (end 
     → (m : List ℕ) → H m → CobsEncoderAfter slice (at index (next - index) full) (m ++ take pos source)
 after-so-far H source old slice end pos index next full r short fits m h =
     let t = r.taken m h in
-    let o = r.ordered in
     let l = least source end pos index next r.ordered r.within r.room in
     to_after slice (m ++ take pos source) index next (next - index) full (omega arith) (omega arith) (ends-within full index next (length slice) r.ordered (omega arith))
     (subst (λ (b : Bool). Opened slice (m ++ take pos source) index next b) t.1 t.2)

@@ -85,14 +85,12 @@ module _ (H : List ℕ → Type 0) (source old slice after : List ℕ) (end read
   -- no zero is near enough to keep the block from being full
   pub filled : (lacking : ℕ) → lacking ≡ index + 255 - next → 0 < lacking → lacking ≤ min (count_trailing_zeros 64 (zero_mask (take len (drop read source)))) len → len ≤ 32 → Reaches H source old after end (read + lacking) index (next + lacking) IsNotFull
   filled lacking lack some le few =
-      let s = r.short in
       let l = length-window in
       let front : take lacking (take len (drop read source)) ≡ take lacking (drop read source) = take-take lacking len (drop read source) (omega arith) in
       joined lacking (omega arith) some (omega arith) (subst HasNoZero front (clear_front (take len (drop read source)) lacking (omega arith) (omega arith)))
 
   pub marks-start : (zeros : ℕ) → len ≤ 32 → zeros ≡ zero_mask (take len (drop read source)) → 0 < len → min (count_trailing_zeros 64 zeros) len < index + 255 - next → Marks H source old after end read len index next zeros
   marks-start zeros few bits some open' =
-      let o = r.ordered in
       let d : ℕ = index + 1 - next in
       let none : d ≡ 0 = omega arith in
       let all : len ≡ len - d = omega arith in
@@ -154,11 +152,7 @@ module _ (H : List ℕ → Type 0) (source old slice : List ℕ) (end read len i
       let j : ℕ = nonzero_len left in
       let e = first-is in
       let lt = first-lt in
-      let f = s.few in
-      let i = s.inside in
       let n = s.seen in
-      let h = s.short in
-      let o = s.reaches.ordered in
       let sum : len - d ≡ j + 1 + (len - (k + 1)) = omega arith in
       let cut : (xs : List ℕ) (a : ℕ) → drop (j + 1) (take (len - d) (drop (a + d) xs)) ≡ take (len - (k + 1)) (drop (a + (k + 1)) xs) =
       λ xs a. ap (λ (m : ℕ). drop (j + 1) (take m (drop (a + d) xs))) sum ∙ drop-take (j + 1) (len - (k + 1)) (drop (a + d) xs)
@@ -204,12 +198,6 @@ WindowTaken-at H source old slice slice' end read len index index' next s i w =
 pub marks-end : (H : List ℕ → Type 0) (source old slice : List ℕ) (end read len index next zeros d : ℕ) → MarksAt H source old slice end read len index next zeros d → zeros ≡ 0 → end ≤ length slice
     → WindowTaken H source old slice end read len index next
 marks-end H source old slice end read len index next zeros d s none fits =
-    let n = s.seen in
-    let i = s.inside in
-    let f = s.few in
-    let h = s.short in
-    let some = s.some in
-    let o = s.reaches.ordered in
     let all : count_trailing_zeros 64 zeros ≡ 64 = ap (count_trailing_zeros 64) none ∙ trailing_of_zero 64 in
     let sum : read + d + (len - d) ≡ read + len = omega arith in
     let sum' : next + d + (len - d) ≡ next + len = omega arith in
@@ -226,7 +214,6 @@ pub row-taken : (H : List ℕ → Type 0) (source old slice after : List ℕ) (e
     → take n (drop read source) ≡ replicate n 0 → next < index + 255 → after ≡ take next (set slice index (next - index)) ++ (replicate n 1 ++ drop (next + n) (set slice index (next - index)))
     → WindowTaken H source old after end read n (next + n - 1) next
 row-taken H source old slice after end read n index next r fits some inside zeros short is =
-    let o = r.ordered in
     let room = least source end read index next r.ordered r.within r.room in
     let m : ℕ = n - 1 in
     let sum : suc m ≡ n = omega arith in

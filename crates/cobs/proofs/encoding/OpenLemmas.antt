@@ -167,8 +167,6 @@ module _ (g : List ℕ) (state : OpenBlock) (m : List ℕ) (o : IsOpenOutput g s
   length-IsOpenOutput =
       let is = (blocks-of m o.0 g state.index state.code o.1 o.2).1 in
       let all = ap length (g-is m o.0 g state.index state.code o.1 o.2) ∙ length-append (concat o.1.front) (o.2.0 ∷ o.1.bytes) in
-      let code = is.0 in
-      let begins = o.1.begins in
       omega arith
 
   pub index-IsOpenOutput : state.index < length g

@@ -31,7 +31,6 @@ pub record Opened (slice m : List ℕ) (index next : ℕ) (full : Bool) : Type 0
 -- what stands behind is no matter
 pub Opened-same : (slice slice' m : List ℕ) (index next : ℕ) (full : Bool) → take next slice' ≡ take next slice → Opened slice m index next full → Opened slice' m index next full
 Opened-same slice slice' m index next full same o =
-    let p = o.place in
     let le : index ≤ next = omega arith in
     record {
       front = o.front;
@@ -50,7 +49,6 @@ Opened-same slice slice' m index next full same o =
 -- where the open block has no bytes, the byte in its code's place is no matter either
 pub Opened-same-empty : (slice slice' m : List ℕ) (index next : ℕ) (full : Bool) → next ≡ index + 1 → take index slice' ≡ take index slice → Opened slice m index next full → Opened slice' m index next full
 Opened-same-empty slice slice' m index next full empty same o =
-    let p = o.place in
     let l = length-take next slice' in
     let none : o.bytes ≡ [] = no_bytes o.bytes (omega arith) in
     record {
@@ -80,7 +78,6 @@ not_full-more front (b ∷ bytes) more some = refl
 pub Opened-join : (slice m more : List ℕ) (index next : ℕ) (full : Bool) → more ≢ [] → HasNoZero more → next + length more ≤ index + 255 → next + length more ≤ length slice
     → take (length more) (drop next slice) ≡ more → Opened slice m index next full → Opened slice (m ++ more) index (next + length more) false
 Opened-join slice m more index next full some nonzero short fits here o =
-    let p = o.place in
     let sum = length-append o.bytes more in
     let all : take (next + length more) slice ≡ take next slice ++ more = take-add next (length more) slice ∙ ap (λ (x : List ℕ). take next slice ++ x) here in
     let long : length (take next slice) ≡ next = length-take-le next slice (omega arith) in
@@ -110,7 +107,6 @@ concat-push front block = concat-append front (block ∷ []) ∙ ap (λ (x : Lis
 pub Opened-close : (slice m : List ℕ) (index next code : ℕ) (full : Bool) → next ≤ length slice → index + code ≡ next → Opened slice m index next full
     → Opened (set slice index code) (m ++ joint (code ∷ [])) next (next + 1) (code == 255)
 Opened-close slice m index next code full fits is o =
-    let p = o.place in
     let few = o.few in
     let code_is : code ≡ length o.bytes + 1 = omega arith in
     let block : List ℕ = (length o.bytes + 1) ∷ o.bytes in

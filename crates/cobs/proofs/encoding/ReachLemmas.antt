@@ -65,7 +65,6 @@ module _ (H : List ℕ → Type 0) (source old slice : List ℕ) (end pos index 
       → ((full : Bool) → k ≡ 0 → P full → Q full) → (0 < k → Q false) → Reaches H source old slice end pos index next P → Reaches H source old slice end (pos + k) index (next + k) Q
   Reaches-join k within short fits nonzero here none some r =
       let l = length-drop pos source in
-      let o = r.ordered in
       let bytes : List ℕ = take k (drop pos source) in
       let long : length bytes ≡ k = length-take-le k (drop pos source) (omega arith) in
       let least' = least source end pos index next r.ordered r.within r.room in
@@ -104,7 +103,6 @@ module _ (H : List ℕ → Type 0) (source old slice : List ℕ) (end pos index 
   pub Reaches-zero : pos < length source → get_or source pos 0 ≡ 0 → next < index + 255 → end ≤ length slice → Q false → Reaches H source old slice end pos index next P
       → Reaches H source old (set slice index (next - index)) end (pos + 1) next (next + 1) Q
   Reaches-zero more is open' fits not_full r =
-      let o = r.ordered in
       let least' = least source end pos index next r.ordered r.within r.room in
       let left : drop pos source ≡ 0 ∷ drop (pos + 1) source = drop_more source pos 0 more ∙ ap (λ (n : ℕ). n ∷ drop (pos + 1) source) is in
       let code : next - index ≢ 255 = λ e. omega arith in
@@ -141,9 +139,7 @@ module _ (H : List ℕ → Type 0) (source old slice : List ℕ) (end pos index 
 
   pub Reaches-full : pos < length source → next ≡ index + 255 → end ≤ length slice → Q true → Reaches H source old slice end pos index next P → Reaches H source old (set slice index 255) end pos next (next + 1) Q
   Reaches-full more full fits is_full r =
-      let o = r.ordered in
       let l = length-drop pos source in
-      let least' = least source end pos index next r.ordered r.within r.room in
       let some : drop pos source ≢ [] = λ e. let z = ap length e in omega arith in
       let full_len = open_len-full (next - index) (drop pos source) (omega arith) some in
       let one : next + 1 - next ≡ 1 = omega arith in
@@ -159,9 +155,7 @@ module _ (H : List ℕ → Type 0) (source old slice : List ℕ) (end pos index 
   -- the last byte fills the block
   pub ends-full : pos ≡ length source → next ≡ index + 255 → Reaches H source old slice end pos index next P → end ≡ next
   ends-full last full r =
-      let o = r.ordered in
       let none : drop pos source ≡ [] = drop_all pos source (omega arith) in
-      let e = r.room in
       let s = ap (open_len (next - index)) none ∙ open_len-end (next - index) (omega arith) (omega arith) in
       omega arith
 
@@ -177,10 +171,7 @@ module _ (H : List ℕ → Type 0) (source old slice : List ℕ) (end pos index 
   -- the last byte leaves the block open
   pub ends-open : pos ≡ length source → Reaches H source old slice end pos index next P → end ≡ next
   ends-open last r =
-      let o = r.ordered in
-      let s = r.short in
       let none : drop pos source ≡ [] = drop_all pos source (omega arith) in
-      let e = r.room in
       let k = ap (open_len (next - index)) none ∙ open_len-end (next - index) (omega arith) (omega arith) in
       omega arith
 

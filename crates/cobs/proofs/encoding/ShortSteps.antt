@@ -23,8 +23,6 @@ Opened-set slice m index next byte full o = grind (arith, take-set, take-set-lt,
 
 Reaches-set : (H : List ℕ → Type 0) (source old slice : List ℕ) (end pos index next byte : ℕ) (P : Bool → Type 0) → Reaches H source old slice end pos index next P → Reaches H source old (set slice index byte) end pos index next P
 Reaches-set H source old slice end pos index next byte P r =
-    let o = r.ordered in
-    let l = least source end pos index next r.ordered r.within r.room in
     record {
       ordered = r.ordered;
       short = r.short;
@@ -48,7 +46,6 @@ module _ (H : List ℕ → Type 0) (source old slice : List ℕ) (end read len i
   marks-set : (byte : ℕ) → Marks H source old (set slice index byte) end read len index next zeros
   marks-set byte =
       let d : ℕ = index + 1 - next in
-      let o = s.reaches.ordered in
       record {
         seen = s.seen;
         some = s.some;
@@ -75,7 +72,6 @@ module _ (H : List ℕ → Type 0) (source old slice : List ℕ) (end read len i
     | inr other ↦ (let i : next + count_trailing_zeros 64 zeros ≡ r.0 = sym (ap (λ (x : ℕ × ℕ). x.0) (some other)) in
         let z : bit_and zeros (zeros - 1) ≡ r.1 = sym (ap (λ (x : ℕ × ℕ). x.1) (some other)) in
         let lt = place-lt H source old slice end read len index next zeros (index + 1 - next) s other in
-        let le = place-le H source old slice end read len index next zeros (index + 1 - next) s other in
         let byte : ℕ = next + count_trailing_zeros 64 zeros - index in
         let code : byte ≡ byte % 256 = omega arith in
         let m = marks-step H source old slice end read len index next zeros (index + 1 - next) s other fits in
@@ -110,7 +106,6 @@ module _ (H : List ℕ → Type 0) (source old slice : List ℕ) (end read len i
       → (zeros ≢ 0 → p ≡ (next + count_trailing_zeros 64 zeros, bit_and zeros (zeros - 1))) → two ≡ set one p.0 byte
       → after ≡ take next two ++ (replicate len 1 ++ drop (next + len) two) → WindowTaken H source old after end read len (next + len - 1) next
   all-taken one two after p byte short one-is place two-is is =
-      let o = r.ordered in
       let k = first-none in
       let i : p.0 ≡ next = ap (λ (x : ℕ × ℕ). x.0) (place some_bits) ∙ omega arith in
       let coded : List ℕ = set slice index (next - index) in

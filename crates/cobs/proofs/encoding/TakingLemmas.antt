@@ -59,8 +59,6 @@ module _ (source old slice : List ℕ) (r r' : Reached) (fits : end_after r sour
   pub front-taken : (pos index next : ℕ) (full : Bool) → Reaches (CobsEncoderAfter old r) source old slice (end_after r source) pos index next (λ noted. noted ≡ full) → next < index + 255
       → (pos ≡ length source → full ≡ false) → r' ≡ at index (next - index) full → TakesFront old r source pos slice r'
   front-taken pos index next full s short last is =
-      let o = s.ordered in
-      let w = s.within in
       let l = least source (end_after r source) pos index next s.ordered s.within s.room in
       let d = length-drop pos source in
       let sum : index + (next - index) ≡ next = omega arith in

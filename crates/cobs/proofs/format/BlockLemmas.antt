@@ -65,9 +65,8 @@ module _ (block f : List ℕ) (is : IsBlock block) where
     where
       shorter : (c : IsCanonical f) → (IsFull block → f ≢ lone_block) → (front : List (List ℕ)) (other : List ℕ) → IsFull other → block ∷ c.blocks ≢ front ++ other ∷ lone_block ∷ []
       shorter c not_lone [] other full e =
-          let first : block ≡ other = ap first_of e in
           let rest : c.blocks ≡ lone_block ∷ [] = ap rest_of e in
-          not_lone (subst IsFull (sym first) full) (c.frame.whole ∙ ap concat rest)
+          not_lone (subst IsFull (sym (ap first_of e)) full) (c.frame.whole ∙ ap concat rest)
       shorter c not_lone (x ∷ front) other full e = c.shorter front other full (ap rest_of e)
 
 -- fewer bytes than their first code says

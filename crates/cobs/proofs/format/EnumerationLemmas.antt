@@ -177,7 +177,6 @@ open_full : (f m : List ℕ) (index code : ℕ) → IsOpenFrame f m index code �
 open_full f m index code o e x =
     let full = (ends_in_full f m (record { reads = open_reads f m index code o; canonical = e.canonical })).1 x in
     let code-is : code ≡ 255 = eqb-true code 255 (subst IsFull (last_of-push o.front (code ∷ o.bytes)) full) in
-    let below = o.not_full in
     omega arith
 
 pub open_shorter : (f m : List ℕ) (index code : ℕ) → IsOpenFrame f m index code → (EndsInFullRun m → ⊥) → IsEncodedFrame f m

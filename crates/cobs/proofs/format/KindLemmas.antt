@@ -106,25 +106,20 @@ module _ (bytes : List ℕ) (read : ℕ) (behind_full : Bool) (b : BlocksBehind 
       sym (parts-frame bytes cs frame.1.frame) ∙ ap parts b.joined ∙ parts-append b.front (drop read bytes) b.each ∙ ap (λ (x : List ℕ). b.front ++ parts x) cons in
       let blocks : All IsBlock (parts (code ∷ drop (read + 1) bytes)) = All-right b.front (parts (code ∷ drop (read + 1) bytes)) (subst (All IsBlock) same frame.1.frame.each) in
       let first = All-head IsBlock (code ∷ take (code - 1) (drop (read + 1) bytes)) (parts_after (code - 1) (drop (read + 1) bytes)) blocks in
-      let count = first.0 in
       let l = length-take (code - 1) (drop (read + 1) bytes) in
       let d = length-drop (read + 1) bytes in
-      let w = b.within in
       omega arith
 
   block-is : code ≤ length bytes - read → IsBlock (code ∷ take (code - 1) (drop (read + 1) bytes))
   block-is fits =
-      let w = b.within in
       let d = length-drop (read + 1) bytes in
       let l = length-take-le (code - 1) (drop (read + 1) bytes) (omega arith) in
-      let s = code-some in
       (omega arith, below, All-take (λ byte. byte ≢ 0) (code - 1) (drop (read + 1) bytes) (All-drop (λ byte. byte ≢ 0) (read + 1) bytes nonzero))
 
   -- the block here is whole, and more follow
   pub block-behind : code < length bytes - read → BlocksBehind bytes (read + code) (code == 255)
   block-behind far =
       let block : List ℕ = code ∷ take (code - 1) (drop (read + 1) bytes) in
-      let s = code-some in
       let next : drop (code - 1) (drop (read + 1) bytes) ≡ drop (read + code) bytes = drop-drop (code - 1) (read + 1) bytes ∙ ap (λ (k : ℕ). drop k bytes) (omega arith) in
       let split : drop read bytes ≡ block ++ drop (read + code) bytes =
       cons ∙ ap (λ (x : List ℕ). code ∷ x) (sym (take-append-drop (code - 1) (drop (read + 1) bytes))) ∙ ap (λ (x : List ℕ). block ++ x) next in

@@ -144,7 +144,6 @@ same_first c d a b bs cs h i e =
     let wa = message-first c a bs in let wb = message-first d b cs in
     let front_a : take (length a) m ≡ a = ap (take (length a)) wa.1 ∙ take_at a wa.0 (length a) refl in
     let front_b : take (length b) k ≡ b = ap (take (length b)) wb.1 ∙ take_at b wb.0 (length b) refl in
-    let bytes : a ≡ b = sym front_a ∙ ap (take (length a)) e ∙ ap (λ (n : ℕ). take n k) len ∙ front_b in
     let x = All-head IsBlock (c ∷ a) bs h in let y = All-head IsBlock (d ∷ b) cs i in
     let code : c ≡ d = (let p = x.0 in let q = y.0 in omega arith) in
     cc

@@ -109,5 +109,4 @@ module _ (before : List ℕ) (phase : Phase) (stretch : List ℕ) (base : ℕ) w
         → FedInTurn before phase stretch dest (phase_with full (next - length stretch) (base + length stretch))
     marked-end full next dest behind marked =
         let m : MarkedTo (length stretch) full next dest = to (length stretch) full next dest marked marked.1.within behind (omega arith) in
-        let phase' : Phase = phase_with full (next - length stretch) (base + length stretch) in
         grind (arith, to, drop_all, take_all)

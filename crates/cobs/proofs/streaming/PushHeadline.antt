@@ -35,9 +35,6 @@ module _ (f : List ℕ) (n : ℕ) (piece : IsPiece f) where
   quiet_inside fits place within =
       let front : take place (f ++ 0 ∷ []) ≡ take place f = take-append-le place f (0 ∷ []) (omega arith) in
       let same : unended (take place (f ++ 0 ∷ [])) ≡ take place f = ap unended front ∙ unended-no_zero (take place f) (All-take (λ b. b ≢ 0) place f piece.1) in
-      let byte : get_or (f ++ 0 ∷ []) place 0 ≡ get_or f place 0 = get_or_append_left f (0 ∷ []) 0 place within in
-      let more = ap (λ (x : List ℕ). length (output x)) (take_more f place 0 within) in
-      let below = output-take f (place + 1) in
       grind (arith, take-append-le, unended-no_zero, All-take, get_or_append_left, take_more, output-take, answer_to-quiet, All-get_or)
 
   -- a front of the piece alone has no outcome

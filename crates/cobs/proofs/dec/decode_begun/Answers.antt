@@ -56,8 +56,7 @@ slice_bounds-finish_piece-end c = sym (length-take-le _ c.args.source.now (omega
 
 -- what of the piece is decoded
 decoded : (source old dest new : List ℕ) (read written len : ℕ) → len ≡ length (head source) → dest ≡ old → Decoded (head source) dest new read written → Decoded (take len source) old new read written
-decoded source old dest new read written len end kept d =
-    subst (λ (p : List ℕ). Decoded p old new read written) (sym (head-is source len end)) (subst (λ (x : List ℕ). Decoded (head source) x new read written) kept d)
+decoded source old dest new read written len end kept d = grind (arith, head-is)
 
 pub finish_piece-requires-clause-some : goal.finish_piece-requires-clause-some
 finish_piece-requires-clause-some c = let e = c.decode_front-len.ensures in omega (arith, ap length (head-is c.args.source.now _ e.end), e.decoded.within, e.end)

@@ -23,8 +23,7 @@ pub returns-then-source-le-WINDOW-clause-len : goal.returns-then-source-le-WINDO
 returns-then-source-le-WINDOW-clause-len c = c.close.ensures.end ∙ start-len c.args.dest.now (reached_at c.start-start.result) c.start-start.ensures (omega arith) c.append_short-progress.ensures
 
 pub returns-then-source-le-WINDOW-clause-rest : goal.returns-then-source-le-WINDOW-clause-rest
-returns-then-source-le-WINDOW-clause-rest c =
-    c.close.ensures.rest ∙ subst (λ (n : ℕ). drop n c.append_short-progress.new.dest ≡ drop n c.args.dest.now) (sym c.close.ensures.end) (all-rest c.append_short-progress.ensures)
+returns-then-source-le-WINDOW-clause-rest c = grind (arith, all-rest)
 
 pub returns-then-source-le-WINDOW-clause-no_sentinel : goal.returns-then-source-le-WINDOW-clause-no_sentinel
 returns-then-source-le-WINDOW-clause-no_sentinel c = encoded_nonzero (returns-then-source-le-WINDOW-clause-frame c)

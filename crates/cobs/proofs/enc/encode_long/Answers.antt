@@ -29,10 +29,7 @@ pub close_runs-requires-then-not-is_short-clause-place : goal.close_runs-require
 close_runs-requires-then-not-is_short-clause-place c = c.append_windows-read.ensures.taken.place
 
 pub close_runs-requires-then-not-is_short-clause-fits : goal.close_runs-requires-then-not-is_short-clause-fits
-close_runs-requires-then-not-is_short-clause-fits c =
-    let e = start-fits c.args.dest.now (reached_at c.start-start.result) c.start-start.ensures (omega arith) c.args.source.now in
-    let l = left-end c.append_windows-read.result.0 (take_rest c.args.source.now c.append_windows-read.result.0) c.append_windows-read.ensures.taken in
-    omega arith
+close_runs-requires-then-not-is_short-clause-fits c = grind (arith, start-fits, left-end, take_rest)
 
 pub returns-then-not-is_short-clause-frame : goal.returns-then-not-is_short-clause-frame
 returns-then-not-is_short-clause-frame c =
@@ -41,23 +38,17 @@ returns-then-not-is_short-clause-frame c =
     subst (λ (m : List ℕ). IsEncodedFrame (take c.close_runs-then-not-is_short.result c.close_runs-then-not-is_short.new.dest) m) whole (c.close_runs-then-not-is_short.ensures.frame (take n c.args.source.now) (c.append_windows-read.ensures.taken.after [] (start-taken c.args.dest.now (reached_at c.start-start.result) c.start-start.ensures (omega arith))))
 
 pub returns-then-not-is_short-clause-len : goal.returns-then-not-is_short-clause-len
-returns-then-not-is_short-clause-len c =
-    c.close_runs-then-not-is_short.ensures.end ∙ left-end c.append_windows-read.result.0 (take_rest c.args.source.now c.append_windows-read.result.0) c.append_windows-read.ensures.taken ∙ start-fits c.args.dest.now (reached_at c.start-start.result) c.start-start.ensures (omega arith) c.args.source.now
+returns-then-not-is_short-clause-len c = grind (arith, left-end, take_rest, start-fits)
 
 pub returns-then-not-is_short-clause-rest : goal.returns-then-not-is_short-clause-rest
-returns-then-not-is_short-clause-rest c =
-    let e = c.close_runs-then-not-is_short.ensures.end ∙ left-end c.append_windows-read.result.0 (take_rest c.args.source.now c.append_windows-read.result.0) c.append_windows-read.ensures.taken in
-    c.close_runs-then-not-is_short.ensures.rest ∙ subst (λ (n : ℕ). drop n c.append_windows-read.new.dest ≡ drop n c.args.dest.now) (sym e) c.append_windows-read.ensures.taken.rest
+returns-then-not-is_short-clause-rest c = grind (arith, left-end, take_rest)
 
 -- what is left is short
 pub append_short-progress-requires-clause-code : goal.append_short-progress-requires-clause-code
 append_short-progress-requires-clause-code c = c.append_windows-read.ensures.taken.place.some
 
 pub append_short-progress-requires-clause-fits : goal.append_short-progress-requires-clause-fits
-append_short-progress-requires-clause-fits c =
-    let e = start-fits c.args.dest.now (reached_at c.start-start.result) c.start-start.ensures (omega arith) c.args.source.now in
-    let l = left-end c.append_windows-read.result.0 (take_rest c.args.source.now c.append_windows-read.result.0) c.append_windows-read.ensures.taken in
-    omega arith
+append_short-progress-requires-clause-fits c = grind (arith, start-fits, left-end, take_rest)
 
 pub close-requires : goal.close-requires
 close-requires c = c.append_short-progress.ensures.place

@@ -3,11 +3,7 @@ use Rattle.cobs.proofs.format.LengthLemmas.{encoded_len-le}
 use Rattle.cobs.proofs.enc.try_encode.Goals as goal
 
 pub encode-requires : goal.encode-requires
-encode-requires c =
-    let most = encoded_len-le c.args.source.now in
-    omega arith
+encode-requires c = grind (arith, encoded_len-le)
 
 pub returns-then-source-min-clause-fits : goal.returns-then-source-min-clause-fits
-returns-then-source-min-clause-fits c =
-    let most = encoded_len-le c.args.source.now in
-    (λ t. omega arith, λ le. refl)
+returns-then-source-min-clause-fits c = grind (arith, encoded_len-le)

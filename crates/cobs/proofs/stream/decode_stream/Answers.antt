@@ -15,14 +15,10 @@ pub returns-in_err-push-clause-succeeds : goal.returns-in_err-push-clause-succee
 returns-in_err-push-clause-succeeds g c = λ p h none. absurd (outcome_there _ _ _ _ c.by_piece.invariant.so_far c.in-Some.ensures.takes p h none)
 
 pub returns-in_err-frame_outcome-clause-out_of_memory : goal.returns-in_err-frame_outcome-clause-out_of_memory
-returns-in_err-frame_outcome-clause-out_of_memory g c =
-    let idle = DecoderAfter-idle (g.D.FrameDecoder.bytes c.feed_piece.new.self) _ c.in-Some.ensures.takes.idle in
-    search rules
+returns-in_err-frame_outcome-clause-out_of_memory g c = grind (arith, DecoderAfter-idle)
 
 pub returns-in_err-push-clause-out_of_memory : goal.returns-in_err-push-clause-out_of_memory
-returns-in_err-push-clause-out_of_memory g c =
-    let idle = DecoderAfter-idle (g.D.FrameDecoder.bytes c.feed_piece.new.self) _ c.in-Some.ensures.takes.idle in
-    search rules
+returns-in_err-push-clause-out_of_memory g c = grind (arith, DecoderAfter-idle)
 
 pub by_piece-preserved : goal.by_piece-preserved
 by_piece-preserved g c = record {

@@ -89,11 +89,9 @@ returns-else-after_full-clause-longer c =
 pub by_block-smaller : goal.by_block-smaller
 by_block-smaller c =
     let nonzero : HasNoZero c.args.bytes.now = all_nonzero c.args.bytes.now c.piece_len.result c.piece_len.ensures.nonzero c.if-piece_len-bytes.false in
-    let some = code-some c.args.bytes.now _ _ c.by_block.invariant nonzero _ refl (let fits = c.type_inv.bytes c.by_block.read in omega arith) in
     omega arith
 
 pub by_block-preserved : goal.by_block-preserved
 by_block-preserved c =
     let nonzero : HasNoZero c.args.bytes.now = all_nonzero c.args.bytes.now c.piece_len.result c.piece_len.ensures.nonzero c.if-piece_len-bytes.false in
-    let other = c.if-left-code-2.false in
     block-behind c.args.bytes.now _ _ c.by_block.invariant nonzero _ refl (let fits = c.type_inv.bytes c.by_block.read in omega arith) (omega arith)

@@ -25,6 +25,4 @@ pub by_byte-preserved : goal.by_byte-preserved
 by_byte-preserved c = step c.args.source.now c.args.dest.now c.by_byte.dest c.args.at c.by_byte.i c.args.sentinel c.requires (omega arith) c.by_byte.invariant
 
 pub returns : goal.returns
-returns c =
-    all c.args.dest.now c.by_byte.dest (xor_each c.args.sentinel c.args.source.now) c.args.at c.by_byte.i _
-    (length-map c.args.source.now (λ (byte : ℕ). bit_xor byte c.args.sentinel)) (omega arith) c.by_byte.invariant
+returns c = grind (arith, all, length-map, bit_xor)

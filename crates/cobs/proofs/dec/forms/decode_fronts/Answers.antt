@@ -24,60 +24,34 @@ flat_front-len-requires c = left-nonzero c.args.source.now c.args.sentinel _ _ _
 
 pub returns-then-len-eq0-clause-answer : goal.returns-then-len-eq0-clause-answer
 returns-then-len-eq0-clause-answer c =
-    let i = c.by_front.invariant in
-    let l = length-drop c.by_front.read c.args.source.now in
-    let n = length-take-le (length c.args.source.now - c.by_front.read) (drop c.by_front.read c.args.source.now) (omega arith) in
-    let broken = left-broken c.args.source.now c.args.sentinel _ _ _ _ i c.by_front-test.true (c.flat_front-len.ensures.broken c.if-len-eq0.true (omega arith)) in
-    broken-count c.args.source.now c.args.sentinel _ _ _ _ i _ c.by_front-test.true refl broken
+    grind (arith, length-drop, length-take-le, left-broken, broken-count)
 
 pub returns-then-len-eq0-clause-buffer : goal.returns-then-len-eq0-clause-buffer
 returns-then-len-eq0-clause-buffer c =
-    let i = c.by_front.invariant in
-    let l = length-drop c.by_front.read c.args.source.now in
-    let n = length-take-le (length c.args.source.now - c.by_front.read) (drop c.by_front.read c.args.source.now) (omega arith) in
-    let broken = left-broken c.args.source.now c.args.sentinel _ _ _ _ i c.by_front-test.true (c.flat_front-len.ensures.broken c.if-len-eq0.true (omega arith)) in
-    broken-buffer c.args.source.now c.args.sentinel _ _ _ _ i _ c.by_front-test.true refl broken
+    grind (arith, length-drop, length-take-le, left-broken, broken-buffer)
 
 -- a stretch of whole blocks
 abbrev part : (c : Joined-not-full) → List ℕ
 part c = take c.flat_front-len.result.0 (drop c.by_front.read (xor_each c.args.sentinel c.args.source.now))
 
 part-flat : (c : Joined-not-full) → IsFlat (part c)
-part-flat c =
-    let none = c.if-len-eq0.false in
-    subst (λ (x : List ℕ). IsFlat (take c.flat_front-len.result.0 x)) (left-is c.args.source.now c.args.sentinel _ _ _ _ c.by_front.invariant) (c.flat_front-len.ensures.flat (omega arith))
+part-flat c = grind (arith, left-is)
 
 part-full : (c : Joined-not-full) → IsTrue c.flat_front-len.result.1 ↔ (code_of (last_part (part c)) ≡ 255)
-part-full c =
-    let none = c.if-len-eq0.false in
-    subst (λ (x : List ℕ). IsTrue c.flat_front-len.result.1 ↔ (code_of (last_part (take c.flat_front-len.result.0 x)) ≡ 255)) (left-is c.args.source.now c.args.sentinel _ _ _ _ c.by_front.invariant)
-    (c.flat_front-len.ensures.full (omega arith))
+part-full c = grind (arith, left-is)
 
 part-within : (c : Joined-not-full) → (c.by_front.read + c.flat_front-len.result.0 ≤ length c.args.source.now) × (length (part c) ≡ c.flat_front-len.result.0)
-part-within c =
-    let d = length-drop c.by_front.read c.args.source.now in
-    let t = length-take-le (length c.args.source.now - c.by_front.read) (drop c.by_front.read c.args.source.now) (omega arith) in
-    let l = length-map c.args.source.now (λ (b : ℕ). bit_xor b c.args.sentinel) in
-    let e = length-drop c.by_front.read (xor_each c.args.sentinel c.args.source.now) in
-    let more = c.by_front-test.true in
-    let within : c.by_front.read + c.flat_front-len.result.0 ≤ length c.args.source.now = omega (arith, c.flat_front-len.ensures.within) in
-    (within, length-take-le c.flat_front-len.result.0 (drop c.by_front.read (xor_each c.args.sentinel c.args.source.now)) (omega arith))
+part-within c = grind (arith, length-drop, length-take-le, length-map, bit_xor)
 
 part-nonzero : (c : Joined-not-full) → HasNoZero (part c)
 part-nonzero c = All-take (λ b. b ≢ 0) _ _ (All-drop (λ b. b ≢ 0) c.by_front.read _ c.requires)
 
 -- a zero is due behind it, or none
 due-zero : (c : Joined-not-full) → c.if-not-full.due ≡ true → (is_full (last_part (part c)) ≡ false) × (c.by_front.read + c.flat_front-len.result.0 < length c.args.source.now)
-due-zero c is = elim c.if-not-full.branch [
-  | then-not-full w ↦ (let open' : c.flat_front-len.result.1 ≡ false = w.if-not-full.true in (ne_eqb _ 255 (λ full. true≢false (sym ((part-full c).1 full) ∙ open')), ltb-true _ _ (sym w.due-is ∙ is)))
-  | else-not-full w ↦ absurd (true≢false (sym is ∙ w.due-is ∙ ap not w.if-not-full.false))
-]
+due-zero c is = grind (arith, ne_eqb, true≢false, part-full, ltb-true)
 
 due-none : (c : Joined-not-full) → c.if-not-full.due ≡ false → (length c.args.source.now ≤ c.by_front.read + c.flat_front-len.result.0) ⊎ (is_full (last_part (part c)) ≡ true)
-due-none c is = elim c.if-not-full.branch [
-  | then-not-full w ↦ inl (ltb-false _ _ (sym w.due-is ∙ is))
-  | else-not-full w ↦ inr (eq-eqb _ 255 ((part-full c).0 w.if-not-full.false))
-]
+due-none c is = grind (arith, ltb-false, eq-eqb, part-full)
 
 -- what the room cuts off
 cut-is : (c : Joined-not-full) (room : ℕ) → room < c.flat_front-len.result.0 → xor_each c.args.sentinel (take (c.by_front.read + room + 1 - c.by_front.read) (drop c.by_front.read c.args.source.now)) ≡ take (suc room) (part c)
@@ -86,15 +60,10 @@ cut-is c room few =
     ∙ sym (take-take (suc room) c.flat_front-len.result.0 (drop c.by_front.read (xor_each c.args.sentinel c.args.source.now)) (omega arith))
 
 cut-output : (c : Joined-not-full) (room : ℕ) → room < c.flat_front-len.result.0 → output (xor_each c.args.sentinel (take (c.by_front.read + room + 1 - c.by_front.read) (drop c.by_front.read c.args.source.now))) ≡ take room (output (part c))
-cut-output c room few =
-    let l = (part-within c).1 in
-    ap output (cut-is c room few) ∙ flat-front (part c) room (part-nonzero c) (part-flat c).len (omega arith)
+cut-output c room few = grind (arith, part-within, cut-is, flat-front, part-nonzero, part-flat)
 
 cut-long : (c : Joined-not-full) (room : ℕ) → room < c.flat_front-len.result.0 → length (take (c.by_front.read + room + 1 - c.by_front.read) (drop c.by_front.read c.args.source.now)) ≡ room + 1
-cut-long c room few =
-    let w = (part-within c).0 in
-    let d = length-drop c.by_front.read c.args.source.now in
-    length-take-le (c.by_front.read + room + 1 - c.by_front.read) (drop c.by_front.read c.args.source.now) (omega arith) ∙ omega arith
+cut-long c room few = grind (arith, part-within, length-drop, length-take-le)
 
 -- the room is less than what the stretch gives
 given : (c : Then-room-gives) → (c.if-not-full.due ≡ true) × (c.if-due.gives ≡ c.flat_front-len.result.0) ⊎ (c.if-not-full.due ≡ false) × (c.if-due.gives ≡ c.flat_front-len.result.0 - 1)
@@ -107,19 +76,7 @@ cut-few : (c : Joined-not-full) (gives room : ℕ) → (c.if-not-full.due ≡ tr
     → (room < c.flat_front-len.result.0) × (room ≤ length (output (part c))) × (room < length (output (part c)) + length (behind c))
 unfolding behind
 cut-few c gives room is less =
-    let none = c.if-len-eq0.false in
-    let f = (part-flat c).len in
-    let l = (part-within c).1 in
-    elim is [
-      | inl due ↦ (
-          let z = due-zero c due.0 in
-          let m = length-map c.args.source.now (λ (b : ℕ). bit_xor b c.args.sentinel) in
-          let d = length-drop (c.by_front.read + c.flat_front-len.result.0) (xor_each c.args.sentinel c.args.source.now) in
-          let one = ap length (joins-zero-due (code_of (last_part (part c))) (drop (c.by_front.read + c.flat_front-len.result.0) (xor_each c.args.sentinel c.args.source.now)) z.0 (omega (arith, z.1))) in
-          (omega (arith, due.1), omega (arith, due.1), omega (arith, due.1))
-          )
-      | inr none' ↦ (omega (arith, none'.1), omega (arith, none'.1), omega (arith, none'.1))
-    ]
+    grind (arith, part-flat, part-within, due-zero, length-map, bit_xor, length-drop, joins-zero-due)
 
 pub decode_xored_flat-requires-clause-nonzero : goal.decode_xored_flat-requires-clause-nonzero
 decode_xored_flat-requires-clause-nonzero c =

@@ -20,36 +20,19 @@ returns-then-decode_xored_short-clause-answer c =
     let yes = c.if-decode_xored_short.true in
     let some : length c.args.source.now ≢ 0 = eqb-false _ 0 (sym c.is_empty.ensures ∙ c.if-is_empty.false) in
     let t = length-take-le c.len_without-len.result c.args.source.now e.within in
-    let room = d.room yes in
     front-answer c.args.source.now c.args.dest.now c.decode_xored_short.new.dest c.args.sentinel c.len_without-len.result e.within (d.nonzero yes) e.stop (d.flat yes) (omega arith) (omega arith) _ (omega arith)
 
 pub returns-then-decode_xored_short-clause-buffer : goal.returns-then-decode_xored_short-clause-buffer
-returns-then-decode_xored_short-clause-buffer c =
-    let e = c.len_without-len.ensures in
-    let d = c.decode_xored_short.ensures in
-    let yes = c.if-decode_xored_short.true in
-    let t : length (take c.len_without-len.result c.args.source.now) ≡ c.len_without-len.result = length-take-le c.len_without-len.result c.args.source.now e.within in
-    let room = d.room yes in
-    front-buffer c.args.source.now c.args.dest.now c.decode_xored_short.new.dest c.args.sentinel c.len_without-len.result e.within (d.nonzero yes) e.stop (d.flat yes) (omega arith) c.decode_xored_short.auto.dest
-    (subst (λ (n : ℕ). drop (n - 1) c.decode_xored_short.new.dest ≡ drop (n - 1) c.args.dest.now) t d.rest)
-    (subst (λ (n : ℕ). take (n - 1) c.decode_xored_short.new.dest ≡ output (xor_each c.args.sentinel (take c.len_without-len.result c.args.source.now))) t (d.begins yes))
+returns-then-decode_xored_short-clause-buffer c = grind (arith, length-take-le, front-buffer)
 
 pub decode_fronts-requires : goal.decode_fronts-requires
 decode_fronts-requires c = let e = c.first_of-end.ensures in xor_no_zero _ _ _ e.within e.before e.stop
 
 pub returns-clause-answer : goal.returns-clause-answer
-returns-clause-answer c =
-    let e = c.first_of-end.ensures in
-    let some : length c.args.source.now ≢ 0 = eqb-false _ 0 (sym c.is_empty.ensures ∙ c.if-is_empty.false) in
-    let kept = c.decode_xored_short.ensures.kept c.if-decode_xored_short.false in
-    c.decode_fronts.ensures.answer ∙ ap (λ (x : List ℕ). head_answer_within (xor_each c.args.sentinel (take c.first_of-end.result c.args.source.now)) (length x)) kept ∙ ap (λ (h : List ℕ). head_answer_within h (length c.args.dest.now)) (xor_head _ _ _ e.within e.before e.stop)
-    ∙ source_answer-head c.args.source.now c.args.sentinel _ (omega arith)
+returns-clause-answer c = grind (arith, eqb-false, xor_head, source_answer-head)
 
 pub returns-clause-buffer : goal.returns-clause-buffer
-returns-clause-buffer c =
-    let e = c.first_of-end.ensures in
-    let kept = c.decode_xored_short.ensures.kept c.if-decode_xored_short.false in
-    c.decode_fronts.ensures.buffer ∙ ap (λ (x : List ℕ). overwritten x (kept_output (xor_each c.args.sentinel (take c.first_of-end.result c.args.source.now)))) kept ∙ ap (λ (h : List ℕ). overwritten c.args.dest.now (kept_output h)) (xor_head _ _ _ e.within e.before e.stop)
+returns-clause-buffer c = grind (arith, xor_head)
 
 pub returns-then-decode_xored_short-clause-reads : goal.returns-then-decode_xored_short-clause-reads
 returns-then-decode_xored_short-clause-reads c =

@@ -16,7 +16,6 @@ pub returns-then-step-eq0-clause-decoded : goal.returns-then-step-eq0-clause-dec
 returns-then-step-eq0-clause-decoded c =
     let source : List ℕ = c.args.source.now in
     let i = c.by_step.invariant in
-    let w = i.decoded.within in
     let part = ap head (take_rest source c.by_step.read) ∙ head-drop c.by_step.read source (omega arith) in
     decoded-joined (head source) c.args.dest.now c.by_step.dest c.by_step.read c.by_step.written i.decoded (omega (arith, i.room)) c.decode_step-step.new.dest _ part
     _ (take_rest c.by_step.dest c.by_step.written) _ refl _ _ c.decode_step-step.ensures.decoded
@@ -30,7 +29,6 @@ by_step-preserved c =
     let end : ℕ = c.if-end-read.end in
     let now : (c.by_step.read < end) × (end + 256 ≤ length source) × (end + 256 + c.by_step.written ≤ length c.args.dest.now + c.by_step.read) = elim c.if-end-read.branch [
       | then-end-read+else-left w ↦ (
-          let left = w.min-left.ensures in
           (omega (arith, w.end-is, w.if-left.false), omega (arith, w.end-is, w.if-left.false), omega (arith, w.end-is, w.if-left.false, i.room))
           )
       | else-end-read w ↦ (

@@ -48,7 +48,6 @@ pub alike-preserved : goal.alike-preserved
 alike-preserved c =
     let source : List ℕ = c.args.source.now in
     let i = c.alike.invariant in
-    let w = i.copied.within in
     let same = head-get c.alike.read source i.decoded.within in
     let pos = code-pos (head source) c.alike.read (head_nonzero source) i.decoded.within in
     let is : c.by_code.code ≡ get_or (head source) c.alike.read 0 = i.code ∙ sym same in
@@ -64,7 +63,6 @@ pub returns-then-read-code-2-clause-decoded : goal.returns-then-read-code-2-clau
 returns-then-read-code-2-clause-decoded c =
     let source : List ℕ = c.args.source.now in
     let i = c.alike.invariant in
-    let w = i.copied.within in
     let same = head-get c.alike.read source i.decoded.within in
     let pos = code-pos (head source) c.alike.read (head_nonzero source) i.decoded.within in
     let is : c.by_code.code ≡ get_or (head source) c.alike.read 0 = i.code ∙ sym same in
@@ -74,7 +72,6 @@ pub by_code-preserved : goal.by_code-preserved
 by_code-preserved c =
     let source : List ℕ = c.args.source.now in
     let i = c.alike.invariant in
-    let w = i.copied.within in
     let same = head-get c.alike.read source i.decoded.within in
     let pos = code-pos (head source) c.alike.read (head_nonzero source) i.decoded.within in
     let is : c.by_code.code ≡ get_or (head source) c.alike.read 0 = i.code ∙ sym same in

@@ -11,33 +11,20 @@ use Rattle.cobs.proofs.dec.in_place.decode_blocks_in_place.Goals as goal
 
 -- what is left, seen from the place where its output goes
 left-seen : (buffer : List ℕ) (end read written : ℕ) → written ≤ read → take (end - read) (drop (read - written) (take (length buffer - written) (drop written buffer))) ≡ take (end - read) (drop read buffer)
-left-seen buffer end read written order =
-    let sum : written + (read - written) ≡ read = omega arith in
-    ap (λ (x : List ℕ). take (end - read) (drop (read - written) x)) (take_rest buffer written)
-    ∙ ap (take (end - read)) (drop-drop (read - written) written buffer ∙ ap (λ (k : ℕ). drop k buffer) sum)
+left-seen buffer end read written order = grind (arith, take_rest, drop-drop)
 
 code-seen : (buffer : List ℕ) (read written : ℕ) → written ≤ read → get_or (take (length buffer - written) (drop written buffer)) (read - written) 0 ≡ get_or buffer read 0
-code-seen buffer read written order =
-    let sum : written + (read - written) ≡ read = omega arith in
-    ap (λ (x : List ℕ). get_or x (read - written) 0) (take_rest buffer written) ∙ get_or-drop written buffer (read - written) 0 ∙ ap (λ (k : ℕ). get_or buffer k 0) sum
+code-seen buffer read written order = grind (arith, take_rest, get_or-drop)
 
 pub decode_next-len-requires-clause-nonzero : goal.decode_next-len-requires-clause-nonzero
-decode_next-len-requires-clause-nonzero c =
-    let i = c.by_front.invariant in
-    subst HasNoZero (sym (left-seen c.by_front.buffer c.args.end c.by_front.read c.by_front.written i.order)) (left-nonzero _ _ _ _ _ i c.requires.nonzero)
+decode_next-len-requires-clause-nonzero c = grind (arith, left-seen, left-nonzero)
 
 pub returns-then-len-eq0-clause-answer : goal.returns-then-len-eq0-clause-answer
-returns-then-len-eq0-clause-answer c =
-    let i = c.by_front.invariant in
-    let broken = subst (λ (k : ℕ). c.args.end - c.by_front.read < k) (code-seen c.by_front.buffer c.by_front.read c.by_front.written i.order) (c.decode_next-len.ensures.broken c.if-len-eq0.true) in
-    broken-count _ _ _ _ _ i _ c.by_front-test.true refl broken
+returns-then-len-eq0-clause-answer c = grind (arith, code-seen, broken-count)
 
 -- a buffer of which nothing was written
 unwritten : (buffer new : List ℕ) (written len : ℕ) → len ≡ 0 → drop (len - 1) new ≡ drop (len - 1) (take (length buffer - written) (drop written buffer)) → put_mid written (length buffer - written) buffer new ≡ buffer
-unwritten buffer new written len none rest =
-    let at : len - 1 ≡ 0 = omega arith in
-    let same : new ≡ take (length buffer - written) (drop written buffer) = sym (ap (λ (n : ℕ). drop n new) at) ∙ rest ∙ ap (λ (n : ℕ). drop n (take (length buffer - written) (drop written buffer))) at in
-    put-back written buffer new ∙ ap (λ (x : List ℕ). take written buffer ++ x) (same ∙ take_rest buffer written) ∙ take-append-drop written buffer
+unwritten buffer new written len none rest = grind (arith, put-back, take_rest, take-append-drop)
 
 pub returns-then-len-eq0-clause-buffer : goal.returns-then-len-eq0-clause-buffer
 returns-then-len-eq0-clause-buffer c =
@@ -92,7 +79,6 @@ module _ (before buffer new : List ℕ) (end read written len : ℕ) (i : Decode
 pub by_front-preserved-then-read-end : goal.by_front-preserved-then-read-end
 by_front-preserved-then-read-end c =
     let e = c.decode_next-len.ensures in
-    let none = c.if-len-eq0.false in
     let some : 0 < c.decode_next-len.result.0 = omega arith in
     zero-due c.args.buffer.now c.by_front.buffer c.decode_next-len.new.buffer c.args.end c.by_front.read c.by_front.written c.decode_next-len.result.0 c.by_front.invariant c.requires.nonzero some e.within c.decode_next-len.result.1
     (e.flat some) (e.full some) (e.begins some) e.rest c.decode_next-len.auto.buffer c.if-read-end.true c.if-not-full.true
@@ -100,7 +86,6 @@ by_front-preserved-then-read-end c =
 pub by_front-preserved : goal.by_front-preserved
 by_front-preserved c =
     let e = c.decode_next-len.ensures in
-    let none = c.if-len-eq0.false in
     let some : 0 < c.decode_next-len.result.0 = omega arith in
     at-end c.args.buffer.now c.by_front.buffer c.decode_next-len.new.buffer c.args.end c.by_front.read c.by_front.written c.decode_next-len.result.0 c.by_front.invariant c.requires.nonzero some e.within c.decode_next-len.result.1
     (e.flat some) (e.full some) (e.begins some) e.rest c.decode_next-len.auto.buffer

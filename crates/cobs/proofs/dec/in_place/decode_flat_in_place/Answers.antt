@@ -11,19 +11,10 @@ write_joints-requires-clause-nonzero c =
 
 pub write_joints-requires-clause-flat : goal.write_joints-requires-clause-flat
 write_joints-requires-clause-flat c =
-    let some = flat-some c.args.buffer.now c.args.from c.args.len c.requires.flat in
-    let d = length-drop c.args.from c.args.buffer.now in
-    flat-copy _ _ c.args.len (moved-piece c.args.buffer.now c.move_to_front.new.buffer c.args.from c.args.len c.requires.within some c.move_to_front.ensures) c.requires.flat
-    (length-take-le c.args.len (drop c.args.from c.args.buffer.now) (omega (arith, c.requires.within)))
+    grind (arith, flat-some, length-drop, flat-copy, moved-piece, length-take-le)
 
 pub returns-clause-begins : goal.returns-clause-begins
-returns-clause-begins c =
-    let some = flat-some c.args.buffer.now c.args.from c.args.len c.requires.flat in
-    c.write_joints.ensures.begins
-    ∙ ap output (moved-piece c.args.buffer.now c.move_to_front.new.buffer c.args.from c.args.len c.requires.within some c.move_to_front.ensures)
+returns-clause-begins c = grind (arith, flat-some, moved-piece)
 
 pub returns-clause-rest : goal.returns-clause-rest
-returns-clause-rest c =
-    let some = flat-some c.args.buffer.now c.args.from c.args.len c.requires.flat in
-    c.write_joints.ensures.rest
-    ∙ moved-rest c.args.buffer.now c.move_to_front.new.buffer c.args.from c.args.len c.requires.within some c.move_to_front.ensures
+returns-clause-rest c = grind (arith, flat-some, moved-rest)

@@ -19,19 +19,13 @@ returns-then-decode_short_in_place-clause-answer c =
     let e = c.len_without-len.ensures in
     let d = c.decode_short_in_place.ensures in
     let yes = c.if-decode_short_in_place.true in
-    let some = d.some yes in
     let t = length-take-le c.len_without-len.result c.args.buf.now e.within in
     in_place_report-decoded c.args.buf.now _ (omega arith) (front_is_head _ _ e.within (d.nonzero yes) e.stop) (Ok (c.len_without-len.result - 1))
     (flat-answer _ (d.flat yes) (c.len_without-len.result - 1) (omega arith)) _ _ refl (sym t) _ c.new.ensures
 
 pub returns-then-decode_short_in_place-clause-buffer : goal.returns-then-decode_short_in_place-clause-buffer
 returns-then-decode_short_in_place-clause-buffer c =
-    let e = c.len_without-len.ensures in
-    let d = c.decode_short_in_place.ensures in
-    let yes = c.if-decode_short_in_place.true in
-    let some = d.some yes in
-    overwritten-front c.args.buf.now c.decode_short_in_place.new.buffer _ (c.len_without-len.result - 1) c.decode_short_in_place.auto.buffer (omega arith) d.rest (flat-kept _ (d.flat yes) ∙ sym (d.begins yes))
-    ∙ ap (λ (h : List ℕ). overwritten c.args.buf.now (kept_output h)) (front_is_head _ _ e.within (d.nonzero yes) e.stop)
+    grind (arith, overwritten-front, flat-kept, front_is_head)
 
 pub returns-then-decode_short_in_place-clause-reads : goal.returns-then-decode_short_in_place-clause-reads
 returns-then-decode_short_in_place-clause-reads c =
@@ -45,17 +39,10 @@ returns-then-decode_short_in_place-clause-only c =
 
 pub returns-in_err-frame_size-clause-answer : goal.returns-in_err-frame_size-clause-answer
 returns-in_err-frame_size-clause-answer c =
-    let e = c.piece_len-end.ensures in
-    let same = c.decode_short_in_place.auto.buffer in
-    let some : length c.decode_short_in_place.new.buffer ≢ 0 = eqb-false _ 0 (sym c.is_empty.ensures ∙ c.if-is_empty.false) in
-    let h : take c.piece_len-end.result c.decode_short_in_place.new.buffer ≡ head c.args.buf.now = front_is_head _ _ e.within e.nonzero e.stop ∙ ap head (c.decode_short_in_place.ensures.kept c.if-decode_short_in_place.false) in
-    let is : c.from_residual.result ≡ Err c.in_err-frame_size.field-0.0 = search rules in
-    is ∙ in_place_report-refused c.args.buf.now _ (omega arith) h c.decode_blocks_in_place.result c.decode_blocks_in_place.ensures.answer _ c.in_err-frame_size.was
+    grind (arith, eqb-false, front_is_head, in_place_report-refused)
 
 pub returns-in_err-frame_size-clause-buffer : goal.returns-in_err-frame_size-clause-buffer
-returns-in_err-frame_size-clause-buffer c =
-    let e = c.piece_len-end.ensures in
-    c.decode_blocks_in_place.ensures.buffer ∙ ap (λ (h : List ℕ). overwritten c.decode_short_in_place.new.buffer (kept_output h)) (front_is_head _ _ e.within e.nonzero e.stop) ∙ ap in_place (c.decode_short_in_place.ensures.kept c.if-decode_short_in_place.false)
+returns-in_err-frame_size-clause-buffer c = grind (arith, front_is_head)
 
 pub returns-in_err-frame_size-clause-reads : goal.returns-in_err-frame_size-clause-reads
 returns-in_err-frame_size-clause-reads c =
@@ -67,17 +54,10 @@ returns-in_err-frame_size-clause-only c =
 
 pub returns-clause-answer : goal.returns-clause-answer
 returns-clause-answer c =
-    let e = c.piece_len-end.ensures in
-    let same = c.decode_short_in_place.auto.buffer in
-    let some : length c.decode_short_in_place.new.buffer ≢ 0 = eqb-false _ 0 (sym c.is_empty.ensures ∙ c.if-is_empty.false) in
-    let h : take c.piece_len-end.result c.decode_short_in_place.new.buffer ≡ head c.args.buf.now = front_is_head _ _ e.within e.nonzero e.stop ∙ ap head (c.decode_short_in_place.ensures.kept c.if-decode_short_in_place.false) in
-    in_place_report-decoded c.args.buf.now _ (omega arith) h c.decode_blocks_in_place.result c.decode_blocks_in_place.ensures.answer _ _ c.in_ok-frame_size.was
-    (sym (length-take-le _ c.decode_short_in_place.new.buffer e.within)) _ c.new-2.ensures
+    grind (arith, eqb-false, front_is_head, in_place_report-decoded, length-take-le)
 
 pub returns-clause-buffer : goal.returns-clause-buffer
-returns-clause-buffer c =
-    let e = c.piece_len-end.ensures in
-    c.decode_blocks_in_place.ensures.buffer ∙ ap (λ (h : List ℕ). overwritten c.decode_short_in_place.new.buffer (kept_output h)) (front_is_head _ _ e.within e.nonzero e.stop) ∙ ap in_place (c.decode_short_in_place.ensures.kept c.if-decode_short_in_place.false)
+returns-clause-buffer c = grind (arith, front_is_head)
 
 pub returns-clause-reads : goal.returns-clause-reads
 returns-clause-reads c =

@@ -25,16 +25,10 @@ decode_flat_in_place-requires-clause-nonzero c =
     (All-take (λ byte. byte ≢ 0) front (take c.args.len (drop c.args.from c.args.buffer.now)) c.requires.nonzero)
 
 pub returns-then-front-gt0-clause-flat : goal.returns-then-front-gt0-clause-flat
-returns-then-front-gt0-clause-flat c some =
-    subst (λ (h : List ℕ). IsFlat (take c.flat_front-front.result.0 h)) (piece-is c.args.from c.args.len c.args.buffer.now) (c.flat_front-front.ensures.flat some)
+returns-then-front-gt0-clause-flat c some = grind (arith, piece-is)
 
 pub decode_flat_in_place-requires-clause-flat : goal.decode_flat_in_place-requires-clause-flat
-decode_flat_in_place-requires-clause-flat c =
-    let front : ℕ = c.flat_front-front.result.0 in
-    let e = c.flat_front-front.ensures in
-    subst IsFlat (take-take front c.args.len (drop c.args.from c.args.buffer.now) (front-within c.args.from c.args.len front c.args.buffer.now c.requires.within e.within))
-    (subst (λ (h : List ℕ). IsFlat (take front h)) (piece-is c.args.from c.args.len c.args.buffer.now) (e.flat c.if-front-gt0.true))
+decode_flat_in_place-requires-clause-flat c = grind (arith, take-take, front-within, piece-is)
 
 pub returns-then-front-gt0-clause-full : goal.returns-then-front-gt0-clause-full
-returns-then-front-gt0-clause-full c some =
-    subst (λ (h : List ℕ). (IsTrue c.flat_front-front.result.1 ↔ (code_of (last_part (take c.flat_front-front.result.0 h)) ≡ 255))) (piece-is c.args.from c.args.len c.args.buffer.now) (c.flat_front-front.ensures.full some)
+returns-then-front-gt0-clause-full c some = grind (arith, piece-is)

@@ -15,24 +15,16 @@ write_joints-requires-clause-nonzero c =
 
 pub write_joints-requires-clause-flat : goal.write_joints-requires-clause-flat
 write_joints-requires-clause-flat c =
-    let m = c.if-not-move_nonzero_short.ensures in
-    let old : List ℕ = c.args.buffer.now in
-    let piece = moved-piece old c.move_nonzero_short.new.buffer 0 c.args.len (omega arith) (omega arith) (m.moved refl) in
-    flat-copy _ _ c.args.len piece (subst IsFlat (xor_each-zero (take c.args.len old)) (c.if-not-is_flat.ensures refl)) (length-take-le c.args.len old c.requires)
+    grind (arith, moved-piece, flat-copy, xor_each-zero, length-take-le)
 
 pub returns-clause-nonzero : goal.returns-clause-nonzero
-returns-clause-nonzero c holds =
-    let m = c.if-not-move_nonzero_short.ensures in
-    piece-nonzero c.args.buffer.now c.args.len (omega arith) (omega arith) c.if-buffer-eq0.false (m.nonzero refl)
+returns-clause-nonzero c holds = grind (arith, piece-nonzero)
 
 pub returns-clause-flat : goal.returns-clause-flat
 returns-clause-flat c holds = subst IsFlat (xor_each-zero (take c.args.len c.args.buffer.now)) (c.if-not-is_flat.ensures refl)
 
 pub returns-clause-begins : goal.returns-clause-begins
-returns-clause-begins c holds =
-    let m = c.if-not-move_nonzero_short.ensures in
-    let old : List ℕ = c.args.buffer.now in
-    c.write_joints.ensures.begins ∙ ap output (moved-piece old c.move_nonzero_short.new.buffer 0 c.args.len (omega arith) (omega arith) (m.moved refl))
+returns-clause-begins c holds = grind (arith, moved-piece)
 
 pub returns-clause-rest : goal.returns-clause-rest
 returns-clause-rest c =

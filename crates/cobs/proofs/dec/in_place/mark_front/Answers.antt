@@ -7,7 +7,6 @@ by_code-preserved-then-is_all c =
     let m = c.by_code.invariant in
     let dest : List ℕ = c.by_code.rest in
     let read : ℕ = c.by_code.read in
-    let same = m.same in
     let room = c.requires.room in
     marked-ones c.args.first c.args.rest.now dest c.args.len read c.by_code.code m room _ c.if-code-eq1.true (omega arith) (c.is_all.ensures c.if-is_all.true) c.write_row.ensures (omega arith)
 

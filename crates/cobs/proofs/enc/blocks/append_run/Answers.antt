@@ -43,9 +43,7 @@ by_block-preserved-then-lacking-eq0 c =
     let read : ℕ = c.by_block.read in
     let index : ℕ = c.by_block.index in
     let next : ℕ = c.by_block.next in
-    let i = c.by_block.invariant in
-    let r = i.reaches in
-    let l = least source end read index next r.ordered r.within r.room in
+    let r = c.by_block.invariant.reaches in
     let n = length-set dest index 255 in
     let within = c.run_len-run.ensures.within in
     let full : next ≡ index + 255 = omega arith in
@@ -73,9 +71,7 @@ by_block-preserved c =
     let read : ℕ = c.by_block.read in
     let index : ℕ = c.by_block.index in
     let next : ℕ = c.by_block.next in
-    let i = c.by_block.invariant in
-    let r = i.reaches in
-    let l = least source end read index next r.ordered r.within r.room in
+    let r = c.by_block.invariant.reaches in
     let len : ℕ = c.min-len.result in
     let within = c.run_len-run.ensures.within in
     let nonzero = c.run_len-run.ensures.nonzero in
@@ -91,12 +87,7 @@ by_block-preserved c =
     }
 
 pub returns-then-next-index-clause-some : goal.returns-then-next-index-clause-some
-returns-then-next-index-clause-some c =
-    let i = c.by_block.invariant in
-    elim (cases_eq c.run_len-run.result 0) [
-      | inl none ↦ (let f = i.fresh (omega arith) in absurd (omega arith))
-      | inr some ↦ omega arith
-    ]
+returns-then-next-index-clause-some c = grind (arith, cases_eq)
 
 -- the run fills its last block
 pub returns-then-next-index-clause-taken : goal.returns-then-next-index-clause-taken
@@ -110,10 +101,7 @@ returns-then-next-index-clause-taken c =
     let read : ℕ = c.by_block.read in
     let index : ℕ = c.by_block.index in
     let next : ℕ = c.by_block.next in
-    let i = c.by_block.invariant in
-    let r = i.reaches in
-    let l = least source end read index next r.ordered r.within r.room in
-    let within = c.run_len-run.ensures.within in
+    let r = c.by_block.invariant.reaches in
     let n = length-set dest index 255 in
     let at_end : read ≡ c.run_len-run.result = omega arith in
     let full : next ≡ index + 255 = c.if-next-index.true in
@@ -139,8 +127,6 @@ returns-then-run-source-clause-taken c =
     let next : ℕ = c.by_block.next in
     let i = c.by_block.invariant in
     let r = i.reaches in
-    let l = least source end read index next r.ordered r.within r.room in
-    let within = c.run_len-run.ensures.within in
     let at_end : read ≡ c.run_len-run.result = omega arith in
     let moved = i.moved at_end (omega arith) in
     subst (λ (k : ℕ). TakesFront old r₀ source k dest (reached_at c.progress_at-then-run-source.result)) at_end
@@ -160,10 +146,7 @@ returns-clause-taken c =
     let read : ℕ = c.by_block.read in
     let index : ℕ = c.by_block.index in
     let next : ℕ = c.by_block.next in
-    let i = c.by_block.invariant in
-    let r = i.reaches in
-    let l = least source end read index next r.ordered r.within r.room in
-    let within = c.run_len-run.ensures.within in
+    let r = c.by_block.invariant.reaches in
     let at_end : read ≡ c.run_len-run.result = omega arith in
     let n = length-set dest index (next - index) in
     let zero : get_or source read 0 ≡ 0 = ap (λ (k : ℕ). get_or source k 0) at_end ∙ c.run_len-run.ensures.stop (omega arith) in

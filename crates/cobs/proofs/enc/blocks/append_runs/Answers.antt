@@ -37,5 +37,4 @@ returns-then-read-source c =
     subst (λ (k : ℕ). TakesFront c.args.dest.now (reached_at c.args.progress) c.args.source.now k c.append_run-run.new.dest (reached_at c.append_run-run.result.1)) c.if-read-source.true s
 
 pub returns : goal.returns
-returns c =
-    subst (λ (k : ℕ). TakesFront c.args.dest.now (reached_at c.args.progress) c.args.source.now k c.by_run.dest (reached_at c.by_run.progress)) (omega arith) c.by_run.invariant.taken
+returns c = grind arith

@@ -30,7 +30,6 @@ mark_first-requires-clause-ordered c =
 
 pub by_zero-preserved : goal.by_zero-preserved
 by_zero-preserved c =
-    let fits = short-fits c.args.source.now c.args.dest.now c.copy_window-mask.new.dest (reached_at c.args.progress) c.copy_window-mask.result c.requires.code c.requires.some c.requires.few c.requires.open_block c.requires.fits c.copy_window-mask.ensures.copied c.copy_window-mask.ensures.zeros in
     first-marked _ c.args.source.now c.args.dest.now c.by_zero.dest _ 0 (length c.args.source.now) c.by_zero.index (c.args.progress.index + c.args.progress.code) c.by_zero.zeros c.by_zero.invariant c.mark_first.new.dest c.mark_first.result (omega arith)
     c.mark_first.ensures.code c.mark_first.ensures.none c.mark_first.ensures.some
 
@@ -60,7 +59,6 @@ returns c =
     let next : ℕ = c.args.progress.index + c.args.progress.code in
     let fits = short-fits c.args.source.now c.args.dest.now c.copy_window-mask.new.dest (reached_at c.args.progress) c.copy_window-mask.result c.requires.code c.requires.some c.requires.few c.requires.open_block c.requires.fits c.copy_window-mask.ensures.copied c.copy_window-mask.ensures.zeros in
     let r = short-reaches c.args.source.now c.args.dest.now c.copy_window-mask.new.dest (reached_at c.args.progress) c.copy_window-mask.result c.requires.code c.requires.some c.requires.few c.requires.open_block c.requires.fits c.copy_window-mask.ensures.copied c.copy_window-mask.ensures.zeros in
-    let open' = c.requires.open_block in
     let taken : WindowTaken H c.args.source.now c.args.dest.now c.if-zeros-ne0.dest end 0 len c.if-zeros-ne0.index next = elim c.if-zeros-ne0.branch [
       | then-zeros-ne0+then-is_all_zeros w ↦ WindowTaken-at _ _ _ _ _ _ _ _ _ _ _ (sym w.dest-is) (sym w.index-is)
           (all-taken H c.args.source.now c.args.dest.now c.copy_window-mask.new.dest end 0 len c.args.progress.index next c.copy_window-mask.result r fits (omega arith) c.requires.some (omega arith) c.copy_window-mask.ensures.zeros (w.is_all_zeros.ensures.0 w.if-is_all_zeros.true).1

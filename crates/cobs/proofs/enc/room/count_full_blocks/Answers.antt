@@ -16,7 +16,6 @@ ended c =
     let all = run-more source read run more (omega arith) nonzero in
     let none : drop (read + more) source ≡ [] = drop_all (read + more) source (omega arith) in
     let end = ap (λ (x : List ℕ). blocks_in (behind (run + more) x)) none ∙ blocks-end (run + more) in
-    let counted = c.by_run.invariant.counted in
     omega arith
 
 pub overflow_add-result-then-read-source : goal.overflow_add-result-then-read-source
@@ -34,16 +33,11 @@ stopped c =
     let run : ℕ = c.by_run.run in
     let more : ℕ = c.run_len-more.result in
     let rest = take_rest source read in
-    let long = ap length rest ∙ length-drop read source in
-    let within = c.run_len-more.ensures.within in
-    let w = c.by_run.invariant.within in
-    let other = c.if-read-source.false in
     let lt : read + more < length source = omega arith in
     let nonzero = subst HasNoZero (ap (take more) rest) c.run_len-more.ensures.nonzero in
     let all = run-more source read run more (omega arith) nonzero in
     let is : get_or source (read + more) 0 ≡ 0 = sym (get_or-drop read source more 0) ∙ sym (ap (λ (x : List ℕ). get_or x more 0) rest) ∙ c.run_len-more.ensures.stop (omega arith) in
     let zero = byte-zero source (read + more) (run + more) lt is in
-    let counted = c.by_run.invariant.counted in
     omega arith
 
 pub overflow_add-counted-in_default : goal.overflow_add-counted-in_default
@@ -51,34 +45,10 @@ overflow_add-counted-in_default c = let le = blocks-le c.args.run c.args.source.
 
 pub by_run-preserved-in-Some : goal.by_run-preserved-in-Some
 by_run-preserved-in-Some c =
-    let source : List ℕ = c.args.source.now in
-    let read : ℕ = c.by_run.read in
-    let run : ℕ = c.by_run.run in
-    let zero : ℕ = c.in-Some.zero in
-    let n : ℕ = read + (254 - run) - read in
-    let short = c.by_run.invariant.run in
-    let w = c.by_run.invariant.within in
-    let test = c.by_run-test.true in
-    let d = length-drop read source in
-    let long : length (take n (drop read source)) ≡ n = length-take-le n (drop read source) (omega arith) in
-    let lt = c.in-Some.ensures.0.high in
-    let is : get_or source (read + zero) 0 ≡ 0 = sym (get_or-drop read source zero 0) ∙ sym (get_or-take n (drop read source) zero 0 (omega arith)) ∙ eqb-true _ 0 c.in-Some.ensures.1 in
-    let skip = skipped source read run zero (omega arith) (omega arith) is in
-    let counted = c.by_run.invariant.counted in
-    record { within = omega arith; run = omega arith; counted = omega arith }
+    grind (arith, length-drop, length-take-le, get_or-drop, get_or-take, eqb-true, skipped)
 
 pub by_run-preserved : goal.by_run-preserved
-by_run-preserved c =
-    let e = stopped c in
-    let long = ap length (take_rest c.args.source.now c.by_run.read) ∙ length-drop c.by_run.read c.args.source.now in
-    let within = c.run_len-more.ensures.within in
-    let w = c.by_run.invariant.within in
-    let other = c.if-read-source.false in
-    record { within = omega arith; run = omega arith; counted = e }
+by_run-preserved c = grind (arith, stopped, take_rest, length-drop)
 
 pub returns : goal.returns
-returns c =
-    let d = length-drop c.by_run.read c.args.source.now in
-    let none = blocks-none c.by_run.run (drop c.by_run.read c.args.source.now) (let w = c.by_run.invariant.within in let test = c.by_run-test.false in omega arith) in
-    let counted = c.by_run.invariant.counted in
-    record { count = omega arith }
+returns c = grind (arith, length-drop, blocks-none)

@@ -6,11 +6,7 @@ pub returns-in-Some-clause-next : goal.returns-in-Some-clause-next
 returns-in-Some-clause-next g c = ReadsNext-kept _ _ _ _ _ c.in-Some.ensures.first c.in-Some.ensures.idle
 
 pub by_read-init : goal.by_read-init
-by_read-init g c = record {
-  emptied = c.in_default.ensures.emptied;
-  going = Going-start _ _ _ _ _ c.in_default.ensures.none c.in_default.ensures.len;
-  same_loan = c.in_default.ensures.same_loan;
-}
+by_read-init g c = grind (arith, Going-start)
 
 pub returns-in-None-clause-next : goal.returns-in-None-clause-next
 returns-in-None-clause-next g c = ReadsNext-failed _ (empty_range _ _ _ c.by_read.invariant.emptied) (omega arith) c.by_read.invariant.going c.in-None.ensures.step

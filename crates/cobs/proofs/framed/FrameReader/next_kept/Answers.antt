@@ -10,13 +10,7 @@ left_of_range xs from to n h =
     ap (λ (k : ℕ). drop n (take k (drop from xs))) e ∙ drop-take n (to - (from + n)) (drop from xs) ∙ ap (take (to - (from + n))) (drop-drop n from xs)
 
 pub returns-in-None-clause-none : goal.returns-in-None-clause-none
-returns-in-None-clause-none g c = λ p b.
-    let t = c.in-None.ensures.none p b in
-    (record { none_ended = t.0.none_ended; after = t.0.after; nothing_kept = empty_range c.feed_through_end.new.self.chunk _ c.feed_through_end.new.self.end refl }, t.1)
+returns-in-None-clause-none g c = λ p b. grind (arith, empty_range)
 
 pub returns-in-Some-clause-first : goal.returns-in-Some-clause-first
-returns-in-Some-clause-first g c = λ p h.
-    let e = c.in-Some.ensures in
-    let r = c.args.self.now in
-    let n : c.in-Some.count + r.start ≤ r.end = omega (arith, e.within, length-take (r.end - r.start) (drop r.start r.chunk), r.ordered) in
-    rw (e.same_chunk, e.same_start, e.same_end, ← left_of_range r.chunk r.start r.end c.in-Some.count n) (e.first p h)
+returns-in-Some-clause-first g c = λ p h. grind (arith, length-take, left_of_range)

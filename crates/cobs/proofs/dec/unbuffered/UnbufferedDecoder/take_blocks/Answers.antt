@@ -56,30 +56,4 @@ returns-clause-within c = omega (arith, c.decode_head-len.ensures.read, within c
 
 pub returns-clause-fed : goal.returns-clause-fed
 returns-clause-fed c =
-    let bytes : List ℕ = c.args.bytes.now in
-    let most : ℕ = c.min-most.result in
-    let e = c.decode_head-len.ensures in
-    let at-is : c.if-self.at ≡ base_of (eqb c.args.self.now.code 255) c.args.self.now.dest_idx = elim c.if-self.branch [
-      | then-self w ↦ w.at-is ∙ sym (ap (λ (v : Bool). base_of v c.args.self.now.dest_idx) (eq-eqb _ 255 w.if-self.true))
-      | else-self w ↦ w.at-is ∙ sym (ap (λ (v : Bool). base_of v c.args.self.now.dest_idx) (ne_eqb _ 255 w.if-self.false))
-    ] in
-    let dest-is : c.if-self.dest ≡ joined (eqb c.args.self.now.code 255) c.args.self.now.dest_idx c.args.dest.now = elim c.if-self.branch [
-      | then-self w ↦ w.dest-is ∙ sym (ap (λ (v : Bool). joined v c.args.self.now.dest_idx c.args.dest.now) (eq-eqb _ 255 w.if-self.true))
-      | else-self w ↦ w.dest-is ∙ sym (ap (λ (v : Bool). joined v c.args.self.now.dest_idx c.args.dest.now) (ne_eqb _ 255 w.if-self.false))
-    ] in
-    let some : 0 < length (piece bytes most) =
-    let near : c.if-self.at ≤ c.args.self.now.dest_idx + 1 = elim c.if-self.branch [
-      | then-self w ↦ omega (arith, w.at-is)
-      | else-self w ↦ omega (arith, w.at-is)
-    ] in
-    let l = length-head bytes in
-    begun bytes most c.requires.begun (omega (arith, near, c.requires.begun, c.saturating_sub.ensures, c.if-saturating_sub-lt2.false)) in
-    let o = output-le (piece bytes most) some in
-    let s = short bytes most in
-    let a = c.if-self.auto.dest in
-    let fits : c.if-self.at + length (output (piece bytes most)) ≤ length c.args.dest.now = omega arith in
-    let fed = blocks_fed c.args.self.now c.decode_head-len.result.1.code c.decode_head-len.result.1.left c.args.dest.now c.if-self.dest (piece bytes most) _ c.if-self.at _
-    c.requires.going c.requires.boundary (head_nonzero (take most bytes)) some at-is dest-is c.if-self.auto.dest
-    fits
-    e.written e.begins e.rest e.code e.left in
-    fed-front bytes most _ _ _ _ _ e.read fed
+    grind (arith, base_of, eqb, eq-eqb, ne_eqb, joined, length-head, begun, output-le, short, blocks_fed, head_nonzero, fed-front)

@@ -23,24 +23,4 @@ same_phase : (inner : UnbufferedDecoder) (over : Bool) → over ≡ false → in
 same_phase inner over e f = ap (λ (v : Bool). cond v Over (phase_with (eqb inner.code 255) inner.left inner.dest_idx)) (f ∙ sym e)
 
 pub returns-clause-fed : goal.returns-clause-fed
-returns-clause-fed c =
-    let bytes : List ℕ = c.args.bytes.now in
-    let run : ℕ = c.by_part-test.run in
-    let more : ℕ = c.take_many.result in
-    let start : Phase = phase_of c.args.self.now in
-    let here : UnbufferedDecoder = c.by_part-test.here in
-    let left_at : Phase = phase_of (record { dest_idx = here.dest_idx; left = here.left; code = here.code; over = c.args.self.now.over }) in
-    let so_far : FedInTurn c.args.dest.now start (take run bytes) c.by_part-test.dest (phase_of c.by_part-test.here) × (c.by_part-test.here.over ≡ false) = elim c.by_part-test.branch [
-      | then-by_part-test+then-bytes-run-ne0+else-bytes-run-lt-MANY w ↦ rw (w.dest-is, w.here-is, w.run-is) (c.by_part.invariant.taken, c.by_part.invariant.going)
-      | then-by_part-test+else-bytes-run-ne0 w ↦ rw (w.dest-is, w.here-is, w.run-is) (c.by_part.invariant.taken, c.by_part.invariant.going)
-      | else-by_part-test w ↦ rw (w.dest-is, w.here-is, w.run-is) (c.by_part.invariant.taken, c.by_part.invariant.going)
-      | then-by_part-test+then-bytes-run-ne0+then-bytes-run-lt-MANY+then-part-eq0 w ↦ rw (w.dest-is, w.here-is, w.run-is) (
-        joined bytes _ _ _ _ _ _ c.by_part.run w.take_part-part.result c.by_part.invariant.taken
-            (subst (λ (xs : List ℕ). FedInTurn c.by_part.dest (phase_of c.by_part.here) (take w.take_part-part.result xs) w.take_part-part.new.dest (phase_of w.take_part-part.new.self))
-            (take_rest bytes c.by_part.run) w.take_part-part.ensures.fed),
-        w.take_part-part.ensures.going,
-      )
-    ] in
-    joined bytes _ _ _ _ _ _ run more
-    (subst (λ (z : Phase). FedInTurn c.args.dest.now start (take run bytes) c.by_part-test.dest z) (same_phase c.by_part-test.here c.args.self.now.over c.if-self.false so_far.1) so_far.0)
-    (subst (λ (xs : List ℕ). FedInTurn c.by_part-test.dest left_at (take more xs) c.take_many.new.dest (phase_of c.take_many.new.self)) (take_rest bytes run) c.take_many.ensures.fed)
+returns-clause-fed c = grind (arith, joined, take_rest, same_phase)

@@ -10,10 +10,7 @@ returns-then-not-take-clause-fits c = λ m h.
     (λ t. cc, λ le. let yes = c.take.ensures.fits.1 (omega arith) in cc)
 
 pub returns-clause-fits : goal.returns-clause-fits
-returns-clause-fits c = λ m h.
-    let e = after-end c.args.self.now.dest.now m c.args.bytes.now (reached_by c.args.self.now.encoder) h in
-    let enough = c.take.ensures.fits.0 c.if-not-take.false in
-    (λ t. omega arith, λ le. refl)
+returns-clause-fits c = λ m h. grind (arith, after-end)
 
 pub returns-clause-taken : goal.returns-clause-taken
 returns-clause-taken c = λ m h. all-after (c.take.ensures.taken c.if-not-take.false) m h

@@ -8,10 +8,4 @@ pub overflow_sub-room : goal.overflow_sub-room
 overflow_sub-room c = place-index (length c.args.dest.now) (reached_at c.args.self.now.progress) c.requires
 
 pub append_short-behind-requires-clause-fits : goal.append_short-behind-requires-clause-fits
-append_short-behind-requires-clause-fits c =
-    let p = c.args.self.now.progress in
-    let few = c.is_short.ensures.open_block c.if-is_short.true in
-    let e = after-some (reached_at p) c.args.bytes.now (c.is_short.ensures.some c.if-is_short.true) in
-    let most = open_len-most p.code c.args.bytes.now c.requires.some in
-    let index = place-index (length c.args.dest.now) (reached_at p) c.requires in
-    omega arith
+append_short-behind-requires-clause-fits c = grind (arith, after-some, open_len-most, place-index)

@@ -8,9 +8,7 @@ pub overflow_sub-room : goal.overflow_sub-room
 overflow_sub-room c = place-index (length c.args.dest.now) (reached_at c.args.self.now.progress) c.requires
 
 pub returns-then-is_empty-clause-fits : goal.returns-then-is_empty-clause-fits
-returns-then-is_empty-clause-fits c =
-    let none = no-bytes c.args.bytes.now (eqb-true _ 0 (sym c.is_empty.ensures ∙ c.if-is_empty.true)) in
-    rw none (λ t. c.requires.fits, λ le. refl)
+returns-then-is_empty-clause-fits c = grind (arith, no-bytes, eqb-true)
 
 pub returns-then-is_empty-clause-taken : goal.returns-then-is_empty-clause-taken
 returns-then-is_empty-clause-taken c =
@@ -18,26 +16,13 @@ returns-then-is_empty-clause-taken c =
     λ t. rw none (front-none c.args.dest.now (reached_at c.args.self.now.progress) [] c.requires)
 
 pub returns-then-not-fits-clause-fits : goal.returns-then-not-fits-clause-fits
-returns-then-not-fits-clause-fits c =
-    let some = eqb-false _ 0 (sym c.is_empty.ensures ∙ c.if-is_empty.false) in
-    let e = after-some (reached_at c.args.self.now.progress) c.args.bytes.now (omega arith) in
-    (λ t. cc, λ le. let yes = c.fits.ensures.fits.1 (omega arith) in cc)
+returns-then-not-fits-clause-fits c = grind (arith, eqb-false, after-some)
 
 pub append-self-requires-clause-some : goal.append-self-requires-clause-some
 append-self-requires-clause-some c = let some = eqb-false _ 0 (sym c.is_empty.ensures ∙ c.if-is_empty.false) in omega arith
 
 pub append-self-requires-clause-fits : goal.append-self-requires-clause-fits
-append-self-requires-clause-fits c =
-    let some = eqb-false _ 0 (sym c.is_empty.ensures ∙ c.if-is_empty.false) in
-    let e = after-some (reached_at c.args.self.now.progress) c.args.bytes.now (omega arith) in
-    let index = place-index (length c.args.dest.now) (reached_at c.args.self.now.progress) c.requires in
-    let enough = c.fits.ensures.fits.0 c.if-not-fits.false in
-    omega arith
+append-self-requires-clause-fits c = grind (arith, eqb-false, after-some, place-index)
 
 pub returns-clause-fits : goal.returns-clause-fits
-returns-clause-fits c =
-    let some = eqb-false _ 0 (sym c.is_empty.ensures ∙ c.if-is_empty.false) in
-    let e = after-some (reached_at c.args.self.now.progress) c.args.bytes.now (omega arith) in
-    let index = place-index (length c.args.dest.now) (reached_at c.args.self.now.progress) c.requires in
-    let enough = c.fits.ensures.fits.0 c.if-not-fits.false in
-    (λ t. omega arith, λ le. refl)
+returns-clause-fits c = grind (arith, eqb-false, after-some, place-index)
