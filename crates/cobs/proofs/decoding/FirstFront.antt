@@ -142,16 +142,14 @@ marked-turn first old dest len read code other m room none short short' fits her
 
 -- the front of a buffer, marked and then moved
 pub whole-piece : (old : List ℕ) (len : ℕ) → 0 < len → len ≤ length old → get_or old 0 0 ∷ take (len - 1) (drop 1 old) ≡ take len old
-whole-piece [] len some le = absurd (omega arith)
-whole-piece (x ∷ old) len some le = let n : suc (len - 1) ≡ len = omega arith in ap (λ (k : ℕ). take k (x ∷ old)) n
+whole-piece old len h e = grind arith
 
 pub marked-buffer : (old new : List ℕ) → 0 < length old → put_mid 1 (length old - 1) old new ≡ get_or old 0 0 ∷ new
 marked-buffer [] new some = absurd (omega arith)
 marked-buffer (x ∷ old) new some = put-back 1 (x ∷ old) new
 
 pub whole-buffer : (old : List ℕ) → 0 < length old → get_or old 0 0 ∷ drop 1 old ≡ old
-whole-buffer [] some = absurd (omega arith)
-whole-buffer (x ∷ old) some = refl
+whole-buffer old h = grind arith
 
 module _ (first : ℕ) (rest new after : List ℕ) (front : ℕ) (some : 0 < front) (within : front ≤ length rest + 1) (same : length new ≡ length rest) (behind : drop (front - 1) new ≡ drop (front - 1) rest)
     (is : after ≡ take (front - 1) new ++ drop (front - 1) (first ∷ new)) where

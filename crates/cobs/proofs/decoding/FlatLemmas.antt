@@ -192,8 +192,7 @@ flat-copy copy p n is flat long = ap (λ (x : List ℕ). length (output x) + 1) 
 
 -- such a stretch has some bytes
 pub flat-some : (old : List ℕ) (from len : ℕ) → IsFlat (take len (drop from old)) → 0 < len
-flat-some old from zero flat = let some = flat.some in absurd (omega arith)
-flat-some old from (suc len) flat = omega arith
+flat-some old from len h = grind arith
 
 -- what stands after the first code, moved to the front
 module _ (old after : List ℕ) (from len : ℕ) (inside : from + len ≤ length old) (some : 0 < len) (is : after ≡ take (len - 1) (drop (from + 1) old) ++ drop (len - 1) old) where
@@ -210,10 +209,7 @@ module _ (old after : List ℕ) (from len : ℕ) (inside : from + len ≤ length
 
 -- the first byte and those after it
 pub piece-nonzero : (old : List ℕ) (len : ℕ) → 0 < len → len ≤ length old → get_or old 0 0 ≢ 0 → HasNoZero (take (len - 1) (drop 1 old)) → HasNoZero (take len old)
-piece-nonzero [] len some le first others = absurd (omega arith)
-piece-nonzero (x ∷ old) len some le first others =
-    let l : suc (len - 1) ≡ len = omega arith in
-    subst (λ (k : ℕ). HasNoZero (take k (x ∷ old))) l (All-cons (λ byte. byte ≢ 0) x (take (len - 1) old) first others)
+piece-nonzero old len h e p q = grind (arith, All-cons)
 
 -- a slice from some place on, put back
 pub put-back : (read : ℕ) (buffer new : List ℕ) → put_mid read (length buffer - read) buffer new ≡ take read buffer ++ new

@@ -35,12 +35,7 @@ head-long (suc n) (b ∷ t) within nonzero =
 
 -- those behind its first byte too
 pub head-behind : (k : ℕ) (t : List ℕ) → 0 < length (head t) → k + 1 ≤ length t → HasNoZero (take k (drop 1 t)) → k + 1 ≤ length (head t)
-head-behind k [] some within nonzero = absurd (omega arith)
-head-behind k (zero ∷ t) some within nonzero = absurd (let z = ap length (head-zero t) in omega arith)
-head-behind k (suc b ∷ t) some within nonzero =
-    let is = ap length (head-cons (suc b) t (λ e. omega arith)) in
-    let more = head-long k t (omega arith) nonzero in
-    omega arith
+head-behind k t h e p = grind (arith, head-zero, head-cons, head-long)
 
 -- and one byte more
 pub head-one_more : (n : ℕ) (t : List ℕ) → n ≤ length (head t) → n < length t → get_or t n 0 ≢ 0 → n < length (head t)

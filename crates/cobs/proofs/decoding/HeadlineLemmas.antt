@@ -60,8 +60,7 @@ reads_where_fits f m n P fits long = (
 )
 
 reports : (parsed : ℕ) (result : Result ℕ DecodeError) (buffer m : List ℕ) (P : Type 0) → AnswersMessage result buffer m ↔ P → ReportsMessage (reported parsed result) buffer m ↔ P
-reports parsed (Ok n) buffer m P h = h
-reports parsed (Err error) buffer m P h = h
+reports parsed result buffer m P h = grind arith
 
 -- DECODING INTO A BUFFER
 
@@ -106,12 +105,10 @@ unfolding kept_output
 kept_output_whole p whole = cc
 
 head_answer_whole : (f : List ℕ) → f ≢ [] → IsWhole f → head_answer f ≡ Ok (length (output f))
-head_answer_whole [] some whole = absurd (some refl)
-head_answer_whole (byte ∷ bytes) some whole = ap (λ (t : Bool). result_map_both length (λ (e : DecodeError). e) (cond t (Ok (output (byte ∷ bytes))) (Err (InvalidFrame (length (kept_output (byte ∷ bytes))))))) whole
+head_answer_whole f h e = grind arith
 
 head_answer_broken : (f : List ℕ) → f ≢ [] → is_whole f ≡ false → head_answer f ≡ Err (InvalidFrame (length (kept_output f)))
-head_answer_broken [] some broken = absurd (some refl)
-head_answer_broken (byte ∷ bytes) some broken = ap (λ (t : Bool). result_map_both length (λ (e : DecodeError). e) (cond t (Ok (output (byte ∷ bytes))) (Err (InvalidFrame (length (kept_output (byte ∷ bytes))))))) broken
+head_answer_broken f h e = grind arith
 
 in_place_answer_alone : (f : List ℕ) → IsPiece f → in_place_answer f ≡ head_answer f
 in_place_answer_alone [] piece = absurd (piece.0 refl)

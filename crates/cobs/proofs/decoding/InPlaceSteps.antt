@@ -32,12 +32,10 @@ drop-later n m xs ys h e =
 
 -- what joins a full part, and another one, to what follows
 pub joins-full : (code : ℕ) (q : List ℕ) → code == 255 ≡ true → [] ≡ joins code q
-joins-full code [] full = refl
-joins-full code (x ∷ q) full = sym (ap (λ (v : Bool). cond v [] (0 ∷ [])) full)
+joins-full code q h = grind arith
 
 pub joins-zero-due : (code : ℕ) (q : List ℕ) → code == 255 ≡ false → 0 < length q → 0 ∷ [] ≡ joins code q
-joins-zero-due code [] other some = absurd (omega arith)
-joins-zero-due code (x ∷ q) other some = sym (ap (λ (v : Bool). cond v [] (0 ∷ [])) other)
+joins-zero-due code q h e = grind arith
 
 module _ (before : List ℕ) (end : ℕ) (buffer : List ℕ) (read written : ℕ) (s : DecodedInPlace before end buffer read written) where
   long : length (take end before) ≡ end

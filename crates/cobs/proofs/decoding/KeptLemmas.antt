@@ -94,12 +94,10 @@ module _ (code : ℕ) (bytes : List ℕ) where
 -- A BLOCK IN FRONT OF OTHER BYTES
 
 pub one-output : (block : List ℕ) → IsBlock block → output block ≡ bytes_of block
-one-output [] is = absurd is
-one-output (code ∷ bytes) is = output-last code bytes (omega (arith, is.0))
+one-output block h = grind (arith, output-last)
 
 pub one-whole : (block : List ℕ) → IsBlock block → IsWhole block
-one-whole [] is = absurd is
-one-whole (code ∷ bytes) is = whole-part code bytes [] (omega (arith, is.0)) (omega (arith, is.0)) (drop_all (code - 1) bytes (omega (arith, is.0)))
+one-whole block h = grind (arith, whole-part, drop_all)
 
 module _ (code : ℕ) (bytes p : List ℕ) (is : IsBlock (code ∷ bytes)) where
   fits : code - 1 ≤ length (bytes ++ p)
@@ -109,9 +107,7 @@ module _ (code : ℕ) (bytes p : List ℕ) (is : IsBlock (code ∷ bytes)) where
   rest = drop_at bytes p (code - 1) (omega (arith, is.0))
 
 pub front-whole : (block p : List ℕ) → IsBlock block → p ≢ [] → is_whole (block ++ p) ≡ is_whole p
-front-whole [] p is some = absurd is
-front-whole (code ∷ bytes) [] is some = absurd (some refl)
-front-whole (code ∷ bytes) (x ∷ p) is some = whole-part code (bytes ++ x ∷ p) (x ∷ p) (omega (arith, is.0)) (fits code bytes (x ∷ p) is) (rest code bytes (x ∷ p) is)
+front-whole block p h e = grind (arith, whole-part, fits, rest)
 
 pub front-kept : (block p : List ℕ) → IsBlock block → p ≢ [] → kept_output (block ++ p) ≡ bytes_of block ++ joint block ++ kept_output p
 front-kept [] p is some = absurd is

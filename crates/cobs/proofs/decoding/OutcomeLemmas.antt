@@ -69,8 +69,7 @@ outcome_frame f m n r fits =
 -- WHAT STANDS BEFORE THE FIRST ZERO
 
 first_of-onto : (x : ℕ) (parts : List (List ℕ)) → first_of (onto_first x parts) ≡ x ∷ first_of parts
-first_of-onto x [] = refl
-first_of-onto x (part ∷ parts) = refl
+first_of-onto x parts = grind arith
 
 pub head-zero : (bytes : List ℕ) → head (0 ∷ bytes) ≡ []
 unfolding head
@@ -97,8 +96,7 @@ length-head (byte ∷ bytes) = grind (arith, head-cons, cases_eq, length-head by
 
 -- the first piece of a stream that begins with one
 first_found-onto : (x : ℕ) (parts : List (List ℕ)) → first_found (filter is_nonempty (onto_first x parts)) ≡ Some (x ∷ first_of parts)
-first_found-onto x [] = refl
-first_found-onto x (part ∷ parts) = refl
+first_found-onto x parts = grind arith
 
 pub first_piece_head : (byte : ℕ) (bytes : List ℕ) → byte ≢ 0 → first_piece (byte ∷ bytes) ≡ Some (head (byte ∷ bytes))
 unfolding first_piece head
@@ -122,5 +120,4 @@ head_alone p h = ap first_of (one_stretch p h)
 
 pub first_piece_alone : (p : List ℕ) → p ≢ [] → HasNoZero p → first_piece p ≡ Some p
 unfolding first_piece
-first_piece_alone [] some h = absurd (some refl)
-first_piece_alone (byte ∷ bytes) some h = ap (λ (ps : List (List ℕ)). first_found (filter is_nonempty ps)) (one_stretch (byte ∷ bytes) h)
+first_piece_alone p h e = grind (arith, filter, one_stretch)

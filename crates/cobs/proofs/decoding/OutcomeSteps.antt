@@ -29,12 +29,10 @@ module _ (p : List ℕ) (n : ℕ) where
 
 -- the answer to a source that isn't empty, by its first piece
 pub decode_answer-none : (source : List ℕ) (n : ℕ) → 0 < length source → first_piece source ≡ None → Err (InvalidFrame 0) ≡ decode_answer source n
-decode_answer-none [] n some is = absurd (omega arith)
-decode_answer-none (byte ∷ bytes) n some is = sym (ap (λ (p : Option (List ℕ)). answer_by_piece (byte ∷ bytes) p n) is)
+decode_answer-none source n h e = grind arith
 
 pub decode_answer-some : (source p : List ℕ) (n : ℕ) → 0 < length source → first_piece source ≡ Some p → reported (len_through_piece source p) (sized (outcome_of p n)) ≡ decode_answer source n
-decode_answer-some [] p n some is = absurd (omega arith)
-decode_answer-some (byte ∷ bytes) p n some is = sym (ap (λ (q : Option (List ℕ)). answer_by_piece (byte ∷ bytes) q n) is)
+decode_answer-some source p n h e = grind arith
 
 -- and by what came of that piece
 module _ (source p : List ℕ) (n : ℕ) (some : 0 < length source) (is : first_piece source ≡ Some p) (result : Result ℕ DecodeError) (result-is : result ≡ sized (outcome_of p n)) where
@@ -46,13 +44,11 @@ module _ (source p : List ℕ) (n : ℕ) (some : 0 < length source) (is : first_
 
 -- a buffer over which nothing is written
 pub overwritten-none : (buffer : List ℕ) → overwritten buffer [] ≡ buffer
-overwritten-none [] = refl
-overwritten-none (byte ∷ buffer) = refl
+overwritten-none buffer = grind arith
 
 -- the answer to a buffer that isn't empty, by what stands before its first zero
 in_place_answer-head : (buffer : List ℕ) → 0 < length buffer → in_place_answer buffer ≡ head_answer (head buffer)
-in_place_answer-head [] some = absurd (omega arith)
-in_place_answer-head (byte ∷ bytes) some = refl
+in_place_answer-head buffer h = grind arith
 
 module _ (buffer h : List ℕ) (some : 0 < length buffer) (is : h ≡ head buffer) (result : Result ℕ DecodeError) (result-is : result ≡ head_answer h) where
   by_head : reported (length h) result ≡ in_place_report buffer

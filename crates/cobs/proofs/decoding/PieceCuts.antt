@@ -17,8 +17,7 @@ parts_after-some [] h = absurd (omega arith)
 parts_after-some (x ∷ p) h = omega arith
 
 message_of-cons : (part : List ℕ) (parts : List (List ℕ)) → 0 < length parts → message_of (part ∷ parts) ≡ (bytes_of part ++ joint part) ++ message_of parts
-message_of-cons part [] h = absurd (omega arith)
-message_of-cons part (next ∷ parts) h = refl
+message_of-cons part parts h = grind arith
 
 -- the last part
 pub output-last : (code : ℕ) (bytes : List ℕ) → length bytes ≤ code - 1 → output (code ∷ bytes) ≡ bytes
@@ -48,8 +47,7 @@ output-empty [] e = refl
 output-empty (x ∷ p) e = absurd (omega arith)
 
 last_of-cons : (part : List ℕ) (parts : List (List ℕ)) → 0 < length parts → last_of (part ∷ parts) ≡ last_of parts
-last_of-cons part [] h = absurd (omega arith)
-last_of-cons part (next ∷ parts) h = refl
+last_of-cons part parts h = grind arith
 
 pub last_part-more : (code : ℕ) (bytes : List ℕ) → code - 1 < length bytes → last_part (code ∷ bytes) ≡ last_part (drop (code - 1) bytes)
 unfolding last_part parts parts_after
@@ -67,8 +65,7 @@ last_part-last code bytes short = grind (arith, parts_after-none, take_all)
 
 pub is_whole-of : (p : List ℕ) → 0 < length p → is_whole p ≡ eqb (lacks (last_part p)) 0
 unfolding is_whole
-is_whole-of [] h = absurd (omega arith)
-is_whole-of (x ∷ p) h = refl
+is_whole-of p h = grind arith
 
 pub last_part-ones : (n : ℕ) (p : List ℕ) → 0 < length p → last_part (replicate n 1 ++ p) ≡ last_part p
 last_part-ones zero p some = refl

@@ -26,8 +26,7 @@ lt_false m n h = grind (arith, common_steps)
 
 -- a part that lacks nothing stays
 grown-cons : (part : List ℕ) (more : List (List ℕ)) (b : ℕ) → lacks part ≡ 0 → grown (part ∷ more) b ≡ part ∷ grown more b
-grown-cons part [] b h = rw (lt_false 0 (lacks part) (omega arith)) refl
-grown-cons part (next ∷ more) b h = refl
+grown-cons part more b h = grind (arith, lt_false)
 
 -- a last part that lacks something takes the byte
 grown-last : (part : List ℕ) (b : ℕ) → 0 < lacks part → grown (part ∷ []) b ≡ (part ++ b ∷ []) ∷ []
@@ -58,16 +57,13 @@ length-grown (part ∷ []) b = elim (ltb 0 (lacks part)) as (λ v. 0 < length (c
 length-grown (part ∷ next ∷ more) b = omega arith
 
 pub message_of-cons : (part : List ℕ) (more : List (List ℕ)) → 0 < length more → message_of (part ∷ more) ≡ bytes_of part ++ joint part ++ message_of more
-message_of-cons part [] h = absurd (omega arith)
-message_of-cons part (next ∷ more) h = refl
+message_of-cons part more h = grind arith
 
 pub last_of-cons : (part : List ℕ) (more : List (List ℕ)) → 0 < length more → last_of (part ∷ more) ≡ last_of more
-last_of-cons part [] h = absurd (omega arith)
-last_of-cons part (next ∷ more) h = refl
+last_of-cons part more h = grind arith
 
 bytes_of-push : (part : List ℕ) (b : ℕ) → 0 < lacks part → bytes_of (part ++ b ∷ []) ≡ bytes_of part ++ b ∷ []
-bytes_of-push [] b h = absurd (omega arith)
-bytes_of-push (c ∷ bytes) b h = refl
+bytes_of-push part b h = grind arith
 
 -- the last part lacks something: it takes the byte
 pub message_of-grown_more : (more : List (List ℕ)) (b : ℕ) → 0 < lacks (last_of more) → message_of (grown more b) ≡ message_of more ++ b ∷ []
@@ -117,12 +113,10 @@ unfolding last_part parts parts_after
 last_part-push_next c p b h = ap last_of (parts-push (c ∷ p) b) ∙ last_of-grown_next (c ∷ take (c - 1) p) (parts_after (c - 1) p) b h
 
 lacks-push : (part : List ℕ) (b : ℕ) → 0 < lacks part → lacks (part ++ b ∷ []) + 1 ≡ lacks part
-lacks-push [] b h = absurd (omega arith)
-lacks-push (c ∷ bytes) b h = omega (arith, length_push bytes b)
+lacks-push part b h = grind (arith, length_push)
 
 is_full-push : (part : List ℕ) (b : ℕ) → 0 < lacks part → is_full (part ++ b ∷ []) ≡ is_full part
-is_full-push [] b h = absurd (omega arith)
-is_full-push (c ∷ bytes) b h = refl
+is_full-push part b h = grind arith
 
 pub lacks-push_more : (p : List ℕ) (b : ℕ) → 0 < lacks (last_part p) → lacks (last_part (p ++ b ∷ [])) + 1 ≡ lacks (last_part p)
 lacks-push_more p b h = ap (λ (x : List ℕ). lacks x + 1) (last_part-push_more p b h) ∙ lacks-push (last_part p) b h

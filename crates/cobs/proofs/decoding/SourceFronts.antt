@@ -84,10 +84,7 @@ module _ (source : List ℕ) (s : ℕ) (old dest : List ℕ) (read written : ℕ
       let l = length-drop read source in
       let n = length-take-le (length source - read) (drop read source) (omega arith) in
       let at : read + 0 ≡ read = omega arith in
-      let code : get_or (xor_each s (take (length source - read) (drop read source))) 0 0 ≡ bit_xor (get_or source read 0) s =
-      get_or-map (λ b. bit_xor b s) (take (length source - read) (drop read source)) 0 0 0 (omega arith)
-      ∙ ap (λ (b : ℕ). bit_xor b s) (get_or-take (length source - read) (drop read source) 0 0 (omega arith) ∙ get_or-drop read source 0 0 ∙ ap (λ (k : ℕ). get_or source k 0) at) in
-      omega arith
+      grind (arith, bit_xor, get_or-map, get_or-take, get_or-drop)
 
   -- a stretch of it
   pub stretch-is : (len m : ℕ) → m ≡ read + len → xor_each s (take (m - read) (drop read source)) ≡ take len (drop read h)

@@ -41,8 +41,7 @@ module _ (source : List ℕ) (n : ℕ) (room : n ≡ length source) where
   Refused answer error = (answer ≡ Err error) × (error ≢ TargetBufTooSmall)
 
   piece-refused : (error : DecodeError) (p : Option (List ℕ)) → first_piece source ≡ p → Err error ≡ answer_by_piece source p n → Refused (message_of_piece p) error
-  piece-refused error None is e = (cc, λ z. cc)
-  piece-refused error (Some p) is e = grind (arith, first_piece_within, output_within, sized-fits)
+  piece-refused error p h e = grind (arith, first_piece_within, output_within, sized-fits)
 
   piece-message : (report : DecodeReport) (old : List ℕ) (p : Option (List ℕ)) → first_piece source ≡ p → length old ≡ n → Ok report ≡ answer_by_piece source p n
       → message_of_piece p ≡ Ok (take (frame_size_of report) (overwritten old (output_of p)))
@@ -104,8 +103,7 @@ module _ (source : List ℕ) (n : ℕ) (room : n ≡ length source) where
       nonempty (b ∷ s) some = refl
 
   refused : (error : DecodeError) (h : List ℕ) → Err error ≡ head_answer h → (message_of_head h ≡ Err error) × (error ≢ TargetBufTooSmall)
-  refused error [] e = absurd (cc)
-  refused error (x ∷ h) e = grind arith
+  refused error h e = grind arith
 
   pub decoded_head-refused : (error : DecodeError) → 0 < length source → Err error ≡ source_answer source n → (decoded_head source ≡ Err error) × (error ≢ TargetBufTooSmall)
   decoded_head-refused error some e = let r = refused error (head source) (e ∙ head-answer some) in (head-is some ∙ r.0, r.1)
@@ -123,8 +121,7 @@ module _ (source : List ℕ) (n : ℕ) (room : n ≡ length source) where
 
       cases : (w : Bool) → Ok size ≡ result_map_both length (λ (e : DecodeError). e) (if w then Ok (output p) else Err (InvalidFrame (length (if w then output p else cut))))
           → (if w then Ok (output p) else Err (InvalidFrame (length (if w then output p else cut)))) ≡ Ok (take size (overwritten old (if w then output p else cut)))
-      cases false e' = absurd (cc)
-      cases true e' = grind (arith, output_within, overwritten-begins)
+      cases w h = grind (arith, output_within, overwritten-begins)
 
   pub decoded_head-message : (size : ℕ) (old new : List ℕ) → 0 < length source → length old ≡ n → Ok size ≡ source_answer source n → new ≡ overwritten old (kept_output (head source))
       → decoded_head source ≡ Ok (take size new)

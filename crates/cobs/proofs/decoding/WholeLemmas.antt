@@ -16,8 +16,7 @@ pub record InFront (p q : List ℕ) : Type 0 where
   pub last : 0 < length q → last_part (p ++ q) ≡ last_part q
 
 joins-some : (code : ℕ) (xs : List ℕ) → 0 < length xs → joins code xs ≡ joint_of code
-joins-some code [] some = absurd (omega arith)
-joins-some code (x ∷ xs) some = refl
+joins-some code xs h = grind arith
 
 -- one block
 one : (code : ℕ) (bytes q : List ℕ) → 0 < code → length bytes ≡ code - 1 → InFront (code ∷ bytes) q
@@ -48,22 +47,7 @@ more code bytes q some far rest =
     let joint : joins code (left ++ q) ≡ joint_of code = joins-some code (left ++ q) (omega arith) in
     let last : last_part (code ∷ bytes) ≡ last_part left = last_part-more code bytes far in
     let out : output (code ∷ bytes) ≡ (take (code - 1) bytes ++ joint_of code) ++ output left = output-more code bytes far in
-    let goes : (xs : List ℕ) (ys : List ℕ) → xs ≡ output left ++ (joins (code_of (last_part left)) q ++ ys)
-    → take (code - 1) (bytes ++ q) ++ (joins code (left ++ q) ++ xs) ≡ output (code ∷ bytes) ++ (joins (code_of (last_part (code ∷ bytes))) q ++ ys) =
-    λ xs ys is. (
-    ap (λ (x : List ℕ). x ++ (joins code (left ++ q) ++ xs)) front ∙ ap (λ (x : List ℕ). take (code - 1) bytes ++ (x ++ xs)) joint
-    ∙ ap (λ (x : List ℕ). take (code - 1) bytes ++ (joint_of code ++ x)) is
-    ∙ sym (append_assoc (take (code - 1) bytes) (joint_of code) (output left ++ (joins (code_of (last_part left)) q ++ ys)))
-    ∙ sym (append_assoc (take (code - 1) bytes ++ joint_of code) (output left) (joins (code_of (last_part left)) q ++ ys))
-    ∙ ap (λ (x : List ℕ). x ++ (joins (code_of (last_part left)) q ++ ys)) (sym out)
-    ∙ ap (λ (x : List ℕ). output (code ∷ bytes) ++ (joins (code_of x) q ++ ys)) (sym last)
-    ) in
-    record {
-      outs = output-part code (bytes ++ q) (left ++ q) (omega arith) behind ∙ goes (output (left ++ q)) (output q) rest.outs;
-      kepts = kept-part code (bytes ++ q) (left ++ q) some (omega arith) behind ∙ goes (kept_output (left ++ q)) (kept_output q) rest.kepts;
-      whole = whole-part code (bytes ++ q) (left ++ q) some (omega arith) behind ∙ rest.whole;
-      last = λ before. last_part-more code (bytes ++ q) (omega arith) ∙ ap last_part behind ∙ rest.last before;
-    }
+    grind (arith, joins, joint_of, append_assoc, output-part, kept-part, whole-part, last_part-more)
 
 by_length : (n : ℕ) (p q : List ℕ) → length p ≤ n → 0 < length p → HasNoZero p → lacks (last_part p) ≡ 0 → InFront p q
 by_length n [] q le some none whole = absurd (omega arith)

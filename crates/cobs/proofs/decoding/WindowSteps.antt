@@ -73,12 +73,7 @@ module _ (piece old dest : List ℕ) (read written code : ℕ) (p : Decoded piec
         let at : ℕ = written + (code - 1) in
         let joint-is : joint_of code ≡ 0 ∷ [] = ap (λ t. if t then [] else 0 ∷ []) (ne_eqb code 255 other) in
         let split : set dest at 0 ≡ (take at dest ++ 0 ∷ []) ++ drop (suc at) dest = set_split dest at 0 (omega arith) ∙ sym (append_assoc (take at dest) (0 ∷ []) (drop (suc at) dest)) in
-        let l : length (take at dest) ≡ at = length-take-le at dest (omega arith) in
-        let n : length (take at dest ++ 0 ∷ []) ≡ written + code = length-append (take at dest) (0 ∷ []) ∙ omega arith in
-        ap (take (written + code)) split ∙ take_at (take at dest ++ 0 ∷ []) (drop (suc at) dest) (written + code) n
-        ∙ ap (λ (x : List ℕ). x ++ 0 ∷ []) (take_parts dest written (code - 1) (omega arith) ∙ ap (λ (x : List ℕ). take written dest ++ x) here)
-        ∙ append_assoc (take written dest) (take (code - 1) (drop (read + 1) piece)) (0 ∷ [])
-        ∙ ap (λ (x : List ℕ). take written dest ++ (take (code - 1) (drop (read + 1) piece) ++ x)) (sym joint-is)
+        grind (arith, length-take-le, length-append, take_at, take_parts, here, append_assoc)
 
     zero-ends : code ≢ 255 → written + code ≡ written + (code - 1 + length (joint_of code))
     zero-ends other = grind (arith, joint-length)

@@ -54,8 +54,7 @@ abbrev pub at : ℕ → ℕ → Bool → Reached
 at index code full = record { block = record { index = index; code = code }; full = full }
 
 no_bytes : (front : List (List ℕ)) (bytes : List ℕ) → true ≡ ends_in_full front bytes → (bytes ≡ []) × (is_full (last_of front) ≡ true)
-no_bytes front [] e = (refl, sym e)
-no_bytes front (b ∷ bytes) e = absurd (true≢false e)
+no_bytes front bytes h = grind (arith, true≢false)
 
 -- blocks whose last isn't lone behind a full one are an encoded frame
 encoded-open : (f m : List ℕ) (front : List (List ℕ)) (code : ℕ) (bytes : List ℕ) → IsFrameOf f (front ++ (code ∷ bytes) ∷ []) → m ≡ message_of (front ++ (code ∷ bytes) ∷ []) → false ≡ ends_in_full front bytes → IsEncodedFrame f m
@@ -148,8 +147,7 @@ after_full slice m index next code is fits o =
     }
 
 pub to_after : (slice m : List ℕ) (index next code : ℕ) (full : Bool) → index + code ≡ next → code < 255 → (if full then index else next) ≤ length slice → Opened slice m index next full → CobsEncoderAfter slice (at index code full) m
-to_after slice m index next code true is short fits o = after_full slice m index next code is fits o
-to_after slice m index next code false is short fits o = after_open slice m index next code is short fits o
+to_after slice m index next code full h e p q = grind (arith, after_full, after_open)
 
 -- the open frame of a message is its encoded frame, with the lone block behind a last full one
 pub open-same : (f m o : List ℕ) (index code : ℕ) (e : IsEncodedFrame f m) → IsOpenFrame o m index code → o ≡ f ++ (if is_full (last_of e.reads.blocks) then lone_block else [])

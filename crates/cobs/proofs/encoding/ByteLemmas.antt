@@ -29,10 +29,7 @@ module _ (slice m : List ℕ) (r : Reached) (h : CobsEncoderAfter slice r m) (fi
       let after : List ℕ = set slice next byte in
       let l = length-set slice next byte in
       let same : take next after ≡ take next slice = take-set-le next slice next byte (omega arith) in
-      let here : take 1 (drop next after) ≡ byte ∷ [] = ap (take 1) (drop-set slice next byte fits) in
-      let more : HasNoZero (byte ∷ []) = All-cons (λ b. b ≢ 0) byte [] nz (All-nil (λ b. b ≢ 0)) in
-      Opened-join after m (byte ∷ []) r.block.index next r.full (λ e. let z = ap length e in absurd (omega arith)) more (omega arith) (omega arith) here
-      (Opened-same slice after m r.block.index next r.full same opened)
+      grind (arith, drop-set, All-cons, All-nil, Opened-join, Opened-same, opened)
 
 pub after-byte : (slice m : List ℕ) (r : Reached) (byte : ℕ) → CobsEncoderAfter slice r m → byte ≢ 0 → r.block.code < 254 → next_of r < length slice
     → CobsEncoderAfter (set slice (next_of r) byte) (place_at r.block.index (r.block.code + 1) false) (m ++ byte ∷ [])
@@ -52,9 +49,7 @@ after-filled slice m r byte h nz is fits =
     let o = joined slice m r h fits byte nz (omega arith) in
     let closed = Opened-close after (m ++ byte ∷ []) r.block.index (next + 1) 255 false (omega arith) (omega arith) o in
     let sum : next + 1 ≡ r.block.index + 255 = omega arith in
-    let c = subst (λ (n : ℕ). Opened (set after r.block.index 255) ((m ++ byte ∷ []) ++ []) n (n + 1) true) sum closed in
-    to_after (set after r.block.index 255) (m ++ byte ∷ []) (r.block.index + 255) (r.block.index + 255 + 1) 1 true refl (omega arith) (omega arith)
-    (subst (λ (x : List ℕ). Opened (set after r.block.index 255) x (r.block.index + 255) (r.block.index + 255 + 1) true) (append-nil (m ++ byte ∷ [])) c)
+    grind (arith, to_after, append-nil)
 
 -- a zero closes the block
 pub after-zero : (slice m : List ℕ) (r : Reached) → CobsEncoderAfter slice r m → next_of r < length slice
@@ -65,7 +60,4 @@ after-zero slice m r h fits =
     let l = length-set slice r.block.index code in
     let other : (code == 255) ≡ false = ne_eqb code 255 (λ e. omega arith) in
     let closed = Opened-close slice m r.block.index (next_of r) code r.full (omega arith) refl (opened slice m r h fits) in
-    let goes : m ++ joint (code ∷ []) ≡ m ++ 0 ∷ [] = ap (λ (b : Bool). m ++ (if b then [] else 0 ∷ [])) other in
-    to_after after (m ++ 0 ∷ []) (next_of r) (next_of r + 1) 1 false refl (omega arith) (omega arith)
-    (subst (λ (x : List ℕ). Opened after x (next_of r) (next_of r + 1) false) goes
-    (subst (λ (b : Bool). Opened after (m ++ joint (code ∷ [])) (next_of r) (next_of r + 1) b) other closed))
+    grind (arith, to_after)

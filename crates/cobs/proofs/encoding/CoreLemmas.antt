@@ -34,8 +34,7 @@ core-noted source old r index next full is ordered short =
     (λ m h. subst (λ (n : ℕ). Opened old m index n full) sum (from_after old m (at index (next - index) full) (subst (λ (x : Reached). CobsEncoderAfter old x m) (sym is) h)))
 
 ends-within : (full : Bool) (index next n : ℕ) → index < next → next ≤ n → (if full then index else next) ≤ n
-ends-within true index next n ordered le = omega arith
-ends-within false index next n ordered le = le
+ends-within full index next n h e = grind arith
 
 -- so far, of the bytes that were taken
 pub after-so-far : (H : List ℕ → Type 0) (source old slice : List ℕ) (end pos index next : ℕ) (full : Bool) → Reaches H source old slice end pos index next (λ noted. noted ≡ full) → next < index + 255 → end ≤ length slice
@@ -43,8 +42,7 @@ pub after-so-far : (H : List ℕ → Type 0) (source old slice : List ℕ) (end 
 after-so-far H source old slice end pos index next full r short fits m h =
     let t = r.taken m h in
     let l = least source end pos index next r.ordered r.within r.room in
-    to_after slice (m ++ take pos source) index next (next - index) full (omega arith) (omega arith) (ends-within full index next (length slice) r.ordered (omega arith))
-    (subst (λ (b : Bool). Opened slice (m ++ take pos source) index next b) t.1 t.2)
+    grind (arith, to_after, ends-within)
 
 -- the last byte of the source filled its block
 module _ (H : List ℕ → Type 0) (source old slice : List ℕ) (end pos index : ℕ) (r : Reaches H source old slice end pos index (index + 255) (λ _. Unit {0})) (fits : end ≤ length slice) (last : pos ≡ length source) where
@@ -77,14 +75,7 @@ module _ (slice m : List ℕ) (r : Reached) (h : CobsEncoderAfter slice r m) whe
       let long : length h.frame ≡ next_of r = length-frame ∙ ap (λ (b : Bool). if b then r.block.index else next_of r) open' in
       let o = h.follows.1 in
       let same : h.follows.0 ≡ h.frame = open-same h.frame m h.follows.0 r.block.index r.block.code h.encoded o ∙ ap (λ (b : Bool). h.frame ++ (if b then lone_block else [])) (sym h.noted ∙ open') ∙ append-nil h.frame in
-      let whole : h.frame ≡ concat o.front ++ r.block.code ∷ o.bytes =
-      sym same ∙ o.frame.whole ∙ concat-append o.front ((r.block.code ∷ o.bytes) ∷ []) ∙ ap (λ (x : List ℕ). concat o.front ++ x) (append-nil (r.block.code ∷ o.bytes)) in
-      let own : set h.frame r.block.index r.block.code ≡ h.frame =
-      ap (λ (x : List ℕ). set x r.block.index r.block.code) whole ∙ set_at (concat o.front) r.block.code o.bytes r.block.code r.block.index (sym o.begins) ∙ sym whole in
-      let is : take (next_of r) (set slice r.block.index r.block.code) ≡ h.frame =
-      take-set-lt (next_of r) slice r.block.index r.block.code (omega arith) ∙ ap (λ (n : ℕ). set (take n slice) r.block.index r.block.code) (sym long)
-      ∙ ap (λ (x : List ℕ). set x r.block.index r.block.code) h.begins.1 ∙ set-set h.frame r.block.index h.begins.0 r.block.code ∙ own in
-      subst (λ (f : List ℕ). IsEncodedFrame f m) (sym is) h.encoded
+      grind (arith, concat-append, append-nil, set_at, take-set-lt, set-set)
 
 -- the encoder that has taken nothing
 pub after-nothing : (slice : List ℕ) → 0 < length slice → CobsEncoderAfter slice (at 0 1 false) []

@@ -91,22 +91,7 @@ module _ (H : List ℕ → Type 0) (source old slice after : List ℕ) (end read
 
   pub marks-start : (zeros : ℕ) → len ≤ 32 → zeros ≡ zero_mask (take len (drop read source)) → 0 < len → min (count_trailing_zeros 64 zeros) len < index + 255 - next → Marks H source old after end read len index next zeros
   marks-start zeros few bits some open' =
-      let d : ℕ = index + 1 - next in
-      let none : d ≡ 0 = omega arith in
-      let all : len ≡ len - d = omega arith in
-      let p : read ≡ read + d = omega arith in
-      let n : next ≡ next + d = omega arith in
-      let window : take len (drop read source) ≡ take (len - d) (drop (read + d) source) = ap (λ (k : ℕ). take k (drop read source)) all ∙ ap (λ (k : ℕ). take (len - d) (drop k source)) p in
-      record {
-        seen = omega arith;
-        some = some;
-        few = few;
-        inside = inside;
-        here = ap (λ (k : ℕ). take k (drop (next + d) after)) (sym all) ∙ ap (λ (k : ℕ). take len (drop k after)) (sym n) ∙ copied-here ∙ window;
-        bits = bits ∙ ap zero_mask window ∙ ap (λ (k : ℕ). mask_behind k (take (len - d) (drop (read + d) source))) (sym none);
-        short = omega arith;
-        reaches = Reaches-at H source old after end read index next (λ _. Unit {0}) (λ full. 0 < d → full ≡ false) after (read + d) index (next + d) refl p refl n (λ full u lt. absurd (omega arith)) copied-reaches;
-      }
+      grind (arith, copied-here, mask_behind, Reaches-at, copied-reaches)
 
 -- a code at the next zero
 module _ (H : List ℕ → Type 0) (source old slice : List ℕ) (end read len index next zeros d : ℕ) (s : MarksAt H source old slice end read len index next zeros d) (some : zeros ≢ 0) where
@@ -191,8 +176,7 @@ pub record WindowTaken (H : List ℕ → Type 0) (source old slice : List ℕ) (
 
 pub WindowTaken-at : (H : List ℕ → Type 0) (source old slice slice' : List ℕ) (end read len index index' next : ℕ) → slice ≡ slice' → index ≡ index' → WindowTaken H source old slice end read len index next
     → WindowTaken H source old slice' end read len index' next
-WindowTaken-at H source old slice slice' end read len index index' next s i w =
-    subst (λ (x : List ℕ). WindowTaken H source old x end read len index' next) s (subst (λ (n : ℕ). WindowTaken H source old slice end read len n next) i w)
+WindowTaken-at H source old slice slice' end read len index index' next s i w = grind arith
 
 -- no zero is left in the window
 pub marks-end : (H : List ℕ → Type 0) (source old slice : List ℕ) (end read len index next zeros d : ℕ) → MarksAt H source old slice end read len index next zeros d → zeros ≡ 0 → end ≤ length slice
@@ -203,11 +187,7 @@ marks-end H source old slice end read len index next zeros d s none fits =
     let sum' : next + d + (len - d) ≡ next + len = omega arith in
     let nonzero = mask_behind-none d (take (len - d) (drop (read + d) source)) (sym s.bits ∙ none) in
     let joined = Reaches-join H source old slice end (read + d) index (next + d) (λ full. 0 < d → full ≡ false) IsNotFull (len - d) (omega arith) (omega arith) fits nonzero s.here (λ full z p. p (omega arith)) (λ z. refl) s.reaches in
-    record {
-      ordered = omega arith;
-      open' = omega arith;
-      reaches = Reaches-at H source old slice end (read + d + (len - d)) index (next + d + (len - d)) IsNotFull IsNotFull slice (read + len) index (next + len) refl sum refl sum' (λ full p. p) joined;
-    }
+    grind (arith, Reaches-at, joined)
 
 -- n zeros, in whose place ones stand
 pub row-taken : (H : List ℕ → Type 0) (source old slice after : List ℕ) (end read n index next : ℕ) → Reaches H source old slice end read index next (λ _. Unit {0}) → end ≤ length slice → 0 < n → read + n ≤ length source

@@ -46,14 +46,7 @@ frame_of bs cs b h i = record { some = append-some bs b cs; each = All-append Is
 
 -- the open frame of the empty message
 pub IsOpenFrame-start : IsOpenFrame lone_block [] 0 1
-IsOpenFrame-start = record {
-  front = [];
-  bytes = [];
-  frame = frame_of [] [] lone_block (All-nil IsBlock) (All-cons IsBlock lone_block [] lone_block-is_block (All-nil IsBlock));
-  message = refl;
-  begins = refl;
-  not_full = omega arith;
-}
+IsOpenFrame-start = grind (arith, frame_of, All-nil, All-cons, lone_block-is_block)
 
 -- what a byte makes of an open frame f, and of a list g that is f but for the code of the open block
 module _ (m f g : List ℕ) (index code : ℕ) (o : IsOpenFrame f m index code) (same : AgreeOutside index f g) where

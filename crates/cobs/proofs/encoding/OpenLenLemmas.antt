@@ -11,8 +11,7 @@ use Rattle.cobs.proofs.encoding.OpenLemmas.{append-some}
 use Rattle.cobs.proofs.encoding.OpenedLemmas.{Opened, ends_in_full}
 
 pub same_lengths : (a b : List ℕ) (parts : List (List ℕ)) → length a ≡ length b → map length (onto_parts a parts) ≡ map length (onto_parts b parts)
-same_lengths a b [] e = ap (λ (n : ℕ). n ∷ []) e
-same_lengths a b (p ∷ ps) e = ap (λ (n : ℕ). n ∷ map length ps) (let l = length-append a p in let k = length-append b p in omega arith)
+same_lengths a b parts h = grind (arith, length-append)
 
 -- which nonzero bytes begin a message is no matter
 pub same_start : (a b t : List ℕ) → HasNoZero a → HasNoZero b → length a ≡ length b → encoded_len (a ++ t) ≡ encoded_len (b ++ t)

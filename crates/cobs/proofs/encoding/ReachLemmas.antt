@@ -26,39 +26,14 @@ least source end pos index next ordered within room = grind (arith, length-drop,
 module _ (H : List ℕ → Type 0) (source old slice : List ℕ) (end pos index next : ℕ) (P Q : Bool → Type 0) where
   -- the same places, by other names
   pub Reaches-at : (slice' : List ℕ) (pos' index' next' : ℕ) → slice ≡ slice' → pos ≡ pos' → index ≡ index' → next ≡ next' → ((full : Bool) → P full → Q full) → Reaches H source old slice end pos index next P → Reaches H source old slice' end pos' index' next' Q
-  Reaches-at slice' pos' index' next' s p i n weaker r =
-      subst (λ (x : List ℕ). Reaches H source old x end pos' index' next' Q) s
-      (subst (λ (x : ℕ). Reaches H source old slice end x index' next' Q) p
-      (subst (λ (x : ℕ). Reaches H source old slice end pos x next' Q) i
-      (subst (λ (x : ℕ). Reaches H source old slice end pos index x Q) n (record {
-        ordered = r.ordered;
-        short = r.short;
-        within = r.within;
-        room = r.room;
-        rest = r.rest;
-        taken = λ m h. let t = r.taken m h in (t.0, weaker t.0 t.1, t.2);
-      }))))
+  Reaches-at slice' pos' index' next' s p i n weaker r = grind arith
 
   -- other bytes behind
   pub Reaches-same : (slice' : List ℕ) → take next slice' ≡ take next slice → drop end slice' ≡ drop end slice → Reaches H source old slice end pos index next P → Reaches H source old slice' end pos index next P
-  Reaches-same slice' front back r = record {
-    ordered = r.ordered;
-    short = r.short;
-    within = r.within;
-    room = r.room;
-    rest = back ∙ r.rest;
-    taken = λ m h. let t = r.taken m h in (t.0, t.1, Opened-same slice slice' (m ++ take pos source) index next t.0 front t.2);
-  }
+  Reaches-same slice' front back r = grind (arith, Opened-same)
 
   pub Reaches-same-empty : (slice' : List ℕ) → next ≡ index + 1 → take index slice' ≡ take index slice → drop end slice' ≡ drop end old → Reaches H source old slice end pos index next P → Reaches H source old slice' end pos index next P
-  Reaches-same-empty slice' empty front back r = record {
-    ordered = r.ordered;
-    short = r.short;
-    within = r.within;
-    room = r.room;
-    rest = back;
-    taken = λ m h. let t = r.taken m h in (t.0, t.1, Opened-same-empty slice slice' (m ++ take pos source) index next t.0 empty front t.2);
-  }
+  Reaches-same-empty slice' empty front back r = grind (arith, Opened-same-empty)
 
   -- k bytes that stand in place join the open block
   pub Reaches-join : (k : ℕ) → pos + k ≤ length source → next + k ≤ index + 255 → end ≤ length slice → HasNoZero (take k (drop pos source)) → take k (drop next slice) ≡ take k (drop pos source)
@@ -139,25 +114,11 @@ module _ (H : List ℕ → Type 0) (source old slice : List ℕ) (end pos index 
 
   pub Reaches-full : pos < length source → next ≡ index + 255 → end ≤ length slice → Q true → Reaches H source old slice end pos index next P → Reaches H source old (set slice index 255) end pos next (next + 1) Q
   Reaches-full more full fits is_full r =
-      let l = length-drop pos source in
-      let some : drop pos source ≢ [] = λ e. let z = ap length e in omega arith in
-      let full_len = open_len-full (next - index) (drop pos source) (omega arith) some in
-      let one : next + 1 - next ≡ 1 = omega arith in
-      record {
-        ordered = omega arith;
-        short = omega arith;
-        within = r.within;
-        room = ap (λ (n : ℕ). next + open_len n (drop pos source)) one ∙ (let e = r.room in let s : next + open_len 1 (drop pos source) ≡ end = omega arith in s);
-        rest = drop-set-lt end slice index 255 (omega arith) ∙ r.rest;
-        taken = λ m h. (true, is_full, full-taken full (omega arith) r m h);
-      }
+      grind (arith, length-drop, open_len-full, drop-set-lt, full-taken)
 
   -- the last byte fills the block
   pub ends-full : pos ≡ length source → next ≡ index + 255 → Reaches H source old slice end pos index next P → end ≡ next
-  ends-full last full r =
-      let none : drop pos source ≡ [] = drop_all pos source (omega arith) in
-      let s = ap (open_len (next - index)) none ∙ open_len-end (next - index) (omega arith) (omega arith) in
-      omega arith
+  ends-full last full r = grind (arith, drop_all, open_len-end)
 
   all-taken : pos ≡ length source → take pos source ≡ source
   all-taken last = take_all pos source (omega arith)
@@ -170,27 +131,15 @@ module _ (H : List ℕ → Type 0) (source old slice : List ℕ) (end pos index 
 
   -- the last byte leaves the block open
   pub ends-open : pos ≡ length source → Reaches H source old slice end pos index next P → end ≡ next
-  ends-open last r =
-      let none : drop pos source ≡ [] = drop_all pos source (omega arith) in
-      let k = ap (open_len (next - index)) none ∙ open_len-end (next - index) (omega arith) (omega arith) in
-      omega arith
+  ends-open last r = grind (arith, drop_all, open_len-end)
 
   pub taken-open : pos ≡ length source → ((full : Bool) → P full → full ≡ false) → Reaches H source old slice end pos index next P → (m : List ℕ) → H m → Opened slice (m ++ source) index next false
-  taken-open last not_full r m h =
-      let t = r.taken m h in
-      subst (λ (x : List ℕ). Opened slice (m ++ x) index next false) (all-taken last) (subst (λ (b : Bool). Opened slice (m ++ take pos source) index next b) (not_full t.0 t.1) t.2)
+  taken-open last not_full r m h = grind (arith, all-taken)
 
 -- where the core begins, with what is noted of the last block
 pub Reaches-noted : (H : List ℕ → Type 0) (source old : List ℕ) (end index next : ℕ) (full : Bool) → index < next → next < index + 255 → index + open_len (next - index) source ≡ end
     → ((m : List ℕ) → H m → Opened old m index next full) → Reaches H source old old end 0 index next (λ noted. noted ≡ full)
-Reaches-noted H source old end index next full ordered short room opens = record {
-  ordered = ordered;
-  short = omega arith;
-  within = omega arith;
-  room = room;
-  rest = refl;
-  taken = λ m h. (full, refl, subst (λ (x : List ℕ). Opened old x index next full) (sym (append-nil m)) (opens m h));
-}
+Reaches-noted H source old end index next full ordered short room opens = grind (arith, append-nil)
 
 pub Reaches-start : (H : List ℕ → Type 0) (source old : List ℕ) (end index next : ℕ) (full : Bool) → index < next → next < index + 255 → index + open_len (next - index) source ≡ end
     → ((m : List ℕ) → H m → Opened old m index next full) → Reaches H source old old end 0 index next (λ _. Unit {0})

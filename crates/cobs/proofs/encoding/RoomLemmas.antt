@@ -25,13 +25,10 @@ blocks-cons run (p ∷ ps) some = refl
 pub blocks-le : (run : ℕ) (t : List ℕ) → blocks_in (behind run t) ≤ run + length t
 blocks-le run t =
     let most = encoded_len-le (behind run t) in
-    let l = length-append (replicate run 1) t in
-    let k = length-ones run in
-    omega arith
+    grind (arith, length-append, replicate, length-ones)
 
 same_blocks : (a b t : List ℕ) → HasNoZero a → HasNoZero b → length a ≡ length b → blocks_in (a ++ t) ≡ blocks_in (b ++ t)
-same_blocks a b t na nb e =
-    ap (λ ps. full_blocks (map length ps)) (stretches-append a t na) ∙ ap full_blocks (same_lengths a b (stretches t) e) ∙ sym (ap (λ ps. full_blocks (map length ps)) (stretches-append b t nb))
+same_blocks a b t na nb e = grind (arith, stretches-append, same_lengths)
 
 -- nonzero bytes lengthen the run
 pub blocks-more : (run : ℕ) (more t : List ℕ) → HasNoZero more → blocks_in (behind run (more ++ t)) ≡ blocks_in (behind (run + length more) t)
@@ -65,9 +62,7 @@ blocks-skip n (b ∷ bytes) t few =
 pub blocks-none : (run : ℕ) (t : List ℕ) → run + length t < 255 → blocks_in (behind run t) ≡ 0
 blocks-none run t few =
     let most = encoded_len-le (behind run t) in
-    let l = length-append (replicate run 1) t in
-    let k = length-ones run in
-    omega arith
+    grind (arith, length-append, replicate, length-ones)
 
 -- the next bytes of a message
 module _ (source : List ℕ) (read run k : ℕ) where

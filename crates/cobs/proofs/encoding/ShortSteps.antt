@@ -22,15 +22,7 @@ Opened-set : (slice m : List ℕ) (index next byte : ℕ) (full : Bool) → Open
 Opened-set slice m index next byte full o = grind (arith, take-set, take-set-lt, drop-set-lt)
 
 Reaches-set : (H : List ℕ → Type 0) (source old slice : List ℕ) (end pos index next byte : ℕ) (P : Bool → Type 0) → Reaches H source old slice end pos index next P → Reaches H source old (set slice index byte) end pos index next P
-Reaches-set H source old slice end pos index next byte P r =
-    record {
-      ordered = r.ordered;
-      short = r.short;
-      within = r.within;
-      room = r.room;
-      rest = drop-set-lt end slice index byte (omega arith) ∙ r.rest;
-      taken = λ m h. let t = r.taken m h in (t.0, t.1, Opened-set slice (m ++ take pos source) index next byte t.0 t.2);
-    }
+Reaches-set H source old slice end pos index next byte P r = grind (arith, drop-set-lt, Opened-set)
 
 module _ (H : List ℕ → Type 0) (source old slice : List ℕ) (end read len index next zeros : ℕ) (s : Marks H source old slice end read len index next zeros) where
   -- where the next code belongs is within the slice, and no later than the next zero
@@ -87,8 +79,7 @@ module _ (H : List ℕ → Type 0) (source old slice : List ℕ) (end read len i
   window-is : take len (drop read source) ≡ replicate len 0
   window-is =
       let l : length (take len (drop read source)) ≡ len = length-take-le len (drop read source) (let d = length-drop read source in omega arith) in
-      let e : zero_mask (take len (drop read source)) + 1 ≡ 2 ^ length (take len (drop read source)) = ap (λ (n : ℕ). n + 1) (sym bits) ∙ all ∙ ap (λ (n : ℕ). 2 ^ n) (sym l) in
-      zero_mask-all (take len (drop read source)) e ∙ ap (λ (n : ℕ). replicate n 0) l
+      grind (arith, zero_mask-all, replicate)
 
   some_bits : zeros ≢ 0
   some_bits e = let most : 2 ^ 1 ≤ 2 ^ len = pow-le-pow_right {n = 2} (omega arith) {i = 1} {j = len} some in omega arith

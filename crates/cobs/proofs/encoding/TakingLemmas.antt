@@ -17,8 +17,7 @@ no-bytes [] e = refl
 no-bytes (b ∷ bytes) e = absurd (omega arith)
 
 pub after-some : (r : Reached) (bytes : List ℕ) → 0 < length bytes → end_after r bytes ≡ r.block.index + open_len r.block.code bytes
-after-some r [] some = absurd (omega arith)
-after-some r (b ∷ bytes) some = refl
+after-some r bytes h = grind arith
 
 -- how long the frame is once the encoder has taken these bytes too
 pub after-end : (slice m bytes : List ℕ) (r : Reached) → CobsEncoderAfter slice r m → encoded_len (m ++ bytes) ≡ end_after r bytes
@@ -26,8 +25,7 @@ after-end slice m [] r h = ap encoded_len (append-nil m) ∙ end-is slice m r h
 after-end slice m (b ∷ bytes) r h = after-len slice m (b ∷ bytes) r (λ e. cc) h
 
 pub start-end : (bytes : List ℕ) → end_after (at 0 1 false) bytes ≡ encoded_len bytes
-start-end [] = refl
-start-end (b ∷ bytes) = omega arith
+start-end bytes = grind arith
 
 pub place-index : (n : ℕ) (r : Reached) → IsPlaceIn n r → r.block.index ≤ n
 place-index n r p = grind (arith, cases_Bool)

@@ -74,5 +74,4 @@ pub short-frame : (code : ℕ) (bytes : List ℕ) → length bytes + 1 < code �
 unfolding parts parts_after
 short-frame code bytes short frame =
     let each : All IsBlock (parts (code ∷ bytes)) = subst (All IsBlock) (sym (parts-frame (code ∷ bytes) frame.1.blocks frame.1.frame)) frame.1.frame.each in
-    let first = All-head IsBlock (code ∷ take (code - 1) bytes) (parts_after (code - 1) bytes) each in
-    omega (arith, first.0, length-take (code - 1) bytes)
+    grind (arith, All-head, length-take)

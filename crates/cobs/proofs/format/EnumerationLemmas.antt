@@ -31,9 +31,7 @@ last_run-zero bytes m h = ap (λ ps. last_number (map length ps)) (slice_split_a
 
 -- nonzero bytes in front of a message lengthen its last run, or leave it
 last-onto_parts : (bytes : List ℕ) (ps : List (List ℕ)) → ps ≢ [] → (last_number (map length (onto_parts bytes ps)) ≡ last_number (map length ps)) ⊎ ((last_number (map length (onto_parts bytes ps)) ≡ length bytes + last_number (map length ps)) × (length (join_with_byte 0 ps) ≡ last_number (map length ps)))
-last-onto_parts bytes [] some = absurd (some refl)
-last-onto_parts bytes (p ∷ []) some = inr (length-append bytes p, refl)
-last-onto_parts bytes (p ∷ q ∷ ps) some = inl refl
+last-onto_parts bytes ps h = grind (arith, length-append)
 
 last_run-append : (bytes m : List ℕ) → HasNoZero bytes → (last_run (bytes ++ m) ≡ last_run m) ⊎ ((last_run (bytes ++ m) ≡ length bytes + last_run m) × (length m ≡ last_run m))
 last_run-append bytes m h =
@@ -176,8 +174,7 @@ open_reads f m index code o = record { blocks = o.front ++ (code ∷ o.bytes) �
 open_full : (f m : List ℕ) (index code : ℕ) → IsOpenFrame f m index code → IsEncodedFrame f m → EndsInFullRun m → ⊥
 open_full f m index code o e x =
     let full = (ends_in_full f m (record { reads = open_reads f m index code o; canonical = e.canonical })).1 x in
-    let code-is : code ≡ 255 = eqb-true code 255 (subst IsFull (last_of-push o.front (code ∷ o.bytes)) full) in
-    omega arith
+    grind (arith, eqb-true, last_of-push)
 
 pub open_shorter : (f m : List ℕ) (index code : ℕ) → IsOpenFrame f m index code → (EndsInFullRun m → ⊥) → IsEncodedFrame f m
 open_shorter f m index code o other = ⊎_elim (λ e. e) (λ w. absurd (other w.0)) (frames_of f m (open_reads f m index code o))

@@ -48,8 +48,7 @@ parts-some [] some = absurd (some refl)
 parts-some (c ∷ p) some = parts_after-some 0 (c ∷ p) (omega arith)
 
 pub last_of-cons : (xs : List ℕ) (more : List (List ℕ)) → more ≢ [] → last_of (xs ∷ more) ≡ last_of more
-last_of-cons xs [] some = absurd (some refl)
-last_of-cons xs (next ∷ more) some = refl
+last_of-cons xs more h = grind arith
 
 pub last_of-push : (xs : List (List ℕ)) (x : List ℕ) → last_of (xs ++ x ∷ []) ≡ x
 last_of-push [] x = refl
@@ -61,8 +60,7 @@ last_of-push (y ∷ z ∷ xs) x = last_of-push (z ∷ xs) x
 -- a block in front is the first part
 pub parts-block : (block rest : List ℕ) → IsBlock block → parts (block ++ rest) ≡ block ∷ parts rest
 unfolding parts parts_after
-parts-block [] rest h = absurd h
-parts-block (c ∷ bytes) rest h = grind (arith, take_at, parts_after-skip)
+parts-block block rest h = grind (arith, take_at, parts_after-skip)
 
 pub parts-blocks : (blocks : List (List ℕ)) → All IsBlock blocks → parts (concat blocks) ≡ blocks
 unfolding parts parts_after
@@ -74,8 +72,7 @@ parts-frame f blocks frame = ap parts frame.whole ∙ parts-blocks blocks frame.
 
 -- a block lacks nothing
 lacks-block : (block : List ℕ) → IsBlock block → lacks block ≡ 0
-lacks-block [] h = absurd h
-lacks-block (c ∷ bytes) h = let e = h.0 in omega arith
+lacks-block block h = grind arith
 
 lacks-last : (blocks : List (List ℕ)) → All IsBlock blocks → lacks (last_of blocks) ≡ 0
 lacks-last [] h = refl
@@ -86,13 +83,11 @@ lacks-last (block ∷ next ∷ blocks) h = lacks-last (next ∷ blocks) (All-tai
 
 pub whole_from : (p : List ℕ) → p ≢ [] → lacks (last_part p) ≡ 0 → IsWhole p
 unfolding is_whole
-whole_from [] some h = absurd (some refl)
-whole_from (c ∷ p) some h = eq-eqb (lacks (last_part (c ∷ p))) 0 h
+whole_from p h e = grind (arith, eq-eqb)
 
 pub lacks_nothing : (p : List ℕ) → IsWhole p → lacks (last_part p) ≡ 0
 unfolding is_whole
-lacks_nothing [] h = absurd (true≢false (sym h))
-lacks_nothing (c ∷ p) h = eqb-true (lacks (last_part (c ∷ p))) 0 h
+lacks_nothing p h = grind (arith, true≢false, eqb-true)
 
 -- a part is a block where it lacks nothing
 block_from : (c : ℕ) (q : List ℕ) → HasNoZero (c ∷ q) → c < 256 → length (take (c - 1) q) ≡ c - 1 → IsBlock (c ∷ take (c - 1) q)
@@ -128,8 +123,7 @@ blocks_of_whole p h below whole = blocks_behind 0 p h below (lacks_nothing p who
 -- A FRAME READS AS ITS OUTPUT
 
 block_nonzero : (block : List ℕ) → IsBlock block → HasNoZero block
-block_nonzero [] h = absurd h
-block_nonzero (c ∷ bytes) h = All-cons (λ b. b ≢ 0) c bytes (λ e. let k = h.0 in omega arith) h.2
+block_nonzero block h = grind (arith, All-cons)
 
 concat_nonzero : (blocks : List (List ℕ)) → All IsBlock blocks → HasNoZero (concat blocks)
 concat_nonzero [] h = All-nil (λ b. b ≢ 0)
@@ -175,8 +169,7 @@ All-apart P (x ∷ xs) ys h =
     (All-cons P x xs (All-head P x (xs ++ ys) h) more.0, more.1)
 
 block_bytes : (block : List ℕ) → IsBlock block → All (λ b. b < 256) (bytes_of block) → All (λ b. b < 256) block
-block_bytes [] h below = absurd h
-block_bytes (c ∷ bytes) h below = All-cons (λ b. b < 256) c bytes h.1 below
+block_bytes block h e = grind (arith, All-cons)
 
 blocks_bytes : (blocks : List (List ℕ)) → All IsBlock blocks → All (λ b. b < 256) (message_of blocks) → All (λ b. b < 256) (concat blocks)
 blocks_bytes [] h below = All-nil (λ b. b < 256)

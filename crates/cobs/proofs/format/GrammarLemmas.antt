@@ -63,8 +63,7 @@ IsEncodedFrame-block b h =
 
 -- what blocks stand for, cut behind the first of them
 pub message_of-cons : (b : List ℕ) (bs : List (List ℕ)) → bs ≢ [] → message_of (b ∷ bs) ≡ bytes_of b ++ joint b ++ message_of bs
-message_of-cons b [] some = absurd (some refl)
-message_of-cons b (c ∷ cs) some = refl
+message_of-cons b bs h = grind arith
 
 -- a block in front of a frame
 pub frame-cons : (b f : List ℕ) (bs : List (List ℕ)) → IsBlock b → IsFrameOf f bs → IsFrameOf (b ++ f) (b ∷ bs)

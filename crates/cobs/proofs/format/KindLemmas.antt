@@ -49,19 +49,13 @@ frame_of f c = (message_of c.blocks, record { blocks = c.blocks; frame = c.frame
 -- and each of the three says it alone
 module _ (f : List ℕ) where
   pub says_not : (kind : FrameKind) → IsKindOf kind f → (kind ≡ NotAFrame) ↔ ¬ IsFrame f
-  says_not NotAFrame is = (λ _. is, λ _. refl)
-  says_not Canonical is = (λ e. cc, λ none. absurd (none (frame_of f is)))
-  says_not Longer is = (λ e. cc, λ none. absurd (none is.0))
+  says_not kind h = grind (arith, frame_of)
 
   pub says_canonical : (kind : FrameKind) → IsKindOf kind f → (kind ≡ Canonical) ↔ IsCanonical f
-  says_canonical NotAFrame is = (λ e. cc, λ c. absurd (is (frame_of f c)))
-  says_canonical Canonical is = (λ _. is, λ _. refl)
-  says_canonical Longer is = (λ e. cc, λ c. absurd (is.1 c))
+  says_canonical kind h = grind (arith, frame_of)
 
   pub says_longer : (kind : FrameKind) → IsKindOf kind f → (kind ≡ Longer) ↔ (IsFrame f × ¬ IsCanonical f)
-  says_longer NotAFrame is = (λ e. cc, λ both. absurd (is both.0))
-  says_longer Canonical is = (λ e. cc, λ both. absurd (both.1 is))
-  says_longer Longer is = (λ _. is, λ _. refl)
+  says_longer kind h = grind arith
 
 -- LISTS THAT ARE NO FRAMES
 

@@ -34,12 +34,10 @@ onto_parts a [] = a ∷ []
 onto_parts a (p ∷ ps) = (a ++ p) ∷ ps
 
 onto_more : (x : ℕ) (a : List ℕ) (ps : List (List ℕ)) → onto_first x (onto_parts a ps) ≡ onto_parts (x ∷ a) ps
-onto_more x a [] = refl
-onto_more x a (p ∷ ps) = refl
+onto_more x a ps = grind arith
 
 onto_none : (ps : List (List ℕ)) → ps ≢ [] → onto_parts [] ps ≡ ps
-onto_none [] some = absurd (some refl)
-onto_none (p ∷ ps) some = refl
+onto_none ps h = grind arith
 
 -- nonzero bytes lengthen the first stretch
 pub stretches-append : (bytes m : List ℕ) → HasNoZero bytes → stretches (bytes ++ m) ≡ onto_parts bytes (stretches m)
@@ -58,9 +56,7 @@ full_more bytes (p ∷ q ∷ ps) l some more = let n = length-append bytes p in 
 pub encoded_len-full : (bytes m : List ℕ) → length bytes ≡ 254 → HasNoZero bytes → m ≢ [] → encoded_len (bytes ++ m) ≡ 255 + encoded_len m
 encoded_len-full bytes m l h more =
     let joined = join_with_byte-slice_split 0 m in
-    let blocks : full_blocks (runs (bytes ++ m)) ≡ 1 + full_blocks (runs m) = ap (λ ps. full_blocks (map length ps)) (stretches-append bytes m h) ∙ full_more bytes (stretches m) l (some_stretch m) (λ e. more (sym joined ∙ e)) in
-    let all = length-append bytes m in
-    omega arith
+    grind (arith, stretches-append, full_more, some_stretch, length-append)
 
 full_blocks-le : (parts : List (List ℕ)) → full_blocks (map length parts) + 1 ≤ max_overhead (length (join_with_byte 0 parts))
 full_blocks-le [] = omega arith
@@ -107,5 +103,4 @@ module _ (source : List ℕ) (read len : ℕ) (short : len ≤ length (drop read
       let l = length-drop read source in
       let b = length-take-le len rest short in
       let parts : take len rest ++ drop (read + len) source ≡ rest = ap (λ (x : List ℕ). take len rest ++ x) (sym (drop-drop len read source)) ∙ take-append-drop len rest in
-      let some : drop (read + len) source ≢ [] = λ none. more (let m = length-drop (read + len) source in let z = ap length none in omega arith) in
-      sym (ap encoded_len parts) ∙ encoded_len-full (take len rest) (drop (read + len) source) (omega arith) nonzero some
+      grind (arith, length-drop, encoded_len-full)

@@ -26,8 +26,7 @@ stretches-nonzero : (b : ℕ) (t : List ℕ) → b ≢ 0 → stretches (b ∷ t)
 stretches-nonzero b t h = slice_split-cons_no is_zero b t (ne_eqb b 0 h)
 
 length-onto_first : (b : ℕ) (ss : List (List ℕ)) → 0 < length (onto_first b ss)
-length-onto_first b [] = omega arith
-length-onto_first b (s ∷ ss) = omega arith
+length-onto_first b ss = grind arith
 
 -- a stream has a stretch
 pub length-stretches : (t : List ℕ) → 0 < length (stretches t)
@@ -37,19 +36,15 @@ length-stretches (suc b ∷ t) = rw (stretches-nonzero (suc b) t (λ e. omega ar
 
 but_last-cons : (s : List ℕ) (ss : List (List ℕ)) → 0 < length ss → but_last (s ∷ ss) ≡ s ∷ but_last ss
 unfolding but_last
-but_last-cons s [] h = absurd (omega arith)
-but_last-cons s (n ∷ ss) h = refl
+but_last-cons s ss h = grind arith
 
 last_of-cons : (s : List ℕ) (ss : List (List ℕ)) → 0 < length ss → last_of (s ∷ ss) ≡ last_of ss
-last_of-cons s [] h = absurd (omega arith)
-last_of-cons s (n ∷ ss) h = refl
+last_of-cons s ss h = grind arith
 
 onto_first-append : (b : ℕ) (u : List ℕ) (ss : List (List ℕ)) → b ≢ 0 → 0 < length ss
     → onto_first b (but_last ss ++ stretches (last_of ss ++ u)) ≡ but_last (onto_first b ss) ++ stretches (last_of (onto_first b ss) ++ u)
 unfolding but_last
-onto_first-append b u [] h l = absurd (omega arith)
-onto_first-append b u (s ∷ []) h l = sym (stretches-nonzero b (s ++ u) h)
-onto_first-append b u (s ∷ n ∷ ss) h l = refl
+onto_first-append b u ss h e = grind (arith, stretches-nonzero)
 
 -- the stretches of a stream in two parts: the last stretch of the first goes on in the second
 pub stretches-append : (t u : List ℕ) → stretches (t ++ u) ≡ but_last (stretches t) ++ stretches (last_of (stretches t) ++ u)
@@ -123,16 +118,14 @@ outcomes_at (c ∷ p) b n = cond (eqb b 0) (outcome_of (c ∷ p) n ∷ []) []
 -- a piece and its zero
 pub stream_outcomes-piece : (p : List ℕ) (n : ℕ) → HasNoZero p → stream_outcomes (p ++ 0 ∷ []) n ≡ outcomes_at p 0 n
 unfolding stream_outcomes ended_pieces but_last
-stream_outcomes-piece [] n h = refl
-stream_outcomes-piece (c ∷ p) n h = ap (λ (x : List (List ℕ)). map (λ p. outcome_of p n) (filter is_nonempty (but_last x))) (stretches-piece (c ∷ p) [] h)
+stream_outcomes-piece p n h = grind (arith, filter, stretches-piece)
 
 unended-piece : (p : List ℕ) → HasNoZero p → unended (p ++ 0 ∷ []) ≡ []
 unfolding unended
 unended-piece p h = ap last_of (stretches-piece p [] h)
 
 pub outcomes_at-nonzero : (p : List ℕ) (b n : ℕ) → b ≢ 0 → outcomes_at p b n ≡ []
-outcomes_at-nonzero [] b n h = refl
-outcomes_at-nonzero (c ∷ p) b n h = ap (λ (x : Bool). cond x (outcome_of (c ∷ p) n ∷ []) []) (ne_eqb b 0 h)
+outcomes_at-nonzero p b n h = grind (arith, ne_eqb)
 
 push_outcomes : (p : List ℕ) (b n : ℕ) → HasNoZero p → stream_outcomes (p ++ b ∷ []) n ≡ outcomes_at p b n
 push_outcomes p zero n h = stream_outcomes-piece p n h
@@ -145,9 +138,7 @@ push_unended p (suc b) h = unended-no_zero (p ++ suc b ∷ []) (All-push (λ x. 
 -- WHAT IS UNENDED HAS NO ZERO
 
 last_of-onto_first : (b : ℕ) (ss : List (List ℕ)) → b ≢ 0 → 0 < length ss → HasNoZero (last_of ss) → HasNoZero (last_of (onto_first b ss))
-last_of-onto_first b [] h l z = absurd (omega arith)
-last_of-onto_first b (s ∷ []) h l z = All-cons (λ x. x ≢ 0) b s h z
-last_of-onto_first b (s ∷ n ∷ ss) h l z = z
+last_of-onto_first b ss h e p = grind (arith, All-cons)
 
 last_no_zero : (t : List ℕ) → HasNoZero (last_of (stretches t))
 last_no_zero [] = All-nil (λ x. x ≢ 0)
@@ -178,8 +169,7 @@ nonempty-push (c ∷ p) b = refl
 
 -- something is unended behind a byte exactly where the byte is no zero
 pub nonempty-unended_push : (t : List ℕ) (b : ℕ) → not (eqb b 0) ≡ is_nonempty (unended (t ++ b ∷ []))
-nonempty-unended_push t zero = sym (ap is_nonempty (unended-push t 0))
-nonempty-unended_push t (suc b) = ap not (ne_eqb (suc b) 0 (λ e. omega arith)) ∙ sym (ap is_nonempty (unended-push t (suc b) ∙ fed-nonzero (unended t) (suc b) (λ e. omega arith)) ∙ nonempty-push (unended t) (suc b))
+nonempty-unended_push t b = grind (arith, unended-push, ne_eqb, fed-nonzero, nonempty-push)
 
 -- the same, by the last of some bytes behind p
 pub nonempty-unended_last : (p bytes : List ℕ) → 0 < length bytes → not (eqb (get_or bytes (length bytes - 1) 0) 0) ≡ is_nonempty (unended (p ++ bytes))
@@ -193,8 +183,7 @@ nonempty-unended_last p bytes h =
 
 -- nothing is unended at a sentinel
 unended-at_sentinel : (t : List ℕ) → IsAtSentinel t → unended t ≡ []
-unended-at_sentinel t (inl none) = ap unended none ∙ unended-no_zero [] (All-nil (λ x. x ≢ 0))
-unended-at_sentinel t (inr (front, ends)) = ap unended ends ∙ unended-zero front
+unended-at_sentinel t h = grind (arith, unended-no_zero, All-nil, unended-zero)
 
 -- what stands in front of a sentinel, up to the next one, and behind that one has its outcomes by itself
 pub stream_outcomes-apart : (a d z : List ℕ) (n : ℕ) → IsAtSentinel a → stream_outcomes (a ++ d ++ 0 ∷ z) n ≡ stream_outcomes a n ++ stream_outcomes (d ++ 0 ∷ []) n ++ stream_outcomes z n
@@ -207,8 +196,7 @@ stream_outcomes-apart a d z n h =
 
 -- one piece between two sentinels has one outcome
 pub stream_outcomes-one : (d : List ℕ) (n : ℕ) → d ≢ [] → HasNoZero d → stream_outcomes (d ++ 0 ∷ []) n ≡ outcome_of d n ∷ []
-stream_outcomes-one [] n some h = absurd (some refl)
-stream_outcomes-one (c ∷ d) n some h = stream_outcomes-piece (c ∷ d) n h
+stream_outcomes-one d n h e = grind (arith, stream_outcomes-piece)
 
 pub stream_outcomes-nothing : (n : ℕ) → stream_outcomes (0 ∷ []) n ≡ []
 stream_outcomes-nothing n = stream_outcomes-piece [] n (All-nil (λ b. b ≢ 0))

@@ -143,10 +143,7 @@ same_first c d a b bs cs h i e =
     let len : length a ≡ length b = one_first 254 k (length a) (length b) (subst (λ (l : List ℕ). IsFirst 254 l (length a)) e (IsFirst-block c a bs h)) (IsFirst-block d b cs i) in
     let wa = message-first c a bs in let wb = message-first d b cs in
     let front_a : take (length a) m ≡ a = ap (take (length a)) wa.1 ∙ take_at a wa.0 (length a) refl in
-    let front_b : take (length b) k ≡ b = ap (take (length b)) wb.1 ∙ take_at b wb.0 (length b) refl in
-    let x = All-head IsBlock (c ∷ a) bs h in let y = All-head IsBlock (d ∷ b) cs i in
-    let code : c ≡ d = (let p = x.0 in let q = y.0 in omega arith) in
-    cc
+    grind (arith, take_at, All-head)
 
 -- where the first block is the last, canonical blocks have no more
 no_more : (b d : List ℕ) (ds : List (List ℕ)) → All IsBlock (b ∷ d ∷ ds) → IsShorter (b ∷ d ∷ ds) → message_of (b ∷ []) ≡ message_of (b ∷ d ∷ ds) → ⊥

@@ -22,18 +22,10 @@ phase_after-is c q n full left count f l o = grind arith
 
 -- a zero leaves any phase idle, and any buffer as it was
 next_phase-zero : (n : ℕ) (phase : Phase) → next_phase n phase 0 ≡ Idle
-next_phase-zero n Idle = refl
-next_phase-zero n Over = refl
-next_phase-zero n (Within full (suc left) count) = refl
-next_phase-zero n (Within true zero count) = refl
-next_phase-zero n (Within false zero count) = refl
+next_phase-zero n phase = grind arith
 
 next_buffer-zero : (buffer : List ℕ) (phase : Phase) → next_buffer buffer phase 0 ≡ buffer
-next_buffer-zero n Idle = refl
-next_buffer-zero n Over = refl
-next_buffer-zero n (Within full (suc left) count) = refl
-next_buffer-zero n (Within true zero count) = refl
-next_buffer-zero n (Within false zero count) = refl
+next_buffer-zero buffer phase = grind arith
 
 grows-is : (n : ℕ) (full : Bool) (left count : ℕ) → grows n full left count ≡ cond (leb (count + 1) n) (Within full left (count + 1)) Over
 grows-is n full left count = rw add-one refl
@@ -71,16 +63,14 @@ nonzero_step n (c ∷ q) b h = grind (arith, cases_lt, over_phase, nonzero, long
 
 phase-step : (n : ℕ) (p : List ℕ) (b : ℕ) → next_phase n (phase_after p n) b ≡ phase_after (fed p b) n
 unfolding phase_after
-phase-step n p zero = next_phase-zero n (phase_after p n)
-phase-step n p (suc b) = nonzero_step n p (suc b) (omega arith) ∙ ap (λ (x : List ℕ). phase_after x n) (sym (fed-nonzero p (suc b) (λ e. omega arith)))
+phase-step n p b = grind (arith, next_phase-zero, nonzero_step, fed-nonzero)
 
 -- ANSWERS
 
 answer_within : (n c : ℕ) (q : List ℕ) (left : ℕ) → lacks (last_part (c ∷ q)) ≡ left → length (output (c ∷ q)) ≤ n
     → end_answer n (Within (is_full (last_part (c ∷ q))) left (length (output (c ∷ q)))) ≡ answer_at_end (c ∷ q) n
 unfolding answer_at_end outcome_of is_whole
-answer_within n c q zero l fits = grind (arith, cond-true, le-leb)
-answer_within n c q (suc left) l fits = grind (arith, le-leb, nonzero)
+answer_within n c q left h e = grind (arith, cond-true, le-leb, nonzero)
 
 too_long : (c : ℕ) (q : List ℕ) (n : ℕ) → n < length (output (c ∷ q)) → outcome_of (c ∷ q) n ≡ TooLong
 unfolding outcome_of
@@ -88,8 +78,7 @@ too_long c q n more = cond-false _ _ _ (lt-leb _ _ more)
 
 end_answer-is : (n : ℕ) (p : List ℕ) → end_answer n (phase_after p n) ≡ answer_at_end p n
 unfolding phase_after answer_at_end
-end_answer-is n [] = refl
-end_answer-is n (c ∷ q) = grind (arith, cases_lt, over_phase, too_long, fits_phase, answer_within)
+end_answer-is n p = grind (arith, cases_lt, over_phase, too_long, fits_phase, answer_within)
 
 if_over-is : (c : ℕ) (q : List ℕ) (n : ℕ) → if_over (phase_after (c ∷ q) n) ≡ cond (leb (length (output (c ∷ q))) n) (Ok None) (Err TargetBufTooSmall)
 unfolding phase_after
@@ -101,8 +90,7 @@ if_over-push (c ∷ q) b n = if_over-is c (q ++ b ∷ []) n
 
 answer_to-step : (n : ℕ) (p : List ℕ) (b : ℕ) → next_answer n (phase_after p n) b ≡ answer_to p b n
 unfolding answer_to
-answer_to-step n p zero = end_answer-is n p
-answer_to-step n p (suc b) = grind (arith, nonzero, nonzero_step, if_over-push)
+answer_to-step n p b = grind (arith, end_answer-is, nonzero, nonzero_step, if_over-push)
 
 -- BUFFERS
 
@@ -139,11 +127,7 @@ begins-step buffer p zero e = rw (next_buffer-zero buffer (phase_after p (length
 begins-step buffer p (suc b) e = rw (fed-nonzero p (suc b) (λ e. omega arith)) (begins-nonzero buffer p (suc b) (omega arith) e)
 
 length-next_buffer : (buffer : List ℕ) (phase : Phase) (b : ℕ) → length (next_buffer buffer phase b) ≡ length buffer
-length-next_buffer buffer Idle b = refl
-length-next_buffer buffer Over b = refl
-length-next_buffer buffer (Within true zero count) b = refl
-length-next_buffer buffer (Within full (suc left) count) b = elim (eqb b 0) as (λ v. length (cond v buffer (set buffer count b)) ≡ length buffer) [ true ↦ refl | false ↦ length-set buffer count b ]
-length-next_buffer buffer (Within false zero count) b = elim (eqb b 0) as (λ v. length (cond v buffer (set buffer count 0)) ≡ length buffer) [ true ↦ refl | false ↦ length-set buffer count 0 ]
+length-next_buffer buffer phase b = grind (arith, eqb, length-set)
 
 piece-fed : (p : List ℕ) (b : ℕ) → HasNoZero p → HasNoZero (fed p b)
 piece-fed p zero h = All-nil (λ byte. byte ≢ 0)
@@ -173,8 +157,7 @@ untouched_within buffer c q b false zero f l h = grind (arith, output-push_next,
 untouched-step : (buffer p : List ℕ) (b : ℕ) → 0 < b
     → drop (length (output (p ++ b ∷ []))) (next_buffer buffer (phase_after p (length buffer)) b) ≡ drop (length (output (p ++ b ∷ []))) buffer
 unfolding phase_after
-untouched-step buffer [] b h = refl
-untouched-step buffer (c ∷ q) b h = grind (arith, cases_lt, over_phase, fits_phase, untouched_within)
+untouched-step buffer p b h = grind (arith, cases_lt, over_phase, fits_phase, untouched_within)
 
 -- the bytes behind the output stay
 pub PhaseAfter-untouched : (buffer : List ℕ) (phase : Phase) (p : List ℕ) (b : ℕ) → PhaseAfter (length buffer) phase p → b ≢ 0

@@ -37,21 +37,17 @@ answer_is [] m n r fits = absurd ((frame_piece r).0 refl)
 answer_is (b ∷ f) m n r fits = ap told (outcome_frame (b ∷ f) m n r fits)
 
 told_message : (o : Outcome) (n : ℕ) → Ok (Some n) ≡ told o → (m : List ℕ) × (o ≡ Message m) × (n ≡ length m)
-told_message (Message m) n e = (m, refl, cc)
-told_message (Broken count) n e = absurd cc
-told_message TooLong n e = absurd cc
+told_message o n h = grind arith
 
 message_told : (f : List ℕ) (n k : ℕ) → Ok (Some k) ≡ answer_to f 0 n → (m : List ℕ) × (f ≢ []) × (outcome_of f n ≡ Message m) × (k ≡ length m)
 unfolding answer_to answer_at_end
-message_told [] n k e = absurd cc
-message_told (b ∷ f) n k e = let t = told_message (outcome_of (b ∷ f) n) k e in (t.0, (λ none. cc), t.1, t.2)
+message_told f n k h = grind (arith, told_message)
 
 module _ {buffer buffer' f : List ℕ} {phase phase' : Phase} {result : Result (Option ℕ) DecodeError} (w : Feeds buffer phase 0 result buffer' phase') (h : DecoderAfter buffer phase f) where
   stands : (m : List ℕ) → Reads f m → length m ≤ length buffer → take (length m) buffer' ≡ m
   stands m r fits =
       let is = frame_output f m r in
-      let len = ap length is in
-      ap (take (length m)) (w.zero_unchanged refl) ∙ ap (λ (k : ℕ). take k buffer) len ∙ h.begins ∙ take_all (length buffer) (output f) (omega arith) ∙ sym is
+      grind (arith, take_all)
 
   pub fed-reads : (m : List ℕ) → Reads f m → length m ≤ length buffer → (result ≡ Ok (Some (length m))) × (take (length m) buffer' ≡ m)
   fed-reads m r fits = (w.answer f h.phased ∙ answer_is f m (length buffer) r fits, stands m r fits)
@@ -104,8 +100,7 @@ module _ (buffer buffer' f more : List ℕ) (phase phase' : Phase) (idle : phase
       let n = length buffer in
       let o : outcome_at end buffer' ∷ [] ≡ stream_outcomes (take count (f ++ 0 ∷ more)) n = t.takes.outcomes [] after in
       let same : take count (f ++ 0 ∷ more) ≡ f ++ 0 ∷ [] = ap (λ (k : ℕ). take k (f ++ 0 ∷ more)) (count_is end count t) ∙ front_is in
-      let e : outcome_at end buffer' ∷ [] ≡ outcome_of f n ∷ [] = o ∙ ap (λ (x : List ℕ). stream_outcomes x n) same ∙ stream_outcomes-one f n piece.0 piece.1 in
-      cc
+      grind (arith, stream_outcomes-one)
 
   not_none : TakesPiece buffer phase (f ++ 0 ∷ more) None buffer' phase' → ⊥
   not_none t = grind (arith, after, cut, one)
@@ -124,9 +119,7 @@ module _ (buffer buffer' f more : List ℕ) (phase phase' : Phase) (idle : phase
       some end k = Some (end, k)
 
       by_end : (end : PieceEnd) → IsWithin (length buffer) end → outcome_at end buffer' ≡ Message m → count ≡ length f + 1 → (some end count ≡ some (ends.Message (length m)) (length f + 1)) × (take (length m) buffer' ≡ m)
-      by_end (ends.Message n) small e is = grind (arith, length-take-le)
-      by_end (ends.Broken k) small e is = absurd cc
-      by_end ends.TooLong small e is = absurd cc
+      by_end end h e p = grind (arith, length-take-le)
 
   pub taken-only : (n count : ℕ) → TakesPiece buffer phase (f ++ 0 ∷ more) (Some (ends.Message n, count)) buffer' phase' → All (λ b. b < 256) f → Reads f (take n buffer')
   taken-only n count t below = message_reads f (take n buffer') (length buffer) piece below (sym (end_is (ends.Message n) count t))

@@ -47,9 +47,7 @@ module _ (f : List ℕ) (n : ℕ) (piece : IsPiece f) where
 
 -- no error tells of a message
 refused-no_message : (error : DecodeError) (m : List ℕ) → Message m ∷ [] ≡ refused_outcomes error → ⊥
-refused-no_message errors.EmptyFrame m e = cc
-refused-no_message (errors.InvalidFrame count) m e = cc
-refused-no_message errors.TargetBufTooSmall m e = cc
+refused-no_message error m h = grind arith
 
 pushed-no_message : (bytes : List ℕ) (refusal : PushError) (buffer m : List ℕ) → Message m ∷ [] ≡ pushed_outcomes bytes (Err refusal) buffer → ⊥
 pushed-no_message bytes refusal buffer m e = grind (arith, refused-no_message, cases_Bool)
@@ -64,15 +62,11 @@ module _ (buffer bytes buffer' f : List ℕ) (phase phase' : Phase) (idle : phas
       grind (arith, DecoderAfter-idle, one_outcome, no_outcome, cases_lt)
 
   pushes_from : length (output f) ≤ length buffer → (result : Result (Option DecodeReport) PushError) → PushesBytes buffer phase bytes result buffer' phase' → PushesMessage result buffer' m → Reads f m
-  pushes_from fits (Ok None) w h = absurd h
-  pushes_from fits (Err refusal) w h = absurd h
-  pushes_from fits (Ok (Some report)) w h = (outcome_reads f m (length buffer) piece.0 piece.1 below fits).0 (sym (told report w) ∙ ap Message h.1)
+  pushes_from h result e p = grind (arith, outcome_reads, told)
 
   -- where the output doesn't fit, no message is answered
   pushes_long : length buffer < length (output f) → (result : Result (Option DecodeReport) PushError) → PushesBytes buffer phase bytes result buffer' phase' → PushesMessage result buffer' m → ⊥
-  pushes_long more (Ok None) w h = absurd h
-  pushes_long more (Err refusal) w h = absurd h
-  pushes_long more (Ok (Some report)) w h = let e = told report w ∙ outcome_of_long f (length buffer) more in cc
+  pushes_long h result e p = grind (arith, told, outcome_of_long)
 
   pushes_to : length (output f) ≤ length buffer → (result : Result (Option DecodeReport) PushError) → PushesBytes buffer phase bytes result buffer' phase' → Reads f m → PushesMessage result buffer' m
   pushes_to fits (Ok None) w r =

@@ -30,8 +30,7 @@ unfolding ended_pieces unended
 pieces t = ap (filter is_nonempty) (all_but_last (stretches t) (length-stretches t)) ∙ filter-append is_nonempty (but_last (stretches t)) (last_of (stretches t) ∷ [])
 
 last_filtered : (q : List ℕ) → last_of (filter is_nonempty (q ∷ [])) ≡ q
-last_filtered [] = refl
-last_filtered (c ∷ q) = refl
+last_filtered q = grind arith
 
 -- where no piece has ended, the last one is what is unended
 pub last_piece-unended : (t : List ℕ) → ended_pieces t ≡ [] → last_piece t ≡ unended t
@@ -62,26 +61,22 @@ last_piece-zero t none = grind (arith, pieces, unended-zero, append-nil, ended_p
 -- only a zero behind a piece is answered by a message, and it is the output
 message_told : (q : List ℕ) (n k : ℕ) → answer_to q 0 n ≡ Ok (Some k) → (outcomes_at q 0 n ≡ Message (output q) ∷ []) × (k ≡ length (output q)) × (length (output q) ≤ n)
 unfolding answer_to answer_at_end outcome_of
-message_told [] n k e = absurd cc
-message_told (c ∷ q) n k e = grind (arith, leb-true)
+message_told q n k h = grind (arith, leb-true)
 
 -- an error that answers a zero tells the outcome of the piece
 refusal_told : (q : List ℕ) (n : ℕ) (e : DecodeError) → answer_to q 0 n ≡ Err e → outcomes_at q 0 n ≡ refused_outcomes e
 unfolding answer_to answer_at_end outcome_of
-refusal_told [] n e h = absurd cc
-refusal_told (c ∷ q) n e h = grind (arith)
+refusal_told q n e h = grind arith
 
 -- a byte that is no zero is answered by no message
 no_message : (q : List ℕ) (b n k : ℕ) → answer_to q b n ≡ Ok (Some k) → b ≡ 0
 unfolding answer_to
-no_message q zero n k e = refl
-no_message q (suc b) n k e = grind (arith, ne_eqb)
+no_message q b n k h = grind (arith, ne_eqb)
 
 -- a zero that is answered by `Ok(None)` stands behind no piece
 none_at_end : (q : List ℕ) (n : ℕ) → answer_to q 0 n ≡ Ok None → q ≡ []
 unfolding answer_to answer_at_end
-none_at_end [] n e = refl
-none_at_end (c ∷ q) n e = grind arith
+none_at_end q n h = grind arith
 
 -- A PUSH SO FAR
 

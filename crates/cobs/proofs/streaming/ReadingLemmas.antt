@@ -57,8 +57,7 @@ not_idle Over = true
 
 nonempty_phase : (p : List ℕ) (n : ℕ) → is_nonempty p ≡ not_idle (phase_after p n)
 unfolding phase_after not_idle
-nonempty_phase [] n = refl
-nonempty_phase (c ∷ q) n = elim (leb (length (output (c ∷ q))) n) as (λ v. true ≡ not_idle (cond v (Within (is_full (last_part (c ∷ q))) (lacks (last_part (c ∷ q))) (length (output (c ∷ q)))) Over)) [ true ↦ refl | false ↦ refl ]
+nonempty_phase p n = grind (arith, leb, not_idle)
 
 -- a flag that is right behind some front is right behind each front that the decoder has taken
 pub HasTaken-any : (buffer : List ℕ) (phase : Phase) (flag : Bool) (q : List ℕ) → ∥ ((p : List ℕ) × DecoderHasTaken buffer phase flag p) ∥₁ → DecoderAfter buffer phase q → DecoderHasTaken buffer phase flag q
@@ -177,10 +176,7 @@ module _ {S : Type 0} {step : S → Read → S → Type 0} {from to : S} {reader
 -- an outcome is told
 Tells-outcome : (next : Next) (reads : List Read) (t : List ℕ) (reader : ReaderState) (outcome : Outcome)
     → IsOutcome next reader.buffer outcome → EndsFirst t (length reader.buffer) outcome reader.kept → ReaderAfter reader [] → Tells (Ok next) reads t reader
-Tells-outcome (nexts.Message n) reads t reader outcome i w b = (record { first = subst (λ o. EndsFirst t (length reader.buffer) o reader.kept) i.0 w; idle = b }, i.1)
-Tells-outcome (nexts.Broken n) reads t reader outcome i w b = record { first = subst (λ o. EndsFirst t (length reader.buffer) o reader.kept) i w; idle = b }
-Tells-outcome nexts.TooLong reads t reader outcome i w b = record { first = subst (λ o. EndsFirst t (length reader.buffer) o reader.kept) i w; idle = b }
-Tells-outcome (nexts.End unfinished) reads t reader outcome i w b = absurd i
+Tells-outcome next reads t reader outcome h e p = grind arith
 
 -- the first piece that ends in some bytes is told, behind a stream in which none has ended
 Tells-first : (next : Next) (reads : List Read) (t bytes : List ℕ) (reader : ReaderState) → stream_outcomes t (length reader.buffer) ≡ []

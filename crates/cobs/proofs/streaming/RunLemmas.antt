@@ -97,10 +97,7 @@ Pushed-ran {buffer₀} {buffer'} {phase₀} {phase'} bytes buffer phase i m r he
 
 -- a block that lacks bytes, or has written some, is one of a piece
 pub begun : (full : Bool) (left count : ℕ) → 0 < left + count → phase_with full left count ≡ Within full left count
-begun false left count some = refl
-begun true (suc left) count some = refl
-begun true zero (suc count) some = refl
-begun true zero zero some = absurd (omega arith)
+begun full left count h = grind arith
 
 -- bytes of the open block that fit, written behind what was written
 run_written : (full : Bool) (left count run : ℕ) (dest bytes : List ℕ) → 0 < run → run ≤ left → count + run ≤ length dest → run ≤ length bytes → HasNoZero (take run bytes)

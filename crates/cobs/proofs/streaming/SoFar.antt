@@ -28,39 +28,29 @@ SoFar buffer₀ phase₀ buffer phase done found = TakesBytes buffer₀ phase₀
 -- the answer to the zero behind a piece tells its outcome, over a buffer that begins with the output
 told-after : (buffer : List ℕ) (phase : Phase) (p : List ℕ) → DecoderAfter buffer phase p → outcome_told (answer_to p 0 (length buffer)) buffer ≡ outcomes_at p 0 (length buffer)
 unfolding answer_to answer_at_end outcome_of
-told-after buffer phase [] h = refl
-told-after buffer phase (c ∷ q) h = grind (arith, take_all, leb-true)
+told-after buffer phase p h = grind (arith, take_all, leb-true)
 
 -- over any buffer of that length it tells it but for the bytes of the message
 told-phased : (buffer p : List ℕ) → AreAlikeAtFirst (outcome_told (answer_to p 0 (length buffer)) buffer) (outcomes_at p 0 (length buffer))
 unfolding answer_to answer_at_end outcome_of
-told-phased buffer [] = tt
-told-phased buffer (c ∷ q) = grind (arith, length-take, leb-true)
+told-phased buffer p = grind (arith, length-take, leb-true)
 
 -- LISTS OF OUTCOMES
 
 alike-nil : (xs : List Outcome) → AreAlikeAtFirst xs [] → xs ≡ []
-alike-nil [] h = refl
-alike-nil (x ∷ xs) h = absurd h
+alike-nil xs h = grind arith
 
 nil-alike : (xs : List Outcome) → AreAlikeAtFirst [] xs → xs ≡ []
-nil-alike [] h = refl
-nil-alike (x ∷ xs) h = absurd h
+nil-alike xs h = grind arith
 
 alike-refl : (x : Outcome) → AreAlike x x
-alike-refl (Message m) = refl
-alike-refl (Broken n) = refl
-alike-refl TooLong = refl
+alike-refl x = grind arith
 
 alike_first-refl : (xs : List Outcome) → AreAlikeAtFirst xs xs
-alike_first-refl [] = tt
-alike_first-refl (x ∷ xs) = (alike-refl x, refl)
+alike_first-refl xs = grind (arith, alike-refl)
 
 alike-append : (xs ys zs : List Outcome) → AreAlikeAtFirst xs ys → AreAlikeAtFirst (xs ++ zs) (ys ++ zs)
-alike-append [] [] zs h = alike_first-refl zs
-alike-append [] (y ∷ ys) zs h = absurd h
-alike-append (x ∷ xs) [] zs h = absurd h
-alike-append (x ∷ xs) (y ∷ ys) zs h = (h.0, ap (λ (t : List Outcome). t ++ zs) h.1)
+alike-append xs ys zs h = grind (arith, alike_first-refl)
 
 -- where nothing is in two lists joined, nothing is in the first
 pub left_nothing : (xs ys : List Outcome) → xs ++ ys ≡ [] → xs ≡ []
@@ -88,14 +78,11 @@ fits-stream t count n e = fits-map (ended_pieces t) count n e
 
 -- one outcome, alike to a broken piece's
 alike-same : (found : List Outcome) (count : ℕ) → AreAlikeAtFirst (Broken count ∷ []) found → Broken count ∷ [] ≡ found
-alike-same [] count h = absurd h
-alike-same (x ∷ xs) count h = ap (λ (y : Outcome). y ∷ []) h.0 ∙ ap (λ (ys : List Outcome). x ∷ ys) h.1
+alike-same found count h = grind arith
 
 -- so what an answer counts is within it
 count-within : (end : PieceEnd) (buffer t : List ℕ) (n : ℕ) → AreAlikeAtFirst (outcome_at end buffer ∷ []) (stream_outcomes t n) → IsWithin n end → IsCountWithin n end
-count-within (ends.Message k) buffer t n h within = within
-count-within (ends.Broken count) buffer t n h within = fits-stream t count n (alike-same (stream_outcomes t n) count h)
-count-within ends.TooLong buffer t n h within = tt
+count-within end buffer t n h e = grind (arith, fits-stream, alike-same)
 
 -- THE STEPS
 
@@ -260,8 +247,7 @@ module _ {buffer₀ buffer buffer' : List ℕ} {phase₀ phase phase' : Phase} {
   LeavesRest-zero s l f = grind (arith, outcomes_on, unended_on, nothing_before)
 
   pub LeavesRest-byte : (b : ℕ) → SoFar buffer₀ phase₀ buffer phase done found → LeavesRest buffer₀ phase₀ done buffer → Feeds buffer phase b result buffer' phase' → LeavesRest buffer₀ phase₀ (done ++ b ∷ []) buffer'
-  LeavesRest-byte zero s l f = LeavesRest-zero s l f
-  LeavesRest-byte (suc b) s l f = LeavesRest-nonzero (suc b) (λ e. omega arith) s l f
+  LeavesRest-byte b h e p = grind (arith, LeavesRest-zero, LeavesRest-nonzero)
 
 -- at a place in the bytes
 pub LeavesRest-step : {buffer₀ buffer buffer' : List ℕ} {phase₀ phase phase' : Phase} {found : List Outcome} {result : Result (Option ℕ) DecodeError} (bytes : List ℕ) (i : ℕ) → i < length bytes

@@ -11,8 +11,7 @@ use Rattle.cobs.proofs.streaming.StretchLemmas.{FedInTurn-append}
 
 -- the block that a code opens
 opened : (x count : ℕ) (full : Bool) → eqb x 255 ≡ full → phase_with full (x - 1) count ≡ Within full (x - 1) count
-opened x count false e = refl
-opened x count true e = begun true (x - 1) count (omega (arith, eqb-true x 255 e))
+opened x count full h = grind (arith, begun, eqb-true)
 
 -- this is the answer to a byte, and it leads to this buffer and this phase
 pub record Leads (buffer : List ℕ) (phase : Phase) (x : ℕ) (answer : Result (Option ℕ) DecodeError) (buffer' : List ℕ) (phase' : Phase) : Type 0 where
@@ -32,8 +31,7 @@ module _ (buffer : List ℕ) (x : ℕ) (nz : x ≢ 0) where
 
   -- a byte of the block
   pub leads-byte : (full : Bool) (left count : ℕ) → left ≢ 0 → count < length buffer → Leads buffer (phase_with full left count) x (Ok None) (set buffer count x) (phase_with full (left - 1) (count + 1))
-  leads-byte full zero count some room = absurd (some refl)
-  leads-byte full (suc left) count some room = grind (arith, begun, leads, is, room-grows)
+  leads-byte full left count h e = grind (arith, begun, leads, is, room-grows)
 
   -- a code after a block that isn't full
   pub leads-joined : (count : ℕ) → count < length buffer → Leads buffer (phase_with false 0 count) x (Ok None) (set buffer count 0) (phase_with (eqb x 255) (x - 1) (count + 1))

@@ -110,15 +110,8 @@ first_fed base buffer buffer₁ phase c q h same room phase_is buffer_is =
 -- THE BULK LEMMA: a stretch behind a block boundary is fed by writing its output
 pub FedInTurn-blocks : (full : Bool) (count : ℕ) (buffer : List ℕ) (c : ℕ) (q : List ℕ) → HasNoZero (c ∷ q) → base_of full count + length (output (c ∷ q)) ≤ length buffer
     → FedInTurn buffer (phase_with full 0 count) (c ∷ q) (over (base_of full count) (joined full count buffer) (output (c ∷ q))) (phase_at (base_of full count) (c ∷ q))
-FedInTurn-blocks true zero buffer c q h room =
-    first_fed 0 buffer buffer Idle c q h refl room (ap (λ (v : Bool). cond v Idle (Within (eqb c 255) (c - 1) 0)) (ne_eqb c 0 (All-head (λ b. b ≢ 0) c q h))) refl
-FedInTurn-blocks true (suc count) buffer c q h room =
-    first_fed (suc count) buffer buffer (Within true 0 (suc count)) c q h refl room (ap (λ (v : Bool). cond v Idle (Within (eqb c 255) (c - 1) (suc count))) (ne_eqb c 0 (All-head (λ b. b ≢ 0) c q h))) refl
-FedInTurn-blocks false count buffer c q h room =
-    let nz : eqb c 0 ≡ false = ne_eqb c 0 (All-head (λ b. b ≢ 0) c q h) in
-    first_fed (count + 1) buffer (set buffer count 0) (Within false 0 count) c q h (length-set buffer count 0) room
-    (ap (λ (v : Bool). cond v Idle (grows (length buffer) (eqb c 255) (c - 1) count)) nz ∙ grown_phase (length buffer) (eqb c 255) (c - 1) count (omega arith))
-    (ap (λ (v : Bool). cond v buffer (set buffer count 0)) nz)
+FedInTurn-blocks full count buffer c q h e =
+    grind (arith, first_fed, eqb, ne_eqb, All-head, length-set, grown_phase)
 
 -- a full part that lacks nothing has written bytes
 written_by : (n : ℕ) (p : List ℕ) → length p ≤ n → 0 < length p → is_full (last_part p) ≡ true → lacks (last_part p) ≡ 0 → 0 < length (output p)
@@ -129,9 +122,7 @@ written_by (suc n) (code ∷ bytes) h some f l = grind (arith, cases_lt, length-
 -- the phase behind a stretch, by the fields of a decoder
 phase_with-at : (base : ℕ) (p : List ℕ) (full : Bool) (left : ℕ) → 0 < length p → is_full (last_part p) ≡ full → lacks (last_part p) ≡ left
     → phase_with full left (base + length (output p)) ≡ Within full left (base + length (output p))
-phase_with-at base p false left some f l = refl
-phase_with-at base p true (suc left) some f l = refl
-phase_with-at base p true zero some f l = begun true 0 (base + length (output p)) (omega (arith, written_by (length p) p (omega arith) some f l))
+phase_with-at base p full left h e q = grind (arith, begun, written_by)
 
 -- THE RUN OF A DECODER
 

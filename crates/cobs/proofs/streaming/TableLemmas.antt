@@ -52,8 +52,7 @@ module _ (c : ℕ) (q : List ℕ) (b : ℕ) (some : b ≢ 0) where
 
 -- the state behind a byte that is no zero, and the data with what the table answers to it
 next_state : (p : List ℕ) (b : ℕ) → b ≢ 0 → table_state (state_after p) b ≡ state_after (p ++ b ∷ [])
-next_state [] b some = ap (λ (t : Bool). cond t Idle (opened_by b)) (ne_eqb b 0 some) ∙ opened_after b [] b (last_part-one b)
-next_state (c ∷ q) b some = state_step c q b some _ _ refl refl
+next_state p b h = grind (arith, ne_eqb, opened_after, last_part-one, state_step)
 
 -- no piece, no output
 pub output-nil : output [] ≡ []
@@ -61,8 +60,7 @@ unfolding output parts parts_after
 output-nil = refl
 
 next_data : (p : List ℕ) (b : ℕ) → b ≢ 0 → output p ++ data_of (table_answer (state_after p) b) ≡ output (p ++ b ∷ [])
-next_data [] b some = grind (arith, ne_eqb, append-nil, output-nil, output-one)
-next_data (c ∷ q) b some = data_step c q b some _ _ refl refl
+next_data p b h = grind (arith, ne_eqb, append-nil, output-nil, output-one, data_step)
 
 pub StateAfter-step : (state : DecoderState) (p so_far : List ℕ) (b : ℕ) → b < 256 → StateAfter state p so_far → b ≢ 0
     → StateAfter (table_state state b) (p ++ b ∷ []) (so_far ++ data_of (table_answer state b))
@@ -77,18 +75,11 @@ pub StateAfter-start : StateAfter Idle [] []
 StateAfter-start = grind (arith, All-nil, output-nil)
 
 pub table_state-zero : (state : DecoderState) → table_state state 0 ≡ Idle
-table_state-zero Idle = refl
-table_state-zero (Grab zero) = refl
-table_state-zero (Grab (suc left)) = refl
-table_state-zero (GrabChain zero) = refl
-table_state-zero (GrabChain (suc left)) = refl
+table_state-zero state = grind arith
 
 -- the answer to a zero
 end_answer-is : (full : Bool) (left : ℕ) → table_answer (inside full left) 0 ≡ cond (eqb left 0) (Ok DataComplete) (Err (InvalidFrame 0))
-end_answer-is true zero = refl
-end_answer-is false zero = refl
-end_answer-is true (suc left) = sym (ap (λ (t : Bool). cond t (Ok DataComplete) (Err (InvalidFrame 0))) (ne_eqb (suc left) 0 (λ e. omega arith)))
-end_answer-is false (suc left) = sym (ap (λ (t : Bool). cond t (Ok DataComplete) (Err (InvalidFrame 0))) (ne_eqb (suc left) 0 (λ e. omega arith)))
+end_answer-is full left = grind (arith, ne_eqb)
 
 at_end : (c : ℕ) (q : List ℕ) → table_answer (state_after (c ∷ q)) 0 ≡ cond (is_whole (c ∷ q)) (Ok DataComplete) (Err (InvalidFrame 0))
 unfolding is_whole
@@ -122,15 +113,7 @@ coded n b count = grind (arith, opened_by-is)
 -- one more byte in the buffer, or no room for it
 grown : (n : ℕ) (t full room : Bool) (left count : ℕ) → cond t phases.Idle (cond room (Within full left count) Over) ≢ Over
     → state_in (cond t phases.Idle (cond room (Within full left count) Over)) ≡ Some (cond t Idle (inside full left))
-grown n true full room left count h = refl
-grown n false true true left count h = refl
-grown n false false true left count h = refl
-grown n false full false left count h = absurd (h refl)
+grown n t full room left count h = grind arith
 
 pub phase_by_table : (n : ℕ) (phase : Phase) (b : ℕ) (state : DecoderState) → state_in phase ≡ Some state → next_phase n phase b ≢ Over → state_in (next_phase n phase b) ≡ Some (table_state state b)
-phase_by_table n phases.Idle b state e h = grind (arith, coded)
-phase_by_table n Over b state e h = absurd (cc)
-phase_by_table n (Within true (suc left) count) b state e h = grind (arith, grown)
-phase_by_table n (Within false (suc left) count) b state e h = grind (arith, grown)
-phase_by_table n (Within true zero count) b state e h = grind (arith, coded)
-phase_by_table n (Within false zero count) b state e h = grind (arith, grown, opened_by-is)
+phase_by_table n phase b state h e = grind (arith, coded, grown, opened_by-is)

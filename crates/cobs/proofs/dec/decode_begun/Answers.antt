@@ -15,9 +15,7 @@ use Rattle.cobs.proofs.dec.decode_begun.Goals.{After-copy_short}
 
 -- a source that begins with a code and has no zero behind it
 whole-nonzero : (source : List ℕ) → 0 < length (head source) → HasNoZero (drop 1 source) → HasNoZero source
-whole-nonzero [] some behind = absurd (let l = length-head [] in omega arith)
-whole-nonzero (b ∷ source) some behind =
-    All-cons (λ x. x ≢ 0) b source (λ zero. (let z = ap length (ap (λ (x : ℕ). head (x ∷ source)) zero ∙ head-zero source) in omega arith)) behind
+whole-nonzero source h e = grind (arith, length-head, All-cons, head-zero)
 
 -- what is written over the bytes that were copied
 copied-buffer : (piece old copied : List ℕ) → 0 < length piece → length piece < 255 → copied ≡ drop 1 piece ++ drop (length piece - 1) old → length copied ≡ length old → overwritten copied (output piece) ≡ overwritten old (output piece)

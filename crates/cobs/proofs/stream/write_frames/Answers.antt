@@ -11,8 +11,7 @@ use Rattle.cobs.proofs.stream.write_frames.Goals.{After-deref, After-encode-len}
 room : (c : After-deref) → c.by_message.end + (encoded_len c.deref.result.now + 1) ≤ length c.by_message.dest
 room c =
     let left = room-left c.args.messages.now c.by_message.message-index c.message-item.result c.by_message.end (length c.args.dest.now) c.by_message-test.true c.message-item.is c.by_message.invariant.within c.requires in
-    let message : encoded_len c.deref.result.now ≡ encoded_len c.message-item.result.items = ap encoded_len c.deref.ensures.value in
-    omega (arith, c.by_message.auto.dest)
+    grind arith
 
 -- the part of the list behind what is written
 length-part : (dest : List ℕ) (end : ℕ) → length (take (length dest - end) (drop end dest)) ≡ length dest - end
@@ -25,10 +24,7 @@ encode-len-requires c = omega (arith, room (goal.at.encode-len-requires c).After
 fits : (c : After-encode-len) → (c.by_message.end + (c.encode-len.result + 1) ≤ length c.by_message.dest) × (c.by_message.end + length c.encode-len.new.dest ≡ length c.by_message.dest)
 fits c =
     let left = room-left c.args.messages.now c.by_message.message-index c.message-item.result c.by_message.end (length c.args.dest.now) c.by_message-test.true c.message-item.is c.by_message.invariant.within c.requires in
-    let message : encoded_len c.deref.result.now ≡ encoded_len c.message-item.result.items = ap encoded_len c.deref.ensures.value in (
-      omega (arith, c.by_message.auto.dest, c.encode-len.ensures.len),
-      omega (arith, c.encode-len.auto.dest, length-part c.by_message.dest c.by_message.end, c.by_message.invariant.in_dest),
-    )
+    grind (arith, length-part)
 
 pub overflow_add-dest : goal.overflow_add-dest
 overflow_add-dest c = let f = fits (goal.at.overflow_add-dest c).After-encode-len in omega arith

@@ -8,8 +8,7 @@ returns-then-copied-clause-decoded c =
     let e = c.copy_nonzero-copied.ensures in
     let done : ℕ = c.copy_nonzero-copied.result in
     let none : 0 + done ≡ done = omega arith in
-    block-stayed c.args.source.now c.args.dest.now 255 c.requires.begun (sym c.requires.code) c.copy_nonzero-copied.new.dest done (omega (arith, e.within)) (omega (arith, e.within)) e.nonzero
-    (e.copied ∙ ap (λ (n : ℕ). take done (drop 1 c.args.source.now) ++ drop n c.args.dest.now) none)
+    grind (arith, block-stayed)
 
 pub returns-clause-decoded : goal.returns-clause-decoded
 returns-clause-decoded c =

@@ -19,12 +19,4 @@ returns-clause-rest c =
     let front : ℕ = c.mark_front-front.result.0 in
     let e = c.mark_front-front.ensures in
     let back = take_rest old 1 in
-    let same : length new ≡ length (drop 1 old) = c.mark_front-front.auto.rest ∙ ap length back in
-    let behind : drop (front - 1) new ≡ drop (front - 1) (drop 1 old) = e.rest ∙ ap (drop (front - 1)) back in
-    let is = c.move_to_front.ensures ∙ ap (λ (b : List ℕ). take (front - 1) (drop 1 b) ++ drop (front - 1) b) (marked-buffer old new (omega arith)) in
-    let all = ap (drop (front - 1)) (whole-buffer old (omega arith)) in
-    let was : get_or (first ∷ take (length old - 1) (drop 1 old)) (front - 1) 0 ≡ get_or (first ∷ drop 1 old) (front - 1) 0 = ap (λ (xs : List ℕ). get_or (first ∷ xs) (front - 1) 0) back in
-    elim c.if-code-eq1.branch [
-      | then-code-eq1 w ↦ ap (drop (front - 1)) w.buffer-is ∙ first-rest-empty first (drop 1 old) new c.move_to_front.new.buffer front e.some (omega arith) same behind is (sym was ∙ e.empty w.if-code-eq1.true) ∙ all
-      | else-code-eq1 w ↦ ap (drop (front - 1)) w.buffer-is ∙ first-rest first (drop 1 old) new c.move_to_front.new.buffer front e.some (omega arith) same behind is (e.last w.if-code-eq1.false ∙ was) ∙ all
-    ]
+    grind (arith, marked-buffer, whole-buffer, first-rest-empty, first-rest)

@@ -49,15 +49,7 @@ by_block-preserved-then-lacking-eq0 c =
     let full : next ≡ index + 255 = omega arith in
     let closed = Reaches-full H source old dest end read index next (λ full. 0 < read → index + 1 < next → full ≡ false) (λ full. 0 < read → next + 1 < next + 1 → full ≡ false) (omega arith) full (omega arith) (λ u lt. absurd (omega arith)) r in
     let l' = least source end read next (next + 1) closed.ordered closed.within closed.room in
-    record {
-      within = omega arith;
-      ordered = omega arith;
-      short = omega arith;
-      room = omega arith;
-      fresh = λ e. omega arith;
-      moved = λ e lt. absurd (omega arith);
-      reaches = closed;
-    }
+    grind arith
 
 -- a stretch of the run joins the open block
 pub by_block-preserved : goal.by_block-preserved

@@ -20,8 +20,7 @@ append_windows-windows-requires-clause-place c = c.append_run-run.ensures.taken.
 pub append_windows-windows-requires-clause-fits : goal.append_windows-windows-requires-clause-fits
 append_windows-windows-requires-clause-fits c =
     let s = front-next c.by_run.read c.append_run-run.result.0 (take_rest c.args.source.now c.by_run.read) c.by_run.invariant.taken c.append_run-run.ensures.taken in
-    let e = left-end (c.by_run.read + c.append_run-run.result.0) (take_rest c.args.source.now (c.by_run.read + c.append_run-run.result.0)) s in
-    omega arith
+    grind (arith, left-end, take_rest)
 
 pub by_run-preserved : goal.by_run-preserved
 by_run-preserved c =

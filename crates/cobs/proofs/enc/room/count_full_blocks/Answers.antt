@@ -14,9 +14,7 @@ ended c =
     let more : ℕ = c.run_len-more.result in
     let nonzero = subst HasNoZero (ap (take more) (take_rest source read)) c.run_len-more.ensures.nonzero in
     let all = run-more source read run more (omega arith) nonzero in
-    let none : drop (read + more) source ≡ [] = drop_all (read + more) source (omega arith) in
-    let end = ap (λ (x : List ℕ). blocks_in (behind (run + more) x)) none ∙ blocks-end (run + more) in
-    omega arith
+    grind (arith, drop_all, blocks_in, behind, blocks-end)
 
 pub overflow_add-result-then-read-source : goal.overflow_add-result-then-read-source
 overflow_add-result-then-read-source c = let le = blocks-le c.args.run c.args.source.now in let e = ended c in omega arith
@@ -36,9 +34,7 @@ stopped c =
     let lt : read + more < length source = omega arith in
     let nonzero = subst HasNoZero (ap (take more) rest) c.run_len-more.ensures.nonzero in
     let all = run-more source read run more (omega arith) nonzero in
-    let is : get_or source (read + more) 0 ≡ 0 = sym (get_or-drop read source more 0) ∙ sym (ap (λ (x : List ℕ). get_or x more 0) rest) ∙ c.run_len-more.ensures.stop (omega arith) in
-    let zero = byte-zero source (read + more) (run + more) lt is in
-    omega arith
+    grind (arith, get_or-drop, byte-zero)
 
 pub overflow_add-counted-in_default : goal.overflow_add-counted-in_default
 overflow_add-counted-in_default c = let le = blocks-le c.args.run c.args.source.now in let e = stopped c in omega arith
