@@ -17,9 +17,6 @@ pub record BlocksRead (h done : List ℕ) (read : ℕ) : Type 0 where
   pub kepts : kept_output h ≡ done ++ kept_output (drop read h)
   pub whole : whole_left h ≡ whole_left (drop read h)
 
-pub blocks-started : (h : List ℕ) → BlocksRead h [] 0
-blocks-started h = record { within = omega arith; outs = refl; kepts = refl; whole = refl }
-
 module _ (h done : List ℕ) (read : ℕ) (b : BlocksRead h done read) where
   -- all blocks are read
   module _ (past : length h ≤ read) where

@@ -103,12 +103,8 @@ module _ (first : ℕ) (old dest : List ℕ) (len read code : ℕ) (m : Marked f
   pub marked-rest : drop (read + code - 1) dest ≡ drop (read + code - 1) old
   marked-rest = grind (arith, long, marked-flat, q, ends)
 
-  -- the last byte, of an empty block and of another one
-  uncut : q ≡ take (read + code) (first ∷ old)
-  uncut = let some = m.some in let n : suc (read + code - 1) ≡ read + code = omega arith in ap (λ (k : ℕ). take k (first ∷ old)) n
-
   at-end : get_or q (read + code - 1) 0 ≡ get_or (first ∷ old) (read + code - 1) 0
-  at-end = let some = m.some in ap (λ (x : List ℕ). get_or x (read + code - 1) 0) uncut ∙ get_or-take (read + code) (first ∷ old) (read + code - 1) 0 (omega arith)
+  at-end = grind (arith, get_or-take)
 
   pub marked-empty : code ≡ 1 → get_or (first ∷ old) (read + code - 1) 0 ≡ 1
   marked-empty one = grind (arith, at-end, q, ends)

@@ -55,9 +55,6 @@ pub record FrontSought (piece : List ℕ) (n read left : ℕ) : Type 0 where
   pub counted : left + length (output piece) ≡ n + length (output (drop read piece))
   pub suffices : (k : ℕ) → 0 < k → read + k ≤ length piece → output (take k (drop read piece)) ≡ take left (output (drop read piece)) → output (take (read + k) piece) ≡ take n (output piece)
 
-pub front-started : (piece : List ℕ) (n : ℕ) → 0 < length piece → FrontSought piece n 0 n
-front-started piece n some = grind (arith)
-
 module _ (piece : List ℕ) (n read left code : ℕ) (s : FrontSought piece n read left) (is : code ≡ get_or piece read 0) where
   cons : drop read piece ≡ code ∷ drop (read + 1) piece
   cons = drop_more piece read 0 s.within ∙ ap (λ (k : ℕ). k ∷ drop (read + 1) piece) (sym is)

@@ -91,11 +91,8 @@ module _ (t rest : List ℕ) (read n : ℕ) (rest-is : rest ≡ drop read t) (be
       let high : HasNoZero (take n (drop read t)) = All-same (λ b. b ≢ 0) (take n (drop read t)) (take n rest) (ap (take n) (sym rest-is)) nonzero in
       All-same (λ b. b ≢ 0) (take (read + n) t) (take read t ++ take n (drop read t)) split (All-append (λ b. b ≢ 0) (take read t) (take n (drop read t)) low high)
 
-  pub piece-stop : read + n < length t → get_or t (read + n) 0 ≡ 0
-  piece-stop more = grind (arith, long-rest, get_or-drop)
-
   pub piece-is : take (read + n) t ≡ head t
-  piece-is = front_is_head t (read + n) piece-within piece-nonzero piece-stop
+  piece-is = grind (arith, front_is_head, piece-within, piece-nonzero, long-rest, get_or-drop)
 
   pub piece-end : read + n ≡ length (head t)
   piece-end = sym (length-take-le (read + n) t piece-within) ∙ ap length piece-is

@@ -1,6 +1,5 @@
 -- A piece without its first part, or with a block in front of it: its kept output, and whether it is whole.
 use Rattle.std.proofs.Common.{◌≡◌, ℕ, ◌+◌, ◌-◌, ◌<◌, ◌≤◌, Bool, true, false, cond, eqb, List, [], ◌∷◌, ◌++◌, length, take, drop, refl, sym, ap, ◌∙◌, arith, append_assoc, length-append, length-drop, append-nil, take_all, ◌≢◌, take_at, drop_at}
-use Rattle.std.proofs.lemmas.List.{drop_all}
 use Rattle.std.proofs.lemmas.Bool.{ne_eqb, eq-eqb}
 use Rattle.cobs.specs.Grammar.{bytes_of, joint, message_of, last_of, IsBlock}
 use Rattle.cobs.specs.Piece.{parts, lacks, output, last_part, is_whole, kept_output, IsWhole}
@@ -92,12 +91,6 @@ module _ (code : ℕ) (bytes : List ℕ) where
   kept-broken short = grind (arith, output-last, last_part-last, kept-is, broken-part)
 
 -- A BLOCK IN FRONT OF OTHER BYTES
-
-pub one-output : (block : List ℕ) → IsBlock block → output block ≡ bytes_of block
-one-output block h = grind (arith, output-last)
-
-pub one-whole : (block : List ℕ) → IsBlock block → IsWhole block
-one-whole block h = grind (arith, whole-part, drop_all)
 
 module _ (code : ℕ) (bytes p : List ℕ) (is : IsBlock (code ∷ bytes)) where
   fits : code - 1 ≤ length (bytes ++ p)

@@ -1,12 +1,12 @@
 -- What a whole piece comes to, and the first piece of a stream.
 use Rattle.std.proofs.Common.{◌≡◌, ◌≢◌, ℕ, zero, suc, ◌-◌, ◌<◌, ◌≤◌, ◌==◌, ◌↔◌, true, false, List, [], ◌∷◌, ◌++◌, length, filter, All, Some, if◌then◌else◌, refl, sym, ap, ◌∙◌, subst, arith, length-append}
-use Rattle.std.specs.List.{concat, onto_first}
+use Rattle.std.specs.List.{concat}
 use Rattle.std.proofs.lemmas.Bool.{cases_Bool, cases_eq, ne_eqb, le-leb}
 use Rattle.std.proofs.lemmas.List.Elements.{All-head, All-tail, All-cons, All-nil, All-weaker}
 use Rattle.std.proofs.lemmas.List.Splits.{slice_split-cons_no, slice_split_none}
 use Rattle.cobs.specs.Grammar.{HasNoZero, is_full, joint, message_of, Reads}
 use Rattle.cobs.specs.Piece.{parts_after, parts, IsWhole, output}
-use Rattle.cobs.specs.Stream.{stretches, is_nonempty, first_of, first_found, first_piece, head, Message, outcome_of}
+use Rattle.cobs.specs.Stream.{stretches, first_of, first_piece, head, Message, outcome_of}
 use Rattle.cobs.proofs.format.FrameLemmas.{concat-parts, frame_some, frame_nonzero, frame_whole, frame_output, reads_output}
 
 -- A FRAME, BY ITS BYTES
@@ -68,16 +68,13 @@ outcome_frame f m n r fits =
 
 -- WHAT STANDS BEFORE THE FIRST ZERO
 
-first_of-onto : (x : ℕ) (parts : List (List ℕ)) → first_of (onto_first x parts) ≡ x ∷ first_of parts
-first_of-onto x parts = grind arith
-
 pub head-zero : (bytes : List ℕ) → head (0 ∷ bytes) ≡ []
 unfolding head
 head-zero bytes = refl
 
 pub head-cons : (byte : ℕ) (bytes : List ℕ) → byte ≢ 0 → head (byte ∷ bytes) ≡ byte ∷ head bytes
 unfolding head
-head-cons byte bytes some = ap first_of (slice_split-cons_no (λ b. b == 0) byte bytes (ne_eqb byte 0 some)) ∙ first_of-onto byte (stretches bytes)
+head-cons byte bytes some = grind (arith, slice_split-cons_no, ne_eqb)
 
 pub head_nonzero : (t : List ℕ) → HasNoZero (head t)
 unfolding head
@@ -94,13 +91,9 @@ unfolding head
 length-head [] = omega arith
 length-head (byte ∷ bytes) = grind (arith, head-cons, cases_eq, length-head bytes)
 
--- the first piece of a stream that begins with one
-first_found-onto : (x : ℕ) (parts : List (List ℕ)) → first_found (filter is_nonempty (onto_first x parts)) ≡ Some (x ∷ first_of parts)
-first_found-onto x parts = grind arith
-
 pub first_piece_head : (byte : ℕ) (bytes : List ℕ) → byte ≢ 0 → first_piece (byte ∷ bytes) ≡ Some (head (byte ∷ bytes))
 unfolding first_piece head
-first_piece_head byte bytes some = grind (arith, slice_split-cons_no, ne_eqb, first_found-onto, head-cons)
+first_piece_head byte bytes some = grind (arith, slice_split-cons_no, ne_eqb, head-cons)
 
 -- in a buffer of the stream's length
 pub head_reads : (byte : ℕ) (bytes m : List ℕ) → byte ≢ 0 → All (λ b. b < 256) (byte ∷ bytes) → (outcome_of (head (byte ∷ bytes)) (length (byte ∷ bytes)) ≡ Message m) ↔ Reads (head (byte ∷ bytes)) m

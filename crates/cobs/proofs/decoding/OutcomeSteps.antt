@@ -1,11 +1,11 @@
 -- How `decode` answers: an outcome by the counts of a piece, and a source by its first piece.
-use Rattle.std.proofs.Common.{◌≡◌, ◌≢◌, ℕ, ◌<◌, ◌≤◌, Bool, List, [], ◌∷◌, length, Option, Some, None, Result, Ok, Err, if◌then◌else◌, refl, sym, ap, ◌∙◌, arith}
+use Rattle.std.proofs.Common.{◌≡◌, ◌≢◌, ℕ, ◌<◌, ◌≤◌, Bool, List, [], length, Some, None, Result, Ok, Err, if◌then◌else◌, sym, ap, ◌∙◌, arith}
 use Rattle.std.proofs.lemmas.Bool.{le-leb, lt-leb, ne_eqb, eq-eqb}
 use Rattle.cobs.specs.Piece.{output, last_part, lacks, is_whole}
 use Rattle.cobs.specs.Stream.{Message, Broken, TooLong, outcome_of, first_piece, head}
 use Rattle.cobs.specs.Overwritten.{overwritten}
 use Rattle.cobs.specs.Fields.Report.{report_of}
-use Rattle.cobs.specs.Decode.{sized, reported, len_through_piece, decode_answer, answer_by_piece, head_answer, in_place_answer, in_place_report}
+use Rattle.cobs.specs.Decode.{sized, reported, len_through_piece, decode_answer, head_answer, in_place_report}
 use Rattle.cobs.specs.declared.dec.DecodeReport.{DecodeReport}
 use Rattle.cobs.specs.declared.dec.DecodeError.{DecodeError}
 use Rattle.cobs.specs.declared.dec.DecodeError.TheVariants.{InvalidFrame, TargetBufTooSmall}
@@ -46,13 +46,9 @@ module _ (source p : List ℕ) (n : ℕ) (some : 0 < length source) (is : first_
 pub overwritten-none : (buffer : List ℕ) → overwritten buffer [] ≡ buffer
 overwritten-none buffer = grind arith
 
--- the answer to a buffer that isn't empty, by what stands before its first zero
-in_place_answer-head : (buffer : List ℕ) → 0 < length buffer → in_place_answer buffer ≡ head_answer (head buffer)
-in_place_answer-head buffer h = grind arith
-
 module _ (buffer h : List ℕ) (some : 0 < length buffer) (is : h ≡ head buffer) (result : Result ℕ DecodeError) (result-is : result ≡ head_answer h) where
   by_head : reported (length h) result ≡ in_place_report buffer
-  by_head = grind (arith, in_place_answer-head)
+  by_head = grind arith
 
   pub in_place_report-refused : (error : DecodeError) → result ≡ Err error → Err error ≡ in_place_report buffer
   in_place_report-refused error e = ap (reported (length h)) (sym e) ∙ by_head

@@ -18,19 +18,13 @@ parts_after_past n [] h = refl
 parts_after_past zero (x ∷ p) h = absurd (omega arith)
 parts_after_past (suc n) (x ∷ p) h = parts_after_past n p (omega arith)
 
-lt_true : (m n : ℕ) → m < n → ltb m n ≡ true
-lt_true m n h = grind (arith, common_steps)
-
-lt_false : (m n : ℕ) → n ≤ m → ltb m n ≡ false
-lt_false m n h = grind (arith, common_steps)
-
 -- a part that lacks nothing stays
 grown-cons : (part : List ℕ) (more : List (List ℕ)) (b : ℕ) → lacks part ≡ 0 → grown (part ∷ more) b ≡ part ∷ grown more b
-grown-cons part more b h = grind (arith, lt_false)
+grown-cons part more b h = grind (arith, common_steps)
 
 -- a last part that lacks something takes the byte
 grown-last : (part : List ℕ) (b : ℕ) → 0 < lacks part → grown (part ∷ []) b ≡ (part ++ b ∷ []) ∷ []
-grown-last part b h = rw (lt_true 0 (lacks part) h) refl
+grown-last part b h = grind (arith, common_steps)
 
 push_short : (c : ℕ) (p : List ℕ) (b : ℕ) → length p < c - 1 → parts_after zero (c ∷ p ++ b ∷ []) ≡ grown (parts_after zero (c ∷ p)) b
 unfolding parts_after
@@ -112,17 +106,11 @@ pub last_part-push_next : (c : ℕ) (p : List ℕ) (b : ℕ) → lacks (last_par
 unfolding last_part parts parts_after
 last_part-push_next c p b h = ap last_of (parts-push (c ∷ p) b) ∙ last_of-grown_next (c ∷ take (c - 1) p) (parts_after (c - 1) p) b h
 
-lacks-push : (part : List ℕ) (b : ℕ) → 0 < lacks part → lacks (part ++ b ∷ []) + 1 ≡ lacks part
-lacks-push part b h = grind (arith, length_push)
-
-is_full-push : (part : List ℕ) (b : ℕ) → 0 < lacks part → is_full (part ++ b ∷ []) ≡ is_full part
-is_full-push part b h = grind arith
-
 pub lacks-push_more : (p : List ℕ) (b : ℕ) → 0 < lacks (last_part p) → lacks (last_part (p ++ b ∷ [])) + 1 ≡ lacks (last_part p)
-lacks-push_more p b h = ap (λ (x : List ℕ). lacks x + 1) (last_part-push_more p b h) ∙ lacks-push (last_part p) b h
+lacks-push_more p b h = grind (arith, last_part-push_more, length_push)
 
 pub is_full-push_more : (p : List ℕ) (b : ℕ) → 0 < lacks (last_part p) → is_full (last_part (p ++ b ∷ [])) ≡ is_full (last_part p)
-is_full-push_more p b h = ap is_full (last_part-push_more p b h) ∙ is_full-push (last_part p) b h
+is_full-push_more p b h = grind (arith, last_part-push_more)
 
 -- The step lemma in one: the output grows at its end
 pub output-push : (c : ℕ) (p : List ℕ) (b : ℕ) → (more : List ℕ) × (output (c ∷ p ++ b ∷ []) ≡ output (c ∷ p) ++ more)

@@ -15,7 +15,7 @@ use Rattle.cobs.proofs.format.SentinelLemmas.{xor_twice}
 use Rattle.cobs.proofs.decoding.HeadLemmas.{front_is_head}
 use Rattle.cobs.proofs.decoding.KeptLemmas.{kept_output-empty}
 use Rattle.cobs.proofs.decoding.OutcomeSteps.{overwritten-none}
-use Rattle.cobs.proofs.decoding.BlockSteps.{BlocksRead, blocks-started, all-kept, all-answer, broken-kept, broken-answer, overwritten-front}
+use Rattle.cobs.proofs.decoding.BlockSteps.{BlocksRead, all-kept, all-answer, broken-kept, broken-answer, overwritten-front}
 
 -- ANSWERS BY THE KEPT OUTPUT
 
@@ -69,7 +69,7 @@ pub record DecodedSource (h old dest : List ℕ) (read written : ℕ) : Type 0 w
   pub blocks : BlocksRead h (take written dest) read
 
 pub source-started : (h dest : List ℕ) → DecodedSource h dest dest 0 0
-source-started h dest = record { room = omega arith; len = refl; rest = refl; blocks = blocks-started h }
+source-started h dest = grind arith
 
 module _ (source : List ℕ) (s : ℕ) (old dest : List ℕ) (read written : ℕ) (d : DecodedSource (xor_each s source) old dest read written) where
   abbrev h : List ℕ

@@ -46,11 +46,8 @@ module _ (piece old dest : List ℕ) (read written code : ℕ) (p : Decoded piec
     parts : output (drop read piece) ≡ (take (code - 1) (drop (read + 1) piece) ++ joint_of code) ++ output (drop (read + code) piece)
     parts = grind (arith, length-drop, cons, output-more, joint_of, next)
 
-    length-part : length (take (code - 1) (drop (read + 1) piece) ++ joint_of code) ≡ code - 1 + length (joint_of code)
-    length-part = grind (arith, length-drop, length-append, joint_of, length-take-le)
-
     length-parts : length (output (drop read piece)) ≡ code - 1 + length (joint_of code) + length (output (drop (read + code) piece))
-    length-parts = grind (arith, parts, length-append, joint_of, length-part)
+    length-parts = grind (arith, parts, length-append, joint_of, length-drop, length-take-le)
 
     pub room-more : written + (code - 1) + length (joint_of code) ≤ length (output piece)
     room-more = let l = length-parts in let e = p.left in omega arith
@@ -128,9 +125,6 @@ module _ (piece old dest : List ℕ) (read written code : ℕ) (p : Decoded piec
   module _ (some : 0 < code) (last : length piece ≤ read + code) where
     output-is : output (drop read piece) ≡ drop (read + 1) piece
     output-is = let l = length-drop (read + 1) piece in ap output cons ∙ output-last code (drop (read + 1) piece) (omega arith)
-
-    pub last-room : written + (length piece - read - 1) ≡ length (output piece)
-    last-room = let l = length-drop (read + 1) piece in let e = ap length output-is in let k = p.left in let w = p.within in omega arith
 
     last-is : last_part piece ≡ code ∷ drop (read + 1) piece
     last-is = let l = length-drop (read + 1) piece in sym p.last ∙ ap last_part cons ∙ last_part-last code (drop (read + 1) piece) (omega arith)
@@ -223,7 +217,7 @@ module _ (piece old dest : List ℕ) (read : ℕ) (p : Decoded piece old dest re
 module _ (piece old dest : List ℕ) (read written code : ℕ) (p : Decoded piece old dest read written) (is : code ≡ get_or piece read 0) (some : 0 < code) (last : length piece ≤ read + code)
     (k : CopiedTo piece dest read (length piece) written) (room : length (output piece) ≤ length dest) where
   pub end-len : written + (length piece - read - 1) ≡ length (output piece)
-  end-len = last-room piece old dest read written code p is some last
+  end-len = grind (arith, length-drop, output-is)
 
   pub end-begins : take (written + (length piece - read - 1)) dest ≡ output piece
   end-begins = grind (arith, end-len, length-drop, take_parts, take_all, output-is)
@@ -244,14 +238,11 @@ module _ (piece old dest : List ℕ) (read written : ℕ) (p : Decoded piece old
   behind rest = grind (arith, joined-is, drop-past, front-long, left-is, drop-drop)
 
   module _ (m : ℕ) (count : m ≡ length (output part)) where
-    pub joined-len : written + m ≡ length (output piece)
-    joined-len = ap (λ (n : ℕ). written + n) count ∙ left-is
-
     pub joined-begins : take m new ≡ output part → take (written + m) (put_mid written k dest new) ≡ output piece
     joined-begins begins = grind (arith, joined-is, take-past, front-long)
 
     pub joined-rest : drop m new ≡ drop m back → drop (written + m) (put_mid written k dest new) ≡ drop (written + m) old
-    joined-rest rest = grind (arith, put_mid, joined-len, behind)
+    joined-rest rest = grind (arith, put_mid, behind, left-is)
 
 -- what is left of a piece has no full part before its last one where it is below 255 bytes, or one part
 pub flat-few : (piece old dest : List ℕ) (read written : ℕ) → Decoded piece old dest read written → length piece - read < 255 → length (output (drop read piece)) + 1 ≡ length (drop read piece)

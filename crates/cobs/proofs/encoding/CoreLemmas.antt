@@ -1,16 +1,15 @@
 -- Where the core of the encoder begins and ends, said of the slice of a `CobsEncoder`.
-use Rattle.std.proofs.Common.{◌≡◌, ◌≢◌, ℕ, ◌+◌, ◌-◌, ◌<◌, ◌≤◌, Bool, true, false, if◌then◌else◌, List, [], ◌∷◌, ◌++◌, length, drop, take, sym, ap, ◌∙◌, subst, arith, append-nil}
+use Rattle.std.proofs.Common.{◌≡◌, ◌≢◌, ℕ, ◌+◌, ◌-◌, ◌<◌, ◌≤◌, Bool, true, false, if◌then◌else◌, List, [], ◌++◌, length, drop, take, sym, ap, ◌∙◌, subst, arith, append-nil}
 use Rattle.std.proofs.Math.ListN.{set}
-use Rattle.std.specs.List.{concat}
 use Rattle.std.proofs.Math.Seq.{take-set-lt}
-use Rattle.std.proofs.lemmas.List.{length-set, length-take, drop_all, set-set, set_at, set_past}
+use Rattle.std.proofs.lemmas.List.{length-set, length-take, drop_all, set-set, set_at, set_past, drop-set-lt}
 use Rattle.std.proofs.lemmas.List.Elements.{All-nil}
 use Rattle.cobs.specs.Grammar.{IsEncodedFrame, lone_block}
 use Rattle.cobs.specs.OpenBlock.{Reached, CobsEncoderAfter, next_of, end_of}
 use Rattle.cobs.specs.Length.{encoded_len, open_len}
 use Rattle.cobs.proofs.encoding.OpenedLemmas.{Opened}
 use Rattle.cobs.proofs.encoding.OpenLenLemmas.{Opened-len}
-use Rattle.cobs.proofs.encoding.ReachLemmas.{Reaches, Reaches-noted, Reaches-start, least, taken-full, ends-full, rest-full}
+use Rattle.cobs.proofs.encoding.ReachLemmas.{Reaches, Reaches-noted, Reaches-start, least, taken-full, ends-full}
 use Rattle.cobs.proofs.encoding.AfterLemmas.{at, from_after, to_after, end-is, open-same}
 use Rattle.cobs.proofs.format.UniqueLemmas.{length-encoded}
 use Rattle.cobs.proofs.encoding.OpenLemmas.{concat-append}
@@ -60,7 +59,7 @@ module _ (H : List ℕ → Type 0) (source old slice : List ℕ) (end pos index 
   full-end = ends-full H source old slice end pos index (index + 255) P P last (omega arith) r
 
   pub full-rest : drop (index + 255) (set slice index 255) ≡ drop (index + 255) old
-  full-rest = let e = full-end in subst (λ (n : ℕ). drop n (set slice index 255) ≡ drop n old) e (rest-full H source old slice end pos index (index + 255) P P (omega arith) r)
+  full-rest = grind (arith, full-end, drop-set-lt)
 
 -- the code of the open block completes the frame; a frame that ends in a full block is complete
 module _ (slice m : List ℕ) (r : Reached) (h : CobsEncoderAfter slice r m) where

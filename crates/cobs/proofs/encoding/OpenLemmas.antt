@@ -57,12 +57,8 @@ module _ (m f g : List ℕ) (index code : ℕ) (o : IsOpenFrame f m index code) 
   pub f-is : f ≡ concat o.front ++ code ∷ o.bytes
   f-is = o.frame.whole ∙ concat-append o.front ((code ∷ o.bytes) ∷ []) ∙ ap (λ (l : List ℕ). concat o.front ++ l) (append-nil (code ∷ o.bytes))
 
-  -- f with another code
-  pub set-f : (y : ℕ) → set f index y ≡ concat o.front ++ y ∷ o.bytes
-  set-f y = ap (λ (l : List ℕ). set l index y) f-is ∙ set_at (concat o.front) code o.bytes y index (sym o.begins)
-
   pub g-is : g ≡ concat o.front ++ same.0 ∷ o.bytes
-  g-is = same.1 ∙ set-f same.0
+  g-is = grind (arith, f-is, set_at)
 
   -- g with another code
   pub set-g : (y : ℕ) → set g index y ≡ concat o.front ++ y ∷ o.bytes

@@ -37,10 +37,6 @@ open_len-join code more t some nonzero =
 pub open_len-zero : (code : ℕ) (t : List ℕ) → 0 < code → code < 255 → open_len code (0 ∷ t) ≡ code + open_len 1 t
 open_len-zero code t some short = grind (arith, length-ones, encoded_len-zero, ones)
 
--- it is full, and the message goes on
-pub open_len-full : (code : ℕ) (t : List ℕ) → code ≡ 255 → t ≢ [] → open_len code t ≡ 255 + open_len 1 t
-open_len-full code t is some = grind (arith, length-ones, encoded_len-full, ones)
-
 -- the message ends
 pub open_len-end : (code : ℕ) → 0 < code → code ≤ 255 → open_len code [] ≡ code
 open_len-end code some short = grind (arith, length-ones, append-nil, encoded_len-last, ones)

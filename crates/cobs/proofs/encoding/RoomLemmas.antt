@@ -1,11 +1,10 @@
 -- How many full blocks a message has, counted by runs.
-use Rattle.std.proofs.Common.{◌≡◌, ◌≢◌, ℕ, ◌+◌, ◌-◌, ◌/◌, ◌<◌, ◌≤◌, ◌==◌, List, [], ◌∷◌, ◌++◌, length, map, drop, take, get_or, replicate, refl, sym, ap, ◌∙◌, arith, inl, inr, append-nil, append_assoc, length-append, length-take-le, length-drop, take-append-drop}
+use Rattle.std.proofs.Common.{◌≡◌, ◌≢◌, ℕ, ◌+◌, ◌-◌, ◌/◌, ◌<◌, ◌≤◌, List, [], ◌∷◌, ◌++◌, length, map, drop, take, get_or, replicate, refl, sym, ap, ◌∙◌, arith, inl, inr, append-nil, append_assoc, length-append, length-take-le, length-drop, take-append-drop}
 use Rattle.std.proofs.lemmas.Bool.{cases_eq}
 use Rattle.std.proofs.lemmas.List.{drop-drop, drop_more}
 use Rattle.std.proofs.lemmas.List.Elements.{All-append, All-nil, All-cons}
 use Rattle.std.proofs.lemmas.List.Splits.{slice_split_none, slice_split_at}
 use Rattle.cobs.specs.Grammar.{HasNoZero}
-use Rattle.cobs.specs.Stream.{stretches}
 use Rattle.cobs.specs.Length.{runs, full_blocks, encoded_len}
 use Rattle.cobs.proofs.format.LengthLemmas.{no_zero, some_stretch, stretches-append, encoded_len-le}
 use Rattle.cobs.proofs.encoding.OpenLenLemmas.{same_lengths, ones, length-ones}
@@ -76,11 +75,6 @@ module _ (source : List ℕ) (read run k : ℕ) where
   -- nonzero ones
   pub run-more : read + k ≤ length source → HasNoZero (take k (drop read source)) → blocks_in (behind run (drop read source)) ≡ blocks_in (behind (run + k) (drop (read + k) source))
   run-more inside nonzero = grind (arith, length-take-le, length-drop, blocks_in, behind, next-are, blocks-more)
-
--- the next byte
-module _ (source : List ℕ) (read run : ℕ) (more : read < length source) where
-  pub byte-zero : get_or source read 0 ≡ 0 → blocks_in (behind run (drop read source)) ≡ run / 254 + blocks_in (behind 0 (drop (read + 1) source))
-  byte-zero is = ap (λ (x : List ℕ). blocks_in (behind run x)) (drop_more source read 0 more ∙ ap (λ (n : ℕ). n ∷ drop (read + 1) source) is) ∙ blocks-zero run (drop (read + 1) source)
 
 -- a longer message has no fewer of them
 blocks-least : (run : ℕ) (t : List ℕ) → (run - 1) / 254 ≤ blocks_in (behind run t)

@@ -1,5 +1,5 @@
 -- The steps of the encoder through a source that can't fill the open block: zeros marked without asking whether there are any.
-use Rattle.std.proofs.Common.{◌≡◌, ◌≢◌, ℕ, ◌+◌, ◌-◌, ◌%◌, ◌^◌, ◌<◌, ◌≤◌, Bool, false, List, ◌++◌, length, drop, take, replicate, suc, refl, sym, ap, ◌∙◌, subst, inl, inr, arith, length-take-le, length-drop}
+use Rattle.std.proofs.Common.{◌≡◌, ◌≢◌, ℕ, ◌+◌, ◌-◌, ◌%◌, ◌^◌, ◌<◌, ◌≤◌, Bool, false, List, ◌++◌, length, drop, take, replicate, refl, sym, ap, ◌∙◌, subst, inl, inr, arith, length-take-le, length-drop}
 use Rattle.std.proofs.Math.ListN.{set}
 use Rattle.std.proofs.Math.Seq.{take-set-lt}
 use Rattle.std.proofs.lemmas.Bool.{cases_eq}
@@ -21,9 +21,6 @@ use Rattle.cobs.specs.OpenBlock.{Reached, CobsEncoderAfter, end_after, next_of}
 Opened-set : (slice m : List ℕ) (index next byte : ℕ) (full : Bool) → Opened slice m index next full → Opened (set slice index byte) m index next full
 Opened-set slice m index next byte full o = grind (arith, take-set, take-set-lt, drop-set-lt)
 
-Reaches-set : (H : List ℕ → Type 0) (source old slice : List ℕ) (end pos index next byte : ℕ) (P : Bool → Type 0) → Reaches H source old slice end pos index next P → Reaches H source old (set slice index byte) end pos index next P
-Reaches-set H source old slice end pos index next byte P r = grind (arith, drop-set-lt, Opened-set)
-
 module _ (H : List ℕ → Type 0) (source old slice : List ℕ) (end read len index next zeros : ℕ) (s : Marks H source old slice end read len index next zeros) where
   -- where the next code belongs is within the slice, and no later than the next zero
   pub code-inside : end ≤ length slice → index < length slice
@@ -36,18 +33,7 @@ module _ (H : List ℕ → Type 0) (source old slice : List ℕ) (end read len i
   ]
 
   marks-set : (byte : ℕ) → Marks H source old (set slice index byte) end read len index next zeros
-  marks-set byte =
-      let d : ℕ = index + 1 - next in
-      record {
-        seen = s.seen;
-        some = s.some;
-        few = s.few;
-        inside = s.inside;
-        here = ap (take (len - d)) (drop-set-lt (next + d) slice index byte (omega arith)) ∙ s.here;
-        bits = s.bits;
-        short = s.short;
-        reaches = Reaches-set H source old slice end (read + d) index (next + d) byte (λ full. 0 < d → full ≡ false) s.reaches;
-      }
+  marks-set byte = grind (arith, drop-set-lt, Opened-set)
 
   -- a zero is marked, where there is one left
   pub first-marked : (after : List ℕ) (r : ℕ × ℕ) → end ≤ length slice → after ≡ set slice index ((next + count_trailing_zeros 64 zeros - index) % 256)

@@ -24,9 +24,6 @@ pub after-end : (slice m bytes : List ℕ) (r : Reached) → CobsEncoderAfter sl
 after-end slice m [] r h = ap encoded_len (append-nil m) ∙ end-is slice m r h
 after-end slice m (b ∷ bytes) r h = after-len slice m (b ∷ bytes) r (λ e. cc) h
 
-pub start-end : (bytes : List ℕ) → end_after (at 0 1 false) bytes ≡ encoded_len bytes
-start-end bytes = grind arith
-
 pub place-index : (n : ℕ) (r : Reached) → IsPlaceIn n r → r.block.index ≤ n
 place-index n r p = grind (arith, cases_Bool)
 
@@ -137,7 +134,7 @@ module _ (slice : List ℕ) (r : Reached) (is : r ≡ at 0 1 false) (some : 0 < 
   start-code = ap (λ (x : Reached). x.block.code) is
 
   pub start-fits : (source : List ℕ) → end_after r source ≡ encoded_len source
-  start-fits source = ap (λ (x : Reached). end_after x source) is ∙ start-end source
+  start-fits source = grind arith
 
   pub start-place : IsPlaceIn (length slice) r
   start-place = subst (IsPlaceIn (length slice)) (sym is) (record { some = omega arith; not_full = omega arith; fits = omega arith })

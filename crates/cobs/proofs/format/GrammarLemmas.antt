@@ -61,16 +61,12 @@ IsEncodedFrame-block b h =
     single b (x ∷ []) block full e = cc
     single b (x ∷ y ∷ front) block full e = cc
 
--- what blocks stand for, cut behind the first of them
-pub message_of-cons : (b : List ℕ) (bs : List (List ℕ)) → bs ≢ [] → message_of (b ∷ bs) ≡ bytes_of b ++ joint b ++ message_of bs
-message_of-cons b bs h = grind arith
-
 -- a block in front of a frame
 pub frame-cons : (b f : List ℕ) (bs : List (List ℕ)) → IsBlock b → IsFrameOf f bs → IsFrameOf (b ++ f) (b ∷ bs)
 frame-cons b f bs h frame = record { some = λ e. cc; each = All-cons IsBlock b bs h frame.each; whole = ap (λ x. b ++ x) frame.whole }
 
 pub Reads-cons : (b f m : List ℕ) → IsBlock b → Reads f m → Reads (b ++ f) (bytes_of b ++ joint b ++ m)
-Reads-cons b f m h r = grind (arith, frame-cons, message_of-cons)
+Reads-cons b f m h r = grind (arith, frame-cons)
 
 -- a block in front of a canonical frame, which isn't the lone block where the block is full
 pub IsCanonical-cons : (b f : List ℕ) → IsBlock b → (IsFull b → f ≢ lone_block) → IsCanonical f → IsCanonical (b ++ f)

@@ -128,11 +128,8 @@ module _ (bytes : List ℕ) (read : ℕ) (behind_full : Bool) (b : BlocksBehind 
 
   -- the block here is the last one
   module _ (last : length bytes - read ≡ code) where
-    all-bytes : take (code - 1) (drop (read + 1) bytes) ≡ drop (read + 1) bytes
-    all-bytes = take_all (code - 1) (drop (read + 1) bytes) (let d = length-drop (read + 1) bytes in omega arith)
-
     last-block : IsBlock (code ∷ drop (read + 1) bytes)
-    last-block = subst (λ (x : List ℕ). IsBlock (code ∷ x)) all-bytes (block-is (omega arith))
+    last-block = grind (arith, block-is, take_all, length-drop)
 
     frame : IsFrameOf bytes (b.front ++ (code ∷ drop (read + 1) bytes) ∷ [])
     frame = record {

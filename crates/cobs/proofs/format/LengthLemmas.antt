@@ -1,5 +1,5 @@
 -- Lemmas on the length of an encoded frame.
-use Rattle.std.proofs.Common.{replicate, drop, take, get_or, take_all, length-take-le, take-append-drop, ◌≡◌, ◌≢◌, ℕ, ◌+◌, ◌/◌, ◌<◌, ◌≤◌, ◌==◌, false, List, [], ◌∷◌, ◌++◌, length, map, All, refl, sym, ap, ◌∙◌, subst, arith, length-append}
+use Rattle.std.proofs.Common.{replicate, drop, take, get_or, take_all, length-take-le, take-append-drop, ◌≡◌, ◌≢◌, ℕ, ◌+◌, ◌<◌, ◌≤◌, ◌==◌, false, List, [], ◌∷◌, ◌++◌, length, map, All, refl, sym, ap, ◌∙◌, subst, arith, length-append}
 use Rattle.std.specs.List.{onto_first, join_with_byte}
 use Rattle.std.proofs.lemmas.Bool.{ne_eqb}
 use Rattle.std.proofs.lemmas.List.{length-replicate, length-drop, drop-drop, drop_more}
@@ -16,17 +16,13 @@ no_zero bytes h = All-weaker (λ b. b ≢ 0) (λ b. (b == 0) ≡ false) (λ b ne
 pub some_stretch : (m : List ℕ) → stretches m ≢ []
 some_stretch m e = let n = length-slice_split (λ b. b == 0) m in let l = ap length e in omega arith
 
-full_blocks-cons : (run : ℕ) (parts : List (List ℕ)) → parts ≢ [] → full_blocks (run ∷ map length parts) ≡ run / 254 + full_blocks (map length parts)
-full_blocks-cons run [] some = absurd (some refl)
-full_blocks-cons run (p ∷ ps) some = refl
-
 -- a last run of at most 254 bytes takes one block
 pub encoded_len-last : (bytes : List ℕ) → length bytes < 255 → HasNoZero bytes → encoded_len bytes ≡ length bytes + 1
 encoded_len-last bytes l h = grind (arith, slice_split_none, no_zero)
 
 -- a run of less than 254 bytes and its zero take one block
 pub encoded_len-zero : (bytes m : List ℕ) → length bytes < 254 → HasNoZero bytes → encoded_len (bytes ++ 0 ∷ m) ≡ length bytes + 1 + encoded_len m
-encoded_len-zero bytes m l h = grind (arith, slice_split_at, no_zero, full_blocks-cons, some_stretch, length-append)
+encoded_len-zero bytes m l h = grind (arith, slice_split_at, no_zero, some_stretch, length-append)
 
 -- bytes put before the first part
 abbrev pub onto_parts : List ℕ → List (List ℕ) → List (List ℕ)

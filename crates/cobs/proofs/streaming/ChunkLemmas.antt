@@ -1,6 +1,6 @@
 -- A stretch that was copied behind the output so far is fed in turn once a zero stands at each code of it.
 use Rattle.std.proofs.Common.{◌≡◌, ◌≢◌, ℕ, zero, suc, ◌+◌, ◌-◌, ◌<◌, ◌≤◌, Bool, false, eqb, List, [], ◌∷◌, ◌++◌, length, take, drop, set, get_or, sym, ap, ◌∙◌, subst, arith, append_assoc, length-append, length-drop, Ok, None}
-use Rattle.std.proofs.lemmas.List.{length_push, length-take-le, take-append-drop, take_all, drop_all, drop_more, take_more}
+use Rattle.std.proofs.lemmas.List.{length_push, take_all, drop_all, drop_more, take_more}
 use Rattle.std.proofs.lemmas.List.Elements.{All-get_or}
 use Rattle.std.proofs.Math.Seq.{set-append_seam}
 use Rattle.cobs.specs.Grammar.{HasNoZero}
@@ -27,10 +27,6 @@ module _ (before : List ℕ) (phase : Phase) (stretch : List ℕ) (base : ℕ) w
   -- so for some number of them
   abbrev pub Marked : Bool → ℕ → List ℕ → Type 0
   Marked full next dest = (i : ℕ) × MarkedTo i full next dest
-
-  pub marked-start : (full : Bool) (left : ℕ) (dest : List ℕ) → base ≤ length before → phase ≡ phase_with full left base
-      → dest ≡ take base before ++ (stretch ++ drop (base + length stretch) before) → Marked full left dest
-  marked-start full left dest room p e = grind (arith, length-take-le, take-append-drop)
 
   module _ (nz : HasNoZero stretch) (room : base + length stretch ≤ length before) where
     nonzero : (i : ℕ) → i < length stretch → get_or stretch i 0 ≢ 0

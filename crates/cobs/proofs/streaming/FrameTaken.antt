@@ -5,7 +5,7 @@ use Rattle.std.proofs.lemmas.List.{take-append-le, take-take}
 use Rattle.std.proofs.lemmas.List.Elements.{All-take}
 use Rattle.cobs.specs.Grammar.{Reads}
 use Rattle.cobs.specs.Piece.{output}
-use Rattle.cobs.specs.Stream.{Outcome, Message, Broken, TooLong, outcome_of, stream_outcomes, unended}
+use Rattle.cobs.specs.Stream.{Outcome, Message, outcome_of, stream_outcomes, unended}
 use Rattle.cobs.specs.Feed.{Phase, Idle, DecoderAfter, Feeds, answer_at_end, answer_to, told}
 use Rattle.cobs.specs.FeedPiece.{IsWithin, TakesPiece, outcome_at}
 use Rattle.cobs.specs.Headline.{IsPiece}
@@ -36,12 +36,9 @@ unfolding answer_to answer_at_end
 answer_is [] m n r fits = absurd ((frame_piece r).0 refl)
 answer_is (b ∷ f) m n r fits = ap told (outcome_frame (b ∷ f) m n r fits)
 
-told_message : (o : Outcome) (n : ℕ) → Ok (Some n) ≡ told o → (m : List ℕ) × (o ≡ Message m) × (n ≡ length m)
-told_message o n h = grind arith
-
 message_told : (f : List ℕ) (n k : ℕ) → Ok (Some k) ≡ answer_to f 0 n → (m : List ℕ) × (f ≢ []) × (outcome_of f n ≡ Message m) × (k ≡ length m)
 unfolding answer_to answer_at_end
-message_told f n k h = grind (arith, told_message)
+message_told f n k h = grind arith
 
 module _ {buffer buffer' f : List ℕ} {phase phase' : Phase} {result : Result (Option ℕ) DecodeError} (w : Feeds buffer phase 0 result buffer' phase') (h : DecoderAfter buffer phase f) where
   stands : (m : List ℕ) → Reads f m → length m ≤ length buffer → take (length m) buffer' ≡ m

@@ -1,5 +1,5 @@
 -- What a push of a list and the zero behind it answers: the message m exactly where the list reads as m.
-use Rattle.std.proofs.Common.{◌≡◌, ◌≢◌, ℕ, ◌+◌, ◌<◌, ◌≤◌, ◌↔◌, List, [], ◌∷◌, ◌++◌, length, take, get_or, All, Option, Some, None, Result, Ok, Err, refl, sym, ap, ◌∙◌, subst, arith, length-append, length-take-le, take-append-drop, take_all, take_at, drop, ⊎_elim}
+use Rattle.std.proofs.Common.{◌≡◌, ◌≢◌, ℕ, ◌<◌, ◌≤◌, ◌↔◌, List, [], ◌∷◌, ◌++◌, length, take, All, Option, Some, None, Result, Ok, Err, refl, sym, ap, ◌∙◌, subst, arith, length-append, length-take-le, take-append-drop, take_all, take_at, drop, ⊎_elim}
 use Rattle.std.proofs.lemmas.Bool.{cases_lt, cases_Bool, ne_eqb, le-leb}
 use Rattle.std.proofs.lemmas.List.{take-append-le, take_more, get_or_append_left}
 use Rattle.std.proofs.lemmas.List.Elements.{All-take, All-get_or}
@@ -8,12 +8,10 @@ use Rattle.cobs.specs.Piece.{output}
 use Rattle.cobs.specs.Stream.{Outcome, Message, outcome_of, stream_outcomes, unended}
 use Rattle.cobs.specs.Feed.{Phase, Idle, answer_to}
 use Rattle.cobs.specs.Fields.Report.{parsed_size_of, frame_size_of}
-use Rattle.cobs.specs.Push.{answer_at, PushesBytes, pushed_outcomes, refused_outcomes}
+use Rattle.cobs.specs.Push.{answer_at, PushesBytes, pushed_outcomes}
 use Rattle.cobs.specs.Headline.{IsPiece, PushesMessage}
 use Rattle.cobs.specs.declared.dec.DecodeReport.{DecodeReport}
 use Rattle.cobs.specs.declared.dec.PushError.{PushError}
-use Rattle.cobs.specs.declared.dec.DecodeError.{DecodeError}
-use Rattle.cobs.specs.declared.dec.DecodeError.TheVariants as errors
 use Rattle.cobs.proofs.streaming.FeedLemmas.{DecoderAfter-idle}
 use Rattle.cobs.proofs.streaming.PushLemmas.{output-grows}
 use Rattle.cobs.proofs.format.StreamLemmas.{stream_outcomes-no_zero, stream_outcomes-one, unended-no_zero}
@@ -45,12 +43,8 @@ module _ (f : List ℕ) (n : ℕ) (piece : IsPiece f) where
   one_outcome : (k : ℕ) → length f < k → stream_outcomes (take k (f ++ 0 ∷ [])) n ≡ outcome_of f n ∷ []
   one_outcome k all = let l = length-append f (0 ∷ []) in ap (λ (x : List ℕ). stream_outcomes x n) (take_all k (f ++ 0 ∷ []) (omega arith)) ∙ stream_outcomes-one f n piece.0 piece.1
 
--- no error tells of a message
-refused-no_message : (error : DecodeError) (m : List ℕ) → Message m ∷ [] ≡ refused_outcomes error → ⊥
-refused-no_message error m h = grind arith
-
 pushed-no_message : (bytes : List ℕ) (refusal : PushError) (buffer m : List ℕ) → Message m ∷ [] ≡ pushed_outcomes bytes (Err refusal) buffer → ⊥
-pushed-no_message bytes refusal buffer m e = grind (arith, refused-no_message, cases_Bool)
+pushed-no_message bytes refusal buffer m e = grind (arith, cases_Bool)
 
 module _ (buffer bytes buffer' f : List ℕ) (phase phase' : Phase) (idle : phase ≡ Idle) (is : bytes ≡ f ++ 0 ∷ []) (below : All (λ b. b < 256) f) (piece : IsPiece f) (m : List ℕ) where
   -- an answer tells of a message only behind the zero

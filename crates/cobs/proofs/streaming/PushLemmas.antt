@@ -1,5 +1,5 @@
 -- A push so far, and where it ends.
-use Rattle.std.proofs.Common.{◌≡◌, ◌≢◌, ℕ, zero, suc, ◌+◌, ◌-◌, ◌<◌, ◌≤◌, Bool, cond, eqb, List, [], ◌∷◌, ◌++◌, length, take, drop, filter, get_or, refl, sym, ap, ◌∙◌, subst, arith, append_assoc, length-append, inl, inr, Option, Some, None, Result, Ok, Err}
+use Rattle.std.proofs.Common.{◌≡◌, ◌≢◌, ℕ, ◌+◌, ◌-◌, ◌<◌, ◌≤◌, Bool, cond, eqb, List, [], ◌∷◌, ◌++◌, length, take, drop, filter, get_or, refl, sym, ap, ◌∙◌, subst, arith, append_assoc, length-append, inl, inr, Option, Some, None, Result, Ok, Err}
 use Rattle.std.proofs.lemmas.List.{append-nil, take_more, take_all, take-append-drop, drop-drop}
 use Rattle.std.proofs.lemmas.List.Elements.{filter-append}
 use Rattle.std.proofs.lemmas.Bool.{cases_eq, ne_eqb, eq-eqb, leb-true}
@@ -201,15 +201,12 @@ module _ {buffer₀ buffer buffer' : List ℕ} {phase₀ phase phase' : Phase} {
   nothing_ended : (p : List ℕ) → PhaseAfter (length buffer₀) phase₀ p → get_or bytes i 0 ≡ 0 → result ≡ Ok None → unended (p ++ take i bytes) ≡ []
   nothing_ended p h z e = none_at_end (unended (p ++ take i bytes)) (length buffer₀) (ap (λ (b : ℕ). answer_to (unended (p ++ take i bytes)) b (length buffer₀)) (sym z) ∙ answer_here p h ∙ e)
 
-  unended_zero : (p : List ℕ) → get_or bytes i 0 ≡ 0 → unended (p ++ take (i + 1) bytes) ≡ []
-  unended_zero p z = unended_on p ∙ ap (fed (unended (p ++ take i bytes))) z
-
   none_ended_on : result ≡ Ok None → (p : List ℕ) → PhaseAfter (length buffer₀) phase₀ p → ended_pieces (p ++ take (i + 1) bytes) ≡ []
   none_ended_on e p h = grind (arith, stream_on, cases_eq, ended_pieces-zero, nothing_ended, ended_pieces-nonzero)
 
   untouched_on : result ≡ Ok None → (p : List ℕ) → PhaseAfter (length buffer₀) phase₀ p
       → drop (length (output (unended (p ++ take (i + 1) bytes)))) buffer' ≡ drop (length (output (unended (p ++ take (i + 1) bytes)))) buffer₀
-  untouched_on e p h = grind (arith, cases_eq, unended_zero, nothing_ended, rest_zero, rest_nonzero)
+  untouched_on e p h = grind (arith, cases_eq, nothing_ended, rest_zero, rest_nonzero, unended_on)
 
   pub Pushed-more : result ≡ Ok None → Pushed buffer₀ phase₀ buffer' phase' bytes (i + 1)
   Pushed-more e = record {

@@ -7,13 +7,12 @@ use Rattle.std.proofs.lemmas.Bool.{leb-true, cases_Bool}
 use Rattle.std.proofs.Math.Seq.{take-add}
 use Rattle.cobs.specs.Grammar.{HasNoZero}
 use Rattle.cobs.specs.Piece.{output}
-use Rattle.cobs.specs.Stream.{ended_pieces, unended, Outcome, Message, Broken, TooLong, outcome_of, stream_outcomes}
+use Rattle.cobs.specs.Stream.{ended_pieces, unended, Outcome, Broken, outcome_of, stream_outcomes}
 use Rattle.cobs.specs.Feed.{Phase, PhaseAfter, DecoderAfter, Feeds, fed, answer_to, answer_at_end}
 use Rattle.cobs.specs.Push.{last_piece}
 use Rattle.cobs.specs.Internal.PieceEnds.{LeavesRest, outcome_told}
-use Rattle.cobs.specs.FeedPiece.{AreAlike, AreAlikeAtFirst, FeedsEach, TakesBytes, TakesPiece, outcome_at, IsWithin, IsCountWithin}
+use Rattle.cobs.specs.FeedPiece.{AreAlikeAtFirst, FeedsEach, TakesBytes, TakesPiece, outcome_at, IsWithin, IsCountWithin}
 use Rattle.cobs.specs.declared.dec.frame_decoder.PieceEnd.{PieceEnd}
-use Rattle.cobs.specs.declared.dec.frame_decoder.PieceEnd.TheVariants as ends
 use Rattle.cobs.specs.declared.dec.DecodeError.{DecodeError}
 use Rattle.cobs.proofs.streaming.FeedLemmas.{DecoderAfter-idle}
 use Rattle.cobs.proofs.streaming.PushLemmas.{begun, drop-later, output-longer, last_piece-unended, last_piece-zero}
@@ -43,11 +42,8 @@ alike-nil xs h = grind arith
 nil-alike : (xs : List Outcome) → AreAlikeAtFirst [] xs → xs ≡ []
 nil-alike xs h = grind arith
 
-alike-refl : (x : Outcome) → AreAlike x x
-alike-refl x = grind arith
-
 alike_first-refl : (xs : List Outcome) → AreAlikeAtFirst xs xs
-alike_first-refl xs = grind (arith, alike-refl)
+alike_first-refl xs = grind arith
 
 alike-append : (xs ys zs : List Outcome) → AreAlikeAtFirst xs ys → AreAlikeAtFirst (xs ++ zs) (ys ++ zs)
 alike-append xs ys zs h = grind (arith, alike_first-refl)
@@ -76,13 +72,9 @@ fits-stream : (t : List ℕ) (count n : ℕ) → Broken count ∷ [] ≡ stream_
 unfolding stream_outcomes
 fits-stream t count n e = fits-map (ended_pieces t) count n e
 
--- one outcome, alike to a broken piece's
-alike-same : (found : List Outcome) (count : ℕ) → AreAlikeAtFirst (Broken count ∷ []) found → Broken count ∷ [] ≡ found
-alike-same found count h = grind arith
-
 -- so what an answer counts is within it
 count-within : (end : PieceEnd) (buffer t : List ℕ) (n : ℕ) → AreAlikeAtFirst (outcome_at end buffer ∷ []) (stream_outcomes t n) → IsWithin n end → IsCountWithin n end
-count-within end buffer t n h e = grind (arith, fits-stream, alike-same)
+count-within end buffer t n h e = grind (arith, fits-stream)
 
 -- THE STEPS
 

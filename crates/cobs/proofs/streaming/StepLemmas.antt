@@ -1,5 +1,5 @@
 -- One byte that is no zero, by the fields in which a streaming decoder keeps its phase.
-use Rattle.std.proofs.Common.{◌≡◌, ◌≢◌, ℕ, zero, suc, ◌+◌, ◌-◌, ◌<◌, Bool, true, false, cond, eqb, List, [], ◌∷◌, ◌++◌, length, set, refl, ap, arith, None, Ok, Result, Option}
+use Rattle.std.proofs.Common.{◌≡◌, ◌≢◌, ℕ, ◌+◌, ◌-◌, ◌<◌, Bool, false, cond, eqb, List, [], ◌∷◌, ◌++◌, length, set, ap, arith, None, Ok, Result, Option}
 use Rattle.std.proofs.lemmas.Bool.{ne_eqb, eqb-true, lt-ltb}
 use Rattle.cobs.specs.Feed.{Phase, Within, Over}
 use Rattle.cobs.specs.Fields.Decoders.{phase_with}

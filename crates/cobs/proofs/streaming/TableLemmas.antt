@@ -77,13 +77,9 @@ StateAfter-start = grind (arith, All-nil, output-nil)
 pub table_state-zero : (state : DecoderState) → table_state state 0 ≡ Idle
 table_state-zero state = grind arith
 
--- the answer to a zero
-end_answer-is : (full : Bool) (left : ℕ) → table_answer (inside full left) 0 ≡ cond (eqb left 0) (Ok DataComplete) (Err (InvalidFrame 0))
-end_answer-is full left = grind (arith, ne_eqb)
-
 at_end : (c : ℕ) (q : List ℕ) → table_answer (state_after (c ∷ q)) 0 ≡ cond (is_whole (c ∷ q)) (Ok DataComplete) (Err (InvalidFrame 0))
 unfolding is_whole
-at_end c q = end_answer-is (is_full (last_part (c ∷ q))) (lacks (last_part (c ∷ q)))
+at_end c q = grind (arith, ne_eqb)
 
 -- the zero behind p is answered by `DataComplete` exactly where p is a frame, and the data is then its message
 complete : (p m : List ℕ) → HasNoZero p → All (λ b. b < 256) p → ((table_answer (state_after p) 0 ≡ Ok DataComplete) × (output p ≡ m)) ↔ Reads p m
@@ -110,10 +106,5 @@ StateAfter-end state p so_far m s =
 coded : (n b count : ℕ) → state_in (cond (eqb b 0) phases.Idle (Within (eqb b 255) (b - 1) count)) ≡ Some (cond (eqb b 0) Idle (opened_by b))
 coded n b count = grind (arith, opened_by-is)
 
--- one more byte in the buffer, or no room for it
-grown : (n : ℕ) (t full room : Bool) (left count : ℕ) → cond t phases.Idle (cond room (Within full left count) Over) ≢ Over
-    → state_in (cond t phases.Idle (cond room (Within full left count) Over)) ≡ Some (cond t Idle (inside full left))
-grown n t full room left count h = grind arith
-
 pub phase_by_table : (n : ℕ) (phase : Phase) (b : ℕ) (state : DecoderState) → state_in phase ≡ Some state → next_phase n phase b ≢ Over → state_in (next_phase n phase b) ≡ Some (table_state state b)
-phase_by_table n phase b state h e = grind (arith, coded, grown, opened_by-is)
+phase_by_table n phase b state h e = grind (arith, coded, opened_by-is)

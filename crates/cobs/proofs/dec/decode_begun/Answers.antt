@@ -1,4 +1,4 @@
-use Rattle.std.proofs.Common.{true, ◌≡◌, ◌≢◌, ◌<◌, ◌++◌, [], ◌∷◌, ◌-◌, ℕ, List, length, take, drop, subst, sym, ap, ◌∙◌, arith, length-drop, length-take-le}
+use Rattle.std.proofs.Common.{true, ◌≡◌, ◌<◌, ◌++◌, ◌-◌, ℕ, List, length, take, drop, subst, sym, ap, ◌∙◌, arith, length-drop, length-take-le}
 use Rattle.cobs.specs.Grammar.{HasNoZero}
 use Rattle.std.proofs.lemmas.List.{drop_at}
 use Rattle.std.proofs.lemmas.List.Elements.{All-cons}
@@ -13,10 +13,6 @@ use Rattle.cobs.proofs.decoding.OutcomeLemmas.{length-head, head-zero, head_alon
 use Rattle.cobs.proofs.dec.decode_begun.Goals as goal
 use Rattle.cobs.proofs.dec.decode_begun.Goals.{After-copy_short}
 
--- a source that begins with a code and has no zero behind it
-whole-nonzero : (source : List ℕ) → 0 < length (head source) → HasNoZero (drop 1 source) → HasNoZero source
-whole-nonzero source h e = grind (arith, length-head, All-cons, head-zero)
-
 -- what is written over the bytes that were copied
 copied-buffer : (piece old copied : List ℕ) → 0 < length piece → length piece < 255 → copied ≡ drop 1 piece ++ drop (length piece - 1) old → length copied ≡ length old → overwritten copied (output piece) ≡ overwritten old (output piece)
 copied-buffer piece old copied some few is same = grind (arith, output-short, length-drop, drop_at)
@@ -25,7 +21,7 @@ pub copy_short-requires : goal.copy_short-requires
 copy_short-requires c = let l = length-head c.args.source.now in record { some = omega (arith, c.requires.begun) }
 
 whole : (c : After-copy_short) → c.copy_short.result ≡ true → HasNoZero c.args.source.now
-whole c copied = whole-nonzero c.args.source.now c.requires.begun (c.copy_short.ensures.nonzero copied)
+whole c copied = grind (arith, length-head, All-cons, head-zero)
 
 pub decode_copied-requires-clause-some : goal.decode_copied-requires-clause-some
 decode_copied-requires-clause-some c = let l = length-head c.args.source.now in omega (arith, c.requires.begun)

@@ -1,6 +1,5 @@
-use Rattle.std.proofs.Common.{ℕ, List, [], ◌≡◌, ◌++◌, ap, sym, ◌∙◌, arith}
+use Rattle.std.proofs.Common.{arith}
 use Rattle.std.proofs.lemmas.List.{nil_from_length, append-nil}
-use Rattle.cobs.specs.Stream.{is_nonempty, unended}
 use Rattle.cobs.proofs.format.StreamLemmas.{nonempty-unended_last, unended-no_zero}
 use Rattle.cobs.proofs.framed.is_unfinished.Goals as goal
 

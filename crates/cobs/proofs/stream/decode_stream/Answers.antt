@@ -1,4 +1,4 @@
-use Rattle.std.proofs.Common.{rules, ◌∙◌, refl, arith}
+use Rattle.std.proofs.Common.{◌∙◌, refl, arith}
 use Rattle.std.proofs.lemmas.List.{map_push}
 use Rattle.cobs.specs.Messages.{outcome_in}
 use Rattle.cobs.proofs.streaming.FeedLemmas.{DecoderAfter-idle}

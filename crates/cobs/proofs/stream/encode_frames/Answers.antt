@@ -1,6 +1,5 @@
-use Rattle.std.proofs.Common.{◌≡◌, ◌++◌, take, drop, length, arith}
+use Rattle.std.proofs.Common.{arith}
 use Rattle.std.proofs.lemmas.Grind.{common_steps}
-use Rattle.cobs.specs.Messages.{AreFrames, messages_in}
 use Rattle.cobs.proofs.format.MessagesLemmas.{AreFrames-outcomes}
 use Rattle.cobs.proofs.stream.encode_frames.Goals as goal
 

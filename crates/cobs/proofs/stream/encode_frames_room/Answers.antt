@@ -1,4 +1,4 @@
-use Rattle.std.proofs.Common.{◌+◌, arith}
+use Rattle.std.proofs.Common.{arith}
 use Rattle.std.proofs.lemmas.Grind.{common_steps}
 use Rattle.cobs.proofs.format.MessagesLemmas.{room-step, room-some}
 use Rattle.cobs.proofs.stream.encode_frames_room.Goals as goal

@@ -1,4 +1,4 @@
-use Rattle.std.proofs.Common.{◌+◌, arith}
+use Rattle.std.proofs.Common.{arith}
 use Rattle.cobs.proofs.format.MessagesLemmas.{room-step, room-some}
 use Rattle.cobs.proofs.stream.room_for.Goals as goal
 

@@ -2,7 +2,7 @@ use Rattle.std.proofs.Common.{refl, sym, ◌∙◌, arith}
 use Rattle.std.proofs.lemmas.Bool.{eqb-true, true≢false}
 use Rattle.cobs.specs.Grammar.{HasNoZero}
 use Rattle.cobs.specs.declared.dec.blocks.FrameKind.TheVariants.{NotAFrame, Canonical, Longer}
-use Rattle.cobs.proofs.format.KindLemmas.{IsKindOf, says_not, says_canonical, says_longer, empty-kind, zero-kind, code-some, broken-kind, block-behind, longer-kind, canonical-kind, all_nonzero}
+use Rattle.cobs.proofs.format.KindLemmas.{IsKindOf, says_not, says_canonical, says_longer, empty-kind, zero-kind, broken-kind, block-behind, longer-kind, canonical-kind, all_nonzero}
 use Rattle.cobs.proofs.dec.blocks.frame_kind.Goals as goal
 use Rattle.cobs.proofs.dec.blocks.frame_kind.Goals.{then-is_empty-via-then-is_empty, then-is_empty-via-else-is_empty+then-piece_len-bytes, else-after_full-via-then-after_full+else-code-eq1, else-after_full-via-else-after_full}
 

@@ -1,4 +1,4 @@
-use Rattle.std.proofs.Common.{not, ◌≢◌, ◌<◌, ◌↔◌, ◌⊎◌, true, false, suc, ◌≡◌, IsTrue, ◌≤◌, ◌+◌, ◌-◌, ◌∙◌, ℕ, List, bit_xor, length, take, drop, refl, sym, ap, subst, arith, inl, inr, length-drop, length-take-le, take_all}
+use Rattle.std.proofs.Common.{◌≢◌, ◌<◌, ◌↔◌, ◌⊎◌, true, false, suc, ◌≡◌, IsTrue, ◌≤◌, ◌+◌, ◌-◌, ◌∙◌, ℕ, List, bit_xor, length, take, drop, refl, sym, ap, subst, arith, inl, inr, length-drop, length-take-le, take_all}
 use Rattle.std.proofs.lemmas.List.{take_rest, length-map}
 use Rattle.std.proofs.lemmas.List.{take-take}
 use Rattle.std.proofs.lemmas.List.Elements.{All-take, All-drop}

@@ -1,9 +1,6 @@
-use Rattle.std.proofs.Common.{◌≡◌, ◌≢◌, ◌-◌, ℕ, List, length, take, drop, subst, length-take-le, sym, ap, ◌∙◌, arith}
+use Rattle.std.proofs.Common.{◌≢◌, length, length-take-le, sym, ◌∙◌, arith}
 use Rattle.std.proofs.lemmas.Bool.{eqb-true, eqb-false}
-use Rattle.cobs.specs.Overwritten.{overwritten}
-use Rattle.cobs.specs.Piece.{output, kept_output}
 use Rattle.cobs.specs.Sentinel.{xor_each}
-use Rattle.cobs.specs.Decode.{head_answer_within}
 use Rattle.cobs.proofs.decoding.HeadlineLemmas.{bytes_below, source_reads, xor_below}
 use Rattle.cobs.proofs.decoding.SourceSteps.{xor_no_zero, xor_head, source_answer-head, nothing_kept}
 use Rattle.cobs.proofs.decoding.SourceFronts.{front-answer, front-buffer}

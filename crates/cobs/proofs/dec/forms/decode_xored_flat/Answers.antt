@@ -1,7 +1,6 @@
-use Rattle.std.proofs.Common.{◌∙◌, ◌+◌, List, length, bit_xor, ℕ, refl, ap, sym, subst, arith}
+use Rattle.std.proofs.Common.{bit_xor, refl, sym, subst, arith}
 use Rattle.std.proofs.lemmas.List.{length-map}
 use Rattle.cobs.specs.Grammar.{HasNoZero}
-use Rattle.cobs.specs.Piece.{output}
 use Rattle.cobs.proofs.decoding.SourceFronts.{copied-piece, copied-rest}
 use Rattle.cobs.proofs.dec.forms.decode_xored_flat.Goals as goal
 

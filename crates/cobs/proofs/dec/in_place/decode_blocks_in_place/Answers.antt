@@ -1,4 +1,4 @@
-use Rattle.std.proofs.Common.{◌≡◌, ◌≤◌, ◌<◌, ◌+◌, ◌-◌, ◌++◌, ◌⊎◌, ◌↔◌, IsTrue, Bool, true, false, ℕ, List, length, take, drop, get_or, set, refl, sym, ap, ◌∙◌, subst, arith, inl, inr, length-drop, length-take-le, take-append-drop}
+use Rattle.std.proofs.Common.{◌≡◌, ◌≤◌, ◌<◌, ◌+◌, ◌-◌, ◌⊎◌, ◌↔◌, IsTrue, Bool, true, false, ℕ, List, length, take, drop, get_or, set, refl, sym, ap, ◌∙◌, subst, arith, inl, inr, length-drop, length-take-le, take-append-drop}
 use Rattle.std.proofs.lemmas.List.{take_rest, drop-drop, get_or-drop}
 use Rattle.std.proofs.lemmas.Bool.{ne_eqb, eq-eqb, true≢false}
 use borrow.Rule.Slice.PartMut.{put_mid}

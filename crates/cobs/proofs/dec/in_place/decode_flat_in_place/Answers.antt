@@ -1,6 +1,5 @@
-use Rattle.std.proofs.Common.{◌∙◌, ap, sym, subst, arith, drop, length-drop, length-take-le}
+use Rattle.std.proofs.Common.{sym, subst, arith, length-drop, length-take-le}
 use Rattle.cobs.specs.Grammar.{HasNoZero}
-use Rattle.cobs.specs.Piece.{output}
 use Rattle.cobs.proofs.decoding.FlatLemmas.{moved-piece, moved-rest, flat-some, flat-copy}
 use Rattle.cobs.proofs.dec.in_place.decode_flat_in_place.Goals as goal
 

@@ -1,9 +1,5 @@
-use Rattle.std.proofs.Common.{◌≡◌, ◌≢◌, ◌-◌, ℕ, List, length, take, Ok, Err, refl, sym, ap, ◌∙◌, rules, arith, length-take-le}
+use Rattle.std.proofs.Common.{◌-◌, Ok, refl, sym, arith, length-take-le}
 use Rattle.std.proofs.lemmas.Bool.{eqb-false}
-use Rattle.cobs.specs.Overwritten.{overwritten}
-use Rattle.cobs.specs.Piece.{kept_output}
-use Rattle.cobs.specs.Stream.{head}
-use Rattle.cobs.specs.Decode.{in_place}
 use Rattle.cobs.proofs.decoding.HeadLemmas.{front_is_head}
 use Rattle.cobs.proofs.decoding.BlockSteps.{overwritten-front}
 use Rattle.cobs.proofs.decoding.FlatLemmas.{flat-kept, flat-answer}

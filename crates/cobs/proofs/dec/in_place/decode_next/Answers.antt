@@ -1,10 +1,8 @@
-use Rattle.std.proofs.Common.{◌≡◌, ◌≢◌, ◌≤◌, ◌+◌, ◌-◌, ◌∙◌, ◌↔◌, IsTrue, ℕ, List, length, take, drop, ap, sym, subst, arith, length-drop, length-take-le}
+use Rattle.std.proofs.Common.{◌≡◌, ◌≢◌, ◌≤◌, ◌+◌, ◌-◌, ◌∙◌, ℕ, List, length, take, drop, ap, sym, subst, arith, length-drop, length-take-le}
 use Rattle.std.proofs.lemmas.List.{take-take}
 use Rattle.std.proofs.lemmas.List.Elements.{All-take}
-use Rattle.cobs.specs.Grammar.{HasNoZero, code_of}
-use Rattle.cobs.specs.Piece.{last_part}
+use Rattle.cobs.specs.Grammar.{HasNoZero}
 use Rattle.cobs.specs.Sentinel.{xor_each}
-use Rattle.cobs.specs.Internal.Decoded.{IsFlat}
 use Rattle.cobs.proofs.format.SentinelLemmas.{xor_each-zero}
 use Rattle.cobs.proofs.dec.in_place.decode_next.Goals as goal
 

@@ -1,6 +1,5 @@
-use Rattle.std.proofs.Common.{◌∙◌, ℕ, List, take, refl, ap, sym, subst, arith, length-take-le}
+use Rattle.std.proofs.Common.{◌∙◌, ℕ, List, take, refl, sym, subst, arith, length-take-le}
 use Rattle.cobs.specs.Grammar.{HasNoZero}
-use Rattle.cobs.specs.Piece.{output}
 use Rattle.cobs.specs.Internal.Decoded.{IsFlat}
 use Rattle.cobs.proofs.format.SentinelLemmas.{xor_each-zero}
 use Rattle.cobs.proofs.decoding.FlatLemmas.{moved-piece, moved-rest, piece-nonzero, flat-copy}

@@ -1,4 +1,4 @@
-use Rattle.std.proofs.Common.{◌∙◌, ◌-◌, length, take, drop, ap, arith, length-drop, take_at, drop_at}
+use Rattle.std.proofs.Common.{arith, length-drop, take_at, drop_at}
 use Rattle.cobs.proofs.dec.piece.decode_flat_piece.Goals as goal
 
 pub write_codes-requires-clause-copied : goal.write_codes-requires-clause-copied

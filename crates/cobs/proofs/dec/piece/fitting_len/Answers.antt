@@ -4,7 +4,7 @@ use Rattle.std.proofs.lemmas.List.{take_all}
 use Rattle.cobs.specs.Piece.{output}
 use Rattle.cobs.proofs.decoding.PieceCuts.{length-output-last, output-le, joint_of, joint-length}
 use Rattle.cobs.proofs.decoding.WindowSteps.{code-pos}
-use Rattle.cobs.proofs.decoding.FrontLemmas.{front-started, front-ends, front-whole, front-too_long, front-more-left}
+use Rattle.cobs.proofs.decoding.FrontLemmas.{front-ends, front-whole, front-too_long, front-more-left}
 use Rattle.cobs.proofs.dec.piece.fitting_len.Goals as goal
 
 pub returns-then-piece-room-clause-front : goal.returns-then-piece-room-clause-front
@@ -14,7 +14,7 @@ pub returns-then-piece-room-clause-too_long : goal.returns-then-piece-room-claus
 returns-then-piece-room-clause-too_long c = grind (arith, output-le)
 
 pub by_code-init : goal.by_code-init
-by_code-init c = front-started c.args.piece.now c.args.room c.requires.some
+by_code-init c = grind arith
 
 pub returns-then-piece-read-clause-front : goal.returns-then-piece-read-clause-front
 returns-then-piece-read-clause-front c =

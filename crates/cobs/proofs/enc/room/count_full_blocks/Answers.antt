@@ -1,8 +1,8 @@
-use Rattle.std.proofs.Common.{◌≡◌, ◌<◌, ◌+◌, ◌-◌, ◌/◌, ℕ, List, [], length, drop, take, get_or, sym, ap, ◌∙◌, subst, arith, length-drop, length-take-le}
+use Rattle.std.proofs.Common.{◌≡◌, ◌<◌, ◌+◌, ◌-◌, ◌/◌, ℕ, List, length, drop, take, ap, subst, arith, length-drop, length-take-le}
 use Rattle.std.proofs.lemmas.Bool.{eqb-true}
-use Rattle.std.proofs.lemmas.List.{drop_all, get_or-take, get_or-drop, take_rest}
+use Rattle.std.proofs.lemmas.List.{drop_all, get_or-take, get_or-drop, take_rest, drop_more}
 use Rattle.cobs.specs.Grammar.{HasNoZero}
-use Rattle.cobs.proofs.encoding.RoomLemmas.{blocks_in, behind, blocks-le, blocks-end, blocks-none, skipped, run-more, byte-zero}
+use Rattle.cobs.proofs.encoding.RoomLemmas.{blocks_in, behind, blocks-le, blocks-end, blocks-none, skipped, run-more, blocks-zero}
 use Rattle.cobs.proofs.enc.room.count_full_blocks.Goals as goal
 
 -- the source ends with the run
@@ -34,7 +34,7 @@ stopped c =
     let lt : read + more < length source = omega arith in
     let nonzero = subst HasNoZero (ap (take more) rest) c.run_len-more.ensures.nonzero in
     let all = run-more source read run more (omega arith) nonzero in
-    grind (arith, get_or-drop, byte-zero)
+    grind (arith, get_or-drop, drop_more, blocks-zero)
 
 pub overflow_add-counted-in_default : goal.overflow_add-counted-in_default
 overflow_add-counted-in_default c = let le = blocks-le c.args.run c.args.source.now in let e = stopped c in omega arith

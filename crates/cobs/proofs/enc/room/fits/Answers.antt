@@ -1,4 +1,4 @@
-use Rattle.std.proofs.Common.{◌-◌, refl, arith}
+use Rattle.std.proofs.Common.{arith}
 use Rattle.cobs.proofs.encoding.OpenLenLemmas.{open_len-most}
 use Rattle.cobs.proofs.encoding.RoomLemmas.{blocks-le}
 use Rattle.cobs.proofs.enc.room.fits.Goals as goal

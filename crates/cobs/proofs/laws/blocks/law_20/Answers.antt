@@ -1,13 +1,15 @@
-use Rattle.cobs.proofs.decoding.KeptLemmas.{broken-part, kept-broken}
-use Rattle.cobs.proofs.decoding.KeptLemmas.{all-kept, front-kept, front-whole, one-output, one-whole}
+use Rattle.cobs.proofs.decoding.KeptLemmas.{broken-part, kept-broken, whole-part}
+use Rattle.cobs.proofs.decoding.KeptLemmas.{all-kept, front-kept, front-whole}
 use Rattle.std.proofs.Common.{arith}
+use Rattle.cobs.proofs.decoding.PieceCuts.{output-last}
+use Rattle.std.proofs.lemmas.List.{drop_all}
 use Rattle.cobs.proofs.laws.blocks.law_20.Goals as goal
 
 pub returns-clause-one : goal.returns-clause-one
-returns-clause-one c = one-output
+returns-clause-one c = grind (arith, output-last)
 
 pub returns-clause-one_whole : goal.returns-clause-one_whole
-returns-clause-one_whole c = one-whole
+returns-clause-one_whole c = grind (arith, whole-part, drop_all)
 
 pub returns-clause-whole : goal.returns-clause-whole
 returns-clause-whole c = front-whole

@@ -1,12 +1,12 @@
 use Rattle.std.proofs.Common.{◌≡◌, ◌+◌, ◌∙◌, ℕ, List, Bool, false, eqb, set, get_or, sym, subst, arith}
 use Rattle.std.proofs.lemmas.Bool.{ne_eqb}
-use Rattle.std.proofs.lemmas.List.{length-set}
+use Rattle.std.proofs.lemmas.List.{length-set, length-take-le, take-append-drop}
 use Rattle.cobs.specs.Fields.Decoders.{phase_of}
-use Rattle.cobs.proofs.streaming.ChunkLemmas.{Marked, marked-start, marked-code, marked-end}
+use Rattle.cobs.proofs.streaming.ChunkLemmas.{Marked, marked-code, marked-end}
 use Rattle.cobs.proofs.dec.unbuffered.UnbufferedDecoder.mark_codes.Goals as goal
 
 pub by_code-init : goal.by_code-init
-by_code-init c = grind (arith, ne_eqb, marked-start)
+by_code-init c = grind (arith, ne_eqb, length-take-le, take-append-drop)
 
 pub by_code-preserved : goal.by_code-preserved
 by_code-preserved c =

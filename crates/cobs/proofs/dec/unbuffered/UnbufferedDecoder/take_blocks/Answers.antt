@@ -1,12 +1,10 @@
-use Rattle.std.proofs.Common.{◌≡◌, ◌<◌, ◌≤◌, ◌∙◌, ◌+◌, ℕ, List, Bool, eqb, length, take, sym, ap, subst, arith, get_or-take, length-take}
+use Rattle.std.proofs.Common.{◌≡◌, ◌<◌, ◌≤◌, ◌∙◌, ℕ, List, eqb, length, take, sym, subst, arith, get_or-take, length-take}
 use Rattle.std.specs.List.{All}
 use Rattle.std.proofs.lemmas.Bool.{ne_eqb, eq-eqb}
 use Rattle.std.proofs.lemmas.List.{take-take}
 use Rattle.std.proofs.lemmas.List.Elements.{All-take, All-get_or, All-from_get_or}
-use Rattle.cobs.specs.Feed.{Phase}
 use Rattle.cobs.specs.Grammar.{code_of}
-use Rattle.cobs.specs.Internal.FedInTurn.{FedInTurn}
-use Rattle.cobs.specs.Piece.{last_part, output}
+use Rattle.cobs.specs.Piece.{last_part}
 use Rattle.cobs.specs.Stream.{head}
 use Rattle.cobs.proofs.decoding.FrontSteps.{head-get, head-one_more, head-prefix}
 use Rattle.cobs.proofs.decoding.OutcomeLemmas.{head_nonzero, length-head}
@@ -35,9 +33,6 @@ module _ (bytes : List ℕ) (most : ℕ) where
   small : All (λ b. b < 256) bytes → code_of (last_part piece) < 256
   small below = subst (λ (p : List ℕ). code_of (last_part p) < 256) front (code_small (take (length piece) bytes) (All-take (λ b. b < 256) (length piece) bytes below))
 
-  fed-front : (buffer buffer' : List ℕ) (phase phase' : Phase) (n : ℕ) → n ≡ length piece → FedInTurn buffer phase piece buffer' phase' → FedInTurn buffer phase (take n bytes) buffer' phase'
-  fed-front buffer buffer' phase phase' n is fed = subst (λ (xs : List ℕ). FedInTurn buffer phase xs buffer' phase') (sym (ap (λ (k : ℕ). take k bytes) is ∙ front)) fed
-
 pub decode_head-len-requires-clause-begun : goal.decode_head-len-requires-clause-begun
 decode_head-len-requires-clause-begun c = grind (arith, then-self, else-self, length-head, begun)
 
@@ -56,4 +51,4 @@ returns-clause-within c = omega (arith, c.decode_head-len.ensures.read, within c
 
 pub returns-clause-fed : goal.returns-clause-fed
 returns-clause-fed c =
-    grind (arith, base_of, eqb, eq-eqb, ne_eqb, joined, length-head, begun, output-le, short, blocks_fed, head_nonzero, fed-front)
+    grind (arith, base_of, eqb, eq-eqb, ne_eqb, joined, length-head, begun, output-le, short, blocks_fed, head_nonzero, front)

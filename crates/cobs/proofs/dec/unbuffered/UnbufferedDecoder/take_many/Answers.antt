@@ -12,11 +12,8 @@ use Rattle.cobs.proofs.dec.unbuffered.UnbufferedDecoder.take_many.Goals.{then-cl
 
 -- no zero is in the first bytes, so many as `clean` says, of which more than `run` are taken
 module _ (bytes : List ℕ) (near clean run : ℕ) (few : clean ≤ length (take near bytes)) (nonzero : HasNoZero (take clean (take near bytes))) where
-  front-is : take clean (take near bytes) ≡ take clean bytes
-  front-is = take-take clean near bytes (omega (arith, length-take near bytes))
-
   front-nonzero : HasNoZero (take clean bytes)
-  front-nonzero = subst HasNoZero front-is nonzero
+  front-nonzero = grind (arith, take-take, length-take)
 
   within : clean ≤ length bytes
   within = omega (arith, length-take near bytes)

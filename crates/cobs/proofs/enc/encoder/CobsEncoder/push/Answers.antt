@@ -1,4 +1,4 @@
-use Rattle.std.proofs.Common.{◌≡◌, ◌++◌, ℕ, drop, refl, sym, subst, arith}
+use Rattle.std.proofs.Common.{◌≡◌, ◌++◌, ℕ, drop, sym, subst, arith}
 use Rattle.cobs.specs.Fields.Progress.{reached_by}
 use Rattle.cobs.proofs.encoding.AfterLemmas.{end-is}
 use Rattle.cobs.proofs.encoding.TakingLemmas.{after-end, all-after, all-rest}

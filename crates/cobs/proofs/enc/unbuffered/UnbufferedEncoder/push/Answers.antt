@@ -1,4 +1,4 @@
-use Rattle.std.proofs.Common.{refl, arith}
+use Rattle.std.proofs.Common.{arith}
 use Rattle.cobs.specs.Fields.Progress.{reached_by}
 use Rattle.cobs.proofs.encoding.PlaceLemmas.{after-place}
 use Rattle.cobs.proofs.encoding.TakingLemmas.{after-end, all-after, all-rest}
