@@ -1,6 +1,6 @@
 -- The walk over the first whole blocks of a frame, which writes a zero over each code that it reads.
 use Rattle.std.proofs.Common.{◌≡◌, ◌≢◌, ℕ, ◌+◌, ◌-◌, ◌<◌, ◌≤◌, ◌∷◌, ◌++◌, List, length, take, drop, get_or, set, replicate, refl, sym, ap, ◌∙◌, subst, arith, suc, [], drop_at, length-take-le, length-drop, length-append}
-use Rattle.std.proofs.lemmas.List.{length-set, get_or-take, drop_more, drop-set-lt, get_or-set_same, get_or-set_other}
+use Rattle.std.proofs.lemmas.List.{length-set, get_or-take, drop_more, drop-set-lt, get_or-set_same, get_or-set_other, take-take}
 use Rattle.cobs.specs.Grammar.{HasNoZero, code_of}
 use Rattle.cobs.specs.Piece.{output, last_part}
 use Rattle.cobs.specs.Internal.Decoded.{IsFlat}
@@ -8,7 +8,7 @@ use Rattle.cobs.proofs.decoding.PieceCuts.{output-le}
 use Rattle.cobs.proofs.decoding.WindowSteps.{code-pos, code-decoded, code-copied, end-begins, last-code}
 use borrow.Rule.Slice.PartMut.{put_mid}
 use Rattle.cobs.proofs.decoding.InPlaceSteps.{drop-later}
-use Rattle.cobs.proofs.decoding.FlatLemmas.{FlatCopied, flat-whole, joints-start, next-code, copied-ones, put-back}
+use Rattle.cobs.proofs.decoding.FlatLemmas.{FlatCopied, flat-whole, next-code, copied-ones, put-back}
 
 -- the first bytes of a piece, by its first code and what follows that
 abbrev pub cut : ℕ → List ℕ → ℕ → List ℕ
@@ -25,12 +25,7 @@ pub record Marked (first : ℕ) (old dest : List ℕ) (len read code : ℕ) : Ty
   pub same : length dest ≡ length old
 
 pub marked-start : (first : ℕ) (old : List ℕ) (len : ℕ) → 0 < first → first ≤ len → len ≤ length old + 1 → Marked first old old len 0 first
-marked-start first old len some whole room = record {
-  copied = λ end lt le. joints-start old first end lt (omega arith);
-  whole = omega arith;
-  some = some;
-  same = refl;
-}
+marked-start first old len some whole room = grind (arith, length-take-le, take-take)
 
 module _ (first : ℕ) (old dest : List ℕ) (len read code : ℕ) (m : Marked first old dest len read code) (room : len ≤ length old + 1) where
   -- one more block
@@ -149,14 +144,11 @@ whole-buffer old h = grind arith
 
 module _ (first : ℕ) (rest new after : List ℕ) (front : ℕ) (some : 0 < front) (within : front ≤ length rest + 1) (same : length new ≡ length rest) (behind : drop (front - 1) new ≡ drop (front - 1) rest)
     (is : after ≡ take (front - 1) new ++ drop (front - 1) (first ∷ new)) where
-  new-long : length (take (front - 1) new) ≡ front - 1
-  new-long = length-take-le (front - 1) new (omega arith)
-
   after-rest : drop (front - 1) after ≡ drop (front - 1) (first ∷ new)
-  after-rest = ap (drop (front - 1)) is ∙ drop_at (take (front - 1) new) (drop (front - 1) (first ∷ new)) (front - 1) new-long
+  after-rest = grind (arith, drop_at, length-take-le)
 
   pub after-same : length after ≡ length (first ∷ rest)
-  after-same = let a = new-long in let b = length-drop (front - 1) (first ∷ new) in ap length is ∙ length-append (take (front - 1) new) (drop (front - 1) (first ∷ new)) ∙ omega arith
+  after-same = grind (arith, length-drop, length-append, length-take-le)
 
   next : front - 1 + 1 ≡ suc (front - 1)
   next = omega arith

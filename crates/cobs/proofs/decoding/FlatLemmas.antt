@@ -181,11 +181,6 @@ pub copied-ones : (piece old dest after : List ℕ) (read : ℕ) → FlatCopied 
 copied-ones piece old dest after read f ones lt room is =
     subst (λ (x : List ℕ). FlatCopied piece old x (read + 32) 1) (zeroed-is 32 read dest (omega arith) ∙ sym is) (copied-ones-by 32 piece old dest read f ones lt room)
 
--- a buffer that begins with what stands behind the first code
-pub joints-start : (dest : List ℕ) (first len : ℕ) → 0 < len → len ≤ length dest + 1
-    → FlatCopied (first ∷ take (len - 1) dest) dest dest 0 first
-joints-start dest first len some room = grind (arith, length-take-le, take-take)
-
 -- a copy of one
 pub flat-copy : (copy p : List ℕ) (n : ℕ) → copy ≡ p → IsFlat p → length p ≡ n → length (output copy) + 1 ≡ n
 flat-copy copy p n is flat long = ap (λ (x : List ℕ). length (output x) + 1) is ∙ flat.len ∙ long
@@ -196,16 +191,13 @@ flat-some old from len h = grind arith
 
 -- what stands after the first code, moved to the front
 module _ (old after : List ℕ) (from len : ℕ) (inside : from + len ≤ length old) (some : 0 < len) (is : after ≡ take (len - 1) (drop (from + 1) old) ++ drop (len - 1) old) where
-  moved-long : length (take (len - 1) (drop (from + 1) old)) ≡ len - 1
-  moved-long = let d = length-drop (from + 1) old in length-take-le (len - 1) (drop (from + 1) old) (omega arith)
-
   pub moved-piece : get_or old from 0 ∷ take (len - 1) after ≡ take len (drop from old)
   moved-piece =
       let l : len ≡ suc (len - 1) = omega arith in
-      grind (arith, take_at, moved-long, drop_more)
+      grind (arith, take_at, length-drop, length-take-le, drop_more)
 
   pub moved-rest : drop (len - 1) after ≡ drop (len - 1) old
-  moved-rest = ap (drop (len - 1)) is ∙ drop_at (take (len - 1) (drop (from + 1) old)) (drop (len - 1) old) (len - 1) moved-long
+  moved-rest = grind (arith, drop_at, length-drop, length-take-le)
 
 -- the first byte and those after it
 pub piece-nonzero : (old : List ℕ) (len : ℕ) → 0 < len → len ≤ length old → get_or old 0 0 ≢ 0 → HasNoZero (take (len - 1) (drop 1 old)) → HasNoZero (take len old)

@@ -102,9 +102,6 @@ pub head-rest : (t : List ℕ) (read end : ℕ) → end ≡ length (head t) → 
 head-rest t read end is le =
     sym (head-part (end - read) read t (omega arith)) ∙ take_all (end - read) (drop read (head t)) (omega (arith, length-drop read (head t)))
 
-pub head-is : (t : List ℕ) (end : ℕ) → end ≡ length (head t) → take end t ≡ head t
-head-is t end is = ap (λ (n : ℕ). take n t) is ∙ head-prefix t
-
 -- what is left of a piece is a head
 pub part-head : (piece : List ℕ) (read : ℕ) → HasNoZero piece → head (take (length piece - read) (drop read piece)) ≡ drop read piece
 part-head piece read nonzero =

@@ -104,13 +104,10 @@ head_reads byte bytes m some below =
 
 -- A PIECE ALONE IS ITS OWN FIRST PIECE AND HEAD
 
-one_stretch : (p : List ℕ) → HasNoZero p → stretches p ≡ p ∷ []
-one_stretch p h = slice_split_none (λ b. b == 0) p (All-weaker (λ b. b ≢ 0) (λ b. (b == 0) ≡ false) (λ b some. ne_eqb b 0 some) p h)
-
 pub head_alone : (p : List ℕ) → HasNoZero p → head p ≡ p
 unfolding head
-head_alone p h = ap first_of (one_stretch p h)
+head_alone p h = grind (arith, slice_split_none, All-weaker, ne_eqb)
 
 pub first_piece_alone : (p : List ℕ) → p ≢ [] → HasNoZero p → first_piece p ≡ Some p
 unfolding first_piece
-first_piece_alone p h e = grind (arith, filter, one_stretch)
+first_piece_alone p h e = grind (arith, filter, slice_split_none, All-weaker, ne_eqb)

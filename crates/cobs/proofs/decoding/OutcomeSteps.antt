@@ -31,27 +31,21 @@ module _ (p : List ℕ) (n : ℕ) where
 pub decode_answer-none : (source : List ℕ) (n : ℕ) → 0 < length source → first_piece source ≡ None → Err (InvalidFrame 0) ≡ decode_answer source n
 decode_answer-none source n h e = grind arith
 
-pub decode_answer-some : (source p : List ℕ) (n : ℕ) → 0 < length source → first_piece source ≡ Some p → reported (len_through_piece source p) (sized (outcome_of p n)) ≡ decode_answer source n
-decode_answer-some source p n h e = grind arith
-
 -- and by what came of that piece
 module _ (source p : List ℕ) (n : ℕ) (some : 0 < length source) (is : first_piece source ≡ Some p) (result : Result ℕ DecodeError) (result-is : result ≡ sized (outcome_of p n)) where
   pub decode_answer-refused : (error : DecodeError) → result ≡ Err error → Err error ≡ decode_answer source n
-  decode_answer-refused error e = ap (reported (len_through_piece source p)) (sym e ∙ result-is) ∙ decode_answer-some source p n some is
+  decode_answer-refused error e = grind arith
 
   pub decode_answer-decoded : (size parsed : ℕ) → result ≡ Ok size → parsed ≡ len_through_piece source p → (report : DecodeReport) → report ≡ report_of parsed size → Ok report ≡ decode_answer source n
-  decode_answer-decoded size parsed e count report r = grind (arith, decode_answer-some)
+  decode_answer-decoded size parsed e count report r = grind arith
 
 -- a buffer over which nothing is written
 pub overwritten-none : (buffer : List ℕ) → overwritten buffer [] ≡ buffer
 overwritten-none buffer = grind arith
 
 module _ (buffer h : List ℕ) (some : 0 < length buffer) (is : h ≡ head buffer) (result : Result ℕ DecodeError) (result-is : result ≡ head_answer h) where
-  by_head : reported (length h) result ≡ in_place_report buffer
-  by_head = grind arith
-
   pub in_place_report-refused : (error : DecodeError) → result ≡ Err error → Err error ≡ in_place_report buffer
-  in_place_report-refused error e = ap (reported (length h)) (sym e) ∙ by_head
+  in_place_report-refused error e = grind arith
 
   pub in_place_report-decoded : (size parsed : ℕ) → result ≡ Ok size → parsed ≡ length h → (report : DecodeReport) → report ≡ report_of parsed size → Ok report ≡ in_place_report buffer
-  in_place_report-decoded size parsed e count report r = ap Ok (r ∙ ap (λ (k : ℕ). report_of k size) count) ∙ ap (reported (length h)) (sym e) ∙ by_head
+  in_place_report-decoded size parsed e count report r = grind arith

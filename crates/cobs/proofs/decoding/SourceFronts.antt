@@ -67,9 +67,6 @@ module _ (source : List ℕ) (s : ℕ) (old dest : List ℕ) (read written : ℕ
   h-long : length h ≡ length source
   h-long = length-map source (λ (b : ℕ). bit_xor b s)
 
-  done-long : length (take written dest) ≡ written
-  done-long = length-take-le written dest (let r = d.room in let l = d.len in omega arith)
-
   -- what is left of the source
   pub left-is : xor_each s (take (length source - read) (drop read source)) ≡ drop read h
   left-is = ap (xor_each s) (take_rest source read) ∙ sym (drop-map (λ b. bit_xor b s) read source)
@@ -114,7 +111,7 @@ module _ (source : List ℕ) (s : ℕ) (old dest : List ℕ) (read written : ℕ
       full-is = grind (arith, drop-drop, drop_all, append-nil)
 
       full-long : length (put_mid written k dest new) ≡ length old
-      full-long = let e = done-long in let l = d.len in let r = d.room in ap length full-is ∙ length-append (take written dest) new ∙ omega arith
+      full-long = grind (arith, full-is, length-append, length-take-le)
 
       kept-full : kept_output h ≡ put_mid written k dest new ++ tail
       unfolding tail
@@ -139,13 +136,13 @@ module _ (source : List ℕ) (s : ℕ) (old dest : List ℕ) (read written : ℕ
       after-is = grind (arith, drop-drop, drop_all, append-nil)
 
       after-front : take (written + w) (put_mid written k dest new) ≡ take written dest ++ output p
-      after-front = ap (take (written + w)) after-is ∙ take-past (take written dest) new written w (written + w) done-long refl ∙ ap (λ (x : List ℕ). take written dest ++ x) begins
+      after-front = grind (arith, after-is, take-past, length-take-le)
 
       after-rest : drop (written + w) (put_mid written k dest new) ≡ drop (written + w) old
-      after-rest = grind (arith, after-is, drop-past, done-long, drop-drop, drop-later)
+      after-rest = grind (arith, after-is, drop-past, drop-drop, drop-later, length-take-le)
 
       pub after-len : length (put_mid written k dest new) ≡ length old
-      after-len = grind (arith, done-long, after-is, length-append)
+      after-len = grind (arith, after-is, length-append, length-take-le)
 
       blocks-after : (done joint : List ℕ) → joint ≡ joins (code_of (last_part p)) q → done ≡ (take written dest ++ output p) ++ joint → BlocksRead h done (read + len)
       blocks-after done joint joint-is done-is = grind (arith, in_front, q, p-long, stretch-nonzero, joins, append_assoc, h-long, split, whole_left)

@@ -68,9 +68,6 @@ pub record DecodedSource (h old dest : List ℕ) (read written : ℕ) : Type 0 w
   pub rest : drop written dest ≡ drop written old
   pub blocks : BlocksRead h (take written dest) read
 
-pub source-started : (h dest : List ℕ) → DecodedSource h dest dest 0 0
-source-started h dest = grind arith
-
 module _ (source : List ℕ) (s : ℕ) (old dest : List ℕ) (read written : ℕ) (d : DecodedSource (xor_each s source) old dest read written) where
   abbrev h : List ℕ
   h = xor_each s source

@@ -49,14 +49,11 @@ module _ (piece old dest : List ℕ) (read written code : ℕ) (p : Decoded piec
     length-parts : length (output (drop read piece)) ≡ code - 1 + length (joint_of code) + length (output (drop (read + code) piece))
     length-parts = grind (arith, parts, length-append, joint_of, length-drop, length-take-le)
 
-    pub room-more : written + (code - 1) + length (joint_of code) ≤ length (output piece)
-    room-more = let l = length-parts in let e = p.left in omega arith
-
     pub room-zero : code ≢ 255 → written + code ≤ length (output piece)
-    room-zero other = grind (arith, joint-length, room-more)
+    room-zero other = grind (arith, joint-length, length-parts)
 
     pub room-full : written + (code - 1) ≤ length (output piece)
-    room-full = let r = room-more in omega arith
+    room-full = grind (arith, length-parts)
 
     -- a part, and what joins the next one
     step : (after : List ℕ) (n : ℕ) → take n after ≡ take written dest ++ (take (code - 1) (drop (read + 1) piece) ++ joint_of code) → n ≡ written + (code - 1 + length (joint_of code))
@@ -109,10 +106,10 @@ module _ (piece old dest : List ℕ) (read written code : ℕ) (p : Decoded piec
       long-part = ap length part-is ∙ length-take-le (code - 1) (drop (read + 1) piece) (let l = length-drop (read + 1) piece in omega arith) ∙ sym k-is
 
       long-front : take (written + (code - 1)) (put_mid written k dest part) ≡ take written dest ++ take (code - 1) (drop (read + 1) piece)
-      long-front = let r = room-more in let l = long-part in take-put_mid written k dest part (written + (code - 1)) (omega arith) (omega arith) ∙ ap (λ (x : List ℕ). take written dest ++ x) part-is
+      long-front = grind (arith, long-part, take-put_mid, length-parts)
 
       long-behind : drop (length (output piece)) (put_mid written k dest part) ≡ drop (length (output piece)) dest
-      long-behind = let r = room-more in drop-put_mid written k dest part (length (output piece)) (omega arith) (omega arith) long-part
+      long-behind = grind (arith, drop-put_mid, long-part, length-parts)
 
       pub full-decoded : code ≡ 255 → Decoded piece old (put_mid written k dest part) (read + code) (written + (code - 1))
       full-decoded full =
@@ -216,11 +213,8 @@ module _ (piece old dest : List ℕ) (read : ℕ) (p : Decoded piece old dest re
 -- where no code is left
 module _ (piece old dest : List ℕ) (read written code : ℕ) (p : Decoded piece old dest read written) (is : code ≡ get_or piece read 0) (some : 0 < code) (last : length piece ≤ read + code)
     (k : CopiedTo piece dest read (length piece) written) (room : length (output piece) ≤ length dest) where
-  pub end-len : written + (length piece - read - 1) ≡ length (output piece)
-  end-len = grind (arith, length-drop, output-is)
-
   pub end-begins : take (written + (length piece - read - 1)) dest ≡ output piece
-  end-begins = grind (arith, end-len, length-drop, take_parts, take_all, output-is)
+  end-begins = grind (arith, length-drop, take_parts, take_all, output-is)
 
 -- what is left of a piece, decoded in what is left of the buffer
 module _ (piece old dest : List ℕ) (read written : ℕ) (p : Decoded piece old dest read written) (room : length (output piece) ≤ length dest) (new part : List ℕ) (part-is : part ≡ drop read piece) (back : List ℕ)

@@ -98,11 +98,8 @@ module _ (H : List ℕ → Type 0) (source old slice : List ℕ) (end read len i
   abbrev left : List ℕ
   left = take (len - d) (drop (read + d) source)
 
-  length-left : length left ≡ len - d
-  length-left = let i = s.inside in length-take-le (len - d) (drop (read + d) source) (let l = length-drop (read + d) source in omega arith)
-
   small : d + length left ≤ 64
-  small = let l = length-left in let f = s.few in let n = s.seen in omega arith
+  small = grind (arith, length-take-le, length-drop)
 
   some_bits : mask_behind d left ≢ 0
   some_bits e = some (s.bits ∙ e)
@@ -111,7 +108,7 @@ module _ (H : List ℕ → Type 0) (source old slice : List ℕ) (end read len i
   first-is = ap (count_trailing_zeros 64) s.bits ∙ lowest_left d left small some_bits
 
   first-lt : nonzero_len left < len - d
-  first-lt = let l = length-left in let n = nonzero_len-lt left (some_left d left small some_bits) in omega arith
+  first-lt = grind (arith, nonzero_len-lt, some_left, small, some_bits, length-take-le, length-drop)
 
   less : zeros ≡ 2 ^ (d + nonzero_len left) + mask_behind (d + nonzero_len left + 1) (drop (nonzero_len left + 1) left)
   less = s.bits ∙ mask_behind-less d left small some_bits

@@ -10,12 +10,9 @@ use Rattle.cobs.proofs.format.LengthLemmas.{onto_parts, stretches-append, encode
 use Rattle.cobs.proofs.encoding.OpenLemmas.{append-some}
 use Rattle.cobs.proofs.encoding.OpenedLemmas.{Opened, ends_in_full}
 
-pub same_lengths : (a b : List ℕ) (parts : List (List ℕ)) → length a ≡ length b → map length (onto_parts a parts) ≡ map length (onto_parts b parts)
-same_lengths a b parts h = grind (arith, length-append)
-
 -- which nonzero bytes begin a message is no matter
 pub same_start : (a b t : List ℕ) → HasNoZero a → HasNoZero b → length a ≡ length b → encoded_len (a ++ t) ≡ encoded_len (b ++ t)
-same_start a b t na nb e = grind (arith, stretches-append, same_lengths, length-append)
+same_start a b t na nb e = grind (arith, stretches-append, length-append)
 
 pub length-ones : (n : ℕ) → length {A = ℕ} (replicate n 1) ≡ n
 length-ones n = length-replicate n 1
@@ -36,10 +33,6 @@ open_len-join code more t some nonzero =
 -- a zero closes it
 pub open_len-zero : (code : ℕ) (t : List ℕ) → 0 < code → code < 255 → open_len code (0 ∷ t) ≡ code + open_len 1 t
 open_len-zero code t some short = grind (arith, length-ones, encoded_len-zero, ones)
-
--- the message ends
-pub open_len-end : (code : ℕ) → 0 < code → code ≤ 255 → open_len code [] ≡ code
-open_len-end code some short = grind (arith, length-ones, append-nil, encoded_len-last, ones)
 
 -- each byte of the message takes one of the frame at the least
 pub open_len-least : (code : ℕ) (t : List ℕ) → 0 < code → code + length t ≤ open_len code t

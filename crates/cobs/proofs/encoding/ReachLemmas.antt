@@ -7,8 +7,8 @@ use Rattle.std.proofs.lemmas.List.{drop-drop, drop_more, drop_all, drop-set-lt, 
 use Rattle.cobs.specs.Grammar.{HasNoZero, joint}
 use Rattle.cobs.specs.Length.{open_len}
 use Rattle.cobs.proofs.encoding.OpenedLemmas.{Opened, Opened-same, Opened-same-empty, Opened-join, Opened-close}
-use Rattle.cobs.proofs.encoding.OpenLenLemmas.{open_len-join, open_len-zero, open_len-end, open_len-least, length-ones, ones}
-use Rattle.cobs.proofs.format.LengthLemmas.{encoded_len-full}
+use Rattle.cobs.proofs.encoding.OpenLenLemmas.{open_len-join, open_len-zero, open_len-least, length-ones, ones}
+use Rattle.cobs.proofs.format.LengthLemmas.{encoded_len-full, encoded_len-last}
 
 -- Of a message that had H before, the slice has the first `pos` bytes of the source too; `end` is where its frame is to end
 -- once it has them all, and behind that the slice is as it was. Of the last block P says whether it is full.
@@ -119,20 +119,17 @@ module _ (H : List ℕ → Type 0) (source old slice : List ℕ) (end pos index 
 
   -- the last byte fills the block
   pub ends-full : pos ≡ length source → next ≡ index + 255 → Reaches H source old slice end pos index next P → end ≡ next
-  ends-full last full r = grind (arith, drop_all, open_len-end)
-
-  all-taken : pos ≡ length source → take pos source ≡ source
-  all-taken last = take_all pos source (omega arith)
+  ends-full last full r = grind (arith, drop_all, length-ones, append-nil, encoded_len-last, ones)
 
   pub taken-full : pos ≡ length source → next ≡ index + 255 → end ≤ length slice → Reaches H source old slice end pos index next P → (m : List ℕ) → H m → Opened (set slice index 255) (m ++ source) next (next + 1) true
-  taken-full last full fits r m h = grind (arith, ends-full, all-taken, full-taken)
+  taken-full last full fits r m h = grind (arith, ends-full, full-taken, take_all)
 
   -- the last byte leaves the block open
   pub ends-open : pos ≡ length source → Reaches H source old slice end pos index next P → end ≡ next
-  ends-open last r = grind (arith, drop_all, open_len-end)
+  ends-open last r = grind (arith, drop_all, length-ones, append-nil, encoded_len-last, ones)
 
   pub taken-open : pos ≡ length source → ((full : Bool) → P full → full ≡ false) → Reaches H source old slice end pos index next P → (m : List ℕ) → H m → Opened slice (m ++ source) index next false
-  taken-open last not_full r m h = grind (arith, all-taken)
+  taken-open last not_full r m h = grind (arith, take_all)
 
 -- where the core begins, with what is noted of the last block
 pub Reaches-noted : (H : List ℕ → Type 0) (source old : List ℕ) (end index next : ℕ) (full : Bool) → index < next → next < index + 255 → index + open_len (next - index) source ≡ end

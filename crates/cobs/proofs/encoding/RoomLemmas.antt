@@ -7,7 +7,7 @@ use Rattle.std.proofs.lemmas.List.Splits.{slice_split_none, slice_split_at}
 use Rattle.cobs.specs.Grammar.{HasNoZero}
 use Rattle.cobs.specs.Length.{runs, full_blocks, encoded_len}
 use Rattle.cobs.proofs.format.LengthLemmas.{no_zero, some_stretch, stretches-append, encoded_len-le}
-use Rattle.cobs.proofs.encoding.OpenLenLemmas.{same_lengths, ones, length-ones}
+use Rattle.cobs.proofs.encoding.OpenLenLemmas.{ones, length-ones}
 
 abbrev pub blocks_in : List ℕ → ℕ
 blocks_in m = full_blocks (runs m)
@@ -27,7 +27,7 @@ blocks-le run t =
     grind (arith, length-append, replicate, length-ones)
 
 same_blocks : (a b t : List ℕ) → HasNoZero a → HasNoZero b → length a ≡ length b → blocks_in (a ++ t) ≡ blocks_in (b ++ t)
-same_blocks a b t na nb e = grind (arith, stretches-append, same_lengths)
+same_blocks a b t na nb e = grind (arith, stretches-append, length-append)
 
 -- nonzero bytes lengthen the run
 pub blocks-more : (run : ℕ) (more t : List ℕ) → HasNoZero more → blocks_in (behind run (more ++ t)) ≡ blocks_in (behind (run + length more) t)

@@ -17,10 +17,6 @@ use Rattle.cobs.proofs.encoding.AfterLemmas.{at}
 use Rattle.cobs.proofs.encoding.TakingLemmas.{front-taken, reaches-start}
 use Rattle.cobs.specs.OpenBlock.{Reached, CobsEncoderAfter, end_after, next_of}
 
--- what stands in the place of the open block's code is no matter
-Opened-set : (slice m : List ℕ) (index next byte : ℕ) (full : Bool) → Opened slice m index next full → Opened (set slice index byte) m index next full
-Opened-set slice m index next byte full o = grind (arith, take-set, take-set-lt, drop-set-lt)
-
 module _ (H : List ℕ → Type 0) (source old slice : List ℕ) (end read len index next zeros : ℕ) (s : Marks H source old slice end read len index next zeros) where
   -- where the next code belongs is within the slice, and no later than the next zero
   pub code-inside : end ≤ length slice → index < length slice
@@ -33,7 +29,7 @@ module _ (H : List ℕ → Type 0) (source old slice : List ℕ) (end read len i
   ]
 
   marks-set : (byte : ℕ) → Marks H source old (set slice index byte) end read len index next zeros
-  marks-set byte = grind (arith, drop-set-lt, Opened-set)
+  marks-set byte = grind (arith, drop-set-lt, take-set, take-set-lt)
 
   -- a zero is marked, where there is one left
   pub first-marked : (after : List ℕ) (r : ℕ × ℕ) → end ≤ length slice → after ≡ set slice index ((next + count_trailing_zeros 64 zeros - index) % 256)

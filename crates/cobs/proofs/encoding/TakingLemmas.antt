@@ -24,9 +24,6 @@ pub after-end : (slice m bytes : List ℕ) (r : Reached) → CobsEncoderAfter sl
 after-end slice m [] r h = ap encoded_len (append-nil m) ∙ end-is slice m r h
 after-end slice m (b ∷ bytes) r h = after-len slice m (b ∷ bytes) r (λ e. cc) h
 
-pub place-index : (n : ℕ) (r : Reached) → IsPlaceIn n r → r.block.index ≤ n
-place-index n r p = grind (arith, cases_Bool)
-
 -- a source has room for its bytes at the least
 pub next-least : (r : Reached) (source : List ℕ) → 0 < r.block.code → 0 < length source → next_of r + length source ≤ end_after r source
 next-least r source code some = let e = after-some r source some in let l = open_len-least r.block.code source code in omega arith
@@ -130,9 +127,6 @@ module _ {slice slice' source : List ℕ} {r r' : Reached} (t : TakesFront slice
 
 -- an encoder that has taken nothing
 module _ (slice : List ℕ) (r : Reached) (is : r ≡ at 0 1 false) (some : 0 < length slice) where
-  pub start-code : r.block.code ≡ 1
-  start-code = ap (λ (x : Reached). x.block.code) is
-
   pub start-fits : (source : List ℕ) → end_after r source ≡ encoded_len source
   start-fits source = grind arith
 

@@ -48,11 +48,6 @@ pub room-step : (vectors : List (Vec ℕ)) (i : ℕ) (vector : Vec ℕ) → i < 
     → room_for_frames (messages_in (take (i + 1) vectors)) ≡ room_for_frames (messages_in (take i vectors)) + (max_encoded_len (length vector.items) + 1)
 room-step vectors i vector within is = grind (arith, room-more)
 
--- behind the frames of some of the messages there is room for the next one's frame and a zero
-pub room-left : (vectors : List (Vec ℕ)) (i : ℕ) (vector : Vec ℕ) (end n : ℕ) → i < length vectors → vector ≡ get_or vectors i vector → end ≤ room_for_frames (messages_in (take i vectors)) → room_for_frames (messages_in vectors) ≤ n
-    → end + (encoded_len vector.items + 1) ≤ n
-room-left vectors i vector end n within is before room = grind (arith, room-step, room-some, encoded_len-le)
-
 -- WHERE THE FRAMES ARE WRITTEN
 
 -- a frame that was written at the front of what follows the first bytes of a list, and a zero behind it

@@ -21,11 +21,6 @@ pub xor_each-zero : (f : List ℕ) → xor_each 0 f ≡ f
 xor_each-zero [] = refl
 xor_each-zero (b ∷ f) = ap (λ (x : ℕ). x ∷ xor_each 0 f) (xor_zero_r b) ∙ ap (λ (l : List ℕ). b ∷ l) (xor_each-zero f)
 
--- a slice whose front is an encoded frame, changed for another sentinel
-pub changed_frame : (s n : ℕ) (dest changed rest m : List ℕ) → IsEncodedFrame (take n dest) m → changed ≡ xor_each s (take n dest) → n ≤ length dest
-    → IsEncodedFrame (xor_each s (take n (changed ++ rest))) m
-changed_frame s n dest changed rest m frame is within = grind (arith, length-map, length-take-le, take_at, xor_each-twice)
-
 -- behind a frame and two sentinels a slice is as it was, where the part between its ends is behind the frame
 pub behind_sentinels : (dest part : List ℕ) (k n : ℕ) → n ≤ k → length part ≡ k → k < length dest → drop n part ≡ drop n (take k (drop 1 dest))
     → drop (n + 2) (set (set (put_mid 1 k dest part) 0 0) (n + 1) 0) ≡ drop (n + 2) dest

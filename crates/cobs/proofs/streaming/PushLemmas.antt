@@ -29,13 +29,10 @@ pieces : (t : List ℕ) → filter is_nonempty (stretches t) ≡ ended_pieces t 
 unfolding ended_pieces unended
 pieces t = ap (filter is_nonempty) (all_but_last (stretches t) (length-stretches t)) ∙ filter-append is_nonempty (but_last (stretches t)) (last_of (stretches t) ∷ [])
 
-last_filtered : (q : List ℕ) → last_of (filter is_nonempty (q ∷ [])) ≡ q
-last_filtered q = grind arith
-
 -- where no piece has ended, the last one is what is unended
 pub last_piece-unended : (t : List ℕ) → ended_pieces t ≡ [] → last_piece t ≡ unended t
 unfolding last_piece
-last_piece-unended t none = ap last_of (pieces t ∙ ap (λ (z : List (List ℕ)). z ++ filter is_nonempty (unended t ∷ [])) none) ∙ last_filtered (unended t)
+last_piece-unended t none = grind (arith, pieces, filter)
 
 ended_at : (q : List ℕ) → HasNoZero q → ended_pieces (q ++ 0 ∷ []) ≡ filter is_nonempty (q ∷ [])
 unfolding ended_pieces but_last
@@ -54,7 +51,7 @@ ended_pieces-nonzero t b h =
 -- where none had ended before a zero, the last piece is the one that it ends
 pub last_piece-zero : (t : List ℕ) → ended_pieces t ≡ [] → last_piece (t ++ 0 ∷ []) ≡ unended t
 unfolding last_piece
-last_piece-zero t none = grind (arith, pieces, unended-zero, append-nil, ended_pieces-zero, last_filtered)
+last_piece-zero t none = grind (arith, pieces, unended-zero, append-nil, ended_pieces-zero)
 
 -- WHAT AN ANSWER TELLS
 
@@ -172,13 +169,9 @@ module _ {buffer₀ buffer buffer' : List ℕ} {phase₀ phase phase' : Phase} {
       → drop (length (output (unended (p ++ take (i + 1) bytes)))) buffer' ≡ drop (length (output (unended (p ++ take (i + 1) bytes)))) buffer₀
   rest_nonzero nz p h = grind (arith, unended_on, fed-nonzero, here, drop-later, output-longer)
 
-  rest_zero : get_or bytes i 0 ≡ 0 → (p : List ℕ) → PhaseAfter (length buffer₀) phase₀ p
-      → drop (length (output (unended (p ++ take i bytes)))) buffer' ≡ drop (length (output (unended (p ++ take i bytes)))) buffer₀
-  rest_zero z p h = ap (drop (length (output (unended (p ++ take i bytes))))) (f.zero_unchanged z) ∙ s.untouched p h
-
   pub untouched_behind : (p : List ℕ) → PhaseAfter (length buffer₀) phase₀ p
       → drop (length (output (last_piece (p ++ take (i + 1) bytes)))) buffer' ≡ drop (length (output (last_piece (p ++ take (i + 1) bytes)))) buffer₀
-  untouched_behind p h = grind (arith, cases_eq, piece_zero, rest_zero, piece_nonzero, rest_nonzero)
+  untouched_behind p h = grind (arith, cases_eq, piece_zero, piece_nonzero, rest_nonzero)
 
   begins_behind : (p : List ℕ) → DecoderAfter buffer₀ phase₀ p
       → take (length (output (last_piece (p ++ take (i + 1) bytes)))) buffer' ≡ take (length buffer') (output (last_piece (p ++ take (i + 1) bytes)))
@@ -206,7 +199,7 @@ module _ {buffer₀ buffer buffer' : List ℕ} {phase₀ phase phase' : Phase} {
 
   untouched_on : result ≡ Ok None → (p : List ℕ) → PhaseAfter (length buffer₀) phase₀ p
       → drop (length (output (unended (p ++ take (i + 1) bytes)))) buffer' ≡ drop (length (output (unended (p ++ take (i + 1) bytes)))) buffer₀
-  untouched_on e p h = grind (arith, cases_eq, nothing_ended, rest_zero, rest_nonzero, unended_on)
+  untouched_on e p h = grind (arith, cases_eq, nothing_ended, rest_nonzero, unended_on)
 
   pub Pushed-more : result ≡ Ok None → Pushed buffer₀ phase₀ buffer' phase' bytes (i + 1)
   Pushed-more e = record {

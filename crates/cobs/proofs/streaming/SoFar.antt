@@ -42,11 +42,8 @@ alike-nil xs h = grind arith
 nil-alike : (xs : List Outcome) → AreAlikeAtFirst [] xs → xs ≡ []
 nil-alike xs h = grind arith
 
-alike_first-refl : (xs : List Outcome) → AreAlikeAtFirst xs xs
-alike_first-refl xs = grind arith
-
 alike-append : (xs ys zs : List Outcome) → AreAlikeAtFirst xs ys → AreAlikeAtFirst (xs ++ zs) (ys ++ zs)
-alike-append xs ys zs h = grind (arith, alike_first-refl)
+alike-append xs ys zs h = grind arith
 
 -- where nothing is in two lists joined, nothing is in the first
 pub left_nothing : (xs ys : List Outcome) → xs ++ ys ≡ [] → xs ≡ []

@@ -26,16 +26,13 @@ module _ (buffer : List ℕ) (x : ℕ) (nz : x ≢ 0) where
   leads : (phase phase' : Phase) (buffer' : List ℕ) → next_phase (length buffer) phase x ≡ phase' → next_buffer buffer phase x ≡ buffer' → Leads buffer phase x (if_over phase') buffer' phase'
   leads phase phase' buffer' p b = grind (arith, is)
 
-  room-grows : (full : Bool) (left count : ℕ) → count < length buffer → grows (length buffer) full left count ≡ Within full left (count + 1)
-  room-grows full left count room = ap (λ (v : Bool). cond v (Within full left (count + 1)) Over) (lt-ltb count (length buffer) room)
-
   -- a byte of the block
   pub leads-byte : (full : Bool) (left count : ℕ) → left ≢ 0 → count < length buffer → Leads buffer (phase_with full left count) x (Ok None) (set buffer count x) (phase_with full (left - 1) (count + 1))
-  leads-byte full left count h e = grind (arith, begun, leads, is, room-grows)
+  leads-byte full left count h e = grind (arith, begun, leads, is, lt-ltb)
 
   -- a code after a block that isn't full
   pub leads-joined : (count : ℕ) → count < length buffer → Leads buffer (phase_with false 0 count) x (Ok None) (set buffer count 0) (phase_with (eqb x 255) (x - 1) (count + 1))
-  leads-joined count room = grind (arith, opened, leads, is, room-grows)
+  leads-joined count room = grind (arith, opened, leads, is, lt-ltb)
 
 -- one more byte is fed
 pub fed-more : (xs buffer₀ buffer buffer' : List ℕ) (phase₀ phase phase' : Phase) (x : ℕ) → FedInTurn buffer₀ phase₀ xs buffer phase

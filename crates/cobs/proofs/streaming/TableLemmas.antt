@@ -23,12 +23,8 @@ inside full left = cond full (GrabChain left) (Grab left)
 state_after-is : (c : ℕ) (q : List ℕ) {full : Bool} {left : ℕ} → is_full (last_part (c ∷ q)) ≡ full → lacks (last_part (c ∷ q)) ≡ left → state_after (c ∷ q) ≡ inside full left
 state_after-is c q f l = ap (λ (x : Bool). inside x (lacks (last_part (c ∷ q)))) f ∙ ap (inside _) l
 
--- the state behind a code
-pub opened_by-is : (b : ℕ) → opened_by b ≡ inside (eqb b 255) (b - 1)
-opened_by-is b = grind (arith, inside, eqb-true)
-
 opened_after : (c : ℕ) (q : List ℕ) (b : ℕ) → last_part (c ∷ q) ≡ b ∷ [] → opened_by b ≡ state_after (c ∷ q)
-opened_after c q b is = opened_by-is b ∙ sym (state_after-is c q (ap is_full is) (ap lacks is))
+opened_after c q b is = grind (arith, state_after-is, eqb-true)
 
 -- one more byte inside a piece
 module _ (c : ℕ) (q : List ℕ) (b : ℕ) (some : b ≢ 0) where
@@ -104,7 +100,7 @@ StateAfter-end state p so_far m s =
 
 -- a code, or a zero in its place
 coded : (n b count : ℕ) → state_in (cond (eqb b 0) phases.Idle (Within (eqb b 255) (b - 1) count)) ≡ Some (cond (eqb b 0) Idle (opened_by b))
-coded n b count = grind (arith, opened_by-is)
+coded n b count = grind (arith, eqb-true)
 
 pub phase_by_table : (n : ℕ) (phase : Phase) (b : ℕ) (state : DecoderState) → state_in phase ≡ Some state → next_phase n phase b ≢ Over → state_in (next_phase n phase b) ≡ Some (table_state state b)
-phase_by_table n phase b state h e = grind (arith, coded, opened_by-is)
+phase_by_table n phase b state h e = grind (arith, coded, eqb-true)

@@ -8,8 +8,8 @@ use Rattle.cobs.specs.Internal.Decoded.{Decoded}
 use Rattle.cobs.specs.Piece.{output}
 use Rattle.cobs.specs.Stream.{head, outcome_of}
 use Rattle.cobs.proofs.decoding.PieceCuts.{output-short}
-use Rattle.cobs.proofs.decoding.FrontSteps.{head-is}
 use Rattle.cobs.proofs.decoding.OutcomeLemmas.{length-head, head-zero, head_alone, head_nonzero}
+use Rattle.cobs.proofs.decoding.FrontSteps.{head-prefix}
 use Rattle.cobs.proofs.dec.decode_begun.Goals as goal
 use Rattle.cobs.proofs.dec.decode_begun.Goals.{After-copy_short}
 
@@ -50,16 +50,16 @@ slice_bounds-finish_piece-end c = sym (length-take-le _ c.args.source.now (omega
 
 -- what of the piece is decoded
 decoded : (source old dest new : List ℕ) (read written len : ℕ) → len ≡ length (head source) → dest ≡ old → Decoded (head source) dest new read written → Decoded (take len source) old new read written
-decoded source old dest new read written len end kept d = grind (arith, head-is)
+decoded source old dest new read written len end kept d = grind (arith, head-prefix)
 
 pub finish_piece-requires-clause-some : goal.finish_piece-requires-clause-some
-finish_piece-requires-clause-some c = let e = c.decode_front-len.ensures in omega (arith, ap length (head-is c.args.source.now _ e.end), e.decoded.within, e.end)
+finish_piece-requires-clause-some c = grind (arith, head-prefix)
 
 pub finish_piece-requires-clause-nonzero : goal.finish_piece-requires-clause-nonzero
-finish_piece-requires-clause-nonzero c = subst HasNoZero (sym (head-is c.args.source.now _ c.decode_front-len.ensures.end)) (head_nonzero c.args.source.now)
+finish_piece-requires-clause-nonzero c = grind (arith, head_nonzero, head-prefix)
 
 pub returns-clause-answer : goal.returns-clause-answer
-returns-clause-answer c = grind (arith, head-is, decoded)
+returns-clause-answer c = grind (arith, decoded, head-prefix)
 
 pub returns-clause-buffer : goal.returns-clause-buffer
-returns-clause-buffer c = grind (arith, decoded, head-is)
+returns-clause-buffer c = grind (arith, decoded, head-prefix)

@@ -2,16 +2,14 @@ use Rattle.std.proofs.Common.{◌≡◌, ℕ, ◌+◌, ◌-◌, ◌<◌, ◌≤�
 use Rattle.std.proofs.lemmas.List.{length-set}
 use Rattle.cobs.specs.Grammar.{IsEncodedFrame}
 use Rattle.cobs.specs.Length.{encoded_len}
-use Rattle.cobs.proofs.format.MessagesLemmas.{AreFrames-push, messages_in-more, room-step, room-left, written, length-written}
+use Rattle.cobs.proofs.format.MessagesLemmas.{AreFrames-push, messages_in-more, room-step, written, length-written, room-some}
 use Rattle.cobs.proofs.format.LengthLemmas.{encoded_len-le}
 use Rattle.cobs.proofs.stream.write_frames.Goals as goal
 use Rattle.cobs.proofs.stream.write_frames.Goals.{After-deref, After-encode-len}
 
 -- there is room for the message's frame and a zero
 room : (c : After-deref) → c.by_message.end + (encoded_len c.deref.result.now + 1) ≤ length c.by_message.dest
-room c =
-    let left = room-left c.args.messages.now c.by_message.message-index c.message-item.result c.by_message.end (length c.args.dest.now) c.by_message-test.true c.message-item.is c.by_message.invariant.within c.requires in
-    grind arith
+room c = grind (arith, room-step, room-some, encoded_len-le)
 
 -- the part of the list behind what is written
 length-part : (dest : List ℕ) (end : ℕ) → length (take (length dest - end) (drop end dest)) ≡ length dest - end
@@ -22,9 +20,7 @@ encode-len-requires c = omega (arith, room (goal.at.encode-len-requires c).After
 
 -- the frame and a zero fit behind those that are written
 fits : (c : After-encode-len) → (c.by_message.end + (c.encode-len.result + 1) ≤ length c.by_message.dest) × (c.by_message.end + length c.encode-len.new.dest ≡ length c.by_message.dest)
-fits c =
-    let left = room-left c.args.messages.now c.by_message.message-index c.message-item.result c.by_message.end (length c.args.dest.now) c.by_message-test.true c.message-item.is c.by_message.invariant.within c.requires in
-    grind (arith, length-part)
+fits c = grind (arith, length-part, room-step, room-some, encoded_len-le)
 
 pub overflow_add-dest : goal.overflow_add-dest
 overflow_add-dest c = let f = fits (goal.at.overflow_add-dest c).After-encode-len in omega arith

@@ -11,13 +11,13 @@ use Rattle.cobs.proofs.decoding.FrontLemmas.{flat-front}
 use Rattle.cobs.proofs.decoding.FlatLemmas.{flat-copy}
 use Rattle.cobs.proofs.decoding.KeptLemmas.{joins}
 use Rattle.cobs.proofs.decoding.InPlaceSteps.{joins-zero-due}
-use Rattle.cobs.proofs.decoding.SourceSteps.{source-started, all-buffer, all-count, broken-buffer, broken-count}
+use Rattle.cobs.proofs.decoding.SourceSteps.{all-buffer, all-count, broken-buffer, broken-count}
 use Rattle.cobs.proofs.decoding.SourceFronts.{full-buffer, full-count, left-is, left-nonzero, left-broken, stretch-is, stretch-last, stretch-zero}
 use Rattle.cobs.proofs.dec.forms.decode_fronts.Goals as goal
 use Rattle.cobs.proofs.dec.forms.decode_fronts.Goals.{Joined-not-full, Then-room-gives, then-not-full, else-not-full, then-due, else-due}
 
 pub by_front-init : goal.by_front-init
-by_front-init c = source-started (xor_each c.args.sentinel c.args.source.now) c.args.dest.now
+by_front-init c = grind arith
 
 pub flat_front-len-requires : goal.flat_front-len-requires
 flat_front-len-requires c = left-nonzero c.args.source.now c.args.sentinel _ _ _ _ c.by_front.invariant c.requires
@@ -37,9 +37,6 @@ part c = take c.flat_front-len.result.0 (drop c.by_front.read (xor_each c.args.s
 part-flat : (c : Joined-not-full) → IsFlat (part c)
 part-flat c = grind (arith, left-is)
 
-part-full : (c : Joined-not-full) → IsTrue c.flat_front-len.result.1 ↔ (code_of (last_part (part c)) ≡ 255)
-part-full c = grind (arith, left-is)
-
 part-within : (c : Joined-not-full) → (c.by_front.read + c.flat_front-len.result.0 ≤ length c.args.source.now) × (length (part c) ≡ c.flat_front-len.result.0)
 part-within c = grind (arith, length-drop, length-take-le, length-map, bit_xor)
 
@@ -48,10 +45,10 @@ part-nonzero c = All-take (λ b. b ≢ 0) _ _ (All-drop (λ b. b ≢ 0) c.by_fro
 
 -- a zero is due behind it, or none
 due-zero : (c : Joined-not-full) → c.if-not-full.due ≡ true → (is_full (last_part (part c)) ≡ false) × (c.by_front.read + c.flat_front-len.result.0 < length c.args.source.now)
-due-zero c is = grind (arith, ne_eqb, true≢false, part-full, ltb-true)
+due-zero c is = grind (arith, ne_eqb, true≢false, ltb-true, left-is)
 
 due-none : (c : Joined-not-full) → c.if-not-full.due ≡ false → (length c.args.source.now ≤ c.by_front.read + c.flat_front-len.result.0) ⊎ (is_full (last_part (part c)) ≡ true)
-due-none c is = grind (arith, ltb-false, eq-eqb, part-full)
+due-none c is = grind (arith, ltb-false, eq-eqb, left-is)
 
 -- what the room cuts off
 cut-is : (c : Joined-not-full) (room : ℕ) → room < c.flat_front-len.result.0 → xor_each c.args.sentinel (take (c.by_front.read + room + 1 - c.by_front.read) (drop c.by_front.read c.args.source.now)) ≡ take (suc room) (part c)

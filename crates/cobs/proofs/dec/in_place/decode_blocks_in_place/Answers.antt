@@ -9,15 +9,11 @@ use Rattle.cobs.proofs.decoding.FlatLemmas.{put-back}
 use Rattle.cobs.proofs.decoding.InPlaceSteps.{DecodedInPlace, all-buffer, all-count, broken-buffer, broken-count, left-nonzero, stretch-last, stretch-zero}
 use Rattle.cobs.proofs.dec.in_place.decode_blocks_in_place.Goals as goal
 
--- what is left, seen from the place where its output goes
-left-seen : (buffer : List ℕ) (end read written : ℕ) → written ≤ read → take (end - read) (drop (read - written) (take (length buffer - written) (drop written buffer))) ≡ take (end - read) (drop read buffer)
-left-seen buffer end read written order = grind (arith, take_rest, drop-drop)
-
 code-seen : (buffer : List ℕ) (read written : ℕ) → written ≤ read → get_or (take (length buffer - written) (drop written buffer)) (read - written) 0 ≡ get_or buffer read 0
 code-seen buffer read written order = grind (arith, take_rest, get_or-drop)
 
 pub decode_next-len-requires-clause-nonzero : goal.decode_next-len-requires-clause-nonzero
-decode_next-len-requires-clause-nonzero c = grind (arith, left-seen, left-nonzero)
+decode_next-len-requires-clause-nonzero c = grind (arith, left-nonzero, take_rest, drop-drop)
 
 pub returns-then-len-eq0-clause-answer : goal.returns-then-len-eq0-clause-answer
 returns-then-len-eq0-clause-answer c = grind (arith, code-seen, broken-count)
@@ -46,7 +42,7 @@ module _ (before buffer new : List ℕ) (end read written len : ℕ) (i : Decode
   module _ (flat : IsFlat (take len (take (end - read) (drop (read - written) seen)))) (is-full : IsTrue full ↔ (code_of (last_part (take len (take (end - read) (drop (read - written) seen)))) ≡ 255))
       (begins : take (len - 1) new ≡ output (take len (take (end - read) (drop (read - written) seen)))) (rest : drop (len - 1) new ≡ drop (len - 1) seen) (same : length new ≡ length seen) where
     front-is : take len (take (end - read) (drop (read - written) seen)) ≡ take len part
-    front-is = ap (take len) (left-seen buffer end read written i.order)
+    front-is = grind (arith, take_rest, drop-drop)
 
     flat-is : IsFlat (take len part)
     flat-is = subst IsFlat front-is flat

@@ -6,14 +6,11 @@ use Rattle.cobs.specs.Sentinel.{xor_each}
 use Rattle.cobs.proofs.format.SentinelLemmas.{xor_each-zero}
 use Rattle.cobs.proofs.dec.in_place.decode_next.Goals as goal
 
-piece-is : (from len : ℕ) (buffer : List ℕ) → xor_each 0 (take (from + len - from) (drop from buffer)) ≡ take len (drop from buffer)
-piece-is from len buffer = let n : from + len - from ≡ len = omega arith in xor_each-zero (take (from + len - from) (drop from buffer)) ∙ ap (λ (k : ℕ). take k (drop from buffer)) n
-
 front-within : (from len front : ℕ) (buffer : List ℕ) → from + len ≤ length buffer → front ≤ length (take (from + len - from) (drop from buffer)) → front ≤ len
 front-within from len front buffer within le = let d = length-drop from buffer in let t = length-take-le (from + len - from) (drop from buffer) (omega arith) in omega arith
 
 pub flat_front-front-requires : goal.flat_front-front-requires
-flat_front-front-requires c = subst HasNoZero (sym (piece-is c.args.from c.args.len c.args.buffer.now)) c.requires.nonzero
+flat_front-front-requires c = grind (arith, xor_each-zero)
 
 pub decode_flat_in_place-requires-clause-nonzero : goal.decode_flat_in_place-requires-clause-nonzero
 decode_flat_in_place-requires-clause-nonzero c =
@@ -23,10 +20,10 @@ decode_flat_in_place-requires-clause-nonzero c =
     (All-take (λ byte. byte ≢ 0) front (take c.args.len (drop c.args.from c.args.buffer.now)) c.requires.nonzero)
 
 pub returns-then-front-gt0-clause-flat : goal.returns-then-front-gt0-clause-flat
-returns-then-front-gt0-clause-flat c some = grind (arith, piece-is)
+returns-then-front-gt0-clause-flat c some = grind (arith, xor_each-zero)
 
 pub decode_flat_in_place-requires-clause-flat : goal.decode_flat_in_place-requires-clause-flat
-decode_flat_in_place-requires-clause-flat c = grind (arith, take-take, front-within, piece-is)
+decode_flat_in_place-requires-clause-flat c = grind (arith, take-take, front-within, xor_each-zero)
 
 pub returns-then-front-gt0-clause-full : goal.returns-then-front-gt0-clause-full
-returns-then-front-gt0-clause-full c some = grind (arith, piece-is)
+returns-then-front-gt0-clause-full c some = grind (arith, xor_each-zero)

@@ -7,10 +7,6 @@ use Rattle.cobs.proofs.decoding.FrontSteps.{ended-buffer}
 use Rattle.cobs.proofs.decoding.OutcomeSteps.{sized-too_long, sized-whole, sized-broken}
 use Rattle.cobs.proofs.dec.piece.finish_piece.Goals as goal
 
--- the part of a piece that is decoded at the end
-part-is : (piece : List ℕ) (read fit : ℕ) → take (read + fit - read) (drop read piece) ≡ take fit (take (length piece - read) (drop read piece))
-part-is piece read fit = grind (arith, take_rest)
-
 -- a piece that is taken as a whole has an output that fits
 fits-of : (room : ℕ) (piece : List ℕ) (fit : ℕ) → (room < length (output piece) → fit < length piece) → length piece ≤ fit → length (output piece) ≤ room
 fits-of room piece fit long whole = grind (arith, cases_lt)
@@ -30,25 +26,25 @@ module _ (piece old dest : List ℕ) (read written : ℕ) (p : Decoded piece old
   long-output = ap (λ (x : List ℕ). written + length (output x)) rest-is ∙ p.left
 
   whole-last : (fit : ℕ) → length rest ≤ fit → lacks (last_part (take (read + fit - read) (drop read piece))) ≡ lacks (last_part piece)
-  whole-last fit all = ap (λ (x : List ℕ). lacks (last_part x)) (part-is piece read fit ∙ take_all fit rest all ∙ rest-is) ∙ ap lacks p.last
+  whole-last fit all = grind (arith, take_all, rest-is, take_rest)
 
   whole-output : (fit : ℕ) → length rest ≤ fit → output (take (read + fit - read) (drop read piece)) ≡ output rest
-  whole-output fit all = ap output (part-is piece read fit ∙ take_all fit rest all)
+  whole-output fit all = grind (arith, take_all, take_rest)
 
 pub returns-then-read-fit-clause-answer : goal.returns-then-read-fit-clause-answer
 returns-then-read-fit-clause-answer c old p = grind (arith, long-rest, long-output, sized-too_long)
 
 pub returns-then-read-fit-clause-buffer : goal.returns-then-read-fit-clause-buffer
-returns-then-read-fit-clause-buffer c old same p = grind (arith, ended-buffer, take_rest, part-is, rest)
+returns-then-read-fit-clause-buffer c old same p = grind (arith, ended-buffer, take_rest)
 
 pub returns-then-end-eq0-clause-answer : goal.returns-then-end-eq0-clause-answer
 returns-then-end-eq0-clause-answer c old p = grind (arith, long-rest, long-output, fits-of, whole-output, sized-whole, whole-last)
 
 pub returns-then-end-eq0-clause-buffer : goal.returns-then-end-eq0-clause-buffer
-returns-then-end-eq0-clause-buffer c old same p = grind (arith, ended-buffer, take_rest, part-is, rest)
+returns-then-end-eq0-clause-buffer c old same p = grind (arith, ended-buffer, take_rest)
 
 pub returns-else-end-eq0-clause-answer : goal.returns-else-end-eq0-clause-answer
 returns-else-end-eq0-clause-answer c old p = grind (arith, long-rest, long-output, fits-of, whole-output, sized-broken, whole-last)
 
 pub returns-else-end-eq0-clause-buffer : goal.returns-else-end-eq0-clause-buffer
-returns-else-end-eq0-clause-buffer c old same p = grind (arith, ended-buffer, take_rest, part-is, rest)
+returns-else-end-eq0-clause-buffer c old same p = grind (arith, ended-buffer, take_rest)

@@ -1,11 +1,12 @@
 use Rattle.std.proofs.Common.{length, arith}
 use Rattle.cobs.specs.Fields.Progress.{reached_at}
 use Rattle.cobs.proofs.encoding.OpenLenLemmas.{open_len-most}
-use Rattle.cobs.proofs.encoding.TakingLemmas.{after-some, place-index}
+use Rattle.cobs.proofs.encoding.TakingLemmas.{after-some}
+use Rattle.std.proofs.lemmas.Bool.{cases_Bool}
 use Rattle.cobs.proofs.enc.unbuffered.UnbufferedEncoder.take.Goals as goal
 
 pub overflow_sub-room : goal.overflow_sub-room
-overflow_sub-room c = place-index (length c.args.dest.now) (reached_at c.args.self.now.progress) c.requires
+overflow_sub-room c = grind (arith, cases_Bool)
 
 pub append_short-behind-requires-clause-fits : goal.append_short-behind-requires-clause-fits
-append_short-behind-requires-clause-fits c = grind (arith, after-some, open_len-most, place-index)
+append_short-behind-requires-clause-fits c = grind (arith, after-some, open_len-most, cases_Bool)

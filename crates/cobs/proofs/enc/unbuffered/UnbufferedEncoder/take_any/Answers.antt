@@ -1,11 +1,11 @@
 use Rattle.std.proofs.Common.{[], length, sym, ◌∙◌, arith}
-use Rattle.std.proofs.lemmas.Bool.{eqb-true, eqb-false}
+use Rattle.std.proofs.lemmas.Bool.{eqb-true, eqb-false, cases_Bool}
 use Rattle.cobs.specs.Fields.Progress.{reached_at}
-use Rattle.cobs.proofs.encoding.TakingLemmas.{after-some, front-none, no-bytes, place-index}
+use Rattle.cobs.proofs.encoding.TakingLemmas.{after-some, front-none, no-bytes}
 use Rattle.cobs.proofs.enc.unbuffered.UnbufferedEncoder.take_any.Goals as goal
 
 pub overflow_sub-room : goal.overflow_sub-room
-overflow_sub-room c = place-index (length c.args.dest.now) (reached_at c.args.self.now.progress) c.requires
+overflow_sub-room c = grind (arith, cases_Bool)
 
 pub returns-then-is_empty-clause-fits : goal.returns-then-is_empty-clause-fits
 returns-then-is_empty-clause-fits c = grind (arith, no-bytes, eqb-true)
@@ -22,7 +22,7 @@ pub append-self-requires-clause-some : goal.append-self-requires-clause-some
 append-self-requires-clause-some c = let some = eqb-false _ 0 (sym c.is_empty.ensures ∙ c.if-is_empty.false) in omega arith
 
 pub append-self-requires-clause-fits : goal.append-self-requires-clause-fits
-append-self-requires-clause-fits c = grind (arith, eqb-false, after-some, place-index)
+append-self-requires-clause-fits c = grind (arith, eqb-false, after-some, cases_Bool)
 
 pub returns-clause-fits : goal.returns-clause-fits
-returns-clause-fits c = grind (arith, eqb-false, after-some, place-index)
+returns-clause-fits c = grind (arith, eqb-false, after-some, cases_Bool)
