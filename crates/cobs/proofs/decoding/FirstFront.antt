@@ -118,7 +118,6 @@ pub marked-turn : (first : ℕ) (old dest : List ℕ) (len read code other : ℕ
     → other + code ≤ len - read - code → get_or dest (read + (code - 1)) 0 ≡ other → get_or dest (read + (other + code - 1)) 0 ≡ code
     → Marked first old (set (set dest (read + (code - 1)) 0) (read + (other + code - 1)) 0) len (read + (other + code)) code
 marked-turn first old dest len read code other m room none short short' fits here then =
-    let some = m.some in
     let once : List ℕ = set dest (read + (code - 1)) 0 in
     let n : Marked first old once len (read + code) other =
     subst (Marked first old once len (read + code)) here (marked-code first old dest len read code m room (omega arith) short none (omega arith)) in

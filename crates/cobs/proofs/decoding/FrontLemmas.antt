@@ -91,7 +91,6 @@ module _ (piece : List ℕ) (n read left code : ℕ) (s : FrontSought piece n re
     pub front-more-left : (left' : ℕ) → left' + (code - 1 + length (joint_of code)) ≡ left → FrontSought piece n (read + code) left'
     front-more-left left' sum =
         let l = long in
-        let bytes : List ℕ = drop (read + 1) piece in
         let d = length-drop (read + 1) piece in
         let o = ap length whole ∙ length-append part (output (drop (read + code) piece)) in
         record {
@@ -105,7 +104,7 @@ module _ (piece : List ℕ) (n read left code : ℕ) (s : FrontSought piece n re
               let inner : code + k ≡ suc (code - 1 + k) = omega arith in
               let front : output (take (code + k) (drop read piece)) ≡ take left (output (drop read piece)) =
               ap (λ (j : ℕ). output (take j (drop read piece))) inner ∙ ap (λ (xs : List ℕ). output (take (suc (code - 1 + k)) xs)) cons
-              ∙ front-more code bytes k (omega arith) some (omega arith)
+              ∙ front-more code (drop (read + 1) piece) k (omega arith) some (omega arith)
               ∙ ap (λ (xs : List ℕ). part ++ output (take k xs)) next ∙ ap (λ (xs : List ℕ). part ++ xs) is'
               ∙ sym (take-past part (output (drop (read + code) piece)) (code - 1 + length (joint_of code)) left' left long (omega arith))
               ∙ ap (take left) (sym whole) in

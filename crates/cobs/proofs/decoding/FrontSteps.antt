@@ -80,9 +80,6 @@ module _ (t rest : List ℕ) (read n : ℕ) (rest-is : rest ≡ drop read t) (be
   long-rest : read + length rest ≡ length t
   long-rest = let l = length-head t in let d = length-drop read t in let e = ap length rest-is in omega arith
 
-  pub piece-within : read + n ≤ length t
-  piece-within = let l = long-rest in omega arith
-
   pub piece-nonzero : HasNoZero (take (read + n) t)
   piece-nonzero =
       let l = long-rest in
@@ -92,10 +89,10 @@ module _ (t rest : List ℕ) (read n : ℕ) (rest-is : rest ≡ drop read t) (be
       All-same (λ b. b ≢ 0) (take (read + n) t) (take read t ++ take n (drop read t)) split (All-append (λ b. b ≢ 0) (take read t) (take n (drop read t)) low high)
 
   pub piece-is : take (read + n) t ≡ head t
-  piece-is = grind (arith, front_is_head, piece-within, piece-nonzero, long-rest, get_or-drop)
+  piece-is = grind (arith, front_is_head, piece-nonzero, long-rest, get_or-drop)
 
   pub piece-end : read + n ≡ length (head t)
-  piece-end = sym (length-take-le (read + n) t piece-within) ∙ ap length piece-is
+  piece-end = grind (arith, length-take-le, piece-is, long-rest)
 
 -- what is left of it
 pub head-rest : (t : List ℕ) (read end : ℕ) → end ≡ length (head t) → read ≤ end → take (end - read) (drop read t) ≡ drop read (head t)

@@ -18,7 +18,6 @@ message_reads : (f m : List ℕ) (count : ℕ) → All (λ b. b < 256) f → IsP
 message_reads f m count below piece answer is = (
   λ e. ⊎_elim
       (λ (whole : is_whole f ≡ true).
-      let given : answer ≡ Ok (output f) = is ∙ ap (λ (t : Bool). cond t (Ok (output f)) (Err (InvalidFrame count))) whole in
       let same : output f ≡ m = cc in
       subst (λ (x : List ℕ). Reads f x) same (reads_output f piece.0 piece.1 below whole))
       (λ (broken : is_whole f ≡ false).

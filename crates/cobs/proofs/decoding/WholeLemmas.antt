@@ -45,7 +45,6 @@ more code bytes q some far rest =
     let front : take (code - 1) (bytes ++ q) ≡ take (code - 1) bytes = take-append-le (code - 1) bytes q (omega arith) in
     let behind : drop (code - 1) (bytes ++ q) ≡ left ++ q = drop-append-le (code - 1) bytes q (omega arith) in
     let joint : joins code (left ++ q) ≡ joint_of code = joins-some code (left ++ q) (omega arith) in
-    let last : last_part (code ∷ bytes) ≡ last_part left = last_part-more code bytes far in
     let out : output (code ∷ bytes) ≡ (take (code - 1) bytes ++ joint_of code) ++ output left = output-more code bytes far in
     grind (arith, joins, joint_of, append_assoc, output-part, kept-part, whole-part, last_part-more)
 

@@ -124,8 +124,7 @@ after_full slice m index next code is fits o =
     let last : (length o.bytes + 1) ∷ o.bytes ≡ lone_block = ap (λ (x : List ℕ). (length x + 1) ∷ x) none in
     let m_lone : m ≡ message_of (o.front ++ lone_block ∷ []) = o.message ∙ ap (λ (x : List ℕ). message_of (o.front ++ x ∷ [])) last in
     let b = o.begins in
-    let block : List ℕ = code ∷ [] in
-    let lone : lone_block ≡ block = ap (λ (k : ℕ). k ∷ []) (sym one) in
+    let lone : lone_block ≡ (code ∷ []) = ap (λ (k : ℕ). k ∷ []) (sym one) in
     let open_frame : IsFrameOf (f ++ lone_block) (o.front ++ lone_block ∷ []) = frame_of o.front [] lone_block o.each (All-cons IsBlock lone_block [] lone_block-is_block (All-nil IsBlock)) in
     record {
       frame = f;
@@ -220,9 +219,8 @@ opened_full slice m r h full =
     let none : o.bytes ≡ [] = cc in
     let z = ap length none in
     let parts = All-front o.front (r.block.code ∷ o.bytes) o.frame.each in
-    let b = o.begins in
     let frame_is : h.frame ≡ concat o.front = fr.whole ∙ ap concat (sym same.0) in
-    let long : length h.frame ≡ r.block.index = ap length frame_is ∙ sym b in
+    let long : length h.frame ≡ r.block.index = ap length frame_is ∙ sym o.begins in
     let l = length-take (next_of r) slice in
     record {
       front = o.front;

@@ -56,7 +56,6 @@ pub after-zero : (slice m : List ℕ) (r : Reached) → CobsEncoderAfter slice r
     → CobsEncoderAfter (set slice r.block.index r.block.code) (place_at (next_of r) 1 false) (m ++ 0 ∷ [])
 after-zero slice m r h fits =
     let code : ℕ = r.block.code in
-    let after : List ℕ = set slice r.block.index code in
     let l = length-set slice r.block.index code in
     let other : (code == 255) ≡ false = ne_eqb code 255 (λ e. omega arith) in
     let closed = Opened-close slice m r.block.index (next_of r) code r.full (omega arith) refl (opened slice m r h fits) in

@@ -39,7 +39,6 @@ ends-within full index next n h e = grind arith
 pub after-so-far : (H : List ℕ → Type 0) (source old slice : List ℕ) (end pos index next : ℕ) (full : Bool) → Reaches H source old slice end pos index next (λ noted. noted ≡ full) → next < index + 255 → end ≤ length slice
     → (m : List ℕ) → H m → CobsEncoderAfter slice (at index (next - index) full) (m ++ take pos source)
 after-so-far H source old slice end pos index next full r short fits m h =
-    let t = r.taken m h in
     let l = least source end pos index next r.ordered r.within r.room in
     grind (arith, to_after, ends-within)
 

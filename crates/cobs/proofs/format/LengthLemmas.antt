@@ -96,7 +96,6 @@ module _ (source : List ℕ) (read len : ℕ) (short : len ≤ length (drop read
   pub encoded_len-full-at : len ≡ 254 → read + len ≢ length source → encoded_len (drop read source) ≡ 255 + encoded_len (drop (read + len) source)
   encoded_len-full-at cap more =
       let rest : List ℕ = drop read source in
-      let l = length-drop read source in
       let b = length-take-le len rest short in
       let parts : take len rest ++ drop (read + len) source ≡ rest = ap (λ (x : List ℕ). take len rest ++ x) (sym (drop-drop len read source)) ∙ take-append-drop len rest in
       grind (arith, length-drop, encoded_len-full)

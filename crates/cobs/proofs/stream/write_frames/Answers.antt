@@ -11,16 +11,12 @@ use Rattle.cobs.proofs.stream.write_frames.Goals.{After-deref, After-encode-len}
 room : (c : After-deref) → c.by_message.end + (encoded_len c.deref.result.now + 1) ≤ length c.by_message.dest
 room c = grind (arith, room-step, room-some, encoded_len-le)
 
--- the part of the list behind what is written
-length-part : (dest : List ℕ) (end : ℕ) → length (take (length dest - end) (drop end dest)) ≡ length dest - end
-length-part dest end = omega (arith, length-take (length dest - end) (drop end dest), length-drop end dest)
-
 pub encode-len-requires : goal.encode-len-requires
-encode-len-requires c = omega (arith, room (goal.at.encode-len-requires c).After-deref, length-part c.by_message.dest c.by_message.end)
+encode-len-requires c = grind (arith, room, length-take, length-drop)
 
 -- the frame and a zero fit behind those that are written
 fits : (c : After-encode-len) → (c.by_message.end + (c.encode-len.result + 1) ≤ length c.by_message.dest) × (c.by_message.end + length c.encode-len.new.dest ≡ length c.by_message.dest)
-fits c = grind (arith, length-part, room-step, room-some, encoded_len-le)
+fits c = grind (arith, room-step, room-some, encoded_len-le, length-take, length-drop)
 
 pub overflow_add-dest : goal.overflow_add-dest
 overflow_add-dest c = let f = fits (goal.at.overflow_add-dest c).After-encode-len in omega arith

@@ -5,7 +5,6 @@ use Rattle.cobs.proofs.dec.front.decode_full.Goals as goal
 
 pub returns-then-copied-clause-decoded : goal.returns-then-copied-clause-decoded
 returns-then-copied-clause-decoded c =
-    let e = c.copy_nonzero-copied.ensures in
     let done : ℕ = c.copy_nonzero-copied.result in
     let none : 0 + done ≡ done = omega arith in
     grind (arith, block-stayed)

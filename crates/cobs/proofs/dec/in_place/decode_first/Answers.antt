@@ -14,7 +14,6 @@ mark_front-front-requires-clause-nonzero c =
 pub returns-clause-rest : goal.returns-clause-rest
 returns-clause-rest c =
     let old : List ℕ = c.args.buffer.now in
-    let first : ℕ = get_or old 0 0 in
     let new : List ℕ = c.mark_front-front.new.rest in
     let front : ℕ = c.mark_front-front.result.0 in
     let e = c.mark_front-front.ensures in

@@ -10,10 +10,9 @@ ended : (c : goal.Then-read-source) → c.by_run.counted + (c.by_run.run + c.run
 ended c =
     let source : List ℕ = c.args.source.now in
     let read : ℕ = c.by_run.read in
-    let run : ℕ = c.by_run.run in
     let more : ℕ = c.run_len-more.result in
     let nonzero = subst HasNoZero (ap (take more) (take_rest source read)) c.run_len-more.ensures.nonzero in
-    let all = run-more source read run more (omega arith) nonzero in
+    let all = run-more source read c.by_run.run more (omega arith) nonzero in
     grind (arith, drop_all, blocks_in, behind, blocks-end)
 
 pub overflow_add-result-then-read-source : goal.overflow_add-result-then-read-source
@@ -28,12 +27,11 @@ stopped : (c : goal.Else-read-source) → c.by_run.counted + (c.by_run.run + c.r
 stopped c =
     let source : List ℕ = c.args.source.now in
     let read : ℕ = c.by_run.read in
-    let run : ℕ = c.by_run.run in
     let more : ℕ = c.run_len-more.result in
     let rest = take_rest source read in
     let lt : read + more < length source = omega arith in
     let nonzero = subst HasNoZero (ap (take more) rest) c.run_len-more.ensures.nonzero in
-    let all = run-more source read run more (omega arith) nonzero in
+    let all = run-more source read c.by_run.run more (omega arith) nonzero in
     grind (arith, get_or-drop, drop_more, blocks-zero)
 
 pub overflow_add-counted-in_default : goal.overflow_add-counted-in_default
