@@ -1,5 +1,5 @@
 -- Lemmas on the mask of the zeros among bytes.
-use Rattle.std.proofs.Common.{min, ◌≡◌, ◌≢◌, ℕ, ◌+◌, ◌-◌, ◌*◌, ◌/◌, ◌%◌, ◌^◌, ◌<◌, ◌≤◌, cond, eqb, not, Bool, true, false, List, [], ◌∷◌, ◌++◌, length, map, drop, take, get_or, replicate, All, if◌then◌else◌, ◌==◌, suc, zero, refl, sym, ap, ◌∙◌, subst, inl, inr, arith, length-take-le, length-append, length-drop, append_assoc, w8}
+use Rattle.std.proofs.Common.{min, ◌≡◌, ◌≢◌, ℕ, ◌+◌, ◌-◌, ◌*◌, ◌/◌, ◌%◌, ◌^◌, ◌<◌, ◌≤◌, cond, eqb, not, Bool, true, false, List, [], ◌∷◌, ◌++◌, length, map, drop, take, get_or, replicate, All, if◌then◌else◌, ◌==◌, suc, zero, refl, sym, ap, ◌∙◌, subst, inl, inr, arith, length-take-le, length-append, length-drop, append_assoc, w8, w64}
 use Rattle.std.proofs.Math.ListN.{set}
 use mir.Val.{bool_byte}
 use Rattle.std.proofs.Math.Nat.{pow-suc, mul_comm, mul_assoc, mul-one, pow-le-pow_right}
@@ -13,8 +13,10 @@ use Rattle.std.specs.List.{prefix_len}
 use lib.Lanes.{mask_l, put_chunk, zip2, top}
 use lib.Count.{count_trailing_zeros}
 use Rattle.std.specs.Int.Bits.{bit_and, and_self}
+use Rattle.std.specs.Int.Count.{trailing_of_zero}
+use Rattle.std.proofs.lemmas.Nat.{and_le_l}
 use Rattle.std.specs.Int.{bit_at}
-use Rattle.std.proofs.lemmas.Nat.Bits.{same_from_bits, bit_at_lowest, bit_at-suc, bit_at_and}
+use Rattle.std.proofs.lemmas.Nat.Bits.{same_from_bits, bit_at_lowest, bit_at-suc, bit_at_and, bit_at_above, bit_at-trailing_zeros}
 use Rattle.cobs.specs.Grammar.{HasNoZero}
 use Rattle.cobs.specs.Internal.Mask.{zero_mask}
 
@@ -185,6 +187,30 @@ clear_front bytes k few le =
 
 pub zero_mask-lt : (bytes : List ℕ) → zero_mask bytes < 2 ^ length bytes
 zero_mask-lt bytes = rw (← zero_mask-lanes bytes) (subst (λ (n : ℕ). mask_l (map (λ b. eqb b 0) bytes) < 2 ^ n) (length-map bytes (λ b. eqb b 0)) (mask_l-lt (map (λ b. eqb b 0) bytes)))
+
+-- the first zero of a mask is within its bits, and in front of those that are left without it
+module _ (zeros : ℕ) (some : zeros ≢ 0) (few : zeros < 2 ^ 64) where
+  pub lowest-within : (k : ℕ) → zeros < 2 ^ k → count_trailing_zeros 64 zeros < k
+  lowest-within k lt = elim (cases_lt (count_trailing_zeros 64 zeros) k) [
+    | inl inside ↦ inside
+    | inr above ↦ absurd (let one = bit_at-trailing_zeros w64 zeros (omega arith) few in let none = bit_at_above zeros k (count_trailing_zeros 64 zeros) lt above in omega arith)
+  ]
+
+  pub lowest-ordered : count_trailing_zeros 64 zeros ≤ count_trailing_zeros 64 (bit_and zeros (zeros - 1))
+  lowest-ordered =
+      let left : ℕ = bit_and zeros (zeros - 1) in
+      let first = bit_at-trailing_zeros w64 zeros (omega arith) few in
+      let le = and_le_l zeros (zeros - 1) in
+      elim (cases_eq left 0) [
+        | inl none ↦ (let all : count_trailing_zeros 64 left ≡ 64 = ap (count_trailing_zeros 64) none ∙ trailing_of_zero 64 in omega arith)
+        | inr other ↦ elim (cases_lt (count_trailing_zeros 64 left) (count_trailing_zeros 64 zeros)) [
+          | inl lt ↦ absurd (let next = bit_at-trailing_zeros w64 left (omega arith) (omega arith) in
+              let both = bit_at_and zeros (zeros - 1) (count_trailing_zeros 64 left) in
+              let none = first.2 (count_trailing_zeros 64 left) lt in
+              omega arith)
+          | inr after ↦ after
+        ]
+      ]
 
 -- where every bit is set, each byte is 0
 pub zero_mask-all : (bytes : List ℕ) → zero_mask bytes + 1 ≡ 2 ^ length bytes → bytes ≡ replicate (length bytes) 0

@@ -145,6 +145,16 @@ Reaches-start H source old end index next full ordered short room opens =
 abbrev pub IsNotFull : Bool → Type 0
 IsNotFull full = full ≡ false
 
+-- what is known of it where windows that begin before `last` are taken: without one it is as it was, and else it isn't full
+abbrev pub IsNotedAt : Bool → ℕ → ℕ → Bool → Type 0
+IsNotedAt full last read noted = last ≤ read → noted ≡ (if last == 0 then full else false)
+
+pub Reaches-open : (H : List ℕ → Type 0) (source old slice : List ℕ) (end pos index next : ℕ) (full : Bool) (last : ℕ) → 0 < last → Reaches H source old slice end pos index next IsNotFull
+    → Reaches H source old slice end pos index next (IsNotedAt full last pos)
+Reaches-open H source old slice end pos index next full last some r =
+    let other : (last == 0) ≡ false = ne_eqb last 0 (λ e. omega arith) in
+    Reaches-at H source old slice end pos index next IsNotFull (IsNotedAt full last pos) slice pos index next refl refl refl refl (λ noted open' done. open' ∙ sym (ap (λ (b : Bool). if b then full else false) other)) r
+
 -- n blocks of no bytes behind a closed one
 pub Reaches-ones : (n : ℕ) (H : List ℕ → Type 0) (source old slice after : List ℕ) (end pos index : ℕ) → pos + n ≤ length source → take n (drop pos source) ≡ replicate n 0 → end ≤ length slice
     → take (index + n) after ≡ take index slice ++ replicate n 1 → drop end after ≡ drop end old → Reaches H source old slice end pos index (index + 1) IsNotFull

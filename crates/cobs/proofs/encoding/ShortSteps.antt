@@ -1,18 +1,19 @@
 -- The steps of the encoder through a source that can't fill the open block: zeros marked without asking whether there are any.
-use Rattle.std.proofs.Common.{◌≡◌, ◌≢◌, ℕ, ◌+◌, ◌-◌, ◌%◌, ◌^◌, ◌<◌, ◌≤◌, Bool, false, List, ◌++◌, length, drop, take, replicate, refl, sym, ap, ◌∙◌, subst, inl, inr, arith, length-take-le, length-drop}
+use Rattle.std.proofs.Common.{◌≡◌, ◌≢◌, ℕ, ◌+◌, ◌-◌, ◌%◌, ◌^◌, ◌<◌, ◌≤◌, Bool, false, List, ◌++◌, length, drop, take, replicate, refl, sym, ap, ◌∙◌, subst, inl, inr, arith, length-append, length-take-le, length-drop}
 use Rattle.std.proofs.Math.ListN.{set}
 use Rattle.std.proofs.Math.Seq.{take-set-lt}
 use Rattle.std.proofs.lemmas.Bool.{cases_eq}
 use Rattle.std.proofs.lemmas.List.{drop-set-lt, length-set, take-set, length-replicate}
 use Rattle.std.proofs.Math.Nat.{pow-le-pow_right}
+use Rattle.std.proofs.lemmas.Nat.{and_le_l}
 use Rattle.std.specs.Int.Count.{count_trailing_zeros, trailing_of_zero}
 use Rattle.std.specs.Int.Bits.{bit_and}
 use Rattle.cobs.specs.Internal.Mask.{zero_mask}
 use Rattle.cobs.proofs.encoding.OpenedLemmas.{Opened}
-use Rattle.cobs.proofs.bytes.MaskLemmas.{zero_mask-all, lowest_bit, nonzero_len}
+use Rattle.cobs.proofs.bytes.MaskLemmas.{zero_mask-all, zero_mask-lt, lowest_bit, lowest-ordered, lowest-within, nonzero_len}
 use Rattle.cobs.proofs.encoding.ReachLemmas.{Reaches, least}
-use Rattle.cobs.proofs.encoding.MarkLemmas.{Marks, copied-reaches, length-after, marks-start, marks-step, place-le, place-lt, WindowTaken, row-taken}
-use Rattle.cobs.specs.Internal.Taking.{TakesFront}
+use Rattle.cobs.proofs.encoding.MarkLemmas.{Marks, copied-reaches, length-after, marks-start, marks-step, marks-end, place-le, place-lt, WindowTaken, WindowTaken-at, row-taken}
+use Rattle.cobs.specs.Internal.Taking.{MarksZeros, none_left, first_marked, TakesFront}
 use Rattle.cobs.proofs.encoding.AfterLemmas.{at}
 use Rattle.cobs.proofs.encoding.TakingLemmas.{front-taken, reaches-start}
 use Rattle.cobs.specs.OpenBlock.{Reached, CobsEncoderAfter, end_after, next_of}
@@ -54,6 +55,69 @@ module _ (H : List ℕ → Type 0) (source old slice : List ℕ) (end read len i
         (subst (λ (n : ℕ). Marks H source old (set slice index byte) end read len n next r.1) i
         (subst (λ (n : ℕ). Marks H source old (set slice index byte) end read len (next + count_trailing_zeros 64 zeros) next n) z m)))
   ]
+
+-- How far a mask's zeros are marked, so that what is left of them leads where all do: the next code belongs within the
+-- slice, and no later than the next zero.
+pub record MarkedSoFar (next zeros₀ index₀ : ℕ) (slice₀ : List ℕ) (zeros index : ℕ) (slice : List ℕ) : Type 0 where
+  pub inside : index < length slice
+  pub begins : next ≤ length slice
+  pub ordered : index ≤ next + count_trailing_zeros 64 zeros
+  pub few : zeros < 2 ^ 64
+  pub within : zeros < 2 ^ (length slice - next)
+  pub goes : (index' : ℕ) (slice' : List ℕ) → MarksZeros next index' slice' zeros index slice → MarksZeros next index' slice' zeros₀ index₀ slice₀
+
+-- one zero more
+pub marked-more : (next zeros₀ index₀ : ℕ) (slice₀ : List ℕ) (zeros index : ℕ) (slice after : List ℕ) (r : ℕ × ℕ) → MarkedSoFar next zeros₀ index₀ slice₀ zeros index slice → zeros ≢ 0
+    → after ≡ set slice index ((next + count_trailing_zeros 64 zeros - index) % 256) → (zeros ≢ 0 → r ≡ (next + count_trailing_zeros 64 zeros, bit_and zeros (zeros - 1)))
+    → MarkedSoFar next zeros₀ index₀ slice₀ r.1 r.0 after
+marked-more next zeros₀ index₀ slice₀ mask index slice after r m some is to =
+    let k : ℕ = count_trailing_zeros 64 mask in
+    let byte : ℕ = (next + k - index) % 256 in
+    let lt = lowest-within mask some m.few (length slice - next) m.within in
+    let le = lowest-ordered mask some m.few in
+    let less = and_le_l mask (mask - 1) in
+    let n = m.begins in
+    let w = m.within in
+    let f = m.few in
+    let l = length-set slice index byte in
+    let there : MarkedSoFar next zeros₀ index₀ slice₀ (bit_and mask (mask - 1)) (next + k) (set slice index byte) = record {
+      inside = omega arith;
+      begins = omega arith;
+      ordered = omega arith;
+      few = omega arith;
+      within = subst (λ (n : ℕ). bit_and mask (mask - 1) < 2 ^ (n - next)) (sym l) (omega arith);
+      goes = λ index' slice' left. m.goes index' slice' (first_marked mask index slice some left);
+    } in
+    subst (λ (x : List ℕ). MarkedSoFar next zeros₀ index₀ slice₀ r.1 r.0 x) (sym is)
+    (subst (λ (p : ℕ × ℕ). MarkedSoFar next zeros₀ index₀ slice₀ p.1 p.0 (set slice index byte)) (sym (to some)) there)
+
+-- the zeros of a window are marked
+module _ (H : List ℕ → Type 0) (source old : List ℕ) (end read len next : ℕ) where
+  -- none is behind the slice
+  pub marks-within : (slice : List ℕ) (index zeros : ℕ) → Marks H source old slice end read len index next zeros → end ≤ length slice → zeros < 2 ^ (length slice - next)
+  marks-within slice index mask s fits =
+      let d : ℕ = index + 1 - next in
+      let row : List ℕ = take (len - d) (drop (read + d) source) in
+      let i = s.inside in
+      let n = s.seen in
+      let l : length row ≡ len - d = length-take-le (len - d) (drop (read + d) source) (let e = length-drop (read + d) source in omega arith) in
+      let long : length (replicate d 1 ++ row) ≡ len = length-append (replicate d 1) row ∙ (let o : length {A = ℕ} (replicate d 1) ≡ d = length-replicate d 1 in omega arith) in
+      let least' = least source end (read + d) index (next + d) s.reaches.ordered s.reaches.within s.reaches.room in
+      let few = zero_mask-lt (replicate d 1 ++ row) in
+      let most : 2 ^ length (replicate d 1 ++ row) ≤ 2 ^ (length slice - next) = pow-le-pow_right {n = 2} (omega arith) {i = length (replicate d 1 ++ row)} {j = length slice - next} (omega arith) in
+      let bits = s.bits in
+      omega arith
+
+  pub marks-zeros : (slice' : List ℕ) (index' zeros index : ℕ) (slice : List ℕ) → MarksZeros next index' slice' zeros index slice → Marks H source old slice end read len index next zeros → end ≤ length slice
+      → WindowTaken H source old slice' end read len index' next
+  marks-zeros slice' index' mask index slice (none_left _ _ _ none i s) m fits =
+      WindowTaken-at H source old slice slice' end read len index index' next (sym s) (sym i) (marks-end H source old slice end read len index next mask (index + 1 - next) m none fits)
+  marks-zeros slice' index' mask index slice (first_marked _ _ _ some left) m fits =
+      let k : ℕ = count_trailing_zeros 64 mask in
+      let after : List ℕ = set slice index ((next + k - index) % 256) in
+      let l = length-set slice index ((next + k - index) % 256) in
+      marks-zeros slice' index' (bit_and mask (mask - 1)) (next + k) after left
+      (first-marked H source old slice end read len index next mask m after (next + k, bit_and mask (mask - 1)) fits refl (λ e. absurd (some e)) (λ _. refl)) (omega arith)
 
 -- a window of zeros alone, whose first two were marked before
 module _ (H : List ℕ → Type 0) (source old slice : List ℕ) (end read len index next zeros : ℕ) (r : Reaches H source old slice end read index next (λ _. Unit {0})) (fits : end ≤ length slice)

@@ -1,6 +1,7 @@
 -- What a step of the encoder makes of the front of a source.
-use Rattle.std.specs.Prelude.{◌≡◌, ℕ, List, ◌++◌, length, take, drop}
+use Rattle.std.specs.Prelude.{◌≡◌, ◌≢◌, ℕ, ◌+◌, ◌-◌, ◌%◌, List, ◌++◌, length, take, drop, slice_set}
 use Rattle.cobs.specs.OpenBlock.{Reached, CobsEncoderAfter, IsPlaceIn, end_after}
+use Rattle.cobs.specs.Internal.Mask.{lowest, without_lowest}
 
 -- From a slice, in which the frame had come so far, a step took n bytes of a source, and led to this slice and so far.
 -- The frame of the whole source ends where it would have, and the slice behind that is as it was.
@@ -9,3 +10,12 @@ pub record TakesFront (slice : List ℕ) (reached : Reached) (source : List ℕ)
   pub after : (m : List ℕ) → CobsEncoderAfter slice reached m → CobsEncoderAfter slice' reached' (m ++ take n source)
   pub end : end_after reached' (drop n source) ≡ end_after reached source
   pub rest : drop (end_after reached source) slice' ≡ drop (end_after reached source) slice
+
+-- A mask says which bytes from next on are zeros, and index is where the code of the open block belongs. Each zero in turn
+-- closes the open block, whose code is written, and gives its place to the code of the next one. That leads to slice' and
+-- index'.
+pub data MarksZeros (next index' : ℕ) (slice' : List ℕ) : ℕ → ℕ → List ℕ → Type 0 where
+  none_left : (zeros index : ℕ) (slice : List ℕ) → zeros ≡ 0 → index' ≡ index → slice' ≡ slice → MarksZeros next index' slice' zeros index slice
+  first_marked : (zeros index : ℕ) (slice : List ℕ) → zeros ≢ 0
+      → MarksZeros next index' slice' (without_lowest zeros) (next + lowest zeros) (slice_set slice index ((next + lowest zeros - index) % 256))
+      → MarksZeros next index' slice' zeros index slice

@@ -1,10 +1,10 @@
 //! How a message is cut into blocks: the core that every encoder into a slice is built on.
-ghost use Rattle.std.specs.Prelude.{◌≡◌, ◌≢◌, ◌<◌, ◌≤◌, ◌+◌, ◌-◌, ◌%◌, ◌++◌, ℕ, IsTrue, List, length, take, drop, replicate, slice_index, slice_set};
+ghost use Rattle.std.specs.Prelude.{◌≡◌, ◌≢◌, ◌<◌, ◌≤◌, ◌+◌, ◌-◌, ◌%◌, ◌^◌, ◌++◌, ℕ, IsTrue, List, length, take, drop, replicate, slice_index, slice_set};
 ghost use Rattle.cobs.specs.Grammar.{HasNoZero, IsEncodedFrame};
 ghost use Rattle.cobs.specs.OpenBlock.{CobsEncoderAfter, IsPlaceIn, end_after, end_of};
 ghost use Rattle.cobs.specs.Fields.Progress.{reached_at};
 ghost use Rattle.cobs.specs.Internal.Mask.{lowest, without_lowest};
-ghost use Rattle.cobs.specs.Internal.Taking.{TakesFront};
+ghost use Rattle.cobs.specs.Internal.Taking.{MarksZeros, TakesFront};
 
 use crate::enc::unbuffered::EncoderProgress;
 use crate::window::{
@@ -67,6 +67,27 @@ fn mark_first(dest: &mut [u8], index: usize, next: usize, zeros: u64) -> (usize,
     (index, zeros & zeros.wrapping_sub(1))
 }
 
+/// Marks all zeros of the mask, two a turn, which costs less where every other byte is a zero. Returns where the code
+/// of the block belongs that is open then.
+#[inline(always)]
+fn mark_zeros(dest: &mut [u8], index: usize, next: usize, zeros: u64) -> usize
+    requires inside { index < length dest.old }
+    requires next { next ≤ length dest.old }
+    requires ordered { index ≤ next + lowest zeros }
+    requires within { zeros < 2 ^ (length dest.old - next) }
+    ensures { MarksZeros next result dest.new zeros index dest.old }
+{
+    let mut index = index;
+    let mut zeros = zeros;
+    'by_zero: while zeros != 0 {
+        (index, zeros) = mark_first(dest, index, next, zeros);
+        if zeros != 0 {
+            (index, zeros) = mark_first(dest, index, next, zeros);
+        }
+    }
+    index
+}
+
 /// Takes a `source` of up to 32 bytes that can't fill the open block, by few branches that could be guessed wrong:
 /// two zeros are marked before the first question is how many there are. With `few_zeros` a source without zeros is
 /// asked for before that.
@@ -93,14 +114,12 @@ pub(crate) fn append_short(
         return progress_at(start, next + len, false);
     }
     let (first, left) = mark_first(dest, start, next, mask);
-    let (mut index, mut zeros) = mark_first(dest, first, next, left);
+    let (mut index, zeros) = mark_first(dest, first, next, left);
     if zeros != 0 && is_all_zeros(mask, len) {
         write_some_ones(dest, next, len);
         index = next + len - 1;
     } else {
-        'by_zero: while zeros != 0 {
-            (index, zeros) = mark_first(dest, index, next, zeros);
-        }
+        index = mark_zeros(dest, index, next, zeros);
     }
     progress_at(index, next + len, false)
 }
@@ -138,22 +157,24 @@ fn write_rows(source: &[u8], read: usize, dest: &mut [u8], at: usize) -> usize
 /// that block is closed, and what doesn't belong to it is copied anew. Else each zero of the window gives its place to
 /// the code of the block that it begins, and the last block stays open for the next window. Nothing is written after
 /// what the frame needs at the least, so a slice of exactly the frame's length is enough.
+///
+/// A full block that no window follows ends it where that block is closed. So after the loop the last block is full only
+/// if it was at the start, and there was no window.
 #[inline(always)]
 pub(crate) fn append_windows(
     source: &[u8],
     dest: &mut [u8],
-    progress: EncoderProgress,
+    start: EncoderProgress,
 ) -> (usize, EncoderProgress)
     requires some { 0 < length source.now }
-    requires place { IsPlaceIn (length dest.old) (reached_at progress) }
-    requires fits { end_after (reached_at progress) source.now ≤ length dest.old }
+    requires place { IsPlaceIn (length dest.old) (reached_at start) }
+    requires fits { end_after (reached_at start) source.now ≤ length dest.old }
     ensures within { result.0 < length source.now }
-    ensures taken { TakesFront dest.old (reached_at progress) source.now result.0
+    ensures taken { TakesFront dest.old (reached_at start) source.now result.0
         dest.new (reached_at result.1) }
 {
-    let mut index = progress.index;
-    let mut next = index + progress.code as usize;
-    let mut full = progress.is_full;
+    let mut index = start.index;
+    let mut next = index + start.code as usize;
     let mut read = 0;
     let last = source.len().saturating_sub(WINDOW);
     'by_window: while read < last {
@@ -162,15 +183,12 @@ pub(crate) fn append_windows(
             if next - index < FULL_CODE - WINDOW {
                 read += WINDOW;
                 next += WINDOW;
-                full = false;
                 continue;
             }
         } else {
             let place = next + window.trailing_zeros() as usize;
             if place - index < FULL_CODE {
                 dest[index] = (place - index) as u8;
-                index = place;
-                full = false;
                 if window == ALL_ZEROS {
                     let count = write_rows(source, read, dest, next);
                     index = next + count - 1;
@@ -178,29 +196,21 @@ pub(crate) fn append_windows(
                     next += count;
                     continue;
                 }
-                let mut zeros = window & (window - 1);
-                'by_zero: while zeros != 0 {
-                    (index, zeros) = mark_first(dest, index, next, zeros);
-                    if zeros != 0 {
-                        (index, zeros) = mark_first(dest, index, next, zeros);
-                    }
-                }
+                index = mark_zeros(dest, place, next, window & (window - 1));
                 read += WINDOW;
                 next += WINDOW;
                 continue;
             }
         }
-        let lacking = index + FULL_CODE - next;
         dest[index] = FULL_CODE as u8;
-        read += lacking;
         index += FULL_CODE;
+        read += index - next;
         next = index + 1;
-        full = true;
-        if read % STRETCH > STRETCH - FULL_CODE {
+        if read >= last || read % STRETCH > STRETCH - FULL_CODE {
             return (read, progress_at(index, next, true));
         }
     }
-    (read, progress_at(index, next, full))
+    (read, progress_at(index, next, last == 0 && start.is_full))
 }
 
 /// How many nonzero bytes `source` begins with: those before its next zero, which `memchr` finds.

@@ -2,9 +2,9 @@ use Rattle.std.proofs.Common.{◌+◌, ◌-◌, ℕ, List, length, sym, arith}
 use Rattle.cobs.specs.OpenBlock.{CobsEncoderAfter, end_after}
 use Rattle.cobs.specs.Fields.Progress.{reached_at}
 use Rattle.cobs.proofs.encoding.MarkLemmas.{WindowTaken, WindowTaken-at, marks-end}
-use Rattle.cobs.proofs.encoding.ShortSteps.{code-ordered, first-marked, all-taken, second-inside, second-ordered, short-fits, short-marks, short-reaches, two-marks, window-front}
+use Rattle.cobs.proofs.encoding.ShortSteps.{code-inside, code-ordered, marks-within, marks-zeros, all-taken, second-inside, second-ordered, short-fits, short-marks, short-reaches, two-marks, window-front}
 use Rattle.cobs.proofs.encoding.TakingLemmas.{next-least}
-use Rattle.cobs.proofs.enc.blocks.append_short.Goals.{then-zeros-ne0+then-is_all_zeros, else-zeros-ne0+else-by_zero-test}
+use Rattle.cobs.proofs.enc.blocks.append_short.Goals.{then-zeros-ne0+then-is_all_zeros, else-zeros-ne0}
 use Rattle.cobs.proofs.enc.blocks.append_short.Goals as goal
 
 pub overflow_add-next : goal.overflow_add-next
@@ -19,19 +19,17 @@ mark_first-index-requires-clause-inside c = second-inside c.args.source.now c.ar
 pub mark_first-index-requires-clause-ordered : goal.mark_first-index-requires-clause-ordered
 mark_first-index-requires-clause-ordered c = second-ordered c.args.source.now c.args.dest.now c.copy_window-mask.new.dest (reached_at c.args.progress) c.copy_window-mask.result c.requires.code c.requires.some c.requires.few c.requires.open_block c.requires.fits c.copy_window-mask.ensures.copied c.copy_window-mask.ensures.zeros c.mark_first-first.new.dest c.mark_first-first.result c.mark_first-first.ensures.code c.mark_first-first.ensures.none c.mark_first-first.ensures.some
 
-pub by_zero-init : goal.by_zero-init
-by_zero-init c =
-    two-marks c.args.source.now c.args.dest.now c.copy_window-mask.new.dest (reached_at c.args.progress) c.copy_window-mask.result c.requires.code c.requires.some c.requires.few c.requires.open_block c.requires.fits c.copy_window-mask.ensures.copied c.copy_window-mask.ensures.zeros c.mark_first-first.new.dest c.mark_first-first.result c.mark_first-first.ensures.code c.mark_first-first.ensures.none c.mark_first-first.ensures.some
-    c.mark_first-index.new.dest c.mark_first-index.result c.mark_first-index.ensures.code c.mark_first-index.ensures.none c.mark_first-index.ensures.some
-
-pub mark_first-requires-clause-ordered : goal.mark_first-requires-clause-ordered
-mark_first-requires-clause-ordered c =
-    code-ordered _ c.args.source.now c.args.dest.now c.by_zero.dest _ 0 (length c.args.source.now) c.by_zero.index (c.args.progress.index + c.args.progress.code) c.by_zero.zeros c.by_zero.invariant
-
-pub by_zero-preserved : goal.by_zero-preserved
-by_zero-preserved c =
-    first-marked _ c.args.source.now c.args.dest.now c.by_zero.dest _ 0 (length c.args.source.now) c.by_zero.index (c.args.progress.index + c.args.progress.code) c.by_zero.zeros c.by_zero.invariant c.mark_first.new.dest c.mark_first.result (omega arith)
-    c.mark_first.ensures.code c.mark_first.ensures.none c.mark_first.ensures.some
+pub mark_zeros-index-requires : goal.mark_zeros-index-requires
+mark_zeros-index-requires c =
+    let fits = short-fits c.args.source.now c.args.dest.now c.copy_window-mask.new.dest (reached_at c.args.progress) c.copy_window-mask.result c.requires.code c.requires.some c.requires.few c.requires.open_block c.requires.fits c.copy_window-mask.ensures.copied c.copy_window-mask.ensures.zeros in
+    let two = two-marks c.args.source.now c.args.dest.now c.copy_window-mask.new.dest (reached_at c.args.progress) c.copy_window-mask.result c.requires.code c.requires.some c.requires.few c.requires.open_block c.requires.fits c.copy_window-mask.ensures.copied c.copy_window-mask.ensures.zeros c.mark_first-first.new.dest c.mark_first-first.result c.mark_first-first.ensures.code c.mark_first-first.ensures.none c.mark_first-first.ensures.some
+    c.mark_first-index.new.dest c.mark_first-index.result c.mark_first-index.ensures.code c.mark_first-index.ensures.none c.mark_first-index.ensures.some in
+    record {
+      inside = code-inside _ _ _ _ _ _ _ _ _ _ two (omega arith);
+      next = let l = next-least (reached_at c.args.progress) c.args.source.now c.requires.code c.requires.some in omega arith;
+      ordered = code-ordered _ _ _ _ _ _ _ _ _ _ two;
+      within = marks-within _ _ _ _ _ _ _ _ _ _ two (omega arith);
+    }
 
 pub progress_at-requires-2 : goal.progress_at-requires-2
 progress_at-requires-2 c =
@@ -40,14 +38,16 @@ progress_at-requires-2 c =
     let len : ℕ = length c.args.source.now in
     let next : ℕ = c.args.progress.index + c.args.progress.code in
     let fits = short-fits c.args.source.now c.args.dest.now c.copy_window-mask.new.dest (reached_at c.args.progress) c.copy_window-mask.result c.requires.code c.requires.some c.requires.few c.requires.open_block c.requires.fits c.copy_window-mask.ensures.copied c.copy_window-mask.ensures.zeros in
+    let two = two-marks c.args.source.now c.args.dest.now c.copy_window-mask.new.dest (reached_at c.args.progress) c.copy_window-mask.result c.requires.code c.requires.some c.requires.few c.requires.open_block c.requires.fits c.copy_window-mask.ensures.copied c.copy_window-mask.ensures.zeros c.mark_first-first.new.dest c.mark_first-first.result c.mark_first-first.ensures.code c.mark_first-first.ensures.none c.mark_first-first.ensures.some
+    c.mark_first-index.new.dest c.mark_first-index.result c.mark_first-index.ensures.code c.mark_first-index.ensures.none c.mark_first-index.ensures.some in
     let r = short-reaches c.args.source.now c.args.dest.now c.copy_window-mask.new.dest (reached_at c.args.progress) c.copy_window-mask.result c.requires.code c.requires.some c.requires.few c.requires.open_block c.requires.fits c.copy_window-mask.ensures.copied c.copy_window-mask.ensures.zeros in
     let open' = c.requires.open_block in
     let taken : WindowTaken H c.args.source.now c.args.dest.now c.if-zeros-ne0.dest end 0 len c.if-zeros-ne0.index next = elim c.if-zeros-ne0.branch [
       | then-zeros-ne0+then-is_all_zeros w ↦ WindowTaken-at _ _ _ _ _ _ _ _ _ _ _ (sym w.dest-is) (sym w.index-is)
           (all-taken H c.args.source.now c.args.dest.now c.copy_window-mask.new.dest end 0 len c.args.progress.index next c.copy_window-mask.result r fits (omega arith) c.requires.some (omega arith) c.copy_window-mask.ensures.zeros (w.is_all_zeros.ensures.0 w.if-is_all_zeros.true).1
           c.mark_first-first.new.dest c.mark_first-index.new.dest w.write_some_ones.new.dest c.mark_first-first.result _ (omega arith) c.mark_first-first.ensures.code c.mark_first-first.ensures.some c.mark_first-index.ensures.code w.write_some_ones.ensures)
-      | else-zeros-ne0+else-by_zero-test w ↦ WindowTaken-at _ _ _ _ _ _ _ _ _ _ _ (sym w.dest-is) (sym w.index-is)
-          (marks-end _ _ _ _ _ _ _ _ _ _ _ w.by_zero.invariant w.by_zero-test.false (omega arith))
+      | else-zeros-ne0 w ↦ WindowTaken-at _ _ _ _ _ _ _ _ _ _ _ (sym w.dest-is) (sym w.index-is)
+          (marks-zeros _ _ _ _ _ _ _ _ _ _ _ _ w.mark_zeros-index.ensures two (omega arith))
     ] in
     record { ordered = taken.ordered; open_block = taken.open' }
 
@@ -58,13 +58,15 @@ returns c =
     let len : ℕ = length c.args.source.now in
     let next : ℕ = c.args.progress.index + c.args.progress.code in
     let fits = short-fits c.args.source.now c.args.dest.now c.copy_window-mask.new.dest (reached_at c.args.progress) c.copy_window-mask.result c.requires.code c.requires.some c.requires.few c.requires.open_block c.requires.fits c.copy_window-mask.ensures.copied c.copy_window-mask.ensures.zeros in
+    let two = two-marks c.args.source.now c.args.dest.now c.copy_window-mask.new.dest (reached_at c.args.progress) c.copy_window-mask.result c.requires.code c.requires.some c.requires.few c.requires.open_block c.requires.fits c.copy_window-mask.ensures.copied c.copy_window-mask.ensures.zeros c.mark_first-first.new.dest c.mark_first-first.result c.mark_first-first.ensures.code c.mark_first-first.ensures.none c.mark_first-first.ensures.some
+    c.mark_first-index.new.dest c.mark_first-index.result c.mark_first-index.ensures.code c.mark_first-index.ensures.none c.mark_first-index.ensures.some in
     let r = short-reaches c.args.source.now c.args.dest.now c.copy_window-mask.new.dest (reached_at c.args.progress) c.copy_window-mask.result c.requires.code c.requires.some c.requires.few c.requires.open_block c.requires.fits c.copy_window-mask.ensures.copied c.copy_window-mask.ensures.zeros in
     let taken : WindowTaken H c.args.source.now c.args.dest.now c.if-zeros-ne0.dest end 0 len c.if-zeros-ne0.index next = elim c.if-zeros-ne0.branch [
       | then-zeros-ne0+then-is_all_zeros w ↦ WindowTaken-at _ _ _ _ _ _ _ _ _ _ _ (sym w.dest-is) (sym w.index-is)
           (all-taken H c.args.source.now c.args.dest.now c.copy_window-mask.new.dest end 0 len c.args.progress.index next c.copy_window-mask.result r fits (omega arith) c.requires.some (omega arith) c.copy_window-mask.ensures.zeros (w.is_all_zeros.ensures.0 w.if-is_all_zeros.true).1
           c.mark_first-first.new.dest c.mark_first-index.new.dest w.write_some_ones.new.dest c.mark_first-first.result _ (omega arith) c.mark_first-first.ensures.code c.mark_first-first.ensures.some c.mark_first-index.ensures.code w.write_some_ones.ensures)
-      | else-zeros-ne0+else-by_zero-test w ↦ WindowTaken-at _ _ _ _ _ _ _ _ _ _ _ (sym w.dest-is) (sym w.index-is)
-          (marks-end _ _ _ _ _ _ _ _ _ _ _ w.by_zero.invariant w.by_zero-test.false (omega arith))
+      | else-zeros-ne0 w ↦ WindowTaken-at _ _ _ _ _ _ _ _ _ _ _ (sym w.dest-is) (sym w.index-is)
+          (marks-zeros _ _ _ _ _ _ _ _ _ _ _ _ w.mark_zeros-index.ensures two (omega arith))
     ] in
     window-front c.args.source.now c.args.dest.now c.if-zeros-ne0.dest (reached_at c.args.progress) (reached_at c.progress_at-2.result) 0 len c.if-zeros-ne0.index next (omega arith) taken (omega arith) c.progress_at-2.ensures
 

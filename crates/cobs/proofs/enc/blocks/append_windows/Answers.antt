@@ -1,22 +1,25 @@
-use Rattle.std.proofs.Common.{◌∙◌, drop, ◌≢◌, length-take-le, length-drop, ◌≡◌, ◌<◌, ◌≤◌, ◌+◌, ◌-◌, ◌%◌, Bool, min, true, ap, ◌++◌, ℕ, List, length, take, replicate, refl, sym, subst, arith}
+use Rattle.std.proofs.Common.{◌∙◌, drop, ◌≢◌, length-take-le, length-drop, ◌≡◌, ◌<◌, ◌≤◌, ◌+◌, ◌-◌, Bool, min, true, false, ◌==◌, if◌then◌else◌, ap, ◌++◌, ℕ, List, length, take, replicate, refl, sym, subst, arith}
 use lib.Count.{count_trailing_zeros}
 use Rattle.std.proofs.Math.ListN.{set}
 use Rattle.std.proofs.lemmas.List.{length-set}
 use Rattle.cobs.specs.OpenBlock.{CobsEncoderAfter, Reached, end_after}
 use Rattle.cobs.specs.Fields.Progress.{reached_at}
-use Rattle.cobs.proofs.encoding.ReachLemmas.{IsNotFull, Reaches, Reaches-at, Reaches-full}
+use Rattle.cobs.proofs.encoding.ReachLemmas.{IsNotFull, Reaches, Reaches-at, Reaches-full, Reaches-open}
 use Rattle.cobs.proofs.encoding.MarkLemmas.{Marks, WindowTaken, copied-reaches, filled, marks-start, marks-step, marks-end, row-taken}
-use Rattle.cobs.specs.Internal.Mask.{lowest, zero_mask}
+use Rattle.cobs.specs.Internal.Mask.{zero_mask}
 use Rattle.cobs.proofs.bytes.MaskLemmas.{lowest_bit, nonzero_len-lt, window_all}
-use Rattle.cobs.proofs.encoding.ShortSteps.{code-inside, code-ordered, first-marked}
+use Rattle.cobs.proofs.encoding.ShortSteps.{code-inside, code-ordered, marks-within, marks-zeros}
 use Rattle.cobs.proofs.encoding.TakingLemmas.{front-taken, next-least, reaches-noted}
-use Rattle.cobs.proofs.enc.blocks.append_windows.Goals.{then-window-eq0+else-next-index, else-window-eq0+else-place-index-lt-FULL_CODE}
+use Rattle.cobs.proofs.enc.blocks.append_windows.Goals.{then-window-eq0+else-next-index, else-window-eq0+else-place-index-lt-FULL_CODE, then-last-eq0, else-last-eq0}
 use Rattle.std.specs.Int.Count.{trailing_of_zero}
+use Rattle.std.specs.Int.Bits.{bit_and}
+use Rattle.std.proofs.lemmas.Bool.{eq-eqb, ne_eqb}
+use Rattle.cobs.proofs.encoding.AfterLemmas.{at}
 use Rattle.cobs.proofs.enc.blocks.append_windows.Goals as goal
 
 -- a window that was copied
-module _ (source old slice copied : List ℕ) (r₀ : Reached) (read index next window : ℕ) (full : Bool) (fits : end_after r₀ source ≤ length slice) (inside : read + 32 ≤ length source)
-    (reaches : Reaches (CobsEncoderAfter old r₀) source old slice (end_after r₀ source) read index next (λ noted. noted ≡ full)) (short : next < index + 255)
+module _ (source old slice copied : List ℕ) (r₀ : Reached) (read index next window : ℕ) (P : Bool → Type 0) (fits : end_after r₀ source ≤ length slice) (inside : read + 32 ≤ length source)
+    (reaches : Reaches (CobsEncoderAfter old r₀) source old slice (end_after r₀ source) read index next P) (short : next < index + 255)
     (is : copied ≡ take next slice ++ (take 32 (drop read source) ++ drop (next + 32) slice)) (bits : window ≡ zero_mask (take 32 (drop read source))) where
   abbrev H : List ℕ → Type 0
   H = CobsEncoderAfter old r₀
@@ -25,7 +28,7 @@ module _ (source old slice copied : List ℕ) (r₀ : Reached) (read index next 
   end = end_after r₀ source
 
   any : Reaches H source old slice end read index next (λ _. Unit {0})
-  any = Reaches-at H source old slice end read index next (λ noted. noted ≡ full) (λ _. Unit {0}) slice read index next refl refl refl refl (λ noted e. tt) reaches
+  any = Reaches-at H source old slice end read index next P (λ _. Unit {0}) slice read index next refl refl refl refl (λ noted p. tt) reaches
 
   long-row : length (take 32 (drop read source)) ≡ 32
   long-row = length-take-le 32 (drop read source) (let l = length-drop read source in omega arith)
@@ -42,6 +45,11 @@ module _ (source old slice copied : List ℕ) (r₀ : Reached) (read index next 
       let first = ap (count_trailing_zeros 64) bits ∙ lowest_bit row (omega arith) some' in
       let lt = nonzero_len-lt row some' in
       omega arith
+
+  -- the first zero closes the open block
+  first-mark : window ≢ 0 → min (count_trailing_zeros 64 window) 32 < index + 255 - next → end ≤ length copied
+      → Marks H source old (set copied index (next + count_trailing_zeros 64 window - index)) end read 32 (next + count_trailing_zeros 64 window) next (bit_and window (window - 1))
+  first-mark some near room = marks-step H source old copied end read 32 index next window (index + 1 - next) (marked near) some room
 
   -- zeros alone, and ones in their place
   rowed : (after : List ℕ) (count : ℕ) → end ≤ length copied → 0 < count → read + count ≤ length source → take count (drop read source) ≡ replicate count 0
@@ -62,32 +70,33 @@ module _ (source old slice copied : List ℕ) (r₀ : Reached) (read index next 
       (subst (λ (n : ℕ). Reaches H source old copied end (read + lacking) index n IsNotFull) sum joined)
 
 pub overflow_add-next : goal.overflow_add-next
-overflow_add-next c = let l = next-least (reached_at c.args.progress) c.args.source.now c.requires.place.some c.requires.some in omega arith
+overflow_add-next c = let l = next-least (reached_at c.args.start) c.args.source.now c.requires.place.some c.requires.some in omega arith
 
 pub by_window-init : goal.by_window-init
 by_window-init c =
     let short = c.requires.place.not_full in
+    let start = reaches-noted c.args.source.now c.args.dest.now (reached_at c.args.start) c.requires.some c.requires.place.some c.requires.place.not_full in
     record {
       more = omega arith;
       open' = omega arith;
-      reaches = reaches-noted c.args.source.now c.args.dest.now (reached_at c.args.progress) c.requires.some c.requires.place.some c.requires.place.not_full;
+      reaches = Reaches-at _ _ _ _ _ _ _ _ _ _ _ _ _ _ refl refl refl refl (λ noted is done. is ∙ sym (ap (λ (b : Bool). if b then c.args.start.is_full else false) (eq-eqb c.saturating_sub-last.result 0 (omega arith)))) start;
     }
 
 pub by_window-preserved-then-next-index : goal.by_window-preserved-then-next-index
 by_window-preserved-then-next-index c =
     let w = c.by_window in
     let o = w.invariant.reaches.ordered in
-    let start = marked c.args.source.now c.args.dest.now c.by_window.dest c.copy_at-window.new.dest (reached_at c.args.progress) c.by_window.read c.by_window.index c.by_window.next c.copy_at-window.result c.by_window.full (omega arith) (omega arith) c.by_window.invariant.reaches c.by_window.invariant.open' c.copy_at-window.ensures.copied c.copy_at-window.ensures.zeros (omega arith) in
+    let start = marked c.args.source.now c.args.dest.now c.by_window.dest c.copy_at-window.new.dest (reached_at c.args.start) c.by_window.read c.by_window.index c.by_window.next c.copy_at-window.result _ (omega arith) (omega arith) c.by_window.invariant.reaches c.by_window.invariant.open' c.copy_at-window.ensures.copied c.copy_at-window.ensures.zeros (omega arith) in
     let taken = marks-end _ c.args.source.now c.args.dest.now c.copy_at-window.new.dest _ w.read 32 w.index w.next c.copy_at-window.result (w.index + 1 - w.next) start c.if-window-eq0.true (omega arith) in
     record {
       more = omega arith;
       open' = taken.open';
-      reaches = taken.reaches;
+      reaches = Reaches-open _ _ _ _ _ _ _ _ c.args.start.is_full c.saturating_sub-last.result (omega arith) taken.reaches;
     }
 
 pub write_rows-count-requires-clause-zeros : goal.write_rows-count-requires-clause-zeros
 write_rows-count-requires-clause-zeros c =
-    let l = long-row c.args.source.now c.args.dest.now c.by_window.dest c.copy_at-window.new.dest (reached_at c.args.progress) c.by_window.read c.by_window.index c.by_window.next c.copy_at-window.result c.by_window.full (omega arith) (omega arith) c.by_window.invariant.reaches c.by_window.invariant.open' c.copy_at-window.ensures.copied c.copy_at-window.ensures.zeros in
+    let l = long-row c.args.source.now c.args.dest.now c.by_window.dest c.copy_at-window.new.dest (reached_at c.args.start) c.by_window.read c.by_window.index c.by_window.next c.copy_at-window.result _ (omega arith) (omega arith) c.by_window.invariant.reaches c.by_window.invariant.open' c.copy_at-window.ensures.copied c.copy_at-window.ensures.zeros in
     (window_all (take 32 (drop c.by_window.read c.args.source.now)) (omega arith) (sym c.copy_at-window.ensures.zeros ∙ c.if-window-eq-ALL_ZEROS.true)).1
 
 pub by_window-preserved-then-window-eq-ALL_ZEROS : goal.by_window-preserved-then-window-eq-ALL_ZEROS
@@ -100,28 +109,35 @@ by_window-preserved-then-window-eq-ALL_ZEROS c =
     let first : count_trailing_zeros 64 c.copy_at-window.result ≡ 0 = ap (count_trailing_zeros 64) c.if-window-eq-ALL_ZEROS.true in
     let code : w.next + count_trailing_zeros 64 c.copy_at-window.result - w.index ≡ w.next - w.index = omega arith in
     let ones = subst (λ (n : ℕ). after ≡ take w.next (set copied w.index n) ++ (replicate count 1 ++ drop (w.next + count) (set copied w.index n))) code c.write_rows-count.ensures.ones in
-    let taken = rowed c.args.source.now c.args.dest.now c.by_window.dest c.copy_at-window.new.dest (reached_at c.args.progress) c.by_window.read c.by_window.index c.by_window.next c.copy_at-window.result c.by_window.full (omega arith) (omega arith) c.by_window.invariant.reaches c.by_window.invariant.open' c.copy_at-window.ensures.copied c.copy_at-window.ensures.zeros after count (omega arith) (omega arith) (omega arith) c.write_rows-count.ensures.zeros ones in
+    let taken = rowed c.args.source.now c.args.dest.now c.by_window.dest c.copy_at-window.new.dest (reached_at c.args.start) c.by_window.read c.by_window.index c.by_window.next c.copy_at-window.result _ (omega arith) (omega arith) c.by_window.invariant.reaches c.by_window.invariant.open' c.copy_at-window.ensures.copied c.copy_at-window.ensures.zeros after count (omega arith) (omega arith) (omega arith) c.write_rows-count.ensures.zeros ones in
     record {
       more = omega arith;
       open' = taken.open';
-      reaches = taken.reaches;
+      reaches = Reaches-open _ _ _ _ _ _ _ _ c.args.start.is_full c.saturating_sub-last.result (omega arith) taken.reaches;
     }
 
-pub by_zero-init : goal.by_zero-init
-by_zero-init c =
-    let w = c.by_window in
-    let o = w.invariant.reaches.ordered in
-    let start = marked c.args.source.now c.args.dest.now c.by_window.dest c.copy_at-window.new.dest (reached_at c.args.progress) c.by_window.read c.by_window.index c.by_window.next c.copy_at-window.result c.by_window.full (omega arith) (omega arith) c.by_window.invariant.reaches c.by_window.invariant.open' c.copy_at-window.ensures.copied c.copy_at-window.ensures.zeros (omega arith) in
-    marks-step _ c.args.source.now c.args.dest.now c.copy_at-window.new.dest _ w.read 32 w.index w.next c.copy_at-window.result (w.index + 1 - w.next) start c.if-window-eq0.false (omega arith)
+pub mark_zeros-index-requires : goal.mark_zeros-index-requires
+mark_zeros-index-requires c =
+    let o = c.by_window.invariant.reaches.ordered in
+    let l = length-set c.copy_at-window.new.dest c.by_window.index (c.by_window.next + count_trailing_zeros 64 c.copy_at-window.result - c.by_window.index) in
+    let first = first-mark c.args.source.now c.args.dest.now c.by_window.dest c.copy_at-window.new.dest (reached_at c.args.start) c.by_window.read c.by_window.index c.by_window.next c.copy_at-window.result _ (omega arith) (omega arith) c.by_window.invariant.reaches c.by_window.invariant.open' c.copy_at-window.ensures.copied c.copy_at-window.ensures.zeros c.if-window-eq0.false (omega arith) (omega arith) in
+    record {
+      inside = code-inside _ _ _ _ _ _ _ _ _ _ first (omega arith);
+      next = omega arith;
+      ordered = code-ordered _ _ _ _ _ _ _ _ _ _ first;
+      within = marks-within _ _ _ _ _ _ _ _ _ _ first (omega arith);
+    }
 
 pub by_window-preserved-then-place-index-lt-FULL_CODE : goal.by_window-preserved-then-place-index-lt-FULL_CODE
 by_window-preserved-then-place-index-lt-FULL_CODE c =
-    let coded = length-set c.copy_at-window.new.dest c.by_window.index (c.by_window.next + count_trailing_zeros 64 c.copy_at-window.result - c.by_window.index) in
-    let taken = marks-end _ _ _ _ _ _ _ _ _ _ _ c.by_zero.invariant c.by_zero-test.false (omega arith) in
+    let o = c.by_window.invariant.reaches.ordered in
+    let l = length-set c.copy_at-window.new.dest c.by_window.index (c.by_window.next + count_trailing_zeros 64 c.copy_at-window.result - c.by_window.index) in
+    let first = first-mark c.args.source.now c.args.dest.now c.by_window.dest c.copy_at-window.new.dest (reached_at c.args.start) c.by_window.read c.by_window.index c.by_window.next c.copy_at-window.result _ (omega arith) (omega arith) c.by_window.invariant.reaches c.by_window.invariant.open' c.copy_at-window.ensures.copied c.copy_at-window.ensures.zeros c.if-window-eq0.false (omega arith) (omega arith) in
+    let taken = marks-zeros _ _ _ _ _ _ _ _ _ _ _ _ c.mark_zeros-index.ensures first (omega arith) in
     record {
       more = omega arith;
       open' = taken.open';
-      reaches = taken.reaches;
+      reaches = Reaches-open _ _ _ _ _ _ _ _ c.args.start.is_full c.saturating_sub-last.result (omega arith) taken.reaches;
     }
 
 pub by_window-preserved : goal.by_window-preserved
@@ -130,83 +146,45 @@ by_window-preserved c =
     let o = w.invariant.reaches.ordered in
     let none : w.index + 255 - w.next ≤ min (count_trailing_zeros 64 c.copy_at-window.result) 32 = elim c.if-window-eq0.branch [
       | then-window-eq0+else-next-index b ↦ (let e = ap (count_trailing_zeros 64) b.if-window-eq0.true ∙ trailing_of_zero 64 in omega arith)
-      | else-window-eq0+else-place-index-lt-FULL_CODE b ↦ (let within = first-within c.args.source.now c.args.dest.now c.by_window.dest c.copy_at-window.new.dest (reached_at c.args.progress) c.by_window.read c.by_window.index c.by_window.next c.copy_at-window.result c.by_window.full (omega arith) (omega arith) c.by_window.invariant.reaches c.by_window.invariant.open' c.copy_at-window.ensures.copied c.copy_at-window.ensures.zeros b.if-window-eq0.false in omega arith)
+      | else-window-eq0+else-place-index-lt-FULL_CODE b ↦ (let within = first-within c.args.source.now c.args.dest.now c.by_window.dest c.copy_at-window.new.dest (reached_at c.args.start) c.by_window.read c.by_window.index c.by_window.next c.copy_at-window.result _ (omega arith) (omega arith) c.by_window.invariant.reaches c.by_window.invariant.open' c.copy_at-window.ensures.copied c.copy_at-window.ensures.zeros b.if-window-eq0.false in omega arith)
     ] in
     record {
       more = omega arith;
       open' = omega arith;
-      reaches = closed c.args.source.now c.args.dest.now c.by_window.dest c.copy_at-window.new.dest (reached_at c.args.progress) c.by_window.read c.by_window.index c.by_window.next c.copy_at-window.result c.by_window.full (omega arith) (omega arith) c.by_window.invariant.reaches c.by_window.invariant.open' c.copy_at-window.ensures.copied c.copy_at-window.ensures.zeros (omega arith) none (omega arith);
+      reaches = Reaches-at _ _ _ _ _ _ _ _ _ _ _ _ _ _ refl refl refl refl (λ noted is done. absurd (omega arith)) (closed c.args.source.now c.args.dest.now c.by_window.dest c.copy_at-window.new.dest (reached_at c.args.start) c.by_window.read c.by_window.index c.by_window.next c.copy_at-window.result _ (omega arith) (omega arith) c.by_window.invariant.reaches c.by_window.invariant.open' c.copy_at-window.ensures.copied c.copy_at-window.ensures.zeros (omega arith) none (omega arith));
     }
 
-pub returns-then-read-clause-within : goal.returns-then-read-clause-within
-returns-then-read-clause-within c =
+pub returns-then-read-last-clause-within : goal.returns-then-read-last-clause-within
+returns-then-read-last-clause-within c =
     let w = c.by_window in
     let o = w.invariant.reaches.ordered in
     let none : w.index + 255 - w.next ≤ min (count_trailing_zeros 64 c.copy_at-window.result) 32 = elim c.if-window-eq0.branch [
       | then-window-eq0+else-next-index b ↦ (let e = ap (count_trailing_zeros 64) b.if-window-eq0.true ∙ trailing_of_zero 64 in omega arith)
-      | else-window-eq0+else-place-index-lt-FULL_CODE b ↦ (let within = first-within c.args.source.now c.args.dest.now c.by_window.dest c.copy_at-window.new.dest (reached_at c.args.progress) c.by_window.read c.by_window.index c.by_window.next c.copy_at-window.result c.by_window.full (omega arith) (omega arith) c.by_window.invariant.reaches c.by_window.invariant.open' c.copy_at-window.ensures.copied c.copy_at-window.ensures.zeros b.if-window-eq0.false in omega arith)
+      | else-window-eq0+else-place-index-lt-FULL_CODE b ↦ (let within = first-within c.args.source.now c.args.dest.now c.by_window.dest c.copy_at-window.new.dest (reached_at c.args.start) c.by_window.read c.by_window.index c.by_window.next c.copy_at-window.result _ (omega arith) (omega arith) c.by_window.invariant.reaches c.by_window.invariant.open' c.copy_at-window.ensures.copied c.copy_at-window.ensures.zeros b.if-window-eq0.false in omega arith)
     ] in
     omega arith
 
-pub returns-then-read-clause-taken : goal.returns-then-read-clause-taken
-returns-then-read-clause-taken c =
+pub returns-then-read-last-clause-taken : goal.returns-then-read-last-clause-taken
+returns-then-read-last-clause-taken c =
     let w = c.by_window in
     let o = w.invariant.reaches.ordered in
     let none : w.index + 255 - w.next ≤ min (count_trailing_zeros 64 c.copy_at-window.result) 32 = elim c.if-window-eq0.branch [
       | then-window-eq0+else-next-index b ↦ (let e = ap (count_trailing_zeros 64) b.if-window-eq0.true ∙ trailing_of_zero 64 in omega arith)
-      | else-window-eq0+else-place-index-lt-FULL_CODE b ↦ (let within = first-within c.args.source.now c.args.dest.now c.by_window.dest c.copy_at-window.new.dest (reached_at c.args.progress) c.by_window.read c.by_window.index c.by_window.next c.copy_at-window.result c.by_window.full (omega arith) (omega arith) c.by_window.invariant.reaches c.by_window.invariant.open' c.copy_at-window.ensures.copied c.copy_at-window.ensures.zeros b.if-window-eq0.false in omega arith)
+      | else-window-eq0+else-place-index-lt-FULL_CODE b ↦ (let within = first-within c.args.source.now c.args.dest.now c.by_window.dest c.copy_at-window.new.dest (reached_at c.args.start) c.by_window.read c.by_window.index c.by_window.next c.copy_at-window.result _ (omega arith) (omega arith) c.by_window.invariant.reaches c.by_window.invariant.open' c.copy_at-window.ensures.copied c.copy_at-window.ensures.zeros b.if-window-eq0.false in omega arith)
     ] in
     let l = length-set c.copy_at-window.new.dest w.index 255 in
-    front-taken c.args.source.now c.args.dest.now (set c.copy_at-window.new.dest w.index 255) (reached_at c.args.progress) (reached_at c.progress_at.result) (omega arith) (w.read + (w.index + 255 - w.next)) (w.index + 255) (w.index + 255 + 1) true
-    (closed c.args.source.now c.args.dest.now c.by_window.dest c.copy_at-window.new.dest (reached_at c.args.progress) c.by_window.read c.by_window.index c.by_window.next c.copy_at-window.result c.by_window.full (omega arith) (omega arith) c.by_window.invariant.reaches c.by_window.invariant.open' c.copy_at-window.ensures.copied c.copy_at-window.ensures.zeros (omega arith) none (omega arith)) (omega arith) (λ all. absurd (omega arith)) c.progress_at.ensures
+    front-taken c.args.source.now c.args.dest.now (set c.copy_at-window.new.dest w.index 255) (reached_at c.args.start) (reached_at c.progress_at.result) (omega arith) (w.read + (w.index + 255 - w.next)) (w.index + 255) (w.index + 255 + 1) true
+    (closed c.args.source.now c.args.dest.now c.by_window.dest c.copy_at-window.new.dest (reached_at c.args.start) c.by_window.read c.by_window.index c.by_window.next c.copy_at-window.result _ (omega arith) (omega arith) c.by_window.invariant.reaches c.by_window.invariant.open' c.copy_at-window.ensures.copied c.copy_at-window.ensures.zeros (omega arith) none (omega arith)) (omega arith) (λ all. absurd (omega arith)) c.progress_at.ensures
 
 pub returns-clause-taken : goal.returns-clause-taken
 returns-clause-taken c =
-    let i = c.by_window.invariant in
-    front-taken c.args.source.now c.args.dest.now c.by_window.dest (reached_at c.args.progress) (reached_at c.progress_at-2.result) (omega arith) c.by_window.read c.by_window.index c.by_window.next c.by_window.full i.reaches i.open' (λ all. absurd (omega arith)) c.progress_at-2.ensures
-
-pub mark_first-requires-clause-ordered : goal.mark_first-requires-clause-ordered
-mark_first-requires-clause-ordered c =
-    let H : List ℕ → Type 0 = CobsEncoderAfter c.args.dest.now (reached_at c.args.progress) in
-    let end : ℕ = end_after (reached_at c.args.progress) c.args.source.now in
-    code-ordered H c.args.source.now c.args.dest.now c.by_zero.dest end c.by_window.read 32 c.by_zero.index c.by_window.next c.by_zero.zeros c.by_zero.invariant
-
-pub mark_first-requires-then-zeros-ne0-clause-inside : goal.mark_first-requires-then-zeros-ne0-clause-inside
-mark_first-requires-then-zeros-ne0-clause-inside c =
-    let H : List ℕ → Type 0 = CobsEncoderAfter c.args.dest.now (reached_at c.args.progress) in
-    let end : ℕ = end_after (reached_at c.args.progress) c.args.source.now in
-    let coded = length-set c.copy_at-window.new.dest c.by_window.index (c.by_window.next + count_trailing_zeros 64 c.copy_at-window.result - c.by_window.index) in
-    let fits : end ≤ length c.by_zero.dest = omega arith in
-    let one = first-marked H c.args.source.now c.args.dest.now c.by_zero.dest end c.by_window.read 32 c.by_zero.index c.by_window.next c.by_zero.zeros c.by_zero.invariant c.mark_first.new.dest c.mark_first.result fits c.mark_first.ensures.code c.mark_first.ensures.none c.mark_first.ensures.some in
-    let l = length-set c.by_zero.dest c.by_zero.index ((c.by_window.next + lowest c.by_zero.zeros - c.by_zero.index) % 256) in
-    let fits' : end ≤ length c.mark_first.new.dest = omega (arith, ap length c.mark_first.ensures.code) in
-    code-inside H c.args.source.now c.args.dest.now c.mark_first.new.dest end c.by_window.read 32 c.mark_first.result.0 c.by_window.next c.mark_first.result.1 one fits'
-
-pub mark_first-requires-then-zeros-ne0-clause-ordered : goal.mark_first-requires-then-zeros-ne0-clause-ordered
-mark_first-requires-then-zeros-ne0-clause-ordered c =
-    let H : List ℕ → Type 0 = CobsEncoderAfter c.args.dest.now (reached_at c.args.progress) in
-    let end : ℕ = end_after (reached_at c.args.progress) c.args.source.now in
-    let coded = length-set c.copy_at-window.new.dest c.by_window.index (c.by_window.next + count_trailing_zeros 64 c.copy_at-window.result - c.by_window.index) in
-    let fits : end ≤ length c.by_zero.dest = omega arith in
-    let one = first-marked H c.args.source.now c.args.dest.now c.by_zero.dest end c.by_window.read 32 c.by_zero.index c.by_window.next c.by_zero.zeros c.by_zero.invariant c.mark_first.new.dest c.mark_first.result fits c.mark_first.ensures.code c.mark_first.ensures.none c.mark_first.ensures.some in
-    code-ordered H c.args.source.now c.args.dest.now c.mark_first.new.dest end c.by_window.read 32 c.mark_first.result.0 c.by_window.next c.mark_first.result.1 one
-
-pub by_zero-preserved-then-zeros-ne0 : goal.by_zero-preserved-then-zeros-ne0
-by_zero-preserved-then-zeros-ne0 c =
-    let H : List ℕ → Type 0 = CobsEncoderAfter c.args.dest.now (reached_at c.args.progress) in
-    let end : ℕ = end_after (reached_at c.args.progress) c.args.source.now in
-    let coded = length-set c.copy_at-window.new.dest c.by_window.index (c.by_window.next + count_trailing_zeros 64 c.copy_at-window.result - c.by_window.index) in
-    let fits : end ≤ length c.by_zero.dest = omega arith in
-    let one = first-marked H c.args.source.now c.args.dest.now c.by_zero.dest end c.by_window.read 32 c.by_zero.index c.by_window.next c.by_zero.zeros c.by_zero.invariant c.mark_first.new.dest c.mark_first.result fits c.mark_first.ensures.code c.mark_first.ensures.none c.mark_first.ensures.some in
-    let l = length-set c.by_zero.dest c.by_zero.index ((c.by_window.next + lowest c.by_zero.zeros - c.by_zero.index) % 256) in
-    let fits' : end ≤ length c.mark_first.new.dest = omega (arith, ap length c.mark_first.ensures.code) in
-    first-marked H c.args.source.now c.args.dest.now c.mark_first.new.dest end c.by_window.read 32 c.mark_first.result.0 c.by_window.next c.mark_first.result.1 one c.mark_first-then-zeros-ne0.new.dest c.mark_first-then-zeros-ne0.result fits' c.mark_first-then-zeros-ne0.ensures.code c.mark_first-then-zeros-ne0.ensures.none c.mark_first-then-zeros-ne0.ensures.some
-
-pub by_zero-preserved : goal.by_zero-preserved
-by_zero-preserved c =
-    let H : List ℕ → Type 0 = CobsEncoderAfter c.args.dest.now (reached_at c.args.progress) in
-    let end : ℕ = end_after (reached_at c.args.progress) c.args.source.now in
-    let coded = length-set c.copy_at-window.new.dest c.by_window.index (c.by_window.next + count_trailing_zeros 64 c.copy_at-window.result - c.by_window.index) in
-    let fits : end ≤ length c.by_zero.dest = omega arith in
-    let one = first-marked H c.args.source.now c.args.dest.now c.by_zero.dest end c.by_window.read 32 c.by_zero.index c.by_window.next c.by_zero.zeros c.by_zero.invariant c.mark_first.new.dest c.mark_first.result fits c.mark_first.ensures.code c.mark_first.ensures.none c.mark_first.ensures.some in
-    one
+    let w = c.by_window in
+    let i = w.invariant in
+    let full : Bool = if c.saturating_sub-last.result == 0 then c.args.start.is_full else false in
+    let is : c.if-last-eq0.progress_at ≡ full = elim c.if-last-eq0.branch [
+      | then-last-eq0 b ↦ b.progress_at-is ∙ sym (ap (λ (t : Bool). if t then c.args.start.is_full else false) (eq-eqb c.saturating_sub-last.result 0 b.if-last-eq0.true))
+      | else-last-eq0 b ↦ b.progress_at-is ∙ ne_eqb c.saturating_sub-last.result 0 b.if-last-eq0.false ∙ sym (ap (λ (t : Bool). if t then c.args.start.is_full else false) (ne_eqb c.saturating_sub-last.result 0 b.if-last-eq0.false))
+    ] in
+    let noted = Reaches-at _ _ _ _ _ _ _ _ _ (λ (b : Bool). b ≡ full) _ _ _ _ refl refl refl refl (λ b p. p (omega arith)) i.reaches in
+    front-taken c.args.source.now c.args.dest.now w.dest (reached_at c.args.start) (reached_at c.progress_at-2.result) (omega arith) w.read w.index w.next full noted i.open' (λ all. absurd (omega arith))
+    (c.progress_at-2.ensures ∙ ap (at w.index (w.next - w.index)) is)

@@ -1,22 +1,15 @@
-use Rattle.std.proofs.Common.{◌≡◌, ◌<◌, ◌-◌, ◌+◌, length}
+use Rattle.std.proofs.Common.{◌<◌, ◌-◌, ◌+◌, length}
 use Rattle.cobs.specs.OpenBlock.{CobsEncoderAfter, end_after}
 use Rattle.cobs.specs.Fields.Progress.{reached_at}
-use Rattle.cobs.proofs.encoding.ReachLemmas.{Reaches}
-use Rattle.cobs.proofs.encoding.MarkLemmas.{Marks}
+use Rattle.cobs.proofs.encoding.ReachLemmas.{IsNotedAt, Reaches}
 use Rattle.cobs.proofs.enc.blocks.append_windows.Given as goal
 
 abbrev pub invariant-by_window : goal.invariant-by_window
 invariant-by_window l = record {
   more : l.read < length l.source;
   open' : l.next < l.index + 255;
-  reaches : Reaches (CobsEncoderAfter l.fn.dest (reached_at l.fn.progress)) l.source l.fn.dest l.dest (end_after (reached_at l.fn.progress) l.source) l.read l.index l.next (λ noted. noted ≡ l.full);
+  reaches : Reaches (CobsEncoderAfter l.fn.dest (reached_at l.fn.start)) l.source l.fn.dest l.dest (end_after (reached_at l.fn.start) l.source) l.read l.index l.next (IsNotedAt l.fn.start.is_full l.last l.read);
 }
 
 abbrev pub decreases-by_window : goal.decreases-by_window
 decreases-by_window l = length l.source - l.read
-
-abbrev pub invariant-by_zero : goal.invariant-by_zero
-invariant-by_zero l = Marks (CobsEncoderAfter l.fn.dest (reached_at l.fn.progress)) l.source l.fn.dest l.dest (end_after (reached_at l.fn.progress) l.source) l.read 32 l.index l.next l.zeros
-
-abbrev pub decreases-by_zero : goal.decreases-by_zero
-decreases-by_zero l = l.zeros
