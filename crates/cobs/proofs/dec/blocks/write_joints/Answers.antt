@@ -1,6 +1,6 @@
 use Rattle.std.proofs.Common.{refl, ◌≡◌, ◌<◌, ◌≤◌, ◌+◌, ◌-◌, ◌∙◌, ◌∷◌, ℕ, List, length, take, length-take-le, ap, sym, subst, arith}
-use Rattle.std.proofs.lemmas.List.{length-set}
-use Rattle.cobs.proofs.decoding.FlatLemmas.{FlatCopied, joint-code, joint-more, joints-written, joints-code, joints-lack, joints-start, copied-ones}
+use Rattle.std.proofs.lemmas.List.{length-set, take-take}
+use Rattle.cobs.proofs.decoding.FlatLemmas.{FlatCopied, joint-code, joint-more, joints-written, joints-code, joints-lack, copied-ones}
 use Rattle.cobs.proofs.dec.blocks.write_joints.Goals as goal
 
 -- the length of the stretch
@@ -8,10 +8,7 @@ long-is : (dest : List ℕ) (first len : ℕ) → 0 < len → len ≤ length des
 long-is dest first len some room = let l = length-take-le (len - 1) dest (omega arith) in omega arith
 
 pub by_code-init : goal.by_code-init
-by_code-init c = record {
-  flat = joints-start c.args.dest.now c.args.first c.args.len c.requires.some c.requires.room;
-  len = refl;
-}
+by_code-init c = grind (arith, length-take-le, take-take)
 
 pub by_code-preserved-then-is_all : goal.by_code-preserved-then-is_all
 by_code-preserved-then-is_all c =
