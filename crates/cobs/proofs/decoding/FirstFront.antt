@@ -1,5 +1,5 @@
 -- The walk over the first whole blocks of a frame, which writes a zero over each code that it reads.
-use Rattle.std.proofs.Common.{◌≡◌, ◌≢◌, ℕ, ◌+◌, ◌-◌, ◌<◌, ◌≤◌, ◌∷◌, ◌++◌, List, length, take, drop, get_or, set, replicate, refl, sym, ap, ◌∙◌, subst, arith, suc, [], drop_at, length-take-le, length-drop, length-append}
+use Rattle.std.proofs.Common.{◌≡◌, ◌≢◌, ℕ, ◌+◌, ◌-◌, ◌<◌, ◌≤◌, ◌∷◌, ◌++◌, List, length, take, drop, get_or, set, replicate, sym, ap, ◌∙◌, subst, arith, suc, [], drop_at, length-take-le, length-drop, length-append}
 use Rattle.std.proofs.lemmas.List.{length-set, get_or-take, drop_more, drop-set-lt, get_or-set_same, get_or-set_other, take-take}
 use Rattle.cobs.specs.Grammar.{HasNoZero, code_of}
 use Rattle.cobs.specs.Piece.{output, last_part}

@@ -1,12 +1,12 @@
 -- What a whole piece comes to, and the first piece of a stream.
-use Rattle.std.proofs.Common.{◌≡◌, ◌≢◌, ℕ, zero, suc, ◌-◌, ◌<◌, ◌≤◌, ◌==◌, ◌↔◌, true, false, List, [], ◌∷◌, ◌++◌, length, filter, All, Some, if◌then◌else◌, refl, sym, ap, ◌∙◌, subst, arith, length-append}
+use Rattle.std.proofs.Common.{◌≡◌, ◌≢◌, ℕ, zero, suc, ◌-◌, ◌<◌, ◌≤◌, ◌↔◌, true, false, List, [], ◌∷◌, ◌++◌, length, filter, All, Some, if◌then◌else◌, refl, sym, ap, ◌∙◌, subst, arith, length-append}
 use Rattle.std.specs.List.{concat}
 use Rattle.std.proofs.lemmas.Bool.{cases_Bool, cases_eq, ne_eqb, le-leb}
 use Rattle.std.proofs.lemmas.List.Elements.{All-head, All-tail, All-cons, All-nil, All-weaker}
 use Rattle.std.proofs.lemmas.List.Splits.{slice_split-cons_no, slice_split_none}
 use Rattle.cobs.specs.Grammar.{HasNoZero, is_full, joint, message_of, Reads}
 use Rattle.cobs.specs.Piece.{parts_after, parts, IsWhole, output}
-use Rattle.cobs.specs.Stream.{stretches, first_of, first_piece, head, Message, outcome_of}
+use Rattle.cobs.specs.Stream.{first_piece, head, Message, outcome_of}
 use Rattle.cobs.proofs.format.FrameLemmas.{concat-parts, frame_some, frame_nonzero, frame_whole, frame_output, reads_output}
 
 -- A FRAME, BY ITS BYTES

@@ -1,11 +1,11 @@
 -- How `decode` answers: an outcome by the counts of a piece, and a source by its first piece.
-use Rattle.std.proofs.Common.{◌≡◌, ◌≢◌, ℕ, ◌<◌, ◌≤◌, Bool, List, [], length, Some, None, Result, Ok, Err, if◌then◌else◌, sym, ap, ◌∙◌, arith}
+use Rattle.std.proofs.Common.{◌≡◌, ◌≢◌, ℕ, ◌<◌, ◌≤◌, Bool, List, [], length, Some, None, Result, Ok, Err, if◌then◌else◌, sym, ap, arith}
 use Rattle.std.proofs.lemmas.Bool.{le-leb, lt-leb, ne_eqb, eq-eqb}
 use Rattle.cobs.specs.Piece.{output, last_part, lacks, is_whole}
 use Rattle.cobs.specs.Stream.{Message, Broken, TooLong, outcome_of, first_piece, head}
 use Rattle.cobs.specs.Overwritten.{overwritten}
 use Rattle.cobs.specs.Fields.Report.{report_of}
-use Rattle.cobs.specs.Decode.{sized, reported, len_through_piece, decode_answer, head_answer, in_place_report}
+use Rattle.cobs.specs.Decode.{sized, len_through_piece, decode_answer, head_answer, in_place_report}
 use Rattle.cobs.specs.declared.dec.DecodeReport.{DecodeReport}
 use Rattle.cobs.specs.declared.dec.DecodeError.{DecodeError}
 use Rattle.cobs.specs.declared.dec.DecodeError.TheVariants.{InvalidFrame, TargetBufTooSmall}

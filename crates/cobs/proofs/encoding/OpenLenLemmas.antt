@@ -1,12 +1,12 @@
 -- How long the encoded frame gets, counted from its open block.
-use Rattle.std.proofs.Common.{◌≡◌, ◌≢◌, ℕ, ◌+◌, ◌-◌, ◌<◌, ◌≤◌, Bool, true, false, if◌then◌else◌, List, [], ◌∷◌, ◌++◌, length, map, replicate, All, refl, sym, ap, ◌∙◌, arith, append-nil, append_assoc, length-append, ⊎_elim}
+use Rattle.std.proofs.Common.{◌≡◌, ◌≢◌, ℕ, ◌+◌, ◌-◌, ◌<◌, ◌≤◌, Bool, true, false, if◌then◌else◌, List, [], ◌∷◌, ◌++◌, length, replicate, All, refl, sym, ap, ◌∙◌, arith, append-nil, append_assoc, length-append, ⊎_elim}
 use Rattle.std.specs.List.{concat}
 use Rattle.std.proofs.lemmas.Bool.{cases_Bool, eqb-true, eqb-false}
 use Rattle.std.proofs.lemmas.List.{length-replicate}
 use Rattle.std.proofs.lemmas.List.Elements.{All-append, All-replicate, All-head, All-tail}
 use Rattle.cobs.specs.Grammar.{HasNoZero, IsBlock, is_full, bytes_of, joint, last_of, message_of}
 use Rattle.cobs.specs.Length.{encoded_len, max_encoded_len, open_len}
-use Rattle.cobs.proofs.format.LengthLemmas.{onto_parts, stretches-append, encoded_len-last, encoded_len-zero, encoded_len-full, encoded_len-le}
+use Rattle.cobs.proofs.format.LengthLemmas.{stretches-append, encoded_len-zero, encoded_len-full, encoded_len-le}
 use Rattle.cobs.proofs.encoding.OpenLemmas.{append-some}
 use Rattle.cobs.proofs.encoding.OpenedLemmas.{Opened, ends_in_full}
 

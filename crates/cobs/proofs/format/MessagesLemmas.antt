@@ -8,11 +8,10 @@ use Rattle.std.proofs.Math.Seq.{take-append-add}
 use Rattle.std.specs.Global.{Vec}
 use borrow.Rule.Slice.PartMut.{put_mid, post_of}
 use Rattle.cobs.specs.Grammar.{Reads, IsEncodedFrame}
-use Rattle.cobs.specs.Length.{encoded_len, max_encoded_len}
+use Rattle.cobs.specs.Length.{max_encoded_len}
 use Rattle.cobs.specs.Stream.{Outcome, Message, outcome_of, stream_outcomes, unended}
 use Rattle.cobs.specs.Messages.{AreFrames, messages_in, room_for_frames}
 use Rattle.cobs.proofs.format.FrameLemmas.{frame_some, frame_nonzero}
-use Rattle.cobs.proofs.format.LengthLemmas.{encoded_len-le}
 use Rattle.cobs.proofs.decoding.OutcomeLemmas.{outcome_frame}
 use Rattle.cobs.proofs.format.StreamLemmas.{stream_outcomes-append, stream_outcomes-piece, stream_outcomes-no_zero, unended-zero}
 

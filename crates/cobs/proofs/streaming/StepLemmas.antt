@@ -1,10 +1,10 @@
 -- One byte that is no zero, by the fields in which a streaming decoder keeps its phase.
 use Rattle.std.proofs.Common.{◌≡◌, ◌≢◌, ℕ, ◌+◌, ◌-◌, ◌<◌, Bool, false, cond, eqb, List, [], ◌∷◌, ◌++◌, length, set, ap, arith, None, Ok, Result, Option}
 use Rattle.std.proofs.lemmas.Bool.{ne_eqb, eqb-true, lt-ltb}
-use Rattle.cobs.specs.Feed.{Phase, Within, Over}
+use Rattle.cobs.specs.Feed.{Phase, Within}
 use Rattle.cobs.specs.Fields.Decoders.{phase_with}
 use Rattle.cobs.specs.Internal.FedInTurn.{FedInTurn}
-use Rattle.cobs.specs.Step.{grows, next_phase, next_buffer, next_answer, if_over}
+use Rattle.cobs.specs.Step.{next_phase, next_buffer, next_answer, if_over}
 use Rattle.cobs.specs.declared.dec.DecodeError.{DecodeError}
 use Rattle.cobs.proofs.streaming.RunLemmas.{begun}
 use Rattle.cobs.proofs.streaming.StretchLemmas.{FedInTurn-append}

@@ -4,14 +4,8 @@ use Rattle.cobs.proofs.format.SentinelLemmas.{encoded_nonzero}
 use Rattle.cobs.proofs.encoding.TakingLemmas.{all-rest, start-after, start-fits, start-len}
 use Rattle.cobs.proofs.enc.encode.Goals as goal
 
-pub append_short-progress-requires-clause-code : goal.append_short-progress-requires-clause-code
-append_short-progress-requires-clause-code c = grind arith
-
-pub append_short-progress-requires-clause-open_block : goal.append_short-progress-requires-clause-open_block
-append_short-progress-requires-clause-open_block c = grind arith
-
-pub append_short-progress-requires-clause-fits : goal.append_short-progress-requires-clause-fits
-append_short-progress-requires-clause-fits c = let e = start-fits c.args.dest.now (reached_at c.start-start.result) c.start-start.ensures (omega arith) c.args.source.now in omega arith
+pub append_short-progress-requires : goal.append_short-progress-requires
+append_short-progress-requires c = grind (arith, start-fits)
 
 pub close-requires : goal.close-requires
 close-requires c = c.append_short-progress.ensures.place

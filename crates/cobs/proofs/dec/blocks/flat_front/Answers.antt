@@ -15,17 +15,11 @@ by_code-preserved-then-is_all c =
     front-ones (xor_each c.args.sentinel c.args.piece.now) c.by_code.read c.by_code.invariant
     (xored-ones c.args.piece.now c.args.sentinel c.by_code.read (c.is_all.ensures c.if-is_all.true)) (omega arith)
 
-pub returns-then-piece-read-clause-flat : goal.returns-then-piece-read-clause-flat
-returns-then-piece-read-clause-flat c = grind (arith, length-map, code-pos, front-whole)
+pub returns-then-piece-read : goal.returns-then-piece-read
+returns-then-piece-read c = grind (arith, length-map, code-pos, front-whole, eqb-true, eq-eqb)
 
-pub returns-then-piece-read-clause-full : goal.returns-then-piece-read-clause-full
-returns-then-piece-read-clause-full c = grind (arith, length-map, code-pos, front-whole, eqb-true, eq-eqb)
-
-pub returns-then-code-eq-FULL_CODE-clause-flat : goal.returns-then-code-eq-FULL_CODE-clause-flat
-returns-then-code-eq-FULL_CODE-clause-flat c = grind (arith, length-map, code-pos, front-whole)
-
-pub returns-then-code-eq-FULL_CODE-clause-full : goal.returns-then-code-eq-FULL_CODE-clause-full
-returns-then-code-eq-FULL_CODE-clause-full c = grind (arith, length-map, code-pos, front-whole)
+pub returns-then-code-eq-FULL_CODE : goal.returns-then-code-eq-FULL_CODE
+returns-then-code-eq-FULL_CODE c = grind (arith, length-map, code-pos, front-whole)
 
 pub by_code-preserved : goal.by_code-preserved
 by_code-preserved c =

@@ -1,4 +1,4 @@
-use Rattle.std.proofs.Common.{◌≢◌, ◌<◌, ◌↔◌, ◌⊎◌, true, false, suc, ◌≡◌, IsTrue, ◌≤◌, ◌+◌, ◌-◌, ◌∙◌, ℕ, List, bit_xor, length, take, drop, refl, sym, ap, subst, arith, inl, inr, length-drop, length-take-le, take_all}
+use Rattle.std.proofs.Common.{◌≢◌, ◌<◌, ◌⊎◌, true, false, suc, ◌≡◌, ◌≤◌, ◌+◌, ◌-◌, ◌∙◌, ℕ, List, bit_xor, length, take, drop, refl, sym, ap, subst, arith, inl, inr, length-drop, length-take-le, take_all}
 use Rattle.std.proofs.lemmas.List.{take_rest, length-map}
 use Rattle.std.proofs.lemmas.List.{take-take}
 use Rattle.std.proofs.lemmas.List.Elements.{All-take, All-drop}
@@ -22,13 +22,9 @@ by_front-init c = grind arith
 pub flat_front-len-requires : goal.flat_front-len-requires
 flat_front-len-requires c = left-nonzero c.args.source.now c.args.sentinel _ _ _ _ c.by_front.invariant c.requires
 
-pub returns-then-len-eq0-clause-answer : goal.returns-then-len-eq0-clause-answer
-returns-then-len-eq0-clause-answer c =
-    grind (arith, length-drop, length-take-le, left-broken, broken-count)
-
-pub returns-then-len-eq0-clause-buffer : goal.returns-then-len-eq0-clause-buffer
-returns-then-len-eq0-clause-buffer c =
-    grind (arith, length-drop, length-take-le, left-broken, broken-buffer)
+pub returns-then-len-eq0 : goal.returns-then-len-eq0
+returns-then-len-eq0 c =
+    grind (arith, length-drop, length-take-le, left-broken, broken-count, broken-buffer)
 
 -- a stretch of whole blocks
 abbrev part : (c : Joined-not-full) → List ℕ
@@ -171,8 +167,5 @@ by_front-preserved c =
     stretch-last c.args.source.now c.args.sentinel c.args.dest.now c.by_front.dest _ _ c.by_front.invariant c.requires len (part at) (omega arith) w.0 refl (part-flat at).whole
     new (len - 1) _ refl same (omega arith) fits begins rest (due-none at c.if-due-2.false)
 
-pub returns-clause-answer : goal.returns-clause-answer
-returns-clause-answer c = all-count c.args.source.now c.args.sentinel _ _ _ _ c.by_front.invariant c.by_front-test.false
-
-pub returns-clause-buffer : goal.returns-clause-buffer
-returns-clause-buffer c = all-buffer c.args.source.now c.args.sentinel _ _ _ _ c.by_front.invariant c.by_front-test.false
+pub returns : goal.returns
+returns c = grind (arith, all-count, all-buffer)

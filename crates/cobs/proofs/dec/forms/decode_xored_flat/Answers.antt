@@ -11,8 +11,5 @@ write_joints-requires-clause-nonzero c =
 pub write_joints-requires-clause-flat : goal.write_joints-requires-clause-flat
 write_joints-requires-clause-flat c = grind (arith, length-map, bit_xor, copied-piece)
 
-pub returns-clause-begins : goal.returns-clause-begins
-returns-clause-begins c = grind (arith, length-map, bit_xor, copied-piece)
-
-pub returns-clause-rest : goal.returns-clause-rest
-returns-clause-rest c = grind (arith, length-map, bit_xor, copied-rest)
+pub returns : goal.returns
+returns c = grind (arith, length-map, bit_xor, copied-piece, copied-rest)

@@ -90,8 +90,5 @@ by_front-preserved c =
       | inr w ↦ inr w
     ])
 
-pub returns-clause-answer : goal.returns-clause-answer
-returns-clause-answer c = all-count _ _ _ _ _ c.by_front.invariant c.by_front-test.false
-
-pub returns-clause-buffer : goal.returns-clause-buffer
-returns-clause-buffer c = all-buffer _ _ _ _ _ c.by_front.invariant c.by_front-test.false
+pub returns : goal.returns
+returns c = grind (arith, all-count, all-buffer)

@@ -12,8 +12,5 @@ pub write_joints-requires-clause-flat : goal.write_joints-requires-clause-flat
 write_joints-requires-clause-flat c =
     grind (arith, flat-some, length-drop, flat-copy, moved-piece, length-take-le)
 
-pub returns-clause-begins : goal.returns-clause-begins
-returns-clause-begins c = grind (arith, flat-some, moved-piece)
-
-pub returns-clause-rest : goal.returns-clause-rest
-returns-clause-rest c = grind (arith, flat-some, moved-rest)
+pub returns : goal.returns
+returns c = grind (arith, flat-some, moved-piece, moved-rest)

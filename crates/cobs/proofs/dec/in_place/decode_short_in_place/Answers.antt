@@ -1,20 +1,12 @@
-use Rattle.std.proofs.Common.{◌∙◌, ℕ, List, take, refl, sym, subst, arith, length-take-le}
-use Rattle.cobs.specs.Grammar.{HasNoZero}
+use Rattle.std.proofs.Common.{◌∙◌, ℕ, List, take, refl, subst, arith, length-take-le}
 use Rattle.cobs.specs.Internal.Decoded.{IsFlat}
 use Rattle.cobs.proofs.format.SentinelLemmas.{xor_each-zero}
 use Rattle.cobs.proofs.decoding.FlatLemmas.{moved-piece, moved-rest, piece-nonzero, flat-copy}
 use Rattle.cobs.proofs.dec.in_place.decode_short_in_place.Goals as goal
 
-pub write_joints-requires-clause-nonzero : goal.write_joints-requires-clause-nonzero
-write_joints-requires-clause-nonzero c =
-    let m = c.if-not-move_nonzero_short.ensures in
-    let old : List ℕ = c.args.buffer.now in
-    let piece = moved-piece old c.move_nonzero_short.new.buffer 0 c.args.len (omega arith) (omega arith) (m.moved refl) in
-    subst HasNoZero (sym piece) (piece-nonzero old c.args.len (omega arith) (omega arith) c.if-buffer-eq0.false (m.nonzero refl))
-
-pub write_joints-requires-clause-flat : goal.write_joints-requires-clause-flat
-write_joints-requires-clause-flat c =
-    grind (arith, moved-piece, flat-copy, xor_each-zero, length-take-le)
+pub write_joints-requires : goal.write_joints-requires
+write_joints-requires c =
+    grind (arith, moved-piece, piece-nonzero, flat-copy, xor_each-zero, length-take-le)
 
 pub returns-clause-nonzero : goal.returns-clause-nonzero
 returns-clause-nonzero c holds = grind (arith, piece-nonzero)

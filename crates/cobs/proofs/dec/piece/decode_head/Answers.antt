@@ -16,25 +16,20 @@ slice_bounds-decode_piece-start c = omega (arith, c.decode_front-end.ensures.dec
 pub slice_bounds-decode_piece-end : goal.slice_bounds-decode_piece-end
 slice_bounds-decode_piece-end c = omega (arith, length-head c.args.source.now, c.decode_front-end.ensures.end)
 
-pub decode_piece-rest-requires-clause-some : goal.decode_piece-rest-requires-clause-some
-decode_piece-rest-requires-clause-some c = grind (arith, rest-is, length-drop)
-
-pub decode_piece-rest-requires-clause-nonzero : goal.decode_piece-rest-requires-clause-nonzero
-decode_piece-rest-requires-clause-nonzero c =
-    All-same (λ b. b ≢ 0) _ _ (rest-is c.args.source.now _ _ c.decode_front-end.ensures.end c.decode_front-end.ensures.decoded.within)
-    (All-drop (λ b. b ≢ 0) c.decode_front-end.result.0.read (head c.args.source.now) (head_nonzero c.args.source.now))
-
-pub decode_piece-rest-requires-clause-room : goal.decode_piece-rest-requires-clause-room
-decode_piece-rest-requires-clause-room c = grind (arith, rest-is, length-head, output-le, length-drop, length-take-le)
+pub decode_piece-rest-requires : goal.decode_piece-rest-requires
+decode_piece-rest-requires c = record {
+  some = grind (arith, rest-is, length-drop);
+  nonzero =
+      All-same (λ b. b ≢ 0) _ _ (rest-is c.args.source.now _ _ c.decode_front-end.ensures.end c.decode_front-end.ensures.decoded.within)
+      (All-drop (λ b. b ≢ 0) c.decode_front-end.result.0.read (head c.args.source.now) (head_nonzero c.args.source.now));
+  room = grind (arith, rest-is, length-head, output-le, length-drop, length-take-le);
+}
 
 pub returns : goal.returns
 returns c = grind (arith, rest-is, finished-long, take_rest, finished-begins, finished-rest)
 
-pub decode_piece-requires-clause-some : goal.decode_piece-requires-clause-some
-decode_piece-requires-clause-some c = let l = length-head c.args.source.now in omega (arith, c.requires.begun)
-
-pub decode_piece-requires-clause-room : goal.decode_piece-requires-clause-room
-decode_piece-requires-clause-room c = grind (arith, length-head, output-le)
+pub decode_piece-requires : goal.decode_piece-requires
+decode_piece-requires c = grind (arith, length-head, output-le)
 
 pub returns-then-clean : goal.returns-then-clean
 returns-then-clean c = grind (arith, head_alone)

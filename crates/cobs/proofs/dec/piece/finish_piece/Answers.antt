@@ -31,11 +31,9 @@ module _ (piece old dest : List ℕ) (read written : ℕ) (p : Decoded piece old
   whole-output : (fit : ℕ) → length rest ≤ fit → output (take (read + fit - read) (drop read piece)) ≡ output rest
   whole-output fit all = grind (arith, take_all, take_rest)
 
-pub returns-then-read-fit-clause-answer : goal.returns-then-read-fit-clause-answer
-returns-then-read-fit-clause-answer c old p = grind (arith, long-rest, long-output, sized-too_long)
-
-pub returns-then-read-fit-clause-buffer : goal.returns-then-read-fit-clause-buffer
-returns-then-read-fit-clause-buffer c old same p = grind (arith, ended-buffer, take_rest)
+pub returns-then-read-fit : goal.returns-then-read-fit
+returns-then-read-fit c =
+    grind (arith, long-rest, long-output, sized-too_long, ended-buffer, take_rest)
 
 pub returns-then-end-eq0-clause-answer : goal.returns-then-end-eq0-clause-answer
 returns-then-end-eq0-clause-answer c old p = grind (arith, long-rest, long-output, fits-of, whole-output, sized-whole, whole-last)

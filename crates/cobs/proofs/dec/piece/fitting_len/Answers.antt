@@ -7,11 +7,8 @@ use Rattle.cobs.proofs.decoding.WindowSteps.{code-pos}
 use Rattle.cobs.proofs.decoding.FrontLemmas.{front-ends, front-whole, front-too_long, front-more-left}
 use Rattle.cobs.proofs.dec.piece.fitting_len.Goals as goal
 
-pub returns-then-piece-room-clause-front : goal.returns-then-piece-room-clause-front
-returns-then-piece-room-clause-front c = grind (arith, output-le, take_all)
-
-pub returns-then-piece-room-clause-too_long : goal.returns-then-piece-room-clause-too_long
-returns-then-piece-room-clause-too_long c = grind (arith, output-le)
+pub returns-then-piece-room : goal.returns-then-piece-room
+returns-then-piece-room c = grind (arith, output-le, take_all)
 
 pub by_code-init : goal.by_code-init
 by_code-init c = grind arith

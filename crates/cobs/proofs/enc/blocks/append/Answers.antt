@@ -6,11 +6,8 @@ use Rattle.cobs.proofs.enc.blocks.append.Goals as goal
 pub append_short-requires-clause-fits : goal.append_short-requires-clause-fits
 append_short-requires-clause-fits c = let e = left-end c.append_windows-read.result.0 (take_rest c.args.source.now c.append_windows-read.result.0) c.append_windows-read.ensures.taken in omega arith
 
-pub append_runs-requires-clause-place : goal.append_runs-requires-clause-place
-append_runs-requires-clause-place c = c.append_windows-read.ensures.taken.place
-
-pub append_runs-requires-clause-fits : goal.append_runs-requires-clause-fits
-append_runs-requires-clause-fits c = let e = left-end c.append_windows-read.result.0 (take_rest c.args.source.now c.append_windows-read.result.0) c.append_windows-read.ensures.taken in omega arith
+pub append_runs-requires : goal.append_runs-requires
+append_runs-requires c = grind (arith, left-end, take_rest)
 
 pub returns-then-is_short : goal.returns-then-is_short
 returns-then-is_short c = front-last c.append_windows-read.result.0 (omega arith) (take_rest c.args.source.now c.append_windows-read.result.0) c.append_windows-read.ensures.taken c.append_short.ensures

@@ -8,11 +8,8 @@ use Rattle.cobs.proofs.enc.blocks.append_runs.Goals as goal
 pub by_run-init : goal.by_run-init
 by_run-init c = record { within = omega arith; taken = front-none c.args.dest.now (reached_at c.args.progress) c.args.source.now c.requires.place }
 
-pub append_run-run-requires-clause-place : goal.append_run-run-requires-clause-place
-append_run-run-requires-clause-place c = c.by_run.invariant.taken.place
-
-pub append_run-run-requires-clause-fits : goal.append_run-run-requires-clause-fits
-append_run-run-requires-clause-fits c = let e = left-end c.by_run.read (take_rest c.args.source.now c.by_run.read) c.by_run.invariant.taken in omega arith
+pub append_run-run-requires : goal.append_run-run-requires
+append_run-run-requires c = grind (arith, left-end, take_rest)
 
 pub append_windows-windows-requires-clause-place : goal.append_windows-windows-requires-clause-place
 append_windows-windows-requires-clause-place c = c.append_run-run.ensures.taken.place

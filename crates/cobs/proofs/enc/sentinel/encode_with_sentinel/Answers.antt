@@ -1,4 +1,4 @@
-use Rattle.std.proofs.Common.{ℕ, List, drop, arith, length-take-le, take_at}
+use Rattle.std.proofs.Common.{arith, length-take-le, take_at}
 use Rattle.cobs.proofs.format.SentinelLemmas.{encoded_free, xor_each-twice}
 use Rattle.std.proofs.lemmas.List.{length-map}
 use Rattle.cobs.proofs.enc.sentinel.encode_with_sentinel.Goals as goal

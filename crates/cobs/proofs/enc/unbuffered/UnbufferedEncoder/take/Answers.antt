@@ -1,5 +1,4 @@
-use Rattle.std.proofs.Common.{length, arith}
-use Rattle.cobs.specs.Fields.Progress.{reached_at}
+use Rattle.std.proofs.Common.{arith}
 use Rattle.cobs.proofs.encoding.OpenLenLemmas.{open_len-most}
 use Rattle.cobs.proofs.encoding.TakingLemmas.{after-some}
 use Rattle.std.proofs.lemmas.Bool.{cases_Bool}

@@ -1,4 +1,4 @@
-use Rattle.std.proofs.Common.{[], length, sym, ◌∙◌, arith}
+use Rattle.std.proofs.Common.{[], sym, ◌∙◌, arith}
 use Rattle.std.proofs.lemmas.Bool.{eqb-true, eqb-false, cases_Bool}
 use Rattle.cobs.specs.Fields.Progress.{reached_at}
 use Rattle.cobs.proofs.encoding.TakingLemmas.{after-some, front-none, no-bytes}
@@ -18,11 +18,8 @@ returns-then-is_empty-clause-taken c =
 pub returns-then-not-fits-clause-fits : goal.returns-then-not-fits-clause-fits
 returns-then-not-fits-clause-fits c = grind (arith, eqb-false, after-some)
 
-pub append-self-requires-clause-some : goal.append-self-requires-clause-some
-append-self-requires-clause-some c = let some = eqb-false _ 0 (sym c.is_empty.ensures ∙ c.if-is_empty.false) in omega arith
-
-pub append-self-requires-clause-fits : goal.append-self-requires-clause-fits
-append-self-requires-clause-fits c = grind (arith, eqb-false, after-some, cases_Bool)
+pub append-self-requires : goal.append-self-requires
+append-self-requires c = grind (arith, eqb-false, after-some, cases_Bool)
 
 pub returns-clause-fits : goal.returns-clause-fits
 returns-clause-fits c = grind (arith, eqb-false, after-some, cases_Bool)
