@@ -1,6 +1,5 @@
 -- Bytes and windows, whatever they mean: masks of zeros, copies and moves in parts that overlap.
 pub mod MaskLemmas
-pub mod ShortLemmas
 pub mod PartMasks
 pub mod NonzeroCopies
 pub mod XoredLemmas

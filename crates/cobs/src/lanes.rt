@@ -9,8 +9,7 @@ ghost use Rattle.cobs.specs.Grammar.{HasNoZero};
 ghost use Rattle.cobs.specs.Sentinel.{xor_each};
 
 use crate::window::{
-    WIDE_WINDOW, WINDOW, copy_nonzero, copy_window, first_zero_of_few, zeros_at, zeros_few,
-    zeros_two,
+    WIDE_WINDOW, WINDOW, copy_nonzero, copy_window, first_zero_of_few, zeros_at, zeros_two,
 };
 use std::simd::prelude::*;
 
@@ -125,24 +124,6 @@ fn move_two<const N: usize>(buffer: &mut [u8], from: usize, len: usize)
     back.copy_to_slice(&mut buffer[len - N..]);
 }
 
-/// Moves one, two or three bytes: the first one, the one in the middle and the last one, some of which may be the same.
-#[inline(always)]
-fn move_few(buffer: &mut [u8], from: usize, len: usize)
-    requires within { from + len ≤ length buffer.old }
-    requires some { 0 < len }
-    requires few { len ≤ 3 }
-    ensures { buffer.new ≡ take len (drop from buffer.old) ++ drop len buffer.old }
-{
-    let half = len / 2;
-    let last = len - 1;
-    let front = buffer[from];
-    let middle = buffer[from + half];
-    let back = buffer[from + last];
-    buffer[0] = front;
-    buffer[half] = middle;
-    buffer[last] = back;
-}
-
 /// Moves 64 bytes or more: in windows of 64, of which the last, loaded first, may overlap the one before it.
 #[inline(always)]
 fn move_long(buffer: &mut [u8], from: usize, len: usize)
@@ -176,8 +157,10 @@ pub(crate) fn move_to_front(buffer: &mut [u8], from: usize, len: usize)
         move_two::<8>(buffer, from, len);
     } else if len >= 4 {
         move_two::<4>(buffer, from, len);
+    } else if len >= 2 {
+        move_two::<2>(buffer, from, len);
     } else if len > 0 {
-        move_few(buffer, from, len);
+        move_two::<1>(buffer, from, len);
     }
 }
 
@@ -197,24 +180,6 @@ fn move_nonzero_two<const N: usize>(buffer: &mut [u8], from: usize, len: usize) 
         return false;
     }
     move_two::<N>(buffer, from, len);
-    true
-}
-
-/// Moves one, two or three bytes if none is a zero, and says whether it did.
-#[inline(always)]
-fn move_nonzero_few(buffer: &mut [u8], from: usize, len: usize) -> bool
-    requires within { from + len ≤ length buffer.old }
-    requires some { 0 < len }
-    requires few { len ≤ 3 }
-    ensures nonzero { IsTrue result → HasNoZero (take len (drop from buffer.old)) }
-    ensures moved { IsTrue result
-        → buffer.new ≡ take len (drop from buffer.old) ++ drop len buffer.old }
-    ensures kept { result ≡ false → buffer.new ≡ buffer.old }
-{
-    if zeros_few(&buffer[from..from + len]) != 0 {
-        return false;
-    }
-    move_few(buffer, from, len);
     true
 }
 
@@ -240,8 +205,10 @@ pub(crate) fn move_nonzero_short(buffer: &mut [u8], from: usize, len: usize) -> 
         move_nonzero_two::<8>(buffer, from, len)
     } else if len >= 4 {
         move_nonzero_two::<4>(buffer, from, len)
+    } else if len >= 2 {
+        move_nonzero_two::<2>(buffer, from, len)
     } else {
-        move_nonzero_few(buffer, from, len)
+        move_nonzero_two::<1>(buffer, from, len)
     }
 }
 
@@ -270,35 +237,6 @@ fn copy_xored_two<const N: usize>(source: &[u8], dest: &mut [u8], sentinel: u8) 
     true
 }
 
-/// Copies one, two or three bytes if none is the sentinel, and says whether it did: the first one, the one in the
-/// middle and the last one, some of which may be the same.
-#[inline(always)]
-fn copy_xored_few(source: &[u8], dest: &mut [u8], sentinel: u8) -> bool
-    requires some { 0 < length source.now }
-    requires few { length source.now ≤ 3 }
-    requires room { length source.now ≤ length dest.old }
-    ensures nonzero { IsTrue result → HasNoZero (xor_each sentinel source.now) }
-    ensures copied { IsTrue result
-        → dest.new ≡ xor_each sentinel source.now ++ drop (length source.now) dest.old }
-    ensures kept { result ≡ false → dest.new ≡ dest.old }
-{
-    let half = source.len() / 2;
-    let last = source.len() - 1;
-    let front = source[0] ^ sentinel;
-    let middle = source[half] ^ sentinel;
-    let back = source[last] ^ sentinel;
-    let zeros = (front == 0) as u64
-        | (((middle == 0) as u64) << half)
-        | (((back == 0) as u64) << last);
-    if zeros != 0 {
-        return false;
-    }
-    dest[0] = front;
-    dest[half] = middle;
-    dest[last] = back;
-    true
-}
-
 /// Copies up to 64 bytes if none is the sentinel, and says whether it did.
 #[inline(always)]
 pub(crate) fn copy_xored_short(source: &[u8], dest: &mut [u8], sentinel: u8) -> bool
@@ -321,7 +259,9 @@ pub(crate) fn copy_xored_short(source: &[u8], dest: &mut [u8], sentinel: u8) -> 
         copy_xored_two::<8>(source, dest, sentinel)
     } else if len >= 4 {
         copy_xored_two::<4>(source, dest, sentinel)
+    } else if len >= 2 {
+        copy_xored_two::<2>(source, dest, sentinel)
     } else {
-        copy_xored_few(source, dest, sentinel)
+        copy_xored_two::<1>(source, dest, sentinel)
     }
 }

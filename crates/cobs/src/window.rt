@@ -26,21 +26,6 @@ pub(crate) fn zeros_at<const N: usize>(bytes: &[u8], at: usize) -> u64
         .to_bitmask()
 }
 
-/// Which of one, two or three bytes are zeros: the first one, the one in the middle and the last one, some of which may
-/// be the same.
-#[inline(always)]
-pub(crate) fn zeros_few(bytes: &[u8]) -> u64
-    requires some { 0 < length bytes.now }
-    requires few { length bytes.now ≤ 3 }
-    ensures { result ≡ zero_mask bytes.now }
-{
-    let half = bytes.len() / 2;
-    let last = bytes.len() - 1;
-    (bytes[0] == 0) as u64
-        | (((bytes[half] == 0) as u64) << half)
-        | (((bytes[last] == 0) as u64) << last)
-}
-
 /// Which of `N` to `2 * N` bytes are zeros, looked at as two parts that may overlap.
 #[inline(always)]
 pub(crate) fn zeros_two<const N: usize>(bytes: &[u8]) -> u64
@@ -68,8 +53,10 @@ fn zeros_of(bytes: &[u8]) -> u64
         zeros_two::<8>(bytes)
     } else if len >= 4 {
         zeros_two::<4>(bytes)
+    } else if len >= 2 {
+        zeros_two::<2>(bytes)
     } else {
-        zeros_few(bytes)
+        zeros_two::<1>(bytes)
     }
 }
 
@@ -98,30 +85,6 @@ pub(crate) fn copy_at<const N: usize>(source: &[u8], read: usize, dest: &mut [u8
     let bytes = Simd::<u8, N>::from_slice(&source[read..]);
     bytes.copy_to_slice(&mut dest[at..]);
     bytes.simd_eq(Simd::splat(0)).to_bitmask()
-}
-
-/// Copies one, two or three bytes with no branch: the first one, the one in the middle and the last one, some of which
-/// may be the same.
-#[inline(always)]
-fn copy_few(source: &[u8], read: usize, len: usize, dest: &mut [u8], at: usize) -> u64
-    requires source { read + len ≤ length source.now }
-    requires some { 0 < len }
-    requires few { len ≤ 3 }
-    requires room { at + len ≤ length dest.old }
-    ensures copied { dest.new ≡ take at dest.old
-        ++ (take len (drop read source.now) ++ drop (at + len) dest.old) }
-    ensures zeros { result ≡ zero_mask (take len (drop read source.now)) }
-{
-    let zeros = zeros_few(&source[read..read + len]);
-    let half = len / 2;
-    let last = len - 1;
-    let front = source[read];
-    let middle = source[read + half];
-    let back = source[read + last];
-    dest[at] = front;
-    dest[at + half] = middle;
-    dest[at + last] = back;
-    zeros
 }
 
 /// Copies `N` to `2 * N` bytes, as two parts that may overlap.
@@ -170,8 +133,10 @@ pub(crate) fn copy_window(source: &[u8], read: usize, len: usize, dest: &mut [u8
         copy_two::<8>(source, read, len, dest, at)
     } else if len >= 4 {
         copy_two::<4>(source, read, len, dest, at)
+    } else if len >= 2 {
+        copy_two::<2>(source, read, len, dest, at)
     } else {
-        copy_few(source, read, len, dest, at)
+        copy_two::<1>(source, read, len, dest, at)
     }
 }
 

@@ -4,7 +4,7 @@ use Rattle.std.proofs.Math.ListN.{set}
 use mir.Val.{bool_byte}
 use Rattle.std.proofs.Math.Nat.{pow-suc, mul_comm, mul_assoc, mul-one, pow-le-pow_right}
 use Rattle.std.proofs.lemmas.Bool.{ne_eqb, eq-eqb, eqb-true, not-true, not-false, cases_eq, cases_lt}
-use Rattle.std.proofs.lemmas.List.{get_or-take, drop-drop, length-map, length-replicate, take-take, take_more, get_or-drop, drop_more, set_at}
+use Rattle.std.proofs.lemmas.List.{get_or-take, drop-drop, length-map, length-replicate, take-take}
 use Rattle.std.proofs.Math.Seq.{drop-append-add}
 use Rattle.std.proofs.lemmas.List.Elements.{All-nil, All-cons, All-take, All-from_get_or}
 use Rattle.std.proofs.lemmas.List.Sums.{prefix_len_passes, prefix_len_stops}
@@ -225,46 +225,3 @@ window_all bytes few e =
       | inr enough ↦ omega arith
     ] in
     (long, zero_mask-all bytes (omega (arith, ap (λ k. 2 ^ k) long)) ∙ ap (λ k. replicate k 0) long)
-
--- one byte more
-pub zero_mask-push : (bytes : List ℕ) (b : ℕ) → zero_mask (bytes ++ b ∷ []) ≡ zero_mask bytes + (if b == 0 then 1 else 0) * 2 ^ length bytes
-zero_mask-push [] b = let z : 2 ^ 0 ≡ 1 = refl in let n : ℕ = if b == 0 then 1 else 0 in let m = mul-one n in omega arith
-zero_mask-push (x ∷ bytes) b = grind (arith, pow-suc, mul_assoc, mul_comm, zero_mask-push bytes b)
-
--- the bit of a byte in its place
-pub byte_bit : (b i : ℕ) → i < 64 → bool_byte (eqb b 0) * 2 ^ i % 18446744073709551616 ≡ (if b == 0 then 1 else 0) * 2 ^ i
-byte_bit b i lt = grind (arith, pow-le-pow_right, cases_eq, eq-eqb, ne_eqb)
-
--- a byte more of a message, in the mask
-module _ (source : List ℕ) (read i zeros : ℕ) (more : read + i < length source) (small : i < 64) (is : zeros ≡ zero_mask (take i (drop read source))) where
-  pub mask-grown : zeros + bool_byte (eqb (get_or source (read + i) 0) 0) * 2 ^ i % 18446744073709551616 ≡ zero_mask (take (i + 1) (drop read source))
-  mask-grown =
-      let b : ℕ = get_or source (read + i) 0 in
-      let d = length-drop read source in
-      let l : length (take i (drop read source)) ≡ i = length-take-le i (drop read source) (omega arith) in
-      let next : take (i + 1) (drop read source) ≡ take i (drop read source) ++ b ∷ [] =
-      take_more (drop read source) i 0 (omega arith) ∙ ap (λ (x : ℕ). take i (drop read source) ++ x ∷ []) (get_or-drop read source i 0) in
-      let push = ap zero_mask next ∙ zero_mask-push (take i (drop read source)) b in
-      let bit = byte_bit b i small in
-      let place : (if b == 0 then 1 else 0) * 2 ^ length (take i (drop read source)) ≡ (if b == 0 then 1 else 0) * 2 ^ i = ap (λ k. (if b == 0 then 1 else 0) * 2 ^ k) l in
-      ap (λ k. k + bool_byte (eqb b 0) * 2 ^ i % 18446744073709551616) is ∙ ap (λ k. zero_mask (take i (drop read source)) + k) (bit ∙ sym place) ∙ sym push
-
--- a byte more of a message, copied
-pub copied-more : (source old dest : List ℕ) (read at i : ℕ) → read + i < length source → at + i < length old → dest ≡ take at old ++ (take i (drop read source) ++ drop (at + i) old)
-    → set dest (at + i) (get_or source (read + i) 0) ≡ take at old ++ (take (i + 1) (drop read source) ++ drop (at + (i + 1)) old)
-copied-more source old dest read at i more room is =
-    let b : ℕ = get_or source (read + i) 0 in
-    let d = length-drop read source in
-    let front : List ℕ = take at old ++ take i (drop read source) in
-    let l : length (take i (drop read source)) ≡ i = length-take-le i (drop read source) (omega arith) in
-    let a : length (take at old) ≡ at = length-take-le at old (omega arith) in
-    let n : length front ≡ at + i = length-append (take at old) (take i (drop read source)) ∙ omega arith in
-    let next : take (i + 1) (drop read source) ≡ take i (drop read source) ++ b ∷ [] =
-    take_more (drop read source) i 0 (omega arith) ∙ ap (λ (x : ℕ). take i (drop read source) ++ x ∷ []) (get_or-drop read source i 0) in
-    let sum : at + i + 1 ≡ at + (i + 1) = omega arith in
-    let tail : List ℕ = drop (at + (i + 1)) old in
-    ap (λ (x : List ℕ). set x (at + i) b) (is ∙ sym (append_assoc (take at old) (take i (drop read source)) (drop (at + i) old)) ∙ ap (λ (x : List ℕ). front ++ x) (drop_more old (at + i) 0 room))
-    ∙ set_at front (get_or old (at + i) 0) (drop (at + i + 1) old) b (at + i) n
-    ∙ ap (λ (k : ℕ). front ++ b ∷ drop k old) sum
-    ∙ append_assoc (take at old) (take i (drop read source)) (b ∷ tail)
-    ∙ ap (λ (x : List ℕ). take at old ++ x) (sym (append_assoc (take i (drop read source)) (b ∷ []) tail) ∙ ap (λ (x : List ℕ). x ++ tail) (sym next))

@@ -1,9 +1,8 @@
 -- Bytes of a buffer that are moved to its front.
-use Rattle.std.proofs.Common.{◌≡◌, ℕ, ◌+◌, ◌-◌, ◌/◌, ◌<◌, ◌≤◌, List, ◌++◌, length, drop, take, get_or, set, ap, ◌∙◌, arith, length-drop, length-append, length-take-le, drop_at}
+use Rattle.std.proofs.Common.{◌≡◌, ℕ, ◌+◌, ◌≤◌, List, ◌++◌, length, drop, take, ap, ◌∙◌, arith, length-drop, length-append, length-take-le, drop_at}
 use lib.Lanes.{put_chunk}
 use Rattle.cobs.proofs.decoding.InPlaceSteps.{drop-later}
 use Rattle.cobs.proofs.bytes.NonzeroCopies.{more-copied}
-use Rattle.cobs.proofs.bytes.ShortLemmas.{few-copied}
 
 -- the first bytes are moved, and the others are as they were
 abbrev pub moved : List ℕ → ℕ → ℕ → List ℕ
@@ -32,12 +31,3 @@ moved-next old buffer from done n is inside =
     let m = moved-more old buffer from done done n is inside (omega arith) (omega arith) in
     let same = drop-later done (from + done) buffer old (omega arith) (moved-behind old buffer from done done n is inside (omega arith) (omega arith)) in
     ap (λ (x : List ℕ). put_chunk done buffer (take n x)) same ∙ m
-
--- one byte, two or three
-pub few-moved : (old : List ℕ) (from len : ℕ) → from + len ≤ length old → 0 < len → len ≤ 3
-    → set (set (set old 0 (get_or old from 0)) (len / 2) (get_or old (from + len / 2) 0)) (len - 1) (get_or old (from + (len - 1)) 0) ≡ moved old from len
-few-moved old from len inside some few =
-    let half : len / 2 ≡ 0 + len / 2 = omega arith in
-    let last : len - 1 ≡ 0 + (len - 1) = omega arith in
-    let all : 0 + len ≡ len = omega arith in
-    grind (arith, few-copied)

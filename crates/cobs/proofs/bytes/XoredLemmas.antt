@@ -1,16 +1,14 @@
 -- Short stretches that are copied, each byte changed by exclusive or.
-use Rattle.std.proofs.Common.{◌≡◌, ℕ, ◌+◌, ◌-◌, ◌*◌, ◌/◌, ◌%◌, ◌^◌, ◌<◌, ◌≤◌, cond, eqb, List, ◌++◌, length, map, drop, take, get_or, set, replicate, bit_xor, sym, ap, ◌∙◌, subst, arith, take_all, w8}
-use Rattle.std.proofs.lemmas.List.{take-map, drop-map, length-map, get_or-map}
+use Rattle.std.proofs.Common.{◌≡◌, ℕ, ◌+◌, ◌-◌, ◌%◌, ◌^◌, ◌≤◌, cond, eqb, List, ◌++◌, length, map, drop, take, replicate, bit_xor, ap, ◌∙◌, subst, arith, take_all, w8}
+use Rattle.std.proofs.lemmas.List.{take-map, drop-map, length-map}
 use Rattle.std.proofs.lemmas.Simd.{zip2_splat, length-chunk, bitmask_splat}
 use Rattle.std.specs.Int.Bits.{bit_or}
-use mir.Val.{bool_byte}
 use lib.Lanes.{zip2, put_chunk, mask_l, top}
 use Rattle.cobs.specs.Grammar.{HasNoZero}
 use Rattle.cobs.specs.Internal.Mask.{zero_mask}
 use Rattle.cobs.specs.Sentinel.{xor_each}
 use Rattle.cobs.proofs.bytes.MaskLemmas.{zero_mask-lanes, zero_mask-none}
 use Rattle.cobs.proofs.bytes.NonzeroCopies.{or-none, more-nonzero, two-copied}
-use Rattle.cobs.proofs.bytes.ShortLemmas.{few-copied, few-mask}
 
 -- two parts of n bytes, which may overlap
 module _ (source dest : List ℕ) (s n : ℕ) (long : n ≤ length source) (short : length source ≤ n + n) (room : length source ≤ length dest) (small : n ≤ 64) where
@@ -57,47 +55,3 @@ module _ (source dest : List ℕ) (s n : ℕ) (long : n ≤ length source) (shor
       ∙ ap (put_chunk at (put_chunk 0 dest (take n h))) (part-is at (omega arith))
       ∙ two-copied h dest 0 0 (length source) n at at (length source) (omega arith) (omega arith) long short (omega arith) (omega arith) (omega arith)
       ∙ ap (λ (x : List ℕ). x ++ drop (length source) dest) (take_all (length source) h (omega arith))
-
--- one byte, two or three
-module _ (source dest : List ℕ) (s : ℕ) (some : 0 < length source) (few : length source ≤ 3) (room : length source ≤ length dest) where
-  abbrev g : ℕ → ℕ
-  g i = get_or (xor_each s source) i 0
-
-  abbrev x : ℕ → ℕ
-  x i = bit_xor (get_or source i 0) s
-
-  byte-is : (i : ℕ) → i < length source → x i ≡ g (0 + i)
-  byte-is i more =
-      let sum : i ≡ 0 + i = omega arith in
-      sym (get_or-map (λ b. bit_xor b s) source i 0 0 more) ∙ ap g sum
-
-  xored-long : length (xor_each s source) ≡ length source
-  xored-long = length-map source (λ (b : ℕ). bit_xor b s)
-
-  abbrev half : ℕ
-  half = length source / 2
-
-  abbrev last : ℕ
-  last = length source - 1
-
-  abbrev bit : ℕ → ℕ → ℕ
-  bit b i = bool_byte (eqb b 0) * 2 ^ i % 18446744073709551616
-
-  pub few-nonzero : bit_or (bit_or (bool_byte (eqb (x 0) 0)) (bit (x half) half)) (bit (x last) last) ≡ 0 → HasNoZero (xor_each s source)
-  few-nonzero none =
-      let l = xored-long in
-      let to : bit_or (bit_or (bool_byte (eqb (x 0) 0)) (bit (x half) half)) (bit (x last) last) ≡ bit_or (bit_or (bool_byte (eqb (g 0) 0)) (bit (g (0 + half)) half)) (bit (g (0 + last)) last)
-      = ap (λ (b : ℕ). bit_or (bit_or (bool_byte (eqb b 0)) (bit (x half) half)) (bit (x last) last)) (byte-is 0 some)
-      ∙ ap (λ (b : ℕ). bit_or (bit_or (bool_byte (eqb (g 0) 0)) (bit b half)) (bit (x last) last)) (byte-is half (omega arith))
-      ∙ ap (λ (b : ℕ). bit_or (bit_or (bool_byte (eqb (g 0) 0)) (bit (g (0 + half)) half)) (bit b last)) (byte-is last (omega arith)) in
-      subst HasNoZero (take_all (length source) (xor_each s source) (omega arith))
-      (zero_mask-none (take (length source) (xor_each s source))
-      (sym (few-mask (xor_each s source) dest 0 0 (length source) (omega arith) some few (omega arith)) ∙ sym to ∙ none))
-
-  pub few-xored : set (set (set dest 0 (x 0)) half (x half)) last (x last) ≡ xor_each s source ++ drop (length source) dest
-  few-xored =
-      let l = xored-long in
-      let to-half : half ≡ 0 + half = omega arith in
-      let to-last : last ≡ 0 + last = omega arith in
-      let all : 0 + length source ≡ length source = omega arith in
-      grind (arith, xored-long, byte-is, few-copied, take_all)
