@@ -5,7 +5,8 @@ use Rattle.std.proofs.Math.ListN.{set}
 use Rattle.std.proofs.lemmas.Bool.{cases_Bool, true≢false, ne_eqb}
 use Rattle.std.proofs.lemmas.List.{take-take, take-append-drop, drop_more, drop_all, set_at, set_past, same_from_push}
 use Rattle.std.proofs.lemmas.List.Elements.{All-cons, All-nil, All-push}
-use Rattle.cobs.specs.Grammar.{IsBlock, IsFull, is_full, joint, lone_block, last_of, message_of, IsFrameOf, IsEncodedFrame, IsOpenFrame}
+use Rattle.std.proofs.lemmas.Grind.{common_steps}
+use Rattle.cobs.specs.Grammar.{IsBlock, IsFull, is_full, lone_block, last_of, message_of, IsFrameOf, IsEncodedFrame, IsOpenFrame}
 use Rattle.cobs.specs.Length.{encoded_len}
 use Rattle.cobs.specs.OpenBlock.{Reached, end_of, next_of, CobsEncoderAfter}
 use Rattle.cobs.proofs.format.GrammarLemmas.{lone_block-is_block, one_frame}
@@ -37,9 +38,7 @@ split_last front fr p last e = ap (λ (l : List (List ℕ)). l ++ last ∷ []) e
 message_of-lone : (front : List (List ℕ)) → is_full (last_of front) ≡ true → message_of (front ++ lone_block ∷ []) ≡ message_of front
 message_of-lone front full =
     let l = full_last front full in
-    ap message_of (split_last front l.0 l.1 lone_block l.2) ∙ message_of-append l.0 l.1 lone_block []
-    ∙ append-nil (message_of (l.0 ++ l.1 ∷ []) ++ joint l.1) ∙ ap (λ (b : Bool). message_of (l.0 ++ l.1 ∷ []) ++ (if b then [] else 0 ∷ [])) l.3
-    ∙ append-nil (message_of (l.0 ++ l.1 ∷ [])) ∙ ap message_of (sym l.2)
+    grind (arith, common_steps, split_last, message_of-append, append-nil)
 
 -- the blocks of an encoded frame: its last block isn't lone where the one before is full
 pub not_lone : (f m : List ℕ) (front : List (List ℕ)) (code : ℕ) (bytes : List ℕ) → IsEncodedFrame f m → IsFrameOf f (front ++ (code ∷ bytes) ∷ []) → is_full (last_of front) ≡ true → bytes ≢ []

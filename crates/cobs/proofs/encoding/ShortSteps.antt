@@ -8,6 +8,7 @@ use Rattle.std.proofs.Math.Nat.{pow-le-pow_right}
 use Rattle.std.proofs.lemmas.Nat.{and_le_l}
 use Rattle.std.specs.Int.Count.{count_trailing_zeros, trailing_of_zero}
 use Rattle.std.specs.Int.Bits.{bit_and}
+use Rattle.std.proofs.lemmas.Grind.{common_steps}
 use Rattle.cobs.specs.Internal.Mask.{zero_mask}
 use Rattle.cobs.proofs.encoding.OpenedLemmas.{Opened}
 use Rattle.cobs.proofs.bytes.MaskLemmas.{zero_mask-all, zero_mask-lt, lowest_bit, lowest-ordered, lowest-within, nonzero_len}
@@ -123,9 +124,7 @@ module _ (H : List ℕ → Type 0) (source old : List ℕ) (end read len next : 
 module _ (H : List ℕ → Type 0) (source old slice : List ℕ) (end read len index next zeros : ℕ) (r : Reaches H source old slice end read index next (λ _. Unit {0})) (fits : end ≤ length slice)
     (inside : read + len ≤ length source) (some : 0 < len) (few : len ≤ 32) (bits : zeros ≡ zero_mask (take len (drop read source))) (all : zeros + 1 ≡ 2 ^ len) where
   window-is : take len (drop read source) ≡ replicate len 0
-  window-is =
-      let l : length (take len (drop read source)) ≡ len = length-take-le len (drop read source) (let d = length-drop read source in omega arith) in
-      grind (arith, zero_mask-all, replicate)
+  window-is = grind (arith, common_steps, length-take-le, length-drop, zero_mask-all, replicate)
 
   some_bits : zeros ≢ 0
   some_bits e = let most : 2 ^ 1 ≤ 2 ^ len = pow-le-pow_right {n = 2} (omega arith) {i = 1} {j = len} some in omega arith

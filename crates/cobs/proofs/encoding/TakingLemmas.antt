@@ -4,6 +4,7 @@ use Rattle.std.proofs.Math.ListN.{set}
 use Rattle.std.proofs.Math.Seq.{take-add}
 use Rattle.std.proofs.lemmas.Bool.{cases_Bool, cases_lt}
 use Rattle.std.proofs.lemmas.List.{drop-drop, drop_all, length-set}
+use Rattle.std.proofs.lemmas.Grind.{common_steps}
 use Rattle.cobs.specs.Length.{encoded_len, open_len}
 use Rattle.cobs.specs.OpenBlock.{Reached, CobsEncoderAfter, IsPlaceIn, end_after, end_of, next_of}
 use Rattle.cobs.specs.Internal.Taking.{TakesFront}
@@ -110,9 +111,7 @@ left-end {r' = r'} n is t = ap (end_after r') is ∙ t.end
 pub front-last : {slice slice' slice'' source left : List ℕ} {r r' r'' : Reached} (n : ℕ) → n ≤ length source → left ≡ drop n source → TakesFront slice r source n slice' r' → TakesFront slice' r' left (length left) slice'' r''
     → TakesFront slice r source (length source) slice'' r''
 front-last {slice} {slice'} {slice''} {source} {left} {r} {r'} {r''} n le is a b =
-    let l = ap length is ∙ length-drop n source in
-    let sum : n + length left ≡ length source = omega arith in
-    subst (λ (k : ℕ). TakesFront slice r source k slice'' r'') sum (front-next n (length left) is a b)
+    grind (arith, common_steps, length-drop)
 
 -- the whole source is taken
 module _ {slice slice' source : List ℕ} {r r' : Reached} (t : TakesFront slice r source (length source) slice' r') where

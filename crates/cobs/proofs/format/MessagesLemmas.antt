@@ -1,11 +1,12 @@
 -- The stream of some messages: a frame and a zero for each.
-use Rattle.std.proofs.Common.{◌≡◌, ◌≢◌, ℕ, ◌+◌, ◌<◌, ◌≤◌, List, [], ◌∷◌, ◌++◌, length, take, set, map, All, refl, sym, ap, ◌∙◌, subst, arith, append_assoc, length-append, length-take, get_or}
+use Rattle.std.proofs.Common.{◌≡◌, ◌≢◌, ℕ, ◌+◌, ◌<◌, ◌≤◌, List, [], ◌∷◌, ◌++◌, length, take, set, map, All, refl, ap, ◌∙◌, subst, arith, append_assoc, length-append, length-take, get_or}
 use Rattle.std.specs.List.{AllZip, flat_map}
 use Rattle.std.proofs.lemmas.List.{take_more, take_more_set, map_push, take-map, flat_map_more, take-append-le}
 use Rattle.std.proofs.lemmas.List.Elements.{AllZip-push, All-nil, All-head, All-tail}
 use Rattle.std.proofs.lemmas.List.Sums.{sum_by-append, sum_by-take-le}
 use Rattle.std.proofs.Math.Seq.{take-append-add}
 use Rattle.std.specs.Global.{Vec}
+use Rattle.std.proofs.lemmas.Grind.{common_steps}
 use borrow.Rule.Slice.PartMut.{put_mid, post_of}
 use Rattle.cobs.specs.Grammar.{Reads, IsEncodedFrame}
 use Rattle.cobs.specs.Length.{max_encoded_len}
@@ -34,9 +35,7 @@ messages_in-more vectors i d within = ap messages_in (take_more vectors i d with
 -- one more message takes the room of its longest frame and a zero
 pub room-more : (vectors : List (Vec ℕ)) (i : ℕ) (d : Vec ℕ) → i < length vectors
     → room_for_frames (messages_in (take (i + 1) vectors)) ≡ room_for_frames (messages_in (take i vectors)) + (max_encoded_len (length (get_or vectors i d).items) + 1)
-room-more vectors i d within =
-    ap room_for_frames (messages_in-more vectors i d within)
-    ∙ sum_by-append (λ m. max_encoded_len (length m) + 1) (messages_in (take i vectors)) ((get_or vectors i d).items ∷ []) ∙ ap (λ (k : ℕ). room_for_frames (messages_in (take i vectors)) + k) (omega arith)
+room-more vectors i d within = grind (arith, common_steps, messages_in-more, sum_by-append)
 
 -- some of the messages take no more room than all of them
 pub room-some : (vectors : List (Vec ℕ)) (i : ℕ) → room_for_frames (messages_in (take i vectors)) ≤ room_for_frames (messages_in vectors)
@@ -54,10 +53,7 @@ pub written : (dest new behind : List ℕ) (end len : ℕ) → end ≤ length de
     → take (end + (len + 1)) (set (take end dest ++ (new ++ behind)) (end + len) 0) ≡ take end dest ++ take len new ++ 0 ∷ []
 written dest new behind end len within room =
     let long : length (take end dest) ≡ end = length-take end dest ∙ omega arith in
-    ap (λ (k : ℕ). take k (set (take end dest ++ (new ++ behind)) (end + len) 0)) (omega arith)
-    ∙ take_more_set (take end dest ++ (new ++ behind)) (end + len) 0 (omega (arith, length-append (take end dest) (new ++ behind), length-append new behind))
-    ∙ ap (λ (x : List ℕ). x ++ 0 ∷ []) (ap (λ (k : ℕ). take (k + len) (take end dest ++ (new ++ behind))) (sym long) ∙ take-append-add (take end dest) (new ++ behind) len
-    ∙ ap (λ (x : List ℕ). take end dest ++ x) (take-append-le len new behind (omega arith)))
+    grind (arith, common_steps, take_more_set, length-append, take-append-add, take-append-le)
 
 -- such a list is as long as what was written
 pub length-written : (dest new : List ℕ) (end part : ℕ) → end ≤ length dest → end + length new ≤ length (put_mid end part dest new)

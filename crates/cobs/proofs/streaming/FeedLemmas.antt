@@ -10,6 +10,7 @@ use Rattle.cobs.specs.Feed.{Phase, Idle, Within, Over, phase_after, PhaseAfter, 
 use Rattle.cobs.specs.Step.{grows, next_phase, next_buffer, if_over, end_answer, next_answer}
 use Rattle.cobs.specs.declared.dec.DecodeError.TheVariants.{TargetBufTooSmall}
 use Rattle.std.specs.Prelude.{IfOk, IfSome}
+use Rattle.std.proofs.lemmas.Grind.{common_steps}
 use Rattle.cobs.proofs.format.StreamLemmas.{fed-nonzero}
 use Rattle.cobs.proofs.streaming.TableLemmas.{output-nil, phase_by_table}
 use Rattle.cobs.proofs.decoding.PieceLemmas.{output-one, last_part-one, output-push_more, output-push_next, last_part-push_next, lacks-push_more, is_full-push_more, output-push}
@@ -142,10 +143,8 @@ pub PhaseAfter-answer_to : (n : ℕ) (phase : Phase) (p : List ℕ) (b : ℕ) �
 PhaseAfter-answer_to n phase p b h = ap (λ (x : Phase). next_answer n x b) h.phase_is ∙ answer_to-step n p b
 
 pub DecoderAfter-step : (buffer : List ℕ) (phase : Phase) (p : List ℕ) (b : ℕ) → DecoderAfter buffer phase p → DecoderAfter (next_buffer buffer phase b) (next_phase (length buffer) phase b) (fed p b)
-DecoderAfter-step buffer phase p b h = record {
-  phased = rw (length-next_buffer buffer phase b) (PhaseAfter-step (length buffer) phase p b h.phased);
-  begins = rw h.phased.phase_is (begins-step buffer p b h.begins);
-}
+DecoderAfter-step buffer phase p b h =
+    grind (arith, common_steps, length-next_buffer, PhaseAfter-step, begins-step)
 
 untouched_within : (buffer : List ℕ) (c : ℕ) (q : List ℕ) (b : ℕ) (full : Bool) (left : ℕ) → is_full (last_part (c ∷ q)) ≡ full → lacks (last_part (c ∷ q)) ≡ left → 0 < b
     → drop (length (output (c ∷ q ++ b ∷ []))) (next_buffer buffer (Within full left (length (output (c ∷ q)))) b) ≡ drop (length (output (c ∷ q ++ b ∷ []))) buffer

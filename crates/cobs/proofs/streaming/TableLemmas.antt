@@ -3,6 +3,7 @@ use Rattle.std.proofs.Common.{◌≡◌, ◌≢◌, ℕ, zero, suc, ◌-◌, ◌
 use Rattle.std.proofs.lemmas.Bool.{eqb-true, ne_eqb}
 use Rattle.std.proofs.lemmas.List.{append-nil}
 use Rattle.std.proofs.lemmas.List.Elements.{All-nil, All-push}
+use Rattle.std.proofs.lemmas.Grind.{common_steps}
 use Rattle.cobs.specs.Grammar.{HasNoZero, is_full, Reads}
 use Rattle.cobs.specs.Piece.{parts, parts_after, last_part, lacks, is_whole, output}
 use Rattle.cobs.specs.Table.{opened_by, table_answer, table_state, data_of, state_after, StateAfter}
@@ -60,12 +61,8 @@ next_data p b h = grind (arith, ne_eqb, append-nil, output-nil, output-one, data
 
 pub StateAfter-step : (state : DecoderState) (p so_far : List ℕ) (b : ℕ) → b < 256 → StateAfter state p so_far → b ≢ 0
     → StateAfter (table_state state b) (p ++ b ∷ []) (so_far ++ data_of (table_answer state b))
-StateAfter-step state p so_far b below s some = record {
-  piece = All-push (λ byte. byte ≢ 0) p b s.piece some;
-  bytes = All-push (λ byte. byte < 256) p b s.bytes below;
-  state_is = ap (λ x. table_state x b) s.state_is ∙ next_state p b some;
-  so_far_is = ap (λ (x : List ℕ). x ++ data_of (table_answer state b)) s.so_far_is ∙ ap (λ x. output p ++ data_of (table_answer x b)) s.state_is ∙ next_data p b some;
-}
+StateAfter-step state p so_far b below s some =
+    grind (arith, common_steps, All-push, next_state, next_data)
 
 pub StateAfter-start : StateAfter Idle [] []
 StateAfter-start = grind (arith, All-nil, output-nil)

@@ -1,4 +1,5 @@
-use Rattle.std.proofs.Common.{◌∙◌, ℕ, List, take, refl, subst, arith, length-take-le}
+use Rattle.std.proofs.Common.{take, refl, subst, arith, length-take-le}
+use Rattle.std.proofs.lemmas.Grind.{common_steps}
 use Rattle.cobs.specs.Internal.Decoded.{IsFlat}
 use Rattle.cobs.proofs.format.SentinelLemmas.{xor_each-zero}
 use Rattle.cobs.proofs.decoding.FlatLemmas.{moved-piece, moved-rest, piece-nonzero, flat-copy}
@@ -18,7 +19,4 @@ pub returns-clause-begins : goal.returns-clause-begins
 returns-clause-begins c holds = grind (arith, moved-piece)
 
 pub returns-clause-rest : goal.returns-clause-rest
-returns-clause-rest c =
-    let m = c.if-not-move_nonzero_short.ensures in
-    let old : List ℕ = c.args.buffer.now in
-    c.write_joints.ensures.rest ∙ moved-rest old c.move_nonzero_short.new.buffer 0 c.args.len (omega arith) (omega arith) (m.moved refl)
+returns-clause-rest c = grind (arith, common_steps, moved-rest)

@@ -1,7 +1,7 @@
-use Rattle.std.proofs.Common.{◌+◌, subst, ℕ, arith}
+use Rattle.std.proofs.Common.{◌+◌, arith}
 use Rattle.std.proofs.lemmas.List.{take_rest}
+use Rattle.std.proofs.lemmas.Grind.{common_steps}
 use Rattle.cobs.specs.Fields.Progress.{reached_at}
-use Rattle.cobs.specs.Internal.Taking.{TakesFront}
 use Rattle.cobs.proofs.encoding.TakingLemmas.{front-next, front-none, left-end}
 use Rattle.cobs.proofs.enc.blocks.append_runs.Goals as goal
 
@@ -16,8 +16,7 @@ append_windows-windows-requires-clause-place c = c.append_run-run.ensures.taken.
 
 pub append_windows-windows-requires-clause-fits : goal.append_windows-windows-requires-clause-fits
 append_windows-windows-requires-clause-fits c =
-    let s = front-next c.by_run.read c.append_run-run.result.0 (take_rest c.args.source.now c.by_run.read) c.by_run.invariant.taken c.append_run-run.ensures.taken in
-    grind (arith, left-end, take_rest)
+    grind (arith, common_steps, front-next, take_rest, left-end)
 
 pub by_run-preserved : goal.by_run-preserved
 by_run-preserved c =
@@ -28,9 +27,7 @@ by_run-preserved c =
     }
 
 pub returns-then-read-source : goal.returns-then-read-source
-returns-then-read-source c =
-    let s = front-next c.by_run.read c.append_run-run.result.0 (take_rest c.args.source.now c.by_run.read) c.by_run.invariant.taken c.append_run-run.ensures.taken in
-    subst (λ (k : ℕ). TakesFront c.args.dest.now (reached_at c.args.progress) c.args.source.now k c.append_run-run.new.dest (reached_at c.append_run-run.result.1)) c.if-read-source.true s
+returns-then-read-source c = grind (arith, common_steps, front-next, take_rest)
 
 pub returns : goal.returns
 returns c = grind arith

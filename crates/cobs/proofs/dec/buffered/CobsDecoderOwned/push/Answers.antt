@@ -13,5 +13,4 @@ returns-clause-reads c =
     λ f m idle is r fits. (push_reads (returns-clause-pushes c) (bytes_below c.args.bytes.now c.type_inv.bytes) f m idle is (frame_piece r)).1 (r, fits)
 
 pub returns-clause-only : goal.returns-clause-only
-returns-clause-only c =
-    λ f m idle is piece told. (push_reads (returns-clause-pushes c) (bytes_below c.args.bytes.now c.type_inv.bytes) f m idle is piece).0 told
+returns-clause-only c = grind (arith, common_steps, push_reads, returns-clause-pushes, bytes_below)

@@ -1,9 +1,8 @@
-use Rattle.std.proofs.Common.{◌≢◌, arith}
+use Rattle.std.proofs.Common.{arith}
 use Rattle.std.proofs.lemmas.List.Elements.{All-take}
+use Rattle.std.proofs.lemmas.Grind.{common_steps}
 use Rattle.cobs.proofs.streaming.RunLemmas.{run_fed}
 use Rattle.cobs.proofs.dec.unbuffered.UnbufferedDecoder.take_open_block.Goals as goal
 
 pub returns-clause-fed : goal.returns-clause-fed
-returns-clause-fed c =
-    run_fed c.args.self.now c.args.dest.now c.args.stretch.now _ c.min-run.result c.if-self.false (omega arith) (omega arith) (omega arith) (omega arith)
-    (All-take (λ byte. byte ≢ 0) c.min-run.result c.args.stretch.now c.requires) c.copy_from_slice.ensures.after
+returns-clause-fed c = grind (arith, common_steps, run_fed, All-take)
