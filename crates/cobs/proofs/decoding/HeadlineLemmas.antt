@@ -78,24 +78,22 @@ decode_answer_alone (byte ∷ bytes) n piece = ap (λ p. answer_by_piece (byte �
 decode_reads-fits : (f buffer : List ℕ) (result : Result DecodeReport DecodeError) (buffer' : List ℕ) → result ≡ decode_answer f (length buffer) → buffer' ≡ overwritten buffer (first_output f)
     → All (λ b. b < 256) f → IsPiece f → length (output f) ≤ length buffer → (m : List ℕ) → ReportsMessage result buffer' m ↔ Reads f m
 decode_reads-fits f buffer result buffer' answer after below piece fits m =
-    let n = length buffer in
-    let given : result ≡ reported (len_through_piece f f) (sized (outcome_of f n)) = answer ∙ decode_answer_alone f n piece in
+    let given : result ≡ reported (len_through_piece f f) (sized (outcome_of f _)) = answer ∙ decode_answer_alone f _ piece in
     let written : buffer' ≡ overwritten buffer (output f) = after ∙ ap (λ p. overwritten buffer (output_of p)) (first_piece_alone f piece.0 piece.1) in
-    let decodes : Decodes f (sized (outcome_of f n)) buffer' = record {
-      whole = λ whole. ap sized (outcome_of_whole f n fits whole);
+    let decodes : Decodes f (sized (outcome_of f _)) buffer' = record {
+      whole = λ whole. ap sized (outcome_of_whole f _ fits whole);
       begins = λ whole. ap (take (length (output f))) written ∙ front-overwritten buffer (output f) fits;
-      broken = λ broken. (InvalidFrame (length (output f)), ap sized (outcome_of_broken f n fits broken));
+      broken = λ broken. (InvalidFrame (length (output f)), ap sized (outcome_of_broken f _ fits broken));
     } in
     subst (λ r. ReportsMessage r buffer' m ↔ Reads f m) (sym given)
-    (reports (len_through_piece f f) (sized (outcome_of f n)) buffer' m (Reads f m) (decodes-reads f m (sized (outcome_of f n)) buffer' piece below decodes))
+    (reports (len_through_piece f f) (sized (outcome_of f _)) buffer' m (Reads f m) (decodes-reads f m (sized (outcome_of f _)) buffer' piece below decodes))
 
 pub decode_reads : (f buffer : List ℕ) (result : Result DecodeReport DecodeError) (buffer' : List ℕ) → result ≡ decode_answer f (length buffer) → buffer' ≡ overwritten buffer (first_output f)
     → All (λ b. b < 256) f → IsPiece f → (m : List ℕ) → ReportsMessage result buffer' m ↔ (Reads f m × (length m ≤ length buffer))
 decode_reads f buffer result buffer' answer after below piece m =
-    let n = length buffer in
-    reads_where_fits f m n (ReportsMessage result buffer' m) (λ fits. decode_reads-fits f buffer result buffer' answer after below piece fits m)
+    reads_where_fits f m _ (ReportsMessage result buffer' m) (λ fits. decode_reads-fits f buffer result buffer' answer after below piece fits m)
     (λ more told. absurd (subst (λ r. ReportsMessage r buffer' m)
-    (answer ∙ decode_answer_alone f n piece ∙ ap (λ o. reported (len_through_piece f f) (sized o)) (outcome_of_long f n more)) told))
+    (answer ∙ decode_answer_alone f _ piece ∙ ap (λ o. reported (len_through_piece f f) (sized o)) (outcome_of_long f _ more)) told))
 
 -- DECODING IN PLACE
 
@@ -152,20 +150,18 @@ head_answer_within-long f n some more = ⊎_elim
 source_reads-fits : (f buffer : List ℕ) (result : Result ℕ DecodeError) (buffer' : List ℕ) → result ≡ source_answer f (length buffer) → buffer' ≡ overwritten buffer (kept_output (head f))
     → All (λ b. b < 256) f → IsPiece f → length (output f) ≤ length buffer → (m : List ℕ) → AnswersMessage result buffer' m ↔ Reads f m
 source_reads-fits f buffer result buffer' answer after below piece fits m =
-    let n = length buffer in
     decodes-reads f m result buffer' piece below (record {
       whole = λ whole.
           let kept = ap length (kept_output_whole f whole) in
-          answer ∙ source_answer_alone f n piece ∙ ap (λ (t : Bool). cond t (head_answer f) (Err TargetBufTooSmall)) (le-leb (length (kept_output f)) n (omega (arith, kept))) ∙ head_answer_whole f piece.0 whole;
+          answer ∙ source_answer_alone f _ piece ∙ ap (λ (t : Bool). cond t (head_answer f) (Err TargetBufTooSmall)) (le-leb (length (kept_output f)) _ (omega (arith, kept))) ∙ head_answer_whole f piece.0 whole;
       begins = λ whole.
           ap (take (length (output f))) after ∙ ap (λ (h : List ℕ). take (length (output f)) (overwritten buffer (kept_output h))) (head_alone f piece.1)
           ∙ ap (λ (l : List ℕ). take (length (output f)) (overwritten buffer l)) (kept_output_whole f whole) ∙ front-overwritten buffer (output f) fits;
-      broken = λ broken. let w = head_answer_within-broken f n piece.0 broken in (w.0, answer ∙ source_answer_alone f n piece ∙ w.1);
+      broken = λ broken. let w = head_answer_within-broken f _ piece.0 broken in (w.0, answer ∙ source_answer_alone f _ piece ∙ w.1);
     })
 
 pub source_reads : (f buffer : List ℕ) (result : Result ℕ DecodeError) (buffer' : List ℕ) → result ≡ source_answer f (length buffer) → buffer' ≡ overwritten buffer (kept_output (head f))
     → All (λ b. b < 256) f → IsPiece f → (m : List ℕ) → AnswersMessage result buffer' m ↔ (Reads f m × (length m ≤ length buffer))
 source_reads f buffer result buffer' answer after below piece m =
-    let n = length buffer in
-    reads_where_fits f m n (AnswersMessage result buffer' m) (λ fits. source_reads-fits f buffer result buffer' answer after below piece fits m)
-    (λ more told. let w = head_answer_within-long f n piece.0 more in absurd (subst (λ r. AnswersMessage r buffer' m) (answer ∙ source_answer_alone f n piece ∙ w.1) told))
+    reads_where_fits f m _ (AnswersMessage result buffer' m) (λ fits. source_reads-fits f buffer result buffer' answer after below piece fits m)
+    (λ more told. let w = head_answer_within-long f _ piece.0 more in absurd (subst (λ r. AnswersMessage r buffer' m) (answer ∙ source_answer_alone f _ piece ∙ w.1) told))

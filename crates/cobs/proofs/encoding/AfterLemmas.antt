@@ -90,24 +90,23 @@ after_open slice m index next code is short fits o =
     let block : List ℕ = code ∷ o.bytes in
     let is_block : IsBlock block = (sym code_is, omega arith, o.nonzero) in
     let blocks : List (List ℕ) = o.front ++ block ∷ [] in
-    let f : List ℕ = concat o.front ++ concat (block ∷ []) in
-    let frame : IsFrameOf f blocks = frame_of o.front [] block o.each (All-cons IsBlock block [] is_block (All-nil IsBlock)) in
+    let frame : IsFrameOf _ blocks = frame_of o.front [] block o.each (All-cons IsBlock block [] is_block (All-nil IsBlock)) in
     let message : m ≡ message_of blocks = subst (λ (n : ℕ). m ≡ message_of (o.front ++ (n ∷ o.bytes) ∷ [])) code_is o.message in
-    let whole : f ≡ concat o.front ++ block = ap (λ (x : List ℕ). concat o.front ++ x) (append-nil block) in
+    let whole : _ ≡ concat o.front ++ block = ap (λ (x : List ℕ). concat o.front ++ x) (append-nil block) in
     let b = o.begins in
-    let long : length f ≡ next = ap length whole ∙ length-append (concat o.front) block ∙ omega arith in
+    let long : length _ ≡ next = ap length whole ∙ length-append (concat o.front) block ∙ omega arith in
     let front : List ℕ = take next slice in
     let l = length-take-le next slice fits in
     let x : ℕ = get_or front index 0 in
-    let begins : take (length f) slice ≡ set f index x =
+    let begins : take (length _) slice ≡ set _ index x =
     ap (λ (n : ℕ). take n slice) long ∙ sym (take-append-drop index front) ∙ ap (λ (y : List ℕ). y ++ drop index front) (take-take index next slice (omega arith) ∙ o.written)
     ∙ ap (λ (y : List ℕ). concat o.front ++ y) (drop_more front index 0 (omega arith)) ∙ ap (λ (y : List ℕ). concat o.front ++ x ∷ y) o.stands
     ∙ sym (ap (λ (y : List ℕ). set y index x) whole ∙ set_at (concat o.front) code o.bytes x index (sym b)) in
     record {
-      frame = f;
-      encoded = encoded-open f m o.front code o.bytes frame message o.noted;
+      frame = _;
+      encoded = encoded-open _ m o.front code o.bytes frame message o.noted;
       noted = sym (ap is_full (last_of-push o.front block) ∙ ne_eqb code 255 (λ e. omega arith));
-      follows = (f, record { front = o.front; bytes = o.bytes; frame = frame; message = message; begins = o.begins; not_full = short });
+      follows = (_, record { front = o.front; bytes = o.bytes; frame = frame; message = message; begins = o.begins; not_full = short });
       fits = omega arith;
       begins = (x, begins);
     }

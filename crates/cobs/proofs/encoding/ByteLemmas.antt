@@ -26,9 +26,8 @@ module _ (slice m : List ℕ) (r : Reached) (h : CobsEncoderAfter slice r m) (fi
   joined : (byte : ℕ) → byte ≢ 0 → r.block.code < 255 → Opened (set slice (next_of r) byte) (m ++ byte ∷ []) r.block.index (next_of r + 1) false
   joined byte nz short =
       let next : ℕ = next_of r in
-      let after : List ℕ = set slice next byte in
       let l = length-set slice next byte in
-      let same : take next after ≡ take next slice = take-set-le next slice next byte (omega arith) in
+      let same : take next _ ≡ take next slice = take-set-le next slice next byte (omega arith) in
       grind (arith, drop-set, All-cons, All-nil, Opened-join, Opened-same, opened)
 
 pub after-byte : (slice m : List ℕ) (r : Reached) (byte : ℕ) → CobsEncoderAfter slice r m → byte ≢ 0 → r.block.code < 254 → next_of r < length slice

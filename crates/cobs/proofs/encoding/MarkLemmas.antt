@@ -147,10 +147,9 @@ module _ (H : List ℕ → Type 0) (source old slice : List ℕ) (end read len i
       sym (get_or-drop (read + d) source j 0) ∙ sym (get_or-take (len - d) (drop (read + d) source) j 0 lt) ∙ nonzero_len-at left (some_left d left small some_bits) in
       let joined = Reaches-join H source old slice end (read + d) index (next + d) (λ full. 0 < d → full ≡ false) (λ _. Unit {0}) j (omega arith) (omega arith) fits nonzero here (λ full z p. tt) (λ z. tt) s.reaches in
       let closed = Reaches-zero H source old slice end (read + d + j) index (next + d + j) (λ _. Unit {0}) (λ full. 0 < k + 1 → full ≡ false) (omega arith) zero_at (omega arith) fits (λ lt. refl) joined in
-      let after : List ℕ = set slice index (next + k - index) in
       let code : next + d + j - index ≡ next + k - index = omega arith in
       let seen' : k + 1 ≡ next + k + 1 - next = omega arith in
-      subst (MarksAt H source old after end read len (next + k) next (bit_and zeros (zeros - 1))) seen' (record {
+      subst (MarksAt H source old _ end read len (next + k) next (bit_and zeros (zeros - 1))) seen' (record {
         seen = omega arith;
         some = s.some;
         few = s.few;
@@ -162,7 +161,7 @@ module _ (H : List ℕ → Type 0) (source old slice : List ℕ) (end read len i
             rest ∙ ap (λ (m : ℕ). mask_behind m (drop (j + 1) left)) at ∙ ap (mask_behind (k + 1)) (cut source read);
         short = omega arith;
         reaches = Reaches-at H source old (set slice index (next + d + j - index)) end (read + d + j + 1) (next + d + j) (next + d + j + 1) (λ full. 0 < k + 1 → full ≡ false) (λ full. 0 < k + 1 → full ≡ false)
-            after (read + (k + 1)) (next + k) (next + (k + 1)) (ap (set slice index) code) (omega arith) (omega arith) (omega arith) (λ full p. p) closed;
+            _ (read + (k + 1)) (next + k) (next + (k + 1)) (ap (set slice index) code) (omega arith) (omega arith) (omega arith) (λ full p. p) closed;
       })
 
 -- a window that is taken whole, and leaves its block open

@@ -102,9 +102,8 @@ module _ (m f g : List ℕ) (index code : ℕ) (o : IsOpenFrame f m index code) 
       let block : List ℕ = (code + 1) ∷ (o.bytes ++ b ∷ []) in
       let n = length_push o.bytes b in
       let more : IsBlock block = (let c = is.0 in omega arith, let c = o.not_full in omega arith, All-push (λ byte. byte ≢ 0) o.bytes b is.2 nz) in
-      let h : List ℕ = concat o.front ++ concat (block ∷ []) in
-      let whole : h ≡ concat o.front ++ block = ap (λ (l : List ℕ). concat o.front ++ l) (append-nil block) in (
-        h,
+      let whole : _ ≡ concat o.front ++ block = ap (λ (l : List ℕ). concat o.front ++ l) (append-nil block) in (
+        _,
         record {
           front = o.front;
           bytes = o.bytes ++ b ∷ [];
@@ -129,14 +128,13 @@ module _ (m f g : List ℕ) (index code : ℕ) (o : IsOpenFrame f m index code) 
       let more : IsBlock block = (let c = is.0 in omega arith, omega arith, All-push (λ byte. byte ≢ 0) o.bytes b is.2 nz) in
       let blocks : All IsBlock (block ∷ lone_block ∷ []) = All-cons IsBlock block (lone_block ∷ []) more (All-cons IsBlock lone_block [] lone_block-is_block (All-nil IsBlock)) in
       let h : List ℕ = concat o.front ++ concat (block ∷ lone_block ∷ []) in
-      let p : List ℕ = concat o.front ++ block in
-      let whole : h ≡ p ++ 1 ∷ [] = sym (append_assoc (concat o.front) block (1 ∷ [])) in
-      let len : length p ≡ index + 255 = length-append (concat o.front) block ∙ (let b = o.begins in let c = is.0 in omega arith) in
+      let whole : h ≡ _ ++ 1 ∷ [] = sym (append_assoc (concat o.front) block (1 ∷ [])) in
+      let len : length _ ≡ index + 255 = length-append (concat o.front) block ∙ (let b = o.begins in let c = is.0 in omega arith) in
       let same_blocks : (o.front ++ block ∷ []) ++ lone_block ∷ [] ≡ o.front ++ block ∷ lone_block ∷ [] = append_assoc o.front (block ∷ []) (lone_block ∷ []) in
       let front = message_of (o.front ++ block ∷ []) in
       let message : message_of (o.front ++ block ∷ lone_block ∷ []) ≡ m ++ b ∷ [] =
       message_of-append o.front block lone_block [] ∙ append-nil (front ++ []) ∙ append-nil front ∙ message_of-more o.front 255 code o.bytes (b ∷ []) ∙ ap (λ (l : List ℕ). l ++ b ∷ []) (sym o.message) in
-      let out : set g index 255 ++ b ∷ x ∷ [] ≡ p ++ x ∷ [] =
+      let out : set g index 255 ++ b ∷ x ∷ [] ≡ _ ++ x ∷ [] =
       ap (λ (l : List ℕ). l ++ b ∷ x ∷ []) (set-g 255) ∙ sym (append_assoc (concat o.front ++ 255 ∷ o.bytes) (b ∷ []) (x ∷ [])) ∙ ap (λ (l : List ℕ). l ++ x ∷ []) (append_assoc (concat o.front) (255 ∷ o.bytes) (b ∷ [])) in (
         h,
         record {
@@ -147,7 +145,7 @@ module _ (m f g : List ℕ) (index code : ℕ) (o : IsOpenFrame f m index code) 
           begins = sym len ∙ ap length (sym (concat-append o.front (block ∷ []) ∙ ap (λ (l : List ℕ). concat o.front ++ l) (append-nil block)));
           not_full = omega arith;
         },
-        (x, out ∙ sym (ap (λ (l : List ℕ). set l (index + 255) x) whole ∙ set_at p 1 [] x (index + 255) len)),
+        (x, out ∙ sym (ap (λ (l : List ℕ). set l (index + 255) x) whole ∙ set_at _ 1 [] x (index + 255) len)),
       )
 
 -- what a caller has who carried out the answers ends with the open block

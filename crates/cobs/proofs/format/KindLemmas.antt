@@ -95,9 +95,8 @@ module _ (bytes : List ℕ) (read : ℕ) (behind_full : Bool) (b : BlocksBehind 
   unfolding parts parts_after
   broken-kind short =
       λ frame.
-      let cs : List (List ℕ) = frame.1.blocks in
-      let same : cs ≡ b.front ++ parts (code ∷ drop (read + 1) bytes) =
-      sym (parts-frame bytes cs frame.1.frame) ∙ ap parts b.joined ∙ parts-append b.front (drop read bytes) b.each ∙ ap (λ (x : List ℕ). b.front ++ parts x) cons in
+      let same : _ ≡ b.front ++ parts (code ∷ drop (read + 1) bytes) =
+      sym (parts-frame bytes _ frame.1.frame) ∙ ap parts b.joined ∙ parts-append b.front (drop read bytes) b.each ∙ ap (λ (x : List ℕ). b.front ++ parts x) cons in
       let blocks : All IsBlock (parts (code ∷ drop (read + 1) bytes)) = All-right b.front (parts (code ∷ drop (read + 1) bytes)) (subst (All IsBlock) same frame.1.frame.each) in
       let first = All-head IsBlock (code ∷ take (code - 1) (drop (read + 1) bytes)) (parts_after (code - 1) (drop (read + 1) bytes)) blocks in
       let l = length-take (code - 1) (drop (read + 1) bytes) in

@@ -1,5 +1,5 @@
 -- Lemmas on the length of an encoded frame.
-use Rattle.std.proofs.Common.{replicate, drop, take, get_or, take_all, length-take-le, take-append-drop, ◌≡◌, ◌≢◌, ℕ, ◌+◌, ◌<◌, ◌≤◌, ◌==◌, false, List, [], ◌∷◌, ◌++◌, length, map, All, refl, sym, ap, ◌∙◌, subst, arith, length-append}
+use Rattle.std.proofs.Common.{drop, take, get_or, take_all, length-take-le, take-append-drop, ◌≡◌, ◌≢◌, ℕ, ◌+◌, ◌<◌, ◌≤◌, ◌==◌, false, List, [], ◌∷◌, ◌++◌, length, map, All, refl, sym, ap, ◌∙◌, subst, arith, length-append}
 use Rattle.std.specs.List.{onto_first, join_with_byte}
 use Rattle.std.proofs.lemmas.Bool.{ne_eqb}
 use Rattle.std.proofs.lemmas.List.{length-replicate, length-drop, drop-drop, drop_more}
@@ -70,10 +70,9 @@ encoded_len-nonzero m h = grind (arith, slice_split_none, no_zero)
 
 pub encoded_len-reached : (n : ℕ) → (m : List ℕ) × (length m ≡ n) × All (λ byte. byte < 256) m × (encoded_len m ≡ max_encoded_len n)
 encoded_len-reached n =
-    let ones : List ℕ = replicate n 1 in
-    let l : length ones ≡ n = length-replicate n 1 in
-    let h = encoded_len-nonzero ones (All-replicate (λ byte. byte ≢ 0) n 1 (λ e. cc)) in
-    (ones, l, All-replicate (λ byte. byte < 256) n 1 (omega arith), h ∙ ap max_encoded_len l)
+    let l : length _ ≡ n = length-replicate n 1 in
+    let h = encoded_len-nonzero _ (All-replicate (λ byte. byte ≢ 0) n 1 (λ e. cc)) in
+    (_, l, All-replicate (λ byte. byte < 256) n 1 (omega arith), h ∙ ap max_encoded_len l)
 
 -- the bound, for the tactics of a function
 pub ruleset bounds = encoded_len-le

@@ -138,11 +138,9 @@ IsFirst-block c bytes (d ∷ ds) h =
 -- the first blocks of one message are one
 same_first : (c d : ℕ) (a b : List ℕ) (bs cs : List (List ℕ)) → All IsBlock ((c ∷ a) ∷ bs) → All IsBlock ((d ∷ b) ∷ cs) → message_of ((c ∷ a) ∷ bs) ≡ message_of ((d ∷ b) ∷ cs) → c ∷ a ≡ d ∷ b
 same_first c d a b bs cs h i e =
-    let m : List ℕ = message_of ((c ∷ a) ∷ bs) in
-    let k : List ℕ = message_of ((d ∷ b) ∷ cs) in
-    let len : length a ≡ length b = one_first 254 k (length a) (length b) (subst (λ (l : List ℕ). IsFirst 254 l (length a)) e (IsFirst-block c a bs h)) (IsFirst-block d b cs i) in
+    let len : length a ≡ length b = one_first 254 _ (length a) (length b) (subst (λ (l : List ℕ). IsFirst 254 l (length a)) e (IsFirst-block c a bs h)) (IsFirst-block d b cs i) in
     let wa = message-first c a bs in let wb = message-first d b cs in
-    let front_a : take (length a) m ≡ a = ap (take (length a)) wa.1 ∙ take_at a wa.0 (length a) refl in
+    let front_a : take (length a) _ ≡ a = ap (take (length a)) wa.1 ∙ take_at a wa.0 (length a) refl in
     grind (arith, take_at, All-head)
 
 -- where the first block is the last, canonical blocks have no more

@@ -16,7 +16,6 @@ use Rattle.cobs.specs.contracts.dec.buffered.CobsDecoder as S
 use Rattle.cobs.proofs.dec.buffered.CobsDecoder.TheLaws.{the_loose}
 use seplogic.Ra.Ura.{Ura}
 use Prim.Native.Nat.{ℕ, ◌+◌, ◌*◌, ◌^◌}
-use lib.ListN.{length}
 use base.Fraction.{full_share}
 use mir.Val.{Val}
 use types.Kit.{‵, ◌⊛◌, some, later, ◌$◌, ◌∵◌, !, qed, done, move, keep, drop, use1, use2, use3, split, split3, join, fsplit3, fjoin, fjoin3, feq_l, feq_i, flt_l, flt_i, pick, await, rewrite, suffices, frame}
@@ -96,8 +95,6 @@ module _ {M : Type 1} (𝓤 : Ura M) (𝓛 : Logic 𝓤) (𝓜 : Model 𝓤 𝓛
       (λ κs. (mut_vals, tt)) (λ κs. (mut_Tells (named 0) κs.0 (S.the_row (at κs.1.0)), tt)) (λ κs qs bounds a _ are.
       let κ : Lft = κs.0 in let κ' : Lft = κs.1.0 in let q = qs.0 in
       let b : ℕ = a.0.ref_ptr.0 in let o : ℕ = a.0.ref_ptr.1 in let d : CobsDecoder = a.0.now in let y = d.dest in
-      let n : ℕ = length y.now in
-      let γ : GName = a.0.ghost_name in
       let R : RattleType = S.the_row (at κ') in
       let F : RattleType = MutSlice (named 1) κ' u8 in
       let τ : Ty = ty_ref erased mut (ty_int w8) in
@@ -106,8 +103,8 @@ module _ {M : Type 1} (𝓤 : Ura M) (𝓛 : Logic 𝓤) (𝓜 : Model 𝓤 𝓛
       split ! $ split ! $ move ! (2 ∷ []) $ split ! $ keep ! (0 ∷ 2 ∷ 3 ∷ []) $
       enter ! _ _ _ _ _ $ alloc_all ! (λ l. pass_all ! refl ((tt, tt), tt) $
       fsplit3 ! $ drop ! $
-      use3 𝓛 (later (some (λ (γ₁ : GName). ‵ (fobs γ₁ (F.coded.code y)) ⊛ ‵ (fbor κ (Body (mem F) b (o + 0) γ₁)) ⊛ ‵ (flft κ q) ⊛ ‵ (follows R F γ γ₁ (λ w. record d { dest = w })))))
-      (hands 𝓛 κ' d κ q γ b o) $ await ! tt $ pick ! (λ γ₁. split3 ! $ move ! (2 ∷ []) $ split ! $ move ! (2 ∷ 3 ∷ 0 ∷ []) $
+      use3 𝓛 (later (some (λ (γ₁ : GName). ‵ (fobs γ₁ (F.coded.code y)) ⊛ ‵ (fbor κ (Body (mem F) b (o + 0) γ₁)) ⊛ ‵ (flft κ q) ⊛ ‵ (follows R F _ γ₁ (λ w. record d { dest = w })))))
+      (hands 𝓛 κ' d κ q _ b o) $ await ! tt $ pick ! (λ γ₁. split3 ! $ move ! (2 ∷ []) $ split ! $ move ! (2 ∷ 3 ∷ 0 ∷ []) $
       open_ref ! tt (mem F) {b = b} {o = o + 0} $ use1 𝓛 (some (λ (v : Val). ‵ (fat full_share (slice_ty τ) b (o + 0) v) ⊛ ‵ (F.own_val y (v ∷ [])))) (part_out_at 𝓛 F refl full_share y b (o + 0) (slice_ty τ) refl) $
       pick ! (λ v. split ! $ move ! (1 ∷ []) $ fsplit3 ! $ fsplit3 ! $ feq_l ! (λ ev. flt_l ! (λ fits. flt_l ! (λ small.
       rewrite ! 2 (λ (cv : Val). ‵ (fat full_share (slice_ty τ) b (o + 0) cv)) (ap only ev) refl $
@@ -115,12 +112,12 @@ module _ {M : Type 1} (𝓤 : Ura M) (𝓛 : Logic 𝓤) (𝓜 : Model 𝓤 𝓛
       sets ! (of_opd ! (load ! (through ! refl (fld ! refl (fld ! refl (stop !)))) (look_in ! 2 (sub ! 1 refl (whole !))))) refl (tt, record { fits = fits }) $
       sets ! (addr ! (through ! refl (fld ! refl (fld ! refl (hop ! (look_in ! 2 (sub ! 0 refl (whole !))) (stop !)))))) refl (tt, tt) $
       sets ! (agg ! (and_then ! (get ! refl) (and_then ! (get ! refl) (no_more !)))) refl (tt, (tt, (record { fits = fits }, tt))) $
-      flt_i ! (n * (mem u8).size) (2 ^ 63) small $ flt_i ! n (2 ^ 64) fits $ feq_i ! (List Val) (mut_slice_vals y) (mut_slice_vals y) refl $ fjoin3 ! $ fjoin3 ! $ move ! (1 ∷ 0 ∷ []) $
-      use2 𝓛 (‵ (part_at F full_share y b (o + 0))) (part_in_at 𝓛 F refl full_share y b (o + 0) (slice_ty τ) refl (slice_val y.ref_ptr n)) $
+      flt_i ! (_ * (mem u8).size) (2 ^ 63) small $ flt_i ! _ (2 ^ 64) fits $ feq_i ! (List Val) (mut_slice_vals y) (mut_slice_vals y) refl $ fjoin3 ! $ fjoin3 ! $ move ! (1 ∷ 0 ∷ []) $
+      use2 𝓛 (‵ (part_at F full_share y b (o + 0))) (part_in_at 𝓛 F refl full_share y b (o + 0) (slice_ty τ) refl (slice_val y.ref_ptr _)) $
       close_ref ! tt (mem F) y {b = b} {o = o + 0} $
       use3 𝓛 (later (some (λ (γ' : GName). ‵ ((MutSlice (named 0) κ u8).own_val (renamed y γ') (mut_slice_vals y)) ⊛ ‵ (flft κ q) ⊛ ‵ (follows F (Array u8 0) γ₁ γ' (at_last y)))))
       (lends_inner_slice 𝓛 u8 (named 0) (named 1) κ κ' (record { ref_ptr = (b, o + 0); ghost_name = γ₁; now = y }) bounds.0 (fits, small) q) $ await ! tt $ pick ! (λ γ'. split3 ! $
-      move ! (3 ∷ 2 ∷ []) $ use2 𝓛 (‵ (follows R (Array u8 0) γ γ' (λ w. record d { dest = at_last y w }))) (follows_then 𝓛 R F (Array u8 0) (λ w. record d { dest = w }) (at_last y) γ γ₁ γ') $
+      move ! (3 ∷ 2 ∷ []) $ use2 𝓛 (‵ (follows R (Array u8 0) _ γ' (λ w. record d { dest = at_last y w }))) (follows_then 𝓛 R F (Array u8 0) (λ w. record d { dest = w }) (at_last y) _ γ₁ γ') $
       returns ! (look_at ! 0 refl) $ free_all ! refl $ move ! (1 ∷ 2 ∷ 0 ∷ []) $
-      suffices ! _ (ends_at 𝓛 f.ended stayed c g (slice_val y.ref_ptr n) (renamed y γ') (tt, tt) (tt, tt)) $
+      suffices ! _ (ends_at 𝓛 f.ended stayed c g (slice_val y.ref_ptr _) (renamed y γ') (tt, tt) (tt, tt)) $
       nothing ! $ nothing ! $ fjoin ! $ join ! $ move ! (1 ∷ 3 ∷ []) $ join ! $ join ! $ frame ! $ says ! refl $ done !))))))))

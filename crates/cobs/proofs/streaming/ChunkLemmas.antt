@@ -39,9 +39,8 @@ module _ (before : List ℕ) (phase : Phase) (stretch : List ℕ) (base : ℕ) w
         (set (m.front ++ drop (base + i) before) (base + i) y) (phase_with full' (next' - (i + 1)) (base + (i + 1)))
         → MarkedTo (i + 1) full' next' dest'
     grown i full full' next next' y dest dest' below m onward is l =
-        let buffer : List ℕ = m.front ++ drop (base + i) before in
         let phase' : Phase = phase_with full' (next' - (i + 1)) (base + (i + 1)) in
-        let written : set buffer (base + i) y ≡ (m.front ++ y ∷ []) ++ drop (base + (i + 1)) before
+        let written : set _ (base + i) y ≡ (m.front ++ y ∷ []) ++ drop (base + (i + 1)) before
         = ap (λ (z : List ℕ). set (m.front ++ z) (base + i) y) (drop_more before (base + i) 0 (omega arith))
         ∙ seam m.front (drop (base + i + 1) before) (base + i) (get_or before (base + i) 0) y m.long
         ∙ ap (λ (n : ℕ). (m.front ++ y ∷ []) ++ drop n before) (omega arith) in
@@ -53,7 +52,7 @@ module _ (before : List ℕ) (phase : Phase) (stretch : List ℕ) (base : ℕ) w
           is = is;
           fed = subst (λ (z : List ℕ). FedInTurn before phase z ((m.front ++ y ∷ []) ++ drop (base + (i + 1)) before) phase') (sym (take_more stretch i 0 below))
               (subst (λ (z : List ℕ). FedInTurn before phase (take i stretch ++ get_or stretch i 0 ∷ []) z phase') written
-              (fed-more (take i stretch) before buffer (set buffer (base + i) y) phase (phase_with full (next - i) (base + i)) phase' (get_or stretch i 0) m.fed l));
+              (fed-more (take i stretch) before _ (set _ (base + i) y) phase (phase_with full (next - i) (base + i)) phase' (get_or stretch i 0) m.fed l));
         }
 
     has_room : (i : ℕ) (front : List ℕ) → i < length stretch → length front ≡ base + i → base + i < length (front ++ drop (base + i) before)

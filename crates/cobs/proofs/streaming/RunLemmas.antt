@@ -85,13 +85,12 @@ Pushed-run {buffer₀} {buffer'} {phase₀} {phase'} bytes (x ∷ xs) buffer pha
 pub Pushed-ran : {buffer₀ buffer' : List ℕ} {phase₀ phase' : Phase} (bytes buffer : List ℕ) (phase : Phase) (i m r : ℕ) → i ≤ length bytes → r ≤ length (take m (drop i bytes))
     → Pushed buffer₀ phase₀ buffer phase bytes i → FedInTurn buffer phase (take r (take m (drop i bytes))) buffer' phase' → Pushed buffer₀ phase₀ buffer' phase' bytes (i + r)
 Pushed-ran {buffer₀} {buffer'} {phase₀} {phase'} bytes buffer phase i m r here within s f =
-    let tail : List ℕ = take m (drop i bytes) in
-    let long : length (take r tail) ≡ r = length-take-le r tail within in
-    let most : length tail ≡ min m (length (drop i bytes)) = length-take m (drop i bytes) in
+    let long : length (take r _) ≡ r = length-take-le r _ within in
+    let most : length _ ≡ min m (length (drop i bytes)) = length-take m (drop i bytes) in
     let rest : length (drop i bytes) ≡ length bytes - i = length-drop i bytes in
     subst (λ (k : ℕ). Pushed buffer₀ phase₀ buffer' phase' bytes (i + k)) long
-    (Pushed-run bytes (take r tail) buffer phase i (omega arith)
-    (λ j below. sym (get_or-take r tail j 0 (omega arith) ∙ get_or-take m (drop i bytes) j 0 (omega arith) ∙ get_or-drop i bytes j 0)) s f)
+    (Pushed-run bytes (take r _) buffer phase i (omega arith)
+    (λ j below. sym (get_or-take r _ j 0 (omega arith) ∙ get_or-take m (drop i bytes) j 0 (omega arith) ∙ get_or-drop i bytes j 0)) s f)
 
 -- THE RUN OF A DECODER
 

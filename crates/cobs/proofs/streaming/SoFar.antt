@@ -228,9 +228,8 @@ LeavesRest-start buffer phase = λ p h none. refl
 module _ {buffer₀ buffer buffer' : List ℕ} {phase₀ phase phase' : Phase} {done : List ℕ} {found : List Outcome} {result : Result (Option ℕ) DecodeError} where
   LeavesRest-nonzero : (b : ℕ) → b ≢ 0 → SoFar buffer₀ phase₀ buffer phase done found → LeavesRest buffer₀ phase₀ done buffer → Feeds buffer phase b result buffer' phase' → LeavesRest buffer₀ phase₀ (done ++ b ∷ []) buffer'
   LeavesRest-nonzero b nz s l f = λ p h none.
-      let q = unended (p ++ done) in
-      let behind : unended (p ++ (done ++ b ∷ [])) ≡ q ++ b ∷ [] = unended_on p done b ∙ fed-nonzero q b nz in
-      rw behind (f.untouched q (here s p h) nz ∙ drop-later _ _ _ _ (output-longer q b) (l p h (nothing_before p done b _ none)))
+      let behind : unended (p ++ (done ++ b ∷ [])) ≡ _ ++ b ∷ [] = unended_on p done b ∙ fed-nonzero _ b nz in
+      rw behind (f.untouched _ (here s p h) nz ∙ drop-later _ _ _ _ (output-longer _ b) (l p h (nothing_before p done b _ none)))
 
   LeavesRest-zero : SoFar buffer₀ phase₀ buffer phase done found → LeavesRest buffer₀ phase₀ done buffer → Feeds buffer phase 0 result buffer' phase' → LeavesRest buffer₀ phase₀ (done ++ 0 ∷ []) buffer'
   LeavesRest-zero s l f = grind (arith, outcomes_on, unended_on, nothing_before)
@@ -313,10 +312,9 @@ module _ {buffer₀ buffer buffer' : List ℕ} {phase₀ phase phase' : Phase} {
       → (p : List ℕ) → PhaseAfter (length buffer₀) phase₀ p → stream_outcomes (p ++ bytes) (length buffer₀) ≡ [] → ⊥
   outcome_there end count s t p h none =
       let n = length buffer₀ in
-      let front = take (i + count) bytes in
-      let whole : stream_outcomes (p ++ bytes) n ≡ stream_outcomes (p ++ front) n ++ stream_outcomes (unended (p ++ front) ++ drop (i + count) bytes) n
-      = ap (λ (x : List ℕ). stream_outcomes (p ++ x) n) (sym (take-append-drop (i + count) bytes)) ∙ outcomes_more p front (drop (i + count) bytes) n in
-      let nothing : stream_outcomes (p ++ front) n ≡ [] = left_nothing _ _ (sym whole ∙ none) in
+      let whole : stream_outcomes (p ++ bytes) n ≡ stream_outcomes (p ++ _) n ++ stream_outcomes (unended (p ++ _) ++ drop (i + count) bytes) n
+      = ap (λ (x : List ℕ). stream_outcomes (p ++ x) n) (sym (take-append-drop (i + count) bytes)) ∙ outcomes_more p _ (drop (i + count) bytes) n in
+      let nothing : stream_outcomes (p ++ _) n ≡ [] = left_nothing _ _ (sym whole ∙ none) in
       let nil : found ++ outcome_at end buffer' ∷ [] ≡ [] = alike-nil _ (rw nothing at ((SoFar-piece end count s t).alike p h)) in
       absurd (omega (arith, ap length nil, length-append found (outcome_at end buffer' ∷ [])))
 

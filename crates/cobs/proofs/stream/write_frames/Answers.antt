@@ -35,14 +35,12 @@ overflow_add-end-in-by_message c = let f = fits (goal.at.overflow_add-end-in-by_
 pub by_message-preserved : goal.by_message-preserved
 by_message-preserved c =
     let f = fits (goal.at.by_message-preserved c).After-encode-len in
-    let messages = c.args.messages.now in
-    let i = c.by_message.message-index in
     let e = c.deref.ensures.value in
     let len : c.encode-len.result < length c.encode-len.new.dest = omega arith in
     record {
-      frames = rw (messages_in-more messages i c.message-item.result c.by_message-test.true, ← c.message-item.is, written c.by_message.dest c.encode-len.new.dest _ c.by_message.end c.encode-len.result c.by_message.invariant.in_dest len)
+      frames = rw (messages_in-more _ _ c.message-item.result c.by_message-test.true, ← c.message-item.is, written c.by_message.dest c.encode-len.new.dest _ c.by_message.end c.encode-len.result c.by_message.invariant.in_dest len)
           (AreFrames-push _ _ _ _ c.by_message.invariant.frames (subst (λ (m : List ℕ). IsEncodedFrame (take c.encode-len.result c.encode-len.new.dest) m) e c.encode-len.ensures.frame));
-      within = rw (room-step messages i c.message-item.result c.by_message-test.true c.message-item.is)
+      within = rw (room-step _ _ c.message-item.result c.by_message-test.true c.message-item.is)
           (let most = encoded_len-le c.message-item.result.items in let message : encoded_len c.deref.result.now ≡ encoded_len c.message-item.result.items = ap encoded_len e in omega (arith, c.by_message.invariant.within, c.encode-len.ensures.len));
       in_dest = simp length-set (omega (arith, length-written c.by_message.dest c.encode-len.new.dest c.by_message.end (length c.by_message.dest - c.by_message.end) c.by_message.invariant.in_dest));
     }

@@ -1,5 +1,5 @@
-use Rattle.std.proofs.Common.{◌∙◌, bit_xor, ◌<◌, ℕ, List, get_or, arith, sym, subst}
-use Rattle.std.proofs.lemmas.List.{length-map, get_or-map}
+use Rattle.std.proofs.Common.{◌∙◌, bit_xor, ◌<◌, ℕ, List, get_or, arith, sym, subst, ap, take}
+use Rattle.std.proofs.lemmas.List.{length-map, get_or-map, take_rest}
 use Rattle.std.proofs.lemmas.Bool.{eqb-true, eqb-false, eq-eqb}
 use Rattle.cobs.specs.Sentinel.{xor_each}
 use Rattle.cobs.proofs.decoding.WindowSteps.{code-pos}
@@ -23,22 +23,20 @@ returns-then-code-eq-FULL_CODE c = grind (arith, length-map, code-pos, front-who
 
 pub by_code-preserved : goal.by_code-preserved
 by_code-preserved c =
-    let h : List ℕ = xor_each c.args.sentinel c.args.piece.now in
     let long = length-map c.args.piece.now (λ (byte : ℕ). bit_xor byte c.args.sentinel) in
     let i = c.alike.invariant in
     let w = i.front.within in
-    let pos : 0 < bit_xor (get_or c.args.piece.now c.by_code.read 0) c.args.sentinel = subst (λ (n : ℕ). 0 < n) (sym i.code) (code-pos h c.alike.read c.requires w) in
-    front-more h c.alike.read _ i.front i.code pos (omega arith) c.if-code-eq-FULL_CODE.false
+    let pos : 0 < bit_xor (get_or c.args.piece.now c.by_code.read 0) c.args.sentinel = subst (λ (n : ℕ). 0 < n) (sym i.code) (code-pos _ c.alike.read c.requires w) in
+    front-more _ c.alike.read _ i.front i.code pos (omega arith) c.if-code-eq-FULL_CODE.false
 
 pub alike-preserved : goal.alike-preserved
 alike-preserved c =
-    let h : List ℕ = xor_each c.args.sentinel c.args.piece.now in
     let long = length-map c.args.piece.now (λ (byte : ℕ). bit_xor byte c.args.sentinel) in
     let i = c.alike.invariant in
     let w = i.front.within in
-    let pos : 0 < bit_xor (get_or c.args.piece.now c.by_code.read 0) c.args.sentinel = subst (λ (n : ℕ). 0 < n) (sym i.code) (code-pos h c.alike.read c.requires w) in
+    let pos : 0 < bit_xor (get_or c.args.piece.now c.by_code.read 0) c.args.sentinel = subst (λ (n : ℕ). 0 < n) (sym i.code) (code-pos _ c.alike.read c.requires w) in
     record {
-      front = front-more h c.alike.read _ i.front i.code pos (omega arith) c.if-code-eq-FULL_CODE.false;
+      front = front-more _ c.alike.read _ i.front i.code pos (omega arith) c.if-code-eq-FULL_CODE.false;
       code = sym c.if-piece-read-3.false ∙ sym (get_or-map (λ byte. bit_xor byte c.args.sentinel) c.args.piece.now _ 0 0 (omega arith));
       onward = omega arith;
     }

@@ -11,20 +11,17 @@ by_code-init c = grind (arith, length-map, front-started)
 
 pub returns-then-left-code : goal.returns-then-left-code
 returns-then-left-code c all =
-    let h : List ℕ = xor_each c.args.sentinel c.args.source.now in
     let read : ℕ = c.by_code.read in
     let long = length-map c.args.source.now (λ (byte : ℕ). bit_xor byte c.args.sentinel) in
     let code : ℕ = bit_xor (get_or c.args.source.now read 0) c.args.sentinel in
-    let is : code ≡ get_or h read 0 = sym (get_or-map (λ byte. bit_xor byte c.args.sentinel) c.args.source.now read 0 0 (omega arith)) in
+    let is : code ≡ get_or _ read 0 = sym (get_or-map (λ byte. bit_xor byte c.args.sentinel) c.args.source.now read 0 0 (omega arith)) in
     let ends : length c.args.source.now - read ≡ code = eqb-true _ _ all in
-    let whole = front-whole h read code c.by_code.invariant is (omega arith) (omega arith) in
-    subst IsFlat (take_all (read + code) h (omega arith)) whole.0
+    let whole = front-whole _ read code c.by_code.invariant is (omega arith) (omega arith) in
+    subst IsFlat (take_all (read + code) _ (omega arith)) whole.0
 
 pub by_code-preserved : goal.by_code-preserved
 by_code-preserved c =
     let h : List ℕ = xor_each c.args.sentinel c.args.source.now in
-    let read : ℕ = c.by_code.read in
     let long = length-map c.args.source.now (λ (byte : ℕ). bit_xor byte c.args.sentinel) in
-    let code : ℕ = bit_xor (get_or c.args.source.now read 0) c.args.sentinel in
-    let is : code ≡ get_or h read 0 = sym (get_or-map (λ byte. bit_xor byte c.args.sentinel) c.args.source.now read 0 0 (omega arith)) in
-    front-more h read code c.by_code.invariant is (omega arith) (omega arith) (omega arith)
+    let is : _ ≡ get_or h _ 0 = sym (get_or-map (λ byte. bit_xor byte c.args.sentinel) c.args.source.now _ 0 0 (omega arith)) in
+    front-more h _ _ c.by_code.invariant is (omega arith) (omega arith) (omega arith)

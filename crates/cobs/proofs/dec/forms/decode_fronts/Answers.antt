@@ -75,8 +75,7 @@ pub decode_xored_flat-requires-clause-nonzero : goal.decode_xored_flat-requires-
 decode_xored_flat-requires-clause-nonzero c =
     let at = (goal.at.decode_xored_flat-requires-clause-nonzero c).Joined-not-full in
     let few = cut-few at _ _ (given (goal.at.decode_xored_flat-requires-clause-nonzero c).Then-room-gives) c.if-room-gives.true in
-    let room : ℕ = length c.by_front.dest - c.by_front.written in
-    subst HasNoZero (sym (cut-is at room few.0)) (All-take (λ b. b ≢ 0) (suc room) (part at) (part-nonzero at))
+    subst HasNoZero (sym (cut-is at _ few.0)) (All-take (λ b. b ≢ 0) (suc _) (part at) (part-nonzero at))
 
 pub decode_xored_flat-requires-clause-flat : goal.decode_xored_flat-requires-clause-flat
 decode_xored_flat-requires-clause-flat c =
@@ -89,24 +88,22 @@ unfolding behind
 returns-then-room-gives-clause-answer c =
     let at = (goal.at.returns-then-room-gives-clause-answer c).Joined-not-full in
     let few = cut-few at _ _ (given (goal.at.returns-then-room-gives-clause-answer c).Then-room-gives) c.if-room-gives.true in
-    let new : List ℕ = c.decode_xored_flat.new.dest in
-    let same : length new ≡ length c.by_front.dest - c.by_front.written = c.decode_xored_flat.auto.dest ∙ ap length (take_rest c.by_front.dest c.by_front.written) ∙ length-drop c.by_front.written c.by_front.dest in
+    let same : length _ ≡ length c.by_front.dest - c.by_front.written = c.decode_xored_flat.auto.dest ∙ ap length (take_rest c.by_front.dest c.by_front.written) ∙ length-drop c.by_front.written c.by_front.dest in
     let l = cut-long at _ few.0 in
-    let begins = sym (take_all _ new (omega arith)) ∙ c.decode_xored_flat.ensures.begins ∙ cut-output at _ few.0 in
+    let begins = sym (take_all _ _ (omega arith)) ∙ c.decode_xored_flat.ensures.begins ∙ cut-output at _ few.0 in
     full-count c.args.source.now c.args.sentinel c.args.dest.now c.by_front.dest _ _ c.by_front.invariant c.requires _ (part at) (omega (arith, c.if-len-eq0.false)) (part-within at).0 refl (part-flat at).whole
-    new _ _ refl same refl begins few.2 few.1
+    _ _ _ refl same refl begins few.2 few.1
 
 pub returns-then-room-gives-clause-buffer : goal.returns-then-room-gives-clause-buffer
 unfolding behind
 returns-then-room-gives-clause-buffer c =
     let at = (goal.at.returns-then-room-gives-clause-buffer c).Joined-not-full in
     let few = cut-few at _ _ (given (goal.at.returns-then-room-gives-clause-buffer c).Then-room-gives) c.if-room-gives.true in
-    let new : List ℕ = c.decode_xored_flat.new.dest in
-    let same : length new ≡ length c.by_front.dest - c.by_front.written = c.decode_xored_flat.auto.dest ∙ ap length (take_rest c.by_front.dest c.by_front.written) ∙ length-drop c.by_front.written c.by_front.dest in
+    let same : length _ ≡ length c.by_front.dest - c.by_front.written = c.decode_xored_flat.auto.dest ∙ ap length (take_rest c.by_front.dest c.by_front.written) ∙ length-drop c.by_front.written c.by_front.dest in
     let l = cut-long at _ few.0 in
-    let begins = sym (take_all _ new (omega arith)) ∙ c.decode_xored_flat.ensures.begins ∙ cut-output at _ few.0 in
+    let begins = sym (take_all _ _ (omega arith)) ∙ c.decode_xored_flat.ensures.begins ∙ cut-output at _ few.0 in
     full-buffer c.args.source.now c.args.sentinel c.args.dest.now c.by_front.dest _ _ c.by_front.invariant c.requires _ (part at) (omega (arith, c.if-len-eq0.false)) (part-within at).0 refl (part-flat at).whole
-    new _ _ refl same refl begins few.2 few.1
+    _ _ _ refl same refl begins few.2 few.1
 
 -- all of it fits
 pub decode_xored_flat-requires-in-by_front-clause-nonzero : goal.decode_xored_flat-requires-in-by_front-clause-nonzero
@@ -148,24 +145,23 @@ pub by_front-preserved : goal.by_front-preserved
 by_front-preserved c =
     let at = (goal.at.by_front-preserved c).Joined-not-full in
     let new : List ℕ = c.decode_xored_flat-in-by_front.new.dest in
-    let len : ℕ = c.flat_front-len.result.0 in
     let w = part-within at in
     let l = (part-flat at).len in
     let none = c.if-len-eq0.false in
-    let is = stretch-is c.args.source.now c.args.sentinel _ _ _ _ c.by_front.invariant len (c.by_front.read + len) refl in
+    let is = stretch-is c.args.source.now c.args.sentinel _ _ _ _ c.by_front.invariant _ (c.by_front.read + _) refl in
     let long = sym (ap length is) ∙ length-map _ (λ (b : ℕ). bit_xor b c.args.sentinel) in
     let back = take_rest c.by_front.dest c.by_front.written in
     let same : length new ≡ length c.by_front.dest - c.by_front.written = c.decode_xored_flat-in-by_front.auto.dest ∙ ap length back ∙ length-drop c.by_front.written c.by_front.dest in
-    let less : len - 1 ≡ length (take (c.by_front.read + len - c.by_front.read) (drop c.by_front.read c.args.source.now)) - 1 = omega arith in
+    let less : _ - 1 ≡ length (take (c.by_front.read + _ - c.by_front.read) (drop c.by_front.read c.args.source.now)) - 1 = omega arith in
     let begins = ap (λ (k : ℕ). take k new) less ∙ c.decode_xored_flat-in-by_front.ensures.begins ∙ ap output is in
-    let rest : drop (len - 1) new ≡ drop (len - 1) (drop c.by_front.written c.by_front.dest) =
-    ap (λ (k : ℕ). drop k new) less ∙ c.decode_xored_flat-in-by_front.ensures.rest ∙ ap (λ (k : ℕ). drop k (take (length c.by_front.dest - c.by_front.written) (drop c.by_front.written c.by_front.dest))) (sym less) ∙ ap (drop (len - 1)) back in
-    let fits : len - 1 ≤ length c.by_front.dest - c.by_front.written = elim c.if-due.branch [
+    let rest : drop (_ - 1) new ≡ drop (_ - 1) (drop c.by_front.written c.by_front.dest) =
+    ap (λ (k : ℕ). drop k new) less ∙ c.decode_xored_flat-in-by_front.ensures.rest ∙ ap (λ (k : ℕ). drop k (take (length c.by_front.dest - c.by_front.written) (drop c.by_front.written c.by_front.dest))) (sym less) ∙ ap (drop (_ - 1)) back in
+    let fits : _ - 1 ≤ length c.by_front.dest - c.by_front.written = elim c.if-due.branch [
       | then-due v ↦ omega (arith, v.gives-is, c.if-room-gives.false)
       | else-due v ↦ omega (arith, v.gives-is, c.if-room-gives.false)
     ] in
-    stretch-last c.args.source.now c.args.sentinel c.args.dest.now c.by_front.dest _ _ c.by_front.invariant c.requires len (part at) (omega arith) w.0 refl (part-flat at).whole
-    new (len - 1) _ refl same (omega arith) fits begins rest (due-none at c.if-due-2.false)
+    stretch-last c.args.source.now c.args.sentinel c.args.dest.now c.by_front.dest _ _ c.by_front.invariant c.requires _ (part at) (omega arith) w.0 refl (part-flat at).whole
+    new (_ - 1) _ refl same (omega arith) fits begins rest (due-none at c.if-due-2.false)
 
 pub returns : goal.returns
 returns c = grind (arith, all-count, all-buffer)

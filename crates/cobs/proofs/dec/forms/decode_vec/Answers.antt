@@ -33,15 +33,12 @@ returns-in-Err-clause-room c =
 
 pub returns-in-Ok-clause-reads : goal.returns-in-Ok-clause-reads
 returns-in-Ok-clause-reads c =
-    let f = c.args.source.now in
-    λ found m r. (vector_reads (λ v. v.items) (Ok c.truncate.new.self) (decoded f) f (returns-in-Ok-clause-message c) tt refl (bytes_below f c.type_inv.source) (frame_piece r) found m).1 r
+    λ found m r. (vector_reads (λ v. v.items) (Ok c.truncate.new.self) (decoded _) _ (returns-in-Ok-clause-message c) tt refl (bytes_below _ c.type_inv.source) (frame_piece r) found m).1 r
 
 pub returns-in-Ok-clause-only : goal.returns-in-Ok-clause-only
 returns-in-Ok-clause-only c =
-    let f = c.args.source.now in
-    λ piece m told. (vector_reads (λ v. v.items) (Ok c.truncate.new.self) (decoded f) f (returns-in-Ok-clause-message c) tt refl (bytes_below f c.type_inv.source) piece tt m).0 told
+    λ piece m told. (vector_reads (λ v. v.items) (Ok c.truncate.new.self) (decoded _) _ (returns-in-Ok-clause-message c) tt refl (bytes_below _ c.type_inv.source) piece tt m).0 told
 
 pub returns-in-Err-clause-reads : goal.returns-in-Err-clause-reads
 returns-in-Err-clause-reads c =
-    let f = c.args.source.now in
-    λ found m r. (vector_reads (λ v. v) (Err (Decode c.in-Err.error)) (decoded f) f tt (returns-in-Err-clause-refused c) refl (bytes_below f c.type_inv.source) (frame_piece r) found m).1 r
+    λ found m r. (vector_reads (λ v. v) (Err (Decode c.in-Err.error)) (decoded _) _ tt (returns-in-Err-clause-refused c) refl (bytes_below _ c.type_inv.source) (frame_piece r) found m).1 r

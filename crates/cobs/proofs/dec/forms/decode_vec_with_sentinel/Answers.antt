@@ -40,18 +40,15 @@ returns-in-Err-clause-room c =
 
 pub returns-in-Ok-clause-reads : goal.returns-in-Ok-clause-reads
 returns-in-Ok-clause-reads c =
-    let f = xor_each c.args.sentinel c.args.source.now in
-    λ found m r. (head_vector_reads (λ v. v.items) (Ok c.truncate.new.self) (decoded_head f) f (returns-in-Ok-clause-message c) tt refl
+    λ found m r. (head_vector_reads (λ v. v.items) (Ok c.truncate.new.self) (decoded_head _) _ (returns-in-Ok-clause-message c) tt refl
     (xor_below c.args.sentinel c.args.source.now c.ranges.sentinel.fits (bytes_below c.args.source.now c.type_inv.source)) (frame_piece r) found m).1 r
 
 pub returns-in-Ok-clause-only : goal.returns-in-Ok-clause-only
 returns-in-Ok-clause-only c =
-    let f = xor_each c.args.sentinel c.args.source.now in
-    λ piece m told. (head_vector_reads (λ v. v.items) (Ok c.truncate.new.self) (decoded_head f) f (returns-in-Ok-clause-message c) tt refl
+    λ piece m told. (head_vector_reads (λ v. v.items) (Ok c.truncate.new.self) (decoded_head _) _ (returns-in-Ok-clause-message c) tt refl
     (xor_below c.args.sentinel c.args.source.now c.ranges.sentinel.fits (bytes_below c.args.source.now c.type_inv.source)) piece tt m).0 told
 
 pub returns-in-Err-clause-reads : goal.returns-in-Err-clause-reads
 returns-in-Err-clause-reads c =
-    let f = xor_each c.args.sentinel c.args.source.now in
-    λ found m r. (head_vector_reads (λ v. v) (Err (Decode c.in-Err.error)) (decoded_head f) f tt (returns-in-Err-clause-refused c) refl
+    λ found m r. (head_vector_reads (λ v. v) (Err (Decode c.in-Err.error)) (decoded_head _) _ tt (returns-in-Err-clause-refused c) refl
     (xor_below c.args.sentinel c.args.source.now c.ranges.sentinel.fits (bytes_below c.args.source.now c.type_inv.source)) (frame_piece r) found m).1 r

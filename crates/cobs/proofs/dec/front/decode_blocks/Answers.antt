@@ -14,10 +14,9 @@ decode_step-step-requires-clause-begun c = grind (arith, take_rest, head-drop, l
 
 pub returns-then-step-eq0-clause-decoded : goal.returns-then-step-eq0-clause-decoded
 returns-then-step-eq0-clause-decoded c =
-    let source : List ℕ = c.args.source.now in
     let i = c.by_step.invariant in
-    let part = ap head (take_rest source c.by_step.read) ∙ head-drop c.by_step.read source (omega arith) in
-    decoded-joined (head source) c.args.dest.now c.by_step.dest c.by_step.read c.by_step.written i.decoded (omega (arith, i.room)) c.decode_step-step.new.dest _ part
+    let part = ap head (take_rest _ c.by_step.read) ∙ head-drop c.by_step.read _ (omega arith) in
+    decoded-joined (head _) c.args.dest.now c.by_step.dest c.by_step.read c.by_step.written i.decoded (omega (arith, i.room)) c.decode_step-step.new.dest _ part
     _ (take_rest c.by_step.dest c.by_step.written) _ refl _ _ c.decode_step-step.ensures.decoded
 
 pub by_step-preserved : goal.by_step-preserved

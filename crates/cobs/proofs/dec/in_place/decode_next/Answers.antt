@@ -13,10 +13,9 @@ flat_front-front-requires c = grind (arith, xor_each-zero)
 
 pub decode_flat_in_place-requires-clause-nonzero : goal.decode_flat_in_place-requires-clause-nonzero
 decode_flat_in_place-requires-clause-nonzero c =
-    let front : ℕ = c.flat_front-front.result.0 in
     let e = c.flat_front-front.ensures in
-    subst HasNoZero (take-take front c.args.len (drop c.args.from c.args.buffer.now) (front-within c.args.from c.args.len front c.args.buffer.now c.requires.within e.within))
-    (All-take (λ byte. byte ≢ 0) front (take c.args.len (drop c.args.from c.args.buffer.now)) c.requires.nonzero)
+    subst HasNoZero (take-take _ c.args.len (drop c.args.from c.args.buffer.now) (front-within c.args.from c.args.len _ c.args.buffer.now c.requires.within e.within))
+    (All-take (λ byte. byte ≢ 0) _ (take c.args.len (drop c.args.from c.args.buffer.now)) c.requires.nonzero)
 
 pub returns-then-front-gt0-clause-flat : goal.returns-then-front-gt0-clause-flat
 returns-then-front-gt0-clause-flat c some = grind (arith, xor_each-zero)

@@ -1,4 +1,4 @@
-use Rattle.std.proofs.Common.{◌≡◌, ◌+◌, ◌-◌, ◌∙◌, ◌≢◌, length-drop, ℕ, List, take, drop, get_or, refl, ap, arith}
+use Rattle.std.proofs.Common.{◌≡◌, ◌+◌, ◌-◌, ◌∙◌, ◌≢◌, length-drop, ℕ, take, drop, refl, ap, arith}
 use Rattle.std.proofs.lemmas.List.{take_rest}
 use Rattle.cobs.proofs.decoding.WindowSteps.{code-pos, room-zero, room-full, long-decoded, full-decoded, joined-begins, joined-rest, flat-few, flat-one}
 use Rattle.std.proofs.lemmas.List.Elements.{All-drop, All-take, All-same}
@@ -15,17 +15,15 @@ decode_window-step-requires-clause-room c = grind (arith, length-drop, output-lo
 
 pub by_window-smaller-then-code-le-WINDOW : goal.by_window-smaller-then-code-le-WINDOW
 by_window-smaller-then-code-le-WINDOW c =
-    let piece : List ℕ = c.args.piece.now in
-    let nonzero = All-drop (λ b. b ≢ 0) c.by_window.read piece c.requires.nonzero in
-    let part = take_rest piece c.by_window.read in
-    let some = c.decode_window-step.ensures.some (All-take (λ b. b ≢ 0) 33 _ (All-same (λ b. b ≢ 0) _ (drop c.by_window.read piece) part nonzero)) in
+    let nonzero = All-drop (λ b. b ≢ 0) c.by_window.read _ c.requires.nonzero in
+    let part = take_rest _ c.by_window.read in
+    let some = c.decode_window-step.ensures.some (All-take (λ b. b ≢ 0) 33 _ (All-same (λ b. b ≢ 0) _ (drop c.by_window.read _) part nonzero)) in
     omega arith
 
 pub by_window-preserved-then-code-le-WINDOW : goal.by_window-preserved-then-code-le-WINDOW
 by_window-preserved-then-code-le-WINDOW c =
-    let piece : List ℕ = c.args.piece.now in
     let i = c.by_window.invariant in
-    decoded-joined piece c.args.dest.now c.by_window.dest c.by_window.read c.by_window.written i (omega (arith, i.left)) c.decode_window-step.new.dest _ (part-head piece c.by_window.read c.requires.nonzero)
+    decoded-joined _ c.args.dest.now c.by_window.dest c.by_window.read c.by_window.written i (omega (arith, i.left)) c.decode_window-step.new.dest _ (part-head _ c.by_window.read c.requires.nonzero)
     _ (take_rest c.by_window.dest c.by_window.written) _ refl _ _ c.decode_window-step.ensures.decoded
 
 pub slice_bounds-copy_from_slice-end : goal.slice_bounds-copy_from_slice-end
@@ -34,31 +32,28 @@ slice_bounds-copy_from_slice-end c = grind (arith, code-pos, room-full)
 pub bounds-dest-written : goal.bounds-dest-written
 bounds-dest-written c =
     let p = c.by_window.invariant in
-    let code : ℕ = get_or c.args.piece.now c.by_window.read 0 in
     let pos = code-pos c.args.piece.now c.by_window.read c.requires.nonzero p.within in
-    let r = room-zero c.args.piece.now c.args.dest.now c.by_window.dest c.by_window.read c.by_window.written code p refl pos (omega arith) c.if-code-ne-FULL_CODE.true in
+    let r = room-zero c.args.piece.now c.args.dest.now c.by_window.dest c.by_window.read c.by_window.written _ p refl pos (omega arith) c.if-code-ne-FULL_CODE.true in
     omega arith
 
 pub by_window-preserved-then-code-ne-FULL_CODE : goal.by_window-preserved-then-code-ne-FULL_CODE
 by_window-preserved-then-code-ne-FULL_CODE c =
     let p = c.by_window.invariant in
     let read : ℕ = c.by_window.read in
-    let code : ℕ = get_or c.args.piece.now read 0 in
     let pos = code-pos c.args.piece.now read c.requires.nonzero p.within in
-    let n : read + code - (read + 1) ≡ code - 1 = omega arith in
+    let n : read + _ - (read + 1) ≡ _ - 1 = omega arith in
     let part-is = c.copy_from_slice.ensures.after ∙ ap (λ (m : ℕ). take m (drop (read + 1) c.args.piece.now)) n in
-    long-decoded c.args.piece.now c.args.dest.now c.by_window.dest c.by_window.read c.by_window.written code p refl pos (omega arith) _ _ (omega arith) (omega arith) part-is c.if-code-ne-FULL_CODE.true
+    long-decoded c.args.piece.now c.args.dest.now c.by_window.dest c.by_window.read c.by_window.written _ p refl pos (omega arith) _ _ (omega arith) (omega arith) part-is c.if-code-ne-FULL_CODE.true
 
 pub by_window-preserved : goal.by_window-preserved
 by_window-preserved c =
     let p = c.by_window.invariant in
     let read : ℕ = c.by_window.read in
-    let code : ℕ = get_or c.args.piece.now read 0 in
     let pos = code-pos c.args.piece.now read c.requires.nonzero p.within in
-    let r = room-full c.args.piece.now c.args.dest.now c.by_window.dest read c.by_window.written code p refl pos (omega arith) in
-    let n : read + code - (read + 1) ≡ code - 1 = omega arith in
+    let r = room-full c.args.piece.now c.args.dest.now c.by_window.dest read c.by_window.written _ p refl pos (omega arith) in
+    let n : read + _ - (read + 1) ≡ _ - 1 = omega arith in
     let part-is = c.copy_from_slice.ensures.after ∙ ap (λ (m : ℕ). take m (drop (read + 1) c.args.piece.now)) n in
-    full-decoded c.args.piece.now c.args.dest.now c.by_window.dest c.by_window.read c.by_window.written code p refl pos (omega arith) _ _ (omega arith) (omega arith) part-is (omega arith)
+    full-decoded c.args.piece.now c.args.dest.now c.by_window.dest c.by_window.read c.by_window.written _ p refl pos (omega arith) _ _ (omega arith) (omega arith) part-is (omega arith)
 
 pub decode_flat_piece-end-requires-clause-flat : goal.decode_flat_piece-end-requires-clause-flat
 decode_flat_piece-end-requires-clause-flat c = grind (arith, else-by_window-test, flat-few, then-by_window-test+else-code-le-WINDOW+then-piece-read, flat-one, take_rest)

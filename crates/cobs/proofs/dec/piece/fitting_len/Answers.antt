@@ -34,35 +34,32 @@ returns-then-piece-read-clause-front c =
 pub returns-then-piece-read-clause-too_long : goal.returns-then-piece-read-clause-too_long
 returns-then-piece-read-clause-too_long c =
     let piece : List ℕ = c.args.piece.now in
-    let read = c.by_code.read in
-    let left = c.by_code.left in
-    let code : ℕ = get_or piece read 0 in
+    let code : ℕ = get_or piece _ 0 in
     let i = c.by_code.invariant in
     elim c.then-piece-read.either [
       | inl end ↦ (
-          let last = length-output-last piece read i.within end in
+          let last = length-output-last piece _ i.within end in
           (λ less. omega (arith, i.counted), λ long. omega (arith, i.counted))
           )
       | inr inside ↦ (
-          let pos = code-pos piece read c.requires.nonzero i.within in
-          let few : left < code - 1 + length (joint_of code) = elim (joint-length code) [
+          let pos = code-pos piece _ c.requires.nonzero i.within in
+          let few : _ < code - 1 + length (joint_of code) = elim (joint-length code) [
             | inl full ↦ omega (arith, full.0, full.1, c.min-adds.ensures, inside)
             | inr other ↦ omega (arith, other.1, c.min-adds.ensures, inside, pos)
           ] in
-          (λ less. front-too_long piece c.args.room read left code i refl pos (omega (arith, inside)) few, λ long. omega (arith, c.min-adds.ensures, inside))
+          (λ less. front-too_long piece c.args.room _ _ code i refl pos (omega (arith, inside)) few, λ long. omega (arith, c.min-adds.ensures, inside))
           )
     ]
 
 pub by_code-preserved : goal.by_code-preserved
 by_code-preserved c =
-    let piece : List ℕ = c.args.piece.now in
-    let code : ℕ = get_or piece c.by_code.read 0 in
+    let code : ℕ = get_or _ c.by_code.read 0 in
     let i = c.by_code.invariant in
-    let pos = code-pos piece c.by_code.read c.requires.nonzero i.within in
+    let pos = code-pos _ c.by_code.read c.requires.nonzero i.within in
     let byte : code < 256 = (c.type_inv.piece c.by_code.read).fits in
     let sum : c.by_code.left - c.min-adds.result + (code - 1 + length (joint_of code)) ≡ c.by_code.left =
     elim (joint-length code) [
       | inl full ↦ omega (arith, full.0, full.1, c.min-adds.ensures)
       | inr other ↦ omega (arith, other.0, other.1, c.min-adds.ensures)
     ] in
-    front-more-left piece c.args.room c.by_code.read c.by_code.left code i refl pos c.if-piece-read.false _ sum
+    front-more-left _ c.args.room c.by_code.read c.by_code.left code i refl pos c.if-piece-read.false _ sum

@@ -1,5 +1,4 @@
-use Rattle.std.proofs.Common.{◌+◌, ◌-◌, ℕ, List, length, sym, arith}
-use Rattle.cobs.specs.OpenBlock.{CobsEncoderAfter, end_after}
+use Rattle.std.proofs.Common.{◌+◌, ◌-◌, ℕ, length, sym, arith}
 use Rattle.cobs.specs.Fields.Progress.{reached_at}
 use Rattle.cobs.proofs.encoding.MarkLemmas.{WindowTaken, WindowTaken-at, marks-end}
 use Rattle.cobs.proofs.encoding.ShortSteps.{code-inside, code-ordered, marks-within, marks-zeros, all-taken, second-inside, second-ordered, short-fits, short-marks, short-reaches, two-marks, window-front}
@@ -33,18 +32,14 @@ mark_zeros-index-requires c =
 
 pub progress_at-requires-2 : goal.progress_at-requires-2
 progress_at-requires-2 c =
-    let H : List ℕ → Type 0 = CobsEncoderAfter c.args.dest.now (reached_at c.args.progress) in
-    let end : ℕ = end_after (reached_at c.args.progress) c.args.source.now in
-    let len : ℕ = length c.args.source.now in
     let next : ℕ = c.args.progress.index + c.args.progress.code in
     let fits = short-fits c.args.source.now c.args.dest.now c.copy_window-mask.new.dest (reached_at c.args.progress) c.copy_window-mask.result c.requires.code c.requires.some c.requires.few c.requires.open_block c.requires.fits c.copy_window-mask.ensures.copied c.copy_window-mask.ensures.zeros in
     let two = two-marks c.args.source.now c.args.dest.now c.copy_window-mask.new.dest (reached_at c.args.progress) c.copy_window-mask.result c.requires.code c.requires.some c.requires.few c.requires.open_block c.requires.fits c.copy_window-mask.ensures.copied c.copy_window-mask.ensures.zeros c.mark_first-first.new.dest c.mark_first-first.result c.mark_first-first.ensures.code c.mark_first-first.ensures.none c.mark_first-first.ensures.some
     c.mark_first-index.new.dest c.mark_first-index.result c.mark_first-index.ensures.code c.mark_first-index.ensures.none c.mark_first-index.ensures.some in
     let r = short-reaches c.args.source.now c.args.dest.now c.copy_window-mask.new.dest (reached_at c.args.progress) c.copy_window-mask.result c.requires.code c.requires.some c.requires.few c.requires.open_block c.requires.fits c.copy_window-mask.ensures.copied c.copy_window-mask.ensures.zeros in
-    let open' = c.requires.open_block in
-    let taken : WindowTaken H c.args.source.now c.args.dest.now c.if-zeros-ne0.dest end 0 len c.if-zeros-ne0.index next = elim c.if-zeros-ne0.branch [
+    let taken : WindowTaken _ c.args.source.now c.args.dest.now c.if-zeros-ne0.dest _ 0 _ c.if-zeros-ne0.index next = elim c.if-zeros-ne0.branch [
       | then-zeros-ne0+then-is_all_zeros w ↦ WindowTaken-at _ _ _ _ _ _ _ _ _ _ _ (sym w.dest-is) (sym w.index-is)
-          (all-taken H c.args.source.now c.args.dest.now c.copy_window-mask.new.dest end 0 len c.args.progress.index next c.copy_window-mask.result r fits (omega arith) c.requires.some (omega arith) c.copy_window-mask.ensures.zeros (w.is_all_zeros.ensures.0 w.if-is_all_zeros.true).1
+          (all-taken _ c.args.source.now c.args.dest.now c.copy_window-mask.new.dest _ 0 _ c.args.progress.index next c.copy_window-mask.result r fits (omega arith) c.requires.some (omega arith) c.copy_window-mask.ensures.zeros (w.is_all_zeros.ensures.0 w.if-is_all_zeros.true).1
           c.mark_first-first.new.dest c.mark_first-index.new.dest w.write_some_ones.new.dest c.mark_first-first.result _ (omega arith) c.mark_first-first.ensures.code c.mark_first-first.ensures.some c.mark_first-index.ensures.code w.write_some_ones.ensures)
       | else-zeros-ne0 w ↦ WindowTaken-at _ _ _ _ _ _ _ _ _ _ _ (sym w.dest-is) (sym w.index-is)
           (marks-zeros _ _ _ _ _ _ _ _ _ _ _ _ w.mark_zeros-index.ensures two (omega arith))
@@ -53,28 +48,24 @@ progress_at-requires-2 c =
 
 pub returns : goal.returns
 returns c =
-    let H : List ℕ → Type 0 = CobsEncoderAfter c.args.dest.now (reached_at c.args.progress) in
-    let end : ℕ = end_after (reached_at c.args.progress) c.args.source.now in
-    let len : ℕ = length c.args.source.now in
     let next : ℕ = c.args.progress.index + c.args.progress.code in
     let fits = short-fits c.args.source.now c.args.dest.now c.copy_window-mask.new.dest (reached_at c.args.progress) c.copy_window-mask.result c.requires.code c.requires.some c.requires.few c.requires.open_block c.requires.fits c.copy_window-mask.ensures.copied c.copy_window-mask.ensures.zeros in
     let two = two-marks c.args.source.now c.args.dest.now c.copy_window-mask.new.dest (reached_at c.args.progress) c.copy_window-mask.result c.requires.code c.requires.some c.requires.few c.requires.open_block c.requires.fits c.copy_window-mask.ensures.copied c.copy_window-mask.ensures.zeros c.mark_first-first.new.dest c.mark_first-first.result c.mark_first-first.ensures.code c.mark_first-first.ensures.none c.mark_first-first.ensures.some
     c.mark_first-index.new.dest c.mark_first-index.result c.mark_first-index.ensures.code c.mark_first-index.ensures.none c.mark_first-index.ensures.some in
     let r = short-reaches c.args.source.now c.args.dest.now c.copy_window-mask.new.dest (reached_at c.args.progress) c.copy_window-mask.result c.requires.code c.requires.some c.requires.few c.requires.open_block c.requires.fits c.copy_window-mask.ensures.copied c.copy_window-mask.ensures.zeros in
-    let taken : WindowTaken H c.args.source.now c.args.dest.now c.if-zeros-ne0.dest end 0 len c.if-zeros-ne0.index next = elim c.if-zeros-ne0.branch [
+    let taken : WindowTaken _ c.args.source.now c.args.dest.now c.if-zeros-ne0.dest _ 0 _ c.if-zeros-ne0.index next = elim c.if-zeros-ne0.branch [
       | then-zeros-ne0+then-is_all_zeros w ↦ WindowTaken-at _ _ _ _ _ _ _ _ _ _ _ (sym w.dest-is) (sym w.index-is)
-          (all-taken H c.args.source.now c.args.dest.now c.copy_window-mask.new.dest end 0 len c.args.progress.index next c.copy_window-mask.result r fits (omega arith) c.requires.some (omega arith) c.copy_window-mask.ensures.zeros (w.is_all_zeros.ensures.0 w.if-is_all_zeros.true).1
+          (all-taken _ c.args.source.now c.args.dest.now c.copy_window-mask.new.dest _ 0 _ c.args.progress.index next c.copy_window-mask.result r fits (omega arith) c.requires.some (omega arith) c.copy_window-mask.ensures.zeros (w.is_all_zeros.ensures.0 w.if-is_all_zeros.true).1
           c.mark_first-first.new.dest c.mark_first-index.new.dest w.write_some_ones.new.dest c.mark_first-first.result _ (omega arith) c.mark_first-first.ensures.code c.mark_first-first.ensures.some c.mark_first-index.ensures.code w.write_some_ones.ensures)
       | else-zeros-ne0 w ↦ WindowTaken-at _ _ _ _ _ _ _ _ _ _ _ (sym w.dest-is) (sym w.index-is)
           (marks-zeros _ _ _ _ _ _ _ _ _ _ _ _ w.mark_zeros-index.ensures two (omega arith))
     ] in
-    window-front c.args.source.now c.args.dest.now c.if-zeros-ne0.dest (reached_at c.args.progress) (reached_at c.progress_at-2.result) 0 len c.if-zeros-ne0.index next (omega arith) taken (omega arith) c.progress_at-2.ensures
+    window-front c.args.source.now c.args.dest.now c.if-zeros-ne0.dest (reached_at c.args.progress) (reached_at c.progress_at-2.result) 0 _ c.if-zeros-ne0.index next (omega arith) taken (omega arith) c.progress_at-2.ensures
 
 pub returns-then-mask-eq0 : goal.returns-then-mask-eq0
 returns-then-mask-eq0 c =
     let p = c.args.progress in
-    let next : ℕ = p.index + p.code in
     let fits = short-fits c.args.source.now c.args.dest.now c.copy_window-mask.new.dest (reached_at c.args.progress) c.copy_window-mask.result c.requires.code c.requires.some c.requires.few c.requires.open_block c.requires.fits c.copy_window-mask.ensures.copied c.copy_window-mask.ensures.zeros in
     let start = short-marks c.args.source.now c.args.dest.now c.copy_window-mask.new.dest (reached_at c.args.progress) c.copy_window-mask.result c.requires.code c.requires.some c.requires.few c.requires.open_block c.requires.fits c.copy_window-mask.ensures.copied c.copy_window-mask.ensures.zeros in
-    window-front c.args.source.now c.args.dest.now c.copy_window-mask.new.dest (reached_at p) (reached_at c.progress_at.result) 0 (length c.args.source.now) p.index next fits
-    (marks-end _ c.args.source.now c.args.dest.now c.copy_window-mask.new.dest _ 0 (length c.args.source.now) p.index next c.copy_window-mask.result (p.index + 1 - next) start c.if-mask-eq0.true fits) (omega arith) c.progress_at.ensures
+    window-front c.args.source.now c.args.dest.now c.copy_window-mask.new.dest (reached_at p) (reached_at c.progress_at.result) 0 (length c.args.source.now) p.index _ fits
+    (marks-end _ c.args.source.now c.args.dest.now c.copy_window-mask.new.dest _ 0 (length c.args.source.now) p.index _ c.copy_window-mask.result (p.index + 1 - _) start c.if-mask-eq0.true fits) (omega arith) c.progress_at.ensures

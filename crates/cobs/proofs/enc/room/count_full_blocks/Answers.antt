@@ -9,10 +9,8 @@ use Rattle.cobs.proofs.enc.room.count_full_blocks.Goals as goal
 ended : (c : goal.Then-read-source) → c.by_run.counted + (c.by_run.run + c.run_len-more.result - 1) / 254 ≡ blocks_in (behind c.args.run c.args.source.now)
 ended c =
     let source : List ℕ = c.args.source.now in
-    let read : ℕ = c.by_run.read in
-    let more : ℕ = c.run_len-more.result in
-    let nonzero = subst HasNoZero (ap (take more) (take_rest source read)) c.run_len-more.ensures.nonzero in
-    let all = run-more source read c.by_run.run more (omega arith) nonzero in
+    let nonzero = subst HasNoZero (ap (take _) (take_rest source _)) c.run_len-more.ensures.nonzero in
+    let all = run-more source _ c.by_run.run _ (omega arith) nonzero in
     grind (arith, drop_all, blocks_in, behind, blocks-end)
 
 pub overflow_add-result-then-read-source : goal.overflow_add-result-then-read-source

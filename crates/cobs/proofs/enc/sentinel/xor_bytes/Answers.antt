@@ -7,6 +7,5 @@ use Rattle.cobs.proofs.enc.sentinel.xor_bytes.Goals as goal
 pub loop-byte-preserved : goal.loop-byte-preserved
 loop-byte-preserved c =
     let now : List ℕ = c.loop-byte.bytes in
-    let i : ℕ = c.loop-byte.byte-index in
-    let within : i < length now = omega arith in
-    map_over_more (λ b. bit_xor b c.args.sentinel) c.args.bytes.now now i (get_or now i 0) (omega arith) c.loop-byte.invariant (get_or_default now i 0 (get_or now i 0) within)
+    let within : _ < length now = omega arith in
+    map_over_more (λ b. bit_xor b c.args.sentinel) c.args.bytes.now now _ (get_or now _ 0) (omega arith) c.loop-byte.invariant (get_or_default now _ 0 (get_or now _ 0) within)

@@ -35,8 +35,7 @@ returns-in-Some-clause-first g c = λ p h.
 pub returns-in-Some-clause-bound : goal.returns-in-Some-clause-bound
 returns-in-Some-clause-bound g c =
     let t = c.in-Some.ensures.takes in
-    let buffer : List ℕ = g.D.FrameDecoder.bytes c.feed_piece.new.self in
-    next_within c.next_at.result buffer _ (c.next_at.ensures buffer (rw t.takes.len t.within.1))
+    next_within c.next_at.result _ _ (c.next_at.ensures _ (rw t.takes.len t.within.1))
 
 pub returns-in-Some-clause-idle : goal.returns-in-Some-clause-idle
 returns-in-Some-clause-idle g c = DecoderAfter-idle _ _ c.in-Some.ensures.takes.idle

@@ -19,14 +19,12 @@ returns-in-Some-eq0-clause-next g c =
 
 pub by_read-preserved : goal.by_read-preserved
 by_read-preserved g c =
-    let n = c.in-Some-read_some.n in
-    let chunk = c.read_some.new.chunk in
     let r = c.feed_through_end.new.self in
     let e = c.in_default-feed_through_end.ensures in
     let emptied : r.start ≡ r.end = e.same_start ∙ c.by_read.invariant.emptied ∙ sym e.same_end in
     record {
       emptied = emptied;
-      going = Going-push (take n chunk) _ (front_nonempty chunk n (rw c.read_some.array_long c.in-Some-read_some.ensures.bound) c.in-Some-read_some.n-test.1) c.by_read.invariant.going
+      going = Going-push (take _ _) _ (front_nonempty _ _ (rw c.read_some.array_long c.in-Some-read_some.ensures.bound) c.in-Some-read_some.n-test.1) c.by_read.invariant.going
           c.in-Some-read_some.ensures.step e.len (λ q b.
           let t = e.none q b in
           (record { none_ended = t.0.none_ended; after = t.0.after; nothing_kept = empty_range r.chunk r.start r.end emptied }, t.1));

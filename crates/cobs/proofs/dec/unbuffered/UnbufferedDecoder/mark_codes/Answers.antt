@@ -12,11 +12,10 @@ pub by_code-preserved : goal.by_code-preserved
 by_code-preserved c =
     let self = c.args.self.now in
     let stretch : List ℕ = c.args.stretch.now in
-    let x : ℕ = get_or stretch c.by_code.next 0 in
     let next : ℕ = c.in_row.next in
     record {
       long = length-set c.in_row.dest (self.dest_idx + next) 0 ∙ c.in_row.invariant.long;
-      flat = λ more. ne_eqb x 255 (λ e. omega (arith, c.requires.few));
+      flat = λ more. ne_eqb _ 255 (λ e. omega (arith, c.requires.few));
       short = omega arith;
       marked = λ before same e.
           subst (λ (k : ℕ). Marked before (phase_of self) stretch self.dest_idx (eqb k 255) (next + k) (set c.in_row.dest (self.dest_idx + next) 0)) (sym c.in_row.invariant.code)
