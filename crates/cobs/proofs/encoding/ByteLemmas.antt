@@ -1,7 +1,6 @@
 -- What an encoder over a slice has taken after one byte more.
-use Rattle.std.proofs.Common.{◌≡◌, ◌≢◌, ℕ, ◌+◌, ◌-◌, ◌<◌, ◌==◌, true, false, List, [], ◌∷◌, ◌++◌, length, take, replicate, refl, ap, ◌∙◌, arith, append-nil}
+use Rattle.std.proofs.Common.{◌≡◌, ◌≢◌, ℕ, ◌+◌, ◌-◌, ◌<◌, true, false, List, [], ◌∷◌, ◌++◌, length, take, replicate, refl, ap, ◌∙◌, arith, append-nil}
 use Rattle.std.proofs.Math.ListN.{set}
-use Rattle.std.proofs.lemmas.Bool.{ne_eqb}
 use Rattle.std.proofs.lemmas.List.{drop-set, length-set, take-set-le}
 use Rattle.std.proofs.lemmas.List.Elements.{All-cons, All-nil}
 use Rattle.cobs.specs.Grammar.{HasNoZero}
@@ -56,6 +55,5 @@ pub after-zero : (slice m : List ℕ) (r : Reached) → CobsEncoderAfter slice r
 after-zero slice m r h fits =
     let code : ℕ = r.block.code in
     let l = length-set slice r.block.index code in
-    let other : (code == 255) ≡ false = ne_eqb code 255 (λ e. omega arith) in
     let closed = Opened-close slice m r.block.index (next_of r) code r.full (omega arith) refl (opened slice m r h fits) in
     grind (arith, to_after)

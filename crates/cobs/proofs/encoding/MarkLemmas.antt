@@ -179,7 +179,6 @@ pub marks-end : (H : List ℕ → Type 0) (source old slice : List ℕ) (end rea
     → WindowTaken H source old slice end read len index next
 marks-end H source old slice end read len index next zeros d s none fits =
     let all : count_trailing_zeros 64 zeros ≡ 64 = ap (count_trailing_zeros 64) none ∙ trailing_of_zero 64 in
-    let sum' : next + d + (len - d) ≡ next + len = omega arith in
     let nonzero = mask_behind-none d (take (len - d) (drop (read + d) source)) (sym s.bits ∙ none) in
     let joined = Reaches-join H source old slice end (read + d) index (next + d) (λ full. 0 < d → full ≡ false) IsNotFull (len - d) (omega arith) (omega arith) fits nonzero s.here (λ full z p. p (omega arith)) (λ z. refl) s.reaches in
     grind (arith, Reaches-at, joined)

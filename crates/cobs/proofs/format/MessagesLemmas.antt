@@ -52,7 +52,6 @@ room-step vectors i vector within is = grind (arith, room-more)
 pub written : (dest new behind : List ℕ) (end len : ℕ) → end ≤ length dest → len < length new
     → take (end + (len + 1)) (set (take end dest ++ (new ++ behind)) (end + len) 0) ≡ take end dest ++ take len new ++ 0 ∷ []
 written dest new behind end len within room =
-    let long : length (take end dest) ≡ end = length-take end dest ∙ omega arith in
     grind (arith, common_steps, take_more_set, length-append, take-append-add, take-append-le)
 
 -- such a list is as long as what was written

@@ -13,9 +13,8 @@ mark_front-front-requires-clause-nonzero c =
 
 pub returns-clause-rest : goal.returns-clause-rest
 returns-clause-rest c =
-    let old : List ℕ = c.args.buffer.now in
     let new : List ℕ = c.mark_front-front.new.rest in
     let front : ℕ = c.mark_front-front.result.0 in
     let e = c.mark_front-front.ensures in
-    let back = take_rest old 1 in
+    let back = take_rest c.args.buffer.now 1 in
     grind (arith, marked-buffer, whole-buffer, first-rest-empty, first-rest)

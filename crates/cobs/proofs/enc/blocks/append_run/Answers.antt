@@ -33,7 +33,6 @@ by_block-init c =
 -- a full block is closed, since the run goes on
 pub by_block-preserved-then-lacking-eq0 : goal.by_block-preserved-then-lacking-eq0
 by_block-preserved-then-lacking-eq0 c =
-    let r₀ = reached_at c.args.progress in
     let dest : List ℕ = c.by_block.dest in
     let read : ℕ = c.by_block.read in
     let index : ℕ = c.by_block.index in
@@ -48,7 +47,6 @@ by_block-preserved-then-lacking-eq0 c =
 -- a stretch of the run joins the open block
 pub by_block-preserved : goal.by_block-preserved
 by_block-preserved c =
-    let r₀ = reached_at c.args.progress in
     let r = c.by_block.invariant.reaches in
     let within = c.run_len-run.ensures.within in
     let nonzero = c.run_len-run.ensures.nonzero in

@@ -1,4 +1,4 @@
-use Rattle.std.proofs.Common.{◌≡◌, ◌<◌, ◌+◌, ◌-◌, ◌/◌, ℕ, List, length, drop, take, ap, subst, arith, length-drop, length-take-le}
+use Rattle.std.proofs.Common.{◌≡◌, ◌+◌, ◌-◌, ◌/◌, ℕ, List, drop, take, ap, subst, arith, length-drop, length-take-le}
 use Rattle.std.proofs.lemmas.Bool.{eqb-true}
 use Rattle.std.proofs.lemmas.List.{drop_all, get_or-take, get_or-drop, take_rest, drop_more}
 use Rattle.cobs.specs.Grammar.{HasNoZero}
@@ -27,7 +27,6 @@ stopped c =
     let read : ℕ = c.by_run.read in
     let more : ℕ = c.run_len-more.result in
     let rest = take_rest source read in
-    let lt : read + more < length source = omega arith in
     let nonzero = subst HasNoZero (ap (take more) rest) c.run_len-more.ensures.nonzero in
     let all = run-more source read c.by_run.run more (omega arith) nonzero in
     grind (arith, get_or-drop, drop_more, blocks-zero)
