@@ -1,8 +1,6 @@
 -- Lemmas on the mask of the zeros among bytes.
-use Rattle.std.proofs.Common.{min, ◌≡◌, ◌≢◌, ℕ, ◌+◌, ◌-◌, ◌*◌, ◌/◌, ◌%◌, ◌^◌, ◌<◌, ◌≤◌, cond, eqb, not, Bool, true, false, List, [], ◌∷◌, ◌++◌, length, map, drop, take, get_or, replicate, All, if◌then◌else◌, ◌==◌, suc, zero, refl, sym, ap, ◌∙◌, subst, inl, inr, arith, length-take-le, length-append, length-drop, append_assoc, w8, w64}
-use Rattle.std.proofs.Math.ListN.{set}
-use mir.Val.{bool_byte}
-use Rattle.std.proofs.Math.Nat.{pow-suc, mul_comm, mul_assoc, mul-one, pow-le-pow_right}
+use Rattle.std.proofs.Common.{min, ◌≡◌, ◌≢◌, ℕ, ◌+◌, ◌-◌, ◌*◌, ◌/◌, ◌%◌, ◌^◌, ◌<◌, ◌≤◌, cond, eqb, not, Bool, true, false, List, [], ◌∷◌, ◌++◌, length, map, drop, take, get_or, replicate, All, if◌then◌else◌, ◌==◌, suc, zero, refl, sym, ap, ◌∙◌, subst, inl, inr, arith, length-take-le, length-append, w8, w64}
+use Rattle.std.proofs.Math.Nat.{pow-suc, pow-le-pow_right}
 use Rattle.std.proofs.lemmas.Bool.{ne_eqb, eq-eqb, eqb-true, not-true, not-false, cases_eq, cases_lt}
 use Rattle.std.proofs.lemmas.List.{get_or-take, drop-drop, length-map, length-replicate, take-take}
 use Rattle.std.proofs.Math.Seq.{drop-append-add}

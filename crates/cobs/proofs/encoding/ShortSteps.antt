@@ -1,5 +1,5 @@
 -- The steps of the encoder through a source that can't fill the open block: zeros marked without asking whether there are any.
-use Rattle.std.proofs.Common.{◌≡◌, ◌≢◌, ℕ, ◌+◌, ◌-◌, ◌%◌, ◌^◌, ◌<◌, ◌≤◌, Bool, false, List, ◌++◌, length, drop, take, replicate, refl, sym, ap, ◌∙◌, subst, inl, inr, arith, length-append, length-take-le, length-drop}
+use Rattle.std.proofs.Common.{◌≡◌, ◌≢◌, ℕ, ◌+◌, ◌-◌, ◌%◌, ◌^◌, ◌<◌, ◌≤◌, false, List, ◌++◌, length, drop, take, replicate, refl, sym, ap, ◌∙◌, subst, inl, inr, arith, length-append, length-take-le, length-drop}
 use Rattle.std.proofs.Math.ListN.{set}
 use Rattle.std.proofs.Math.Seq.{take-set-lt}
 use Rattle.std.proofs.lemmas.Bool.{cases_eq}
@@ -10,7 +10,6 @@ use Rattle.std.specs.Int.Count.{count_trailing_zeros, trailing_of_zero}
 use Rattle.std.specs.Int.Bits.{bit_and}
 use Rattle.std.proofs.lemmas.Grind.{common_steps}
 use Rattle.cobs.specs.Internal.Mask.{zero_mask}
-use Rattle.cobs.proofs.encoding.OpenedLemmas.{Opened}
 use Rattle.cobs.proofs.bytes.MaskLemmas.{zero_mask-all, zero_mask-lt, lowest_bit, lowest-ordered, lowest-within, nonzero_len}
 use Rattle.cobs.proofs.encoding.ReachLemmas.{Reaches, least}
 use Rattle.cobs.proofs.encoding.MarkLemmas.{Marks, copied-reaches, length-after, marks-start, marks-step, marks-end, place-le, place-lt, WindowTaken, WindowTaken-at, row-taken}

@@ -1,5 +1,5 @@
-use Rattle.std.proofs.Common.{◌∙◌, bit_xor, ◌<◌, ℕ, List, get_or, arith, sym, subst, ap, take}
-use Rattle.std.proofs.lemmas.List.{length-map, get_or-map, take_rest}
+use Rattle.std.proofs.Common.{◌∙◌, bit_xor, ◌<◌, ℕ, get_or, arith, sym, subst}
+use Rattle.std.proofs.lemmas.List.{length-map, get_or-map}
 use Rattle.std.proofs.lemmas.Bool.{eqb-true, eqb-false, eq-eqb}
 use Rattle.cobs.specs.Sentinel.{xor_each}
 use Rattle.cobs.proofs.decoding.WindowSteps.{code-pos}
