@@ -13,7 +13,7 @@
 #
 # For each block it prints a line, in the order of the file: its name, the function that was rejected, and which of its
 # clauses; if a loop invariant is left without a proof, the loop's name, after the word 'loop'.
-# A block takes from five seconds to three minutes, all of them an hour of a processor, so this is no part of the gate.
+# A block takes from five seconds to three minutes, all of them one to two hours of a processor, so this is no part of the gate.
 # The status is 0 if each was rejected.
 set -u
 
