@@ -15,4 +15,4 @@ watch=$PWD/crates/cobs_watch/out/cobs_watch
 python3 tests/watch/drive.py "$watch"
 
 cc -O2 -Wall -Wextra -Werror -o "$room/plain" tests/watch/plain.c
-python3 tests/watch/speed.py "$watch" "$room/plain" "${WATCH_MIB:-64}"
+python3 tests/watch/speed.py "$watch" "$room/plain" "${WATCH_MIB:-32}"
