@@ -79,7 +79,7 @@ try {
   await check("webkit: the page is drawn", async () => {
     await go("#message");
     await until(() => value("document.documentElement.dataset.ready === 'yes'"));
-    equal(await value("document.querySelector('#message-frame').textContent"), "03 0a 0b 02 0c", "the frame");
+    await until(() => value("document.getElementById('message-frame').textContent === '03 0a 0b 02 0c'"));
     await until(() => value("document.querySelectorAll('#message-drawing .arc').length === 2"));
     await value("document.getElementById('tab-stream').click()");
     await until(() => value("document.getElementById('stream-status').textContent.includes('7 pieces: 5 messages')"));
