@@ -8,5 +8,4 @@ pub mod UniqueLemmas
 pub mod EnumerationLemmas
 pub mod SentinelLemmas
 pub mod KindLemmas
-pub mod BlockLemmas
 pub mod MessagesLemmas

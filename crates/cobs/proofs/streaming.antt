@@ -1,5 +1,4 @@
 -- Bytes as they come: steps of the decoders, pushes, pieces, readers.
-pub mod ChunkLemmas
 pub mod FeedLemmas
 pub mod PushLemmas
 pub mod RunLemmas
@@ -7,7 +6,6 @@ pub mod SoFar
 pub mod ReadingLemmas
 pub mod StretchLemmas
 pub mod BorrowedSlice
-pub mod StepLemmas
 pub mod PushHeadline
 pub mod TakenLemmas
 pub mod TableLemmas

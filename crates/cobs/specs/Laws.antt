@@ -1,9 +1,9 @@
 -- Words of the laws.
-use Rattle.std.specs.Prelude.{◌≡◌, ℕ, List, [], ◌∷◌, ◌++◌, ◌⊎◌}
+use Rattle.std.specs.Prelude.{◌≡◌, ◌≢◌, ℕ, List, [], ◌∷◌, ◌++◌, ◌⊎◌}
 use Rattle.std.specs.List.{concat}
 use Rattle.cobs.specs.Grammar.{HasNoZero, lone_block, IsEncodedFrame}
 use Rattle.cobs.specs.Length.{EndsInFullRun}
-use Rattle.cobs.specs.Stream.{stream_outcomes, unended}
+use Rattle.cobs.specs.Stream.{ended_pieces, stream_outcomes, unended}
 
 -- f is the encoded frame of m or, where m ends in a full run, that frame and the lone block after it
 abbrev pub IsFrameFor : List ℕ → List ℕ → Type 0
@@ -29,3 +29,5 @@ pub record StreamLaw : Type 0 where
   pub begun : (x : List ℕ) → HasNoZero (unended x)
   pub same : (x : List ℕ) → HasNoZero x → unended x ≡ x
   pub none : (x : List ℕ) (n : ℕ) → HasNoZero x → stream_outcomes x n ≡ []
+  pub pieces : (x y : List ℕ) → ended_pieces (x ++ y) ≡ ended_pieces x ++ ended_pieces (unended x ++ y)
+  pub piece : (x : List ℕ) → x ≢ [] → HasNoZero x → ended_pieces (x ++ 0 ∷ []) ≡ x ∷ []

@@ -51,8 +51,7 @@ pub fn encode(source: &[u8], dest: &mut [u8]) -> usize
     ensures rest { drop result dest.new ≡ drop result dest.old }
 {
     if 0 < source.len() && source.len() <= WINDOW {
-        let start = EncoderProgress::start();
-        let progress = append_short(source, dest, start, false);
+        let progress = append_short(source, dest, EncoderProgress::start(), false);
         return close(dest, progress);
     }
     encode_long(source, dest)
@@ -104,6 +103,7 @@ fn encode_long(source: &[u8], dest: &mut [u8]) -> usize
 /// assert_eq!(rt; try_encode(b"hell", &mut dest), Ok(5));
 /// assert_eq!(rt; &dest, b"\x05hell");
 /// ```
+#[tactic(auto, using(crate::proofs::format::LengthLemmas::bounds))]
 pub fn try_encode(source: &[u8], dest: &mut [u8]) -> Result<usize, DestBufTooSmallError>
     ensures fits { IsOk result ↔ (encoded_len source.now ≤ length dest.old) }
     ensures frame { IfOk result (λ n. IsEncodedFrame (take n dest.new) source.now) }
@@ -112,24 +112,8 @@ pub fn try_encode(source: &[u8], dest: &mut [u8]) -> Result<usize, DestBufTooSma
     ensures rest { IfOk result (λ n. drop n dest.new ≡ drop n dest.old) }
     ensures refused { OnErr result (dest.new ≡ dest.old) }
 {
-    if source.len() < dest.len().min(FULL_CODE) {
-        return Ok(encode(source, dest));
-    }
-    try_encode_long(source, dest)
-}
-
-/// Does what [`try_encode`] does, for messages that may fill a block, or may not fit: a function of its own, so that a
-/// short message doesn't pay for the question.
-#[inline(never)]
-fn try_encode_long(source: &[u8], dest: &mut [u8]) -> Result<usize, DestBufTooSmallError>
-    ensures fits { IsOk result ↔ (encoded_len source.now ≤ length dest.old) }
-    ensures frame { IfOk result (λ n. IsEncodedFrame (take n dest.new) source.now) }
-    ensures no_sentinel { IfOk result (λ n. HasNoZero (take n dest.new)) }
-    ensures len { IfOk result (λ n. n ≡ encoded_len source.now) }
-    ensures rest { IfOk result (λ n. drop n dest.new ≡ drop n dest.old) }
-    ensures refused { OnErr result (dest.new ≡ dest.old) }
-{
-    if !fits(1, source, dest.len()) {
+    // A message that can't fill a block is seen to fit at once.
+    if source.len() >= dest.len().min(FULL_CODE) && !fits(1, source, dest.len()) {
         return Err(DestBufTooSmallError);
     }
     Ok(encode(source, dest))

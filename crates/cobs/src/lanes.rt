@@ -1,16 +1,13 @@
-//! Stretches of bytes of other lengths than a window's: copied up to a zero, copied or moved if none is a zero or a
-//! sentinel, and moved within one buffer, where the places may overlap. All of a part is loaded before any of it is
-//! stored.
+//! Stretches of bytes of other lengths than a window's: copied up to a zero, copied if none is a sentinel, and moved
+//! within one buffer, where the places may overlap. All of a part is loaded before any of it is stored.
 //!
-//! `copy_to_zero` is for chunks of 64 bytes of a stream, `copy_xored_short` and `move_nonzero_short` are for messages
-//! of up to 64 bytes, as telemetry has, and `move_to_front` is for long ones in place.
+//! `copy_to_zero` is for chunks of 64 bytes of a stream, `copy_xored_short` for messages of up to 64 bytes, as telemetry
+//! has, and `move_to_front` for messages in place.
 ghost use Rattle.std.specs.Prelude.{◌≡◌, ◌<◌, ◌≤◌, ◌+◌, ◌++◌, length, take, drop, IsTrue, false};
 ghost use Rattle.cobs.specs.Grammar.{HasNoZero};
 ghost use Rattle.cobs.specs.Sentinel.{xor_each};
 
-use crate::window::{
-    WIDE_WINDOW, WINDOW, copy_nonzero, copy_window, first_zero_of_few, zeros_at, zeros_two,
-};
+use crate::window::{WIDE_WINDOW, WINDOW, copy_nonzero, copy_window, first_zero_of_few, zeros_at};
 use std::simd::prelude::*;
 
 /// Copies the first `len` of the 32 bytes from `read` on, by one load and one store of a whole window for each number
@@ -161,54 +158,6 @@ pub(crate) fn move_to_front(buffer: &mut [u8], from: usize, len: usize)
         move_two::<2>(buffer, from, len);
     } else if len > 0 {
         move_two::<1>(buffer, from, len);
-    }
-}
-
-/// Moves `N` to `2 * N` bytes if none is a zero, and says whether it did: as two parts that may overlap.
-#[inline(always)]
-fn move_nonzero_two<const N: usize>(buffer: &mut [u8], from: usize, len: usize) -> bool
-    requires lanes { N ≤ 32 }
-    requires within { from + len ≤ length buffer.old }
-    requires some { N ≤ len }
-    requires few { len ≤ N + N }
-    ensures nonzero { IsTrue result → HasNoZero (take len (drop from buffer.old)) }
-    ensures moved { IsTrue result
-        → buffer.new ≡ take len (drop from buffer.old) ++ drop len buffer.old }
-    ensures kept { result ≡ false → buffer.new ≡ buffer.old }
-{
-    if zeros_two::<N>(&buffer[from..from + len]) != 0 {
-        return false;
-    }
-    move_two::<N>(buffer, from, len);
-    true
-}
-
-/// Moves the `len` bytes from `from` on, up to 64, to the front of the buffer, if none is a zero, and says whether it
-/// did; the bytes after them there stay.
-#[inline(always)]
-pub(crate) fn move_nonzero_short(buffer: &mut [u8], from: usize, len: usize) -> bool
-    requires within { from + len ≤ length buffer.old }
-    requires some { 0 < len }
-    requires few { len ≤ 64 }
-    ensures nonzero { IsTrue result → HasNoZero (take len (drop from buffer.old)) }
-    ensures moved { IsTrue result
-        → buffer.new ≡ take len (drop from buffer.old) ++ drop len buffer.old }
-    ensures kept { result ≡ false → buffer.new ≡ buffer.old }
-{
-    if len >= 16 {
-        if len >= 32 {
-            move_nonzero_two::<32>(buffer, from, len)
-        } else {
-            move_nonzero_two::<16>(buffer, from, len)
-        }
-    } else if len >= 8 {
-        move_nonzero_two::<8>(buffer, from, len)
-    } else if len >= 4 {
-        move_nonzero_two::<4>(buffer, from, len)
-    } else if len >= 2 {
-        move_nonzero_two::<2>(buffer, from, len)
-    } else {
-        move_nonzero_two::<1>(buffer, from, len)
     }
 }
 

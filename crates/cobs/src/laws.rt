@@ -1,6 +1,7 @@
 //! What holds of messages, frames, pieces and streams. These functions do nothing when they run: their contracts are
 //! the laws, and a caller who calls one may use it in its own proof. Each has such a caller as its example; `reads_as`
-//! in some of them is the one of CALLING.md.
+//! in some of them is the one of CALLING.md. An example is proved as it is, or with the lines below it: they are the
+//! caller's `Answers.antt`, but for `use Rattle.CRATE.proofs.CALLER.Goals as goal`.
 //!
 //! ```
 //! fn encode_by_longest(source: &[u8], dest: &mut [u8]) -> usize
@@ -21,7 +22,7 @@ ghost use Rattle.cobs.specs.OpenBlock.{CobsEncoderAfter, IsOpenOutput, OpenBlock
 ghost use Rattle.cobs.specs.Piece.{IsWhole, output};
 ghost use Rattle.cobs.specs.Push.{last_piece};
 ghost use Rattle.cobs.specs.Sentinel.{IsFreeOf, xor_each};
-ghost use Rattle.cobs.specs.Stream.{Message, first_piece, head, outcome_of, stream_outcomes, unended};
+ghost use Rattle.cobs.specs.Stream.{Message, ended_pieces, first_piece, head, outcome_of, stream_outcomes, unended};
 
 mod blocks;
 mod coders;
@@ -63,12 +64,17 @@ pub fn law_1()
 /// ```
 /// fn encode_again(message: &[u8], frame: &[u8], dest: &mut [u8]) -> usize
 ///     requires frame { IsEncodedFrame frame.now message.now }
-///     requires room { length frame.now ≤ length dest.old }
+///     requires room { encoded_len message.now ≤ length dest.old }
 ///     ensures { take result dest.new ≡ frame.now }
 /// {
 ///     law_2();
 ///     encode(message, dest)
 /// }
+/// ```
+///
+/// ```antt
+/// pub returns : goal.returns
+/// returns c = c.law_2.ensures.only _ _ _ c.encode.ensures.frame c.requires.frame
 /// ```
 pub fn law_2()
     ensures one { (m : List ℕ) → (f : List ℕ) × IsEncodedFrame f m }
@@ -148,15 +154,17 @@ pub fn law_5()
 /// XOR, and an XOR with 0 changes nothing.
 ///
 /// ```
-/// fn change_sentinel(frame: &mut [u8], sentinel: u8)
-///     ensures changed { frame.new ≡ xor_each sentinel frame.old }
-///     ensures free { IsFrame frame.old → IsFreeOf sentinel frame.new }
+/// fn as_received<'a>(frame: &'a [u8], sentinel: u8) -> &'a [u8]
+///     ensures { IsFrame (xor_each sentinel frame.now) → IsFreeOf sentinel result.now }
 /// {
 ///     law_6();
-///     for byte in frame.iter_mut() {
-///         *byte ^= sentinel;
-///     }
+///     frame
 /// }
+/// ```
+///
+/// ```antt
+/// pub returns : goal.returns
+/// returns c held = c.law_6.ensures.received _ _ held
 /// ```
 pub fn law_6()
     ensures free { (f : List ℕ) (s : ℕ) → IsFrame f → All (λ byte. byte ≢ s) (xor_each s f) }
@@ -182,6 +190,11 @@ pub fn law_6()
 ///     reads_as(received, message, buffer)
 /// }
 /// ```
+///
+/// ```antt
+/// pub returns : goal.returns
+/// returns c lost m is reads = c.law_7.ensures.message _ lost _ m reads (c.reads_as.ensures.0 is).0
+/// ```
 pub fn law_7()
     ensures frame { (p q m : List ℕ) (r : Reads (p ++ q) m) → p ≢ []
         → (IsFrame p ↔ EndsAtBlock p r.blocks) }
@@ -205,6 +218,15 @@ pub fn law_7()
 ///     Ok(both)
 /// }
 /// ```
+///
+/// ```antt
+/// use Rattle.std.proofs.Common.{◌≡◌, ◌++◌, rules, subst, sym}
+/// use Rattle.cobs.specs.Grammar.{IsFrame}
+/// pub returns : goal.returns
+/// returns c m k first second =
+///     let joined : c.extend_from_slice.new.self.items ≡ c.args.first.now ++ c.args.second.now = search rules in
+///     subst IsFrame (sym joined) (_, c.law_8.ensures.joined _ _ _ _ first second)
+/// ```
 pub fn law_8()
     ensures joined { (f m g k : List ℕ) (r : Reads f m) → Reads g k
         → Reads (f ++ g) (m ++ joint (last_of r.blocks) ++ k) }
@@ -212,7 +234,8 @@ pub fn law_8()
 
 /// A stream that is cut in two anywhere: the outcomes of its first part, and then those of the second part after what
 /// the first left unended. What both leave unended is what the second part leaves after that. Behind a zero nothing
-/// is left; bytes without a zero have no outcome, and are all left.
+/// is left; bytes without a zero have no outcome, and are all left. The pieces themselves join as the outcomes do, and
+/// nonzero bytes with a zero behind them are one piece.
 ///
 /// So a receiver may be given a stream in parts of any length, as reads happen to bring it, and gets what one call over
 /// the whole stream would give: `decode_stream`, `push` and `FrameReader` rest on this.
@@ -233,6 +256,17 @@ pub fn law_8()
 ///     Ok((found, decode_stream(alloc, decoder, second)?))
 /// }
 /// ```
+///
+/// ```antt
+/// use Rattle.std.proofs.Common.{[], ◌++◌, length, refl}
+/// pub returns : goal.returns
+/// returns g c =
+///     let first = c.in_ok-found.ensures in
+///     let second = c.in_ok-decode_stream.ensures.outcomes _ (first.after [] c.requires) in
+///     let room = length (g.D.FrameDecoder.bytes c.args.decoder.now) in
+///     let cut = c.law_9.ensures.cut c.args.first.now c.args.second.now room in
+///     rw (first.outcomes [] c.requires, second, first.len, cut) refl
+/// ```
 pub fn law_9()
     ensures cut { (x y : List ℕ) (n : ℕ) →
         stream_outcomes (x ++ y) n ≡ stream_outcomes x n ++ stream_outcomes (unended x ++ y) n }
@@ -241,6 +275,8 @@ pub fn law_9()
     ensures begun { (x : List ℕ) → HasNoZero (unended x) }
     ensures same { (x : List ℕ) → HasNoZero x → unended x ≡ x }
     ensures none { (x : List ℕ) (n : ℕ) → HasNoZero x → stream_outcomes x n ≡ [] }
+    ensures pieces { (x y : List ℕ) → ended_pieces (x ++ y) ≡ ended_pieces x ++ ended_pieces (unended x ++ y) }
+    ensures piece { (x : List ℕ) → x ≢ [] → HasNoZero x → ended_pieces (x ++ 0 ∷ []) ≡ x ∷ [] }
 {}
 
 /// Damage between two sentinels stays between them: what is changed, lost or added there, sentinels too, leaves the
@@ -289,6 +325,11 @@ pub fn law_10()
 ///     law_11();
 ///     encode(message, dest)
 /// }
+/// ```
+///
+/// ```antt
+/// pub returns : goal.returns
+/// returns c n held = c.law_11.ensures.message _ _ n c.encode.ensures.frame.reads held
 /// ```
 pub fn law_11()
     ensures message { (f m : List ℕ) (n : ℕ) → Reads f m → length m ≤ n
@@ -352,6 +393,11 @@ pub fn law_12()
 ///     frame
 /// }
 /// ```
+///
+/// ```antt
+/// pub returns : goal.returns
+/// returns c = c.law_13.ensures.shorter _ _ _ _ c.requires.open c.requires.last_run
+/// ```
 pub fn law_13()
     ensures output { (g m : List ℕ) (state : OpenBlock) → IsOpenOutput g state m
         → (length g ≡ state.index + state.code) × (state.index < length g) }
@@ -376,6 +422,12 @@ pub fn law_13()
 ///     let _ended = decoder.feed(0);
 ///     FrameReader::new(decoder)
 /// }
+/// ```
+///
+/// ```antt
+/// use Rattle.std.proofs.Common.{refl}
+/// pub new-requires : goal.new-requires
+/// new-requires c = (c.law_14.ensures.idle _ _).1 (c.feed-ended.ensures.feeds.zero_idle refl)
 /// ```
 pub fn law_14()
     ensures idle { (buffer : List ℕ) (phase : Phase)

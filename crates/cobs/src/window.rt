@@ -28,7 +28,7 @@ pub(crate) fn zeros_at<const N: usize>(bytes: &[u8], at: usize) -> u64
 
 /// Which of `N` to `2 * N` bytes are zeros, looked at as two parts that may overlap.
 #[inline(always)]
-pub(crate) fn zeros_two<const N: usize>(bytes: &[u8]) -> u64
+fn zeros_two<const N: usize>(bytes: &[u8]) -> u64
     requires lanes { N ≤ 32 }
     requires some { N ≤ length bytes.now }
     requires few { length bytes.now ≤ N + N }
@@ -38,16 +38,18 @@ pub(crate) fn zeros_two<const N: usize>(bytes: &[u8]) -> u64
     zeros_at::<N>(bytes, 0) | (zeros_at::<N>(bytes, start) << start)
 }
 
-/// Which of up to 32 bytes are zeros: bit `i` is set where byte `i` is one. They are looked at as two parts that may
+/// Which of up to 64 bytes are zeros: bit `i` is set where byte `i` is one. They are looked at as two parts that may
 /// overlap.
 #[inline(always)]
 fn zeros_of(bytes: &[u8]) -> u64
     requires some { 0 < length bytes.now }
-    requires few { length bytes.now ≤ 32 }
+    requires few { length bytes.now ≤ 64 }
     ensures { result ≡ zero_mask bytes.now }
 {
     let len = bytes.len();
-    if len >= 16 {
+    if len >= 32 {
+        zeros_two::<32>(bytes)
+    } else if len >= 16 {
         zeros_two::<16>(bytes)
     } else if len >= 8 {
         zeros_two::<8>(bytes)
@@ -60,11 +62,11 @@ fn zeros_of(bytes: &[u8]) -> u64
     }
 }
 
-/// The place of the first zero of up to 32 bytes, or their number if none is a zero.
+/// The place of the first zero of up to 64 bytes, or their number if none is a zero.
 #[inline(always)]
 pub(crate) fn first_zero_of_few(bytes: &[u8]) -> usize
     requires some { 0 < length bytes.now }
-    requires few { length bytes.now ≤ 32 }
+    requires few { length bytes.now ≤ 64 }
     ensures within { result ≤ length bytes.now }
     ensures nonzero { HasNoZero (take result bytes.now) }
     ensures stop { result < length bytes.now → slice_index bytes.now result ≡ 0 }

@@ -7,7 +7,7 @@ ghost use Rattle.cobs.specs.Overwritten.{written_at};
 ghost use Rattle.cobs.specs.Fields.Decoders.{borrowed_buffer, borrowed_phase, borrowed_slice, heapless_buffer, heapless_phase, owned_buffer, owned_phase};
 ghost use Rattle.cobs.specs.Feed.{state_in, Idle, Over, PhaseAfter};
 ghost use Rattle.cobs.specs.Grammar.{HasNoZero, IsEncodedFrame, Reads};
-ghost use Rattle.cobs.specs.Headline.{IsPiece};
+ghost use Rattle.cobs.specs.Headline.{IsPiece, PushesMessage};
 ghost use Rattle.cobs.specs.Length.{encoded_len, max_encoded_len};
 ghost use Rattle.cobs.specs.Sentinel.{IsFreeOf, xor_each};
 ghost use Rattle.cobs.specs.Messages.{AreFrames, messages_in};
@@ -15,10 +15,11 @@ ghost use Rattle.cobs.specs.Table.{data_of};
 
 use cobs::laws::{law_2, law_4};
 use cobs::{
-    CobsDecoder, CobsDecoderHeapless, CobsDecoderOwned, DecodeError, DecodeResult, DecoderState,
-    DestBufTooSmallError, WriteBuffer, decode, decode_with_sentinel, encode_frames,
-    encode_frames_room, encode_including_sentinels, encode_vec, encode_vec_including_sentinels,
-    encode_vec_with_sentinel, encode_with_sentinel, try_encode_including_sentinels,
+    CobsDecoder, CobsDecoderHeapless, CobsDecoderOwned, DecodeError, DecodeReport, DecodeResult,
+    DecoderState, DestBufTooSmallError, PushError, WriteBuffer, decode, decode_with_sentinel,
+    encode_frames, encode_frames_room, encode_including_sentinels, encode_vec,
+    encode_vec_including_sentinels, encode_vec_with_sentinel, encode_with_sentinel,
+    try_encode_including_sentinels,
 };
 use std::alloc::{AllocError, Global};
 
@@ -135,6 +136,16 @@ pub fn push_nothing(decoder: &mut CobsDecoder<'_>)
     let _answer = decoder.push(&[]);
 }
 
+/// Whether a push came to this message, which is then at the buffer's front.
+fn came_to(answer: Result<Option<DecodeReport>, PushError>, buffer: &[u8], message: &[u8]) -> bool
+    ensures { IsTrue result ↔ PushesMessage answer buffer.now message.now }
+{
+    match answer {
+        Ok(Some(report)) => report.frame_size() == message.len() && buffer.starts_with(message),
+        Ok(None) | Err(_) => false,
+    }
+}
+
 /// Whether a push of the piece and its zero reads the message: it does if the message fits the slice.
 pub fn push_reads(decoder: &mut CobsDecoder<'_>, ended: &[u8], piece: &[u8], message: &[u8]) -> bool
     requires idle { borrowed_phase decoder.old ≡ Idle }
@@ -143,13 +154,8 @@ pub fn push_reads(decoder: &mut CobsDecoder<'_>, ended: &[u8], piece: &[u8], mes
     ensures { IsTrue result ↔ (Reads piece.now message.now
         × (length message.now ≤ length (borrowed_buffer decoder.old))) }
 {
-    match decoder.push(ended) {
-        Ok(Some(report)) => {
-            report.frame_size() == message.len() && decoder.dest().starts_with(message)
-        }
-        Ok(None) => false,
-        Err(_) => false,
-    }
+    let answer = decoder.push(ended);
+    came_to(answer, decoder.dest(), message)
 }
 
 /// The same with a buffer of the decoder's own.
@@ -165,13 +171,8 @@ pub fn push_reads_owned(
     ensures { IsTrue result ↔ (Reads piece.now message.now
         × (length message.now ≤ length (owned_buffer decoder.old))) }
 {
-    match decoder.push(ended) {
-        Ok(Some(report)) => {
-            report.frame_size() == message.len() && decoder.dest().starts_with(message)
-        }
-        Ok(None) => false,
-        Err(_) => false,
-    }
+    let answer = decoder.push(ended);
+    came_to(answer, decoder.dest(), message)
 }
 
 /// The same with a buffer that lies in the decoder.
@@ -187,13 +188,8 @@ pub fn push_reads_heapless<const N: usize>(
     ensures { IsTrue result ↔ (Reads piece.now message.now
         × (length message.now ≤ length (heapless_buffer decoder.old))) }
 {
-    match decoder.push(ended) {
-        Ok(Some(report)) => {
-            report.frame_size() == message.len() && decoder.dest().starts_with(message)
-        }
-        Ok(None) => false,
-        Err(_) => false,
-    }
+    let answer = decoder.push(ended);
+    came_to(answer, decoder.dest(), message)
 }
 
 /// The byte of the message that a result gives.

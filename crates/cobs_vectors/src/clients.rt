@@ -3,12 +3,13 @@
 ghost use Rattle.std.specs.Prelude.{◌≡◌, ◌≤◌, ◌<◌, ◌^◌, ◌↔◌, ◌∷◌, ◌++◌, [], length, take, drop, List, ℕ, IfOk, IsOk, OnOk, IsSomeAnd, IsTrue};
 ghost use Rattle.cobs.specs.Feed.{DecoderAfter, Idle};
 ghost use Rattle.cobs.specs.Fields.Encoders.{reached_by};
-ghost use Rattle.cobs.specs.Grammar.{IsEncodedFrame, Reads};
+ghost use Rattle.cobs.specs.Grammar.{HasNoZero, IsEncodedFrame, Reads};
 ghost use Rattle.cobs.specs.Headline.{BeginsWith, IsPiece};
 ghost use Rattle.cobs.specs.Laws.{IsAtSentinel};
 ghost use Rattle.cobs.specs.Length.{encoded_len, max_encoded_len};
+ghost use Rattle.cobs.specs.Messages.{messages_in};
 ghost use Rattle.cobs.specs.OpenBlock.{CobsEncoderAfter};
-ghost use Rattle.cobs.specs.Stream.{Message, stream_outcomes};
+ghost use Rattle.cobs.specs.Stream.{Message, ended_pieces, stream_outcomes, unended};
 
 use cobs::laws::{law_2, law_4, law_5, law_9, law_10, law_11, law_18};
 use cobs::{
@@ -17,6 +18,7 @@ use cobs::{
     decode, encode, encode_vec,
 };
 use std::alloc::{AllocError, Global};
+use std::mem;
 
 /// Handles a byte in an interrupt: the length of the message that it ended, which is sliced out of the buffer.
 pub fn on_byte<const N: usize>(decoder: &mut CobsDecoderHeapless<N>, byte: u8) -> usize
@@ -270,4 +272,42 @@ pub fn log_of_two(alloc: Global, first: &[u8], second: &[u8]) -> Result<Vec<u8>,
 {
     let log = append_to_log(alloc, &[], first)?;
     append_to_log(alloc, &log, second)
+}
+
+/// Collects the pieces that end in a chunk of a stream, undecoded: `begun` has the bytes that no zero has ended yet.
+pub fn pieces_in(
+    alloc: Global,
+    begun: &mut Vec<u8>,
+    chunk: &[u8],
+) -> Result<Vec<Vec<u8>>, AllocError>
+    requires { HasNoZero begun.old.items }
+    ensures pieces { IfOk result
+        (λ found. messages_in found.items ≡ ended_pieces (begun.old.items ++ chunk.now)) }
+    ensures begun { OnOk result (begun.new.items ≡ unended (begun.old.items ++ chunk.now)) }
+{
+    law_9();
+    let mut found = Vec::new(alloc);
+    'by_byte: for byte in chunk {
+        if *byte != 0 {
+            begun.push(*byte)?;
+        } else if !begun.is_empty() {
+            found.push(mem::replace(begun, Vec::new(alloc)))?;
+        }
+    }
+    Ok(found)
+}
+
+/// Collects the pieces of a stream that comes in two chunks: they are those of the whole stream, wherever it is cut.
+pub fn pieces_in_two(
+    alloc: Global,
+    first: &[u8],
+    second: &[u8],
+) -> Result<(Vec<Vec<u8>>, Vec<Vec<u8>>), AllocError>
+    ensures { IfOk result (λ found. messages_in found.0.items ++ messages_in found.1.items
+        ≡ ended_pieces (first.now ++ second.now)) }
+{
+    law_9();
+    let mut begun = Vec::new(alloc);
+    let found = pieces_in(alloc, &mut begun, first)?;
+    Ok((found, pieces_in(alloc, &mut begun, second)?))
 }

@@ -39,7 +39,7 @@ fn is_output(piece: &[u8], message: &[u8], buffer: &mut [u8]) -> bool
 /// law_2
 fn encode_again(message: &[u8], frame: &[u8], dest: &mut [u8]) -> usize
     requires frame { IsEncodedFrame frame.now message.now }
-    requires room { length frame.now ≤ length dest.old }
+    requires room { encoded_len message.now ≤ length dest.old }
     ensures { take result dest.new ≡ frame.now }
 {
     law_2();
@@ -76,6 +76,14 @@ fn are_equal(alloc: Global, first: &[u8], second: &[u8]) -> Result<bool, AllocEr
 }
 
 /// law_6
+fn as_received<'a>(frame: &'a [u8], sentinel: u8) -> &'a [u8]
+    ensures { IsFrame (xor_each sentinel frame.now) → IsFreeOf sentinel result.now }
+{
+    law_6();
+    frame
+}
+
+/// law_6, of a frame that is sent
 fn change_sentinel(frame: &mut [u8], sentinel: u8)
     ensures changed { frame.new ≡ xor_each sentinel frame.old }
     ensures free { IsFrame frame.old → IsFreeOf sentinel frame.new }
@@ -273,6 +281,7 @@ fn laws_of_written_frames(rt: HostRuntime) -> Result<(), Fail> {
 
     change_sentinel(&mut frame, 8);
     assert_eq!(rt; frame, [11, 15, 0, 162]);
+    assert_eq!(rt; as_received(&[9], 8), [9].as_slice());
     assert_eq!(rt; as_encoded(&[1], &[], 0, 1), [1].as_slice());
 
     assert_eq!(rt; encode_short(&[7, 8], &mut again), 3);

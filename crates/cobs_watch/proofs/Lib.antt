@@ -1,6 +1,5 @@
 pub mod TallyLemmas
 pub mod TimeLemmas
-pub mod StretchLemmas
 pub mod PartLemmas
 pub mod ShowLemmas
 pub mod SkipLemmas

@@ -1,54 +1,52 @@
 -- Lemmas on the pieces that have ended in a stream, and on what a buffer holds of the last one.
-use Rattle.std.proofs.Common.{◌≡◌, ◌≤◌, ◌<◌, nat_le, ℕ, Bool, true, false, List, [], ◌∷◌, ◌++◌, length, take, drop, map, filter, min, refl, sym, ap, ◌∙◌, arith, append_assoc, append-nil, length-append, length-take, Option, Some, None}
+use Rattle.std.proofs.Common.{◌≡◌, ◌≤◌, ◌<◌, nat_le, ℕ, Bool, true, false, List, [], ◌∷◌, ◌++◌, length, take, drop, map, min, refl, sym, ap, ◌∙◌, arith, append_assoc, append-nil, length-append, length-take, Option, Some, None}
 use Rattle.std.specs.Prelude.{if◌then◌else◌}
 use Rattle.std.proofs.Math.ListN.{drop_of_length-le}
 use Rattle.std.proofs.Math.Seq.{take-append_seam}
 use Rattle.std.proofs.lemmas.Bool.{cases_Bool, leb-true, leb-false}
-use Rattle.std.proofs.lemmas.List.{length-map, map-append}
+use Rattle.std.proofs.lemmas.List.{length-map, map-append, nil_from_length}
 use Rattle.cobs.specs.Feed.{DecoderAfter, Phase}
 use Rattle.cobs.specs.FeedPiece.{TakesPiece, outcome_at}
+use Rattle.cobs.specs.Grammar.{HasNoZero}
 use Rattle.cobs.specs.Laws.{StreamLaw}
 use Rattle.cobs.specs.Overwritten.{overwritten}
 use Rattle.cobs.specs.Piece.{output}
 use Rattle.cobs.specs.Push.{last_piece}
-use Rattle.cobs.specs.Stream.{Outcome, Broken as OfBroken, TooLong as OfTooLong, ended_pieces, is_nonempty, outcome_of, stream_outcomes, unended}
+use Rattle.cobs.specs.Stream.{Outcome, Broken as OfBroken, TooLong as OfTooLong, but_last, ended_pieces, outcome_of, stream_outcomes, unended}
 use Rattle.cobs.specs.declared.dec.frame_decoder.PieceEnd.{PieceEnd}
 use Rattle.cobs.specs.declared.dec.frame_decoder.PieceEnd.TheVariants as ends
-use Rattle.cobs_watch.proofs.StretchLemmas.{ended_at, ended_pieces-append, no_outcomes}
 use Rattle.cobs_watch.specs.Crc.{body_of, is_checked}
 use Rattle.cobs_watch.specs.Seen.{Ended, Seen, all_ended, ended_in, held, seen_message, seen_of, seen_piece, whole, with_part}
 use Rattle.cobs_watch.specs.declared.crc.Checksum.{Checksum}
-use Rattle.cobs_watch.specs.declared.seen.Kind.TheVariants.{Message, Broken, TooLong, BadCrc}
+use Rattle.cobs_watch.specs.declared.seen.Kind.TheVariants.{Message, BadCrc}
 
 -- THE PIECES THAT HAVE ENDED
 
-pub all_ended-append : (t u : List ℕ) (n : ℕ) → all_ended (t ++ u) n ≡ all_ended t n ++ all_ended (unended t ++ u) n
+pub all_ended-append : (law : StreamLaw) (t u : List ℕ) (n : ℕ) → all_ended (t ++ u) n ≡ all_ended t n ++ all_ended (unended t ++ u) n
 unfolding all_ended
-all_ended-append t u n = ap (map (ended_in n)) (ended_pieces-append t u) ∙ map-append (ended_in n) (ended_pieces t) (ended_pieces (unended t ++ u))
-
-pub all_ended-none : (t : List ℕ) (n : ℕ) → stream_outcomes t n ≡ [] → all_ended t n ≡ []
-unfolding all_ended
-all_ended-none t n none = ap (map (ended_in n)) (no_outcomes t n none)
+all_ended-append law t u n = ap (map (ended_in n)) (law.pieces t u) ∙ map-append (ended_in n) (ended_pieces t) (ended_pieces (unended t ++ u))
 
 pub length-all_ended : (t : List ℕ) (n : ℕ) → length (all_ended t n) ≡ length (stream_outcomes t n)
 unfolding all_ended stream_outcomes
 length-all_ended t n = length-map (ended_pieces t) (ended_in n) ∙ sym (length-map (ended_pieces t) (λ p. outcome_of p n))
 
+pub all_ended-none : (t : List ℕ) (n : ℕ) → stream_outcomes t n ≡ [] → all_ended t n ≡ []
+all_ended-none t n none = nil_from_length (all_ended t n) (length-all_ended t n ∙ ap length none)
+
 -- THE ONE THAT A ZERO ENDS
 
-ended_behind : (law : StreamLaw) (t : List ℕ) → ended_pieces t ≡ [] → ended_pieces (t ++ 0 ∷ []) ≡ filter is_nonempty (unended t ∷ [])
-ended_behind law t none = ended_pieces-append t (0 ∷ []) ∙ ap (λ (z : List (List ℕ)). z ++ ended_pieces (unended t ++ 0 ∷ [])) none ∙ ended_at (unended t) (law.begun t)
-
-one_piece : (q : List ℕ) (n : ℕ) (outcome : Outcome) → outcome ∷ [] ≡ map (λ p. outcome_of p n) (filter is_nonempty (q ∷ [])) → (filter is_nonempty (q ∷ []) ≡ q ∷ []) × (outcome ≡ outcome_of q n)
-one_piece [] n outcome e = absurd cc
-one_piece (b ∷ q) n outcome e = (refl, cc)
+one_piece : (law : StreamLaw) (q : List ℕ) (n : ℕ) (outcome : Outcome) → HasNoZero q → outcome ∷ [] ≡ stream_outcomes (q ++ 0 ∷ []) n → (all_ended (q ++ 0 ∷ []) n ≡ ended_in n q ∷ []) × (outcome ≡ outcome_of q n)
+unfolding all_ended stream_outcomes ended_pieces but_last
+one_piece law [] n outcome h told = absurd cc
+one_piece law (b ∷ q) n outcome h told =
+    let one = law.piece (b ∷ q) (λ none. cc) h in
+    (ap (map (ended_in n)) one, let same = told ∙ ap (map (λ p. outcome_of p n)) one in cc)
 
 one_ended : (law : StreamLaw) (t : List ℕ) (n : ℕ) (outcome : Outcome) → stream_outcomes t n ≡ [] → outcome ∷ [] ≡ stream_outcomes (t ++ 0 ∷ []) n → (all_ended (t ++ 0 ∷ []) n ≡ ended_in n (unended t) ∷ []) × (outcome ≡ outcome_of (unended t) n)
-unfolding all_ended stream_outcomes
 one_ended law t n outcome none told =
-    let behind = ended_behind law t (no_outcomes t n none) in
-    let one = one_piece (unended t) n outcome (told ∙ ap (map (λ p. outcome_of p n)) behind) in
-    (ap (map (ended_in n)) (behind ∙ one.0), one.1)
+    let behind = all_ended-append law t (0 ∷ []) n ∙ ap (λ (z : List Ended). z ++ all_ended (unended t ++ 0 ∷ []) n) (all_ended-none t n none) in
+    let one = one_piece law (unended t) n outcome (law.begun t) (told ∙ law.cut t (0 ∷ []) n ∙ ap (λ (z : List Outcome). z ++ stream_outcomes (unended t ++ 0 ∷ []) n) none) in
+    (behind ∙ one.0, one.1)
 
 -- WHAT THE BUFFER HOLDS OF IT
 

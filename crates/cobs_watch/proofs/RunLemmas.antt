@@ -98,7 +98,7 @@ module _ (law : StreamLaw) {settings : Settings} {from to before after : Option 
 
   pub more-pieces : (more : List ℕ) → all_ended (stream_of settings (s.ended.bytes ++ more)) settings.length
       ≡ all_ended (stream_of settings s.ended.bytes) settings.length ++ all_ended (unended (stream_of settings s.ended.bytes) ++ newly more) (length watch.message.items)
-  more-pieces more = ap (λ (t : List ℕ). all_ended t settings.length) (more-stream more) ∙ all_ended-append (stream_of settings s.ended.bytes) (newly more) settings.length
+  more-pieces more = ap (λ (t : List ℕ). all_ended t settings.length) (more-stream more) ∙ all_ended-append law (stream_of settings s.ended.bytes) (newly more) settings.length
       ∙ ap (λ (k : ℕ). all_ended (stream_of settings s.ended.bytes) settings.length ++ all_ended (unended (stream_of settings s.ended.bytes) ++ newly more) k) (sym s.len)
 
   pub more-tallied : (tally : Tally) (more : List ℕ)

@@ -68,7 +68,7 @@ module _ (law : StreamLaw) {view : View} {times : ℕ → ℕ} {n : ℕ} {p byte
   outcomes-on = ap (λ (l : List ℕ). stream_outcomes l n) (sym (append_assoc p bytes rest)) ∙ law.cut (p ++ bytes) rest n
 
   pieces-on : all_ended (p ++ (bytes ++ rest)) n ≡ all_ended (p ++ bytes) n ++ all_ended (unended (p ++ bytes) ++ rest) n
-  pieces-on = ap (λ (l : List ℕ). all_ended l n) (sym (append_assoc p bytes rest)) ∙ all_ended-append (p ++ bytes) rest n
+  pieces-on = ap (λ (l : List ℕ). all_ended l n) (sym (append_assoc p bytes rest)) ∙ all_ended-append law (p ++ bytes) rest n
 
   -- the bytes through the end of one more piece
   pub ShowsBytes-piece : {buffer' : List ℕ} {phase' : Phase} {after' : Option (List ℕ)} {tally' : Tally} {clock' : Times} (outcome : Outcome) (piece : Ended) → length buffer' ≡ length buffer → DecoderAfter buffer' phase' (unended (unended (p ++ bytes) ++ rest))

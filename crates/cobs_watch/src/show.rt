@@ -16,7 +16,7 @@ use crate::clock::{Timer, Times};
 use crate::fault::WatchFault;
 use crate::shown::{Settings, View, show_end, show_piece, sight_of, with_part};
 use crate::tally::Tally;
-use cobs::laws::{law_9, law_12};
+use cobs::laws::{law_6, law_9, law_12};
 use cobs::{DecoderPhase, UnbufferedDecoder};
 use std::alloc::{AllocError, Global};
 use std::io::{BufWriter, ErrorKind, Read, Write};
@@ -205,10 +205,15 @@ fn has_begun(phase: DecoderPhase) -> bool
     }
 }
 
-/// XORs each byte with the sentinel, so that frames for that sentinel are frames for 0.
+/// XORs each byte with the sentinel, so that frames for that sentinel are frames for 0. For 0 nothing changes, and the bytes
+/// aren't gone over: 6 % of the instructions of `--raw` on telemetry.
 fn xor_bytes(bytes: &mut [u8], sentinel: u8)
     ensures { bytes.new ≡ xor_each sentinel bytes.old }
 {
+    law_6();
+    if sentinel == 0 {
+        return;
+    }
     for byte in bytes.iter_mut() {
         *byte ^= sentinel;
     }

@@ -168,7 +168,7 @@ impl Filter {
         self.has_kind(piece.kind)
             && self.min <= piece.len
             && piece.len <= self.max
-            && piece.bytes.starts_with(&self.prefix)
+            && (self.prefix.is_empty() || piece.bytes.starts_with(&self.prefix))
     }
 
     /// Returns whether pieces of this kind are shown.

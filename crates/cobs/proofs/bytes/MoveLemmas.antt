@@ -1,7 +1,7 @@
 -- Bytes of a buffer that are moved to its front.
 use Rattle.std.proofs.Common.{◌≡◌, ℕ, ◌+◌, ◌≤◌, List, ◌++◌, length, drop, take, ap, ◌∙◌, arith, length-drop, length-append, length-take-le, drop_at}
 use lib.Lanes.{put_chunk}
-use Rattle.cobs.proofs.decoding.InPlaceSteps.{drop-later}
+use Rattle.cobs.proofs.decoding.SourceSteps.{drop-later}
 use Rattle.cobs.proofs.bytes.NonzeroCopies.{more-copied}
 
 -- the first bytes are moved, and the others are as they were

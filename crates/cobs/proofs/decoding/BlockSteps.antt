@@ -3,17 +3,28 @@ use Rattle.std.proofs.Common.{◌≡◌, ℕ, ◌+◌, ◌-◌, ◌<◌, ◌≤�
 use Rattle.std.proofs.lemmas.List.{drop_all, drop_more}
 use Rattle.std.specs.Result.{result_map_both}
 use Rattle.cobs.specs.Overwritten.{overwritten}
-use Rattle.cobs.specs.Piece.{output, kept_output}
+use Rattle.cobs.specs.Grammar.{bytes_of}
+use Rattle.cobs.specs.Piece.{output, kept_output, last_part, is_whole}
 use Rattle.cobs.specs.Decode.{head_answer}
 use Rattle.cobs.specs.declared.dec.DecodeError.{DecodeError}
 use Rattle.cobs.specs.declared.dec.DecodeError.TheVariants.{InvalidFrame}
-use Rattle.cobs.proofs.decoding.PieceCuts.{output-empty}
-use Rattle.cobs.proofs.decoding.KeptLemmas.{whole_left, kept_output-empty, broken-part, kept-broken}
+use Rattle.cobs.specs.Internal.Decoded.{whole_left}
+use Rattle.cobs.proofs.decoding.KeptLemmas.{kept_output-empty, broken-part, kept-broken}
+
+-- the answer, by whether all is whole
+pub kept-answer : (h : List ℕ) → head_answer h ≡ cond (whole_left h) (Ok (length (kept_output h))) (Err (InvalidFrame (length (kept_output h))))
+unfolding kept_output
+kept-answer [] = ap (λ (x : List ℕ). Ok (length x)) (sym kept_output-empty)
+kept-answer (x ∷ p) = answer (is_whole (x ∷ p)) refl
+  where
+    answer : (whole : Bool) → whole ≡ is_whole (x ∷ p)
+        → result_map_both length (λ (e : DecodeError). e) (cond whole (Ok (output (x ∷ p))) (Err (InvalidFrame (length (kept_output (x ∷ p)))))) ≡ cond whole (Ok (length (kept_output (x ∷ p)))) (Err (InvalidFrame (length (kept_output (x ∷ p)))))
+    answer true is = ap (λ (v : Bool). Ok (length (cond v (output (x ∷ p)) (take (length (output (x ∷ p)) - length (bytes_of (last_part (x ∷ p)))) (output (x ∷ p)))))) is
+    answer false is = refl
 
 -- the blocks in the first `read` bytes of h are decoded into the bytes `done`
 pub record BlocksRead (h done : List ℕ) (read : ℕ) : Type 0 where
   pub within : read ≤ length h
-  pub outs : output h ≡ done ++ output (drop read h)
   pub kepts : kept_output h ≡ done ++ kept_output (drop read h)
   pub whole : whole_left h ≡ whole_left (drop read h)
 
@@ -23,39 +34,28 @@ module _ (h done : List ℕ) (read : ℕ) (b : BlocksRead h done read) where
     pub all-kept : kept_output h ≡ done
     all-kept = b.kepts ∙ ap (λ (x : List ℕ). done ++ x) (ap kept_output (drop_all read h past) ∙ kept_output-empty) ∙ append-nil done
 
+    pub all-whole : whole_left h ≡ true
+    all-whole = b.whole ∙ ap whole_left (drop_all read h past)
+
     pub all-answer : Ok (length done) ≡ head_answer h
-    all-answer =
-        let o : output h ≡ done = b.outs ∙ ap (λ (x : List ℕ). done ++ x) (ap output (drop_all read h past) ∙ output-empty [] refl) ∙ append-nil done in
-        ap (λ (x : List ℕ). Ok (length x)) (sym o) ∙ sym (answer h (b.whole ∙ ap whole_left (drop_all read h past)))
-      where
-        answer : (p : List ℕ) → whole_left p ≡ true → head_answer p ≡ Ok (length (output p))
-        answer [] w = ap (λ (x : List ℕ). Ok (length x)) (sym (output-empty [] refl))
-        answer (x ∷ p) w = ap (λ (v : Bool). result_map_both length (λ (e : DecodeError). e) (cond v (Ok (output (x ∷ p))) (Err (InvalidFrame (length (kept_output (x ∷ p))))))) w
+    all-answer = grind (arith, kept-answer, all-kept, all-whole)
 
-  module _ (code : ℕ) (more : read < length h) (is : code ≡ get_or h read 0) where
-    abbrev pub bytes : List ℕ
-    bytes = drop (read + 1) h
+  -- the last block is broken
+  module _ (code : ℕ) (more : read < length h) (is : code ≡ get_or h read 0) (broken : length h - read < code) where
+    cons : drop read h ≡ code ∷ drop (read + 1) h
+    cons = drop_more h read 0 more ∙ ap (λ (k : ℕ). k ∷ drop (read + 1) h) (sym is)
 
-    cons : drop read h ≡ code ∷ bytes
-    cons = drop_more h read 0 more ∙ ap (λ (k : ℕ). k ∷ bytes) (sym is)
+    short : length (drop (read + 1) h) < code - 1
+    short = let l = length-drop (read + 1) h in omega arith
 
-    long : length bytes ≡ length h - (read + 1)
-    long = length-drop (read + 1) h
+    pub broken-kept : kept_output h ≡ done
+    broken-kept = b.kepts ∙ ap (λ (x : List ℕ). done ++ x) (ap kept_output cons ∙ kept-broken code (drop (read + 1) h) short) ∙ append-nil done
 
-    -- the last block is broken
-    module _ (broken : length h - read < code) where
-      short : length bytes < code - 1
-      short = let l = long in omega arith
+    pub broken-whole : whole_left h ≡ false
+    broken-whole = b.whole ∙ ap whole_left cons ∙ broken-part code (drop (read + 1) h) short
 
-      pub broken-kept : kept_output h ≡ done
-      broken-kept = b.kepts ∙ ap (λ (x : List ℕ). done ++ x) (ap kept_output cons ∙ kept-broken code bytes short) ∙ append-nil done
-
-      pub broken-answer : Err (InvalidFrame (length done)) ≡ head_answer h
-      broken-answer = ap (λ (x : List ℕ). Err (InvalidFrame (length x))) (sym broken-kept) ∙ sym (answer h (omega arith) (b.whole ∙ ap whole_left cons ∙ broken-part code bytes short))
-        where
-          answer : (p : List ℕ) → 0 < length p → whole_left p ≡ false → head_answer p ≡ Err (InvalidFrame (length (kept_output p)))
-          answer [] some w = absurd (omega arith)
-          answer (x ∷ p) some w = ap (λ (v : Bool). result_map_both length (λ (e : DecodeError). e) (cond v (Ok (output (x ∷ p))) (Err (InvalidFrame (length (kept_output (x ∷ p))))))) w
+    pub broken-answer : Err (InvalidFrame (length done)) ≡ head_answer h
+    broken-answer = grind (arith, kept-answer, broken-kept, broken-whole)
 
 -- a buffer whose front is exactly what was to be written
 pub overwritten-front : (old new bytes : List ℕ) (written : ℕ) → length new ≡ length old → written ≤ length old → drop written new ≡ drop written old → bytes ≡ take written new → new ≡ overwritten old bytes

@@ -3,7 +3,6 @@ use Rattle.std.proofs.Common.{take_at, drop_at, bit_xor, append-nil, zero, suc, 
 use Rattle.std.proofs.lemmas.Bool.{eq-eqb}
 use Rattle.std.proofs.lemmas.List.{take-map, drop-map, drop_all, length-set, drop-set-lt, take_more_set, drop-drop, drop_more, get_or-take, get_or-drop}
 use borrow.Rule.Slice.PartMut.{put_mid}
-use Rattle.std.proofs.lemmas.List.Elements.{All-cons}
 use Rattle.cobs.specs.Grammar.{code_of, HasNoZero}
 use Rattle.cobs.specs.Piece.{output, kept_output, last_part, lacks, is_whole}
 use Rattle.cobs.specs.Internal.Decoded.{IsFlat}
@@ -199,22 +198,18 @@ module _ (old after : List ℕ) (from len : ℕ) (inside : from + len ≤ length
   pub moved-rest : drop (len - 1) after ≡ drop (len - 1) old
   moved-rest = grind (arith, drop_at, length-drop, length-take-le)
 
--- the first byte and those after it
-pub piece-nonzero : (old : List ℕ) (len : ℕ) → 0 < len → len ≤ length old → get_or old 0 0 ≢ 0 → HasNoZero (take (len - 1) (drop 1 old)) → HasNoZero (take len old)
-piece-nonzero old len h e p q = grind (arith, All-cons)
-
 -- a slice from some place on, put back
 pub put-back : (read : ℕ) (buffer new : List ℕ) → put_mid read (length buffer - read) buffer new ≡ take read buffer ++ new
 put-back read buffer new = grind (arith, drop-drop, drop_all, append-nil)
 
 -- such a frame is whole, so all its output is kept
 module _ (h : List ℕ) (flat : IsFlat h) where
-  whole : is_whole h ≡ true
-  whole = is_whole-of h flat.some ∙ eq-eqb (lacks (last_part h)) 0 flat.whole
+  pub flat-is_whole : is_whole h ≡ true
+  flat-is_whole = is_whole-of h flat.some ∙ eq-eqb (lacks (last_part h)) 0 flat.whole
 
   pub flat-kept : kept_output h ≡ output h
   unfolding kept_output
-  flat-kept = rw whole refl
+  flat-kept = rw flat-is_whole refl
 
   pub flat-answer : (n : ℕ) → n + 1 ≡ length h → Ok n ≡ head_answer h
-  flat-answer n is = grind (arith, whole)
+  flat-answer n is = grind (arith, flat-is_whole)

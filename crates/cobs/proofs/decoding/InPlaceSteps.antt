@@ -1,163 +1,220 @@
--- A buffer that is decoded in its own place, so far.
-use Rattle.std.proofs.Common.{◌≡◌, ◌≢◌, ℕ, ◌+◌, ◌-◌, ◌<◌, ◌≤◌, ◌==◌, ◌⊎◌, true, false, List, [], ◌∷◌, ◌++◌, length, take, drop, get_or, set, Err, Ok, refl, sym, ap, ◌∙◌, subst, arith, inl, inr, append_assoc, append-nil, length-append, length-drop, length-take-le, take-append-drop}
-use Rattle.std.proofs.lemmas.List.{drop-drop, drop-take, drop_all, get_or-take, get_or-drop, length-set, take_more_set, drop-set-lt}
+-- Blocks that are decoded to the front of the buffer that they stand in.
+use Rattle.std.proofs.Common.{Ok, Err, ◌≡◌, ◌≢◌, ◌⊎◌, ◌↔◌, ◌++◌, IsTrue, Bool, cond, true, false, ℕ, ◌+◌, ◌-◌, ◌<◌, ◌≤◌, List, length, take, drop, get_or, set, bit_xor, inl, inr, refl, arith, ap, sym, ◌∙◌, subst, take_all, take_at, drop_at, length-append, length-drop, length-take-le}
+use Rattle.std.proofs.lemmas.Bool.{ne_eqb, eq-eqb, true≢false}
+use Rattle.std.proofs.lemmas.List.{drop-drop, drop-take, get_or-drop, length-map, take-take, take_rest}
 use Rattle.std.proofs.lemmas.List.Elements.{All-take, All-drop}
 use borrow.Rule.Slice.PartMut.{put_mid}
+use Rattle.std.proofs.Math.Nat.{zero-add}
 use Rattle.cobs.specs.Overwritten.{overwritten}
-use Rattle.cobs.specs.Grammar.{HasNoZero, code_of, is_full}
-use Rattle.cobs.specs.Piece.{output, last_part, lacks, kept_output}
 use Rattle.cobs.specs.Decode.{head_answer}
+use Rattle.cobs.specs.Grammar.{HasNoZero, code_of, is_full}
+use Rattle.cobs.specs.Piece.{kept_output, output, last_part}
+use Rattle.cobs.specs.Internal.Decoded.{IsFlat, whole_left}
 use Rattle.cobs.specs.declared.dec.DecodeError.TheVariants.{InvalidFrame}
-use Rattle.cobs.proofs.decoding.PieceCuts.{output-le}
-use Rattle.cobs.proofs.decoding.KeptLemmas.{joins, whole_left}
-use Rattle.cobs.proofs.decoding.WholeLemmas.{in_front}
+use Rattle.cobs.proofs.decoding.BlockSteps.{kept-answer, overwritten-front}
+use Rattle.cobs.proofs.decoding.FlatLemmas.{put-back}
 use Rattle.cobs.proofs.decoding.WindowSteps.{take-past, drop-past}
-use Rattle.cobs.proofs.decoding.BlockSteps.{BlocksRead, all-kept, all-answer, broken-kept, broken-answer, overwritten-front}
+use Rattle.cobs.specs.Sentinel.{xor_each}
+use Rattle.cobs.proofs.decoding.SourceFronts.{stretch-last, stretch-zero}
+use Rattle.cobs.proofs.format.SentinelLemmas.{xor_each-zero}
+use Rattle.cobs.proofs.decoding.SourceSteps.{DecodedSource, drop-later}
 
--- the blocks in the first `read` of `end` bytes are decoded to the front of the buffer, and behind what they gave it is
--- as it was
-pub record DecodedInPlace (before : List ℕ) (end : ℕ) (buffer : List ℕ) (read written : ℕ) : Type 0 where
-  pub order : written ≤ read
-  pub within : read ≤ end
-  pub fits : end ≤ length before
-  pub len : length buffer ≡ length before
-  pub rest : drop written buffer ≡ drop written before
-  pub blocks : BlocksRead (take end before) (take written buffer) read
+-- the blocks in the first `read` of the `len` bytes from `from` on are decoded, no further than they were read
+pub record DecodedInPlace (before : List ℕ) (from len : ℕ) (buffer : List ℕ) (read written : ℕ) : Type 0 where
+  pub order : written ≤ from + read
+  pub within : read ≤ len
+  pub fits : from + len ≤ length before
+  pub done : DecodedSource (take len (drop from before)) before buffer read written
 
--- what two lists have behind n bytes they have behind more
-pub drop-later : (n m : ℕ) (xs ys : List ℕ) → n ≤ m → drop n xs ≡ drop n ys → drop m xs ≡ drop m ys
-drop-later n m xs ys h e =
-    let k : n + (m - n) ≡ m = omega arith in
-    sym (ap (λ (j : ℕ). drop j xs) k) ∙ sym (drop-drop (m - n) n xs) ∙ ap (drop (m - n)) e ∙ drop-drop (m - n) n ys ∙ ap (λ (j : ℕ). drop j ys) k
+module _ (before : List ℕ) (from len : ℕ) (buffer : List ℕ) (read written : ℕ) (s : DecodedInPlace before from len buffer read written) where
+  abbrev h : List ℕ
+  h = take len (drop from before)
 
--- what joins a full part, and another one, to what follows
-pub joins-full : (code : ℕ) (q : List ℕ) → code == 255 ≡ true → [] ≡ joins code q
-joins-full code q h = grind arith
+  pub long : length h ≡ len
+  long = let f = s.fits in length-take-le len (drop from before) (let d = length-drop from before in omega arith)
 
-pub joins-zero-due : (code : ℕ) (q : List ℕ) → code == 255 ≡ false → 0 < length q → 0 ∷ [] ≡ joins code q
-joins-zero-due code q h e = grind arith
-
-module _ (before : List ℕ) (end : ℕ) (buffer : List ℕ) (read written : ℕ) (s : DecodedInPlace before end buffer read written) where
-  long : length (take end before) ≡ end
-  long = length-take-le end before s.fits
-
-  done-long : length (take written buffer) ≡ written
-  done-long = length-take-le written buffer (let o = s.order in let w = s.within in let l = s.len in let f = s.fits in omega arith)
-
-  -- the buffer, and the answer, where all blocks are read
-  module _ (past : end ≤ read) where
-    past-long : length (take end before) ≤ read
-    past-long = let l = long in omega arith
-
-    pub all-buffer : buffer ≡ overwritten before (kept_output (take end before))
-    all-buffer = overwritten-front before buffer _ written s.len (let o = s.order in let w = s.within in let f = s.fits in omega arith) s.rest (all-kept _ _ _ s.blocks past-long)
-
-    pub all-count : Ok written ≡ head_answer (take end before)
-    all-count = ap Ok (sym done-long) ∙ all-answer _ _ _ s.blocks past-long
-
-  module _ (code : ℕ) (here : read < end) (is : code ≡ get_or buffer read 0) where
-    more : read < length (take end before)
-    more = let l = long in omega arith
-
-    -- a code that isn't read yet is as it was
-    code-is : code ≡ get_or (take end before) read 0
-    code-is =
-        let k : written + (read - written) ≡ read = let o = s.order in omega arith in
-        grind (arith, get_or-drop, get_or-take)
-
-    -- where a block is broken
-    module _ (broken : end - read < code) where
-      broken-long : length (take end before) - read < code
-      broken-long = let l = long in omega arith
-
-      pub broken-buffer : buffer ≡ overwritten before (kept_output (take end before))
-      broken-buffer = overwritten-front before buffer _ written s.len (let o = s.order in let w = s.within in let f = s.fits in omega arith) s.rest (broken-kept _ _ _ s.blocks code more code-is broken-long)
-
-      pub broken-count : Err (InvalidFrame written) ≡ head_answer (take end before)
-      broken-count = ap (λ (n : ℕ). Err (InvalidFrame n)) (sym done-long) ∙ broken-answer _ _ _ s.blocks code more code-is broken-long
-
-  -- what is left of the frame is as it was
-  pub left-is : take (end - read) (drop read buffer) ≡ drop read (take end before)
+  -- what is left of the blocks is as it was
+  pub left-is : take (len - read) (drop (from + read) buffer) ≡ drop read h
   left-is =
-      let sum : end ≡ read + (end - read) = omega arith in
-      grind (arith, drop-later, drop-take)
+      let o = s.order in
+      let w = s.within in
+      let sum : len ≡ read + (len - read) = omega arith in
+      ap (take (len - read)) (drop-later written (from + read) buffer before o s.done.rest ∙ sym (drop-drop read from before))
+      ∙ sym (drop-take read (len - read) (drop from before)) ∙ sym (ap (λ (k : ℕ). drop read (take k (drop from before))) sum)
 
-  pub left-nonzero : HasNoZero (take end before) → HasNoZero (take (end - read) (drop read buffer))
-  left-nonzero none = subst HasNoZero (sym left-is) (All-drop (λ byte. byte ≢ 0) read (take end before) none)
+  -- as the walk and the move see it
+  abbrev walked : List ℕ
+  walked = take (from + len - (from + read)) (drop (from + read) buffer)
+
+  abbrev moved : List ℕ
+  moved = drop (from + read - written) (take (length buffer - written) (drop written buffer))
+
+  pub walked-is : xor_each 0 walked ≡ drop read h
+  walked-is =
+      let less : from + len - (from + read) ≡ len - read = omega arith in
+      xor_each-zero walked ∙ ap (λ (k : ℕ). take k (drop (from + read) buffer)) less ∙ left-is
+
+  pub walked-nonzero : HasNoZero h → HasNoZero (xor_each 0 walked)
+  walked-nonzero none = subst HasNoZero (sym walked-is) (All-drop (λ byte. byte ≢ 0) read h none)
 
   -- where no block is whole
-  pub left-broken : read < end → length (take (end - read) (drop read buffer)) < get_or (take (end - read) (drop read buffer)) 0 0 → end - read < get_or buffer read 0
-  left-broken here broken = grind (arith, length-drop, length-take-le, get_or-take, get_or-drop)
+  pub walked-broken : read < len → length walked < get_or (xor_each 0 walked) 0 0 → length h - read < get_or h read 0
+  walked-broken here broken =
+      let l = long in
+      let d = length-drop read h in
+      let w = ap length walked-is ∙ d in
+      let x = length-map walked (λ (b : ℕ). bit_xor b 0) in
+      let first = ap (λ (xs : List ℕ). get_or xs 0 0) walked-is ∙ get_or-drop read h 0 0 in
+      grind arith
 
-  -- a stretch of whole blocks
-  module _ (none : HasNoZero (take end before)) (len : ℕ) (p : List ℕ) (some : 0 < len) (fits : len ≤ length (take (end - read) (drop read buffer))) (p-is : p ≡ take len (take (end - read) (drop read buffer)))
-      (whole : lacks (last_part p) ≡ 0) where
-    abbrev q : List ℕ
-    q = drop (read + len) (take end before)
+  -- one more front
+  module _ (none : HasNoZero h) (front : ℕ) (full : Bool) (some : 0 < front) (le : front ≤ length walked) (flat : IsFlat (take front (xor_each 0 walked)))
+      (is-full : IsTrue full ↔ (code_of (last_part (take front (xor_each 0 walked))) ≡ 255)) where
+    abbrev part : List ℕ
+    part = take front (drop read h)
 
-    p-long : length p ≡ len
-    p-long = ap length p-is ∙ length-take-le len (take (end - read) (drop read buffer)) fits
+    front-is : take front (xor_each 0 walked) ≡ part
+    front-is = ap (take front) walked-is
 
-    left-long : length (take (end - read) (drop read buffer)) ≡ end - read
-    left-long = ap length left-is ∙ length-drop read (take end before) ∙ (let l = long in omega arith)
+    inside : read + front ≤ len
+    inside =
+        let l = long in
+        let w = sym (length-map walked (λ (b : ℕ). bit_xor b 0)) ∙ ap length walked-is ∙ length-drop read h in
+        let i = s.within in
+        omega arith
 
-    pub stretch-nonzero : HasNoZero p
-    stretch-nonzero = subst HasNoZero (sym p-is) (All-take (λ byte. byte ≢ 0) len (take (end - read) (drop read buffer)) (left-nonzero none))
+    part-flat : IsFlat part
+    part-flat = subst IsFlat front-is flat
 
-    split : drop read (take end before) ≡ p ++ q
-    split =
-        sym (take-append-drop len (drop read (take end before))) ∙ ap (λ (x : List ℕ). x ++ drop len (drop read (take end before))) (sym (p-is ∙ ap (take len) left-is))
-        ∙ ap (λ (x : List ℕ). p ++ x) (drop-drop len read (take end before))
+    moved-is : take front moved ≡ part
+    moved-is =
+        let o = s.order in
+        let w = inside in
+        ap (λ (x : List ℕ). take front (drop (from + read - written) x)) (take_rest buffer written) ∙ ap (take front) (drop-drop (from + read - written) written buffer)
+        ∙ ap (λ (k : ℕ). take front (drop k buffer)) {x = written + (from + read - written)} {y = from + read} (omega arith)
+        ∙ sym (take-take front (len - read) (drop (from + read) buffer) (omega arith)) ∙ ap (take front) left-is
 
-    pub stretch-shorter : length (output p) + 1 ≤ len
-    stretch-shorter = let l = p-long in let o = output-le p (omega arith) in omega arith
+    pub moved-flat : IsFlat (take front moved)
+    moved-flat = subst IsFlat (sym moved-is) part-flat
 
-    -- decoded to the front
-    module _ (new : List ℕ) (w k : ℕ) (k-is : k ≡ length buffer - written) (same : length new ≡ length buffer - written) (count : w ≡ length (output p)) (begins : take w new ≡ output p)
-        (rest-is : drop w new ≡ drop w (drop written buffer)) where
-      after-is : put_mid written k buffer new ≡ take written buffer ++ new
-      after-is = grind (arith, drop-drop, drop_all, append-nil)
+    pub moved-nonzero : HasNoZero (take front moved)
+    moved-nonzero = subst HasNoZero (sym moved-is) (All-take (λ byte. byte ≢ 0) front (drop read h) (All-drop (λ byte. byte ≢ 0) read h none))
 
-      after-front : take (written + w) (put_mid written k buffer new) ≡ take written buffer ++ output p
-      after-front = ap (take (written + w)) after-is ∙ take-past (take written buffer) new written w (written + w) done-long refl ∙ ap (λ (x : List ℕ). take written buffer ++ x) begins
+    module _ (new : List ℕ) (begins : take (front - 1) new ≡ output (take front moved)) (rest : drop (front - 1) new ≡ drop (front - 1) (take (length buffer - written) (drop written buffer)))
+        (same : length new ≡ length (take (length buffer - written) (drop written buffer))) where
+      count : front - 1 ≡ length (output part)
+      count = let f = part-flat.len in let l = long in let i = inside in let t = length-take-le front (drop read h) (let d = length-drop read h in omega arith) in omega arith
 
-      after-rest : drop (written + w) (put_mid written k buffer new) ≡ drop (written + w) before
-      after-rest = grind (arith, after-is, drop-past, done-long, drop-drop, drop-later)
+      room : front - 1 ≤ length buffer - written
+      room = let o = s.order in let f = s.fits in let i = inside in let l = s.done.len in omega arith
 
-      pub after-len : length (put_mid written k buffer new) ≡ length before
-      after-len = grind (arith, done-long, after-is, length-append)
+      as-long : length new ≡ length buffer - written
+      as-long = same ∙ ap length (take_rest buffer written) ∙ length-drop written buffer
 
-      blocks-after : (done joint : List ℕ) → joint ≡ joins (code_of (last_part p)) q → done ≡ (take written buffer ++ output p) ++ joint → BlocksRead (take end before) done (read + len)
-      blocks-after done joint joint-is done-is = grind (arith, in_front, p-long, stretch-nonzero, joins, append_assoc, long, left-long, split, whole_left)
+      behind : drop (front - 1) new ≡ drop (front - 1) (drop written buffer)
+      behind = rest ∙ ap (drop (front - 1)) (take_rest buffer written)
 
-      -- no zero is due
-      pub stretch-last : (end ≤ read + len) ⊎ (is_full (last_part p) ≡ true) → DecodedInPlace before end (put_mid written k buffer new) (read + len) (written + w)
-      stretch-last none-due =
-          let due : [] ≡ joins (code_of (last_part p)) q = elim none-due [
-            | inl last ↦ sym (ap (joins (code_of (last_part p))) (drop_all (read + len) (take end before) (let l = long in omega arith)))
-            | inr full ↦ joins-full (code_of (last_part p)) q full
-          ] in
-          record {
-            order = (let o = stretch-shorter in let r = s.order in omega arith);
-            within = (let m = left-long in let i = s.within in omega arith);
-            fits = s.fits;
-            len = after-len;
-            rest = after-rest;
-            blocks = blocks-after _ [] due (after-front ∙ sym (append-nil (take written buffer ++ output p)));
-          }
+      pub at-end : (len ≤ read + front) ⊎ (full ≡ true) → DecodedInPlace before from len (put_mid written (length buffer - written) buffer new) (read + front) (written + (front - 1))
+      at-end either = record {
+        order = (let o = s.order in omega arith);
+        within = inside;
+        fits = s.fits;
+        done = stretch-last h before buffer read written s.done none front part some (let l = long in let i = inside in omega arith) refl part-flat.whole new (front - 1) _ refl as-long count room (begins ∙ ap output moved-is) behind
+            (elim either [
+              | inl past ↦ inl (let l = long in omega arith)
+              | inr closed ↦ inr (eq-eqb _ 255 (ap (λ (x : List ℕ). code_of (last_part x)) (sym front-is) ∙ is-full.0 closed))
+            ]);
+      }
 
-      -- a zero is due
-      pub stretch-zero : read + len < end → is_full (last_part p) ≡ false → DecodedInPlace before end (set (put_mid written k buffer new) (written + w) 0) (read + len) (written + w + 1)
-      stretch-zero before-end other =
-          let r = stretch-shorter in
-          let l = after-len in
-          record {
-            order = omega arith;
-            within = omega arith;
-            fits = s.fits;
-            len = length-set (put_mid written k buffer new) (written + w) 0 ∙ after-len;
-            rest = drop-set-lt (written + w + 1) (put_mid written k buffer new) (written + w) 0 (omega arith)
-                ∙ drop-later (written + w) (written + w + 1) (put_mid written k buffer new) before (omega arith) after-rest;
-            blocks = blocks-after _ (0 ∷ []) (joins-zero-due (code_of (last_part p)) q other (let d = length-drop (read + len) (take end before) in let n = long in omega arith))
-                (take_more_set (put_mid written k buffer new) (written + w) 0 (omega arith) ∙ ap (λ (x : List ℕ). x ++ 0 ∷ []) after-front);
-          }
+      pub zero-due : read + front < len → full ≡ false → DecodedInPlace before from len (set (put_mid written (length buffer - written) buffer new) (written + (front - 1)) 0) (read + front) (written + (front - 1) + 1)
+      zero-due more open' = record {
+        order = (let o = s.order in omega arith);
+        within = inside;
+        fits = s.fits;
+        done = stretch-zero h before buffer read written s.done none front part some (let l = long in let i = inside in omega arith) refl part-flat.whole new (front - 1) _ refl as-long count room (begins ∙ ap output moved-is) behind
+            (let l = long in omega arith) (let o = s.order in let f = s.fits in let l = s.done.len in omega arith)
+            (ne_eqb _ 255 (λ is. true≢false (sym (is-full.1 (ap (λ (x : List ℕ). code_of (last_part x)) front-is ∙ is)) ∙ open')));
+      }
+
+-- the first front
+module _ (old new : List ℕ) (end first : ℕ) (within : end ≤ length old) where
+  pub start : DecodedSource (take end old) old old 0 0
+  start = record { room = omega arith; len = refl; rest = refl; blocks = record { within = omega arith; kepts = refl; whole = refl } }
+
+  module _ (none : HasNoZero (take end old)) (some : 0 < first) (le : first ≤ end) (flat : IsFlat (take first old)) (begins : take (first - 1) new ≡ output (take first old)) (rest : drop (first - 1) new ≡ drop (first - 1) old)
+      (same : length new ≡ length old) where
+    all-long : length (take end old) ≡ end
+    all-long = length-take-le end old within
+
+    first-count : first - 1 ≡ length (output (take first old))
+    first-count = let f = flat.len in let t = length-take-le first old (omega arith) in omega arith
+
+    pub first-end : (end ≤ first) ⊎ (is_full (last_part (take first old)) ≡ true) → DecodedSource (take end old) old new first (first - 1)
+    first-end either =
+        let l = all-long in
+        subst (λ (x : List ℕ). DecodedSource (take end old) old x first (first - 1)) (put-back 0 old new)
+        (simp zero-add at (stretch-last (take end old) old old 0 0 start none first (take first old) some (omega arith) (sym (take-take first end old le)) flat.whole new (first - 1) (length old - 0) refl (omega arith) first-count (omega arith) begins rest
+        (elim either [
+          | inl past ↦ inl (omega arith)
+          | inr full ↦ inr full
+        ])))
+
+    pub first-zero : first < end → is_full (last_part (take first old)) ≡ false → DecodedSource (take end old) old (set new (first - 1) 0) first (first - 1 + 1)
+    first-zero more other =
+        let l = all-long in
+        subst (λ (x : List ℕ). DecodedSource (take end old) old (set x (first - 1) 0) first (first - 1 + 1)) (put-back 0 old new)
+        (simp zero-add at (stretch-zero (take end old) old old 0 0 start none first (take first old) some (omega arith) (sym (take-take first end old le)) flat.whole new (first - 1) (length old - 0) refl (omega arith) first-count (omega arith) begins rest
+        (omega arith) (omega arith) other))
+
+-- what is decoded behind it
+module _ (old dest : List ℕ) (end read written : ℕ) (d : DecodedSource (take end old) old dest read written) (order : written ≤ read) (le : read ≤ end) where
+  abbrev free : List ℕ
+  free = take (length dest - written) (drop written dest)
+
+  abbrev left : List ℕ
+  left = take (end - read) (drop (read - written) free)
+
+  free-is : free ≡ drop written dest
+  free-is = take_rest dest written
+
+  left-behind : left ≡ drop read (take end old)
+  left-behind =
+      let at : written + (read - written) ≡ read = omega arith in
+      let sum : read + (end - read) ≡ end = omega arith in
+      ap (λ (x : List ℕ). take (end - read) (drop (read - written) x)) free-is
+      ∙ ap (take (end - read)) (drop-drop (read - written) written dest ∙ ap (λ (k : ℕ). drop k dest) at ∙ drop-later written read dest old order d.rest)
+      ∙ sym (drop-take read (end - read) old) ∙ ap (λ (k : ℕ). drop read (take k old)) sum
+
+  pub behind-nonzero : HasNoZero (take end old) → HasNoZero left
+  behind-nonzero none = subst HasNoZero (sym left-behind) (All-drop (λ byte. byte ≢ 0) read (take end old) none)
+
+  module _ (new : List ℕ) (more : ℕ) (whole : Bool) (fits : more ≤ length free) (more-is : more ≡ length (kept_output left)) (whole-is : whole ≡ whole_left left) (is : new ≡ overwritten free (kept_output left)) where
+    kept : kept_output (take end old) ≡ take written dest ++ kept_output left
+    kept = d.blocks.kepts ∙ ap (λ (x : List ℕ). take written dest ++ kept_output x) (sym left-behind)
+
+    front-long : length (take written dest) ≡ written
+    front-long = length-take-le written dest (let r = d.room in let l = d.len in omega arith)
+
+    pub behind-answer : cond whole (Ok (written + more)) (Err (InvalidFrame (written + more))) ≡ head_answer (take end old)
+    behind-answer =
+        let count : written + more ≡ length (kept_output (take end old)) = (let k = ap length kept ∙ length-append (take written dest) (kept_output left) in let f = front-long in omega arith) in
+        let same : whole ≡ whole_left (take end old) = whole-is ∙ ap whole_left left-behind ∙ sym d.blocks.whole in
+        ap (λ (n : ℕ). cond whole (Ok n) (Err (InvalidFrame n))) count ∙ ap (λ (w : Bool). cond w (Ok (length (kept_output (take end old)))) (Err (InvalidFrame (length (kept_output (take end old)))))) same
+        ∙ sym (kept-answer (take end old))
+
+    pub behind-buffer : put_mid written (length dest - written) dest new ≡ overwritten old (kept_output (take end old))
+    behind-buffer =
+        let f = front-long in
+        let l = d.len in
+        let r = ap length free-is ∙ length-drop written dest in
+        let new-is : new ≡ kept_output left ++ drop more free =
+        is ∙ ap (λ (x : List ℕ). x ++ drop (length (kept_output left)) free) (take_all (length free) (kept_output left) (omega arith)) ∙ ap (λ (n : ℕ). kept_output left ++ drop n free) (sym more-is) in
+        let long = ap length new-is ∙ length-append (kept_output left) (drop more free) in
+        let k = length-drop more free in
+        let put = put-back written dest new in
+        let sum : length (put_mid written (length dest - written) dest new) ≡ length old = (let a = ap length put ∙ length-append (take written dest) new in omega arith) in
+        overwritten-front old (put_mid written (length dest - written) dest new) (kept_output (take end old)) (written + more) sum (omega arith)
+        (ap (drop (written + more)) put ∙ drop-past (take written dest) new written more (written + more) front-long refl ∙ ap (drop more) new-is ∙ drop_at (kept_output left) (drop more free) more (sym more-is)
+        ∙ ap (drop more) free-is ∙ drop-drop more written dest ∙ drop-later written (written + more) dest old (omega arith) d.rest)
+        (kept ∙ sym (ap (take (written + more)) put ∙ take-past (take written dest) new written more (written + more) front-long refl
+        ∙ ap (λ (x : List ℕ). take written dest ++ x) (ap (take more) new-is ∙ take_at (kept_output left) (drop more free) more (sym more-is))))

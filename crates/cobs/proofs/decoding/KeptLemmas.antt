@@ -1,8 +1,9 @@
 -- A piece without its first part, or with a block in front of it: its kept output, and whether it is whole.
-use Rattle.std.proofs.Common.{◌≡◌, ℕ, ◌+◌, ◌-◌, ◌<◌, ◌≤◌, Bool, true, false, cond, eqb, List, [], ◌∷◌, ◌++◌, length, take, drop, refl, sym, ap, ◌∙◌, arith, append_assoc, length-append, length-drop, append-nil, take_all, ◌≢◌, take_at, drop_at}
+use Rattle.std.proofs.Common.{◌==◌, ◌≡◌, ℕ, ◌+◌, ◌-◌, ◌<◌, ◌≤◌, Bool, true, false, cond, eqb, List, [], ◌∷◌, ◌++◌, length, take, drop, refl, sym, ap, ◌∙◌, arith, append_assoc, length-append, length-drop, append-nil, take_all, ◌≢◌, take_at, drop_at}
 use Rattle.std.proofs.lemmas.Bool.{ne_eqb, eq-eqb}
 use Rattle.cobs.specs.Grammar.{bytes_of, joint, message_of, last_of, IsBlock}
 use Rattle.cobs.specs.Piece.{parts, lacks, output, last_part, is_whole, kept_output, IsWhole}
+use Rattle.cobs.specs.Internal.Decoded.{whole_left}
 use Rattle.cobs.proofs.decoding.PieceCuts.{joint_of, output-last, output-more, output-empty, last_part-more, last_part-last, is_whole-of}
 use Rattle.cobs.proofs.decoding.WindowSteps.{take-past}
 
@@ -11,10 +12,12 @@ abbrev pub joins : ℕ → List ℕ → List ℕ
 joins code [] = []
 joins code (byte ∷ bytes) = joint_of code
 
--- whether what is left is whole, or nothing is left
-abbrev pub whole_left : List ℕ → Bool
-whole_left [] = true
-whole_left (byte ∷ bytes) = is_whole (byte ∷ bytes)
+-- what joins a full part, and another one, to what follows
+pub joins-full : (code : ℕ) (q : List ℕ) → code == 255 ≡ true → [] ≡ joins code q
+joins-full code q h = grind arith
+
+pub joins-zero-due : (code : ℕ) (q : List ℕ) → code == 255 ≡ false → 0 < length q → 0 ∷ [] ≡ joins code q
+joins-zero-due code q h e = grind arith
 
 kept-is : (p : List ℕ) → kept_output p ≡ cond (is_whole p) (output p) (take (length (output p) - length (bytes_of (last_part p))) (output p))
 unfolding kept_output

@@ -18,14 +18,14 @@ module _ (p : List ℕ) (n : ℕ) where
   sized-too_long long = ap (λ (t : Bool). sized (if t then (if is_whole p then Message (output p) else Broken (length (output p))) else TooLong)) (sym (lt-leb (length (output p)) n long))
 
   -- a whole piece
-  pub sized-whole : 0 < length p → length (output p) ≤ n → lacks (last_part p) ≡ 0 → (k : ℕ) → k ≡ length (output p) → Ok k ≡ sized (outcome_of p n)
+  pub sized_whole : 0 < length p → length (output p) ≤ n → lacks (last_part p) ≡ 0 → (k : ℕ) → k ≡ length (output p) → Ok k ≡ sized (outcome_of p n)
   unfolding outcome_of
-  sized-whole some fits whole k is = grind (arith, is_whole-of, eq-eqb, le-leb)
+  sized_whole some fits whole k is = grind (arith, is_whole-of, eq-eqb, le-leb)
 
   -- a broken piece
-  pub sized-broken : 0 < length p → length (output p) ≤ n → lacks (last_part p) ≢ 0 → (k : ℕ) → k ≡ length (output p) → Err (InvalidFrame k) ≡ sized (outcome_of p n)
+  pub sized_broken : 0 < length p → length (output p) ≤ n → lacks (last_part p) ≢ 0 → (k : ℕ) → k ≡ length (output p) → Err (InvalidFrame k) ≡ sized (outcome_of p n)
   unfolding outcome_of
-  sized-broken some fits broken k is = grind (arith, is_whole-of, ne_eqb, le-leb)
+  sized_broken some fits broken k is = grind (arith, is_whole-of, ne_eqb, le-leb)
 
 -- the answer to a source that isn't empty, by its first piece
 pub decode_answer-none : (source : List ℕ) (n : ℕ) → 0 < length source → first_piece source ≡ None → Err (InvalidFrame 0) ≡ decode_answer source n

@@ -4,12 +4,7 @@ use Rattle.std.proofs.lemmas.List.{drop-drop, drop_more}
 use Rattle.std.proofs.lemmas.Bool.{cases_lt, cases_eq, ne_eqb, eq-eqb}
 use Rattle.cobs.specs.Grammar.{bytes_of, joint, message_of, last_of}
 use Rattle.cobs.specs.Piece.{last_part, is_whole, lacks, parts, parts_after, output}
-
-parts_after-drop : (n : ℕ) (p : List ℕ) → parts_after n p ≡ parts_after 0 (drop n p)
-unfolding parts_after
-parts_after-drop zero p = refl
-parts_after-drop (suc n) [] = refl
-parts_after-drop (suc n) (x ∷ p) = parts_after-drop n p
+use Rattle.cobs.proofs.format.FrameLemmas.{parts_after-drop, parts_after-past}
 
 parts_after-some : (p : List ℕ) → 0 < length p → 0 < length (parts_after 0 p)
 unfolding parts_after
@@ -23,12 +18,7 @@ message_of-cons part parts h = grind arith
 pub output-last : (code : ℕ) (bytes : List ℕ) → length bytes ≤ code - 1 → output (code ∷ bytes) ≡ bytes
 unfolding output parts parts_after
 output-last code bytes short =
-    ap (λ (x : List (List ℕ)). message_of ((code ∷ take (code - 1) bytes) ∷ x)) (none (code - 1) bytes short) ∙ take_all (code - 1) bytes short
-  where
-    none : (n : ℕ) (p : List ℕ) → length p ≤ n → parts_after n p ≡ []
-    none n [] h = refl
-    none zero (x ∷ p) h = absurd (omega arith)
-    none (suc n) (x ∷ p) h = none n p (omega arith)
+    ap (λ (x : List (List ℕ)). message_of ((code ∷ take (code - 1) bytes) ∷ x)) (parts_after-past (code - 1) bytes short) ∙ take_all (code - 1) bytes short
 
 abbrev pub joint_of : ℕ → List ℕ
 joint_of code = if code == 255 then [] else 0 ∷ []
@@ -94,8 +84,8 @@ pub output-le : (p : List ℕ) → 0 < length p → length (output p) + 1 ≤ le
 output-le p some = le_by (length p) p (omega arith) some
 
 -- a short piece has no full part before its last one
-pub output-short : (p : List ℕ) → 0 < length p → length p < 255 → length (output p) + 1 ≡ length p
-output-short p some few = let l = long_by (length p) p (omega arith) in let k = le_by (length p) p (omega arith) some in omega arith
+pub output_short : (p : List ℕ) → 0 < length p → length p < 255 → length (output p) + 1 ≡ length p
+output_short p some few = let l = long_by (length p) p (omega arith) in let k = le_by (length p) p (omega arith) some in omega arith
 
 pub output-long : (p : List ℕ) → 33 ≤ length p → 32 ≤ length (output p)
 output-long p h = grind (arith, long_by)

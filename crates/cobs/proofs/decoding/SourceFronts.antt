@@ -1,19 +1,18 @@
 -- A source for any sentinel, of which stretches of whole blocks are decoded by one copy each.
 use Rattle.std.proofs.Common.{Ok, Err, ◌≡◌, ◌≢◌, ℕ, ◌+◌, ◌-◌, ◌<◌, ◌≤◌, ◌⊎◌, inl, inr, true, false, List, [], ◌∷◌, ◌++◌, length, take, drop, get_or, set, bit_xor, sym, ap, ◌∙◌, subst, arith, append_assoc, length-append, length-drop, length-take-le, take_at, drop_at, take_all, append-nil, take-append-drop}
-use Rattle.std.proofs.lemmas.List.{drop-drop, drop_all, take_rest, length-map, get_or-map, get_or-take, get_or-drop, take-map, drop-map, length-set, take_more_set, drop-set-lt}
+use Rattle.std.proofs.lemmas.List.{drop-drop, drop_all, take_rest, length-map, get_or-map, get_or-drop, take-map, drop-map, length-set, take_more_set, drop-set-lt}
 use Rattle.std.proofs.lemmas.List.Elements.{All-take, All-drop}
 use borrow.Rule.Slice.PartMut.{put_mid}
 use Rattle.cobs.specs.Overwritten.{overwritten}
 use Rattle.cobs.specs.Grammar.{HasNoZero, code_of, is_full}
 use Rattle.cobs.specs.Piece.{output, last_part, lacks, kept_output}
-use Rattle.cobs.specs.Internal.Decoded.{IsFlat}
+use Rattle.cobs.specs.Internal.Decoded.{IsFlat, whole_left}
 use Rattle.cobs.specs.Sentinel.{xor_each}
-use Rattle.cobs.proofs.decoding.InPlaceSteps.{drop-later, joins-full, joins-zero-due}
-use Rattle.cobs.proofs.decoding.KeptLemmas.{joins, whole_left}
+use Rattle.cobs.proofs.decoding.KeptLemmas.{joins, joins-full, joins-zero-due}
 use Rattle.cobs.proofs.decoding.WholeLemmas.{in_front}
 use Rattle.cobs.proofs.decoding.WindowSteps.{take-past, drop-past}
 use Rattle.cobs.proofs.decoding.BlockSteps.{BlocksRead, overwritten-front}
-use Rattle.cobs.proofs.decoding.SourceSteps.{DecodedSource, answer-fits, answer-too_long, overwritten-full, source_answer-head}
+use Rattle.cobs.proofs.decoding.SourceSteps.{drop-later, DecodedSource, answer-fits, answer-too_long, overwritten-full, source_answer-head}
 use Rattle.cobs.proofs.decoding.HeadLemmas.{front_is_head}
 use Rattle.cobs.proofs.decoding.FlatLemmas.{flat-kept, flat-answer}
 use Rattle.std.specs.Int.Bits.{xor_self}
@@ -60,14 +59,11 @@ module _ (source dest new : List ℕ) (s end : ℕ) (within : end ≤ length sou
   pub front-buffer : length new ≡ length dest → drop (end - 1) new ≡ drop (end - 1) dest → take (end - 1) new ≡ output (xor_each s (take end source)) → new ≡ overwritten dest (kept_output (head (xor_each s source)))
   front-buffer same rest begins = grind (arith, overwritten-front, flat-kept, front-head)
 
-module _ (source : List ℕ) (s : ℕ) (old dest : List ℕ) (read written : ℕ) (d : DecodedSource (xor_each s source) old dest read written) where
+-- what is left of a source
+module _ (source : List ℕ) (s read : ℕ) where
   abbrev h : List ℕ
   h = xor_each s source
 
-  h-long : length h ≡ length source
-  h-long = length-map source (λ (b : ℕ). bit_xor b s)
-
-  -- what is left of the source
   pub left-is : xor_each s (take (length source - read) (drop read source)) ≡ drop read h
   left-is = ap (xor_each s) (take_rest source read) ∙ sym (drop-map (λ b. bit_xor b s) read source)
 
@@ -76,24 +72,21 @@ module _ (source : List ℕ) (s : ℕ) (old dest : List ℕ) (read written : ℕ
 
   -- where no block is whole
   pub left-broken : read < length source → length (take (length source - read) (drop read source)) < get_or (xor_each s (take (length source - read) (drop read source))) 0 0
-      → length source - read < bit_xor (get_or source read 0) s
-  left-broken more broken =
-      let l = length-drop read source in
-      let n = length-take-le (length source - read) (drop read source) (omega arith) in
-      let at : read + 0 ≡ read = omega arith in
-      grind (arith, bit_xor, get_or-map, get_or-take, get_or-drop)
+      → length h - read < get_or h read 0
+  left-broken more broken = grind (arith, left-is, length-drop, length-take-le, length-map, bit_xor, get_or-drop)
 
   -- a stretch of it
   pub stretch-is : (len m : ℕ) → m ≡ read + len → xor_each s (take (m - read) (drop read source)) ≡ take len (drop read h)
   stretch-is len m m-is = grind (arith, take-map, drop-map)
 
-  -- a stretch of whole blocks
-  module _ (none : HasNoZero h) (len : ℕ) (p : List ℕ) (some : 0 < len) (fits : read + len ≤ length source) (p-is : p ≡ take len (drop read h)) (whole : lacks (last_part p) ≡ 0) where
+-- a stretch of whole blocks behind those that are decoded
+module _ (h old dest : List ℕ) (read written : ℕ) (d : DecodedSource h old dest read written) where
+  module _ (none : HasNoZero h) (len : ℕ) (p : List ℕ) (some : 0 < len) (fits : read + len ≤ length h) (p-is : p ≡ take len (drop read h)) (whole : lacks (last_part p) ≡ 0) where
     abbrev q : List ℕ
     q = drop (read + len) h
 
     p-long : length p ≡ len
-    p-long = ap length p-is ∙ length-take-le len (drop read h) (let l = h-long in let k = length-drop read h in omega arith)
+    p-long = ap length p-is ∙ length-take-le len (drop read h) (let k = length-drop read h in omega arith)
 
     pub stretch-nonzero : HasNoZero p
     stretch-nonzero = subst HasNoZero (sym p-is) (All-take (λ byte. byte ≢ 0) len (drop read h) (All-drop (λ byte. byte ≢ 0) read h none))
@@ -145,13 +138,21 @@ module _ (source : List ℕ) (s : ℕ) (old dest : List ℕ) (read written : ℕ
       after-len = grind (arith, after-is, length-append, length-take-le)
 
       blocks-after : (done joint : List ℕ) → joint ≡ joins (code_of (last_part p)) q → done ≡ (take written dest ++ output p) ++ joint → BlocksRead h done (read + len)
-      blocks-after done joint joint-is done-is = grind (arith, in_front, q, p-long, stretch-nonzero, joins, append_assoc, h-long, split, whole_left)
+      blocks-after done joint joint-is done-is =
+          let f = in_front p q (let l = p-long in omega arith) stretch-nonzero whole in
+          record {
+            within = fits;
+            kepts = d.blocks.kepts ∙ ap (λ (x : List ℕ). take written dest ++ x) (ap kept_output split ∙ f.kepts ∙ ap (λ (x : List ℕ). output p ++ (x ++ kept_output q)) (sym joint-is))
+                ∙ sym (append_assoc (take written dest) (output p) (joint ++ kept_output q)) ∙ sym (append_assoc (take written dest ++ output p) joint (kept_output q))
+                ∙ ap (λ (x : List ℕ). x ++ kept_output q) (sym done-is);
+            whole = d.blocks.whole ∙ ap whole_left split ∙ f.whole;
+          }
 
       -- no zero is due
-      pub stretch-last : (length source ≤ read + len) ⊎ (is_full (last_part p) ≡ true) → DecodedSource h old (put_mid written k dest new) (read + len) (written + w)
+      pub stretch-last : (length h ≤ read + len) ⊎ (is_full (last_part p) ≡ true) → DecodedSource h old (put_mid written k dest new) (read + len) (written + w)
       stretch-last none-due =
           let due : [] ≡ joins (code_of (last_part p)) q = elim none-due [
-            | inl last ↦ sym (ap (joins (code_of (last_part p))) (drop_all (read + len) h (let l = h-long in omega arith)))
+            | inl last ↦ sym (ap (joins (code_of (last_part p))) (drop_all (read + len) h last))
             | inr full ↦ joins-full (code_of (last_part p)) q full
           ] in
           record {
@@ -162,7 +163,7 @@ module _ (source : List ℕ) (s : ℕ) (old dest : List ℕ) (read written : ℕ
           }
 
       -- a zero is due
-      pub stretch-zero : read + len < length source → written + w < length dest → is_full (last_part p) ≡ false → DecodedSource h old (set (put_mid written k dest new) (written + w) 0) (read + len) (written + w + 1)
+      pub stretch-zero : read + len < length h → written + w < length dest → is_full (last_part p) ≡ false → DecodedSource h old (set (put_mid written k dest new) (written + w) 0) (read + len) (written + w + 1)
       stretch-zero before-end space other =
           let l = after-len in
           record {
@@ -170,6 +171,6 @@ module _ (source : List ℕ) (s : ℕ) (old dest : List ℕ) (read written : ℕ
             len = length-set (put_mid written k dest new) (written + w) 0 ∙ after-len;
             rest = drop-set-lt (written + w + 1) (put_mid written k dest new) (written + w) 0 (omega arith)
                 ∙ drop-later (written + w) (written + w + 1) (put_mid written k dest new) old (omega arith) after-rest;
-            blocks = blocks-after _ (0 ∷ []) (joins-zero-due (code_of (last_part p)) q other (let j = length-drop (read + len) h in let n = h-long in omega arith))
+            blocks = blocks-after _ (0 ∷ []) (joins-zero-due (code_of (last_part p)) q other (let j = length-drop (read + len) h in omega arith))
                 (take_more_set (put_mid written k dest new) (written + w) 0 (omega arith) ∙ ap (λ (x : List ℕ). x ++ 0 ∷ []) after-front);
           }

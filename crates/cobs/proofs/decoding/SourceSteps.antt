@@ -1,8 +1,8 @@
 -- A source for any sentinel that is decoded into a buffer of its own, so far.
-use Rattle.std.proofs.Common.{◌≡◌, ◌≢◌, ℕ, ◌-◌, ◌<◌, ◌≤◌, Bool, cond, All, List, [], ◌∷◌, ◌++◌, length, take, drop, get_or, bit_xor, Err, Ok, refl, sym, ap, ◌∙◌, subst, arith, length-append, length-take-le, take_at, append-nil}
+use Rattle.std.proofs.Common.{◌≡◌, ◌≢◌, ℕ, ◌+◌, ◌-◌, ◌<◌, ◌≤◌, Bool, cond, All, List, [], ◌∷◌, ◌++◌, length, take, drop, get_or, bit_xor, Err, Ok, refl, sym, ap, ◌∙◌, subst, arith, length-append, length-take-le, take_at, append-nil}
 use Rattle.std.specs.Int.Bits.{xor_self}
 use Rattle.std.proofs.lemmas.Bool.{le-leb, lt-leb}
-use Rattle.std.proofs.lemmas.List.{drop_all, get_or-map, length-map, take-map}
+use Rattle.std.proofs.lemmas.List.{drop-drop, drop_all, get_or-map, length-map, take-map}
 use Rattle.std.proofs.lemmas.List.Elements.{All-map, All-weaker}
 use Rattle.cobs.specs.Overwritten.{overwritten}
 use Rattle.cobs.specs.Grammar.{HasNoZero}
@@ -16,6 +16,12 @@ use Rattle.cobs.proofs.decoding.HeadLemmas.{front_is_head}
 use Rattle.cobs.proofs.decoding.KeptLemmas.{kept_output-empty}
 use Rattle.cobs.proofs.decoding.OutcomeSteps.{overwritten-none}
 use Rattle.cobs.proofs.decoding.BlockSteps.{BlocksRead, all-kept, all-answer, broken-kept, broken-answer, overwritten-front}
+
+-- what two lists have behind n bytes they have behind more
+pub drop-later : (n m : ℕ) (xs ys : List ℕ) → n ≤ m → drop n xs ≡ drop n ys → drop m xs ≡ drop m ys
+drop-later n m xs ys h e =
+    let k : n + (m - n) ≡ m = omega arith in
+    sym (ap (λ (j : ℕ). drop j xs) k) ∙ sym (drop-drop (m - n) n xs) ∙ ap (drop (m - n)) e ∙ drop-drop (m - n) n ys ∙ ap (λ (j : ℕ). drop j ys) k
 
 -- ANSWERS BY THE KEPT OUTPUT
 
@@ -59,7 +65,7 @@ unfolding head
 nothing_kept [] dest s e = sym (ap (overwritten dest) kept_output-empty ∙ overwritten-none dest)
 nothing_kept (byte ∷ source) dest s e = absurd (omega arith)
 
--- THE BLOCKS OF A SOURCE WITHOUT A SENTINEL
+-- BLOCKS THAT ARE DECODED TO THE FRONT OF A BUFFER
 
 -- the blocks in the first `read` bytes of h are decoded to the front of the buffer, and behind it is as it was
 pub record DecodedSource (h old dest : List ℕ) (read written : ℕ) : Type 0 where
@@ -68,42 +74,32 @@ pub record DecodedSource (h old dest : List ℕ) (read written : ℕ) : Type 0 w
   pub rest : drop written dest ≡ drop written old
   pub blocks : BlocksRead h (take written dest) read
 
-module _ (source : List ℕ) (s : ℕ) (old dest : List ℕ) (read written : ℕ) (d : DecodedSource (xor_each s source) old dest read written) where
-  abbrev h : List ℕ
-  h = xor_each s source
-
-  long : length h ≡ length source
-  long = length-map source (λ (b : ℕ). bit_xor b s)
-
+module _ (h old dest : List ℕ) (read written : ℕ) (d : DecodedSource h old dest read written) where
   done-long : length (take written dest) ≡ written
   done-long = length-take-le written dest (let r = d.room in let l = d.len in omega arith)
 
-  module _ (past : length source ≤ read) where
+  module _ (past : length h ≤ read) where
     kept : kept_output h ≡ take written dest
-    kept = all-kept h (take written dest) read d.blocks (let l = long in omega arith)
+    kept = all-kept h (take written dest) read d.blocks past
 
     pub all-buffer : dest ≡ overwritten old (kept_output h)
     all-buffer = overwritten-front old dest (kept_output h) written d.len d.room d.rest kept
 
+    pub all-long : written ≡ length (kept_output h)
+    all-long = sym (ap length kept ∙ done-long)
+
     pub all-count : Ok written ≡ head_answer_within h (length old)
-    all-count = grind (arith, done-long, all-answer, long, answer-fits, kept)
+    all-count = grind (arith, done-long, all-answer, answer-fits, kept)
 
-  module _ (code : ℕ) (more : read < length source) (is : code ≡ bit_xor (get_or source read 0) s) where
-    here : read < length h
-    here = let l = long in omega arith
+  module _ (code : ℕ) (here : read < length h) (is : code ≡ get_or h read 0) (broken : length h - read < code) where
+    kept-is : kept_output h ≡ take written dest
+    kept-is = broken-kept h (take written dest) read d.blocks code here is broken
 
-    code-is : code ≡ get_or h read 0
-    code-is = is ∙ sym (get_or-map (λ b. bit_xor b s) source read 0 0 more)
+    pub broken-buffer : dest ≡ overwritten old (kept_output h)
+    broken-buffer = overwritten-front old dest (kept_output h) written d.len d.room d.rest kept-is
 
-    module _ (broken : length source - read < code) where
-      broken-long : length h - read < code
-      broken-long = let l = long in omega arith
+    pub broken-long : written ≡ length (kept_output h)
+    broken-long = sym (ap length kept-is ∙ done-long)
 
-      kept-is : kept_output h ≡ take written dest
-      kept-is = broken-kept h (take written dest) read d.blocks code here code-is broken-long
-
-      pub broken-buffer : dest ≡ overwritten old (kept_output h)
-      broken-buffer = overwritten-front old dest (kept_output h) written d.len d.room d.rest kept-is
-
-      pub broken-count : Err (InvalidFrame written) ≡ head_answer_within h (length old)
-      broken-count = grind (arith, done-long, broken-answer, here, code-is, broken-long, answer-fits, kept-is)
+    pub broken-count : Err (InvalidFrame written) ≡ head_answer_within h (length old)
+    broken-count = grind (arith, done-long, broken-answer, answer-fits, kept-is)

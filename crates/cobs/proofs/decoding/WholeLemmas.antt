@@ -5,12 +5,12 @@ use Rattle.std.proofs.lemmas.List.{take-append-le, drop-append-le}
 use Rattle.std.proofs.lemmas.List.Elements.{All-head, All-tail, All-drop}
 use Rattle.cobs.specs.Grammar.{HasNoZero, code_of}
 use Rattle.cobs.specs.Piece.{output, last_part, lacks, kept_output}
+use Rattle.cobs.specs.Internal.Decoded.{whole_left}
 use Rattle.cobs.proofs.decoding.PieceCuts.{joint_of, output-last, output-more, last_part-more, last_part-last}
-use Rattle.cobs.proofs.decoding.KeptLemmas.{joins, whole_left, output-part, whole-part, kept-part}
+use Rattle.cobs.proofs.decoding.KeptLemmas.{joins, output-part, whole-part, kept-part}
 
 -- what whole blocks p in front of q give
 pub record InFront (p q : List ℕ) : Type 0 where
-  pub outs : output (p ++ q) ≡ output p ++ (joins (code_of (last_part p)) q ++ output q)
   pub kepts : kept_output (p ++ q) ≡ output p ++ (joins (code_of (last_part p)) q ++ kept_output q)
   pub whole : whole_left (p ++ q) ≡ whole_left q
   pub last : 0 < length q → last_part (p ++ q) ≡ last_part q
@@ -27,8 +27,6 @@ one code bytes q some long =
     let last : last_part (code ∷ bytes) ≡ code ∷ bytes = last_part-last code bytes (omega arith) in
     let out : output (code ∷ bytes) ≡ bytes = output-last code bytes (omega arith) in
     record {
-      outs = output-part code (bytes ++ q) q (omega arith) rest ∙ ap (λ (x : List ℕ). x ++ (joins code q ++ output q)) (all ∙ sym out)
-          ∙ ap (λ (x : List ℕ). output (code ∷ bytes) ++ (joins (code_of x) q ++ output q)) (sym last);
       kepts = kept-part code (bytes ++ q) q some (omega arith) rest ∙ ap (λ (x : List ℕ). x ++ (joins code q ++ kept_output q)) (all ∙ sym out)
           ∙ ap (λ (x : List ℕ). output (code ∷ bytes) ++ (joins (code_of x) q ++ kept_output q)) (sym last);
       whole = whole-part code (bytes ++ q) q some (omega arith) rest;

@@ -10,7 +10,7 @@ use borrow.Rule.Slice.PartMut.{put_mid, same_len_mid}
 use Rattle.cobs.specs.Grammar.{HasNoZero, code_of}
 use Rattle.cobs.specs.Piece.{output, last_part, lacks}
 pub use Rattle.cobs.specs.Internal.Decoded.{Decoded}
-use Rattle.cobs.proofs.decoding.PieceCuts.{last_part-more, last_part-last, last_part-ones, output-last, output-more, output-long, output-le, output-short, output-ones, length-output-last, joint_of, joint-length}
+use Rattle.cobs.proofs.decoding.PieceCuts.{last_part-more, last_part-last, last_part-ones, output-last, output-more, output-long, output-le, output_short, output-ones, length-output-last, joint_of, joint-length}
 
 -- Behind the front stand the bytes from the code's on up to end.
 pub record CopiedTo (piece dest : List ℕ) (read end written : ℕ) : Type 0 where
@@ -240,7 +240,7 @@ module _ (piece old dest : List ℕ) (read written : ℕ) (p : Decoded piece old
 
 -- what is left of a piece has no full part before its last one where it is below 255 bytes, or one part
 pub flat-few : (piece old dest : List ℕ) (read written : ℕ) → Decoded piece old dest read written → length piece - read < 255 → length (output (drop read piece)) + 1 ≡ length (drop read piece)
-flat-few piece old dest read written p few = let w = p.within in let d = length-drop read piece in output-short (drop read piece) (omega arith) (omega arith)
+flat-few piece old dest read written p few = let w = p.within in let d = length-drop read piece in output_short (drop read piece) (omega arith) (omega arith)
 
 pub flat-one : (piece old dest : List ℕ) (read written : ℕ) → Decoded piece old dest read written → length piece - read ≤ get_or piece read 0 → length (output (drop read piece)) + 1 ≡ length (drop read piece)
 flat-one piece old dest read written p one = let d = length-drop read piece in let o = length-output-last piece read p.within one in omega arith

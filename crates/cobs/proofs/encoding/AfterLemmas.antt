@@ -11,8 +11,10 @@ use Rattle.cobs.specs.Length.{encoded_len}
 use Rattle.cobs.specs.OpenBlock.{Reached, end_of, next_of, CobsEncoderAfter}
 use Rattle.cobs.proofs.format.GrammarLemmas.{lone_block-is_block, one_frame}
 use Rattle.cobs.proofs.format.UniqueLemmas.{one_encoded, length-encoded}
-use Rattle.cobs.proofs.encoding.OpenLemmas.{All-front, concat-append, message_of-append, frame_of, append-some}
-use Rattle.cobs.proofs.encoding.OpenedLemmas.{Opened, ends_in_full, last_of-push}
+use Rattle.cobs.proofs.encoding.OpenLemmas.{All-front, message_of-append, frame_of, append-some}
+use Rattle.cobs.proofs.format.FrameLemmas.{last_of-push}
+use Rattle.cobs.proofs.format.JoinLemmas.{concat-append}
+use Rattle.cobs.proofs.encoding.OpenedLemmas.{Opened, ends_in_full}
 
 -- the blocks before the last, if there are some
 pub by_last : (bs : List (List ℕ)) → (bs ≡ []) ⊎ ((front : List (List ℕ)) × (b : List ℕ) × (bs ≡ front ++ b ∷ []))

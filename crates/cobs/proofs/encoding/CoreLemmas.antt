@@ -9,21 +9,14 @@ use Rattle.cobs.specs.OpenBlock.{Reached, CobsEncoderAfter, next_of, end_of}
 use Rattle.cobs.specs.Length.{encoded_len, open_len}
 use Rattle.cobs.proofs.encoding.OpenedLemmas.{Opened}
 use Rattle.cobs.proofs.encoding.OpenLenLemmas.{Opened-len}
-use Rattle.cobs.proofs.encoding.ReachLemmas.{Reaches, Reaches-noted, Reaches-start, least, taken-full, ends-full}
+use Rattle.cobs.proofs.encoding.ReachLemmas.{Reaches, Reaches-noted, least, taken-full, ends-full}
 use Rattle.cobs.proofs.encoding.AfterLemmas.{at, from_after, to_after, end-is, open-same}
 use Rattle.cobs.proofs.format.UniqueLemmas.{length-encoded}
-use Rattle.cobs.proofs.encoding.OpenLemmas.{concat-append}
+use Rattle.cobs.proofs.format.JoinLemmas.{concat-append}
 
 -- where the frame is to end
 abbrev pub end_with : Reached → List ℕ → ℕ
 end_with r source = r.block.index + open_len r.block.code source
-
-pub core-start : (source old : List ℕ) (r : Reached) (index next : ℕ) (full : Bool) → at index (next - index) full ≡ r → index < next → next < index + 255
-    → Reaches (CobsEncoderAfter old r) source old old (end_with r source) 0 index next (λ _. Unit {0})
-core-start source old r index next full is ordered short =
-    let sum : index + (next - index) ≡ next = omega arith in
-    Reaches-start (CobsEncoderAfter old r) source old (end_with r source) index next full ordered short (ap (λ (x : Reached). end_with x source) is)
-    (λ m h. subst (λ (n : ℕ). Opened old m index n full) sum (from_after old m (at index (next - index) full) (subst (λ (x : Reached). CobsEncoderAfter old x m) (sym is) h)))
 
 pub core-noted : (source old : List ℕ) (r : Reached) (index next : ℕ) (full : Bool) → at index (next - index) full ≡ r → index < next → next < index + 255
     → Reaches (CobsEncoderAfter old r) source old old (end_with r source) 0 index next (λ noted. noted ≡ full)

@@ -7,10 +7,7 @@ use Rattle.std.proofs.lemmas.List.Elements.{All-head, All-tail, All-cons, All-ni
 use Rattle.cobs.specs.Grammar.{IsBlock, is_full, bytes_of, joint, lone_block, message_of, IsFrameOf, IsOpenFrame}
 use Rattle.cobs.specs.OpenBlock.{OpenBlock, AgreeOutside, IsOpenOutput}
 use Rattle.cobs.proofs.format.GrammarLemmas.{lone_block-is_block}
-
-pub concat-append : (a b : List (List ℕ)) → concat (a ++ b) ≡ concat a ++ concat b
-concat-append [] b = refl
-concat-append (x ∷ a) b = ap (λ (l : List ℕ). x ++ l) (concat-append a b) ∙ sym (append_assoc x (concat a) (concat b))
+use Rattle.cobs.proofs.format.JoinLemmas.{concat-append}
 
 -- what blocks stand for, cut in front of the last block but some
 pub message_of-append : (bs : List (List ℕ)) (b next : List ℕ) (cs : List (List ℕ)) → message_of (bs ++ b ∷ next ∷ cs) ≡ message_of (bs ++ b ∷ []) ++ joint b ++ message_of (next ∷ cs)

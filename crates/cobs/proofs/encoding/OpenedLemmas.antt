@@ -6,7 +6,9 @@ use Rattle.std.proofs.Math.Seq.{take-set-lt, take-add}
 use Rattle.std.proofs.lemmas.List.{take-take, set_split, drop-append-le, drop_all}
 use Rattle.std.proofs.lemmas.List.Elements.{All-append, All-push, All-nil}
 use Rattle.cobs.specs.Grammar.{HasNoZero, IsBlock, is_full, joint, lone_block, last_of, message_of}
-use Rattle.cobs.proofs.encoding.OpenLemmas.{concat-append, message_of-append, message_of-more}
+use Rattle.cobs.proofs.encoding.OpenLemmas.{message_of-append, message_of-more}
+use Rattle.cobs.proofs.format.FrameLemmas.{last_of-push}
+use Rattle.cobs.proofs.format.JoinLemmas.{concat-append}
 
 -- whether the frame's last block is full, so that the open one is a placeholder alone
 abbrev pub ends_in_full : List (List ℕ) → List ℕ → Bool
@@ -94,11 +96,6 @@ Opened-join slice m more index next full some nonzero short fits here o =
       stands = ap (drop (index + 1)) all ∙ drop-append-le (index + 1) (take next slice) more (omega arith) ∙ ap (λ (x : List ℕ). x ++ more) o.stands;
       noted = sym (not_full-more o.front o.bytes more some);
     }
-
-pub last_of-push : (front : List (List ℕ)) (block : List ℕ) → last_of (front ++ block ∷ []) ≡ block
-last_of-push [] block = refl
-last_of-push (x ∷ []) block = refl
-last_of-push (x ∷ y ∷ front) block = last_of-push (y ∷ front) block
 
 concat-push : (front : List (List ℕ)) (block : List ℕ) → concat (front ++ block ∷ []) ≡ concat front ++ block
 concat-push front block = concat-append front (block ∷ []) ∙ ap (λ (x : List ℕ). concat front ++ x) (append-nil block)

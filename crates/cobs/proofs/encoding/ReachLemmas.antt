@@ -136,11 +136,6 @@ pub Reaches-noted : (H : List ℕ → Type 0) (source old : List ℕ) (end index
     → ((m : List ℕ) → H m → Opened old m index next full) → Reaches H source old old end 0 index next (λ noted. noted ≡ full)
 Reaches-noted H source old end index next full ordered short room opens = grind (arith, append-nil)
 
-pub Reaches-start : (H : List ℕ → Type 0) (source old : List ℕ) (end index next : ℕ) (full : Bool) → index < next → next < index + 255 → index + open_len (next - index) source ≡ end
-    → ((m : List ℕ) → H m → Opened old m index next full) → Reaches H source old old end 0 index next (λ _. Unit {0})
-Reaches-start H source old end index next full ordered short room opens =
-    Reaches-at H source old old end 0 index next (λ noted. noted ≡ full) (λ _. Unit {0}) old 0 index next refl refl refl refl (λ noted is. tt) (Reaches-noted H source old end index next full ordered short room opens)
-
 -- what is known of the last block behind a step: it isn't full
 abbrev pub IsNotFull : Bool → Type 0
 IsNotFull full = full ≡ false

@@ -7,7 +7,7 @@ use Rattle.std.proofs.lemmas.List.Splits.{slice_split_none, slice_split_at}
 use Rattle.cobs.specs.Grammar.{HasNoZero}
 use Rattle.cobs.specs.Length.{runs, full_blocks, encoded_len}
 use Rattle.cobs.proofs.format.LengthLemmas.{no_zero, some_stretch, stretches-append, encoded_len-le}
-use Rattle.cobs.proofs.encoding.OpenLenLemmas.{ones, length-ones}
+use Rattle.cobs.proofs.encoding.OpenLenLemmas.{ones, length-ones, open_len-most}
 
 abbrev pub blocks_in : List ℕ → ℕ
 blocks_in m = full_blocks (runs m)
@@ -25,6 +25,9 @@ pub blocks-le : (run : ℕ) (t : List ℕ) → blocks_in (behind run t) ≤ run 
 blocks-le run t =
     let most = encoded_len-le (behind run t) in
     grind (arith, length-append, replicate, length-ones)
+
+-- for the tactics of `fits`
+pub ruleset counted = (open_len-most, blocks-le)
 
 same_blocks : (a b t : List ℕ) → HasNoZero a → HasNoZero b → length a ≡ length b → blocks_in (a ++ t) ≡ blocks_in (b ++ t)
 same_blocks a b t na nb e = grind (arith, stretches-append, length-append)

@@ -9,9 +9,9 @@ use Rattle.cobs.specs.Length.{encoded_len, open_len}
 use Rattle.cobs.specs.OpenBlock.{Reached, CobsEncoderAfter, IsPlaceIn, end_after, end_of, next_of}
 use Rattle.cobs.specs.Internal.Taking.{TakesFront}
 use Rattle.cobs.proofs.encoding.AfterLemmas.{at, end-is}
-use Rattle.cobs.proofs.encoding.CoreLemmas.{after-nothing, core-noted, core-start, after-len, after-so-far, full-after, full-end, full-rest}
-use Rattle.cobs.proofs.encoding.OpenLenLemmas.{open_len-least}
-use Rattle.cobs.proofs.encoding.ReachLemmas.{Reaches, ends-open, least}
+use Rattle.cobs.proofs.encoding.CoreLemmas.{after-nothing, core-noted, after-len, after-so-far, full-after, full-end, full-rest}
+use Rattle.cobs.proofs.encoding.OpenLenLemmas.{open_len-least, open_len-most}
+use Rattle.cobs.proofs.encoding.ReachLemmas.{Reaches, Reaches-at, ends-open, least}
 
 pub no-bytes : (bytes : List ℕ) → length bytes ≡ 0 → bytes ≡ []
 no-bytes [] e = refl
@@ -19,6 +19,9 @@ no-bytes (b ∷ bytes) e = absurd (omega arith)
 
 pub after-some : (r : Reached) (bytes : List ℕ) → 0 < length bytes → end_after r bytes ≡ r.block.index + open_len r.block.code bytes
 after-some r bytes h = grind arith
+
+-- for the tactics of `take`
+pub ruleset short_room = (after-some, open_len-most, cases_Bool)
 
 -- how long the frame is once the encoder has taken these bytes too
 pub after-end : (slice m bytes : List ℕ) (r : Reached) → CobsEncoderAfter slice r m → encoded_len (m ++ bytes) ≡ end_after r bytes
@@ -36,15 +39,13 @@ module _ (source old : List ℕ) (r : Reached) (some : 0 < length source) (code 
   place : at r.block.index (next_of r - r.block.index) r.full ≡ r
   place = ap (λ (n : ℕ). at r.block.index n r.full) coded
 
-  pub reaches-start : Reaches (CobsEncoderAfter old r) source old old (end_after r source) 0 r.block.index (next_of r) (λ _. Unit {0})
-  reaches-start =
-      subst (λ (e : ℕ). Reaches (CobsEncoderAfter old r) source old old e 0 r.block.index (next_of r) (λ _. Unit {0})) (sym (after-some r source some))
-      (core-start source old r r.block.index (next_of r) r.full place (omega arith) (omega arith))
-
   pub reaches-noted : Reaches (CobsEncoderAfter old r) source old old (end_after r source) 0 r.block.index (next_of r) (λ noted. noted ≡ r.full)
   reaches-noted =
       subst (λ (e : ℕ). Reaches (CobsEncoderAfter old r) source old old e 0 r.block.index (next_of r) (λ noted. noted ≡ r.full)) (sym (after-some r source some))
       (core-noted source old r r.block.index (next_of r) r.full place (omega arith) (omega arith))
+
+  pub reaches-start : Reaches (CobsEncoderAfter old r) source old old (end_after r source) 0 r.block.index (next_of r) (λ _. Unit {0})
+  reaches-start = Reaches-at _ _ _ _ _ _ _ _ _ _ _ _ _ _ refl refl refl refl (λ noted p. tt) reaches-noted
 
 -- where a step ends
 module _ (source old slice : List ℕ) (r r' : Reached) (fits : end_after r source ≤ length slice) where

@@ -1,13 +1,13 @@
 -- Worked cases of the definitions and of the laws: each law says something of some frame, and the premises that it names are needed.
-use Rattle.std.proofs.Common.{◌≡◌, ◌≢◌, ℕ, List, [], ◌∷◌, ◌++◌, replicate, map, refl, arith, ◌<◌, true, All, Some, None, sym, append-nil, ◌∙◌, subst, ⊎_elim}
+use Rattle.std.proofs.Common.{◌≡◌, ◌≢◌, ℕ, List, [], ◌∷◌, ◌++◌, replicate, map, refl, arith, ◌<◌, true, All, Some, None, sym, ◌∙◌, subst, ⊎_elim}
 use Rattle.std.proofs.lemmas.List.Elements.{All-cons, All-nil, All-head, All-replicate}
 use Rattle.std.proofs.lemmas.Bool.{true≢false}
-use Rattle.cobs.specs.Grammar.{HasNoZero, IsBlock, IsFrameOf, Reads, IsFrame, IsCanonical, IsEncodedFrame, lone_block, bytes_of}
+use Rattle.cobs.specs.Grammar.{HasNoZero, IsBlock, IsFrameOf, Reads, IsFrame, IsCanonical, IsEncodedFrame, lone_block}
 use Rattle.cobs.specs.Length.{runs, encoded_len, max_overhead, max_encoded_len, EndsInFullRun, last_run}
 use Rattle.cobs.specs.Sentinel.{xor_each}
 use Rattle.cobs.specs.Piece.{parts, parts_after, last_part, is_whole, output, kept_output}
 use Rattle.cobs.specs.Stream.{Message, Broken, TooLong, outcome_of, first_piece, head}
-use Rattle.cobs.proofs.format.GrammarLemmas.{lone_block-frame, frame-cons, one_frame, IsEncodedFrame-zero, IsEncodedFrame-last, IsEncodedFrame-full}
+use Rattle.cobs.proofs.format.GrammarLemmas.{block-frame, frame-cons, lone_block-is_block, Reads-block, one_frame, short-frame, IsEncodedFrame-zero, IsEncodedFrame-last, IsEncodedFrame-full}
 use Rattle.cobs.proofs.format.FrameLemmas.{frame_whole, parts-frame}
 use Rattle.cobs.proofs.format.UniqueLemmas.{one_encoded}
 use Rattle.cobs.proofs.format.EnumerationLemmas.{all_frames}
@@ -75,7 +75,7 @@ frame_of_ones_and_zero =
     (IsEncodedFrame-zero [] (1 ∷ []) [] (omega arith) (All-nil (λ byte. byte ≢ 0)) frame_of_empty)
 
 longer_blocks : IsFrameOf (block_of_ones ++ lone_block) (block_of_ones ∷ lone_block ∷ [])
-longer_blocks = frame-cons block_of_ones lone_block (lone_block ∷ []) ones_block lone_block-frame
+longer_blocks = frame-cons block_of_ones lone_block (lone_block ∷ []) ones_block (block-frame lone_block lone_block-is_block)
 
 -- with the lone block behind it, it reads as the 254 ones too
 longer_reads : Reads (block_of_ones ++ lone_block) (replicate 254 1)
@@ -87,8 +87,7 @@ longer_not_canonical c = c.shorter [] block_of_ones refl (one_frame (block_of_on
 
 -- a block that is cut short makes no frame
 no_frame : IsFrame (3 ∷ 1 ∷ []) → ⊥
-unfolding parts parts_after is_whole last_part
-no_frame (m, r) = true≢false (sym (frame_whole (3 ∷ 1 ∷ []) m r))
+no_frame = short-frame 3 (1 ∷ []) (omega arith)
 
 -- A FRAME READS AS ITS OUTPUT
 
@@ -118,10 +117,8 @@ beyond_whole = refl
 beyond_no_frame : IsFrame beyond_bytes → ⊥
 unfolding parts parts_after
 beyond_no_frame (m, r) =
-    let same : parts beyond_bytes ≡ r.blocks = parts-frame beyond_bytes r.blocks r.frame in
-    let each : All IsBlock (beyond_bytes ∷ []) = subst (All IsBlock) (sym same) r.frame.each in
-    let block = All-head IsBlock beyond_bytes [] each in
-    let below : 256 < 256 = block.1 in omega arith
+    let each = subst (All IsBlock) (sym (parts-frame beyond_bytes r.blocks r.frame)) r.frame.each in
+    let below : 256 < 256 = (All-head IsBlock beyond_bytes [] each).1 in omega arith
 
 -- ALL FRAMES OF A MESSAGE
 
@@ -157,7 +154,7 @@ parts_between = refl
 front_is_frame : IsFrame (3 ∷ 10 ∷ 11 ∷ [])
 front_is_frame =
     let r = frame_between.reads in
-    let blocks : r.blocks ≡ (3 ∷ 10 ∷ 11 ∷ []) ∷ (2 ∷ 12 ∷ []) ∷ [] = sym (parts-frame (3 ∷ 10 ∷ 11 ∷ 2 ∷ 12 ∷ []) r.blocks r.frame) ∙ parts_between in
+    let blocks = sym (parts-frame (3 ∷ 10 ∷ 11 ∷ 2 ∷ 12 ∷ []) r.blocks r.frame) ∙ parts_between in
     (front_frame (3 ∷ 10 ∷ 11 ∷ []) (2 ∷ 12 ∷ []) (10 ∷ 11 ∷ 0 ∷ 12 ∷ []) r (λ e. cc)).1 ((3 ∷ 10 ∷ 11 ∷ []) ∷ [], (2 ∷ 12 ∷ []) ∷ [], blocks, refl)
 
 -- and fronts that end inside one
@@ -167,31 +164,20 @@ fronts_no_frames = (λ (m, r). true≢false (sym (frame_whole (3 ∷ 10 ∷ []) 
 
 -- JOINED
 
-not_none : (block : List ℕ) → block ∷ [] ≢ []
-not_none block = λ e. cc
-
--- a block alone
-abbrev reads_block : (block : List ℕ) → IsBlock block → Reads block (bytes_of block)
-reads_block block is = record {
-  blocks = block ∷ [];
-  frame = record { some = not_none block; each = All-cons IsBlock block [] is (All-nil IsBlock); whole = sym (append-nil block) };
-  message = refl;
-}
-
 block_of_one : (b : ℕ) → b ≢ 0 → IsBlock (2 ∷ b ∷ [])
 block_of_one b h = (refl, omega arith, no_zero_in b h)
 
 -- 2, 1 and 2, 2 joined mean 1, 0, 2
 joined_zero : Reads (2 ∷ 1 ∷ 2 ∷ 2 ∷ []) (1 ∷ 0 ∷ 2 ∷ [])
 joined_zero =
-    Reads-append (2 ∷ 1 ∷ []) (1 ∷ []) (2 ∷ 2 ∷ []) (2 ∷ []) (reads_block (2 ∷ 1 ∷ []) (block_of_one 1 (λ e. omega arith)))
-    (reads_block (2 ∷ 2 ∷ []) (block_of_one 2 (λ e. omega arith)))
+    Reads-append (2 ∷ 1 ∷ []) (1 ∷ []) (2 ∷ 2 ∷ []) (2 ∷ []) (Reads-block (2 ∷ 1 ∷ []) (block_of_one 1 (λ e. omega arith)))
+    (Reads-block (2 ∷ 2 ∷ []) (block_of_one 2 (λ e. omega arith)))
 
 -- 255, 254 ones and 2, 2 joined mean 254 ones, 2
 joined_full : Reads (block_of_ones ++ 2 ∷ 2 ∷ []) (replicate 254 1 ++ 2 ∷ [])
 joined_full =
-    Reads-append block_of_ones (replicate 254 1) (2 ∷ 2 ∷ []) (2 ∷ []) (reads_block block_of_ones ones_block)
-    (reads_block (2 ∷ 2 ∷ []) (block_of_one 2 (λ e. omega arith)))
+    Reads-append block_of_ones (replicate 254 1) (2 ∷ 2 ∷ []) (2 ∷ []) (Reads-block block_of_ones ones_block)
+    (Reads-block (2 ∷ 2 ∷ []) (block_of_one 2 (λ e. omega arith)))
 
 -- THE FIRST PIECE
 

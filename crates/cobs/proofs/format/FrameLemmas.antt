@@ -1,29 +1,26 @@
 -- A frame reads as its output: the parts of a frame are its blocks.
-use Rattle.std.proofs.Common.{◌≡◌, ◌≢◌, ℕ, zero, suc, ◌-◌, ◌<◌, ◌≤◌, List, [], ◌∷◌, ◌++◌, length, take, drop, All, refl, sym, ap, ◌∙◌, subst, arith, length-take, length-take-le, take-append-drop, take_at, ⊎_elim}
+use Rattle.std.proofs.Common.{◌≡◌, ◌≢◌, ℕ, zero, suc, ◌-◌, ◌<◌, ◌≤◌, List, [], ◌∷◌, ◌++◌, length, take, drop, All, refl, sym, ap, ◌∙◌, subst, arith, append-nil, length-take, length-take-le, take-append-drop, take_at, drop_at, ⊎_elim}
 use Rattle.std.specs.List.{concat}
-use Rattle.std.proofs.lemmas.Bool.{cases_lt, eq-eqb, eqb-true, true≢false}
+use Rattle.std.proofs.lemmas.Bool.{cases_lt, eq-eqb, eqb-true}
+use Rattle.std.proofs.lemmas.List.{drop_all}
 use Rattle.std.proofs.lemmas.List.Elements.{All-head, All-tail, All-cons, All-nil, All-append, All-take}
 use Rattle.cobs.specs.Grammar.{HasNoZero, IsBlock, bytes_of, joint, message_of, last_of, IsFrameOf, Reads}
 use Rattle.cobs.specs.Piece.{parts_after, parts, last_part, lacks, is_whole, IsWhole, output}
 
 -- THE PARTS OF A LIST
 
--- n bytes are skipped
-parts_after-skip : (n : ℕ) (xs rest : List ℕ) → length xs ≡ n → parts_after n (xs ++ rest) ≡ parts_after 0 rest
+-- those behind n bytes are those of what is left
+pub parts_after-drop : (n : ℕ) (p : List ℕ) → parts_after n p ≡ parts_after 0 (drop n p)
 unfolding parts_after
-parts_after-skip zero [] rest h = refl
-parts_after-skip zero (x ∷ xs) rest h = absurd (omega arith)
-parts_after-skip (suc n) [] rest h = absurd (omega arith)
-parts_after-skip (suc n) (x ∷ xs) rest h = parts_after-skip n xs rest (omega arith)
+parts_after-drop zero p = refl
+parts_after-drop (suc n) [] = refl
+parts_after-drop (suc n) (x ∷ p) = parts_after-drop n p
 
--- nothing is left behind all the bytes
+-- nothing is left behind all the bytes, and something behind fewer
 pub parts_after-past : (n : ℕ) (p : List ℕ) → length p ≤ n → parts_after n p ≡ []
 unfolding parts_after
-parts_after-past n [] h = refl
-parts_after-past zero (x ∷ p) h = absurd (omega arith)
-parts_after-past (suc n) (x ∷ p) h = parts_after-past n p (omega arith)
+parts_after-past n p h = grind (arith, parts_after-drop, drop_all)
 
--- and something behind fewer
 pub parts_after-some : (n : ℕ) (p : List ℕ) → n < length p → parts_after n p ≢ []
 unfolding parts_after
 parts_after-some n [] h = absurd (omega arith)
@@ -60,7 +57,7 @@ last_of-push (y ∷ z ∷ xs) x = last_of-push (z ∷ xs) x
 -- a block in front is the first part
 pub parts-block : (block rest : List ℕ) → IsBlock block → parts (block ++ rest) ≡ block ∷ parts rest
 unfolding parts parts_after
-parts-block block rest h = grind (arith, take_at, parts_after-skip)
+parts-block block rest h = grind (arith, take_at, drop_at, parts_after-drop)
 
 pub parts-blocks : (blocks : List (List ℕ)) → All IsBlock blocks → parts (concat blocks) ≡ blocks
 unfolding parts parts_after
@@ -70,30 +67,13 @@ parts-blocks (block ∷ blocks) h = grind (arith, parts-block, All-head, All-tai
 pub parts-frame : (f : List ℕ) (blocks : List (List ℕ)) → IsFrameOf f blocks → parts f ≡ blocks
 parts-frame f blocks frame = ap parts frame.whole ∙ parts-blocks blocks frame.each
 
--- a block lacks nothing
-lacks-block : (block : List ℕ) → IsBlock block → lacks block ≡ 0
-lacks-block block h = grind arith
-
+-- the last of some blocks lacks nothing
 lacks-last : (blocks : List (List ℕ)) → All IsBlock blocks → lacks (last_of blocks) ≡ 0
 lacks-last [] h = refl
-lacks-last (block ∷ []) h = lacks-block block (All-head IsBlock block [] h)
+lacks-last (block ∷ []) h = grind (arith, All-head)
 lacks-last (block ∷ next ∷ blocks) h = lacks-last (next ∷ blocks) (All-tail IsBlock block (next ∷ blocks) h)
 
 -- WHOLE PIECES
-
-pub whole_from : (p : List ℕ) → p ≢ [] → lacks (last_part p) ≡ 0 → IsWhole p
-unfolding is_whole
-whole_from p h e = grind (arith, eq-eqb)
-
-pub lacks_nothing : (p : List ℕ) → IsWhole p → lacks (last_part p) ≡ 0
-unfolding is_whole
-lacks_nothing p h = grind (arith, true≢false, eqb-true)
-
--- a part is a block where it lacks nothing
-block_from : (c : ℕ) (q : List ℕ) → HasNoZero (c ∷ q) → c < 256 → length (take (c - 1) q) ≡ c - 1 → IsBlock (c ∷ take (c - 1) q)
-block_from c q h below all =
-    let some : c ≢ 0 = All-head (λ b. b ≢ 0) c q h in
-    (omega arith, below, All-take (λ b. b ≢ 0) (c - 1) q (All-tail (λ b. b ≢ 0) c q h))
 
 -- parts of which the last lacks nothing are blocks
 blocks_behind : (n : ℕ) (p : List ℕ) → HasNoZero p → All (λ b. b < 256) p → lacks (last_of (parts_after n p)) ≡ 0 → All IsBlock (parts_after n p)
@@ -103,32 +83,24 @@ blocks_behind (suc n) (x ∷ p) h below whole = blocks_behind n p (All-tail (λ 
 blocks_behind zero (c ∷ p) h below whole =
     let some : c ≢ 0 = All-head (λ b. b ≢ 0) c p h in
     let fits : c < 256 = All-head (λ b. b < 256) c p below in
+    let rest = blocks_behind (c - 1) p (All-tail (λ b. b ≢ 0) c p h) (All-tail (λ b. b < 256) c p below) in
+    let nonzero = All-take (λ b. b ≢ 0) (c - 1) p (All-tail (λ b. b ≢ 0) c p h) in
     ⊎_elim
-    (λ (long : c - 1 < length p).
-    let same = last_of-cons (c ∷ take (c - 1) p) (parts_after (c - 1) p) (parts_after-some (c - 1) p long) in
-    All-cons IsBlock (c ∷ take (c - 1) p) (parts_after (c - 1) p)
-    (block_from c p h fits (length-take-le (c - 1) p (omega arith)))
-    (blocks_behind (c - 1) p (All-tail (λ b. b ≢ 0) c p h) (All-tail (λ b. b < 256) c p below) (ap lacks (sym same) ∙ whole)))
-    (λ (short : length p ≤ c - 1).
-    let none = parts_after-past (c - 1) p short in
-    let alone : lacks (c ∷ take (c - 1) p) ≡ 0 = sym (ap (λ (x : List (List ℕ)). lacks (last_of ((c ∷ take (c - 1) p) ∷ x))) none) ∙ whole in
-    subst (λ (x : List (List ℕ)). All IsBlock ((c ∷ take (c - 1) p) ∷ x)) (sym none)
-    (All-cons IsBlock (c ∷ take (c - 1) p) [] (block_from c p h fits (let l = length-take (c - 1) p in omega arith)) (All-nil IsBlock)))
+    (λ (long : c - 1 < length p). grind (arith, last_of-cons, parts_after-some, length-take-le, All-cons))
+    (λ (short : length p ≤ c - 1). grind (arith, parts_after-past, length-take, All-cons, All-nil))
     (cases_lt (c - 1) (length p))
 
 pub blocks_of_whole : (p : List ℕ) → HasNoZero p → All (λ b. b < 256) p → IsWhole p → All IsBlock (parts p)
-unfolding parts last_part
-blocks_of_whole p h below whole = blocks_behind 0 p h below (lacks_nothing p whole)
+unfolding parts last_part is_whole
+blocks_of_whole [] h below whole = absurd (cc)
+blocks_of_whole (c ∷ p) h below whole = blocks_behind 0 (c ∷ p) h below (eqb-true (lacks (last_of (parts_after 0 (c ∷ p)))) 0 whole)
 
 -- A FRAME READS AS ITS OUTPUT
-
-block_nonzero : (block : List ℕ) → IsBlock block → HasNoZero block
-block_nonzero block h = grind (arith, All-cons)
 
 concat_nonzero : (blocks : List (List ℕ)) → All IsBlock blocks → HasNoZero (concat blocks)
 concat_nonzero [] h = All-nil (λ b. b ≢ 0)
 concat_nonzero (block ∷ blocks) h =
-    All-append (λ b. b ≢ 0) block (concat blocks) (block_nonzero block (All-head IsBlock block blocks h)) (concat_nonzero blocks (All-tail IsBlock block blocks h))
+    All-append (λ b. b ≢ 0) block (concat blocks) (let is = All-head IsBlock block blocks h in grind (arith, All-cons)) (concat_nonzero blocks (All-tail IsBlock block blocks h))
 
 concat_some : (blocks : List (List ℕ)) → blocks ≢ [] → All IsBlock blocks → concat blocks ≢ []
 concat_some [] some h = absurd (some refl)
@@ -146,8 +118,8 @@ module _ (f m : List ℕ) (r : Reads f m) where
 
   -- the last part of a frame lacks nothing
   pub frame_whole : IsWhole f
-  unfolding last_part
-  frame_whole = whole_from f frame_some (ap (λ (bs : List (List ℕ)). lacks (last_of bs)) (parts-frame f r.blocks r.frame) ∙ lacks-last r.blocks r.frame.each)
+  unfolding last_part is_whole
+  frame_whole = grind (arith, frame_some, parts-frame, lacks-last, eq-eqb)
 
   -- it reads as its output
   pub frame_output : m ≡ output f
@@ -162,7 +134,7 @@ reads_output f some nonzero below whole = grind (arith, parts-some, blocks_of_wh
 -- A FRAME OF BYTES
 
 -- two lists end to end, each by itself
-All-apart : (P : ℕ → Type 0) (xs ys : List ℕ) → All P (xs ++ ys) → All P xs × All P ys
+pub All-apart : (P : ℕ → Type 0) (xs ys : List ℕ) → All P (xs ++ ys) → All P xs × All P ys
 All-apart P [] ys h = (All-nil P, h)
 All-apart P (x ∷ xs) ys h =
     let more = All-apart P xs ys (All-tail P x (xs ++ ys) h) in
@@ -173,7 +145,7 @@ block_bytes block h e = grind (arith, All-cons)
 
 blocks_bytes : (blocks : List (List ℕ)) → All IsBlock blocks → All (λ b. b < 256) (message_of blocks) → All (λ b. b < 256) (concat blocks)
 blocks_bytes [] h below = All-nil (λ b. b < 256)
-blocks_bytes (block ∷ []) h below = All-append (λ b. b < 256) block [] (block_bytes block (All-head IsBlock block [] h) below) (All-nil (λ b. b < 256))
+blocks_bytes (block ∷ []) h below = grind (arith, append-nil, block_bytes, All-head)
 blocks_bytes (block ∷ next ∷ blocks) h below =
     let apart = All-apart (λ b. b < 256) (bytes_of block ++ joint block) (message_of (next ∷ blocks)) below in
     All-append (λ b. b < 256) block (concat (next ∷ blocks))

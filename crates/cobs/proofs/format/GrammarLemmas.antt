@@ -1,65 +1,34 @@
--- Lemmas on blocks and frames.
-use Rattle.std.proofs.Common.{◌≡◌, ◌≢◌, ℕ, ◌+◌, ◌<◌, Bool, true, false, List, [], ◌∷◌, ◌++◌, length, drop, take, All, if◌then◌else◌, refl, sym, ap, ◌∙◌, subst, arith, append-nil, append_assoc, take_at, drop_at}
+-- Blocks and frames, and which frame a block makes of the bytes behind it.
+use Rattle.std.proofs.Common.{◌≡◌, ◌≢◌, ◌↔◌, ℕ, ◌+◌, ◌<◌, true, false, List, [], ◌∷◌, ◌++◌, length, All, refl, sym, ap, ◌∙◌, subst, arith, append-nil, append_assoc, length-append, length-take}
 use Rattle.std.specs.List.{concat}
-use Rattle.std.proofs.lemmas.Bool.{ne_eqb, eq-eqb, true≢false}
-use Rattle.std.proofs.lemmas.List.Elements.{All-head, All-tail, All-cons, All-nil}
-use Rattle.cobs.specs.Grammar.{HasNoZero, IsBlock, IsFull, is_full, bytes_of, joint, lone_block, message_of, IsFrameOf, Reads, IsCanonical, IsEncodedFrame}
-
--- two lists that begin with parts of one length are equal part by part
-pub same_parts : (a b x y : List ℕ) → length a ≡ length b → a ++ x ≡ b ++ y → (a ≡ b) × (x ≡ y)
-same_parts a b x y l e = (
-  sym (take_at a x (length a) refl) ∙ ap (take (length a)) e ∙ take_at b y (length a) (sym l),
-  sym (drop_at a x (length a) refl) ∙ ap (drop (length a)) e ∙ drop_at b y (length a) (sym l),
-)
-
--- blocks are determined by their bytes
-pub one_parse : (bs cs : List (List ℕ)) → All IsBlock bs → All IsBlock cs → concat bs ≡ concat cs → bs ≡ cs
-one_parse [] [] hb hc e = refl
-one_parse [] ([] ∷ cs) hb hc e = absurd (All-head IsBlock [] cs hc)
-one_parse [] ((y ∷ c) ∷ cs) hb hc e = absurd (cc)
-one_parse ([] ∷ bs) cs hb hc e = absurd (All-head IsBlock [] bs hb)
-one_parse ((x ∷ b) ∷ bs) [] hb hc e = absurd (cc)
-one_parse ((x ∷ b) ∷ bs) ([] ∷ cs) hb hc e = absurd (All-head IsBlock [] cs hc)
-one_parse ((x ∷ b) ∷ bs) ((y ∷ c) ∷ cs) hb hc e =
-    let first : x ≡ y = cc in
-    let is_b = All-head IsBlock (x ∷ b) bs hb in
-    let is_c = All-head IsBlock (y ∷ c) cs hc in
-    let rests : b ++ concat bs ≡ c ++ concat cs = cc in
-    let cut = same_parts b c (concat bs) (concat cs) (omega (arith, is_b.0, is_c.0)) rests in
-    let more = one_parse bs cs (All-tail IsBlock (x ∷ b) bs hb) (All-tail IsBlock (y ∷ c) cs hc) cut.1 in
-    cc
+use Rattle.std.proofs.lemmas.Bool.{ne_eqb, eq-eqb}
+use Rattle.std.proofs.lemmas.List.{append_cancel_left}
+use Rattle.std.proofs.lemmas.List.Elements.{All-cons, All-nil, All-head, All-tail}
+use Rattle.cobs.specs.Grammar.{HasNoZero, IsBlock, IsFull, is_full, bytes_of, joint, lone_block, message_of, IsFrame, IsFrameOf, Reads, IsCanonical, IsEncodedFrame}
+use Rattle.cobs.specs.Piece.{parts, parts_after}
+use Rattle.cobs.proofs.format.FrameLemmas.{parts-block, parts-frame, frame_output}
 
 -- a frame has one parse
 pub one_frame : (f : List ℕ) (bs cs : List (List ℕ)) → IsFrameOf f bs → IsFrameOf f cs → bs ≡ cs
-one_frame f bs cs hb hc = one_parse bs cs hb.each hc.each (sym hb.whole ∙ hc.whole)
+one_frame f bs cs hb hc = sym (parts-frame f bs hb) ∙ parts-frame f cs hc
 
 -- a frame has one message
 pub one_message : (f m k : List ℕ) → Reads f m → Reads f k → m ≡ k
-one_message f m k r s = r.message ∙ ap message_of (one_frame f r.blocks s.blocks r.frame s.frame) ∙ sym s.message
+one_message f m k r s = frame_output f m r ∙ sym (frame_output f k s)
 
-pub lone_block-is_block : IsBlock lone_block
-lone_block-is_block = (refl, omega arith, All-nil (λ byte. byte ≢ 0))
+-- blocks don't end in a full block and the lone block
+abbrev pub IsShorter : List (List ℕ) → Type 0
+IsShorter blocks = (front : List (List ℕ)) (block : List ℕ) → IsFull block → blocks ≢ front ++ block ∷ lone_block ∷ []
 
-pub lone_block-frame : IsFrameOf lone_block (lone_block ∷ [])
-lone_block-frame = record { some = λ e. cc; each = All-cons IsBlock lone_block [] lone_block-is_block (All-nil IsBlock); whole = refl }
+pub IsShorter-tail : (b : List ℕ) (bs : List (List ℕ)) → IsShorter (b ∷ bs) → IsShorter bs
+IsShorter-tail b bs h front block full e = h (b ∷ front) block full (ap (λ (l : List (List ℕ)). b ∷ l) e)
 
--- the lone block reads as the empty message alone
-pub lone_block-reads : (m : List ℕ) → Reads lone_block m → m ≡ []
-lone_block-reads m r = r.message ∙ ap message_of (one_frame lone_block r.blocks (lone_block ∷ []) r.frame lone_block-frame)
+pub IsShorter-cons : (b : List ℕ) (bs : List (List ℕ)) → (IsFull b → bs ≢ lone_block ∷ []) → IsShorter bs → IsShorter (b ∷ bs)
+IsShorter-cons b bs apart s [] block full e = grind arith
+IsShorter-cons b bs apart s (x ∷ front) block full e = let rest : bs ≡ front ++ block ∷ lone_block ∷ [] = cc in s front block full rest
 
--- a block is the encoded frame of its bytes
-pub IsEncodedFrame-block : (b : List ℕ) → IsBlock b → IsEncodedFrame b (bytes_of b)
-IsEncodedFrame-block b h =
-    let frame : IsFrameOf b (b ∷ []) = record { some = λ e. cc; each = All-cons IsBlock b [] h (All-nil IsBlock); whole = sym (append-nil b) } in
-    record {
-      reads = record { blocks = b ∷ []; frame = frame; message = refl };
-      canonical = record { blocks = b ∷ []; frame = frame; shorter = single b };
-    }
-  where
-    single : (b : List ℕ) (front : List (List ℕ)) (block : List ℕ) → IsFull block → b ∷ [] ≢ front ++ block ∷ lone_block ∷ []
-    single b [] block full e = cc
-    single b (x ∷ []) block full e = cc
-    single b (x ∷ y ∷ front) block full e = cc
+pub IsShorter-single : (b : List ℕ) → IsShorter (b ∷ [])
+IsShorter-single b front block full e = (let n = ap length e in let l = length-append front (block ∷ lone_block ∷ []) in omega arith)
 
 -- a block in front of a frame
 pub frame-cons : (b f : List ℕ) (bs : List (List ℕ)) → IsBlock b → IsFrameOf f bs → IsFrameOf (b ++ f) (b ∷ bs)
@@ -73,37 +42,89 @@ pub IsCanonical-cons : (b f : List ℕ) → IsBlock b → (IsFull b → f ≢ lo
 IsCanonical-cons b f h apart r = record {
   blocks = b ∷ r.blocks;
   frame = frame-cons b f r.blocks h r.frame;
-  shorter = go;
+  shorter = IsShorter-cons b r.blocks (λ full e. apart full (r.frame.whole ∙ ap concat e)) r.shorter;
 }
-  where
-    go : (front : List (List ℕ)) (block : List ℕ) → IsFull block → b ∷ r.blocks ≢ front ++ block ∷ lone_block ∷ []
-    go [] block full e = grind arith
-    go (x ∷ front) block full e = let rest : r.blocks ≡ front ++ block ∷ lone_block ∷ [] = cc in r.shorter front block full rest
+
+-- a block alone is the encoded frame of its bytes
+pub block-frame : (b : List ℕ) → IsBlock b → IsFrameOf b (b ∷ [])
+block-frame b h = record { some = λ e. cc; each = All-cons IsBlock b [] h (All-nil IsBlock); whole = sym (append-nil b) }
+
+abbrev pub Reads-block : (b : List ℕ) → IsBlock b → Reads b (bytes_of b)
+Reads-block b h = record { blocks = b ∷ []; frame = block-frame b h; message = refl }
+
+pub IsEncodedFrame-block : (b : List ℕ) → IsBlock b → IsEncodedFrame b (bytes_of b)
+IsEncodedFrame-block b h = record {
+  reads = Reads-block b h;
+  canonical = record { blocks = b ∷ []; frame = block-frame b h; shorter = IsShorter-single b };
+}
+
+pub lone_block-is_block : IsBlock lone_block
+lone_block-is_block = (refl, omega arith, All-nil (λ byte. byte ≢ 0))
+
+-- the lone block reads as the empty message
+pub lone_block-reads : Reads lone_block []
+lone_block-reads = Reads-block lone_block lone_block-is_block
 
 -- a block stands last in an encoded frame
 pub IsEncodedFrame-last : (bytes : List ℕ) → length bytes < 255 → HasNoZero bytes → IsEncodedFrame ((length bytes + 1) ∷ bytes) bytes
 IsEncodedFrame-last bytes l h = IsEncodedFrame-block ((length bytes + 1) ∷ bytes) (refl, omega arith, h)
 
+-- a block stands in front of an encoded frame, of a message that is written in another way
+encoded-cons : (b f m k : List ℕ) → IsBlock b → (IsFull b → f ≢ lone_block) → IsEncodedFrame f m → bytes_of b ++ joint b ++ m ≡ k → IsEncodedFrame (b ++ f) k
+encoded-cons b f m k h apart e is = record { reads = subst (Reads (b ++ f)) is (Reads-cons b f m h e.reads); canonical = IsCanonical-cons b f h apart e.canonical }
+
 -- a block that isn't full stands in front of an encoded frame: a zero joins them
 pub IsEncodedFrame-zero : (bytes f m : List ℕ) → length bytes < 254 → HasNoZero bytes → IsEncodedFrame f m → IsEncodedFrame ((length bytes + 1) ∷ bytes ++ f) (bytes ++ 0 ∷ m)
 IsEncodedFrame-zero bytes f m l h e =
-    let block : List ℕ = (length bytes + 1) ∷ bytes in
-    let is : IsBlock block = (refl, omega arith, h) in
-    let open' : is_full block ≡ false = ne_eqb (length bytes + 1) 255 (λ e. omega arith) in
-    let read = subst (λ (t : Bool). Reads (block ++ f) (bytes ++ (if t then [] else 0 ∷ []) ++ m)) open' (Reads-cons block f m is e.reads) in
-    record {
-      reads = subst (λ (x : List ℕ). Reads (block ++ f) x) (append_assoc bytes (0 ∷ []) m) read;
-      canonical = IsCanonical-cons block f is (λ full. absurd (true≢false (sym full ∙ open'))) e.canonical;
-    }
+    let open' : is_full ((length bytes + 1) ∷ bytes) ≡ false = ne_eqb (length bytes + 1) 255 (λ e. omega arith) in
+    encoded-cons ((length bytes + 1) ∷ bytes) f m (bytes ++ 0 ∷ m) (refl, omega arith, h) (λ full. cc) e (grind (arith, append_assoc))
 
 -- a full block stands in front of the encoded frame of a message that isn't empty
 pub IsEncodedFrame-full : (bytes f m : List ℕ) → length bytes ≡ 254 → HasNoZero bytes → m ≢ [] → IsEncodedFrame f m → IsEncodedFrame ((length bytes + 1) ∷ bytes ++ f) (bytes ++ m)
 IsEncodedFrame-full bytes f m l h more e =
-    let block : List ℕ = (length bytes + 1) ∷ bytes in
-    let is : IsBlock block = (refl, omega arith, h) in
-    let full : is_full block ≡ true = eq-eqb (length bytes + 1) 255 (omega arith) in
-    let read = subst (λ (t : Bool). Reads (block ++ f) (bytes ++ (if t then [] else 0 ∷ []) ++ m)) full (Reads-cons block f m is e.reads) in
-    record {
-      reads = subst (λ (x : List ℕ). Reads (block ++ f) x) (append_assoc bytes [] m) read;
-      canonical = IsCanonical-cons block f is (λ _ only. more (lone_block-reads m (subst (λ (x : List ℕ). Reads x m) only e.reads))) e.canonical;
-    }
+    let full : is_full ((length bytes + 1) ∷ bytes) ≡ true = eq-eqb (length bytes + 1) 255 (omega arith) in
+    encoded-cons ((length bytes + 1) ∷ bytes) f m (bytes ++ m) (refl, omega arith, h)
+    (λ _ only. more (one_message lone_block m [] (subst (λ (x : List ℕ). Reads x m) only e.reads) lone_block-reads)) e (grind (arith, append_assoc))
+
+-- A BLOCK IN FRONT OF OTHER BYTES: WHICH FRAME THE TWO MAKE
+
+lone-parts : parts lone_block ≡ lone_block ∷ []
+unfolding parts parts_after
+lone-parts = refl
+
+module _ (block f : List ℕ) (is : IsBlock block) where
+  -- its blocks are that one and those of the other bytes
+  blocks-are : (blocks : List (List ℕ)) → IsFrameOf (block ++ f) blocks → blocks ≡ block ∷ parts f
+  blocks-are blocks h = sym (parts-frame (block ++ f) blocks h) ∙ parts-block block f is
+
+  behind : f ≢ [] → (blocks : List (List ℕ)) → IsFrameOf (block ++ f) blocks → IsFrameOf f (parts f)
+  behind some blocks h =
+      let g : IsFrameOf (block ++ f) (block ∷ parts f) = subst (IsFrameOf (block ++ f)) (blocks-are blocks h) h in
+      let whole : f ≡ concat (parts f) = append_cancel_left block f (concat (parts f)) g.whole in
+      record { some = λ e. some (whole ∙ ap concat e); each = All-tail IsBlock block (parts f) g.each; whole = whole }
+
+  pub front-frame : f ≢ [] → IsFrame (block ++ f) ↔ IsFrame f
+  front-frame some = (
+    λ frame. (message_of (parts f), record { blocks = parts f; frame = behind some frame.1.blocks frame.1.frame; message = refl }),
+    λ frame. (_, Reads-cons block f frame.0 is frame.1),
+  )
+
+  pub front-canonical : f ≢ [] → IsCanonical (block ++ f) ↔ (IsCanonical f × (IsFull block → f ≢ lone_block))
+  front-canonical some = (
+    λ c. (
+      record {
+        blocks = parts f;
+        frame = behind some c.blocks c.frame;
+        shorter = IsShorter-tail block (parts f) (subst IsShorter (blocks-are c.blocks c.frame) c.shorter);
+      },
+      λ full lone. c.shorter [] block full (blocks-are c.blocks c.frame ∙ ap (λ (x : List ℕ). block ∷ parts x) lone ∙ ap (λ (x : List (List ℕ)). block ∷ x) lone-parts),
+    ),
+    λ both. IsCanonical-cons block f is both.1 both.0,
+  )
+
+-- fewer bytes than their first code says
+pub short-frame : (code : ℕ) (bytes : List ℕ) → length bytes + 1 < code → IsFrame (code ∷ bytes) → ⊥
+unfolding parts parts_after
+short-frame code bytes short frame =
+    let each : All IsBlock (parts (code ∷ bytes)) = subst (All IsBlock) (sym (parts-frame (code ∷ bytes) frame.1.blocks frame.1.frame)) frame.1.frame.each in
+    grind (arith, All-head, length-take)

@@ -1,14 +1,11 @@
--- Frames joined, the fronts of a frame, and frames for another sentinel.
+-- Frames joined, and the fronts of a frame.
 use Rattle.std.proofs.Common.{◌≡◌, ◌≢◌, ℕ, ◌↔◌, List, [], ◌∷◌, ◌++◌, All, refl, sym, ap, ◌∙◌, subst, append-nil, append_assoc}
 use Rattle.std.specs.List.{concat}
-use Rattle.std.specs.Int.Bits.{bit_xor, xor_self}
-use Rattle.std.proofs.lemmas.List.Elements.{All-head, All-tail, All-nil, All-cons, All-append, All-map, All-weaker}
+use Rattle.std.proofs.lemmas.List.Elements.{All-head, All-tail, All-nil, All-cons, All-append}
 use Rattle.cobs.specs.Grammar.{IsBlock, bytes_of, joint, message_of, last_of, IsFrameOf, Reads, IsFrame}
 use Rattle.cobs.specs.Piece.{parts}
-use Rattle.cobs.specs.Sentinel.{xor_each}
 use Rattle.cobs.specs.Laws.{EndsAtBlock, IsFront}
-use Rattle.cobs.proofs.format.SentinelLemmas.{xor_twice}
-use Rattle.cobs.proofs.format.FrameLemmas.{parts-block, parts-frame, frame_nonzero}
+use Rattle.cobs.proofs.format.FrameLemmas.{parts-block, parts-frame}
 
 -- JOINED
 
@@ -99,10 +96,3 @@ pub front_message : (p q k m : List ℕ) → Reads (p ++ q) m → Reads p k → 
 front_message p q k m r s =
     let more = message_of-front s.blocks (parts q) s.frame.some in
     (more.0, r.message ∙ ap message_of (first_blocks p q r.blocks s.blocks r.frame s.frame) ∙ more.1 ∙ ap (λ (l : List ℕ). l ++ more.0) (sym s.message))
-
--- ANOTHER SENTINEL
-
--- the sentinel stands in no frame for it
-pub no_sentinel : (f : List ℕ) (s : ℕ) → IsFrame f → All (λ b. b ≢ s) (xor_each s f)
-no_sentinel f s (m, r) = All-map (λ b. b ≢ s) (λ b. bit_xor b s) f
-    (All-weaker (λ x. x ≢ 0) (λ x. bit_xor x s ≢ s) (λ x nz e. nz (sym (xor_twice x s) ∙ ap (λ (y : ℕ). bit_xor y s) e ∙ xor_self s)) f (frame_nonzero f m r))

@@ -1,38 +1,18 @@
--- A list that is read by blocks: whether it is a frame, and whether its last two blocks are a full one and the lone block.
-use Rattle.std.proofs.Common.{◌≡◌, ◌≢◌, ◌↔◌, ℕ, ◌+◌, ◌-◌, ◌<◌, ◌≤◌, ◌==◌, Bool, true, List, [], ◌∷◌, ◌++◌, length, take, drop, get_or, All, refl, sym, ap, ◌∙◌, subst, arith, append_assoc, length-append, length-drop, length-take, length-take-le, take-append-drop, take_all, append-nil}
+-- Which frame bytes are, by what is left behind their first blocks.
+use Rattle.std.proofs.Common.{◌≡◌, ◌≢◌, ◌↔◌, ℕ, ◌+◌, ◌<◌, ◌≤◌, Bool, true, List, [], ◌∷◌, ◌++◌, length, take, drop, get_or, All, IsTrue, refl, sym, ap, ◌∙◌, subst, arith, append_assoc, append-nil, length-append, length-drop, take-append-drop, take_all}
 use Rattle.std.specs.List.{concat}
-use Rattle.std.proofs.lemmas.List.{drop-drop, drop_all, drop_more}
-use Rattle.std.proofs.lemmas.List.Elements.{All-push, All-head, All-tail, All-take, All-drop, All-get_or}
-use Rattle.cobs.specs.Grammar.{HasNoZero, IsBlock, IsFull, IsFrame, IsFrameOf, IsCanonical, code_of, is_full, last_of, lone_block, message_of}
-use Rattle.cobs.specs.Piece.{parts, parts_after}
+use Rattle.std.proofs.lemmas.Bool.{cases_Bool, eq-eqb, eqb-true, ne_eqb}
+use Rattle.std.proofs.lemmas.List.Elements.{All-head, All-tail, All-take}
+use Rattle.cobs.specs.Grammar.{HasNoZero, IsBlock, IsFrame, IsCanonical, Reads, code_of, is_full, last_of, lone_block, message_of}
+use Rattle.cobs.specs.Piece.{last_part, output}
+use Rattle.cobs.specs.Internal.Decoded.{IsFlat}
 use Rattle.cobs.specs.declared.dec.blocks.FrameKind.{FrameKind}
 use Rattle.cobs.specs.declared.dec.blocks.FrameKind.TheVariants.{NotAFrame, Canonical, Longer}
-use Rattle.cobs.proofs.format.FrameLemmas.{last_of-push, parts-frame, frame_some, frame_nonzero}
-use Rattle.cobs.proofs.format.GrammarLemmas.{one_frame}
-use Rattle.cobs.proofs.format.JoinLemmas.{concat-append, parts-append}
-
--- LISTS OF LISTS WITH ONE MORE BEHIND THEM
-
-front_of : List (List ℕ) → List (List ℕ)
-front_of [] = []
-front_of (x ∷ []) = []
-front_of (x ∷ y ∷ xs) = x ∷ front_of (y ∷ xs)
-
-front_of-push : (xs : List (List ℕ)) (x : List ℕ) → front_of (xs ++ x ∷ []) ≡ xs
-unfolding front_of
-front_of-push [] x = refl
-front_of-push (y ∷ []) x = refl
-front_of-push (y ∷ z ∷ xs) x = ap (λ (zs : List (List ℕ)). y ∷ zs) (front_of-push (z ∷ xs) x)
-
-front-last : (xs : List (List ℕ)) → xs ≢ [] → xs ≡ front_of xs ++ last_of xs ∷ []
-unfolding front_of
-front-last [] some = absurd (some refl)
-front-last (x ∷ []) some = refl
-front-last (x ∷ y ∷ xs) some = ap (λ (zs : List (List ℕ)). x ∷ zs) (front-last (y ∷ xs) (λ e. cc))
-
-All-right : (bs cs : List (List ℕ)) → All IsBlock (bs ++ cs) → All IsBlock cs
-All-right [] cs h = h
-All-right (b ∷ bs) cs h = All-right bs cs (All-tail IsBlock b (bs ++ cs) h)
+use Rattle.cobs.proofs.format.FrameLemmas.{All-apart, last_of-push, parts-blocks, parts-frame, frame_some, reads_output}
+use Rattle.cobs.proofs.format.GrammarLemmas.{front-canonical, front-frame, short-frame}
+use Rattle.cobs.proofs.format.JoinLemmas.{All-left, concat-append, message_of-append}
+use Rattle.cobs.proofs.decoding.PieceCuts.{last_part-last, output-le}
+use Rattle.cobs.proofs.decoding.FlatLemmas.{flat-is_whole}
 
 -- WHAT A KIND SAYS
 
@@ -47,125 +27,104 @@ frame_of : (f : List ℕ) → IsCanonical f → IsFrame f
 frame_of f c = (message_of c.blocks, record { blocks = c.blocks; frame = c.frame; message = refl })
 
 -- and each of the three says it alone
-module _ (f : List ℕ) where
-  pub says_not : (kind : FrameKind) → IsKindOf kind f → (kind ≡ NotAFrame) ↔ ¬ IsFrame f
-  says_not kind h = grind (arith, frame_of)
+pub says : (f : List ℕ) (kind : FrameKind) → IsKindOf kind f → record {
+  not_a_frame : (kind ≡ NotAFrame) ↔ ¬ IsFrame f;
+  canonical : (kind ≡ Canonical) ↔ IsCanonical f;
+  longer : (kind ≡ Longer) ↔ (IsFrame f × ¬ IsCanonical f);
+}
+says f kind h = record { not_a_frame = grind (arith, frame_of); canonical = grind (arith, frame_of); longer = grind arith }
 
-  pub says_canonical : (kind : FrameKind) → IsKindOf kind f → (kind ≡ Canonical) ↔ IsCanonical f
-  says_canonical kind h = grind (arith, frame_of)
+-- FRONT BY FRONT
 
-  pub says_longer : (kind : FrameKind) → IsKindOf kind f → (kind ≡ Longer) ↔ (IsFrame f × ¬ IsCanonical f)
-  says_longer kind h = grind arith
+-- blocks stand in front of `rest`, of which the last is full or not
+pub record BlocksBehind (f rest : List ℕ) (after_full : Bool) : Type 0 where
+  pub nonzero : HasNoZero rest
+  pub below : All (λ b. b < 256) rest
+  pub frame : IsFrame f ↔ IsFrame rest
+  pub canonical : IsCanonical f ↔ (IsCanonical rest × (after_full ≡ true → rest ≢ lone_block))
 
--- LISTS THAT ARE NO FRAMES
+-- nothing stands behind them, or a broken block
+pub broken-kind : (f rest : List ℕ) (t : Bool) → BlocksBehind f rest t → (0 < length rest → length rest < get_or rest 0 0) → IsKindOf NotAFrame f
+broken-kind f [] t i broken = λ frame. (let h = i.frame.0 frame in frame_some [] h.0 h.1 refl)
+broken-kind f (code ∷ bytes) t i broken = λ frame. short-frame code bytes (let b = broken (omega arith) in omega arith) (i.frame.0 frame)
 
-pub empty-kind : (f : List ℕ) → length f ≡ 0 → IsKindOf NotAFrame f
-empty-kind [] e = λ frame. frame_some [] frame.0 frame.1 refl
-empty-kind (x ∷ f) e = absurd (omega arith)
-
-pub zero-kind : (f : List ℕ) (i : ℕ) → i < length f → get_or f i 0 ≡ 0 → IsKindOf NotAFrame f
-zero-kind f i within zero = λ frame. All-get_or (λ b. b ≢ 0) f i 0 within (frame_nonzero f frame.0 frame.1) zero
-
--- a front as long as the list
-pub all_nonzero : (f : List ℕ) (n : ℕ) → HasNoZero (take n f) → length f ≤ n → HasNoZero f
-all_nonzero f n none far = subst HasNoZero (take_all n f far) none
-
--- BLOCK BY BLOCK
-
--- the first `read` bytes of a list are blocks, and of the last of them it is noted whether it is full
-pub record BlocksBehind (bytes : List ℕ) (read : ℕ) (behind_full : Bool) : Type 0 where
-  pub front : List (List ℕ)
-  pub within : read < length bytes
-  pub each : All IsBlock front
-  pub joined : bytes ≡ concat front ++ drop read bytes
-  pub noted : behind_full ≡ is_full (last_of front)
-
-module _ (bytes : List ℕ) (read : ℕ) (behind_full : Bool) (b : BlocksBehind bytes read behind_full) (nonzero : HasNoZero bytes) (code : ℕ) (is : code ≡ get_or bytes read 0) (below : code < 256) where
-  more : List ℕ
-  more = drop (read + 1) bytes
-
-  pub code-some : 0 < code
-  code-some = let other = All-get_or (λ byte. byte ≢ 0) bytes read 0 b.within nonzero in omega arith
-
-  cons : drop read bytes ≡ code ∷ drop (read + 1) bytes
-  cons = drop_more bytes read 0 b.within ∙ ap (λ (k : ℕ). k ∷ drop (read + 1) bytes) (sym is)
-
-  -- the block here is broken
-  pub broken-kind : length bytes - read < code → IsKindOf NotAFrame bytes
-  unfolding parts parts_after
-  broken-kind short =
-      λ frame.
-      let same : _ ≡ b.front ++ parts (code ∷ drop (read + 1) bytes) =
-      sym (parts-frame bytes _ frame.1.frame) ∙ ap parts b.joined ∙ parts-append b.front (drop read bytes) b.each ∙ ap (λ (x : List ℕ). b.front ++ parts x) cons in
-      let blocks : All IsBlock (parts (code ∷ drop (read + 1) bytes)) = All-right b.front (parts (code ∷ drop (read + 1) bytes)) (subst (All IsBlock) same frame.1.frame.each) in
-      let first = All-head IsBlock (code ∷ take (code - 1) (drop (read + 1) bytes)) (parts_after (code - 1) (drop (read + 1) bytes)) blocks in
-      let l = length-take (code - 1) (drop (read + 1) bytes) in
-      let d = length-drop (read + 1) bytes in
-      omega arith
-
-  block-is : code ≤ length bytes - read → IsBlock (code ∷ take (code - 1) (drop (read + 1) bytes))
-  block-is fits =
-      let d = length-drop (read + 1) bytes in
-      let l = length-take-le (code - 1) (drop (read + 1) bytes) (omega arith) in
-      (omega arith, below, All-take (λ byte. byte ≢ 0) (code - 1) (drop (read + 1) bytes) (All-drop (λ byte. byte ≢ 0) (read + 1) bytes nonzero))
-
-  -- the block here is whole, and more follow
-  pub block-behind : code < length bytes - read → BlocksBehind bytes (read + code) (code == 255)
-  block-behind far =
-      let block : List ℕ = code ∷ take (code - 1) (drop (read + 1) bytes) in
-      let next : drop (code - 1) (drop (read + 1) bytes) ≡ drop (read + code) bytes = drop-drop (code - 1) (read + 1) bytes ∙ ap (λ (k : ℕ). drop k bytes) (omega arith) in
-      let split : drop read bytes ≡ block ++ drop (read + code) bytes =
-      cons ∙ ap (λ (x : List ℕ). code ∷ x) (sym (take-append-drop (code - 1) (drop (read + 1) bytes))) ∙ ap (λ (x : List ℕ). block ++ x) next in
-      record {
-        front = b.front ++ block ∷ [];
-        within = omega arith;
-        each = All-push IsBlock b.front block b.each (block-is (omega arith));
-        joined = b.joined ∙ ap (λ (x : List ℕ). concat b.front ++ x) split ∙ sym (append_assoc (concat b.front) block (drop (read + code) bytes))
-            ∙ ap (λ (x : List ℕ). x ++ drop (read + code) bytes) (sym (concat-append b.front (block ∷ []) ∙ ap (λ (x : List ℕ). concat b.front ++ x) (append-nil block)));
-        noted = sym (ap is_full (last_of-push b.front block));
-      }
-
-  -- the block here is the last one
-  module _ (last : length bytes - read ≡ code) where
-    last-block : IsBlock (code ∷ drop (read + 1) bytes)
-    last-block = grind (arith, block-is, take_all, length-drop)
-
-    frame : IsFrameOf bytes (b.front ++ (code ∷ drop (read + 1) bytes) ∷ [])
-    frame = record {
-      some = λ e. (let n = ap length e in let l = length-append b.front ((code ∷ drop (read + 1) bytes) ∷ []) in omega arith);
-      each = All-push IsBlock b.front (code ∷ drop (read + 1) bytes) b.each last-block;
-      whole = b.joined ∙ ap (λ (x : List ℕ). concat b.front ++ x) (cons ∙ sym (append-nil (code ∷ drop (read + 1) bytes))) ∙ sym (concat-append b.front ((code ∷ drop (read + 1) bytes) ∷ []));
+-- one block more
+one-more : (f b q : List ℕ) (t : Bool) → BlocksBehind f (b ++ q) t → IsBlock b → 0 < length q → BlocksBehind f q (is_full b)
+one-more f [] q t i is some = absurd is
+one-more f (code ∷ bytes) q t i is some =
+    let other : q ≢ [] = λ e. omega (arith, ap length e) in
+    let g = front-frame (code ∷ bytes) q is other in
+    let k = front-canonical (code ∷ bytes) q is other in
+    let l = length-append bytes q in
+    record {
+      nonzero = (All-apart (λ b. b ≢ 0) (code ∷ bytes) q i.nonzero).1;
+      below = (All-apart (λ b. b < 256) (code ∷ bytes) q i.below).1;
+      frame = (λ h. g.0 (i.frame.0 h), λ h. i.frame.1 (g.1 h));
+      canonical = (λ h. k.0 (i.canonical.0 h).0, λ h. i.canonical.1 (k.1 h, λ _ e. omega (arith, ap length e)));
     }
 
-    is_frame : IsFrame bytes
-    is_frame = (message_of (b.front ++ (code ∷ drop (read + 1) bytes) ∷ []), record { blocks = b.front ++ (code ∷ drop (read + 1) bytes) ∷ []; frame = frame; message = refl })
+more-blocks : (f q : List ℕ) (t : Bool) (bs : List (List ℕ)) → BlocksBehind f (concat bs ++ q) t → All IsBlock bs → bs ≢ [] → 0 < length q → BlocksBehind f q (is_full (last_of bs))
+more-blocks f q t [] i each other some = absurd (other refl)
+more-blocks f q t (b ∷ []) i each other some = one-more f b q t (subst (λ (x : List ℕ). BlocksBehind f (x ++ q) t) (append-nil b) i) (All-head IsBlock b [] each) some
+more-blocks f q t (b ∷ d ∷ bs) i each other some =
+    let l = length-append (concat (d ∷ bs)) q in
+    let split = append_assoc b (concat (d ∷ bs)) q in
+    let one = one-more f b (concat (d ∷ bs) ++ q) t (subst (λ (x : List ℕ). BlocksBehind f x t) split i) (All-head IsBlock b (d ∷ bs) each) (omega arith) in
+    more-blocks f q (is_full b) (d ∷ bs) one (All-tail IsBlock b (d ∷ bs) each) (λ e. cc) some
 
-    -- the lone block behind a full one
-    pub longer-kind : behind_full ≡ true → code ≡ 1 → IsKindOf Longer bytes
-    longer-kind full lone = (
-      is_frame,
-      λ c. (
-          let none : drop (read + 1) bytes ≡ [] = drop_all (read + 1) bytes (omega arith) in
-          let here : code ∷ drop (read + 1) bytes ≡ lone_block = ap (λ (k : ℕ). k ∷ drop (read + 1) bytes) lone ∙ ap (λ (x : List ℕ). 1 ∷ x) none in
-          let front-full : IsFull (last_of b.front) = sym b.noted ∙ full in
-          let some : b.front ≢ [] = λ e. (let f : is_full (last_of []) ≡ true = ap (λ (x : List (List ℕ)). is_full (last_of x)) (sym e) ∙ front-full in cc) in
-          let two : b.front ++ (code ∷ drop (read + 1) bytes) ∷ [] ≡ front_of b.front ++ last_of b.front ∷ lone_block ∷ [] =
-          ap (λ (x : List ℕ). b.front ++ x ∷ []) here ∙ ap (λ (x : List (List ℕ)). x ++ lone_block ∷ []) (front-last b.front some) ∙ append_assoc (front_of b.front) (last_of b.front ∷ []) (lone_block ∷ []) in
-          c.shorter (front_of b.front) (last_of b.front) front-full (one_frame bytes c.blocks _ c.frame frame ∙ two)
-          ),
-    )
+-- a front is a frame
+front-reads : (p : List ℕ) → IsFlat p → HasNoZero p → All (λ b. b < 256) p → Reads p (output p)
+front-reads p flat nonzero below = reads_output p (λ e. omega (arith, ap length e, flat.some)) nonzero below (flat-is_whole p flat)
 
-    -- another last block, or not behind a full one
-    pub canonical-kind : ¬ ((behind_full ≡ true) × (code ≡ 1)) → IsKindOf Canonical bytes
-    canonical-kind other = record {
-      blocks = b.front ++ (code ∷ drop (read + 1) bytes) ∷ [];
-      frame = frame;
+-- and canonical: a full block in front of the lone one would be a byte more than the message has
+flat-canonical : (q : List ℕ) → IsFlat q → HasNoZero q → All (λ b. b < 256) q → IsCanonical q
+unfolding output
+flat-canonical q flat nonzero below =
+    let r : Reads q (output q) = front-reads q flat nonzero below in
+    record {
+      blocks = r.blocks;
+      frame = r.frame;
       shorter = λ front block full same. (
-          let same' : b.front ++ (code ∷ drop (read + 1) bytes) ∷ [] ≡ (front ++ block ∷ []) ++ lone_block ∷ [] = same ∙ sym (append_assoc front (block ∷ []) (lone_block ∷ [])) in
-          let here : code ∷ drop (read + 1) bytes ≡ lone_block =
-          sym (last_of-push b.front (code ∷ drop (read + 1) bytes)) ∙ ap last_of same' ∙ last_of-push (front ++ block ∷ []) lone_block in
-          let before : b.front ≡ front ++ block ∷ [] =
-          sym (front_of-push b.front (code ∷ drop (read + 1) bytes)) ∙ ap front_of same' ∙ front_of-push (front ++ block ∷ []) lone_block in
-          other (b.noted ∙ ap (λ (x : List (List ℕ)). is_full (last_of x)) before ∙ ap is_full (last_of-push front block) ∙ full, ap code_of here)
+          let bs : List (List ℕ) = front ++ block ∷ [] in
+          let two : r.blocks ≡ bs ++ lone_block ∷ [] = same ∙ sym (append_assoc front (block ∷ []) (lone_block ∷ [])) in
+          let each = All-left bs (lone_block ∷ []) (subst (All IsBlock) two r.frame.each) in
+          let some : bs ≢ [] = λ e. omega (arith, ap length e, length-append front (block ∷ [])) in
+          let is : output (concat bs) ≡ message_of bs = ap message_of (parts-blocks bs each) in
+          let le : length (message_of bs) + 1 ≤ length (concat bs) = grind (arith, output-le, concat-append, length-append) in
+          let m : message_of (bs ++ lone_block ∷ []) ≡ message_of bs = grind (arith, message_of-append, append-nil, last_of-push) in
+          let whole = r.frame.whole ∙ ap concat two ∙ concat-append bs (lone_block ∷ []) in
+          omega (arith, flat.len, ap length (r.message ∙ ap message_of two ∙ m), ap length whole, length-append (concat bs) lone_block)
           );
     }
+
+lone-is : (q : List ℕ) → IsFlat q → HasNoZero q → length q ≡ 1 → q ≡ lone_block
+lone-is [] flat nonzero one = absurd (omega arith)
+lone-is (code ∷ []) flat nonzero one = let is : code ≡ 1 = grind (arith, last_part-last, All-head) in ap (λ (k : ℕ). k ∷ []) is
+lone-is (code ∷ x ∷ bytes) flat nonzero one = absurd (omega arith)
+
+module _ (f q : List ℕ) (t : Bool) (front : ℕ) (i : BlocksBehind f q t) (flat : IsFlat (take front q)) where
+  -- a front, and more behind it
+  pub front-behind : (full : Bool) → front < length q → (IsTrue full ↔ (code_of (last_part (take front q)) ≡ 255)) → BlocksBehind f (drop front q) full
+  unfolding last_part
+  front-behind full more is =
+      let r = front-reads (take front q) flat (All-take (λ b. b ≢ 0) front q i.nonzero) (All-take (λ b. b < 256) front q i.below) in
+      let split : q ≡ concat r.blocks ++ drop front q = sym (take-append-drop front q) ∙ ap (λ (x : List ℕ). x ++ drop front q) r.frame.whole in
+      let last : last_part (take front q) ≡ last_of r.blocks = ap last_of (parts-frame (take front q) r.blocks r.frame) in
+      let same : is_full (last_of r.blocks) ≡ full = grind (arith, cases_Bool, eq-eqb, eqb-true, ne_eqb) in
+      let behind = subst (λ (x : List ℕ). BlocksBehind f x t) split i in
+      subst (BlocksBehind f (drop front q)) same (more-blocks f (drop front q) t r.blocks behind r.frame.each r.frame.some (let l = length-drop front q in omega arith))
+
+  module _ (last : front ≡ length q) where
+    all : IsFlat q
+    all = subst IsFlat (take_all front q (omega arith)) flat
+
+    canonical : IsCanonical q
+    canonical = flat-canonical q all i.nonzero i.below
+
+    -- the lone block behind a full one
+    pub longer-kind : t ≡ true → front ≡ 1 → IsKindOf Longer f
+    longer-kind full one = (i.frame.1 (frame_of q canonical), λ c. (i.canonical.0 c).1 full (lone-is q all i.nonzero (omega arith)))
+
+    -- another front, or not behind a full block
+    pub canonical-kind : (t ≡ true → front ≢ 1) → IsKindOf Canonical f
+    canonical-kind other = i.canonical.1 (canonical, λ full lone. other full (last ∙ ap length lone))

@@ -116,6 +116,10 @@ outcomes_at [] b n = []
 outcomes_at (c ∷ p) b n = cond (eqb b 0) (outcome_of (c ∷ p) n ∷ []) []
 
 -- a piece and its zero
+pub ended_pieces-piece : (p : List ℕ) → p ≢ [] → HasNoZero p → ended_pieces (p ++ 0 ∷ []) ≡ p ∷ []
+unfolding ended_pieces but_last
+ended_pieces-piece p some h = grind (arith, filter, stretches-piece)
+
 pub stream_outcomes-piece : (p : List ℕ) (n : ℕ) → HasNoZero p → stream_outcomes (p ++ 0 ∷ []) n ≡ outcomes_at p 0 n
 unfolding stream_outcomes ended_pieces but_last
 stream_outcomes-piece p n h = grind (arith, filter, stretches-piece)

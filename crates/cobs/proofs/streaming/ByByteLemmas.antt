@@ -1,15 +1,13 @@
 -- A piece that is taken byte by byte.
-use Rattle.std.proofs.Common.{◌≡◌, ℕ, zero, suc, ◌+◌, ◌<◌, ◌≤◌, ◌==◌, nat_le, Bool, true, false, cond, List, [], ◌∷◌, ◌++◌, length, take, drop, get_or, Option, Some, None, Ok, Err, Result, IfOk, IfSome, refl, subst, inl, inr}
+use Rattle.std.proofs.Common.{◌≡◌, ℕ, ◌+◌, ◌<◌, ◌≤◌, List, [], ◌∷◌, ◌++◌, length, take, drop, get_or, Option, Some, None, Result, IfOk, IfSome, subst, arith, inl, inr}
 use Rattle.std.proofs.lemmas.Bool.{cases_eq, leb-true}
-use Rattle.cobs.specs.Feed.{Phase, Idle, Within, Over, Feeds}
+use Rattle.cobs.specs.Feed.{Phase, Feeds}
 use Rattle.cobs.specs.FeedPiece.{IsWithin, TakesPiece, end_told, outcome_at}
 use Rattle.cobs.specs.Internal.PieceEnds.{LeavesRest, outcome_told}
-use Rattle.cobs.specs.Step.{end_answer, if_over, next_answer, next_buffer, next_phase}
+use Rattle.cobs.specs.Step.{next_answer, next_buffer, next_phase}
 use Rattle.cobs.specs.Piece.{output}
 use Rattle.cobs.specs.declared.dec.DecodeError.{DecodeError}
-use Rattle.cobs.specs.declared.dec.DecodeError.TheVariants.{EmptyFrame, InvalidFrame, TargetBufTooSmall}
 use Rattle.cobs.specs.declared.dec.frame_decoder.PieceEnd.{PieceEnd}
-use Rattle.cobs.specs.declared.dec.frame_decoder.PieceEnd.TheVariants as ends
 use Rattle.cobs.proofs.streaming.FeedLemmas.{Feeds-step}
 use Rattle.cobs.proofs.streaming.PushLemmas.{last_piece-unended}
 use Rattle.cobs.proofs.streaming.SoFar.{LeavesRest-start, LeavesRest-step, SoFar, SoFar-start, TakesPiece-at_zero, TakesPiece-none, no_outcomes, step_none, step_nonzero}
@@ -17,27 +15,8 @@ use Rattle.cobs.proofs.streaming.SoFar.{LeavesRest-start, LeavesRest-step, SoFar
 -- THE STEP
 
 -- no more bytes are told than the buffer has
-whole-bound : (count n : ℕ) (fits : Bool) → nat_le count n ≡ fits → IfOk (cond fits (Ok (Some count)) (Err TargetBufTooSmall)) (λ found. IfSome found (λ k. k ≤ n))
-whole-bound count n true e = leb-true count n e
-whole-bound count n false e = tt
-
-end-bound : (n : ℕ) (phase : Phase) → IfOk (end_answer n phase) (λ found. IfSome found (λ k. k ≤ n))
-end-bound n Idle = tt
-end-bound n Over = tt
-end-bound n (Within full (suc left) count) = tt
-end-bound n (Within full zero count) = whole-bound count n (nat_le count n) refl
-
-over-bound : (n : ℕ) (phase : Phase) → IfOk (if_over phase) (λ found. IfSome found (λ k. k ≤ n))
-over-bound n Idle = tt
-over-bound n Over = tt
-over-bound n (Within full left count) = tt
-
 answer-bound : (n : ℕ) (phase : Phase) (byte : ℕ) → IfOk (next_answer n phase byte) (λ found. IfSome found (λ k. k ≤ n))
-answer-bound n phase byte = by_test (byte == 0)
-  where
-    by_test : (is : Bool) → IfOk (cond is (end_answer n phase) (if_over (next_phase n phase byte))) (λ found. IfSome found (λ k. k ≤ n))
-    by_test true = end-bound n phase
-    by_test false = over-bound n (next_phase n phase byte)
+answer-bound n phase byte = grind (arith, leb-true)
 
 pub step-feeds : (buffer : List ℕ) (phase : Phase) (byte : ℕ) → let n = length buffer in Feeds buffer phase byte (next_answer n phase byte) (next_buffer buffer phase byte) (next_phase n phase byte)
 step-feeds buffer phase byte = Feeds-step buffer phase byte (answer-bound (length buffer) phase byte)
@@ -45,19 +24,11 @@ step-feeds buffer phase byte = Feeds-step buffer phase byte (answer-bound (lengt
 -- THE ANSWER TO A ZERO
 
 told-none : (result : Result (Option ℕ) DecodeError) (buffer : List ℕ) → end_told result ≡ None → outcome_told result buffer ≡ []
-told-none (Ok None) buffer e = refl
-told-none (Ok (Some n)) buffer e = absurd cc
-told-none (Err EmptyFrame) buffer e = refl
-told-none (Err (InvalidFrame count)) buffer e = absurd cc
-told-none (Err TargetBufTooSmall) buffer e = absurd cc
+told-none result buffer e = grind arith
 
 told-some : (result : Result (Option ℕ) DecodeError) (buffer : List ℕ) (end : PieceEnd) → end_told result ≡ Some end → IfOk result (λ found. IfSome found (λ n. n ≤ length buffer))
     → (outcome_told result buffer ≡ outcome_at end buffer ∷ []) × IsWithin (length buffer) end
-told-some (Ok None) buffer end e bound = absurd cc
-told-some (Ok (Some n)) buffer end e bound = let is : ends.Message n ≡ end = cc in subst (λ (x : PieceEnd). (outcome_told (Ok (Some n)) buffer ≡ outcome_at x buffer ∷ []) × IsWithin (length buffer) x) is (refl, bound)
-told-some (Err EmptyFrame) buffer end e bound = absurd cc
-told-some (Err (InvalidFrame count)) buffer end e bound = let is : ends.Broken count ≡ end = cc in subst (λ (x : PieceEnd). (outcome_told (Err (InvalidFrame count)) buffer ≡ outcome_at x buffer ∷ []) × IsWithin (length buffer) x) is (refl, tt)
-told-some (Err TargetBufTooSmall) buffer end e bound = let is : ends.TooLong ≡ end = cc in subst (λ (x : PieceEnd). (outcome_told (Err TargetBufTooSmall) buffer ≡ outcome_at x buffer ∷ []) × IsWithin (length buffer) x) is (refl, tt)
+told-some result buffer end e bound = grind arith
 
 -- THE BYTES SO FAR
 

@@ -1,5 +1,5 @@
 -- The step from a front of a piece to the next one, in phases.
-use Rattle.std.proofs.Common.{◌≡◌, ◌≢◌, ℕ, zero, suc, ◌+◌, ◌<◌, ◌≤◌, Bool, true, false, cond, leb, eqb, List, [], ◌∷◌, ◌++◌, length, take, drop, set, refl, sym, ap, ◌∙◌, arith, length-append, inl, inr, None, Ok, Err, add-one}
+use Rattle.std.proofs.Common.{◌≡◌, ◌≢◌, ℕ, zero, suc, ◌+◌, ◌<◌, ◌≤◌, Bool, true, false, cond, leb, eqb, List, [], ◌∷◌, ◌++◌, length, take, drop, set, refl, sym, ap, ◌∙◌, arith, length-append, None, Ok, Err, add-one}
 use Rattle.std.proofs.lemmas.List.{take_all, take-append-le, append-nil, length_push, take_more_set, set_past, drop-set-lt, length-set}
 use Rattle.std.proofs.lemmas.List.Elements.{All-push, All-nil}
 use Rattle.std.proofs.lemmas.Bool.{cases_lt, cond-true, cond-false, ne_eqb, le-leb, lt-leb}
@@ -118,10 +118,7 @@ begins_within buffer c q b false zero f l h e = grind (arith, output-push_next, 
 begins-nonzero : (buffer p : List ℕ) (b : ℕ) → 0 < b → Begins buffer (output p) → Begins (next_buffer buffer (phase_after p (length buffer)) b) (output (p ++ b ∷ []))
 unfolding phase_after
 begins-nonzero buffer [] b h e = rw (output-one b) (begins-nil buffer)
-begins-nonzero buffer (c ∷ q) b h e = elim (cases_lt (length buffer) (length (output (c ∷ q)))) [
-  | inl more ↦ rw (over_phase c q (length buffer) more, (output-push c q b).1) (begins-over buffer (output (c ∷ q)) (output-push c q b).0 (omega arith) e)
-  | inr fits ↦ rw (fits_phase c q (length buffer) fits) (begins_within buffer c q b _ _ refl refl h e)
-]
+begins-nonzero buffer (c ∷ q) b h e = grind (arith, cases_lt, over_phase, fits_phase, begins-over, begins_within, (output-push c q b))
 
 begins-step : (buffer p : List ℕ) (b : ℕ) → Begins buffer (output p) → Begins (next_buffer buffer (phase_after p (length buffer)) b) (output (fed p b))
 begins-step buffer p zero e = rw (next_buffer-zero buffer (phase_after p (length buffer)), output-nil) (begins-nil buffer)

@@ -4,7 +4,6 @@ use Rattle.std.proofs.lemmas.Bool.{cases_lt}
 use Rattle.std.proofs.lemmas.List.{take-append-le, take-take}
 use Rattle.std.proofs.lemmas.List.Elements.{All-take}
 use Rattle.cobs.specs.Grammar.{Reads}
-use Rattle.cobs.specs.Piece.{output}
 use Rattle.cobs.specs.Stream.{Outcome, Message, outcome_of, stream_outcomes, unended}
 use Rattle.cobs.specs.Feed.{Phase, Idle, DecoderAfter, Feeds, answer_at_end, answer_to, told}
 use Rattle.cobs.specs.FeedPiece.{IsWithin, TakesPiece, outcome_at}
@@ -24,10 +23,7 @@ pub message_reads : (f m : List ℕ) (n : ℕ) → IsPiece f → All (λ b. b < 
 message_reads f m n piece below e = grind (arith, outcome_of_long, outcome_reads, cases_lt)
 
 message_fits : (f m : List ℕ) (n : ℕ) → Reads f m → outcome_of f n ≡ Message m → length m ≤ n
-message_fits f m n r e = ⊎_elim
-    (λ (more : n < length (output f)). absurd (let long = outcome_of_long f n more in cc))
-    (λ (within : length (output f) ≤ n). let len = ap length (frame_output f m r) in omega arith)
-    (cases_lt n (length (output f)))
+message_fits f m n r e = grind (arith, cases_lt, outcome_of_long, (frame_output f m r))
 
 -- A ZERO THAT IS FED
 

@@ -1,5 +1,5 @@
 -- What a push of a list and the zero behind it answers: the message m exactly where the list reads as m.
-use Rattle.std.proofs.Common.{◌≡◌, ◌≢◌, ℕ, ◌<◌, ◌≤◌, ◌↔◌, List, [], ◌∷◌, ◌++◌, length, take, All, Option, Some, None, Result, Ok, Err, refl, sym, ap, ◌∙◌, subst, arith, length-append, length-take-le, take-append-drop, take_all, take_at, drop, ⊎_elim}
+use Rattle.std.proofs.Common.{◌≡◌, ◌≢◌, ℕ, ◌<◌, ◌≤◌, Fits, get_or, w8, ◌↔◌, List, [], ◌∷◌, ◌++◌, length, take, All, Option, Some, None, Result, Ok, Err, refl, sym, ap, ◌∙◌, subst, arith, length-append, length-take-le, take-append-drop, take_all, take_at, drop, ⊎_elim}
 use Rattle.std.proofs.lemmas.Bool.{cases_lt, cases_Bool, ne_eqb, le-leb}
 use Rattle.std.proofs.lemmas.List.{take-append-le, take_more, get_or_append_left}
 use Rattle.std.proofs.lemmas.List.Elements.{All-take, All-get_or}
@@ -16,7 +16,8 @@ use Rattle.cobs.proofs.streaming.FeedLemmas.{DecoderAfter-idle}
 use Rattle.cobs.proofs.streaming.PushLemmas.{output-grows}
 use Rattle.cobs.proofs.format.StreamLemmas.{stream_outcomes-no_zero, stream_outcomes-one, unended-no_zero}
 use Rattle.cobs.proofs.decoding.OutcomeLemmas.{outcome_reads}
-use Rattle.cobs.proofs.decoding.HeadlineLemmas.{reads_where_fits, outcome_of_long}
+use Rattle.cobs.proofs.decoding.ReadsLemmas.{frame_piece}
+use Rattle.cobs.proofs.decoding.HeadlineLemmas.{bytes_below, reads_where_fits, outcome_of_long}
 
 -- a front's output is no longer
 output-take : (f : List ℕ) (k : ℕ) → length (output (take k f)) ≤ length (output f)
@@ -106,3 +107,12 @@ push_reads {buffer} {bytes} {buffer'} {phase} {phase'} {result} w below f m idle
       pushes_to buffer bytes buffer' f phase phase' idle is front piece m fits result w,
     ))
     (λ more. pushes_long buffer bytes buffer' f phase phase' idle is front piece m more result w)
+
+-- what a push of bytes as a program has them tells
+pub push_message : {buffer bytes buffer' : List ℕ} {phase phase' : Phase} {result : Result (Option DecodeReport) PushError} → PushesBytes buffer phase bytes result buffer' phase' → ((i : ℕ) → Fits w8 (get_or bytes i 0))
+    → (f m : List ℕ) → phase ≡ Idle → bytes ≡ f ++ 0 ∷ [] → Reads f m → length m ≤ length buffer → PushesMessage result buffer' m
+push_message {bytes = bytes} w fits f m idle is r room = (push_reads w (bytes_below bytes fits) f m idle is (frame_piece r)).1 (r, room)
+
+pub push_only : {buffer bytes buffer' : List ℕ} {phase phase' : Phase} {result : Result (Option DecodeReport) PushError} → PushesBytes buffer phase bytes result buffer' phase' → ((i : ℕ) → Fits w8 (get_or bytes i 0))
+    → (f m : List ℕ) → phase ≡ Idle → bytes ≡ f ++ 0 ∷ [] → IsPiece f → PushesMessage result buffer' m → Reads f m × (length m ≤ length buffer)
+push_only {bytes = bytes} w fits f m idle is piece told = (push_reads w (bytes_below bytes fits) f m idle is piece).0 told

@@ -10,7 +10,7 @@ use Rattle.cobs.specs.Stream.{Outcome, stream_outcomes, unended, is_nonempty}
 use Rattle.cobs.specs.Feed.{Phase, Idle, Within, Over, DecoderAfter, phase_after}
 use Rattle.cobs.specs.FeedPiece.{outcome_at, TakesPiece}
 use Rattle.cobs.specs.NextFrame.{Read, bytes_given, GaveBytes, all_given, EndsIn, Runs, CallsForMore, EachCalledFor, EndsFirst, ReaderState, ReaderAfter, AtStreamEnd, Tells, ReadsNext}
-use Rattle.cobs.specs.Internal.KeptBytes.{EndsFirstIn, DecoderHasTaken, IsOutcome, TellsFirst}
+use Rattle.cobs.specs.Internal.KeptBytes.{EndsFirstIn, DecoderHasTaken, TellsFirst}
 use Rattle.cobs.specs.declared.framed.Next.{Next}
 use Rattle.cobs.specs.declared.framed.Next.TheVariants as nexts
 use Rattle.cobs.specs.declared.framed.ReadFault.TheVariants as faults
@@ -172,14 +172,10 @@ module _ {S : Type 0} {step : S → Read → S → Type 0} {from to : S} {reader
 -- WHERE A PIECE ENDS
 
 -- an outcome is told
-Tells-outcome : (next : Next) (reads : List Read) (t : List ℕ) (reader : ReaderState) (outcome : Outcome)
-    → IsOutcome next reader.buffer outcome → EndsFirst t (length reader.buffer) outcome reader.kept → ReaderAfter reader [] → Tells (Ok next) reads t reader
-Tells-outcome next reads t reader outcome h e p = grind arith
-
 -- the first piece that ends in some bytes is told, behind a stream in which none has ended
 Tells-first : (next : Next) (reads : List Read) (t bytes : List ℕ) (reader : ReaderState) → stream_outcomes t (length reader.buffer) ≡ []
     → TellsFirst next (unended t) bytes reader.buffer reader.kept → ReaderAfter reader [] → Tells (Ok next) reads (t ++ bytes) reader
-Tells-first next reads t bytes reader none w b = Tells-outcome next reads (t ++ bytes) reader w.outcome w.is (EndsFirst-behind t none w.first) b
+Tells-first next reads t bytes reader none w b = grind (arith, EndsFirst-behind)
 
 -- the kept bytes end a piece: nothing is read
 pub ReadsNext-kept : {S : Type 0} (step : S → Read → S → Type 0) (source : S) (reader reader' : ReaderState) (next : Next)

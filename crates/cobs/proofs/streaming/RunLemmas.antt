@@ -1,5 +1,5 @@
 -- So many bytes of a block at once are so many feeds.
-use Rattle.std.proofs.Common.{◌≡◌, ◌≢◌, ℕ, zero, suc, ◌+◌, ◌-◌, ◌<◌, ◌≤◌, Bool, false, cond, List, [], ◌∷◌, ◌++◌, length, take, drop, set, get_or, sym, ap, ◌∙◌, subst, arith, append_assoc, None, Ok, IfOk, IfSome}
+use Rattle.std.proofs.Common.{◌≡◌, ◌≢◌, ℕ, zero, suc, ◌+◌, ◌-◌, ◌<◌, ◌≤◌, Bool, false, List, [], ◌∷◌, ◌++◌, length, take, drop, set, get_or, sym, ap, ◌∙◌, subst, arith, append_assoc, IfOk, IfSome}
 use Rattle.std.proofs.lemmas.List.{set-append_right, length_push, drop_more, take_more_set, drop-set-lt, length-set, take-append-drop, length-take-le, get_or-take, get_or-drop, drop-drop}
 use Rattle.std.proofs.Common.{length-drop, length-take, min}
 use Rattle.std.proofs.Math.Seq.{set-append_seam}
@@ -37,13 +37,6 @@ over-push base buffer xs x room =
     ∙ sym (append_assoc xs (x ∷ []) (drop (base + length xs + 1) buffer))
     ∙ ap (λ (k : ℕ). (xs ++ x ∷ []) ++ drop k buffer) (omega arith))
 
-module _ (n : ℕ) (full : Bool) (left count x : ℕ) (nz : 0 < x) (room : count < n) where
-  phase_is : next_phase n (Within full (suc left) count) x ≡ Within full left (count + 1)
-  phase_is = grind (arith, ne_eqb, lt-ltb)
-
-  answer_is : next_answer n (Within full (suc left) count) x ≡ Ok None
-  answer_is = grind (arith, ne_eqb, phase_is)
-
 -- THE BULK LEMMA: bytes of a block that fit are fed by one copy
 pub FedInTurn-within : (xs buffer : List ℕ) (full : Bool) (left count : ℕ) → HasNoZero xs → length xs ≤ left → count + length xs ≤ length buffer
     → FedInTurn buffer (Within full left count) xs (over count buffer xs) (Within full (left - length xs) (count + length xs))
@@ -53,18 +46,8 @@ FedInTurn-within (x ∷ xs) buffer full (suc left) count h l r =
     let nz : 0 < x = omega (arith, All-head (λ b. b ≢ 0) x xs h) in
     let room : count < length buffer = omega arith in
     let again : FedInTurn (set buffer count x) (Within full left (count + 1)) xs (over (count + 1) (set buffer count x) xs) (Within full (left - length xs) (count + 1 + length xs))
-    = FedInTurn-within xs (set buffer count x) full left (count + 1) (All-tail (λ b. b ≢ 0) x xs h) (omega arith) (omega (arith, length-set buffer count x)) in (
-      answer_is (length buffer) full left count x nz room,
-      subst (λ (z : List ℕ). FedInTurn z (next_phase (length buffer) (Within full (suc left) count) x) xs (over count buffer (x ∷ xs)) (Within full (suc left - length (x ∷ xs)) (count + length (x ∷ xs))))
-          (sym (ap (λ (v : Bool). cond v buffer (set buffer count x)) (ne_eqb x 0 (λ e. omega arith))))
-          (subst (λ (z : Phase). FedInTurn (set buffer count x) z xs (over count buffer (x ∷ xs)) (Within full (suc left - length (x ∷ xs)) (count + length (x ∷ xs))))
-          (sym (phase_is (length buffer) full left count x nz room))
-          (subst (λ (z : List ℕ). FedInTurn (set buffer count x) (Within full left (count + 1)) xs z (Within full (suc left - length (x ∷ xs)) (count + length (x ∷ xs))))
-          (over-cons count x xs buffer room)
-          (subst (λ (z : Phase). FedInTurn (set buffer count x) (Within full left (count + 1)) xs (over (count + 1) (set buffer count x) xs) z)
-          (ap (λ (k : ℕ). Within full k (count + 1 + length xs)) (omega arith) ∙ ap (λ (k : ℕ). Within full (suc left - length (x ∷ xs)) k) (omega arith))
-          again))),
-    )
+    = FedInTurn-within xs (set buffer count x) full left (count + 1) (All-tail (λ b. b ≢ 0) x xs h) (omega arith) (omega (arith, length-set buffer count x)) in
+    grind (arith, ne_eqb, lt-ltb, over-cons)
 
 -- a push so far goes on over bytes that are fed in turn
 pub Pushed-run : {buffer₀ buffer' : List ℕ} {phase₀ phase' : Phase} (bytes xs buffer : List ℕ) (phase : Phase) (i : ℕ)
@@ -99,12 +82,12 @@ pub begun : (full : Bool) (left count : ℕ) → 0 < left + count → phase_with
 begun full left count h = grind arith
 
 -- bytes of the open block that fit, written behind what was written
-run_written : (full : Bool) (left count run : ℕ) (dest bytes : List ℕ) → 0 < run → run ≤ left → count + run ≤ length dest → run ≤ length bytes → HasNoZero (take run bytes)
+pub run_written : (full : Bool) (left count run : ℕ) (dest bytes : List ℕ) → 0 < run → run ≤ left → count + run ≤ length dest → run ≤ length bytes → HasNoZero (take run bytes)
     → FedInTurn dest (phase_with full left count) (take run bytes) (over count dest (take run bytes)) (phase_with full (left - run) (count + run))
 run_written full left count run dest bytes some most room within nz = grind (arith, length-take-le, FedInTurn-within, begun)
 
 over-put : (count run : ℕ) (buffer xs : List ℕ) → length xs ≡ run → over count buffer xs ≡ put_mid count (count + run - count) buffer xs
-over-put count run buffer xs e = ap (λ (l : List ℕ). take count buffer ++ (xs ++ l)) (ap (λ (k : ℕ). drop k buffer) (omega arith) ∙ sym (drop-drop (count + run - count) count buffer))
+over-put count run buffer xs e = grind (arith, drop-drop)
 
 -- the same by one copy
 pub run_fed : (inner : UnbufferedDecoder) (dest bytes ys : List ℕ) (run : ℕ) → inner.over ≡ false

@@ -1,7 +1,8 @@
 -- A stretch without zeros behind a block boundary, fed as a whole: its output is written, and the phase is that of its last part.
 use Rattle.std.proofs.Common.{◌≡◌, ◌≢◌, ℕ, zero, suc, ◌+◌, ◌-◌, ◌<◌, ◌≤◌, Bool, true, false, cond, eqb, List, [], ◌∷◌, ◌++◌, length, take, drop, set, refl, sym, ap, ◌∙◌, subst, arith, append_assoc, inl, inr, length-append, length-drop, None, Ok}
-use Rattle.std.proofs.lemmas.List.{append-nil, length-set, length_push, length-take-le, take-append-drop, drop_all, drop-drop, take_rest}
-use Rattle.std.proofs.lemmas.List.Elements.{All-head, All-tail, All-drop}
+use Rattle.std.proofs.lemmas.List.{append-nil, length-set, length_push, length-take-le, take-append-drop, drop_all, drop-drop, take_rest, take-take}
+use Rattle.std.proofs.Math.Seq.{drop-append_seam, take-add, take-append_seam}
+use Rattle.std.proofs.lemmas.List.Elements.{All-cons, All-head, All-tail, All-drop}
 use Rattle.std.proofs.lemmas.Bool.{ne_eqb, eqb-true, lt-ltb, cases_lt}
 use Rattle.std.specs.List.{All}
 use borrow.Rule.Slice.PartMut.{put_mid}
@@ -13,7 +14,7 @@ use Rattle.cobs.specs.Fields.Decoders.{phase_of, phase_with}
 use Rattle.cobs.specs.Internal.FedInTurn.{FedInTurn}
 use Rattle.cobs.specs.Step.{grows, next_phase, next_buffer, next_answer, end_answer, if_over}
 use Rattle.cobs.proofs.decoding.PieceLemmas.{output-one, last_part-one, output-push_more, output-push_next, last_part-push_next, lacks-push_more, is_full-push_more}
-use Rattle.cobs.proofs.decoding.PieceCuts.{last_part-more, last_part-last, output-last, output-more, joint_of}
+use Rattle.cobs.proofs.decoding.PieceCuts.{last_part-more, last_part-last, output-last, output-more, joint_of, output_short}
 use Rattle.cobs.proofs.streaming.PushLemmas.{output-grows}
 use Rattle.cobs.proofs.streaming.RunLemmas.{over, over-nil, over-push, begun}
 
@@ -23,6 +24,11 @@ pub FedInTurn-append : (xs ys buffer buffer' buffer'' : List ℕ) (phase phase' 
 FedInTurn-append [] ys buffer buffer' buffer'' phase phase' phase'' f g = grind arith
 FedInTurn-append (x ∷ xs) ys buffer buffer' buffer'' phase phase' phase'' f g =
     (f.0, FedInTurn-append xs ys (next_buffer buffer phase x) buffer' buffer'' (next_phase (length buffer) phase x) phase' phase'' f.1 g)
+
+-- the first bytes of those behind the run are fed
+pub fed-on : (bytes buffer buffer' buffer'' : List ℕ) (phase phase' phase'' : Phase) (run more : ℕ) → FedInTurn buffer phase (take run bytes) buffer' phase'
+    → FedInTurn buffer' phase' (take more (take (length bytes - run) (drop run bytes))) buffer'' phase'' → FedInTurn buffer phase (take (run + more) bytes) buffer'' phase''
+fed-on bytes buffer buffer' buffer'' phase phase' phase'' run more f g = grind (arith, take_rest, take-add, FedInTurn-append)
 
 length-over : (base : ℕ) (buffer xs : List ℕ) → base + length xs ≤ length buffer → length (over base buffer xs) ≡ length buffer
 length-over base buffer xs room = omega (arith, length-append (take base buffer) (xs ++ drop (base + length xs) buffer), length-append xs (drop (base + length xs) buffer), length-take-le base buffer (omega arith), length-drop (base + length xs) buffer)
@@ -164,3 +170,72 @@ last_by (suc n) (code ∷ bytes) h small = elim (cases_lt (code - 1) (length byt
 
 pub code_small : (p : List ℕ) → All (λ b. b < 256) p → code_of (last_part p) < 256
 code_small p small = last_by (length p) p (omega arith) small
+
+-- THE OPEN BLOCK
+
+module _ (base : ℕ) (buffer xs : List ℕ) (room : base + length xs ≤ length buffer) where
+  front-of : length (take base buffer) ≡ base
+  front-of = length-take-le base buffer (omega arith)
+
+  behind : drop base (over base buffer xs) ≡ xs ++ drop (base + length xs) buffer
+  behind = ap (λ (k : ℕ). drop k (over base buffer xs)) (sym front-of) ∙ drop-append_seam (take base buffer) (xs ++ drop (base + length xs) buffer)
+
+  -- a stretch that was copied behind the output so far
+  pub over-stretch : take (length xs) (take (length (over base buffer xs) - base) (drop base (over base buffer xs))) ≡ xs
+  over-stretch =
+      take-take (length xs) (length (over base buffer xs) - base) (drop base (over base buffer xs)) (omega (arith, length-over base buffer xs room))
+      ∙ ap (take (length xs)) behind ∙ take-append_seam xs (drop (base + length xs) buffer)
+
+  -- written over by as many bytes
+  over-over : (ys : List ℕ) → length ys ≡ length xs → over base (over base buffer xs) ys ≡ over base buffer ys
+  over-over ys same =
+      ap (λ (l : List ℕ). l ++ (ys ++ drop (base + length ys) (over base buffer xs)))
+      (ap (λ (k : ℕ). take k (over base buffer xs)) (sym front-of) ∙ take-append_seam (take base buffer) (xs ++ drop (base + length xs) buffer))
+      ∙ ap (λ (l : List ℕ). take base buffer ++ (ys ++ l))
+      (ap (λ (k : ℕ). drop (base + k) (over base buffer xs)) same ∙ ap (λ (k : ℕ). drop k (over base buffer xs)) (omega arith) ∙ sym (drop-drop (length xs) base (over base buffer xs))
+      ∙ ap (drop (length xs)) behind ∙ drop-append_seam xs (drop (base + length xs) buffer) ∙ ap (λ (k : ℕ). drop (base + k) buffer) (sym same))
+
+-- an open block that isn't full is like one whose code is one more than it is missing
+module _ (inner : UnbufferedDecoder) (len : ℕ) (before dest xs : List ℕ) (long : length xs ≡ len) (room : inner.dest_idx + len ≤ length before)
+    (copied : dest ≡ take inner.dest_idx before ++ (xs ++ drop (inner.dest_idx + len) before)) where
+  abbrev copy : List ℕ
+  copy = take (length dest - inner.dest_idx) (drop inner.dest_idx dest)
+
+  abbrev piece : List ℕ
+  piece = (inner.left + 1) ∷ take (len + 1 - 1) copy
+
+  dest-is : dest ≡ over inner.dest_idx before xs
+  dest-is = copied ∙ ap (λ (k : ℕ). take inner.dest_idx before ++ (xs ++ drop (inner.dest_idx + k) before)) (sym long)
+
+  piece-is : piece ≡ (inner.left + 1) ∷ xs
+  piece-is =
+      ap (λ (k : ℕ). (inner.left + 1) ∷ take k copy) (omega arith) ∙ ap (λ (l : List ℕ). (inner.left + 1) ∷ take (length xs) (take (length l - inner.dest_idx) (drop inner.dest_idx l))) dest-is
+      ∙ ap (λ (l : List ℕ). (inner.left + 1) ∷ l) (over-stretch inner.dest_idx before xs (omega arith))
+
+  -- its code is a byte
+  pub open_small : inner.left < 255 → All (λ b. b < 256) xs → code_of (last_part piece) < 256
+  open_small fits below = subst (λ (p : List ℕ). code_of (last_part p) < 256) (sym piece-is) (code_small ((inner.left + 1) ∷ xs) (All-cons (λ b. b < 256) (inner.left + 1) xs (omega arith) below))
+
+  pub open_fed : (code left : ℕ) (ys : List ℕ) → inner.over ≡ false → inner.code ≢ 255 → HasNoZero xs → inner.left < len → len < 254
+      → take (len + 1 - 1) ys ≡ output piece → drop (len + 1 - 1) ys ≡ drop (len + 1 - 1) copy → code ≡ code_of (last_part piece) → left ≡ lacks (last_part piece)
+      → FedInTurn before (phase_of inner) xs (put_mid inner.dest_idx (length dest - inner.dest_idx) dest ys)
+      (phase_of (record { dest_idx = inner.dest_idx + len; left = left; code = code; over = inner.over }))
+  open_fed code left ys going other nz more few front rest code-is left-is =
+      let at : ℕ = inner.dest_idx in
+      let c : ℕ = inner.left + 1 in
+      let short : length (output (c ∷ xs)) ≡ length xs = omega (arith, output_short (c ∷ xs)) in
+      let same : length dest ≡ length before = ap length dest-is ∙ length-over at before xs (omega arith) in
+      let n : len + 1 - 1 ≡ length xs = omega arith in
+      let fed : FedInTurn (over at before (output (c ∷ []))) (phase_at at (c ∷ [])) xs (over at before (output (c ∷ xs))) (phase_at at (c ∷ xs))
+      = FedInTurn-on at before c [] xs nz (omega arith) in
+      let written : put_mid at (length dest - at) dest ys ≡ over at before (output (c ∷ xs))
+      = put_over at (len + 1 - 1) dest ys (output (c ∷ xs)) (omega arith) (omega arith) (front ∙ ap output piece-is) rest
+      ∙ ap (λ (l : List ℕ). over at l (output (c ∷ xs))) dest-is ∙ over-over at before xs (omega arith) (output (c ∷ xs)) short in
+      let from : phase_at at (c ∷ []) ≡ Within false inner.left at = phase-start at c ∙ within_same _ _ _ _ _ _ (ne_eqb c 255 (λ e. omega arith)) (omega arith) refl in
+      let code-at : code ≡ code_of (last_part (c ∷ xs)) = code-is ∙ ap (λ (p : List ℕ). code_of (last_part p)) piece-is in
+      let left-at : left ≡ lacks (last_part (c ∷ xs)) = left-is ∙ ap (λ (p : List ℕ). lacks (last_part p)) piece-is in
+      let to : phase_with (eqb code 255) left (at + len) ≡ phase_at at (c ∷ xs)
+      = ap (λ (k : ℕ). phase_with (eqb code 255) left (at + k)) (sym (short ∙ long))
+      ∙ phase_with-at at (c ∷ xs) (eqb code 255) left (omega arith) (ap (λ (k : ℕ). eqb k 255) (sym code-at)) (sym left-at)
+      ∙ within_same _ _ _ _ _ _ (ap (λ (k : ℕ). eqb k 255) code-at) left-at refl in
+      grind (arith, over-start, ne_eqb)

@@ -1,6 +1,6 @@
 -- How far a piece is decoded.
-use Rattle.std.specs.Prelude.{◌≡◌, ℕ, ◌+◌, ◌<◌, List, ◌++◌, length, take, drop}
-use Rattle.cobs.specs.Piece.{output, last_part, lacks}
+use Rattle.std.specs.Prelude.{◌≡◌, ℕ, ◌+◌, ◌<◌, Bool, true, List, [], ◌∷◌, ◌++◌, length, take, drop}
+use Rattle.cobs.specs.Piece.{output, last_part, lacks, is_whole}
 
 -- a whole piece whose parts but the last aren't full, so that each byte after the first gives one byte of the output
 pub record IsFlat (p : List ℕ) : Type 0 where
@@ -16,3 +16,8 @@ pub record Decoded (piece old new : List ℕ) (read written : ℕ) : Type 0 wher
   pub front : take written new ++ output (drop read piece) ≡ output piece
   pub rest : drop (length (output piece)) new ≡ drop (length (output piece)) old
   pub last : last_part (drop read piece) ≡ last_part piece
+
+-- whether what is left of a piece is whole, or nothing is left
+abbrev pub whole_left : List ℕ → Bool
+whole_left [] = true
+whole_left (byte ∷ bytes) = is_whole (byte ∷ bytes)

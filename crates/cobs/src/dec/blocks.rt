@@ -1,6 +1,6 @@
 //! Blocks that are walked from code to code: stretches of whole blocks of which none but the last is full, so that each
 //! byte after the first code gives one byte; and whether a list is a frame.
-ghost use Rattle.std.specs.Prelude.{◌≡◌, ◌↔◌, ◌+◌, ◌-◌, ◌<◌, ◌≤◌, ◌∷◌, length, take, drop, slice_index, IsTrue, ℕ, false, List, ◌++◌};
+ghost use Rattle.std.specs.Prelude.{◌≡◌, ◌≢◌, ◌↔◌, ◌+◌, ◌-◌, ◌<◌, ◌≤◌, ◌∷◌, length, take, drop, slice_index, IsTrue, ℕ, false, List, ◌++◌};
 ghost use Rattle.cobs.specs.Grammar.{HasNoZero, code_of, IsCanonical, IsFrame};
 ghost use Rattle.cobs.specs.Piece.{lacks, last_part, output};
 ghost use Rattle.cobs.specs.Internal.Decoded.{IsFlat};
@@ -59,27 +59,6 @@ pub(crate) fn flat_front(piece: &[u8], sentinel: u8) -> (usize, bool)
     }
 }
 
-/// Whether a short source is such a stretch, each byte XORed with the sentinel, as far as the codes say.
-#[inline(always)]
-pub(crate) fn is_flat(source: &[u8], sentinel: u8) -> bool
-    requires some { 0 < length source.now }
-    requires few { length source.now < 255 }
-    ensures { IsTrue result → IsFlat (xor_each sentinel source.now) }
-{
-    let mut read = 0;
-    'by_code: loop {
-        let code = (source[read] ^ sentinel) as usize;
-        let left = source.len() - read;
-        if left <= code {
-            return left == code;
-        }
-        if code == 0 {
-            return false;
-        }
-        read += code;
-    }
-}
-
 /// Writes a zero over each code in the first bytes of `dest`, which are what follows the first code of such a stretch
 /// of `len` bytes, or of one that is cut. Each byte after them stays. Returns the code of the last part, and how many
 /// of its bytes are missing.
@@ -98,25 +77,24 @@ pub(crate) fn write_joints(dest: &mut [u8], first: usize, len: usize, alike: boo
     ensures left { result.1 ≡ lacks (last_part (first ∷ take (len - 1) dest.old)) }
 {
     let mut code = first;
-    let mut read = 0;
-    'by_code: while code < len - read {
-        if alike && code == 1 && len - read > WINDOW && is_all(dest, read, 1) {
-            write_row(dest, read, 0);
-            read += WINDOW;
+    let mut end = first;
+    'by_code: while end < len {
+        if alike && code == 1 && len - end >= WINDOW && is_all(dest, end - 1, 1) {
+            write_row(dest, end - 1, 0);
+            end += WINDOW;
         } else {
             'alike: loop {
-                let at = read + (code - 1);
-                let next = dest[at] as usize;
-                dest[at] = 0;
-                read += code;
-                if !alike || next != code || len - read <= code {
+                let next = dest[end - 1] as usize;
+                dest[end - 1] = 0;
+                end += next;
+                if !alike || next != code || len <= end {
                     code = next;
                     break;
                 }
             }
         }
     }
-    (code, code - (len - read))
+    (code, end - len)
 }
 
 /// What bytes are to a decoder. (The names are this library's own.)
@@ -161,26 +139,25 @@ pub fn frame_kind(bytes: &[u8]) -> FrameKind
     ensures canonical { (result ≡ FrameKind.Canonical) ↔ IsCanonical bytes.now }
     ensures longer { (result ≡ FrameKind.Longer) ↔ (IsFrame bytes.now × ¬ IsCanonical bytes.now) }
 {
-    if bytes.is_empty() || piece_len(bytes) < bytes.len() {
+    if piece_len(bytes) < bytes.len() {
         return FrameKind::NotAFrame;
     }
-    let mut read = 0;
+    let mut rest = bytes;
     let mut after_full = false;
-    'by_block: loop {
-        let code = bytes[read] as usize;
-        let left = bytes.len() - read;
-        if left < code {
+    'by_front: loop {
+        let (front, full) = flat_front(rest, 0);
+        if front == 0 {
             return FrameKind::NotAFrame;
         }
-        if left == code {
-            return if after_full && code == 1 {
+        if front == rest.len() {
+            return if after_full && front == 1 {
                 FrameKind::Longer
             } else {
                 FrameKind::Canonical
             };
         }
-        after_full = code == FULL_CODE;
-        read += code;
+        after_full = full;
+        rest = &rest[front..];
     }
 }
 
@@ -255,40 +232,6 @@ impl UnbufferedDecoder {
         run + self.take_blocks(dest, &bytes[run..end], clean < LONG)
     }
 
-    /// Writes a zero at each code of a stretch that was copied after the output so far, and goes on after it. `alike`
-    /// says that codes of one value in a row are worth a loop of their own, which needn't wait for each code to know
-    /// where the next is.
-    #[inline(always)]
-    fn mark_codes(&mut self, dest: &mut [u8], stretch: &[u8], alike: bool)
-        requires nonzero { HasNoZero stretch.now }
-        requires few { length stretch.now ≤ 64 }
-        requires going { self.old.over ≡ false }
-        requires flat { self.old.code ≡ 255 → length stretch.now ≤ self.old.left }
-        requires room { self.old.dest_idx + length stretch.now ≤ length dest.old }
-        ensures fed { (before : List ℕ) → let end = self.old.dest_idx + length stretch.now in
-            length before ≡ length dest.old
-            → dest.old ≡ take self.old.dest_idx before ++ (stretch.now ++ drop end before)
-            → FedInTurn before (phase_of self.old) stretch.now dest.new (phase_of self.new) }
-        ensures going { self.new.over ≡ false }
-    {
-        let at = self.dest_idx;
-        let mut next = self.left as usize;
-        let mut code = self.code;
-        'by_code: while next < stretch.len() {
-            code = stretch[next];
-            'in_row: loop {
-                dest[at + next] = 0;
-                next += code as usize;
-                if !alike || stretch.len() <= next || stretch[next] != code {
-                    break;
-                }
-            }
-        }
-        self.code = code;
-        self.left = (next - stretch.len()) as u8;
-        self.dest_idx = at + stretch.len();
-    }
-
     /// Takes the code at the front where no zero joins it to anything, and returns how many bytes that is.
     #[inline(always)]
     fn take_code(&mut self, bytes: &[u8]) -> usize
@@ -319,15 +262,22 @@ impl UnbufferedDecoder {
         if self.left == 0 && self.code == FULL {
             return self.take_code(bytes);
         }
-        let mut most = bytes.len().min(dest.len().saturating_sub(self.dest_idx));
+        let at = self.dest_idx;
+        let left = self.left as usize;
+        let mut most = bytes.len().min(dest.len().saturating_sub(at));
         if self.code == FULL {
-            most = most.min(self.left as usize);
+            most = most.min(left);
         }
-        let len = copy_to_zero(&bytes[..most], dest, self.dest_idx);
-        if len == 0 {
-            return 0;
+        let len = copy_to_zero(&bytes[..most], dest, at);
+        self.dest_idx = at + len;
+        if len <= left {
+            self.left -= len as u8;
+        } else {
+            // What the open block is missing is what a code of one more would open.
+            let (code, left) = write_joints(&mut dest[at..], left + 1, len + 1, false);
+            self.code = code as u8;
+            self.left = left as u8;
         }
-        self.mark_codes(dest, &bytes[..len], WIDE_WINDOW <= len);
         len
     }
 

@@ -104,6 +104,7 @@ impl<'a> CobsDecoder<'a> {
     ///     Some(3)
     /// );
     /// ```
+    #[tactic(auto, using(crate::proofs::streaming::PushHeadline::push_message, crate::proofs::streaming::PushHeadline::push_only))]
     pub fn push(&mut self, bytes: &[u8]) -> Result<Option<DecodeReport>, PushError>
         ensures pushes { PushesBytes (borrowed_buffer self.old)
             (borrowed_phase self.old) bytes.now result

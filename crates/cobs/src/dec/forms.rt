@@ -10,8 +10,8 @@ ghost use Rattle.cobs.specs.Sentinel.{xor_each};
 ghost use Rattle.cobs.specs.Stream.{head};
 ghost use Rattle.cobs.specs.declared.dec.DecodeError.TheVariants.{EmptyFrame, TargetBufTooSmall};
 
-use crate::dec::blocks::{flat_front, is_flat, write_joints};
-use crate::dec::piece::{first_of, len_without};
+use crate::dec::blocks::{flat_front, write_joints};
+use crate::dec::piece::{copy_few, first_of, len_without};
 use crate::dec::{DecodeError, DecodeVecError, decode};
 use crate::lanes::copy_xored_short;
 use crate::window::WIDE_WINDOW;
@@ -95,10 +95,17 @@ fn decode_xored_short(source: &[u8], dest: &mut [u8], sentinel: u8) -> bool
     if len < 2 || WIDE_WINDOW + 1 < len || dest.len() < len - 1 || source[0] == sentinel {
         return false;
     }
-    if !is_flat(source, sentinel) || !copy_xored_short(&source[1..], dest, sentinel) {
+    // One walk that writes, and bytes put back if the last block is broken, cost less than a walk before it that looks.
+    let mut old = [0; WIDE_WINDOW];
+    copy_few(&dest[..len - 1], &mut old);
+    if !copy_xored_short(&source[1..], dest, sentinel) {
         return false;
     }
-    write_joints(dest, (source[0] ^ sentinel) as usize, len, true);
+    let (_, left) = write_joints(dest, (source[0] ^ sentinel) as usize, len, true);
+    if left > 0 {
+        dest[..len - 1].copy_from_slice(&old[..len - 1]);
+        return false;
+    }
     true
 }
 

@@ -5,16 +5,16 @@ ghost use Rattle.cobs.specs.Decode.{head_answer, in_place, in_place_answer, in_p
 ghost use Rattle.cobs.specs.Grammar.{HasNoZero, Reads, code_of};
 ghost use Rattle.cobs.specs.Headline.{AnswersMessage, IsPiece, ReportsMessage};
 ghost use Rattle.cobs.specs.Piece.{kept_output, last_part, output};
-ghost use Rattle.cobs.specs.Internal.Decoded.{IsFlat};
+ghost use Rattle.cobs.specs.Internal.Decoded.{IsFlat, whole_left};
 ghost use Rattle.cobs.specs.Sentinel.{xor_each};
 ghost use Rattle.cobs.specs.declared.dec.DecodeError.TheVariants.{TargetBufTooSmall};
 
-use crate::dec::blocks::{flat_front, is_flat, write_joints};
-use crate::dec::piece::{len_without, piece_len};
+use crate::dec::blocks::{flat_front, write_joints};
+use crate::dec::piece::piece_len;
 use crate::dec::{DecodeError, DecodeReport};
 use crate::enc::{FULL_CODE, xor_bytes};
-use crate::lanes::{move_nonzero_short, move_to_front};
-use crate::window::{WIDE_WINDOW, WINDOW, is_all, write_row};
+use crate::lanes::move_to_front;
+use crate::window::{WINDOW, is_all, write_row};
 
 /// Writes a zero over each code but the first of the first whole blocks of a piece, through the first full one; returns
 /// how many bytes these blocks have, and the code of the last of them. `rest` begins with what follows the first code.
@@ -99,36 +99,9 @@ fn decode_first(buffer: &mut [u8], len: usize) -> (usize, bool)
     (front, code == FULL_CODE)
 }
 
-/// Decodes the first whole blocks of `len` bytes that begin at `from`, through the first full one, to the front of the
-/// buffer. Returns how many bytes they have, and whether the last of them is full; 0 bytes: the first block is broken.
-/// Each byte after what they give stays.
-#[inline(always)]
-fn decode_next(buffer: &mut [u8], from: usize, len: usize) -> (usize, bool)
-    requires some { 0 < len }
-    requires within { from + len ≤ length buffer.old }
-    requires nonzero { HasNoZero (take len (drop from buffer.old)) }
-    ensures within { result.0 ≤ len }
-    ensures flat { 0 < result.0 → IsFlat (take result.0 (take len (drop from buffer.old))) }
-    ensures full { 0 < result.0 → (IsTrue result.1
-        ↔ (code_of (last_part (take result.0 (take len (drop from buffer.old)))) ≡ 255)) }
-    ensures broken { result.0 ≡ 0 → len < slice_index buffer.old from }
-    ensures begins { 0 < result.0 → take (result.0 - 1) buffer.new
-        ≡ output (take result.0 (take len (drop from buffer.old))) }
-    ensures rest { drop (result.0 - 1) buffer.new ≡ drop (result.0 - 1) buffer.old }
-{
-    if from == 0 {
-        return decode_first(buffer, len);
-    }
-    let (front, full) = flat_front(&buffer[from..from + len], 0);
-    if front > 0 {
-        decode_flat_in_place(buffer, from, front);
-    }
-    (front, full)
-}
-
 /// Decodes `len` bytes of the buffer, which begin at `from`, to its front, where they are whole blocks of which none
 /// but the last is full: one move of all these bytes, and a zero at each code. Each byte after what they give stays.
-#[inline(never)]
+#[inline(always)]
 fn decode_flat_in_place(buffer: &mut [u8], from: usize, len: usize)
     requires within { from + len ≤ length buffer.old }
     requires nonzero { HasNoZero (take len (drop from buffer.old)) }
@@ -141,57 +114,70 @@ fn decode_flat_in_place(buffer: &mut [u8], from: usize, len: usize)
     write_joints(buffer, first, len, true);
 }
 
+/// Decodes the `len` bytes that begin at `from` to the front of the buffer, and returns how many bytes their whole blocks
+/// give, and whether the last block is whole too. Every other byte is as it was.
+///
+/// The blocks are walked over first, as far as the next full one, since the bytes behind the message must stay.
+#[inline(never)]
+fn decode_behind(buffer: &mut [u8], from: usize, len: usize) -> (usize, bool)
+    requires within { from + len ≤ length buffer.old }
+    requires nonzero { HasNoZero (take len (drop from buffer.old)) }
+    ensures within { result.0 ≤ length buffer.old }
+    ensures count { result.0 ≡ length (kept_output (take len (drop from buffer.old))) }
+    ensures whole { result.1 ≡ whole_left (take len (drop from buffer.old)) }
+    ensures buffer { buffer.new
+        ≡ overwritten buffer.old (kept_output (take len (drop from buffer.old))) }
+{
+    let mut read = 0;
+    let mut written = 0;
+    'by_front: while read < len {
+        let (front, full) = flat_front(&buffer[from + read..from + len], 0);
+        if front == 0 {
+            return (written, false);
+        }
+        decode_flat_in_place(&mut buffer[written..], from + read - written, front);
+        read += front;
+        written += front - 1;
+        if !full && read < len {
+            buffer[written] = 0;
+            written += 1;
+        }
+    }
+    (written, true)
+}
+
 /// Decodes the blocks in the first `end` bytes of the buffer, and returns how many bytes they give.
 ///
-/// Most frames have no full block before their last, and are one walk and one move. Behind a full block the blocks are
-/// walked over first, since the bytes behind the message must stay as they were.
-#[inline(never)]
+/// Most frames have no full block before their last, and are one walk and one move.
+#[inline(always)]
 fn decode_blocks_in_place(buffer: &mut [u8], end: usize) -> Result<usize, DecodeError>
     requires within { end ≤ length buffer.old }
     requires nonzero { HasNoZero (take end buffer.old) }
     ensures answer { result ≡ head_answer (take end buffer.old) }
     ensures buffer { buffer.new ≡ overwritten buffer.old (kept_output (take end buffer.old)) }
 {
-    let mut read = 0;
-    let mut written = 0;
-    'by_front: while read < end {
-        let (len, full) = decode_next(&mut buffer[written..], read - written, end - read);
-        if len == 0 {
-            return Err(DecodeError::InvalidFrame {
-                decoded_bytes: written,
-            });
-        }
-        read += len;
-        written += len - 1;
-        if !full && read < end {
-            buffer[written] = 0;
-            written += 1;
-        }
+    if end == 0 {
+        return Ok(0);
     }
-    Ok(written)
-}
-
-/// Decodes the first `len` bytes of the buffer, 2 to 65, to its front if these are whole blocks without a zero, and
-/// returns whether it did. If not, every byte stays; else each byte after what they give.
-#[inline(always)]
-fn decode_short_in_place(buffer: &mut [u8], len: usize) -> bool
-    requires { len ≤ length buffer.old }
-    ensures some { IsTrue result → 1 < len }
-    ensures nonzero { IsTrue result → HasNoZero (take len buffer.old) }
-    ensures flat { IsTrue result → IsFlat (take len buffer.old) }
-    ensures begins { IsTrue result → take (len - 1) buffer.new ≡ output (take len buffer.old) }
-    ensures rest { drop (len - 1) buffer.new ≡ drop (len - 1) buffer.old }
-    ensures kept { result ≡ false → buffer.new ≡ buffer.old }
-{
-    if len < 2 || WIDE_WINDOW + 1 < len || buffer[0] == 0 || !is_flat(&buffer[..len], 0) {
-        return false;
+    let (first, full) = decode_first(buffer, end);
+    if first == 0 {
+        return Err(DecodeError::InvalidFrame { decoded_bytes: 0 });
     }
-    let first = buffer[0] as usize;
-    if !move_nonzero_short(buffer, 1, len - 1) {
-        return false;
+    let mut written = first - 1;
+    if first == end {
+        return Ok(written);
     }
-    write_joints(buffer, first, len, true);
-    true
+    if !full {
+        buffer[written] = 0;
+        written += 1;
+    }
+    let (more, whole) = decode_behind(&mut buffer[written..], first - written, end - first);
+    let decoded_bytes = written + more;
+    if whole {
+        Ok(decoded_bytes)
+    } else {
+        Err(DecodeError::InvalidFrame { decoded_bytes })
+    }
 }
 
 /// Decodes the frame at the front of the buffer in its own place, up to the first zero or the buffer's end, and returns
@@ -217,6 +203,8 @@ fn decode_short_in_place(buffer: &mut [u8], len: usize) -> bool
 /// assert_eq!(rt; report.frame_size(), 4);
 /// assert_eq!(rt; buf, [10, 11, 0, 12, 12, 0]);
 /// ```
+// For a frame of some bytes, a call with its result in memory takes as long as the decoding.
+#[inline(always)]
 pub fn decode_in_place_report(buf: &mut [u8]) -> Result<DecodeReport, DecodeError>
     ensures answer { result ≡ in_place_report buf.old }
     ensures buffer { buf.new ≡ in_place buf.old }
@@ -225,10 +213,6 @@ pub fn decode_in_place_report(buf: &mut [u8]) -> Result<DecodeReport, DecodeErro
         → Reads buf.old m }
     ensures room { IfErr result (λ error. error ≢ TargetBufTooSmall) }
 {
-    let len = len_without(buf, 0);
-    if decode_short_in_place(buf, len) {
-        return Ok(DecodeReport::new(len, len - 1));
-    }
     if buf.is_empty() {
         return Err(DecodeError::EmptyFrame);
     }

@@ -36,13 +36,10 @@ pub(crate) fn first_of(source: &[u8], byte: u8) -> usize
 }
 
 /// How many bytes of a source come before such a byte at its end; all of them if its last byte is another.
-///
-/// The clause `bytes` is for a caller that writes the source afterwards, whose type says only what it holds at last.
 #[inline(always)]
 pub(crate) fn len_without(source: &[u8], byte: u8) -> usize
     ensures within { result ≤ length source.now }
     ensures stop { result < length source.now → slice_index source.now result ≡ byte }
-    ensures bytes { All (λ other. other < 256) source.now }
 {
     let len = source.len();
     if len > 0 && source[len - 1] == byte {
@@ -52,12 +49,15 @@ pub(crate) fn len_without(source: &[u8], byte: u8) -> usize
 }
 
 /// The place of the first zero of the source, or the source's length if it has none.
+///
+/// The clause `bytes` is for a caller that writes the source afterwards, whose type says only what it holds at last.
 pub(crate) fn piece_len(source: &[u8]) -> usize
     ensures within { result ≤ length source.now }
     ensures nonzero { HasNoZero (take result source.now) }
     ensures stop { result < length source.now → slice_index source.now result ≡ 0 }
+    ensures bytes { All (λ other. other < 256) source.now }
 {
-    if source.len() > WINDOW {
+    if source.len() > WIDE_WINDOW {
         return first_of(source, 0);
     }
     if source.is_empty() {
@@ -79,18 +79,17 @@ pub(crate) fn leading_zeros(source: &[u8]) -> usize
     source.len()
 }
 
-/// Copies what is after the first code of a piece.
+/// Copies the bytes of a source, which are few as a rule.
 #[inline(always)]
-fn copy_after_code(piece: &[u8], dest: &mut [u8])
-    requires some { 0 < length piece.now }
-    requires room { length piece.now ≤ length dest.old + 1 }
-    ensures copied { dest.new ≡ drop 1 piece.now ++ drop (length piece.now - 1) dest.old }
+pub(crate) fn copy_few(source: &[u8], dest: &mut [u8])
+    requires room { length source.now ≤ length dest.old }
+    ensures copied { dest.new ≡ source.now ++ drop (length source.now) dest.old }
 {
-    let len = piece.len() - 1;
+    let len = source.len();
     if len > WINDOW {
-        dest[..len].copy_from_slice(&piece[1..]);
+        dest[..len].copy_from_slice(source);
     } else if len > 0 {
-        copy_window(piece, 1, len, dest, 0);
+        copy_window(source, 0, len, dest, 0);
     }
 }
 
@@ -118,6 +117,7 @@ fn write_codes(piece: &[u8], dest: &mut [u8]) -> PieceOutput
 }
 
 /// Decodes a piece in which no code is after a full part: one copy, and a zero at each code.
+#[tactic(auto, using(std::proofs::lemmas::Grind::common_steps, std::proofs::Common::take_at, std::proofs::Common::drop_at))]
 fn decode_flat_piece(piece: &[u8], dest: &mut [u8]) -> PieceOutput
     requires some { 0 < length piece.now }
     requires nonzero { HasNoZero piece.now }
@@ -129,7 +129,7 @@ fn decode_flat_piece(piece: &[u8], dest: &mut [u8]) -> PieceOutput
     ensures code { result.code ≡ code_of (last_part piece.now) }
     ensures left { result.left ≡ lacks (last_part piece.now) }
 {
-    copy_after_code(piece, dest);
+    copy_few(&piece[1..], dest);
     write_codes(piece, dest)
 }
 
@@ -154,6 +154,7 @@ pub(crate) fn copy_short(source: &[u8], dest: &mut [u8]) -> bool
 
 /// Decodes a short piece, of which all but the first code is copied already, and returns its message's length.
 #[inline(always)]
+#[tactic(auto, using(crate::proofs::decoding::PieceCuts::output_short, crate::proofs::decoding::OutcomeSteps::sized_whole, crate::proofs::decoding::OutcomeSteps::sized_broken,))]
 pub(crate) fn decode_copied(piece: &[u8], dest: &mut [u8]) -> Result<usize, DecodeError>
     requires some { 0 < length piece.now }
     requires nonzero { HasNoZero piece.now }

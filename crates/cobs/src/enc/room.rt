@@ -13,6 +13,7 @@ const FULL_BLOCK_BYTES: usize = 254;
 /// block has taken `source`. Most of the time the lengths decide it: the frame is longest where no byte is a zero, and
 /// shortest where no block becomes full.
 #[inline(never)]
+#[tactic(auto, using(crate::proofs::encoding::RoomLemmas::counted))]
 pub(crate) fn fits(code: usize, source: &[u8], room: usize) -> bool
     requires some { 0 < code }
     requires open_block { code < 255 }

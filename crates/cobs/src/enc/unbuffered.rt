@@ -165,6 +165,7 @@ impl UnbufferedEncoder {
     /// Takes the next bytes if the frame fits the buffer with them, and says whether it does: a few that can't fill the
     /// open block at once.
     #[inline(always)]
+    #[tactic(auto, using(crate::proofs::encoding::TakingLemmas::short_room))]
     pub(crate) fn take(&mut self, dest: &mut [u8], bytes: &[u8]) -> bool
         requires { IsPlaceIn (length dest.old) (reached_by self.old) }
         ensures fits { IsTrue result ↔ (end_after (reached_by self.old) bytes.now ≤ length dest.old) }
@@ -185,26 +186,9 @@ impl UnbufferedEncoder {
             self.progress.is_full = behind.is_full;
             return true;
         }
-        self.take_any(dest, bytes)
-    }
-
-    /// Takes any number of bytes so: a function of its own, so that a few don't pay for the registers that it takes.
-    #[inline(never)]
-    fn take_any(&mut self, dest: &mut [u8], bytes: &[u8]) -> bool
-        requires { IsPlaceIn (length dest.old) (reached_by self.old) }
-        ensures fits { IsTrue result ↔ (end_after (reached_by self.old) bytes.now ≤ length dest.old) }
-        ensures taken { IsTrue result → TakesFront dest.old (reached_by self.old) bytes.now
-            (length bytes.now) dest.new (reached_by self.new) }
-        ensures refused { result ≡ false
-            → (dest.new ≡ dest.old) × (reached_by self.new ≡ reached_by self.old) }
-        ensures empty { bytes.now ≡ []
-            → (dest.new ≡ dest.old) × (reached_by self.new ≡ reached_by self.old) }
-    {
         if bytes.is_empty() {
             return true;
         }
-        let at = self.progress;
-        let room = dest.len() - at.index;
         if !fits(at.code as usize, bytes, room) {
             return false;
         }

@@ -63,6 +63,13 @@ pub fn law_15()
 ///     slice[index + code as usize] = byte;
 /// }
 /// ```
+///
+/// ```antt
+/// use Rattle.cobs.specs.OpenBlock.{place_at}
+/// pub returns : goal.returns
+/// returns c m full h =
+///     c.law_16.ensures.joins _ m (place_at c.args.index c.args.code full) _ h c.requires.byte c.requires.code c.requires.room
+/// ```
 pub fn law_16()
     ensures nothing { (slice : List ℕ) → 0 < length slice
         → CobsEncoderAfter slice (place_at 0 1 false) [] }
@@ -112,6 +119,14 @@ pub fn law_16()
 ///     let _answer = decoder.feed(buffer, byte);
 /// }
 /// ```
+///
+/// ```antt
+/// use Rattle.std.proofs.Common.{[], ◌∷◌, arith}
+/// pub returns : goal.returns
+/// returns c =
+///     let law = c.law_17.ensures in
+///     law.byte (c.args.byte ∷ []) _ _ _ _ _ _ _ 0 (omega arith) (law.nothing _ _) c.feed-answer.ensures.feeds (λ z. absurd (c.requires z))
+/// ```
 pub fn law_17()
     ensures step { (buffer : List ℕ) (phase : Phase) (byte : ℕ) → let n = length buffer in
         Feeds buffer phase byte (next_answer n phase byte)
@@ -148,6 +163,11 @@ pub fn law_17()
 ///     law_18();
 ///     decoder.feed(0)
 /// }
+/// ```
+///
+/// ```antt
+/// pub returns : goal.returns
+/// returns c f m taken frame held = (c.law_18.ensures.fed _ _ f m _ _ _ c.feed.ensures.feeds taken frame held).0
 /// ```
 pub fn law_18()
     ensures fed { (buffer buffer' f m : List ℕ) (phase phase' : Phase)

@@ -7,7 +7,7 @@ use Rattle.cobs.specs.Decode.{sized}
 use Rattle.cobs.specs.Internal.Decoded.{Decoded}
 use Rattle.cobs.specs.Piece.{output}
 use Rattle.cobs.specs.Stream.{head, outcome_of}
-use Rattle.cobs.proofs.decoding.PieceCuts.{output-short}
+use Rattle.cobs.proofs.decoding.PieceCuts.{output_short}
 use Rattle.cobs.proofs.decoding.OutcomeLemmas.{length-head, head-zero, head_alone, head_nonzero}
 use Rattle.cobs.proofs.decoding.FrontSteps.{head-prefix}
 use Rattle.cobs.proofs.dec.decode_begun.Goals as goal
@@ -15,7 +15,7 @@ use Rattle.cobs.proofs.dec.decode_begun.Goals.{After-copy_short}
 
 -- what is written over the bytes that were copied
 copied-buffer : (piece old copied : List ℕ) → 0 < length piece → length piece < 255 → copied ≡ drop 1 piece ++ drop (length piece - 1) old → length copied ≡ length old → overwritten copied (output piece) ≡ overwritten old (output piece)
-copied-buffer piece old copied some few is same = grind (arith, output-short, length-drop, drop_at)
+copied-buffer piece old copied some few is same = grind (arith, output_short, length-drop, drop_at)
 
 pub copy_short-requires : goal.copy_short-requires
 copy_short-requires c = let l = length-head c.args.source.now in record { some = omega (arith, c.requires.begun) }

@@ -11,10 +11,10 @@ pub close-requires : goal.close-requires
 close-requires c = c.append_short-progress.ensures.place
 
 pub returns-then-source-le-WINDOW-clause-frame : goal.returns-then-source-le-WINDOW-clause-frame
-returns-then-source-le-WINDOW-clause-frame c = c.close.ensures.frame c.args.source.now (start-after c.args.dest.now (reached_at c.start-start.result) c.start-start.ensures (omega arith) c.append_short-progress.ensures)
+returns-then-source-le-WINDOW-clause-frame c = c.close.ensures.frame c.args.source.now (start-after c.args.dest.now (reached_at c.start.result) c.start.ensures (omega arith) c.append_short-progress.ensures)
 
 pub returns-then-source-le-WINDOW-clause-len : goal.returns-then-source-le-WINDOW-clause-len
-returns-then-source-le-WINDOW-clause-len c = c.close.ensures.end ∙ start-len c.args.dest.now (reached_at c.start-start.result) c.start-start.ensures (omega arith) c.append_short-progress.ensures
+returns-then-source-le-WINDOW-clause-len c = c.close.ensures.end ∙ start-len c.args.dest.now (reached_at c.start.result) c.start.ensures (omega arith) c.append_short-progress.ensures
 
 pub returns-then-source-le-WINDOW-clause-rest : goal.returns-then-source-le-WINDOW-clause-rest
 returns-then-source-le-WINDOW-clause-rest c = grind (arith, all-rest)

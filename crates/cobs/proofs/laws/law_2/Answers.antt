@@ -1,10 +1,11 @@
-use Rattle.cobs.proofs.format.UniqueLemmas.{encoded_frame, length-encoded, one_encoded}
+use Rattle.cobs.proofs.format.EnumerationLemmas.{encoded_frame}
+use Rattle.cobs.proofs.format.UniqueLemmas.{length-encoded, one_encoded}
 use Rattle.cobs.proofs.format.FrameLemmas.{frame_bytes}
 use Rattle.cobs.proofs.laws.law_2.Goals as goal
 
 pub returns : goal.returns
 returns c = record {
-  one = λ m. let w = encoded_frame m in (w.0, w.1);
+  one = encoded_frame;
   only = one_encoded;
   len = length-encoded;
   bytes = λ f m e below. frame_bytes f m e.reads below;

@@ -1,5 +1,4 @@
-use Rattle.cobs.proofs.format.JoinLemmas.{no_sentinel}
-use Rattle.cobs.proofs.format.SentinelLemmas.{coded_nonzero, no_sentinel_for, xor_each-twice, xor_each-zero}
+use Rattle.cobs.proofs.format.SentinelLemmas.{coded_nonzero, no_sentinel, no_sentinel_for, xor_each-twice, xor_each-zero}
 use Rattle.cobs.proofs.laws.law_6.Goals as goal
 
 pub returns : goal.returns

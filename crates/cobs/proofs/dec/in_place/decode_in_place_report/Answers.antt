@@ -1,37 +1,10 @@
-use Rattle.std.proofs.Common.{◌-◌, Ok, refl, sym, arith, length-take-le}
+use Rattle.std.proofs.Common.{arith, length-take-le}
 use Rattle.std.proofs.lemmas.Bool.{eqb-false}
 use Rattle.cobs.proofs.decoding.HeadLemmas.{front_is_head}
-use Rattle.cobs.proofs.decoding.BlockSteps.{overwritten-front}
-use Rattle.cobs.proofs.decoding.FlatLemmas.{flat-kept, flat-answer}
 use Rattle.cobs.proofs.decoding.HeadlineLemmas.{in_place_report_reads}
 use Rattle.cobs.proofs.decoding.OutcomeSteps.{in_place_report-refused, in_place_report-decoded}
 use Rattle.cobs.proofs.decoding.ReadsLemmas.{frame_piece}
 use Rattle.cobs.proofs.dec.in_place.decode_in_place_report.Goals as goal
-
--- a short frame
-
-pub returns-then-decode_short_in_place-clause-answer : goal.returns-then-decode_short_in_place-clause-answer
-returns-then-decode_short_in_place-clause-answer c =
-    let e = c.len_without-len.ensures in
-    let d = c.decode_short_in_place.ensures in
-    let yes = c.if-decode_short_in_place.true in
-    let t = length-take-le c.len_without-len.result c.args.buf.now e.within in
-    in_place_report-decoded c.args.buf.now _ (omega arith) (front_is_head _ _ e.within (d.nonzero yes) e.stop) (Ok (c.len_without-len.result - 1))
-    (flat-answer _ (d.flat yes) (c.len_without-len.result - 1) (omega arith)) _ _ refl (sym t) _ c.new.ensures
-
-pub returns-then-decode_short_in_place-clause-buffer : goal.returns-then-decode_short_in_place-clause-buffer
-returns-then-decode_short_in_place-clause-buffer c =
-    grind (arith, overwritten-front, flat-kept, front_is_head)
-
-pub returns-then-decode_short_in_place-clause-reads : goal.returns-then-decode_short_in_place-clause-reads
-returns-then-decode_short_in_place-clause-reads c =
-    λ m r. (in_place_report_reads c.args.buf.now _ _ (returns-then-decode_short_in_place-clause-answer c) (returns-then-decode_short_in_place-clause-buffer c) c.len_without-len.ensures.bytes (frame_piece r) m).1 r
-
-pub returns-then-decode_short_in_place-clause-only : goal.returns-then-decode_short_in_place-clause-only
-returns-then-decode_short_in_place-clause-only c =
-    λ piece m told. (in_place_report_reads c.args.buf.now _ _ (returns-then-decode_short_in_place-clause-answer c) (returns-then-decode_short_in_place-clause-buffer c) c.len_without-len.ensures.bytes piece m).0 told
-
--- any other
 
 pub returns-in_err-frame_size-clause-answer : goal.returns-in_err-frame_size-clause-answer
 returns-in_err-frame_size-clause-answer c =
@@ -42,11 +15,11 @@ returns-in_err-frame_size-clause-buffer c = grind (arith, front_is_head)
 
 pub returns-in_err-frame_size-clause-reads : goal.returns-in_err-frame_size-clause-reads
 returns-in_err-frame_size-clause-reads c =
-    λ m r. (in_place_report_reads c.args.buf.now _ _ (returns-in_err-frame_size-clause-answer c) (returns-in_err-frame_size-clause-buffer c) c.len_without-len.ensures.bytes (frame_piece r) m).1 r
+    λ m r. (in_place_report_reads c.args.buf.now _ _ (returns-in_err-frame_size-clause-answer c) (returns-in_err-frame_size-clause-buffer c) c.piece_len-end.ensures.bytes (frame_piece r) m).1 r
 
 pub returns-in_err-frame_size-clause-only : goal.returns-in_err-frame_size-clause-only
 returns-in_err-frame_size-clause-only c =
-    λ piece m told. (in_place_report_reads c.args.buf.now _ _ (returns-in_err-frame_size-clause-answer c) (returns-in_err-frame_size-clause-buffer c) c.len_without-len.ensures.bytes piece m).0 told
+    λ piece m told. (in_place_report_reads c.args.buf.now _ _ (returns-in_err-frame_size-clause-answer c) (returns-in_err-frame_size-clause-buffer c) c.piece_len-end.ensures.bytes piece m).0 told
 
 pub returns-clause-answer : goal.returns-clause-answer
 returns-clause-answer c =
@@ -57,8 +30,8 @@ returns-clause-buffer c = grind (arith, front_is_head)
 
 pub returns-clause-reads : goal.returns-clause-reads
 returns-clause-reads c =
-    λ m r. (in_place_report_reads c.args.buf.now _ _ (returns-clause-answer c) (returns-clause-buffer c) c.len_without-len.ensures.bytes (frame_piece r) m).1 r
+    λ m r. (in_place_report_reads c.args.buf.now _ _ (returns-clause-answer c) (returns-clause-buffer c) c.piece_len-end.ensures.bytes (frame_piece r) m).1 r
 
 pub returns-clause-only : goal.returns-clause-only
 returns-clause-only c =
-    λ piece m told. (in_place_report_reads c.args.buf.now _ _ (returns-clause-answer c) (returns-clause-buffer c) c.len_without-len.ensures.bytes piece m).0 told
+    λ piece m told. (in_place_report_reads c.args.buf.now _ _ (returns-clause-answer c) (returns-clause-buffer c) c.piece_len-end.ensures.bytes piece m).0 told

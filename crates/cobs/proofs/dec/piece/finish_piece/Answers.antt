@@ -4,7 +4,7 @@ use Rattle.std.proofs.lemmas.Bool.{cases_lt}
 use Rattle.cobs.specs.Internal.Decoded.{Decoded}
 use Rattle.cobs.specs.Piece.{output, last_part, lacks}
 use Rattle.cobs.proofs.decoding.FrontSteps.{ended-buffer}
-use Rattle.cobs.proofs.decoding.OutcomeSteps.{sized-too_long, sized-whole, sized-broken}
+use Rattle.cobs.proofs.decoding.OutcomeSteps.{sized-too_long, sized_whole, sized_broken}
 use Rattle.cobs.proofs.dec.piece.finish_piece.Goals as goal
 
 -- a piece that is taken as a whole has an output that fits
@@ -36,13 +36,13 @@ returns-then-read-fit c =
     grind (arith, long-rest, long-output, sized-too_long, ended-buffer, take_rest)
 
 pub returns-then-end-eq0-clause-answer : goal.returns-then-end-eq0-clause-answer
-returns-then-end-eq0-clause-answer c old p = grind (arith, long-rest, long-output, fits-of, whole-output, sized-whole, whole-last)
+returns-then-end-eq0-clause-answer c old p = grind (arith, long-rest, long-output, fits-of, whole-output, sized_whole, whole-last)
 
 pub returns-then-end-eq0-clause-buffer : goal.returns-then-end-eq0-clause-buffer
 returns-then-end-eq0-clause-buffer c old same p = grind (arith, ended-buffer, take_rest)
 
 pub returns-else-end-eq0-clause-answer : goal.returns-else-end-eq0-clause-answer
-returns-else-end-eq0-clause-answer c old p = grind (arith, long-rest, long-output, fits-of, whole-output, sized-broken, whole-last)
+returns-else-end-eq0-clause-answer c old p = grind (arith, long-rest, long-output, fits-of, whole-output, sized_broken, whole-last)
 
 pub returns-else-end-eq0-clause-buffer : goal.returns-else-end-eq0-clause-buffer
 returns-else-end-eq0-clause-buffer c old same p = grind (arith, ended-buffer, take_rest)

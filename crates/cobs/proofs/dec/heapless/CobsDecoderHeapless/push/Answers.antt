@@ -1,17 +1,13 @@
 use Rattle.std.proofs.Common.{arith}
 use Rattle.std.proofs.lemmas.Grind.{common_steps}
-use Rattle.cobs.proofs.decoding.HeadlineLemmas.{bytes_below}
-use Rattle.cobs.proofs.streaming.PushHeadline.{push_reads}
-use Rattle.cobs.proofs.decoding.ReadsLemmas.{frame_piece}
+use Rattle.cobs.proofs.streaming.PushHeadline.{push_message, push_only}
 use Rattle.cobs.proofs.dec.heapless.CobsDecoderHeapless.push.Goals as goal
 
 pub returns-clause-pushes : goal.returns-clause-pushes
 returns-clause-pushes g c = grind (arith, common_steps)
 
 pub returns-clause-reads : goal.returns-clause-reads
-returns-clause-reads g c =
-    λ f m idle is r fits. (push_reads (returns-clause-pushes g c) (bytes_below c.args.bytes.now c.type_inv.bytes) f m idle is (frame_piece r)).1 (r, fits)
+returns-clause-reads g c = push_message (returns-clause-pushes g c) c.type_inv.bytes
 
 pub returns-clause-only : goal.returns-clause-only
-returns-clause-only g c =
-    λ f m idle is piece told. (push_reads (returns-clause-pushes g c) (bytes_below c.args.bytes.now c.type_inv.bytes) f m idle is piece).0 told
+returns-clause-only g c = push_only (returns-clause-pushes g c) c.type_inv.bytes

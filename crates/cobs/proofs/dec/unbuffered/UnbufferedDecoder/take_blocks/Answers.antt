@@ -2,11 +2,12 @@ use Rattle.std.proofs.Common.{◌≡◌, ◌<◌, ◌≤◌, ◌∙◌, ℕ, Lis
 use Rattle.std.specs.List.{All}
 use Rattle.std.proofs.lemmas.Bool.{ne_eqb, eq-eqb}
 use Rattle.std.proofs.lemmas.List.{take-take}
-use Rattle.std.proofs.lemmas.List.Elements.{All-take, All-get_or, All-from_get_or}
+use Rattle.std.proofs.lemmas.List.Elements.{All-take, All-get_or}
 use Rattle.cobs.specs.Grammar.{code_of}
 use Rattle.cobs.specs.Piece.{last_part}
 use Rattle.cobs.specs.Stream.{head}
 use Rattle.cobs.proofs.decoding.FrontSteps.{head-get, head-one_more, head-prefix}
+use Rattle.cobs.proofs.decoding.HeadlineLemmas.{bytes_below}
 use Rattle.cobs.proofs.decoding.OutcomeLemmas.{head_nonzero, length-head}
 use Rattle.cobs.proofs.decoding.PieceCuts.{output-le}
 use Rattle.cobs.proofs.streaming.StretchLemmas.{base_of, joined, blocks_fed, code_small}
@@ -37,14 +38,10 @@ pub decode_head-len-requires-clause-begun : goal.decode_head-len-requires-clause
 decode_head-len-requires-clause-begun c = grind (arith, then-self, else-self, length-head, begun)
 
 pub overflow_cast-self : goal.overflow_cast-self
-overflow_cast-self c =
-    let below : All (λ b. b < 256) c.args.bytes.now = All-from_get_or (λ b. b < 256) c.args.bytes.now 0 (λ i below. (c.type_inv.bytes i).fits) in
-    record { fits = rw c.decode_head-len.ensures.code (small c.args.bytes.now c.min-most.result below) }
+overflow_cast-self c = record { fits = rw c.decode_head-len.ensures.code (small c.args.bytes.now c.min-most.result (bytes_below _ c.type_inv.bytes)) }
 
 pub overflow_cast-self-2 : goal.overflow_cast-self-2
-overflow_cast-self-2 c =
-    let below : All (λ b. b < 256) c.args.bytes.now = All-from_get_or (λ b. b < 256) c.args.bytes.now 0 (λ i below. (c.type_inv.bytes i).fits) in
-    record { fits = omega (arith, c.decode_head-len.ensures.left, small c.args.bytes.now c.min-most.result below) }
+overflow_cast-self-2 c = record { fits = omega (arith, c.decode_head-len.ensures.left, small c.args.bytes.now c.min-most.result (bytes_below _ c.type_inv.bytes)) }
 
 pub returns-clause-within : goal.returns-clause-within
 returns-clause-within c = omega (arith, c.decode_head-len.ensures.read, within c.args.bytes.now c.min-most.result)

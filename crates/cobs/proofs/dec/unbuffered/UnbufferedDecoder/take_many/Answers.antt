@@ -36,15 +36,11 @@ take_blocks-requires-clause-begun c =
     let w = c.take_open_block-run.ensures.within in
     let all = within bytes c.min-near.result clean run p.within p.nonzero in
     let more : run < clean = omega (arith, c.if-run-clean.false, c.min-open.ensures) in
-    let past : clean ≤ c.if-clean-lt-LONG.end = elim c.if-clean-lt-LONG.branch [
-      | then-clean-lt-LONG w ↦ omega (arith, w.end-is)
-      | else-clean-lt-LONG w ↦ omega (arith, w.end-is)
+    let bounds : (clean ≤ c.if-clean-lt-LONG.end) × (c.if-clean-lt-LONG.end ≤ length bytes) = elim c.if-clean-lt-LONG.branch [
+      | then-clean-lt-LONG w ↦ (omega (arith, w.end-is), omega (arith, w.end-is))
+      | else-clean-lt-LONG w ↦ (omega (arith, w.end-is), omega (arith, w.end-is))
     ] in
-    let inside : c.if-clean-lt-LONG.end ≤ length bytes = elim c.if-clean-lt-LONG.branch [
-      | then-clean-lt-LONG w ↦ omega (arith, w.end-is)
-      | else-clean-lt-LONG w ↦ omega (arith, w.end-is)
-    ] in
-    begun bytes c.min-near.result clean run p.within p.nonzero c.if-clean-lt-LONG.end more past inside
+    begun bytes c.min-near.result clean run p.within p.nonzero c.if-clean-lt-LONG.end more bounds.0 bounds.1
 
 pub take_blocks-requires-clause-clean : goal.take_blocks-requires-clause-clean
 take_blocks-requires-clause-clean c holds = grind (arith, length-take, within, part-nonzero, then-clean-lt-LONG, else-clean-lt-LONG, ltb-true)
