@@ -7,6 +7,7 @@ usage: tests/docs.py [--write]
   of public traits, the methods of impls of other traits that have a doc comment of their own, and modules.
 - Each example is, with the same lines, in doc_examples.rt, doc_decoders.rt or doc_laws.rt of crates/cobs_vectors/src,
   whose tests run it, or a caller in worked_callers.rt. Lines that begin with 'use ' are left out.
+- The proof of an example of a law, if the tests have one, is printed with it.
 - So do the functions that README.md and crates/cobs/CALLING.md show, or in callers.rt; of a test, its statements.
 - The contracts in crates/cobs/CALLING.md are those of src, of the calls in QUOTED. With --write they are written.
 - No file outside crates/cobs names its proofs: what a caller cites are its specs and its laws.
@@ -38,18 +39,41 @@ QUOTED = """encode try_encode encode_vec CobsEncoder::push CobsEncoder::finalize
 HEADING = "## Contracts\n"
 
 
-def examples(path):
-    """The examples in the doc comments of a file: the line of each, and its own lines."""
-    found, inside = [], False
+def blocks(path, kind):
+    """The blocks in the doc comments of a file that begin with ``` and this word: the line of each, and its own lines."""
+    found, inside = [], None
     for number, line in enumerate(path.read_text().splitlines(), 1):
         comment = re.match(r"\s*//[/!] ?(.*)", line)
-        if comment and comment[1] == "```":
-            inside = not inside
-            if inside:
+        if comment and comment[1].startswith("```"):
+            inside = comment[1][3:] if inside is None else None
+            if inside == kind:
                 found.append((number, []))
-        elif inside and comment and comment[1] and not comment[1].startswith("use "):
+        elif inside == kind and comment and comment[1]:
             found[-1][1].append(comment[1].strip())
     return found
+
+
+def examples(path):
+    """The examples in the doc comments of a file: the line of each, and its own lines."""
+    return [(number, [text for text in lines if not text.startswith("use ")]) for number, lines in blocks(path, "")]
+
+
+def unprinted_answers():
+    """A line for each example of a law whose proof in the tests isn't printed with it, and each printed one that isn't there."""
+    files = sorted((TOP / "crates/cobs_vectors/proofs/doc_laws").glob("*/Answers.antt"))
+    answers = {
+        path.parent.name: [text.strip() for text in path.read_text().splitlines() if text and not text.endswith(" as goal")]
+        for path in files
+    }
+    for path in [SRC / "laws.rt", *sorted((SRC / "laws").glob("*.rt"))]:
+        printed = blocks(path, "antt")
+        for number, lines in printed:
+            if lines not in answers.values():
+                yield f"{path.relative_to(TOP)}:{number}: cobs_vectors has no such answer"
+        for number, lines in blocks(path, ""):
+            name = re.match(r"fn (\w+)", lines[0])
+            if name and name[1] in answers and answers[name[1]] not in [answer for _, answer in printed]:
+                yield f"{path.relative_to(TOP)}:{number}: the proof of {name[1]} isn't printed"
 
 
 def shown(path):
@@ -192,7 +216,7 @@ def names_without_file():
 
 
 def main():
-    said = [*items_without_example(), *unrun_examples(), *files_off_map(), *names_without_file(), *private_names()]
+    said = [*items_without_example(), *unrun_examples(), *unprinted_answers(), *files_off_map(), *names_without_file(), *private_names()]
     head, heading, tail = CALLING.read_text().partition(HEADING)
     before = tail.partition("```text\n")[0]
     wanted = head + heading + before + all_contracts()
