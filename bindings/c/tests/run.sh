@@ -208,13 +208,13 @@ unpacked() (
     test -f "$root/share/man/man3/jcobs.3" && test -f "$root/share/doc/jcobs/README.md" && over "$root"
 )
 
-# The libraries of prebuilt/ are those that the toolchain builds from the crates as they are here.
+# The libraries of prebuilt/ are those that the toolchain builds from the crates as they are here. Another version of the
+# toolchain than SHA256SUMS names may build them too: the bytes decide.
 rebuilt() {
     for arch in x86_64 aarch64; do
         library=build/$arch-unknown-linux-gnu/libjcobs.a
         make "TARGET=$arch-unknown-linux-gnu" "$library" && cmp "$library" "prebuilt/$arch-linux/libjcobs.a" || return 1
     done
-    grep -qxF "# toolchain: $(rt version)" prebuilt/SHA256SUMS
 }
 
 over_musl() {
