@@ -12,6 +12,7 @@ pub mod BlockSteps
 pub mod InPlaceSteps
 pub mod SourceSteps
 pub mod SourceFronts
+pub mod StretchSteps
 pub mod VectorSteps
 pub mod HeadlineLemmas
 pub mod WholeLemmas

@@ -7,7 +7,6 @@ pub mod MarkLemmas
 pub mod RowLemmas
 pub mod AfterLemmas
 pub mod CoreLemmas
-pub mod PlaceLemmas
 pub mod ShortSteps
 pub mod RoomLemmas
 pub mod TakingLemmas

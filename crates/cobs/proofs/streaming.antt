@@ -1,4 +1,5 @@
 -- Bytes as they come: steps of the decoders, pushes, pieces, readers.
+pub mod LastPiece
 pub mod FeedLemmas
 pub mod PushLemmas
 pub mod RunLemmas
@@ -7,7 +8,6 @@ pub mod ReadingLemmas
 pub mod StretchLemmas
 pub mod BorrowedSlice
 pub mod PushHeadline
-pub mod TakenLemmas
 pub mod TableLemmas
 pub mod ByByteLemmas
 pub mod FrameTaken

@@ -3,5 +3,4 @@ pub mod Mask
 pub mod Taking
 pub mod Decoded
 pub mod FedInTurn
-pub mod PieceEnds
 pub mod KeptBytes

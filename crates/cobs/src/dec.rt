@@ -19,6 +19,9 @@ mod piece;
 mod state;
 mod unbuffered;
 
+use crate::lanes::copy_xored_short;
+use crate::window::WIDE_WINDOW;
+use blocks::write_joints;
 pub use blocks::{FrameKind, frame_kind};
 pub use buffered::{CobsDecoder, CobsDecoderOwned};
 pub use forms::{decode_vec, decode_vec_with_sentinel, decode_with_sentinel};
@@ -27,7 +30,7 @@ pub use frame_decoder::{FrameDecoder, PieceEnd, WriteBuffer};
 use front::decode_front;
 pub use heapless::CobsDecoderHeapless;
 pub use in_place::{decode_in_place, decode_in_place_report, decode_in_place_with_sentinel};
-use piece::{copy_short, decode_copied, finish_piece, leading_zeros};
+use piece::{finish_piece, leading_zeros};
 use serde::{Deserialize, Serialize};
 pub use state::{DecodeResult, DecoderState};
 use std::alloc::AllocError;
@@ -56,8 +59,21 @@ fn decode_begun(source: &[u8], dest: &mut [u8]) -> (usize, Result<usize, DecodeE
     ensures answer { result.1 ≡ sized (outcome_of (head source.now) (length dest.old)) }
     ensures buffer { dest.new ≡ overwritten dest.old (output (head source.now)) }
 {
-    if copy_short(source, dest) {
-        return (source.len(), decode_copied(source, dest));
+    let most = source.len() - 1;
+    if 0 < most
+        && most <= WIDE_WINDOW
+        && most <= dest.len()
+        && copy_xored_short(&source[1..], dest, 0)
+    {
+        let (_, left) = write_joints(dest, source[0] as usize, source.len(), false);
+        let decoded = if left == 0 {
+            Ok(most)
+        } else {
+            Err(DecodeError::InvalidFrame {
+                decoded_bytes: most,
+            })
+        };
+        return (source.len(), decoded);
     }
     let (front, len) = decode_front(source, dest);
     (
@@ -106,15 +122,15 @@ pub fn decode(source: &[u8], dest: &mut [u8]) -> Result<DecodeReport, DecodeErro
         return Err(DecodeError::EmptyFrame);
     }
     let start = leading_zeros(source);
-    let rest = &source[start..];
-    if rest.is_empty() {
+    if start == source.len() {
         return Err(DecodeError::InvalidFrame { decoded_bytes: 0 });
     }
-    let (len, decoded) = decode_begun(rest, dest);
-    let frame_size = decoded?;
-    let end = start + len;
-    let parsed_size = if end < source.len() { end + 1 } else { end };
-    Ok(DecodeReport::new(parsed_size, frame_size))
+    let (len, decoded) = decode_begun(&source[start..], dest);
+    let parsed_size = (start + len + 1).min(source.len());
+    decoded.map(|frame_size| DecodeReport {
+        parsed_size,
+        frame_size,
+    })
 }
 
 /// Why a frame is rejected. The names are those of the crate `cobs`.
@@ -202,16 +218,6 @@ pub struct DecodeReport {
 }
 
 impl DecodeReport {
-    /// The report of these sizes.
-    pub(crate) fn new(parsed_size: usize, frame_size: usize) -> Self
-        ensures { result ≡ report_of parsed_size frame_size }
-    {
-        DecodeReport {
-            parsed_size,
-            frame_size,
-        }
-    }
-
     /// Returns how many bytes of the source were consumed. The call that made the report says whether leading sentinels
     /// and the one after the frame are among them.
     ///

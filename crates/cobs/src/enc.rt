@@ -24,6 +24,7 @@ pub use sentinel::{
     try_encode_with_sentinel,
 };
 pub use state::{EncoderState, PushResult};
+use unbuffered::START;
 pub use unbuffered::{EncoderProgress, UnbufferedEncoder};
 pub use vector::{encode_vec, encode_vec_including_sentinels, encode_vec_with_sentinel};
 
@@ -43,6 +44,7 @@ pub use vector::{encode_vec, encode_vec_including_sentinels, encode_vec_with_sen
 /// assert_eq!(rt; len, 5);
 /// assert_eq!(rt; dest, [3, 10, 11, 2, 12, 170]);
 /// ```
+#[tactic(auto, using(crate::proofs::encoding::TakingLemmas::from_start))]
 pub fn encode(source: &[u8], dest: &mut [u8]) -> usize
     requires { encoded_len source.now ≤ length dest.old }
     ensures frame { IsEncodedFrame (take result dest.new) source.now }
@@ -51,7 +53,7 @@ pub fn encode(source: &[u8], dest: &mut [u8]) -> usize
     ensures rest { drop result dest.new ≡ drop result dest.old }
 {
     if 0 < source.len() && source.len() <= WINDOW {
-        let progress = append_short(source, dest, EncoderProgress::start(), false);
+        let progress = append_short(source, dest, START, false);
         return close(dest, progress);
     }
     encode_long(source, dest)
@@ -60,17 +62,17 @@ pub fn encode(source: &[u8], dest: &mut [u8]) -> usize
 /// Does what [`encode`] does, for messages of any length: a function of its own, so that a message of one window
 /// doesn't pay for the registers that the loop over windows takes.
 #[inline(never)]
+#[tactic(auto, using(crate::proofs::encoding::TakingLemmas::from_start))]
 fn encode_long(source: &[u8], dest: &mut [u8]) -> usize
     requires { encoded_len source.now ≤ length dest.old }
     ensures frame { IsEncodedFrame (take result dest.new) source.now }
     ensures len { result ≡ encoded_len source.now }
     ensures rest { drop result dest.new ≡ drop result dest.old }
 {
-    let start = EncoderProgress::start();
     if source.len() <= WINDOW {
-        return close_runs(source, dest, start);
+        return close_runs(source, dest, START);
     }
-    let (read, progress) = append_windows(source, dest, start);
+    let (read, progress) = append_windows(source, dest, START);
     let left = &source[read..];
     if !is_short(progress, left.len()) {
         // Anew from its fields, so that the short way keeps them in registers.

@@ -280,37 +280,6 @@ impl<D: FrameDecoder> FrameReader<D> {
         }
     }
 
-    /// Feeds the kept bytes until a piece ends.
-    fn next_kept(&mut self) -> Option<Next>
-        ensures none { IfNone result ((p : List ℕ)
-            → ReaderAfter (reader_state D.bytes D.phase self.old) p
-            → AtStreamEnd (p ++ kept_of self.old) (reader_state D.bytes D.phase self.new)
-            × (self.new.unfinished ≡ is_nonempty (unended (p ++ kept_of self.old)))) }
-        ensures first { IfSome result (λ next. (p : List ℕ)
-            → ReaderAfter (reader_state D.bytes D.phase self.old) p
-            → TellsFirst next p (kept_of self.old)
-            (D.bytes (decoder_of self.new)) (kept_of self.new)) }
-        ensures bound { IfSome result
-            (λ next. IsNextWithin (length (D.bytes (decoder_of self.new))) next) }
-        ensures idle { OnSome result (ReaderAfter (reader_state D.bytes D.phase self.new) []) }
-        ensures len { length (D.bytes (decoder_of self.new))
-            ≡ length (D.bytes (decoder_of self.old)) }
-        ensures same_loan { D.loan (decoder_of self.new) ≡ D.loan (decoder_of self.old) }
-        ensures emptied { IfNone result (self.new.start ≡ self.new.end) }
-    {
-        let chunk = self.chunk;
-        match self.feed_through_end(&chunk[self.start..self.end]) {
-            None => {
-                self.start = self.end;
-                None
-            }
-            Some((next, count)) => {
-                self.start += count;
-                Some(next)
-            }
-        }
-    }
-
     /// Returns what the next piece of the stream comes to, once a zero has ended it, or that the source gives no more.
     ///
     /// The bytes that are kept from earlier calls are used first, and what is after the zero of the piece that
@@ -342,9 +311,12 @@ impl<D: FrameDecoder> FrameReader<D> {
             ≡ length (D.bytes (decoder_of self.old)) }
         ensures same_loan { D.loan (decoder_of self.new) ≡ D.loan (decoder_of self.old) }
     {
-        if let Some(kept) = self.next_kept() {
-            return Ok(kept);
+        let kept = self.chunk;
+        if let Some((next, count)) = self.feed_through_end(&kept[self.start..self.end]) {
+            self.start += count;
+            return Ok(next);
         }
+        self.start = self.end;
         let mut chunk = [0; 64];
         'by_read: for _read in 0..MOST_READS {
             match source.read_some(&mut chunk) {

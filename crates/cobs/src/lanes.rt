@@ -7,31 +7,13 @@ ghost use Rattle.std.specs.Prelude.{◌≡◌, ◌<◌, ◌≤◌, ◌+◌, ◌+
 ghost use Rattle.cobs.specs.Grammar.{HasNoZero};
 ghost use Rattle.cobs.specs.Sentinel.{xor_each};
 
-use crate::window::{WIDE_WINDOW, WINDOW, copy_nonzero, copy_window, first_zero_of_few, zeros_at};
+use crate::window::{
+    WIDE_WINDOW, WINDOW, by_width, copy_nonzero, copy_window, first_zero_of_few, zeros_at,
+};
 use std::simd::prelude::*;
 
-/// Copies the first `len` of the 32 bytes from `read` on, by one load and one store of a whole window for each number
-/// of them.
-#[inline(always)]
-fn copy_first(source: &[u8], read: usize, len: usize, dest: &mut [u8], at: usize)
-    requires source { read + 32 ≤ length source.now }
-    requires few { len ≤ 32 }
-    requires room { at + 32 ≤ length dest.old }
-    ensures { dest.new ≡ take at dest.old
-        ++ (take len (drop read source.now) ++ drop (at + len) dest.old) }
-{
-    let places = u8x32::from_array([
-        0, 1, 2, 3, 4, 5, 6, 7, 8, 9, 10, 11, 12, 13, 14, 15, 16, 17, 18, 19, 20, 21, 22, 23, 24,
-        25, 26, 27, 28, 29, 30, 31,
-    ]);
-    let kept = u8x32::from_slice(&dest[at..]);
-    places
-        .simd_lt(u8x32::splat(len as u8))
-        .select(u8x32::from_slice(&source[read..]), kept)
-        .copy_to_slice(&mut dest[at..]);
-}
-
-/// Copies the first of the 32 bytes from `read` on, up to a zero, and returns how many.
+/// Copies the first of the 32 bytes from `read` on, up to a zero, by one load and one store of a whole window for each
+/// number of them, and returns how many.
 #[inline(always)]
 fn copy_window_to_zero(source: &[u8], read: usize, dest: &mut [u8], at: usize) -> usize
     requires source { read + 32 ≤ length source.now }
@@ -41,8 +23,16 @@ fn copy_window_to_zero(source: &[u8], read: usize, dest: &mut [u8], at: usize) -
     ensures copied { dest.new ≡ take at dest.old
         ++ (take result (drop read source.now) ++ drop (at + result) dest.old) }
 {
+    let places = u8x32::from_array([
+        0, 1, 2, 3, 4, 5, 6, 7, 8, 9, 10, 11, 12, 13, 14, 15, 16, 17, 18, 19, 20, 21, 22, 23, 24,
+        25, 26, 27, 28, 29, 30, 31,
+    ]);
     let len = (zeros_at::<32>(source, read).trailing_zeros() as usize).min(WINDOW);
-    copy_first(source, read, len, dest, at);
+    let kept = u8x32::from_slice(&dest[at..]);
+    places
+        .simd_lt(u8x32::splat(len as u8))
+        .select(u8x32::from_slice(&source[read..]), kept)
+        .copy_to_slice(&mut dest[at..]);
     len
 }
 
@@ -63,7 +53,7 @@ fn copy_wide_to_zero(wide: &[u8], dest: &mut [u8], at: usize) -> usize
     WINDOW + copy_window_to_zero(wide, WINDOW, dest, at + WINDOW)
 }
 
-/// Copies the first of fewer than 32 bytes, up to a zero, and returns how many.
+/// Copies the first of at most 32 bytes, up to a zero, and returns how many.
 fn copy_few_to_zero(few: &[u8], dest: &mut [u8], at: usize) -> usize
     requires some { 0 < length few.now }
     requires few { length few.now ≤ 32 }
@@ -146,18 +136,8 @@ pub(crate) fn move_to_front(buffer: &mut [u8], from: usize, len: usize)
 {
     if len >= 64 {
         move_long(buffer, from, len);
-    } else if len >= 32 {
-        move_two::<32>(buffer, from, len);
-    } else if len >= 16 {
-        move_two::<16>(buffer, from, len);
-    } else if len >= 8 {
-        move_two::<8>(buffer, from, len);
-    } else if len >= 4 {
-        move_two::<4>(buffer, from, len);
-    } else if len >= 2 {
-        move_two::<2>(buffer, from, len);
     } else if len > 0 {
-        move_two::<1>(buffer, from, len);
+        by_width!(len, move_two(buffer, from, len));
     }
 }
 
@@ -197,20 +177,5 @@ pub(crate) fn copy_xored_short(source: &[u8], dest: &mut [u8], sentinel: u8) -> 
         → dest.new ≡ xor_each sentinel source.now ++ drop (length source.now) dest.old }
     ensures kept { result ≡ false → dest.new ≡ dest.old }
 {
-    let len = source.len();
-    if len >= 16 {
-        if len >= 32 {
-            copy_xored_two::<32>(source, dest, sentinel)
-        } else {
-            copy_xored_two::<16>(source, dest, sentinel)
-        }
-    } else if len >= 8 {
-        copy_xored_two::<8>(source, dest, sentinel)
-    } else if len >= 4 {
-        copy_xored_two::<4>(source, dest, sentinel)
-    } else if len >= 2 {
-        copy_xored_two::<2>(source, dest, sentinel)
-    } else {
-        copy_xored_two::<1>(source, dest, sentinel)
-    }
+    by_width!(source.len(), copy_xored_two(source, dest, sentinel))
 }

@@ -5,7 +5,6 @@
 //! is damaged in one piece is gone at the next zero. (That a zero ends each frame is Cheshire and Baker's; how broken
 //! and too long pieces are reported is a choice of this library.)
 ghost use Rattle.std.specs.Prelude.{◌≡◌, ℕ, ◌+◌, ◌<◌, ◌≤◌, ◌^◌, List, [], ◌++◌, All, length, map, take, option_to_list, IfOk, IfSome, IsOk, IsSome, ◌↔◌, OnOk, OnErr, Contains};
-ghost use Rattle.std.specs.Option.{SomeIff};
 ghost use Rattle.cobs.specs.Feed.{DecoderAfter, PhaseAfter};
 ghost use Rattle.cobs.specs.Length.{max_encoded_len};
 ghost use Rattle.cobs.specs.Stream.{Message, stream_outcomes, unended};
@@ -14,7 +13,7 @@ ghost use Rattle.cobs.specs.Messages.{outcome_in, outcomes_in, AreFrames, messag
 
 use crate::dec::{FrameDecoder, PieceEnd};
 use crate::enc::encode;
-use crate::{max_encoding_length, max_encoding_overhead};
+use crate::max_encoding_length;
 use std::alloc::{AllocError, Global};
 
 /// What became of a piece of a stream: a nonempty stretch of bytes that a zero ended.
@@ -142,7 +141,9 @@ pub fn encode_frames(alloc: Global, messages: &[Vec<u8>]) -> Result<Vec<u8>, All
         IfOk result (λ bytes. stream_outcomes bytes.items n
         ≡ map Message (messages_in messages.now)) }
 {
-    let mut frames = vec![in alloc; 0; room_for(messages)]?;
+    // The precondition says that there is a room.
+    let room = encode_frames_room(messages).unwrap_or(0);
+    let mut frames = vec![in alloc; 0; room]?;
     let len = write_frames(messages, &mut frames);
     frames.truncate(len);
     Ok(frames)
@@ -164,30 +165,9 @@ pub fn encode_frames_room(messages: &[Vec<u8>]) -> Option<usize>
 {
     let mut room = 0usize;
     'by_message: for message in messages {
-        room = room_with(room, message.len())?;
+        room = room.checked_add(max_encoding_length(message.len()) + 1)?;
     }
     Some(room)
-}
-
-/// This room and that for the frame of a message of `len` bytes and a zero.
-fn room_with(room: usize, len: usize) -> Option<usize>
-    ensures sum { let sum = room + (max_encoded_len len + 1) in SomeIff result (sum < 2 ^ 64) sum }
-{
-    room.checked_add(len)?
-        .checked_add(max_encoding_overhead(len))?
-        .checked_add(1)
-}
-
-/// Returns how many bytes have room for the frames of the messages and their zeros.
-fn room_for(messages: &[Vec<u8>]) -> usize
-    requires { room_for_frames (messages_in messages.now) < 2 ^ 64 }
-    ensures { result ≡ room_for_frames (messages_in messages.now) }
-{
-    let mut room = 0;
-    'by_message: for message in messages {
-        room += max_encoding_length(message.len()) + 1;
-    }
-    room
 }
 
 /// Writes the frames of the messages and their zeros to the front of `dest`, and returns their length in bytes.

@@ -12,7 +12,30 @@ pub(crate) const WINDOW: usize = 32;
 pub(crate) const WIDE_WINDOW: usize = 64;
 
 /// The codes of a row of blocks with no bytes.
-const ONES: [u8; WINDOW] = [1; WINDOW];
+pub(crate) const ONES: [u8; WINDOW] = [1; WINDOW];
+
+/// Calls a function over vectors of `N` bytes with the greatest `N`, up to 32, that is at most `len`: two of them, which
+/// may overlap, are `len` bytes, if these are at least one and at most 64.
+macro_rules! by_width {
+    ($len:expr, $call:ident($($value:expr),*)) => {{
+        let len = $len;
+        if len >= 32 {
+            $call::<32>($($value),*)
+        } else if len >= 16 {
+            $call::<16>($($value),*)
+        } else if len >= 8 {
+            $call::<8>($($value),*)
+        } else if len >= 4 {
+            $call::<4>($($value),*)
+        } else if len >= 2 {
+            $call::<2>($($value),*)
+        } else {
+            $call::<1>($($value),*)
+        }
+    }};
+}
+
+pub(crate) use by_width;
 
 /// Which of the `N` bytes from `at` on are zeros.
 #[inline(always)]
@@ -26,7 +49,7 @@ pub(crate) fn zeros_at<const N: usize>(bytes: &[u8], at: usize) -> u64
         .to_bitmask()
 }
 
-/// Which of `N` to `2 * N` bytes are zeros, looked at as two parts that may overlap.
+/// Which of `N` to `2 * N` bytes are zeros, looked at as two parts that may overlap: bit `i` is set where byte `i` is one.
 #[inline(always)]
 fn zeros_two<const N: usize>(bytes: &[u8]) -> u64
     requires lanes { N ≤ 32 }
@@ -38,28 +61,14 @@ fn zeros_two<const N: usize>(bytes: &[u8]) -> u64
     zeros_at::<N>(bytes, 0) | (zeros_at::<N>(bytes, start) << start)
 }
 
-/// Which of up to 64 bytes are zeros: bit `i` is set where byte `i` is one. They are looked at as two parts that may
-/// overlap.
+/// Which of up to 64 bytes are zeros.
 #[inline(always)]
 fn zeros_of(bytes: &[u8]) -> u64
     requires some { 0 < length bytes.now }
     requires few { length bytes.now ≤ 64 }
     ensures { result ≡ zero_mask bytes.now }
 {
-    let len = bytes.len();
-    if len >= 32 {
-        zeros_two::<32>(bytes)
-    } else if len >= 16 {
-        zeros_two::<16>(bytes)
-    } else if len >= 8 {
-        zeros_two::<8>(bytes)
-    } else if len >= 4 {
-        zeros_two::<4>(bytes)
-    } else if len >= 2 {
-        zeros_two::<2>(bytes)
-    } else {
-        zeros_two::<1>(bytes)
-    }
+    by_width!(bytes.len(), zeros_two(bytes))
 }
 
 /// The place of the first zero of up to 64 bytes, or their number if none is a zero.
@@ -129,16 +138,8 @@ pub(crate) fn copy_window(source: &[u8], read: usize, len: usize, dest: &mut [u8
 {
     if len == WINDOW {
         copy_at::<32>(source, read, dest, at)
-    } else if len >= 16 {
-        copy_two::<16>(source, read, len, dest, at)
-    } else if len >= 8 {
-        copy_two::<8>(source, read, len, dest, at)
-    } else if len >= 4 {
-        copy_two::<4>(source, read, len, dest, at)
-    } else if len >= 2 {
-        copy_two::<2>(source, read, len, dest, at)
     } else {
-        copy_two::<1>(source, read, len, dest, at)
+        by_width!(len, copy_two(source, read, len, dest, at))
     }
 }
 
@@ -194,22 +195,12 @@ pub(crate) fn write_row(dest: &mut [u8], at: usize, byte: u8)
     u8x32::splat(byte).copy_to_slice(&mut dest[at..]);
 }
 
-/// Writes up to 32 blocks with no bytes.
-#[inline(always)]
-pub(crate) fn write_some_ones(dest: &mut [u8], at: usize, len: usize)
-    requires some { 0 < len }
-    requires few { len ≤ 32 }
-    requires room { at + len ≤ length dest.old }
-    ensures { dest.new ≡ take at dest.old ++ (replicate len 1 ++ drop (at + len) dest.old) }
-{
-    copy_window(&ONES, 0, len, dest, at);
-}
-
-/// Whether this is the mask of a window of `len` bytes, at least 8, that has no byte but zeros.
+/// Whether this is the mask of a window of `len` bytes, at least 8, that has no byte but zeros. As three branches of the
+/// caller's it costs three instructions more.
 #[inline(always)]
 pub(crate) fn is_all_zeros(mask: u64, len: usize) -> bool
     requires few { len ≤ 32 }
-    ensures { IsTrue result ↔ ((8 ≤ len) × (mask + 1 ≡ 2 ^ len)) }
+    ensures { IsTrue result → mask + 1 ≡ 2 ^ len }
 {
     len >= 8 && mask == (1 << len) - 1
 }

@@ -1,5 +1,5 @@
 -- Lemmas on the mask of the zeros among bytes.
-use Rattle.std.proofs.Common.{min, ◌≡◌, ◌≢◌, ℕ, ◌+◌, ◌-◌, ◌*◌, ◌/◌, ◌%◌, ◌^◌, ◌<◌, ◌≤◌, cond, eqb, not, Bool, true, false, List, [], ◌∷◌, ◌++◌, length, map, drop, take, get_or, replicate, All, if◌then◌else◌, ◌==◌, suc, zero, refl, sym, ap, ◌∙◌, subst, inl, inr, arith, length-take-le, length-append, w8, w64}
+use Rattle.std.proofs.Common.{min, ◌≡◌, ◌≢◌, ℕ, ◌+◌, ◌-◌, ◌*◌, ◌/◌, ◌%◌, ◌^◌, ◌<◌, ◌≤◌, cond, eqb, not, List, [], ◌∷◌, ◌++◌, length, map, drop, take, get_or, replicate, All, if◌then◌else◌, ◌==◌, suc, zero, refl, sym, ap, ◌∙◌, subst, inl, inr, arith, length-take-le, length-append, w8, w64}
 use Rattle.std.proofs.Math.Nat.{pow-suc, pow-le-pow_right}
 use Rattle.std.proofs.lemmas.Bool.{ne_eqb, eq-eqb, eqb-true, not-true, not-false, cases_eq, cases_lt}
 use Rattle.std.proofs.lemmas.List.{get_or-take, drop-drop, length-map, length-replicate, take-take}
@@ -34,15 +34,11 @@ zeros_by_lanes source at n room few =
     ∙ zero_mask-lanes (take n (drop at source))
 
 -- a zero's bit, and another byte's
-set_if : (b : ℕ) → b ≡ 0 → ◌≡◌ {A = ℕ} (if b == 0 then 1 else 0) 1
+pub set_if : (b : ℕ) → b ≡ 0 → ◌≡◌ {A = ℕ} (if b == 0 then 1 else 0) 1
 set_if b is = ap (λ t. if t then 1 else 0) (eq-eqb b 0 is)
 
-clear_if : (b : ℕ) → b ≢ 0 → ◌≡◌ {A = ℕ} (if b == 0 then 1 else 0) 0
+pub clear_if : (b : ℕ) → b ≢ 0 → ◌≡◌ {A = ℕ} (if b == 0 then 1 else 0) 0
 clear_if b other = ap (λ t. if t then 1 else 0) (ne_eqb b 0 other)
-
-half : (b : Bool) (m : ℕ) → (cond b 1 0 + 2 * m) / 2 ≡ m
-half true m = omega arith
-half false m = omega arith
 
 -- no bit is set where no byte is 0
 pub zero_mask-none : (bytes : List ℕ) → zero_mask bytes ≡ 0 → All (λ b. b ≢ 0) bytes
@@ -94,53 +90,46 @@ mask-less : (bytes : List ℕ) → zero_mask bytes ≢ 0 → zero_mask bytes ≡
 mask-less [] some = absurd (some refl)
 mask-less (b ∷ bytes) some = grind (arith, cases_eq, eq-eqb, ne_eqb, mask_behind-more, pow-suc, mask-less bytes)
 
--- the lowest bits, and the others
+-- a number's lowest bit, and the others
+pub bit_at-first : (a x : ℕ) → a ≤ 1 → bit_at (a + 2 * x) 0 ≡ a
+bit_at-first a x le = omega (arith, bit_at_lowest (a + 2 * x))
+
+pub bit_at-next : (a x i : ℕ) → a ≤ 1 → bit_at (a + 2 * x) (suc i) ≡ bit_at x i
+bit_at-next a x i le = bit_at-suc (a + 2 * x) i ∙ ap (λ n. bit_at n i) (let half : (a + 2 * x) / 2 ≡ x = omega arith in half)
+
 and-step : (a b x y : ℕ) → a ≤ 1 → b ≤ 1 → bit_and (a + 2 * x) (b + 2 * y) ≡ min a b + 2 * bit_and x y
 and-step a b x y la lb = same_from_bits (bit_and (a + 2 * x) (b + 2 * y)) (min a b + 2 * bit_and x y) by_place
   where
     by_place : (i : ℕ) → bit_at (bit_and (a + 2 * x) (b + 2 * y)) i ≡ bit_at (min a b + 2 * bit_and x y) i
-    by_place zero =
-        let l = bit_at_lowest (a + 2 * x) in let r = bit_at_lowest (b + 2 * y) in
-        let n = bit_at_and (a + 2 * x) (b + 2 * y) 0 in
-        let s = bit_at_lowest (min a b + 2 * bit_and x y) in
-        let la' : (a + 2 * x) % 2 ≡ a = omega arith in
-        let lb' : (b + 2 * y) % 2 ≡ b = omega arith in
-        let ls : (min a b + 2 * bit_and x y) % 2 ≡ min a b = omega arith in
-        n ∙ ap (λ k. min k (bit_at (b + 2 * y) 0)) (l ∙ la') ∙ ap (min a) (r ∙ lb') ∙ sym (s ∙ ls)
+    by_place zero = omega (arith, bit_at_and (a + 2 * x) (b + 2 * y) 0, bit_at-first a x la, bit_at-first b y lb, bit_at-first (min a b) (bit_and x y) (omega arith))
     by_place (suc i) =
-        let ha : (a + 2 * x) / 2 ≡ x = omega arith in
-        let hb : (b + 2 * y) / 2 ≡ y = omega arith in
-        let hs : (min a b + 2 * bit_and x y) / 2 ≡ bit_and x y = omega arith in
-        bit_at_and (a + 2 * x) (b + 2 * y) (suc i)
-        ∙ ap (λ k. min k (bit_at (b + 2 * y) (suc i))) (bit_at-suc (a + 2 * x) i ∙ ap (λ n. bit_at n i) ha)
-        ∙ ap (min (bit_at x i)) (bit_at-suc (b + 2 * y) i ∙ ap (λ n. bit_at n i) hb)
-        ∙ sym (bit_at_and x y i) ∙ ap (λ n. bit_at n i) (sym hs) ∙ sym (bit_at-suc (min a b + 2 * bit_and x y) i)
+        omega (arith, bit_at_and (a + 2 * x) (b + 2 * y) (suc i), bit_at_and x y i, bit_at-next a x i la, bit_at-next b y i lb, bit_at-next (min a b) (bit_and x y) i (omega arith))
+
+-- a number and one less: the lowest bit that is set is taken from it
+less-odd : (m z : ℕ) → m ≡ 1 + 2 * z → bit_and m (m - 1) ≡ 0 + 2 * z
+less-odd m z is =
+    let less : m - 1 ≡ 0 + 2 * z = omega arith in
+    ap (bit_and m) less ∙ ap (λ k. bit_and k (0 + 2 * z)) is ∙ and-step 1 0 z z (omega arith) (omega arith) ∙ omega (arith, and_self z)
+
+less-even : (m z : ℕ) → z ≢ 0 → m ≡ 2 * z → bit_and m (m - 1) ≡ 2 * bit_and z (z - 1)
+less-even m z some is =
+    let all : m ≡ 0 + 2 * z = omega arith in
+    let less : m - 1 ≡ 1 + 2 * (z - 1) = omega arith in
+    ap (bit_and m) less ∙ ap (λ k. bit_and k (1 + 2 * (z - 1))) all ∙ and-step 0 1 z (z - 1) (omega arith) (omega arith) ∙ omega arith
 
 -- a mask and one less: the first zero is taken from it
 mask-and : (bytes : List ℕ) → zero_mask bytes ≢ 0 → bit_and (zero_mask bytes) (zero_mask bytes - 1) ≡ mask_behind (nonzero_len bytes + 1) (drop (nonzero_len bytes + 1) bytes)
 mask-and [] some = absurd (some refl)
 mask-and (b ∷ bytes) some =
     elim (cases_eq b 0) [
-      | inl is ↦ (let c : nonzero_len (b ∷ bytes) ≡ 0 = ap (λ t. cond (not t) (1 + nonzero_len bytes) 0) (eq-eqb b 0 is) in
-          let m : zero_mask (b ∷ bytes) ≡ 1 + 2 * zero_mask bytes = ap (λ t. (if t then 1 else 0) + 2 * zero_mask bytes) (eq-eqb b 0 is) in
-          let less : zero_mask (b ∷ bytes) - 1 ≡ 0 + 2 * zero_mask bytes = omega arith in
-          let s = and-step 1 0 (zero_mask bytes) (zero_mask bytes) (omega arith) (omega arith) in
-          let own = and_self (zero_mask bytes) in
-          let one : mask_behind (0 + 1) (drop (0 + 1) (b ∷ bytes)) ≡ 0 + 2 * zero_mask bytes = refl in
-          ap (λ k. bit_and k (zero_mask (b ∷ bytes) - 1)) m ∙ ap (bit_and (1 + 2 * zero_mask bytes)) less ∙ s ∙ (let e : min 1 0 + 2 * bit_and (zero_mask bytes) (zero_mask bytes) ≡ 0 + 2 * zero_mask bytes = omega arith in e)
-          ∙ sym one ∙ ap (λ k. mask_behind (k + 1) (drop (k + 1) (b ∷ bytes))) (sym c))
-      | inr other ↦ (let c : nonzero_len (b ∷ bytes) ≡ 1 + nonzero_len bytes = ap (λ t. cond (not t) (1 + nonzero_len bytes) 0) (ne_eqb b 0 other) in
-          let m : zero_mask (b ∷ bytes) ≡ 0 + 2 * zero_mask bytes = ap (λ t. (if t then 1 else 0) + 2 * zero_mask bytes) (ne_eqb b 0 other) in
-          let k : ℕ = nonzero_len bytes in
-          let some' : zero_mask bytes ≢ 0 = λ e. some (omega arith) in
-          let less : zero_mask (b ∷ bytes) - 1 ≡ 1 + 2 * (zero_mask bytes - 1) = omega arith in
-          let s = and-step 0 1 (zero_mask bytes) (zero_mask bytes - 1) (omega arith) (omega arith) in
-          let ih = mask-and bytes some' in
-          let more = mask_behind-more (k + 1) (drop (k + 1) bytes) in
-          let n : suc (k + 1) ≡ nonzero_len (b ∷ bytes) + 1 = omega arith in
-          ap (λ i. bit_and i (zero_mask (b ∷ bytes) - 1)) m ∙ ap (bit_and (0 + 2 * zero_mask bytes)) less ∙ s
-          ∙ (let e : min 0 1 + 2 * bit_and (zero_mask bytes) (zero_mask bytes - 1) ≡ mask_behind (suc (k + 1)) (drop (k + 1) bytes) = omega arith in e)
-          ∙ ap (λ i. mask_behind i (drop i (b ∷ bytes))) n)
+      | inl is ↦ (let here = set_if b is in
+          let none : nonzero_len (b ∷ bytes) ≡ 0 = ap (λ t. cond (not t) (1 + nonzero_len bytes) 0) (eq-eqb b 0 is) in
+          less-odd (zero_mask (b ∷ bytes)) (zero_mask bytes) (omega arith) ∙ ap (λ k. mask_behind (k + 1) (drop (k + 1) (b ∷ bytes))) (sym none))
+      | inr other ↦ (let here = clear_if b other in
+          let more : suc (nonzero_len bytes + 1) ≡ nonzero_len (b ∷ bytes) + 1 = omega (arith, ap (λ t. cond (not t) (1 + nonzero_len bytes) 0) (ne_eqb b 0 other)) in
+          let rest : zero_mask bytes ≢ 0 = λ e. some (omega arith) in
+          less-even (zero_mask (b ∷ bytes)) (zero_mask bytes) rest (omega arith) ∙ ap (λ m. 2 * m) (mask-and bytes rest)
+          ∙ sym (mask_behind-more (nonzero_len bytes + 1) (drop (nonzero_len bytes + 1) bytes)) ∙ ap (λ k. mask_behind k (drop k (b ∷ bytes))) more)
     ]
 
 length-ones : (n : ℕ) → length {A = ℕ} (replicate n 1) ≡ n
@@ -154,33 +143,23 @@ module _ (d : ℕ) (bytes : List ℕ) (few : d + length bytes ≤ 64) (some : ma
   pub lowest_left : count_trailing_zeros 64 (mask_behind d bytes) ≡ d + nonzero_len bytes
   lowest_left = grind (arith, length-append, length-ones, lowest_bit, nonzero_len-behind)
 
+  left : drop (d + nonzero_len bytes + 1) (replicate d 1 ++ bytes) ≡ drop (nonzero_len bytes + 1) bytes
+  left = ap (λ k. drop k (replicate d 1 ++ bytes)) (omega (arith, length-ones d)) ∙ drop-append-add (replicate d 1) bytes (nonzero_len bytes + 1)
+
   -- the next zero taken from it
   pub mask_behind-less : mask_behind d bytes ≡ 2 ^ (d + nonzero_len bytes) + mask_behind (d + nonzero_len bytes + 1) (drop (nonzero_len bytes + 1) bytes)
-  mask_behind-less =
-      let k : ℕ = nonzero_len bytes in
-      let e = nonzero_len-behind d bytes in
-      let l = length-ones d in
-      let left : drop (d + k + 1) (replicate d 1 ++ bytes) ≡ drop (k + 1) bytes =
-      ap (λ n. drop n (replicate d 1 ++ bytes)) (let s : d + k + 1 ≡ length {A = ℕ} (replicate d 1) + (k + 1) = omega arith in s) ∙ drop-append-add (replicate d 1) bytes (k + 1) in
-      grind (arith, nonzero_len-behind, length-ones, drop-append-add, mask-less)
+  mask_behind-less = grind (arith, nonzero_len-behind, left, mask-less)
 
   pub mask_behind-and : bit_and (mask_behind d bytes) (mask_behind d bytes - 1) ≡ mask_behind (d + nonzero_len bytes + 1) (drop (nonzero_len bytes + 1) bytes)
-  mask_behind-and =
-      let k : ℕ = nonzero_len bytes in
-      let e = nonzero_len-behind d bytes in
-      let l = length-ones d in
-      let left : drop (d + k + 1) (replicate d 1 ++ bytes) ≡ drop (k + 1) bytes =
-      ap (λ n. drop n (replicate d 1 ++ bytes)) (let s : d + k + 1 ≡ length {A = ℕ} (replicate d 1) + (k + 1) = omega arith in s) ∙ drop-append-add (replicate d 1) bytes (k + 1) in
-      mask-and (replicate d 1 ++ bytes) some ∙ ap (λ n. mask_behind (n + 1) (drop (n + 1) (replicate d 1 ++ bytes))) e ∙ ap (mask_behind (d + k + 1)) left
+  mask_behind-and = grind (arith, nonzero_len-behind, left, mask-and)
 
 -- where the lowest bit stands no lower than k, the first k bytes aren't zeros
 pub clear_front : (bytes : List ℕ) (k : ℕ) → length bytes ≤ 64 → k ≤ count_trailing_zeros 64 (zero_mask bytes) → HasNoZero (take k bytes)
 clear_front bytes k few le =
     elim (cases_eq (zero_mask bytes) 0) [
       | inl none ↦ All-take (λ b. b ≢ 0) k bytes (zero_mask-none bytes none)
-      | inr some ↦ (let e = lowest_bit bytes few some in
-          let all = nonzero_len-before bytes some in
-          subst (All (λ b. b ≢ 0)) (take-take k (nonzero_len bytes) bytes (omega arith)) (All-take (λ b. b ≢ 0) k (take (nonzero_len bytes) bytes) all))
+      | inr some ↦ (let front = All-take (λ b. b ≢ 0) k (take (nonzero_len bytes) bytes) (nonzero_len-before bytes some) in
+          subst HasNoZero (take-take k (nonzero_len bytes) bytes (omega (arith, lowest_bit bytes few some))) front)
     ]
 
 pub zero_mask-lt : (bytes : List ℕ) → zero_mask bytes < 2 ^ length bytes
@@ -189,10 +168,7 @@ zero_mask-lt bytes = rw (← zero_mask-lanes bytes) (subst (λ (n : ℕ). mask_l
 -- the first zero of a mask is within its bits, and in front of those that are left without it
 module _ (zeros : ℕ) (some : zeros ≢ 0) (few : zeros < 2 ^ 64) where
   pub lowest-within : (k : ℕ) → zeros < 2 ^ k → count_trailing_zeros 64 zeros < k
-  lowest-within k lt = elim (cases_lt (count_trailing_zeros 64 zeros) k) [
-    | inl inside ↦ inside
-    | inr above ↦ absurd (let one = bit_at-trailing_zeros w64 zeros (omega arith) few in let none = bit_at_above zeros k (count_trailing_zeros 64 zeros) lt above in omega arith)
-  ]
+  lowest-within k lt = let one = bit_at-trailing_zeros w64 zeros (omega arith) few in let none = bit_at_above zeros k (count_trailing_zeros 64 zeros) lt in grind arith
 
   pub lowest-ordered : count_trailing_zeros 64 zeros ≤ count_trailing_zeros 64 (bit_and zeros (zeros - 1))
   lowest-ordered =
@@ -201,13 +177,10 @@ module _ (zeros : ℕ) (some : zeros ≢ 0) (few : zeros < 2 ^ 64) where
       let le = and_le_l zeros (zeros - 1) in
       elim (cases_eq left 0) [
         | inl none ↦ (let all : count_trailing_zeros 64 left ≡ 64 = ap (count_trailing_zeros 64) none ∙ trailing_of_zero 64 in omega arith)
-        | inr other ↦ elim (cases_lt (count_trailing_zeros 64 left) (count_trailing_zeros 64 zeros)) [
-          | inl lt ↦ absurd (let next = bit_at-trailing_zeros w64 left (omega arith) (omega arith) in
-              let both = bit_at_and zeros (zeros - 1) (count_trailing_zeros 64 left) in
-              let none = first.2 (count_trailing_zeros 64 left) lt in
-              omega arith)
-          | inr after ↦ after
-        ]
+        | inr other ↦ (let next = bit_at-trailing_zeros w64 left (omega arith) (omega arith) in
+            let both = bit_at_and zeros (zeros - 1) (count_trailing_zeros 64 left) in
+            let none = first.2 (count_trailing_zeros 64 left) in
+            grind arith)
       ]
 
 -- where every bit is set, each byte is 0

@@ -1,8 +1,10 @@
 -- Bytes of a buffer that are moved to its front.
-use Rattle.std.proofs.Common.{◌≡◌, ℕ, ◌+◌, ◌≤◌, List, ◌++◌, length, drop, take, ap, ◌∙◌, arith, length-drop, length-append, length-take-le, drop_at}
+use Rattle.std.proofs.Common.{rules, ◌≡◌, ℕ, ◌+◌, ◌≤◌, List, ◌++◌, length, drop, take, ap, ◌∙◌, arith, length-drop, length-append, length-take-le, drop_at}
 use lib.Lanes.{put_chunk}
 use Rattle.cobs.proofs.decoding.SourceSteps.{drop-later}
-use Rattle.cobs.proofs.bytes.NonzeroCopies.{more-copied}
+use Rattle.std.proofs.lemmas.List.{same_lists, places}
+use Rattle.std.proofs.lemmas.Simd.{length-chunk}
+use Rattle.cobs.proofs.bytes.MaskLemmas.{put_is}
 
 -- the first bytes are moved, and the others are as they were
 abbrev pub moved : List ℕ → ℕ → ℕ → List ℕ
@@ -18,12 +20,9 @@ module _ (old buffer : List ℕ) (from done start n : ℕ) (is : buffer ≡ move
   -- one more window, as it was
   pub moved-more : put_chunk start buffer (take n (drop (from + start) old)) ≡ moved old from (start + n)
   moved-more =
-      let zero : start ≡ 0 + start = omega arith in
-      let front : done ≡ 0 + done = omega arith in
-      let all : 0 + (start + n) ≡ start + n = omega arith in
-      ap (λ (k : ℕ). put_chunk k buffer (take n (drop (from + start) old))) zero
-      ∙ more-copied old old buffer from 0 done start n inside (omega arith) before near moved-long (is ∙ ap (λ (k : ℕ). take done (drop from old) ++ drop k old) front)
-      ∙ ap (λ (k : ℕ). take (start + n) (drop from old) ++ drop k old) all
+      put_is buffer (take n (drop (from + start) old)) start n (length-chunk (from + start) n old (omega arith)) (omega (arith, moved-long))
+      ∙ ap (λ (x : List ℕ). take start x ++ (take n (drop (from + start) old) ++ drop (start + n) x)) is
+      ∙ same_lists _ _ (search (rules, places)) (λ k d h. grind (arith, places))
 
 -- the next window, as it stands
 pub moved-next : (old buffer : List ℕ) (from done n : ℕ) → buffer ≡ moved old from done → from + (done + n) ≤ length old → put_chunk done buffer (take n (drop (from + done) buffer)) ≡ moved old from (done + n)

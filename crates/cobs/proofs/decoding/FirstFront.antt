@@ -1,6 +1,6 @@
 -- The walk over the first whole blocks of a frame, which writes a zero over each code that it reads.
 use Rattle.std.proofs.Common.{◌≡◌, ◌≢◌, ℕ, ◌+◌, ◌-◌, ◌<◌, ◌≤◌, ◌∷◌, ◌++◌, List, length, take, drop, get_or, set, replicate, sym, ap, ◌∙◌, subst, arith, suc, [], drop_at, length-take-le, length-drop, length-append}
-use Rattle.std.proofs.lemmas.List.{length-set, get_or-take, drop_more, drop-set-lt, get_or-set_same, get_or-set_other, take-take}
+use Rattle.std.proofs.lemmas.List.{length-set, get_or-take, drop_more, drop-set-lt, get_or-set_same, get_or-set_other}
 use Rattle.cobs.specs.Grammar.{HasNoZero, code_of}
 use Rattle.cobs.specs.Piece.{output, last_part}
 use Rattle.cobs.specs.Internal.Decoded.{IsFlat}
@@ -23,9 +23,6 @@ pub record Marked (first : ℕ) (old dest : List ℕ) (len read code : ℕ) : Ty
   pub whole : read + code ≤ len
   pub some : 0 < code
   pub same : length dest ≡ length old
-
-pub marked-start : (first : ℕ) (old : List ℕ) (len : ℕ) → 0 < first → first ≤ len → len ≤ length old + 1 → Marked first old old len 0 first
-marked-start first old len some whole room = grind (arith, length-take-le, take-take)
 
 module _ (first : ℕ) (old dest : List ℕ) (len read code : ℕ) (m : Marked first old dest len read code) (room : len ≤ length old + 1) where
   -- one more block
@@ -79,13 +76,10 @@ module _ (first : ℕ) (old dest : List ℕ) (len read code : ℕ) (m : Marked f
   long = let some = m.some in let whole = m.whole in cut-long first old (read + code) (omega arith) (omega arith)
 
   pub marked-flat : IsFlat q
-  marked-flat =
-      let l = long in
-      let d = ends.decoded in
-      flat-whole q read code (record { within = d.within; count = d.left; last = d.last }) ends.at-read (omega arith)
+  marked-flat = let d = ends.decoded in flat-whole q read code (record { within = d.within; count = d.left; last = d.last }) ends.at-read (omega (arith, long))
 
   pub marked-last : code ≡ code_of (last_part q)
-  marked-last = let l = long in last-code q old dest read read code ends.decoded ends.at-read m.some (omega arith)
+  marked-last = last-code q old dest read read code ends.decoded ends.at-read m.some (omega (arith, long))
 
   pub marked-begins : take (read + code - 1) dest ≡ output q
   marked-begins =
@@ -146,7 +140,7 @@ module _ (first : ℕ) (rest new after : List ℕ) (front : ℕ) (some : 0 < fro
   after-rest : drop (front - 1) after ≡ drop (front - 1) (first ∷ new)
   after-rest = grind (arith, drop_at, length-take-le)
 
-  pub after-same : length after ≡ length (first ∷ rest)
+  after-same : length after ≡ length (first ∷ rest)
   after-same = grind (arith, length-drop, length-append, length-take-le)
 
   next : front - 1 + 1 ≡ suc (front - 1)

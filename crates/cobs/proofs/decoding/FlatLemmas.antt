@@ -1,7 +1,7 @@
 -- Frames in which no block but the last is full, decoded in their own place.
 use Rattle.std.proofs.Common.{take_at, drop_at, bit_xor, append-nil, zero, suc, ◌≤◌, ◌++◌, replicate, subst, append_assoc, take-append-drop, length-take-le, set, ◌≡◌, ◌≢◌, ℕ, ◌+◌, ◌-◌, ◌<◌, true, List, [], ◌∷◌, length, take, drop, get_or, Ok, refl, sym, ap, ◌∙◌, arith, length-drop}
 use Rattle.std.proofs.lemmas.Bool.{eq-eqb}
-use Rattle.std.proofs.lemmas.List.{take-map, drop-map, drop_all, length-set, drop-set-lt, take_more_set, drop-drop, drop_more, get_or-take, get_or-drop}
+use Rattle.std.proofs.lemmas.List.{take-take, take-map, drop-map, drop_all, length-set, drop-set-lt, take_more_set, drop-drop, drop_more, get_or-take, get_or-drop}
 use borrow.Rule.Slice.PartMut.{put_mid}
 use Rattle.cobs.specs.Grammar.{code_of, HasNoZero}
 use Rattle.cobs.specs.Piece.{output, kept_output, last_part, lacks, is_whole}
@@ -98,63 +98,27 @@ xored-ones piece sentinel read alike =
 pub next-code : (piece dest : List ℕ) (read code : ℕ) → CopiedTo piece dest read (length piece) read → 0 < code → read + code < length piece → get_or dest (read + (code - 1)) 0 ≡ get_or piece (read + code) 0
 next-code piece dest read code k some more = grind (arith, get_or-drop, get_or-take)
 
--- empty blocks behind a copy of their codes, one after another
-zeroed : ℕ → ℕ → List ℕ → List ℕ
-zeroed zero read dest = dest
-zeroed (suc n) read dest = zeroed n (read + 1) (set dest read 0)
-
-zeroed-is : (n read : ℕ) (dest : List ℕ) → read + n ≤ length dest → zeroed n read dest ≡ take read dest ++ (replicate n 0 ++ drop (read + n) dest)
-unfolding zeroed
-zeroed-is zero read dest le = grind (arith, take-append-drop)
-zeroed-is (suc n) read dest le =
-    let l = length-set dest read 0 in
-    let at : read + 1 + n ≡ read + suc n = omega arith in
-    zeroed-is n (read + 1) (set dest read 0) (omega arith)
-    ∙ ap (λ (x : List ℕ). x ++ (replicate n 0 ++ drop (read + 1 + n) (set dest read 0))) (take_more_set dest read 0 (omega arith))
-    ∙ append_assoc (take read dest) (0 ∷ []) (replicate n 0 ++ drop (read + 1 + n) (set dest read 0))
-    ∙ ap (λ (x : List ℕ). take read dest ++ (0 ∷ (replicate n 0 ++ x))) (drop-set-lt (read + 1 + n) dest read 0 (omega arith) ∙ ap (λ (k : ℕ). drop k dest) at)
-
 -- the codes of the blocks in front of `read` are zeros, and the others stand copied
 pub record FlatCopied (piece old dest : List ℕ) (read code : ℕ) : Type 0 where
   pub decoded : Decoded piece old dest read read
   pub copied : CopiedTo piece dest read (length piece) read
   pub at-read : code ≡ get_or piece read 0
 
--- such a list, as far as it is walked
-module _ (piece old dest : List ℕ) (read code : ℕ) (f : FlatCopied piece old dest read code) (nonzero : HasNoZero piece) where
-  pub joint-code : 0 < code
-  joint-code = subst (λ (n : ℕ). 0 < n) (sym f.at-read) (code-pos piece read nonzero f.decoded.within)
+-- one zero more
+pub joint-more : (piece old dest : List ℕ) (read code : ℕ) → FlatCopied piece old dest read code → 0 < code → (next : ℕ) → code ≢ 255 → read + code ≤ length dest → read + code < length piece
+    → next ≡ get_or dest (read + (code - 1)) 0 → FlatCopied piece old (set dest (read + (code - 1)) 0) (read + code) next
+joint-more piece old dest read code f some next short room more is = record {
+  decoded = code-decoded piece old dest read read code f.decoded f.at-read some more (length piece) f.copied more short room;
+  copied = code-copied piece old dest read read code f.decoded f.at-read some more (length piece) f.copied more short;
+  at-read = is ∙ next-code piece dest read code f.copied some more;
+}
 
-  -- one zero more
-  pub joint-more : (next : ℕ) → length (output piece) + 1 ≡ length piece → length piece ≤ length dest + 1 → read + code < length piece → next ≡ get_or dest (read + (code - 1)) 0
-      → FlatCopied piece old (set dest (read + (code - 1)) 0) (read + code) next
-  joint-more next flat room more is =
-      let pos = joint-code in
-      let short = flat-short piece old dest read f.decoded flat code f.at-read pos more in
-      record {
-        decoded = code-decoded piece old dest read read code f.decoded f.at-read pos more (length piece) f.copied more short (omega arith);
-        copied = code-copied piece old dest read read code f.decoded f.at-read pos more (length piece) f.copied more short;
-        at-read = is ∙ next-code piece dest read code f.copied pos more;
-      }
-
-  -- at the last part
-  module _ (last : length piece ≤ read + code) where
-    pub joints-written : length (output piece) ≤ length dest → take (length piece - 1) dest ≡ output piece
-    joints-written room =
-        let w = f.decoded.within in
-        ap (λ (n : ℕ). take n dest) {x = length piece - 1} {y = read + (length piece - read - 1)} (omega arith)
-        ∙ end-begins piece old dest read read code f.decoded f.at-read joint-code last f.copied room
-
-    pub joints-code : code ≡ code_of (last_part piece)
-    joints-code = last-code piece old dest read read code f.decoded f.at-read joint-code last
-
-    pub joints-lack : code - (length piece - read) ≡ lacks (last_part piece)
-    joints-lack = last-lacks piece old dest read read code f.decoded f.at-read joint-code last
-
+-- a row of empty blocks behind a copy of their codes
 copied-ones-by : (n : ℕ) (piece old dest : List ℕ) (read : ℕ) → FlatCopied piece old dest read 1 → take n (drop read dest) ≡ replicate n 1 → read + n < length piece → length piece ≤ length dest + 1
-    → FlatCopied piece old (zeroed n read dest) (read + n) 1
-unfolding zeroed
-copied-ones-by zero piece old dest read f ones lt room = let at : read ≡ read + 0 = omega arith in subst (λ (k : ℕ). FlatCopied piece old dest k 1) at f
+    → FlatCopied piece old (take read dest ++ (replicate n 0 ++ drop (read + n) dest)) (read + n) 1
+copied-ones-by zero piece old dest read f ones lt room =
+    let at : read ≡ read + 0 = omega arith in
+    subst (λ (k : ℕ). FlatCopied piece old (take read dest ++ drop k dest) k 1) at (subst (λ (xs : List ℕ). FlatCopied piece old xs read 1) (sym (take-append-drop read dest)) f)
 copied-ones-by (suc n) piece old dest read f ones lt room =
     let l = length-set dest read 0 in
     let left : drop read dest ≡ get_or dest read 0 ∷ drop (read + 1) dest = drop_more dest read 0 (omega arith) in
@@ -162,31 +126,99 @@ copied-ones-by (suc n) piece old dest read f ones lt room =
     let first : get_or dest read 0 ≡ 1 = cc in
     let others : take n (drop (read + 1) dest) ≡ replicate n 1 = cc in
     let place : read + (1 - 1) ≡ read = omega arith in
-    let short : ◌≢◌ {A = ℕ} 1 255 = λ e. omega (arith, e) in
-    let o = output-le piece (omega arith) in
-    let d = code-decoded piece old dest read read 1 f.decoded f.at-read (omega arith) (omega arith) (length piece) f.copied (omega arith) short (omega arith) in
-    let k = code-copied piece old dest read read 1 f.decoded f.at-read (omega arith) (omega arith) (length piece) f.copied (omega arith) short in
-    let one : FlatCopied piece old (set dest read 0) (read + 1) 1 = record {
-      decoded = subst (λ (m : ℕ). Decoded piece old (set dest m 0) (read + 1) (read + 1)) place d;
-      copied = subst (λ (m : ℕ). CopiedTo piece (set dest m 0) (read + 1) (length piece) (read + 1)) place k;
-      at-read = sym first ∙ ap (λ (m : ℕ). get_or dest m 0) (sym place) ∙ next-code piece dest read 1 f.copied (omega arith) (omega arith);
-    } in
+    let more = joint-more piece old dest read 1 f (omega arith) 1 (λ e. omega (arith, e)) (omega arith) (omega arith) (sym first ∙ ap (λ (m : ℕ). get_or dest m 0) (sym place)) in
+    let one : FlatCopied piece old (set dest read 0) (read + 1) 1 = subst (λ (m : ℕ). FlatCopied piece old (set dest m 0) (read + 1) 1) place more in
     let at : read + 1 + n ≡ read + suc n = omega arith in
-    subst (λ (m : ℕ). FlatCopied piece old (zeroed n (read + 1) (set dest read 0)) m 1) at
-    (copied-ones-by n piece old (set dest read 0) (read + 1) one (ap (take n) (drop-set-lt (read + 1) dest read 0 (omega arith)) ∙ others) (omega arith) (omega arith))
+    let written : take (read + 1) (set dest read 0) ++ (replicate n 0 ++ drop (read + 1 + n) (set dest read 0)) ≡ take read dest ++ (replicate (suc n) 0 ++ drop (read + 1 + n) dest) =
+    ap (λ (x : List ℕ). x ++ (replicate n 0 ++ drop (read + 1 + n) (set dest read 0))) (take_more_set dest read 0 (omega arith))
+    ∙ append_assoc (take read dest) (0 ∷ []) (replicate n 0 ++ drop (read + 1 + n) (set dest read 0))
+    ∙ ap (λ (x : List ℕ). take read dest ++ (0 ∷ (replicate n 0 ++ x))) (drop-set-lt (read + 1 + n) dest read 0 (omega arith)) in
+    subst (λ (m : ℕ). FlatCopied piece old (take read dest ++ (replicate (suc n) 0 ++ drop m dest)) m 1) at (subst (λ (xs : List ℕ). FlatCopied piece old xs (read + 1 + n) 1) written
+    (copied-ones-by n piece old (set dest read 0) (read + 1) one (ap (take n) (drop-set-lt (read + 1) dest read 0 (omega arith)) ∙ others) (omega arith) (omega arith)))
 
 pub copied-ones : (piece old dest after : List ℕ) (read : ℕ) → FlatCopied piece old dest read 1 → take 32 (drop read dest) ≡ replicate 32 1 → read + 32 < length piece → length piece ≤ length dest + 1
     → after ≡ take read dest ++ (replicate 32 0 ++ drop (read + 32) dest) → FlatCopied piece old after (read + 32) 1
-copied-ones piece old dest after read f ones lt room is =
-    subst (λ (x : List ℕ). FlatCopied piece old x (read + 32) 1) (zeroed-is 32 read dest (omega arith) ∙ sym is) (copied-ones-by 32 piece old dest read f ones lt room)
+copied-ones piece old dest after read f ones lt room is = subst (λ (x : List ℕ). FlatCopied piece old x (read + 32) 1) (sym is) (copied-ones-by 32 piece old dest read f ones lt room)
 
--- a copy of one
-pub flat-copy : (copy p : List ℕ) (n : ℕ) → copy ≡ p → IsFlat p → length p ≡ n → length (output copy) + 1 ≡ n
-flat-copy copy p n is flat long = ap (λ (x : List ℕ). length (output x) + 1) is ∙ flat.len ∙ long
+-- the codes in front of the open part of a stretch of `len` bytes are zeros; it ends at `end`
+pub record JointsWritten (first len : ℕ) (old dest : List ℕ) (end code : ℕ) : Type 0 where
+  pub flat : FlatCopied (first ∷ take (len - 1) old) old dest (end - code) code
+  pub same : length dest ≡ length old
+  pub some : 0 < code
+  pub begun : code ≤ end
 
--- such a stretch has some bytes
-pub flat-some : (old : List ℕ) (from len : ℕ) → IsFlat (take len (drop from old)) → 0 < len
-flat-some old from len h = grind arith
+module _ (first len : ℕ) (old : List ℕ) (some : 0 < len) (room : len ≤ length old + 1) (nonzero : HasNoZero (first ∷ take (len - 1) old)) where
+  abbrev piece : List ℕ
+  piece = first ∷ take (len - 1) old
+
+  long : length piece ≡ len
+  long = let l = length-take-le (len - 1) old (omega arith) in omega arith
+
+  pub joints-start : JointsWritten first len old old first first
+  joints-start =
+      let f : FlatCopied piece old old 0 first = grind (arith, length-take-le, take-take) in
+      record {
+        flat = subst (λ (k : ℕ). FlatCopied piece old old k first) (omega arith) f;
+        same = refl;
+        some = code-pos piece 0 nonzero (omega arith);
+        begun = omega arith;
+      }
+
+  module _ (dest : List ℕ) (end code : ℕ) (j : JointsWritten first len old dest end code) where
+    pub joints-more : length (output piece) + 1 ≡ len → end < len → (next : ℕ) → next ≡ get_or dest (end - 1) 0 → JointsWritten first len old (set dest (end - 1) 0) (end + next) next
+    joints-more flat more next is =
+        let l = long in
+        let s = j.same in
+        let begun = j.begun in
+        let pos = j.some in
+        let short = flat-short piece old dest (end - code) j.flat.decoded (omega arith) code j.flat.at-read pos (omega arith) in
+        let at : end - code + (code - 1) ≡ end - 1 = omega arith in
+        let f = joint-more piece old dest (end - code) code j.flat pos next short (omega arith) (omega arith) (is ∙ ap (λ (k : ℕ). get_or dest k 0) (sym at)) in
+        record {
+          flat = subst (λ (k : ℕ). FlatCopied piece old (set dest (end - 1) 0) k next) (omega arith) (subst (λ (k : ℕ). FlatCopied piece old (set dest k 0) (end - code + code) next) at f);
+          same = length-set dest (end - 1) 0 ∙ s;
+          some = subst (λ (n : ℕ). 0 < n) (sym f.at-read) (code-pos piece _ nonzero f.decoded.within);
+          begun = omega arith;
+        }
+
+    -- a row of empty blocks
+    pub joints-ones : (after : List ℕ) → code ≡ 1 → end + 32 ≤ len → take 32 (drop (end - 1) dest) ≡ replicate 32 1 → after ≡ take (end - 1) dest ++ (replicate 32 0 ++ drop (end - 1 + 32) dest)
+        → length after ≡ length dest
+        → JointsWritten first len old after (end + 32) code
+    joints-ones after one more ones is as-long =
+        let l = long in
+        let s = j.same in
+        let begun = j.begun in
+        let f = copied-ones piece old dest after (end - 1) (subst (λ (k : ℕ). FlatCopied piece old dest (end - k) k) one j.flat) ones (omega arith) (omega arith) is in
+        record {
+          flat = subst (λ (k : ℕ). FlatCopied piece old after (end + 32 - k) k) (sym one) (subst (λ (k : ℕ). FlatCopied piece old after k 1) (omega arith) f);
+          same = as-long ∙ s;
+          some = j.some;
+          begun = omega arith;
+        }
+
+    -- at the last part
+    module _ (last : len ≤ end) where
+      ends : length piece ≤ end - code + code
+      ends = let l = long in let b = j.begun in omega arith
+
+      pub joints-written : length (output piece) + 1 ≡ len → take (len - 1) dest ≡ output piece
+      joints-written flat =
+          let l = long in
+          let s = j.same in
+          let w = j.flat.decoded.within in
+          ap (λ (n : ℕ). take n dest) {x = len - 1} {y = end - code + (length piece - (end - code) - 1)} (omega arith)
+          ∙ end-begins piece old dest _ _ code j.flat.decoded j.flat.at-read j.some ends j.flat.copied (omega arith)
+
+      pub joints-code : code ≡ code_of (last_part piece)
+      joints-code = last-code piece old dest _ _ code j.flat.decoded j.flat.at-read j.some ends
+
+      pub joints-lack : end - len ≡ lacks (last_part piece)
+      joints-lack =
+          let l = long in
+          let w = j.flat.decoded.within in
+          let b = j.begun in
+          omega (arith, last-lacks piece old dest _ _ code j.flat.decoded j.flat.at-read j.some ends)
 
 -- what stands after the first code, moved to the front
 module _ (old after : List ℕ) (from len : ℕ) (inside : from + len ≤ length old) (some : 0 < len) (is : after ≡ take (len - 1) (drop (from + 1) old) ++ drop (len - 1) old) where

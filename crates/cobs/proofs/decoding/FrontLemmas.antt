@@ -1,113 +1,101 @@
 -- The output of a front of a piece is a front of its output.
-use Rattle.std.proofs.Common.{◌≡◌, ◌≢◌, ℕ, zero, ◌+◌, ◌-◌, ◌<◌, ◌≤◌, List, [], ◌∷◌, ◌++◌, length, take, drop, get_or, suc, sym, ap, ◌∙◌, arith, length-take-le, length-drop, length-append, append_assoc, inl, inr}
+use Rattle.std.proofs.Common.{◌≡◌, ℕ, zero, suc, ◌+◌, ◌-◌, ◌<◌, ◌≤◌, ◌↔◌, ◌⊎◌, min, List, [], ◌∷◌, ◌++◌, length, take, drop, get_or, sym, ap, ◌∙◌, arith, append-nil, append_assoc, length-append, length-take-le, length-drop, take_at, take_all, take-append-drop, inl, inr}
 use Rattle.std.proofs.lemmas.Bool.{cases_lt}
-use Rattle.std.proofs.lemmas.List.{drop-drop, drop-take, drop_more, take-take, take-append-le, take_all}
-use Rattle.std.proofs.lemmas.List.Elements.{All-head, All-tail, All-drop}
-use Rattle.cobs.specs.Grammar.{HasNoZero}
-use Rattle.cobs.specs.Piece.{output}
-use Rattle.cobs.proofs.decoding.PieceCuts.{output-last, output-more, output-le, joint_of, joint-length}
-use Rattle.cobs.proofs.decoding.WindowSteps.{take-past}
+use Rattle.std.proofs.lemmas.List.{drop-take, drop-drop, take_rest, get_or-take, get_or-drop}
+use Rattle.std.proofs.Math.Nat.{zero-add, add-zero}
+use Rattle.cobs.specs.Grammar.{code_of}
+use Rattle.cobs.specs.Piece.{output, last_part}
+use Rattle.cobs.proofs.decoding.PieceCuts.{output-last, output-le, joint_of, joint-length, length-output-last, part-cons, part-length}
+use Rattle.cobs.proofs.decoding.PieceLemmas.{output-push, output-push_more, output-push_next}
 
--- a front that ends behind the first part
-front-more : (code : ℕ) (bytes : List ℕ) (k : ℕ) → code - 1 < length bytes → 0 < k → k ≤ length (drop (code - 1) bytes)
-    → output (code ∷ take (code - 1 + k) bytes) ≡ (take (code - 1) bytes ++ joint_of code) ++ output (take k (drop (code - 1) bytes))
-front-more code bytes k more some within = grind (arith, length-drop, length-take-le, output-more, joint_of, take-take, drop-take)
+-- bytes behind a piece give bytes behind its output, as many of them at most
+longer : (c : ℕ) (p q : List ℕ) → (more : List ℕ) × (output (c ∷ p ++ q) ≡ output (c ∷ p) ++ more)
+longer c p [] = ([], ap (λ (x : List ℕ). output (c ∷ x)) (append-nil p) ∙ sym (append-nil (output (c ∷ p))))
+longer c p (b ∷ q) =
+    let one = output-push c p b in
+    let again = longer c (p ++ b ∷ []) q in
+    (one.0 ++ again.0, ap (λ (x : List ℕ). output (c ∷ x)) (sym (append_assoc p (b ∷ []) q)) ∙ again.1 ∙ ap (λ (x : List ℕ). x ++ again.0) one.1 ∙ append_assoc (output (c ∷ p)) one.0 again.0)
 
--- a front that ends inside the first part
-front-inside : (code : ℕ) (bytes : List ℕ) (left : ℕ) → left < code → left ≤ length bytes → output (code ∷ take left bytes) ≡ take left (output (code ∷ bytes))
-front-inside code bytes left few within = grind (arith, length-take-le, cases_lt, output-more, append_assoc, joint_of, take-append-le, take-take, output-last)
+one-longer : (c : ℕ) (p : List ℕ) (b : ℕ) → length (output (c ∷ p ++ b ∷ [])) ≤ length (output (c ∷ p)) + 1
+one-longer c p b = grind (arith, cases_lt, output-push_more (c ∷ p) b, output-push_next, length-append, joint-length (code_of (last_part (c ∷ p))))
+
+few-longer : (c : ℕ) (p q : List ℕ) → length (output (c ∷ p ++ q)) ≤ length (output (c ∷ p)) + length q
+few-longer c p [] = omega (arith, ap (λ (x : List ℕ). length (output (c ∷ x))) (append-nil p))
+few-longer c p (b ∷ q) = omega (arith, ap (λ (x : List ℕ). length (output (c ∷ x))) (append_assoc p (b ∷ []) q), few-longer c (p ++ b ∷ []) q, one-longer c p b)
+
+output-front : (p : List ℕ) (k : ℕ) → 0 < k → output (take k p) ≡ take (length (output (take k p))) (output p)
+output-front p zero some = absurd (omega arith)
+output-front [] (suc k) some = sym (take_all (length (output [])) (output []) (omega arith))
+output-front (c ∷ p) (suc k) some =
+    let more = longer c (take k p) (drop k p) in
+    let front : List ℕ = output (c ∷ take k p) in
+    sym (ap (λ (x : List ℕ). take (length front) (output (c ∷ x))) (sym (take-append-drop k p)) ∙ ap (take (length front)) more.1 ∙ take_at front more.0 (length front) (omega arith))
 
 -- each front of a piece whose parts but the last aren't full gives a byte for each byte after its first
-flat-front-by : (fuel : ℕ) (p : List ℕ) (k : ℕ) → length p ≤ fuel → HasNoZero p → length (output p) + 1 ≡ length p → k < length p → output (take (suc k) p) ≡ take k (output p)
-flat-front-by fuel [] k le none flat within = absurd (omega arith)
-flat-front-by zero (code ∷ bytes) k le none flat within = absurd (omega arith)
-flat-front-by (suc fuel) (code ∷ bytes) k le none flat within = elim (cases_lt k code) [
-  | inl few ↦ front-inside code bytes k few (omega arith)
-  | inr far ↦ (
-      let first : code ≢ 0 = All-head (λ b. b ≢ 0) code bytes none in
-      let n : ℕ = code - 1 in
-      let j : ℕ = k - code in
-      let rest : List ℕ = drop n bytes in
-      let more : n < length bytes = omega arith in
-      let is = output-more code bytes more in
-      let e = ap length is ∙ length-append (take n bytes ++ joint_of code) (output rest) in
-      let m = length-append (take n bytes) (joint_of code) in
-      let t = length-take-le n bytes (omega arith) in
-      let d = length-drop n bytes in
-      let o = output-le rest (omega arith) in
-      let one : length (joint_of code) ≡ 1 = elim (joint-length code) [ inl full ↦ absurd (let z = full.1 in omega arith) | inr other ↦ other.1 ] in
-      let again = flat-front-by fuel rest j (omega arith) (All-drop (λ b. b ≢ 0) n bytes (All-tail (λ b. b ≢ 0) code bytes none)) (omega arith) (omega arith) in
-      let sum : k ≡ n + suc j = omega arith in
-      ap (λ (i : ℕ). output (code ∷ take i bytes)) sum ∙ front-more code bytes (suc j) more (omega arith) (omega arith)
-      ∙ ap (λ (x : List ℕ). (take n bytes ++ joint_of code) ++ x) again
-      ∙ sym (ap (take k) is ∙ take-past (take n bytes ++ joint_of code) (output rest) (n + 1) j k (omega arith) (omega arith))
-      )
-]
-
-pub flat-front : (p : List ℕ) (k : ℕ) → HasNoZero p → length (output p) + 1 ≡ length p → k < length p → output (take (suc k) p) ≡ take k (output p)
-flat-front p k none flat within = flat-front-by (length p) p k (omega arith) none flat within
+pub flat-front : (p : List ℕ) (k : ℕ) → length (output p) + 1 ≡ length p → k < length p → output (take (suc k) p) ≡ take k (output p)
+flat-front [] k flat within = absurd (omega arith)
+flat-front (c ∷ p) k flat within =
+    let few = few-longer c (take k p) (drop k p) in
+    let all = ap (λ (x : List ℕ). length (output (c ∷ x))) (take-append-drop k p) in
+    let le = output-le (c ∷ take k p) (omega arith) in
+    output-front (c ∷ p) (suc k) (omega arith) ∙ ap (λ (n : ℕ). take n (output (c ∷ p))) (omega (arith, length-take-le k p (omega arith), length-drop k p))
 
 -- what the loop over the codes of a piece keeps, which looks for its front with the first n bytes of its output: behind
 -- the codes that it has read it looks for the front of what is left with the bytes that are left
 pub record FrontSought (piece : List ℕ) (n read left : ℕ) : Type 0 where
   pub within : read < length piece
   pub few : left ≤ n
-  pub counted : left + length (output piece) ≡ n + length (output (drop read piece))
-  pub suffices : (k : ℕ) → 0 < k → read + k ≤ length piece → output (take k (drop read piece)) ≡ take left (output (drop read piece)) → output (take (read + k) piece) ≡ take n (output piece)
+  pub cut : (k : ℕ) → 0 < k → read + k ≤ length piece → length (output (take (read + k) piece)) + left ≡ n + length (output (take k (drop read piece)))
 
-module _ (piece : List ℕ) (n read left code : ℕ) (s : FrontSought piece n read left) (is : code ≡ get_or piece read 0) where
+module _ (piece : List ℕ) (n read left code : ℕ) (s : FrontSought piece n read left) (is : code ≡ get_or piece read 0) (pos : 0 < code) where
+  counted : length (output piece) + left ≡ n + length (output (drop read piece))
+  counted =
+      let all : read + (length piece - read) ≡ length piece = omega (arith, s.within) in
+      ap (λ (x : List ℕ). length (output x) + left) (sym (take_all (read + (length piece - read)) piece (omega arith))) ∙ s.cut (length piece - read) (omega (arith, s.within)) (omega arith)
+      ∙ ap (λ (x : List ℕ). n + length (output x)) (take_rest piece read)
+
   cons : drop read piece ≡ code ∷ drop (read + 1) piece
-  cons = drop_more piece read 0 s.within ∙ ap (λ (k : ℕ). k ∷ drop (read + 1) piece) (sym is)
+  cons = part-cons piece read code s.within is
 
-  -- the front ends inside this part
-  pub front-ends : left < code → read + 1 + left ≤ length piece → output (take (read + 1 + left) piece) ≡ take n (output piece)
-  front-ends few within =
-      let d = length-drop (read + 1) piece in
-      let sum : read + 1 + left ≡ read + suc left = omega arith in
-      ap (λ (k : ℕ). output (take k piece)) sum ∙ s.suffices (suc left) (omega arith) (omega arith) (ap (λ (xs : List ℕ). output (take (suc left) xs)) cons ∙ front-inside code (drop (read + 1) piece) left few (omega (arith, s.within)) ∙ ap (λ (xs : List ℕ). take left (output xs)) (sym cons))
+  inside : left < code → read + 1 + left ≤ length piece → length (output (take (left + 1) (drop read piece))) ≡ left
+  inside few fits = grind (arith, cons, output-last, length-take-le, length-drop)
 
-  -- what is left fits as a whole
-  pub front-whole : length (output (drop read piece)) ≤ left → output (take (length piece) piece) ≡ take n (output piece)
-  front-whole fits = grind (arith, length-drop, take_all)
+  -- the front ends in this part, or the piece does
+  module _ (end adds : ℕ) (end-is : end ≡ min (read + 1 + left) (length piece)) (adds-is : adds ≡ min code 254) (byte : code < 256)
+      (stops : (length piece - read ≤ code) ⊎ (code < length piece - read) × (left < adds)) where
+    left-out : read + 1 + left < length piece → left < length (output (drop read piece))
+    left-out less = grind (arith, cases_lt, joint-length, part-length piece read code s.within is pos, length-output-last)
+
+    nothing-left : length piece ≤ read + 1 + left → length (output (drop read piece)) ≤ left
+    nothing-left past = grind (arith, length-output-last)
+
+    length-found : read + 1 + left ≤ length piece → length (output (take end piece)) ≡ n
+    length-found part =
+        let i = inside (elim stops [ inl e ↦ omega (arith, s.within) | inr few ↦ omega arith ]) part in
+        let e = s.cut (left + 1) (omega arith) (omega arith) in
+        ap (λ (k : ℕ). length (output (take k piece))) {x = end} {y = read + (left + 1)} (omega arith) ∙ omega arith
+
+    pub front-found : output (take end piece) ≡ take n (output piece)
+    front-found = elim (cases_lt (length piece) (read + 1 + left)) [
+      | inl all ↦ ap output (take_all end piece (omega arith)) ∙ sym (take_all n (output piece) (omega (arith, counted, nothing-left)))
+      | inr part ↦ output-front piece end (omega arith) ∙ ap (λ (k : ℕ). take k (output piece)) (length-found part)
+    ]
+
+    pub front-too_long : (end < length piece) ↔ (n < length (output piece))
+    front-too_long = (λ less. omega (arith, counted, left-out (omega arith)), λ long. grind (arith, cases_lt, counted, nothing-left))
 
   -- or another part follows
-  module _ (pos : 0 < code) (more : code < length piece - read) where
-    abbrev part : List ℕ
-    part = take (code - 1) (drop (read + 1) piece) ++ joint_of code
-
-    next : drop (code - 1) (drop (read + 1) piece) ≡ drop (read + code) piece
-    next = drop-drop (code - 1) (read + 1) piece ∙ ap (λ (k : ℕ). drop k piece) (omega arith)
-
-    long : length part ≡ code - 1 + length (joint_of code)
-    long = grind (arith, length-drop, length-append, joint_of, length-take-le)
-
-    whole : output (drop read piece) ≡ part ++ output (drop (read + code) piece)
-    whole = grind (arith, length-drop, cons, output-more, next)
-
-    -- where the part alone is too long
-    pub front-too_long : left < code - 1 + length (joint_of code) → n < length (output piece)
-    front-too_long few = grind (arith, whole, length-append, long)
-
-    pub front-more-left : (left' : ℕ) → left' + (code - 1 + length (joint_of code)) ≡ left → FrontSought piece n (read + code) left'
-    front-more-left left' sum =
-        let l = long in
-        let d = length-drop (read + 1) piece in
-        let o = ap length whole ∙ length-append part (output (drop (read + code) piece)) in
-        record {
-          within = omega arith;
-          few = omega (arith, s.few);
-          counted = omega arith;
-          suffices = λ k some within is'. (
-              let dn = length-drop (read + code) piece in
-              let dl = ap length next in
-              let count : read + code + k ≡ read + (code + k) = omega arith in
-              let inner : code + k ≡ suc (code - 1 + k) = omega arith in
-              let front : output (take (code + k) (drop read piece)) ≡ take left (output (drop read piece)) =
-              ap (λ (j : ℕ). output (take j (drop read piece))) inner ∙ ap (λ (xs : List ℕ). output (take (suc (code - 1 + k)) xs)) cons
-              ∙ front-more code (drop (read + 1) piece) k (omega arith) some (omega arith)
-              ∙ ap (λ (xs : List ℕ). part ++ output (take k xs)) next ∙ ap (λ (xs : List ℕ). part ++ xs) is'
-              ∙ sym (take-past part (output (drop (read + code) piece)) (code - 1 + length (joint_of code)) left' left long (omega arith))
-              ∙ ap (take left) (sym whole) in
-              ap (λ (j : ℕ). output (take j piece)) count ∙ s.suffices (code + k) (omega arith) (omega arith) front
-              );
-        }
+  pub front-next : code < length piece - read → (next : ℕ) → next + (code - 1 + length (joint_of code)) ≡ left → FrontSought piece n (read + code) next
+  front-next more next sum = record {
+    within = omega arith;
+    few = omega (arith, s.few);
+    cut = λ k some fits. (
+        let q : List ℕ = take (code + k) (drop read piece) in
+        let long = length-take-le (code + k) (drop read piece) (omega (arith, length-drop read piece)) in
+        let first : code ≡ get_or q 0 0 = is ∙ sym (get_or-take (code + k) (drop read piece) 0 0 (omega arith) ∙ simp add-zero at (get_or-drop read piece 0 0)) in
+        let behind : drop (0 + code) q ≡ take k (drop (read + code) piece) = simp zero-add (drop-take code k (drop read piece) ∙ ap (take k) (drop-drop code read piece)) in
+        let front = part-length q 0 code (omega arith) first pos (omega arith) in
+        let before = s.cut (code + k) (omega arith) (omega arith) in
+        ap (λ (j : ℕ). length (output (take j piece)) + next) {x = read + code + k} {y = read + (code + k)} (omega arith) ∙ omega (arith, ap (λ (x : List ℕ). length (output x)) behind)
+        );
+  }

@@ -1,20 +1,22 @@
 -- The front of a source, decoded while the zero that ends it is sought.
-use Rattle.std.proofs.Common.{◌≡◌, ◌≢◌, ℕ, zero, suc, ◌+◌, ◌-◌, ◌<◌, ◌≤◌, List, [], ◌∷◌, ◌++◌, length, drop, take, get_or, replicate, refl, sym, ap, ◌∙◌, subst, inl, inr, arith, append-nil, append_assoc, length-take-le, length-drop, take-append-drop}
-use Rattle.std.proofs.lemmas.List.{drop-drop, drop_all, drop_more, take-take, take-append-le, take_rest, take_all, get_or-drop}
-use Rattle.std.proofs.lemmas.List.Elements.{All-head, All-tail, All-get_or, All-nil, All-cons, All-drop, All-take, All-same, All-append}
+use Rattle.std.proofs.Common.{◌≡◌, ◌≢◌, ℕ, zero, suc, ◌+◌, ◌-◌, ◌<◌, ◌≤◌, List, [], ◌∷◌, ◌++◌, length, drop, take, get_or, replicate, refl, sym, ap, ◌∙◌, subst, inl, inr, arith, append_assoc, length-take-le, length-drop, take-append-drop, take_at}
+use Rattle.std.proofs.lemmas.List.{drop-drop, drop_all, take-take, take-append-le, take_rest, take_all, drop-take, get_or-take}
+use Rattle.std.proofs.lemmas.List.Elements.{All-head, All-tail, All-drop, All-replicate}
 use Rattle.std.proofs.lemmas.Bool.{cases_lt}
-use Rattle.std.proofs.lemmas.Slice.{drop-append-drop}
 use Rattle.std.proofs.Math.ListN.{set}
+use Rattle.std.proofs.Math.Nat.{zero-add}
 use borrow.Rule.Slice.PartMut.{put_mid}
 use Rattle.cobs.specs.Overwritten.{overwritten}
 use Rattle.cobs.specs.Grammar.{HasNoZero}
 use Rattle.cobs.specs.Internal.Decoded.{Decoded}
 use Rattle.cobs.specs.Piece.{output, last_part}
+use Rattle.cobs.specs.Sentinel.{xor_each}
 use Rattle.cobs.specs.Stream.{head}
+use Rattle.cobs.proofs.format.SentinelLemmas.{xor_each-zero}
 use Rattle.cobs.proofs.decoding.OutcomeLemmas.{head-zero, head-cons, head_nonzero, head_alone, length-head}
 use Rattle.cobs.proofs.decoding.HeadLemmas.{front_is_head}
-use Rattle.cobs.proofs.decoding.PieceCuts.{output-last}
-use Rattle.cobs.proofs.decoding.WindowSteps.{take_parts, started, room-full, room-zero, zero-step, full-decoded, take-past, drop-past}
+use Rattle.cobs.proofs.decoding.PieceCuts.{output-long, output-ones, last_part-ones, part-length, length-output-last}
+use Rattle.cobs.proofs.decoding.WindowSteps.{code-pos, started, room-zero, zero-step, full-decoded, take-past, drop-past, put_mid-end, stayed, CopiedTo, code-decoded, code-copied}
 
 -- THE HEAD OF A SOURCE
 
@@ -25,16 +27,14 @@ head-prefix (zero ∷ t) = ap (λ (h : List ℕ). take (length h) (0 ∷ t)) (he
 head-prefix (suc b ∷ t) = grind (arith, head-cons, (head-prefix t))
 
 -- the first bytes that aren't zeros belong to it
-pub head-long : (n : ℕ) (t : List ℕ) → n ≤ length t → HasNoZero (take n t) → n ≤ length (head t)
+head-long : (n : ℕ) (t : List ℕ) → n ≤ length t → HasNoZero (take n t) → n ≤ length (head t)
 head-long zero t within nonzero = omega arith
 head-long (suc n) [] within nonzero = absurd (omega arith)
 head-long (suc n) (b ∷ t) within nonzero =
-    let is = ap length (head-cons b t (All-head (λ x. x ≢ 0) b (take n t) nonzero)) in
-    let more = head-long n t (omega arith) (All-tail (λ x. x ≢ 0) b (take n t) nonzero) in
-    omega arith
+    omega (arith, ap length (head-cons b t (All-head (λ x. x ≢ 0) b (take n t) nonzero)), head-long n t (omega arith) (All-tail (λ x. x ≢ 0) b (take n t) nonzero))
 
 -- those behind its first byte too
-pub head-behind : (k : ℕ) (t : List ℕ) → 0 < length (head t) → k + 1 ≤ length t → HasNoZero (take k (drop 1 t)) → k + 1 ≤ length (head t)
+head-behind : (k : ℕ) (t : List ℕ) → 0 < length (head t) → k + 1 ≤ length t → HasNoZero (take k (drop 1 t)) → k + 1 ≤ length (head t)
 head-behind k t h e p = grind (arith, head-zero, head-cons, head-long)
 
 -- and one byte more
@@ -42,57 +42,34 @@ pub head-one_more : (n : ℕ) (t : List ℕ) → n ≤ length (head t) → n < l
 head-one_more n [] le within other = absurd (omega arith)
 head-one_more zero (b ∷ t) le within other = let is = ap length (head-cons b t other) in omega arith
 head-one_more (suc n) (zero ∷ t) le within other = absurd (let z = ap length (head-zero t) in omega arith)
-head-one_more (suc n) (suc b ∷ t) le within other =
-    let is = ap length (head-cons (suc b) t (λ e. omega arith)) in
-    let more = head-one_more n t (omega arith) (omega arith) other in
-    omega arith
+head-one_more (suc n) (suc b ∷ t) le within other = grind (arith, head-cons, head-one_more n t)
 
 pub head-get : (i : ℕ) (t : List ℕ) → i < length (head t) → get_or (head t) i 0 ≡ get_or t i 0
-head-get i [] lt = absurd (let p = length-head [] in omega arith)
-head-get i (zero ∷ t) lt = absurd (let z = ap length (head-zero t) in omega arith)
-head-get zero (suc b ∷ t) lt = ap (λ (h : List ℕ). get_or h 0 0) (head-cons (suc b) t (λ e. omega arith))
-head-get (suc i) (suc b ∷ t) lt =
-    let is = head-cons (suc b) t (λ e. omega arith) in
-    let l = ap length is in
-    ap (λ (h : List ℕ). get_or h (suc i) 0) is ∙ head-get i t (omega arith)
+head-get i t lt = ap (λ (h : List ℕ). get_or h i 0) (sym (head-prefix t)) ∙ get_or-take (length (head t)) t i 0 lt
+
+head-code : (i : ℕ) (t : List ℕ) → i < length (head t) → 0 < get_or t i 0
+head-code i t lt = omega (arith, head-get i t lt, code-pos (head t) i (head_nonzero t) lt)
 
 pub head-drop : (n : ℕ) (t : List ℕ) → n ≤ length (head t) → head (drop n t) ≡ drop n (head t)
 head-drop zero t le = refl
 head-drop (suc n) [] le = absurd (let p = length-head [] in omega arith)
 head-drop (suc n) (zero ∷ t) le = absurd (let z = ap length (head-zero t) in omega arith)
-head-drop (suc n) (suc b ∷ t) le =
-    let is = head-cons (suc b) t (λ e. omega arith) in
-    let l = ap length is in
-    head-drop n t (omega arith) ∙ sym (ap (drop (suc n)) is)
+head-drop (suc n) (suc b ∷ t) le = grind (arith, head-cons, head-drop n t)
 
 -- a stretch of it
-pub head-part : (k n : ℕ) (t : List ℕ) → k + n ≤ length (head t) → take k (drop n (head t)) ≡ take k (drop n t)
+head-part : (k n : ℕ) (t : List ℕ) → k + n ≤ length (head t) → take k (drop n (head t)) ≡ take k (drop n t)
 head-part k n t within =
-    let d = length-drop n (head t) in
-    let same : take k (head (drop n t)) ≡ take k (drop n t) = front k (drop n t) (let e = ap length (head-drop n t (omega arith)) in omega arith) in
-    ap (take k) (sym (head-drop n t (omega arith))) ∙ same
-  where
-    front : (k : ℕ) (u : List ℕ) → k ≤ length (head u) → take k (head u) ≡ take k u
-    front k u le = ap (take k) (sym (head-prefix u)) ∙ take-take k (length (head u)) u le
+    let rest : ℕ = length (head t) - n in
+    ap (λ (h : List ℕ). take k (drop n h)) (sym (head-prefix t) ∙ ap (λ (m : ℕ). take m t) {x = length (head t)} {y = n + rest} (omega arith))
+    ∙ ap (take k) (drop-take n rest t) ∙ take-take k rest (drop n t) (omega arith)
 
 -- it ends with the source or at a zero, which is sought behind some bytes of it
-module _ (t rest : List ℕ) (read n : ℕ) (rest-is : rest ≡ drop read t) (begun : read < length (head t)) (within : n ≤ length rest) (nonzero : HasNoZero (take n rest)) (stop : n < length rest → get_or rest n 0 ≡ 0) where
-  long-rest : read + length rest ≡ length t
-  long-rest = let l = length-head t in let d = length-drop read t in let e = ap length rest-is in omega arith
-
-  pub piece-nonzero : HasNoZero (take (read + n) t)
-  piece-nonzero =
-      let l = long-rest in
-      let split : take (read + n) t ≡ take read t ++ take n (drop read t) = take_parts t read n (omega arith) in
-      let low : HasNoZero (take read t) = All-same (λ b. b ≢ 0) (take read t) (take read (head t)) (sym (head-part read 0 t (omega arith))) (All-take (λ b. b ≢ 0) read (head t) (head_nonzero t)) in
-      let high : HasNoZero (take n (drop read t)) = All-same (λ b. b ≢ 0) (take n (drop read t)) (take n rest) (ap (take n) (sym rest-is)) nonzero in
-      All-same (λ b. b ≢ 0) (take (read + n) t) (take read t ++ take n (drop read t)) split (All-append (λ b. b ≢ 0) (take read t) (take n (drop read t)) low high)
-
-  pub piece-is : take (read + n) t ≡ head t
-  piece-is = grind (arith, front_is_head, piece-nonzero, long-rest, get_or-drop)
-
-  pub piece-end : read + n ≡ length (head t)
-  piece-end = grind (arith, length-take-le, piece-is, long-rest)
+pub piece-end : (t rest : List ℕ) (read n : ℕ) → rest ≡ drop read t → read < length (head t) → n ≤ length rest → HasNoZero (take n rest) → (n < length rest → get_or rest n 0 ≡ 0)
+    → read + n ≡ length (head t)
+piece-end t rest read n rest-is begun within nonzero stop =
+    let here : take n rest ≡ drop read (head t) = front_is_head rest n within nonzero stop ∙ ap head rest-is ∙ head-drop read t (omega arith) in
+    let l = ap length here in
+    omega (arith, length-take-le n rest within, length-drop read (head t))
 
 -- what is left of it
 pub head-rest : (t : List ℕ) (read end : ℕ) → end ≡ length (head t) → read ≤ end → take (end - read) (drop read t) ≡ drop read (head t)
@@ -112,7 +89,7 @@ module _ (piece old dest : List ℕ) (read written : ℕ) (p : Decoded piece old
   front-long = length-take-le written dest within
 
   joined-is : put_mid written k dest new ≡ take written dest ++ new
-  joined-is = grind (arith, drop-drop, drop_all, append-nil)
+  joined-is = put_mid-end written k dest new k-is
 
   left-is : written + length (output part) ≡ length (output piece)
   left-is = ap (λ (x : List ℕ). written + length (output x)) part-is ∙ p.left
@@ -132,11 +109,8 @@ module _ (piece old dest : List ℕ) (read written : ℕ) (p : Decoded piece old
             ∙ append_assoc (take written dest) (take m new) (output (drop (read + n) piece))
             ∙ ap (λ (x : List ℕ). take written dest ++ (take m new ++ output x)) (sym next)
             ∙ ap (λ (x : List ℕ). take written dest ++ x) (q.front ∙ ap output part-is) ∙ p.front;
-        rest = ap (drop (length (output piece))) joined-is
-            ∙ drop-past (take written dest) new written (length (output part)) (length (output piece)) front-long (sym left-is) ∙ q.rest
-            ∙ ap (drop (length (output part))) back-is
-            ∙ drop-drop (length (output part)) written dest ∙ ap (λ (i : ℕ). drop i dest) left-is ∙ p.rest;
-        last = ap last_part (sym next) ∙ q.last ∙ ap last_part part-is ∙ p.last;
+        rest = grind (arith, joined-is, drop-past, front-long, drop-drop);
+        last = grind (arith);
       }
 
   -- and all that is left of the piece
@@ -162,34 +136,32 @@ module _ (piece old dest : List ℕ) (read written : ℕ) (p : Decoded piece old
         let front : take (length old) (output piece) ≡ take written dest ++ take (length dest - written) (output part) =
         ap (take (length old)) (sym p.front ∙ ap (λ (x : List ℕ). take written dest ++ output x) (sym part-is))
         ∙ take-past (take written dest) (output part) written (length dest - written) (length old) front-long (omega arith) in
-        let rest : drop (length (output part)) back ≡ drop (length (output piece)) old =
-        ap (drop (length (output part))) back-is ∙ drop-drop (length (output part)) written dest ∙ ap (λ (n : ℕ). drop n dest) l ∙ p.rest in
         grind (arith, left-is, take-past, front-long, drop-drop, joined-is, take-append-drop, kept, append_assoc)
 
 -- BYTES THAT ARE COPIED BEFORE THEIR BLOCK IS KNOWN TO BE WHOLE
 
 -- as many as the first part has belong to the output
-pub output-some : (piece : List ℕ) (code done : ℕ) → code ≡ get_or piece 0 0 → done < code → done + 1 ≤ length piece → done ≤ length (output piece)
+output-some : (piece : List ℕ) (code done : ℕ) → code ≡ get_or piece 0 0 → done < code → done + 1 ≤ length piece → done ≤ length (output piece)
 output-some piece code done is few within = elim (cases_lt code (length piece)) [
-  | inl more ↦ (let r = room-full piece piece piece 0 0 code (started piece piece (omega arith)) is (omega arith) (omega arith) in omega arith)
-  | inr last ↦ (
-      let d = length-drop 1 piece in
-      let cons : piece ≡ code ∷ drop 1 piece = drop_more piece 0 0 (omega arith) ∙ ap (λ (k : ℕ). k ∷ drop 1 piece) (sym is) in
-      let o = ap length (ap output cons ∙ output-last code (drop 1 piece) (omega arith)) in
-      omega arith
-      )
+  | inl more ↦ omega (arith, part-length piece 0 code (omega arith) is (omega arith) (omega arith))
+  | inr last ↦ omega (arith, length-output-last piece 0 (omega arith) (omega arith))
 ]
 
-pub stayed : (piece old new bytes : List ℕ) (done : ℕ) → 0 < length piece → new ≡ bytes ++ drop done old → length bytes ≡ done → done ≤ length (output piece) → Decoded piece old new 0 0
-stayed piece old new bytes done some is long few = grind (arith, drop-append-drop)
+-- bytes that are XORed with 0 as they are copied
+module _ (part bytes old new : List ℕ) (n : ℕ) (is : part ≡ bytes) (long : length bytes ≡ n) where
+  pub plain-nonzero : HasNoZero (xor_each 0 part) → HasNoZero bytes
+  plain-nonzero nonzero = subst HasNoZero (xor_each-zero part ∙ is) nonzero
+
+  pub plain-copied : new ≡ xor_each 0 part ++ drop (length part) old → new ≡ bytes ++ drop n old
+  plain-copied copied = grind (arith, xor_each-zero)
 
 -- the first block of a source
 module _ (source old : List ℕ) (code : ℕ) (some : 0 < length (head source)) (is : code ≡ get_or source 0 0) where
   at-head : code ≡ get_or (head source) 0 0
   at-head = is ∙ sym (head-get 0 source some)
 
-  pub code-some : 0 < code
-  code-some = let other = All-get_or (λ byte. byte ≢ 0) (head source) 0 0 some (head_nonzero source) in omega (arith, other, at-head)
+  code-some : 0 < code
+  code-some = omega (arith, head-code 0 source some)
 
   -- some of its bytes are copied
   pub block-stayed : (new : List ℕ) (done : ℕ) → done < code → done + 1 ≤ length source → HasNoZero (take done (drop 1 source)) → new ≡ take done (drop 1 source) ++ drop done old → Decoded (head source) old new 0 0
@@ -200,53 +172,94 @@ module _ (source old : List ℕ) (code : ℕ) (some : 0 < length (head source)) 
       (output-some (head source) code done at-head few long)
 
   -- all of them, and the code behind it is no zero
-  module _ (more : code + 1 ≤ length (head source)) where
-    bytes-are : take (code - 1) (drop 1 (head source)) ≡ take (code - 1) (drop 1 source)
-    bytes-are = head-part (code - 1) 1 source (omega arith)
-
-    -- a block that isn't full: k of its bytes are copied, or those and the next code, and a zero is written
-    pub long-copied : (new : List ℕ) (k : ℕ) → code ≢ 255 → code - 1 ≤ k → k ≤ code → code ≤ length old → new ≡ take k (drop 1 source) ++ drop k old → length new ≡ length old
+  module _ (new : List ℕ) (same : length new ≡ length old) where
+    -- a block that isn't full: a zero is written over a copy of the next code
+    pub long-copied : code ≢ 255 → code < length source → code ≤ length old → HasNoZero (take code (drop 1 source)) → new ≡ take code (drop 1 source) ++ drop code old
         → Decoded (head source) old (set new (code - 1) 0) code code
-    long-copied new k other least most room new-is same =
+    long-copied other within room nonzero new-is =
         let pos = code-some in
-        let s : Decoded (head source) old old 0 0 = started (head source) old some in
-        let r = room-zero (head source) old old 0 0 code s at-head pos (omega arith) other in
-        let within = length-head source in
-        let d = length-drop 1 source in
-        let long : length (take k (drop 1 source)) ≡ k = length-take-le k (drop 1 source) (omega arith) in
-        let q : Decoded (head source) old new 0 0 = stayed (head source) old new (take k (drop 1 source)) k some new-is long (omega arith) in
-        let here : take (code - 1) (drop 0 new) ≡ take (code - 1) (drop (0 + 1) (head source)) =
-        ap (take (code - 1)) new-is ∙ take-append-le (code - 1) (take k (drop 1 source)) (drop k old) (omega arith) ∙ take-take (code - 1) k (drop 1 source) least ∙ sym bytes-are in
-        let z : 0 + code ≡ code = omega arith in
-        let e : 0 + (code - 1) ≡ code - 1 = omega arith in
-        subst (λ (n : ℕ). Decoded (head source) old (set new (code - 1) 0) n n) z
-        (subst (λ (n : ℕ). Decoded (head source) old (set new n 0) (0 + code) (0 + code)) e
-        (zero-step (head source) old new 0 0 code q at-head pos (omega arith) other (omega arith) here))
+        let more : code + 1 ≤ length (head source) = head-behind code source some (omega arith) nonzero in
+        let r = room-zero (head source) old old 0 0 code (started (head source) old some) at-head pos (omega arith) other in
+        let long : length (take code (drop 1 source)) ≡ code = length-take-le code (drop 1 source) (let d = length-drop 1 source in omega arith) in
+        let q : Decoded (head source) old new 0 0 = stayed (head source) old new (take code (drop 1 source)) code some new-is long (omega arith) in
+        let front : take (code - 1) new ≡ take (code - 1) (drop 1 (head source)) =
+        ap (take (code - 1)) new-is ∙ take-append-le (code - 1) (take code (drop 1 source)) (drop code old) (omega arith) ∙ take-take (code - 1) code (drop 1 source) (omega arith)
+        ∙ sym (head-part (code - 1) 1 source (omega arith)) in
+        simp zero-add at (zero-step (head source) old new 0 0 code q at-head pos (omega arith) new code other (omega arith) (omega arith) (simp zero-add front) refl)
 
     -- a full one
-    pub full-copied : (new : List ℕ) → code ≡ 255 → 254 ≤ length old → new ≡ take 254 (drop 1 source) ++ drop 254 old → Decoded (head source) old new 255 254
-    full-copied new full room new-is =
-        let s : Decoded (head source) old old 0 0 = started (head source) old some in
-        let n : code - 1 ≡ 254 = omega arith in
-        let part-is : take 254 (drop 1 source) ≡ take (code - 1) (drop (0 + 1) (head source)) = ap (λ (k : ℕ). take k (drop 1 source)) (sym n) ∙ sym bytes-are in
-        let z : 0 + code ≡ 255 = omega arith in
-        let e : 0 + (code - 1) ≡ 254 = omega arith in
-        subst (λ (r : ℕ). Decoded (head source) old new r 254) z
-        (subst (λ (w : ℕ). Decoded (head source) old new (0 + code) w) e
-        (subst (λ (x : List ℕ). Decoded (head source) old x (0 + code) (0 + (code - 1))) (sym new-is)
-        (full-decoded (head source) old old 0 0 code s at-head code-some (omega arith) 254 (take 254 (drop 1 source)) (omega arith) (sym n) part-is full)))
+    pub full-copied : code ≡ 255 → 256 ≤ length source → get_or source 255 0 ≢ 0 → 254 ≤ length old → HasNoZero (take 254 (drop 1 source)) → new ≡ take 254 (drop 1 source) ++ drop 254 old
+        → Decoded (head source) old new 255 254
+    full-copied full within next room nonzero new-is =
+        let long : 255 ≤ length (head source) = head-behind 254 source some (omega arith) nonzero in
+        let more = head-one_more 255 source long within next in
+        subst (λ (x : List ℕ). Decoded (head source) old x 255 254) (sym new-is)
+        (full-decoded (head source) old old 0 0 255 (started (head source) old some) (sym full ∙ at-head) (omega arith) more 254 254 (take 254 (drop 1 source)) room (omega arith) (omega arith)
+        (sym (head-part 254 1 source (omega arith))) (omega arith))
 
 -- A WINDOW
 
-ones-nonzero : (n : ℕ) → HasNoZero (replicate n 1)
-ones-nonzero zero = All-nil (λ x. x ≢ 0)
-ones-nonzero (suc n) = All-cons (λ x. x ≢ 0) 1 (replicate n 1) (λ e. omega arith) (ones-nonzero n)
-
 -- 33 codes 1
-pub ones-front : (t : List ℕ) → 33 ≤ length t → get_or t 0 0 ≡ 1 → take 32 (drop 1 t) ≡ replicate 32 1 → (33 ≤ length (head t)) × (take 32 (head t) ≡ replicate 32 1)
+ones-front : (t : List ℕ) → 33 ≤ length t → get_or t 0 0 ≡ 1 → take 32 (drop 1 t) ≡ replicate 32 1 → (33 ≤ length (head t)) × (take 32 (head t) ≡ replicate 32 1)
 ones-front [] long first ones = absurd (omega arith)
 ones-front (b ∷ t) long first ones =
     let some : 0 < length (head (b ∷ t)) = (let is = ap length (head-cons b t (λ e. omega arith)) in omega arith) in
-    let more : 33 ≤ length (head (b ∷ t)) = head-behind 32 (b ∷ t) some (omega arith) (subst HasNoZero (sym ones) (ones-nonzero 32)) in
+    let more : 33 ≤ length (head (b ∷ t)) = head-behind 32 (b ∷ t) some (omega arith) (subst HasNoZero (sym ones) (All-replicate (λ x. x ≢ 0) 32 1 (λ e. omega arith))) in
     let front : take 32 (b ∷ t) ≡ replicate 32 1 = ap (λ (x : ℕ). x ∷ take 31 t) first ∙ ap (λ (xs : List ℕ). 1 ∷ xs) (sym (take-take 31 32 t (omega arith)) ∙ ap (take 31) ones) in
     (more, head-part 32 0 (b ∷ t) (omega arith) ∙ front)
+
+pub ones-decoded : (t dest after : List ℕ) → 33 ≤ length t → get_or t 0 0 ≡ 1 → take 32 (drop 1 t) ≡ replicate 32 1 → after ≡ replicate 32 0 ++ drop 32 dest → Decoded (head t) dest after 32 32
+ones-decoded t dest after long first ones is =
+    let front = ones-front t long first ones in
+    let next : List ℕ = drop 32 (head t) in
+    let whole : head t ≡ replicate 32 1 ++ next = sym (take-append-drop 32 (head t)) ∙ ap (λ (x : List ℕ). x ++ next) front.1 in
+    let d = length-drop 32 (head t) in
+    let o : output (head t) ≡ replicate 32 0 ++ output next = ap output whole ∙ output-ones 32 next (omega arith) in
+    record {
+      within = omega arith;
+      left = sym (ap length o ∙ omega arith);
+      front = ap (λ (x : List ℕ). take 32 x ++ output next) is ∙ ap (λ (x : List ℕ). x ++ output next) (take_at (replicate 32 0) (drop 32 dest) 32 refl) ∙ sym o;
+      rest = (stayed (head t) dest after (replicate 32 0) 32 (omega arith) is refl (output-long (head t) front.0)).rest;
+      last = sym (ap last_part whole ∙ last_part-ones 32 next (omega arith));
+    }
+
+-- the codes of a window are read up to this one, which is within it, and behind them stand the bytes that follow the codes
+pub record WindowRead (source old dest : List ℕ) (read code : ℕ) : Type 0 where
+  pub decoded : Decoded (head source) old dest read read
+  pub copied : CopiedTo (head source) dest read 33 read
+  pub at-read : code ≡ get_or source read 0
+  pub some : 0 < code
+  pub inside : read + code < 33
+
+pub window-begun : (source dest after : List ℕ) → 0 < length (head source) → 33 ≤ length source → HasNoZero (take 32 (drop 1 source)) → get_or source 0 0 < 33
+    → after ≡ take 32 (drop 1 source) ++ drop 32 dest → WindowRead source dest after 0 (get_or source 0 0)
+window-begun source dest after begun long nonzero first is =
+    let all : 33 ≤ length (head source) = head-behind 32 source begun long nonzero in
+    let window : List ℕ = take 32 (drop 1 source) in
+    let w : length window ≡ 32 = length-take-le 32 (drop 1 source) (omega (arith, length-drop 1 source)) in
+    record {
+      decoded = stayed (head source) dest after window 32 begun is w (output-long (head source) all);
+      copied = record { within = all; bytes = ap (take 32) is ∙ take_at window (drop 32 dest) 32 w ∙ sym (head-part 32 1 source all) };
+      at-read = refl;
+      some = head-code 0 source begun;
+      inside = omega arith;
+    }
+
+module _ (source old dest : List ℕ) (read code : ℕ) (w : WindowRead source old dest read code) where
+  at-code : code ≡ get_or (head source) read 0
+  at-code = w.at-read ∙ sym (head-get read source w.decoded.within)
+
+  more : read + code < length (head source)
+  more = omega (arith, w.copied.within, w.inside)
+
+  pub window-next : 32 ≤ length dest → Decoded (head source) old (set dest (read + (code - 1)) 0) (read + code) (read + code)
+  window-next room = code-decoded (head source) old dest read read code w.decoded at-code w.some more 33 w.copied w.inside (omega (arith, w.inside)) (omega (arith, w.inside))
+
+  pub window-more : 32 ≤ length dest → (next : ℕ) → next ≡ get_or source (read + code) 0 → read + code + next < 33 → WindowRead source old (set dest (read + (code - 1)) 0) (read + code) next
+  window-more room next is inside = record {
+    decoded = window-next room;
+    copied = code-copied (head source) old dest read read code w.decoded at-code w.some more 33 w.copied w.inside (omega (arith, w.inside));
+    at-read = is;
+    some = omega (arith, head-code (read + code) source more, is);
+    inside = inside;
+  }

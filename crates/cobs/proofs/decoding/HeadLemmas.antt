@@ -1,7 +1,7 @@
 -- What stands before the first zero of a list, and the first piece behind its leading zeros.
-use Rattle.std.proofs.Common.{◌≡◌, ◌≢◌, ℕ, zero, suc, ◌+◌, ◌<◌, ◌≤◌, Bool, cond, List, [], ◌∷◌, length, take, drop, get_or, Some, None, refl, sym, ap, ◌∙◌, arith, length-drop, length-take-le, get_or-take}
+use Rattle.std.proofs.Common.{◌≡◌, ◌≢◌, ℕ, zero, suc, ◌+◌, ◌<◌, ◌≤◌, Bool, cond, List, [], ◌∷◌, length, take, drop, get_or, Some, None, refl, sym, ap, ◌∙◌, arith, length-drop}
 use Rattle.std.proofs.lemmas.Bool.{ne_eqb}
-use Rattle.std.proofs.lemmas.List.Elements.{All-head, All-tail, All-get_or}
+use Rattle.std.proofs.lemmas.List.Elements.{All-head, All-tail}
 use Rattle.cobs.specs.Grammar.{HasNoZero}
 use Rattle.cobs.specs.Stream.{first_piece, head}
 use Rattle.cobs.specs.Decode.{leading_zeros}
@@ -39,23 +39,21 @@ unfolding first_piece
 first_piece_empty [] e = refl
 first_piece_empty (byte ∷ t) e = absurd (omega arith)
 
--- a source behind its leading zeros, and where the first zero stands there
-module _ (source rest : List ℕ) (len : ℕ) (rest-is : rest ≡ drop (leading_zeros source) source) (within : len ≤ length rest) (nonzero : HasNoZero (take len rest))
-    (stop : len < length rest → get_or rest len 0 ≡ 0) where
-  same : first_piece source ≡ first_piece rest
-  same = first_piece_behind source ∙ ap first_piece (sym rest-is)
+first_piece_nonzero : (t : List ℕ) → 0 < length t → get_or t 0 0 ≢ 0 → first_piece t ≡ Some (head t)
+first_piece_nonzero [] some other = absurd (omega arith)
+first_piece_nonzero (byte ∷ t) some other = first_piece_head byte t other
 
-  pub first_piece_none : len ≡ 0 → first_piece source ≡ None
-  unfolding first_piece
-  first_piece_none is = same ∙ empty rest refl
-    where
-      empty : (xs : List ℕ) → rest ≡ xs → first_piece xs ≡ None
-      empty [] e = refl
-      empty (x ∷ xs) e =
-          let l = ap length e in
-          let d = ap length rest-is in
-          let dl = length-drop (leading_zeros source) source in
-          absurd (leading_zeros-stop source (omega arith) (sym (ap (λ (ys : List ℕ). get_or ys 0 0) rest-is) ∙ ap (λ (k : ℕ). get_or rest k 0) (sym is) ∙ stop (omega arith)))
+-- a source behind its leading zeros
+module _ (source : List ℕ) where
+  abbrev rest : List ℕ
+  rest = drop (leading_zeros source) source
 
-  pub first_piece_some : 0 < len → first_piece source ≡ Some (take len rest)
-  first_piece_some some = grind (arith, same, front_is_head, All-get_or, length-take-le, get_or-take, first_piece_head)
+  pub first_piece_found : 0 < length rest → first_piece source ≡ Some (head rest)
+  first_piece_found some = first_piece_behind source ∙ first_piece_nonzero rest some (leading_zeros-stop source (omega (arith, length-drop (leading_zeros source) source)))
+
+  pub first_piece_none : (0 < length rest → get_or rest 0 0 ≡ 0) → first_piece source ≡ None
+  first_piece_none stop = grind (arith, length-drop, leading_zeros-stop, first_piece_behind, first_piece_empty)
+
+  -- as far as its first zero
+  pub first_piece_some : (len : ℕ) → 0 < len → len ≤ length rest → HasNoZero (take len rest) → (len < length rest → get_or rest len 0 ≡ 0) → first_piece source ≡ Some (take len rest)
+  first_piece_some len some within nonzero stop = first_piece_found (omega arith) ∙ ap Some (sym (front_is_head rest len within nonzero stop))

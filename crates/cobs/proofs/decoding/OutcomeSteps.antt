@@ -1,11 +1,11 @@
 -- How `decode` answers: an outcome by the counts of a piece, and a source by its first piece.
-use Rattle.std.proofs.Common.{◌≡◌, ◌≢◌, ℕ, ◌<◌, ◌≤◌, Bool, List, [], length, Some, None, Result, Ok, Err, if◌then◌else◌, sym, ap, arith}
+use Rattle.std.proofs.Common.{◌≡◌, ◌≢◌, ℕ, ◌<◌, ◌≤◌, Bool, List, [], length, None, Result, Ok, Err, if◌then◌else◌, sym, ap, arith}
 use Rattle.std.proofs.lemmas.Bool.{le-leb, lt-leb, ne_eqb, eq-eqb}
 use Rattle.cobs.specs.Piece.{output, last_part, lacks, is_whole}
 use Rattle.cobs.specs.Stream.{Message, Broken, TooLong, outcome_of, first_piece, head}
 use Rattle.cobs.specs.Overwritten.{overwritten}
 use Rattle.cobs.specs.Fields.Report.{report_of}
-use Rattle.cobs.specs.Decode.{sized, len_through_piece, decode_answer, head_answer, in_place_report}
+use Rattle.cobs.specs.Decode.{sized, decode_answer, head_answer, in_place_report}
 use Rattle.cobs.specs.declared.dec.DecodeReport.{DecodeReport}
 use Rattle.cobs.specs.declared.dec.DecodeError.{DecodeError}
 use Rattle.cobs.specs.declared.dec.DecodeError.TheVariants.{InvalidFrame, TargetBufTooSmall}
@@ -27,17 +27,9 @@ module _ (p : List ℕ) (n : ℕ) where
   unfolding outcome_of
   sized_broken some fits broken k is = grind (arith, is_whole-of, ne_eqb, le-leb)
 
--- the answer to a source that isn't empty, by its first piece
+-- the answer to a source that isn't empty and has no piece
 pub decode_answer-none : (source : List ℕ) (n : ℕ) → 0 < length source → first_piece source ≡ None → Err (InvalidFrame 0) ≡ decode_answer source n
 decode_answer-none source n h e = grind arith
-
--- and by what came of that piece
-module _ (source p : List ℕ) (n : ℕ) (some : 0 < length source) (is : first_piece source ≡ Some p) (result : Result ℕ DecodeError) (result-is : result ≡ sized (outcome_of p n)) where
-  pub decode_answer-refused : (error : DecodeError) → result ≡ Err error → Err error ≡ decode_answer source n
-  decode_answer-refused error e = grind arith
-
-  pub decode_answer-decoded : (size parsed : ℕ) → result ≡ Ok size → parsed ≡ len_through_piece source p → (report : DecodeReport) → report ≡ report_of parsed size → Ok report ≡ decode_answer source n
-  decode_answer-decoded size parsed e count report r = grind arith
 
 -- a buffer over which nothing is written
 pub overwritten-none : (buffer : List ℕ) → overwritten buffer [] ≡ buffer

@@ -1,5 +1,5 @@
 -- A piece is its first part and what follows it: what that says of its output and of its last part.
-use Rattle.std.proofs.Common.{◌≡◌, ◌≢◌, ℕ, zero, suc, ◌+◌, ◌-◌, ◌/◌, ◌⊎◌, ◌<◌, ◌≤◌, eqb, List, [], ◌∷◌, ◌++◌, length, take, drop, replicate, if◌then◌else◌, ◌==◌, refl, ap, ◌∙◌, arith, length-append, take_all, length-take-le, length-drop, get_or}
+use Rattle.std.proofs.Common.{◌≡◌, ◌≢◌, ℕ, zero, suc, ◌+◌, ◌-◌, ◌/◌, ◌⊎◌, ◌<◌, ◌≤◌, eqb, List, [], ◌∷◌, ◌++◌, length, take, drop, replicate, if◌then◌else◌, ◌==◌, refl, sym, ap, ◌∙◌, arith, length-append, take_all, length-take-le, length-drop, get_or, inl, inr}
 use Rattle.std.proofs.lemmas.List.{drop-drop, drop_more}
 use Rattle.std.proofs.lemmas.Bool.{cases_lt, cases_eq, ne_eqb, eq-eqb}
 use Rattle.cobs.specs.Grammar.{bytes_of, joint, message_of, last_of}
@@ -43,15 +43,9 @@ pub last_part-more : (code : ℕ) (bytes : List ℕ) → code - 1 < length bytes
 unfolding last_part parts parts_after
 last_part-more code bytes more = grind (arith, length-drop, parts_after-drop, last_of-cons, parts_after-some)
 
-parts_after-none : (n : ℕ) (p : List ℕ) → length p ≤ n → parts_after n p ≡ []
-unfolding parts_after
-parts_after-none n [] h = refl
-parts_after-none zero (x ∷ p) h = absurd (omega arith)
-parts_after-none (suc n) (x ∷ p) h = parts_after-none n p (omega arith)
-
 pub last_part-last : (code : ℕ) (bytes : List ℕ) → length bytes ≤ code - 1 → last_part (code ∷ bytes) ≡ code ∷ bytes
 unfolding last_part parts parts_after
-last_part-last code bytes short = grind (arith, parts_after-none, take_all)
+last_part-last code bytes short = grind (arith, parts_after-past, take_all)
 
 pub is_whole-of : (p : List ℕ) → 0 < length p → is_whole p ≡ eqb (lacks (last_part p)) 0
 unfolding is_whole
@@ -61,34 +55,34 @@ pub last_part-ones : (n : ℕ) (p : List ℕ) → 0 < length p → last_part (re
 last_part-ones zero p some = refl
 last_part-ones (suc n) p some = grind (arith, length-append, last_part-more, last_part-ones n p some)
 
--- an output is at most one byte in 255 shorter than its piece, and one
-long_step : (code : ℕ) (bytes : List ℕ) → code - 1 < length bytes → length (drop (code - 1) bytes) ≤ length (output (drop (code - 1) bytes)) + 1 + length (drop (code - 1) bytes) / 255
-    → length (code ∷ bytes) ≤ length (output (code ∷ bytes)) + 1 + length (code ∷ bytes) / 255
-long_step code bytes more ih = grind (arith, output-more, length-append, joint_of, length-take-le, length-drop, joint-length)
+-- an output is shorter than its piece, by one byte and at most one in 255
+record Shorter (p : List ℕ) : Type 0 where
+  less : length (output p) + 1 ≤ length p
+  long : length p ≤ length (output p) + 1 + length p / 255
 
-long_by : (n : ℕ) (p : List ℕ) → length p ≤ n → length p ≤ length (output p) + 1 + length p / 255
-long_by n [] h = omega arith
-long_by zero (code ∷ bytes) h = absurd (omega arith)
-long_by (suc n) (code ∷ bytes) h = grind (arith, cases_lt, long_step, length-drop, output-last, long_by n)
+shorter_step : (code : ℕ) (bytes : List ℕ) → code - 1 < length bytes → Shorter (drop (code - 1) bytes) → Shorter (code ∷ bytes)
+shorter_step code bytes more rest = record {
+  less = grind (arith, output-more, length-append, joint_of, length-take-le, length-drop, joint-length, rest.less);
+  long = grind (arith, output-more, length-append, joint_of, length-take-le, length-drop, joint-length, rest.long);
+}
 
-le_step : (code : ℕ) (bytes : List ℕ) → code - 1 < length bytes → length (output (drop (code - 1) bytes)) + 1 ≤ length (drop (code - 1) bytes) → length (output (code ∷ bytes)) + 1 ≤ length (code ∷ bytes)
-le_step code bytes more ih = grind (arith, output-more, length-append, joint_of, length-take-le, length-drop, joint-length)
+shorter_by : (n : ℕ) (p : List ℕ) → length p ≤ n → 0 < length p → Shorter p
+shorter_by n [] h some = absurd (omega arith)
+shorter_by zero (code ∷ bytes) h some = absurd (omega arith)
+shorter_by (suc n) (code ∷ bytes) h some = elim (cases_lt (code - 1) (length bytes)) [
+  | inl more ↦ let d = length-drop (code - 1) bytes in shorter_step code bytes more (shorter_by n (drop (code - 1) bytes) (omega arith) (omega arith))
+  | inr last ↦ let o = ap length (output-last code bytes last) in record { less = omega arith; long = omega arith }
+]
 
-le_by : (n : ℕ) (p : List ℕ) → length p ≤ n → 0 < length p → length (output p) + 1 ≤ length p
-le_by n [] h some = absurd (omega arith)
-le_by zero (code ∷ bytes) h some = absurd (omega arith)
-le_by (suc n) (code ∷ bytes) h some = grind (arith, cases_lt, le_step, length-drop, output-last, le_by n)
-
--- an output is shorter than its piece
 pub output-le : (p : List ℕ) → 0 < length p → length (output p) + 1 ≤ length p
-output-le p some = le_by (length p) p (omega arith) some
+output-le p some = (shorter_by (length p) p (omega arith) some).less
 
 -- a short piece has no full part before its last one
 pub output_short : (p : List ℕ) → 0 < length p → length p < 255 → length (output p) + 1 ≡ length p
-output_short p some few = let l = long_by (length p) p (omega arith) in let k = le_by (length p) p (omega arith) some in omega arith
+output_short p some few = let s = shorter_by (length p) p (omega arith) some in omega arith
 
 pub output-long : (p : List ℕ) → 33 ≤ length p → 32 ≤ length (output p)
-output-long p h = grind (arith, long_by)
+output-long p h = let s = shorter_by (length p) p (omega arith) (omega arith) in omega arith
 
 -- parts of a code alone
 pub output-ones : (n : ℕ) (p : List ℕ) → 0 < length p → output (replicate n 1 ++ p) ≡ replicate n 0 ++ output p
@@ -99,7 +93,22 @@ output-ones (suc n) p some = grind (arith, length-append, output-more, (output-o
 pub length-output-last : (piece : List ℕ) (read : ℕ) → read < length piece → length piece - read ≤ get_or piece read 0 → length (output (drop read piece)) + 1 ≡ length piece - read
 length-output-last piece read within last = grind (arith, length-drop, drop_more, output-last)
 
--- and where more parts follow
+-- the part of a piece at a place
+module _ (piece : List ℕ) (read code : ℕ) (within : read < length piece) (is : code ≡ get_or piece read 0) where
+  pub part-cons : drop read piece ≡ code ∷ drop (read + 1) piece
+  part-cons = drop_more piece read 0 within ∙ ap (λ (k : ℕ). k ∷ drop (read + 1) piece) (sym is)
+
+  -- and where more parts follow
+  module _ (some : 0 < code) (more : read + code < length piece) where
+    pub part-next : drop (code - 1) (drop (read + 1) piece) ≡ drop (read + code) piece
+    part-next = drop-drop (code - 1) (read + 1) piece ∙ ap (λ (k : ℕ). drop k piece) (omega arith)
+
+    pub part-output : output (drop read piece) ≡ (take (code - 1) (drop (read + 1) piece) ++ joint_of code) ++ output (drop (read + code) piece)
+    part-output = grind (arith, length-drop, part-cons, output-more, joint_of, part-next)
+
+    pub part-length : length (output (drop read piece)) ≡ code - 1 + length (joint_of code) + length (output (drop (read + code) piece))
+    part-length = grind (arith, part-output, length-append, joint_of, length-drop, length-take-le)
+
 pub length-output-more : (piece : List ℕ) (read : ℕ) → read < length piece → 0 < get_or piece read 0 → get_or piece read 0 < length piece - read
     → length (output (drop read piece)) ≡ get_or piece read 0 - 1 + length (joint_of (get_or piece read 0)) + length (output (drop (read + get_or piece read 0) piece))
-length-output-more piece read within some more = grind (arith, length-drop, drop-drop, joint_of, drop_more, output-more, length-append, length-take-le)
+length-output-more piece read within some more = part-length piece read _ within refl some (omega arith)

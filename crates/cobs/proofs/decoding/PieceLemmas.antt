@@ -1,110 +1,71 @@
 -- One more byte behind a piece.
-use Rattle.std.proofs.Common.{◌≡◌, ℕ, zero, suc, ◌+◌, ◌-◌, ◌<◌, ◌≤◌, true, false, cond, ltb, List, [], ◌∷◌, ◌++◌, length, take, refl, ap, ◌∙◌, arith, append_assoc, inl, inr}
-use Rattle.std.proofs.lemmas.List.{take_all, take-append-le, append-nil, length_push, length-take-le}
+use Rattle.std.proofs.Common.{◌≡◌, ℕ, zero, suc, ◌+◌, ◌-◌, ◌<◌, ◌≤◌, List, [], ◌∷◌, ◌++◌, length, drop, refl, arith, append_assoc, append-nil, inl, inr, length-drop, take_at, drop_at}
+use Rattle.std.proofs.lemmas.List.{take-append-le, drop-append-le, length_push}
 use Rattle.std.proofs.lemmas.Bool.{cases_lt}
-use Rattle.std.proofs.lemmas.Grind.{common_steps}
-use Rattle.cobs.specs.Grammar.{bytes_of, joint, is_full, message_of, last_of}
+use Rattle.cobs.specs.Grammar.{joint, is_full}
 use Rattle.cobs.specs.Piece.{parts, parts_after, lacks, output, last_part}
-
--- the parts, with one more byte behind them
-abbrev pub grown : List (List ℕ) → ℕ → List (List ℕ)
-grown [] b = (b ∷ []) ∷ []
-grown (part ∷ []) b = cond (ltb 0 (lacks part)) ((part ++ b ∷ []) ∷ []) (part ∷ (b ∷ []) ∷ [])
-grown (part ∷ next ∷ more) b = part ∷ grown (next ∷ more) b
-
-pub parts_after_past : (n : ℕ) (p : List ℕ) → length p ≤ n → parts_after n p ≡ []
-unfolding parts_after
-parts_after_past n [] h = refl
-parts_after_past zero (x ∷ p) h = absurd (omega arith)
-parts_after_past (suc n) (x ∷ p) h = parts_after_past n p (omega arith)
-
--- a part that lacks nothing stays
-grown-cons : (part : List ℕ) (more : List (List ℕ)) (b : ℕ) → lacks part ≡ 0 → grown (part ∷ more) b ≡ part ∷ grown more b
-grown-cons part more b h = grind (arith, common_steps)
-
--- a last part that lacks something takes the byte
-grown-last : (part : List ℕ) (b : ℕ) → 0 < lacks part → grown (part ∷ []) b ≡ (part ++ b ∷ []) ∷ []
-grown-last part b h = grind (arith, common_steps)
-
-push_short : (c : ℕ) (p : List ℕ) (b : ℕ) → length p < c - 1 → parts_after zero (c ∷ p ++ b ∷ []) ≡ grown (parts_after zero (c ∷ p)) b
-unfolding parts_after
-push_short c p b short = grind (arith, length_push, take_all, parts_after_past, grown-last, grown)
-
-push_long : (c : ℕ) (p : List ℕ) (b : ℕ) → c - 1 ≤ length p → parts_after (c - 1) (p ++ b ∷ []) ≡ grown (parts_after (c - 1) p) b → parts_after zero (c ∷ p ++ b ∷ []) ≡ grown (parts_after zero (c ∷ p)) b
-unfolding parts_after
-push_long c p b long again = grind (arith, take-append-le, grown-cons, length-take-le)
-
-pub parts_after-push : (n : ℕ) (p : List ℕ) (b : ℕ) → n ≤ length p → parts_after n (p ++ b ∷ []) ≡ grown (parts_after n p) b
-unfolding parts_after
-parts_after-push zero [] b h = ap (λ (x : List ℕ). (b ∷ x) ∷ []) (take_all (b - 1) [] (omega arith))
-parts_after-push (suc n) [] b h = absurd (omega arith)
-parts_after-push (suc n) (x ∷ p) b h = parts_after-push n p b (omega arith)
-parts_after-push zero (c ∷ p) b h = elim (cases_lt (length p) (c - 1)) [ inl short ↦ push_short c p b short | inr long ↦ push_long c p b long (parts_after-push (c - 1) p b long) ]
-
-pub parts-push : (p : List ℕ) (b : ℕ) → parts (p ++ b ∷ []) ≡ grown (parts p) b
-unfolding parts
-parts-push p b = parts_after-push 0 p b (omega arith)
-
-length-grown : (more : List (List ℕ)) (b : ℕ) → 0 < length (grown more b)
-length-grown [] b = omega arith
-length-grown (part ∷ []) b = elim (ltb 0 (lacks part)) as (λ v. 0 < length (cond v ((part ++ b ∷ []) ∷ []) (part ∷ (b ∷ []) ∷ []))) [ true ↦ omega arith | false ↦ omega arith ]
-length-grown (part ∷ next ∷ more) b = omega arith
-
-pub message_of-cons : (part : List ℕ) (more : List (List ℕ)) → 0 < length more → message_of (part ∷ more) ≡ bytes_of part ++ joint part ++ message_of more
-message_of-cons part more h = grind arith
-
-pub last_of-cons : (part : List ℕ) (more : List (List ℕ)) → 0 < length more → last_of (part ∷ more) ≡ last_of more
-last_of-cons part more h = grind arith
-
-bytes_of-push : (part : List ℕ) (b : ℕ) → 0 < lacks part → bytes_of (part ++ b ∷ []) ≡ bytes_of part ++ b ∷ []
-bytes_of-push part b h = grind arith
-
--- the last part lacks something: it takes the byte
-pub message_of-grown_more : (more : List (List ℕ)) (b : ℕ) → 0 < lacks (last_of more) → message_of (grown more b) ≡ message_of more ++ b ∷ []
-message_of-grown_more [] b h = absurd (omega arith)
-message_of-grown_more (part ∷ []) b h = ap message_of (grown-last part b h) ∙ bytes_of-push part b h
-message_of-grown_more (part ∷ next ∷ more) b h = grind (arith, message_of-cons, grown, length-grown, append_assoc, (message_of-grown_more (next ∷ more) b h))
-
-pub last_of-grown_more : (more : List (List ℕ)) (b : ℕ) → 0 < lacks (last_of more) → last_of (grown more b) ≡ last_of more ++ b ∷ []
-last_of-grown_more [] b h = absurd (omega arith)
-last_of-grown_more (part ∷ []) b h = ap last_of (grown-last part b h)
-last_of-grown_more (part ∷ next ∷ more) b h = grind (arith, last_of-cons, length-grown, last_of-grown_more (next ∷ more) b h)
-
--- the last part lacks nothing: the byte is the code of the next one
-pub message_of-grown_next : (part : List ℕ) (more : List (List ℕ)) (b : ℕ) → lacks (last_of (part ∷ more)) ≡ 0 → message_of (grown (part ∷ more) b) ≡ message_of (part ∷ more) ++ joint (last_of (part ∷ more))
-message_of-grown_next part [] b h = ap message_of (grown-cons part [] b h) ∙ append-nil (bytes_of part ++ joint part)
-message_of-grown_next part (next ∷ more) b h = grind (arith, message_of-cons, grown, length-grown, append_assoc, (message_of-grown_next next more b h))
-
-pub last_of-grown_next : (part : List ℕ) (more : List (List ℕ)) (b : ℕ) → lacks (last_of (part ∷ more)) ≡ 0 → last_of (grown (part ∷ more) b) ≡ b ∷ []
-last_of-grown_next part [] b h = ap last_of (grown-cons part [] b h)
-last_of-grown_next part (next ∷ more) b h = grind (arith, last_of-cons, length-grown, last_of-grown_next next more b h)
-
--- The step lemma, by what the last part of p lacks
+use Rattle.cobs.proofs.decoding.PieceCuts.{joint_of, output-last, output-more, last_part-last, last_part-more}
 
 -- the first byte of a piece is a code, and gives nothing
 pub output-one : (b : ℕ) → output (b ∷ []) ≡ []
-unfolding output parts parts_after
-output-one b = take_all (b - 1) [] (omega arith)
+output-one b = output-last b [] (omega arith)
 
 pub last_part-one : (b : ℕ) → last_part (b ∷ []) ≡ b ∷ []
+last_part-one b = last_part-last b [] (omega arith)
+
+-- a last part that lacks something takes the byte, and behind another one it is the code of the next
+record Grown (p : List ℕ) (b : ℕ) : Type 0 where
+  more_output : 0 < lacks (last_part p) → output (p ++ b ∷ []) ≡ output p ++ b ∷ []
+  more_last : 0 < lacks (last_part p) → last_part (p ++ b ∷ []) ≡ last_part p ++ b ∷ []
+  next_output : lacks (last_part p) ≡ 0 → output (p ++ b ∷ []) ≡ output p ++ joint (last_part p)
+  next_last : lacks (last_part p) ≡ 0 → last_part (p ++ b ∷ []) ≡ b ∷ []
+
+-- one part
+grown-last : (code : ℕ) (bytes : List ℕ) (b : ℕ) → length bytes ≤ code - 1 → Grown (code ∷ bytes) b
+grown-last code bytes b short = record {
+  more_output = λ h. grind (arith, last_part-last, output-last, length_push);
+  more_last = λ h. grind (arith, last_part-last, length_push);
+  next_output = λ h. grind (arith, last_part-last, output-last, output-more, length_push, take_at, drop_at, output-one, append-nil, joint_of);
+  next_last = λ h. grind (arith, last_part-last, last_part-more, length_push, drop_at, last_part-one);
+}
+
+-- a part in front of others
+grown-more : (code : ℕ) (bytes : List ℕ) (b : ℕ) → code - 1 < length bytes → Grown (drop (code - 1) bytes) b → Grown (code ∷ bytes) b
+grown-more code bytes b more rest = record {
+  more_output = λ h. grind (arith, last_part-more, output-more, length_push, take-append-le, drop-append-le, append_assoc, rest.more_output);
+  more_last = λ h. grind (arith, last_part-more, length_push, drop-append-le, rest.more_last);
+  next_output = λ h. grind (arith, last_part-more, output-more, length_push, take-append-le, drop-append-le, append_assoc, rest.next_output);
+  next_last = λ h. grind (arith, last_part-more, length_push, drop-append-le, rest.next_last);
+}
+
+grown-by : (n : ℕ) (p : List ℕ) (b : ℕ) → length p ≤ n → 0 < length p → Grown p b
+grown-by n [] b le some = absurd (omega arith)
+grown-by zero (code ∷ bytes) b le some = absurd (omega arith)
+grown-by (suc n) (code ∷ bytes) b le some = elim (cases_lt (code - 1) (length bytes)) [
+  | inl more ↦ let d = length-drop (code - 1) bytes in grown-more code bytes b more (grown-by n (drop (code - 1) bytes) b (omega arith) (omega arith))
+  | inr short ↦ grown-last code bytes b short
+]
+
+grown : (c : ℕ) (p : List ℕ) (b : ℕ) → Grown (c ∷ p) b
+grown c p b = grown-by (suc (length p)) (c ∷ p) b (omega arith) (omega arith)
+
+last_part-empty : lacks (last_part []) ≡ 0
 unfolding last_part parts parts_after
-last_part-one b = ap (λ (x : List ℕ). b ∷ x) (take_all (b - 1) [] (omega arith))
+last_part-empty = refl
 
 pub output-push_more : (p : List ℕ) (b : ℕ) → 0 < lacks (last_part p) → output (p ++ b ∷ []) ≡ output p ++ b ∷ []
-unfolding output last_part
-output-push_more p b h = ap message_of (parts-push p b) ∙ message_of-grown_more (parts p) b h
+output-push_more [] b h = absurd (omega (arith, last_part-empty))
+output-push_more (c ∷ p) b h = (grown c p b).more_output h
 
-pub last_part-push_more : (p : List ℕ) (b : ℕ) → 0 < lacks (last_part p) → last_part (p ++ b ∷ []) ≡ last_part p ++ b ∷ []
-unfolding last_part
-last_part-push_more p b h = ap last_of (parts-push p b) ∙ last_of-grown_more (parts p) b h
+last_part-push_more : (p : List ℕ) (b : ℕ) → 0 < lacks (last_part p) → last_part (p ++ b ∷ []) ≡ last_part p ++ b ∷ []
+last_part-push_more [] b h = absurd (omega (arith, last_part-empty))
+last_part-push_more (c ∷ p) b h = (grown c p b).more_last h
 
 pub output-push_next : (c : ℕ) (p : List ℕ) (b : ℕ) → lacks (last_part (c ∷ p)) ≡ 0 → output (c ∷ p ++ b ∷ []) ≡ output (c ∷ p) ++ joint (last_part (c ∷ p))
-unfolding output last_part parts parts_after
-output-push_next c p b h = ap message_of (parts-push (c ∷ p) b) ∙ message_of-grown_next (c ∷ take (c - 1) p) (parts_after (c - 1) p) b h
+output-push_next c p b h = (grown c p b).next_output h
 
 pub last_part-push_next : (c : ℕ) (p : List ℕ) (b : ℕ) → lacks (last_part (c ∷ p)) ≡ 0 → last_part (c ∷ p ++ b ∷ []) ≡ b ∷ []
-unfolding last_part parts parts_after
-last_part-push_next c p b h = ap last_of (parts-push (c ∷ p) b) ∙ last_of-grown_next (c ∷ take (c - 1) p) (parts_after (c - 1) p) b h
+last_part-push_next c p b h = (grown c p b).next_last h
 
 pub lacks-push_more : (p : List ℕ) (b : ℕ) → 0 < lacks (last_part p) → lacks (last_part (p ++ b ∷ [])) + 1 ≡ lacks (last_part p)
 lacks-push_more p b h = grind (arith, last_part-push_more, length_push)

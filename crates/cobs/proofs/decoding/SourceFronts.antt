@@ -1,49 +1,28 @@
 -- A source for any sentinel, of which stretches of whole blocks are decoded by one copy each.
 use Rattle.std.proofs.Common.{Ok, Err, ◌≡◌, ◌≢◌, ℕ, ◌+◌, ◌-◌, ◌<◌, ◌≤◌, ◌⊎◌, inl, inr, true, false, List, [], ◌∷◌, ◌++◌, length, take, drop, get_or, set, bit_xor, sym, ap, ◌∙◌, subst, arith, append_assoc, length-append, length-drop, length-take-le, take_at, drop_at, take_all, append-nil, take-append-drop}
-use Rattle.std.proofs.lemmas.List.{drop-drop, drop_all, take_rest, length-map, get_or-map, get_or-drop, take-map, drop-map, length-set, take_more_set, drop-set-lt}
+use Rattle.std.proofs.lemmas.List.{drop-drop, drop_all, take_rest, length-map, get_or-drop, take-map, drop-map, length-set, take_more_set, drop-set-lt}
 use Rattle.std.proofs.lemmas.List.Elements.{All-take, All-drop}
 use borrow.Rule.Slice.PartMut.{put_mid}
 use Rattle.cobs.specs.Overwritten.{overwritten}
 use Rattle.cobs.specs.Grammar.{HasNoZero, code_of, is_full}
 use Rattle.cobs.specs.Piece.{output, last_part, lacks, kept_output}
-use Rattle.cobs.specs.Internal.Decoded.{IsFlat, whole_left}
+use Rattle.cobs.specs.Internal.Decoded.{BlocksRead, DecodedSource, IsFlat, whole_left}
 use Rattle.cobs.specs.Sentinel.{xor_each}
 use Rattle.cobs.proofs.decoding.KeptLemmas.{joins, joins-full, joins-zero-due}
 use Rattle.cobs.proofs.decoding.WholeLemmas.{in_front}
-use Rattle.cobs.proofs.decoding.WindowSteps.{take-past, drop-past}
-use Rattle.cobs.proofs.decoding.BlockSteps.{BlocksRead, overwritten-front}
-use Rattle.cobs.proofs.decoding.SourceSteps.{drop-later, DecodedSource, answer-fits, answer-too_long, overwritten-full, source_answer-head}
-use Rattle.cobs.proofs.decoding.HeadLemmas.{front_is_head}
+use Rattle.cobs.proofs.decoding.WindowSteps.{take-past, drop-past, put_mid-end}
+use Rattle.cobs.proofs.decoding.BlockSteps.{overwritten-front}
+use Rattle.cobs.proofs.decoding.SourceSteps.{front-head, drop-later, answer-fits, answer-too_long, overwritten-full, source_answer-head}
 use Rattle.cobs.proofs.decoding.FlatLemmas.{flat-kept, flat-answer}
-use Rattle.std.specs.Int.Bits.{xor_self}
 use Rattle.cobs.specs.Stream.{head}
 use Rattle.cobs.specs.declared.dec.DecodeError.TheVariants.{TargetBufTooSmall}
 use Rattle.cobs.specs.Decode.{head_answer_within, source_answer}
-
--- what stands behind the first code, copied to the front
-module _ (source dest new : List ℕ) (s n : ℕ) (n-is : n ≡ length source) (some : 0 < n) (is : new ≡ take 0 dest ++ xor_each s (take (n - 1) (drop 1 source)) ++ drop (0 + length (take (n - 1) (drop 1 source))) dest) where
-  long : length (xor_each s (take (n - 1) (drop 1 source))) ≡ n - 1
-  long = grind (arith, length-drop, length-map, length-take-le)
-
-  pub copied-piece : bit_xor (get_or source 0 0) s ∷ take (length source - 1) new ≡ xor_each s source
-  copied-piece = grind (arith, take_at, long, take_all)
-
-  pub copied-rest : drop (length source - 1) new ≡ drop (length source - 1) dest
-  copied-rest = grind (arith, length-map, long, drop_at)
 
 -- a source whose front is whole blocks, up to its end or a sentinel
 module _ (source dest new : List ℕ) (s end : ℕ) (within : end ≤ length source) (nonzero : HasNoZero (xor_each s (take end source))) (stop : end < length source → get_or source end 0 ≡ s)
     (flat : IsFlat (xor_each s (take end source))) (room : end ≤ length dest + 1) where
   front-long : length (xor_each s (take end source)) ≡ end
   front-long = length-map (take end source) (λ (b : ℕ). bit_xor b s) ∙ length-take-le end source within
-
-  front-head : xor_each s (take end source) ≡ head (xor_each s source)
-  front-head =
-      let same : take end (xor_each s source) ≡ xor_each s (take end source) = take-map (λ b. bit_xor b s) end source in
-      let l = length-map source (λ (b : ℕ). bit_xor b s) in
-      sym same
-      ∙ front_is_head (xor_each s source) end (omega arith) (subst HasNoZero (sym same) nonzero)
-      (λ more. get_or-map (λ b. bit_xor b s) source end 0 0 (omega arith) ∙ ap (λ (x : ℕ). bit_xor x s) (stop (omega arith)) ∙ xor_self s)
 
   kept-len : length (kept_output (xor_each s (take end source))) + 1 ≡ end
   kept-len = ap (λ (x : List ℕ). length x + 1) (flat-kept _ flat) ∙ flat.len ∙ front-long
@@ -54,7 +33,7 @@ module _ (source dest new : List ℕ) (s end : ℕ) (within : end ≤ length sou
       let t = length-take-le end source within in
       let k = kept-len in
       flat-answer _ flat n (omega arith) ∙ answer-fits (xor_each s (take end source)) (length dest) (omega arith)
-      ∙ ap (λ (h : List ℕ). head_answer_within h (length dest)) front-head ∙ source_answer-head source s (length dest) some
+      ∙ ap (λ (h : List ℕ). head_answer_within h (length dest)) (front-head source end s within nonzero stop) ∙ source_answer-head source s (length dest) some
 
   pub front-buffer : length new ≡ length dest → drop (end - 1) new ≡ drop (end - 1) dest → take (end - 1) new ≡ output (xor_each s (take end source)) → new ≡ overwritten dest (kept_output (head (xor_each s source)))
   front-buffer same rest begins = grind (arith, overwritten-front, flat-kept, front-head)
@@ -88,11 +67,14 @@ module _ (h old dest : List ℕ) (read written : ℕ) (d : DecodedSource h old d
     p-long : length p ≡ len
     p-long = ap length p-is ∙ length-take-le len (drop read h) (let k = length-drop read h in omega arith)
 
-    pub stretch-nonzero : HasNoZero p
+    stretch-nonzero : HasNoZero p
     stretch-nonzero = subst HasNoZero (sym p-is) (All-take (λ byte. byte ≢ 0) len (drop read h) (All-drop (λ byte. byte ≢ 0) read h none))
 
     split : drop read h ≡ p ++ q
     split = sym (take-append-drop len (drop read h)) ∙ ap (λ (x : List ℕ). x ++ drop len (drop read h)) (sym p-is) ∙ ap (λ (x : List ℕ). p ++ x) (drop-drop len read h)
+
+    behind : kept_output (drop read h) ≡ output p ++ (joins (code_of (last_part p)) q ++ kept_output q)
+    behind = ap kept_output split ∙ (in_front p q (let l = p-long in omega arith) stretch-nonzero whole).kepts
 
     -- the buffer ends inside it, or in front of a zero that is due
     module _ (new : List ℕ) (k n : ℕ) (k-is : k ≡ length dest - written) (same : length new ≡ n) (n-is : n ≡ length dest - written) (begins : new ≡ take n (output p))
@@ -101,7 +83,7 @@ module _ (h old dest : List ℕ) (read written : ℕ) (d : DecodedSource h old d
       tail = drop n (output p) ++ (joins (code_of (last_part p)) q ++ kept_output q)
 
       full-is : put_mid written k dest new ≡ take written dest ++ new
-      full-is = grind (arith, drop-drop, drop_all, append-nil)
+      full-is = put_mid-end written k dest new k-is
 
       full-long : length (put_mid written k dest new) ≡ length old
       full-long = grind (arith, full-is, length-append, length-take-le)
@@ -109,11 +91,10 @@ module _ (h old dest : List ℕ) (read written : ℕ) (d : DecodedSource h old d
       kept-full : kept_output h ≡ put_mid written k dest new ++ tail
       unfolding tail
       kept-full =
-          d.blocks.kepts ∙ ap (λ (x : List ℕ). take written dest ++ x) (ap kept_output split ∙ (in_front p q (let l = p-long in omega arith) stretch-nonzero whole).kepts)
-          ∙ ap (λ (x : List ℕ). take written dest ++ (x ++ (joins (code_of (last_part p)) q ++ kept_output q))) (sym (take-append-drop n (output p)) ∙ ap (λ (x : List ℕ). x ++ drop n (output p)) (sym begins))
-          ∙ ap (λ (x : List ℕ). take written dest ++ x) (append_assoc new (drop n (output p)) (joins (code_of (last_part p)) q ++ kept_output q))
-          ∙ sym (append_assoc (take written dest) new (drop n (output p) ++ (joins (code_of (last_part p)) q ++ kept_output q)))
-          ∙ ap (λ (x : List ℕ). x ++ (drop n (output p) ++ (joins (code_of (last_part p)) q ++ kept_output q))) (sym full-is)
+          let more : List ℕ = joins (code_of (last_part p)) q ++ kept_output q in
+          let cut-is : output p ++ more ≡ new ++ (drop n (output p) ++ more) =
+          ap (λ (x : List ℕ). x ++ more) (sym (take-append-drop n (output p)) ∙ ap (λ (x : List ℕ). x ++ drop n (output p)) (sym begins)) ∙ append_assoc new (drop n (output p)) more in
+          grind (arith, d.blocks.kepts, behind, full-is, append_assoc)
 
       pub full-buffer : put_mid written k dest new ≡ overwritten old (kept_output h)
       full-buffer = overwritten-full old (put_mid written k dest new) (kept_output h) tail full-long kept-full
@@ -126,7 +107,7 @@ module _ (h old dest : List ℕ) (read written : ℕ) (d : DecodedSource h old d
     module _ (new : List ℕ) (w k : ℕ) (k-is : k ≡ length dest - written) (same : length new ≡ length dest - written) (count : w ≡ length (output p)) (room : w ≤ length dest - written) (begins : take w new ≡ output p)
         (rest-is : drop w new ≡ drop w (drop written dest)) where
       after-is : put_mid written k dest new ≡ take written dest ++ new
-      after-is = grind (arith, drop-drop, drop_all, append-nil)
+      after-is = put_mid-end written k dest new k-is
 
       after-front : take (written + w) (put_mid written k dest new) ≡ take written dest ++ output p
       after-front = grind (arith, after-is, take-past, length-take-le)
@@ -139,13 +120,10 @@ module _ (h old dest : List ℕ) (read written : ℕ) (d : DecodedSource h old d
 
       blocks-after : (done joint : List ℕ) → joint ≡ joins (code_of (last_part p)) q → done ≡ (take written dest ++ output p) ++ joint → BlocksRead h done (read + len)
       blocks-after done joint joint-is done-is =
-          let f = in_front p q (let l = p-long in omega arith) stretch-nonzero whole in
           record {
             within = fits;
-            kepts = d.blocks.kepts ∙ ap (λ (x : List ℕ). take written dest ++ x) (ap kept_output split ∙ f.kepts ∙ ap (λ (x : List ℕ). output p ++ (x ++ kept_output q)) (sym joint-is))
-                ∙ sym (append_assoc (take written dest) (output p) (joint ++ kept_output q)) ∙ sym (append_assoc (take written dest ++ output p) joint (kept_output q))
-                ∙ ap (λ (x : List ℕ). x ++ kept_output q) (sym done-is);
-            whole = d.blocks.whole ∙ ap whole_left split ∙ f.whole;
+            kepts = grind (arith, d.blocks.kepts, behind, append_assoc);
+            whole = d.blocks.whole ∙ ap whole_left split ∙ (in_front p q (let l = p-long in omega arith) stretch-nonzero whole).whole;
           }
 
       -- no zero is due

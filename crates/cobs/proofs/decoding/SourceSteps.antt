@@ -1,5 +1,5 @@
 -- A source for any sentinel that is decoded into a buffer of its own, so far.
-use Rattle.std.proofs.Common.{◌≡◌, ◌≢◌, ℕ, ◌+◌, ◌-◌, ◌<◌, ◌≤◌, Bool, cond, All, List, [], ◌∷◌, ◌++◌, length, take, drop, get_or, bit_xor, Err, Ok, refl, sym, ap, ◌∙◌, subst, arith, length-append, length-take-le, take_at, append-nil}
+use Rattle.std.proofs.Common.{◌≡◌, ◌≢◌, ℕ, ◌+◌, ◌-◌, ◌<◌, ◌≤◌, Bool, cond, All, List, [], ◌∷◌, ◌++◌, length, take, drop, get_or, bit_xor, Err, Ok, sym, ap, ◌∙◌, subst, arith, length-append, length-take-le, take_at, append-nil}
 use Rattle.std.specs.Int.Bits.{xor_self}
 use Rattle.std.proofs.lemmas.Bool.{le-leb, lt-leb}
 use Rattle.std.proofs.lemmas.List.{drop-drop, drop_all, get_or-map, length-map, take-map}
@@ -10,18 +10,17 @@ use Rattle.cobs.specs.Piece.{kept_output}
 use Rattle.cobs.specs.Sentinel.{xor_each}
 use Rattle.cobs.specs.Stream.{head}
 use Rattle.cobs.specs.Decode.{head_answer, head_answer_within, source_answer}
+use Rattle.cobs.specs.Internal.Decoded.{DecodedSource}
 use Rattle.cobs.specs.declared.dec.DecodeError.TheVariants.{InvalidFrame, TargetBufTooSmall}
 use Rattle.cobs.proofs.format.SentinelLemmas.{xor_twice}
 use Rattle.cobs.proofs.decoding.HeadLemmas.{front_is_head}
 use Rattle.cobs.proofs.decoding.KeptLemmas.{kept_output-empty}
 use Rattle.cobs.proofs.decoding.OutcomeSteps.{overwritten-none}
-use Rattle.cobs.proofs.decoding.BlockSteps.{BlocksRead, all-kept, all-answer, broken-kept, broken-answer, overwritten-front}
+use Rattle.cobs.proofs.decoding.BlockSteps.{all-kept, all-answer, broken-kept, broken-answer, overwritten-front}
 
 -- what two lists have behind n bytes they have behind more
 pub drop-later : (n m : ℕ) (xs ys : List ℕ) → n ≤ m → drop n xs ≡ drop n ys → drop m xs ≡ drop m ys
-drop-later n m xs ys h e =
-    let k : n + (m - n) ≡ m = omega arith in
-    sym (ap (λ (j : ℕ). drop j xs) k) ∙ sym (drop-drop (m - n) n xs) ∙ ap (drop (m - n)) e ∙ drop-drop (m - n) n ys ∙ ap (λ (j : ℕ). drop j ys) k
+drop-later n m xs ys h e = let k : n + (m - n) ≡ m = omega arith in grind (arith, drop-drop (m - n) n xs, drop-drop (m - n) n ys)
 
 -- ANSWERS BY THE KEPT OUTPUT
 
@@ -40,6 +39,15 @@ overwritten-full old new bytes more same is = grind (arith, length-append, drop_
 
 -- THE SOURCE BEFORE ITS FIRST SENTINEL
 
+pub front-head : (source : List ℕ) (end s : ℕ) → end ≤ length source → HasNoZero (xor_each s (take end source)) → (end < length source → get_or source end 0 ≡ s)
+    → xor_each s (take end source) ≡ head (xor_each s source)
+front-head source end s within nonzero stop =
+    let same : take end (xor_each s source) ≡ xor_each s (take end source) = take-map (λ b. bit_xor b s) end source in
+    let l = length-map source (λ (b : ℕ). bit_xor b s) in
+    sym same
+    ∙ front_is_head (xor_each s source) end (omega arith) (subst HasNoZero (sym same) nonzero)
+    (λ more. get_or-map (λ b. bit_xor b s) source end 0 0 (omega arith) ∙ ap (λ (x : ℕ). bit_xor x s) (stop (omega arith)) ∙ xor_self s)
+
 module _ (source : List ℕ) (end s : ℕ) (within : end ≤ length source) (before : All (λ byte. byte ≢ s) (take end source)) (stop : end < length source → get_or source end 0 ≡ s) where
   pub xor_no_zero : HasNoZero (xor_each s (take end source))
   xor_no_zero =
@@ -47,17 +55,11 @@ module _ (source : List ℕ) (end s : ℕ) (within : end ≤ length source) (bef
       (All-weaker (λ b. b ≢ s) (λ b. bit_xor b s ≢ 0) (λ b other e. other (sym (xor_twice b s) ∙ ap (λ (x : ℕ). bit_xor x s) e)) (take end source) before)
 
   pub xor_head : xor_each s (take end source) ≡ head (xor_each s source)
-  xor_head =
-      let same : take end (xor_each s source) ≡ xor_each s (take end source) = take-map (λ b. bit_xor b s) end source in
-      let l = length-map source (λ (b : ℕ). bit_xor b s) in
-      sym same
-      ∙ front_is_head (xor_each s source) end (omega arith) (subst HasNoZero (sym same) xor_no_zero)
-      (λ more. get_or-map (λ b. bit_xor b s) source end 0 0 (omega arith) ∙ ap (λ (x : ℕ). bit_xor x s) (stop (omega arith)) ∙ xor_self s)
+  xor_head = front-head source end s within xor_no_zero stop
 
 -- the answer to a source that isn't empty, by what stands before its first sentinel
 pub source_answer-head : (source : List ℕ) (s n : ℕ) → 0 < length source → head_answer_within (head (xor_each s source)) n ≡ source_answer (xor_each s source) n
-source_answer-head [] s n some = absurd (omega arith)
-source_answer-head (byte ∷ source) s n some = refl
+source_answer-head source s n some = grind (arith, length-map)
 
 -- an empty source leaves the buffer as it is
 pub nothing_kept : (source dest : List ℕ) (s : ℕ) → length source ≡ 0 → dest ≡ overwritten dest (kept_output (head (xor_each s source)))
@@ -66,13 +68,6 @@ nothing_kept [] dest s e = sym (ap (overwritten dest) kept_output-empty ∙ over
 nothing_kept (byte ∷ source) dest s e = absurd (omega arith)
 
 -- BLOCKS THAT ARE DECODED TO THE FRONT OF A BUFFER
-
--- the blocks in the first `read` bytes of h are decoded to the front of the buffer, and behind it is as it was
-pub record DecodedSource (h old dest : List ℕ) (read written : ℕ) : Type 0 where
-  pub room : written ≤ length old
-  pub len : length dest ≡ length old
-  pub rest : drop written dest ≡ drop written old
-  pub blocks : BlocksRead h (take written dest) read
 
 module _ (h old dest : List ℕ) (read written : ℕ) (d : DecodedSource h old dest read written) where
   done-long : length (take written dest) ≡ written

@@ -1,14 +1,12 @@
--- What a vector form that found memory answers: the message m exactly where the list reads as m.
-use Rattle.std.proofs.Common.{◌≡◌, ℕ, ◌<◌, ◌↔◌, Bool, true, false, cond, List, [], ◌∷◌, length, All, Result, Ok, Err, IfOk, IfErr, IsOkAnd, refl, sym, ap, ◌∙◌, subst, ⊎_elim}
+-- What a vector form that found memory answers: the message m exactly where the list reads as m; and what it holds.
+use Rattle.std.proofs.Common.{◌≡◌, ℕ, ◌<◌, ◌↔◌, Bool, true, false, cond, List, [], ◌∷◌, length, All, Result, Ok, Err, ◌++◌, take, drop, take_at, refl, sym, ap, ◌∙◌, subst, ⊎_elim}
 use Rattle.std.proofs.lemmas.Bool.{cases_Bool}
 use Rattle.cobs.specs.Grammar.{Reads}
 use Rattle.cobs.specs.Piece.{output, kept_output, is_whole}
-use Rattle.cobs.specs.Decode.{decoded, decoded_head, message_of_piece, message_of_head, IsRefusal}
-use Rattle.cobs.specs.Headline.{IsPiece, FoundMemory}
+use Rattle.cobs.specs.Decode.{decoded, decoded_head, message_of_piece, message_of_head}
+use Rattle.cobs.specs.Headline.{IsPiece}
 use Rattle.cobs.specs.declared.dec.DecodeError.{DecodeError}
 use Rattle.cobs.specs.declared.dec.DecodeError.TheVariants.{InvalidFrame}
-use Rattle.cobs.specs.declared.dec.DecodeVecError.{DecodeVecError}
-use Rattle.cobs.specs.declared.dec.DecodeVecError.TheVariants.{Decode, Memory}
 use Rattle.cobs.proofs.format.FrameLemmas.{frame_whole, frame_output, reads_output}
 use Rattle.cobs.proofs.decoding.OutcomeLemmas.{first_piece_alone, head_alone}
 
@@ -34,20 +32,20 @@ decoded_head_alone : (f : List ℕ) → IsPiece f → decoded_head f ≡ cond (i
 decoded_head_alone [] piece = absurd (piece.0 refl)
 decoded_head_alone (byte ∷ bytes) piece = ap message_of_head (head_alone (byte ∷ bytes) piece.1)
 
--- a vector form's answer by the message, or why there is none
-module _ {V : Type 0} (items : V → List ℕ) (result : Result V DecodeVecError) (answer : Result (List ℕ) DecodeError) (f : List ℕ) where
-  given_reads : IfOk result (λ v. answer ≡ Ok (items v)) → IfErr result (λ e. IsRefusal answer e) → FoundMemory result → (m : List ℕ) → (answer ≡ Ok m) ↔ Reads f m → IsOkAnd result (λ v. items v ≡ m) ↔ Reads f m
-  given_reads = go result
-    where
-      go : (r : Result V DecodeVecError) → IfOk r (λ v. answer ≡ Ok (items v)) → IfErr r (λ e. IsRefusal answer e) → FoundMemory r → (m : List ℕ) → (answer ≡ Ok m) ↔ Reads f m → IsOkAnd r (λ v. items v ≡ m) ↔ Reads f m
-      go (Ok v) ok err found m h = (λ e. h.0 (ok ∙ ap Ok e), λ r. let e = h.1 r in cc)
-      go (Err (Decode error)) ok err found m h = (λ e. absurd e, λ r. let e = h.1 r in absurd (cc))
-      go (Err (Memory error)) ok err found m h = absurd found
+module _ (f : List ℕ) (below : All (λ b. b < 256) f) (m : List ℕ) where
+  pub decoded_reads : IsPiece f → (decoded f ≡ Ok m) ↔ Reads f m
+  decoded_reads piece = message_reads f m (length (output f)) below piece (decoded f) (decoded_alone f piece)
 
-  pub vector_reads : IfOk result (λ v. answer ≡ Ok (items v)) → IfErr result (λ e. IsRefusal answer e) → answer ≡ decoded f → All (λ b. b < 256) f
-      → IsPiece f → FoundMemory result → (m : List ℕ) → IsOkAnd result (λ v. items v ≡ m) ↔ Reads f m
-  vector_reads ok err is below piece found m = given_reads ok err found m (message_reads f m (length (output f)) below piece answer (is ∙ decoded_alone f piece))
+  pub decoded_head_reads : IsPiece f → (decoded_head f ≡ Ok m) ↔ Reads f m
+  decoded_head_reads piece = message_reads f m (length (kept_output f)) below piece (decoded_head f) (decoded_head_alone f piece)
 
-  pub head_vector_reads : IfOk result (λ v. answer ≡ Ok (items v)) → IfErr result (λ e. IsRefusal answer e) → answer ≡ decoded_head f → All (λ b. b < 256) f
-      → IsPiece f → FoundMemory result → (m : List ℕ) → IsOkAnd result (λ v. items v ≡ m) ↔ Reads f m
-  head_vector_reads ok err is below piece found m = given_reads ok err found m (message_reads f m (length (kept_output f)) below piece answer (is ∙ decoded_head_alone f piece))
+-- what is left of a vector that is overwritten, and then cut off
+pub truncated : (new items : List ℕ) (k len : ℕ) → length new ≡ len → take k (take len (new ++ drop (length new) items)) ≡ take k new
+truncated new items k len same = ap (take k) (take_at new (drop (length new) items) len same)
+
+-- an answer is one message, or an error
+pub one_message : {answer : Result (List ℕ) DecodeError} {items m : List ℕ} → answer ≡ Ok items → answer ≡ Ok m → items ≡ m
+one_message is e = cc
+
+pub no_message : {answer : Result (List ℕ) DecodeError} {error : DecodeError} {m : List ℕ} → answer ≡ Err error → answer ≡ Ok m → ⊥
+no_message is e = absurd (cc)

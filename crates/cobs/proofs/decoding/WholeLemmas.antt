@@ -27,8 +27,7 @@ one code bytes q some long =
     let last : last_part (code ∷ bytes) ≡ code ∷ bytes = last_part-last code bytes (omega arith) in
     let out : output (code ∷ bytes) ≡ bytes = output-last code bytes (omega arith) in
     record {
-      kepts = kept-part code (bytes ++ q) q some (omega arith) rest ∙ ap (λ (x : List ℕ). x ++ (joins code q ++ kept_output q)) (all ∙ sym out)
-          ∙ ap (λ (x : List ℕ). output (code ∷ bytes) ++ (joins (code_of x) q ++ kept_output q)) (sym last);
+      kepts = grind (arith, kept-part, joins);
       whole = whole-part code (bytes ++ q) q some (omega arith) rest;
       last = λ more. last_part-more code (bytes ++ q) (omega arith) ∙ ap last_part rest;
     }

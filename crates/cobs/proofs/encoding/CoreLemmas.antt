@@ -1,29 +1,17 @@
 -- Where the core of the encoder begins and ends, said of the slice of a `CobsEncoder`.
-use Rattle.std.proofs.Common.{◌≡◌, ◌≢◌, ℕ, ◌+◌, ◌-◌, ◌<◌, ◌≤◌, Bool, true, false, if◌then◌else◌, List, [], ◌++◌, length, drop, take, sym, ap, ◌∙◌, subst, arith, append-nil}
+use Rattle.std.proofs.Common.{◌≡◌, ◌≢◌, ℕ, ◌+◌, ◌-◌, ◌<◌, ◌≤◌, Bool, true, false, if◌then◌else◌, List, [], ◌∷◌, ◌++◌, length, drop, take, ap, ◌∙◌, arith}
+use Rattle.std.specs.List.{concat}
 use Rattle.std.proofs.Math.ListN.{set}
 use Rattle.std.proofs.Math.Seq.{take-set-lt}
 use Rattle.std.proofs.lemmas.List.{length-set, length-take, drop_all, set-set, set_at, set_past, drop-set-lt}
 use Rattle.std.proofs.lemmas.List.Elements.{All-nil}
-use Rattle.cobs.specs.Grammar.{IsEncodedFrame, lone_block}
+use Rattle.cobs.specs.Grammar.{IsEncodedFrame}
 use Rattle.cobs.specs.OpenBlock.{Reached, CobsEncoderAfter, next_of, end_of}
 use Rattle.cobs.specs.Length.{encoded_len, open_len}
-use Rattle.cobs.proofs.encoding.OpenedLemmas.{Opened}
 use Rattle.cobs.proofs.encoding.OpenLenLemmas.{Opened-len}
-use Rattle.cobs.proofs.encoding.ReachLemmas.{Reaches, Reaches-noted, least, taken-full, ends-full}
-use Rattle.cobs.proofs.encoding.AfterLemmas.{at, from_after, to_after, end-is, open-same}
+use Rattle.cobs.proofs.encoding.ReachLemmas.{Reaches, least, taken-full, ends-full}
+use Rattle.cobs.proofs.encoding.AfterLemmas.{at, from_after, to_after, end-is, whole-is}
 use Rattle.cobs.proofs.format.UniqueLemmas.{length-encoded}
-use Rattle.cobs.proofs.format.JoinLemmas.{concat-append}
-
--- where the frame is to end
-abbrev pub end_with : Reached → List ℕ → ℕ
-end_with r source = r.block.index + open_len r.block.code source
-
-pub core-noted : (source old : List ℕ) (r : Reached) (index next : ℕ) (full : Bool) → at index (next - index) full ≡ r → index < next → next < index + 255
-    → Reaches (CobsEncoderAfter old r) source old old (end_with r source) 0 index next (λ noted. noted ≡ full)
-core-noted source old r index next full is ordered short =
-    let sum : index + (next - index) ≡ next = omega arith in
-    Reaches-noted (CobsEncoderAfter old r) source old (end_with r source) index next full ordered short (ap (λ (x : Reached). end_with x source) is)
-    (λ m h. subst (λ (n : ℕ). Opened old m index n full) sum (from_after old m (at index (next - index) full) (subst (λ (x : Reached). CobsEncoderAfter old x m) (sym is) h)))
 
 ends-within : (full : Bool) (index next n : ℕ) → index < next → next ≤ n → (if full then index else next) ≤ n
 ends-within full index next n h e = grind arith
@@ -65,8 +53,8 @@ module _ (slice m : List ℕ) (r : Reached) (h : CobsEncoderAfter slice r m) whe
   closed-open open' some =
       let long : length h.frame ≡ next_of r = length-frame ∙ ap (λ (b : Bool). if b then r.block.index else next_of r) open' in
       let o = h.follows.1 in
-      let same : h.follows.0 ≡ h.frame = open-same h.frame m h.follows.0 r.block.index r.block.code h.encoded o ∙ ap (λ (b : Bool). h.frame ++ (if b then lone_block else [])) (sym h.noted ∙ open') ∙ append-nil h.frame in
-      grind (arith, concat-append, append-nil, set_at, take-set-lt, set-set)
+      let same : h.frame ≡ concat o.front ++ r.block.code ∷ o.bytes = whole-is slice m r h ∙ ap (λ (b : Bool). concat o.front ++ (if b then [] else r.block.code ∷ o.bytes)) open' in
+      grind (arith, set_at, take-set-lt, set-set)
 
 -- the encoder that has taken nothing
 pub after-nothing : (slice : List ℕ) → 0 < length slice → CobsEncoderAfter slice (at 0 1 false) []

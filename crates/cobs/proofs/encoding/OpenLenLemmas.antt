@@ -1,8 +1,8 @@
 -- How long the encoded frame gets, counted from its open block.
-use Rattle.std.proofs.Common.{◌≡◌, ◌≢◌, ℕ, ◌+◌, ◌-◌, ◌<◌, ◌≤◌, Bool, true, false, if◌then◌else◌, List, [], ◌∷◌, ◌++◌, length, replicate, All, refl, sym, ap, ◌∙◌, arith, append-nil, append_assoc, length-append, ⊎_elim}
+use Rattle.std.proofs.Common.{◌≡◌, ◌≢◌, ℕ, ◌+◌, ◌-◌, ◌<◌, ◌≤◌, Bool, true, List, [], ◌∷◌, ◌++◌, length, replicate, All, refl, sym, ap, ◌∙◌, arith, append-nil, append_assoc, length-append}
 use Rattle.std.specs.List.{concat}
 use Rattle.std.proofs.lemmas.Bool.{cases_Bool, eqb-true, eqb-false}
-use Rattle.std.proofs.lemmas.List.{length-replicate}
+use Rattle.std.proofs.lemmas.List.{length-replicate, nil_from_length}
 use Rattle.std.proofs.lemmas.List.Elements.{All-append, All-replicate, All-head, All-tail}
 use Rattle.cobs.specs.Grammar.{HasNoZero, IsBlock, is_full, bytes_of, joint, last_of, message_of}
 use Rattle.cobs.specs.Length.{encoded_len, max_encoded_len, open_len}
@@ -27,8 +27,8 @@ open_len-join code more t some nonzero =
     let l = length-append front more in
     let k = length-ones (code - 1) in
     let n = length-ones (code + length more - 1) in
-    ap encoded_len (sym (append_assoc front more t))
-    ∙ same_start (front ++ more) (replicate (code + length more - 1) 1) t (All-append (λ byte. byte ≢ 0) front more (ones (code - 1)) nonzero) (ones (code + length more - 1)) (omega arith)
+    let s = same_start (front ++ more) (replicate (code + length more - 1) 1) t (All-append (λ byte. byte ≢ 0) front more (ones (code - 1)) nonzero) (ones (code + length more - 1)) (omega arith) in
+    grind (arith, append_assoc)
 
 -- a zero closes it
 pub open_len-zero : (code : ℕ) (t : List ℕ) → 0 < code → code < 255 → open_len code (0 ∷ t) ≡ code + open_len 1 t
@@ -50,15 +50,7 @@ len-block (code ∷ bytes) m t is some = grind (arith, eqb-true, append-nil, app
 some_message : (block : List ℕ) (blocks : List (List ℕ)) → IsBlock block → blocks ≢ [] → message_of (block ∷ blocks) ≢ []
 some_message [] blocks is more e = absurd is
 some_message (code ∷ bytes) [] is more e = more refl
-some_message (code ∷ bytes) (next ∷ blocks) is more e =
-    let n = is.0 in
-    let l = length-append (bytes ++ joint (code ∷ bytes)) (message_of (next ∷ blocks)) in
-    let k = length-append bytes (joint (code ∷ bytes)) in
-    let z = ap length e in
-    ⊎_elim
-    (λ (full : is_full (code ∷ bytes) ≡ true). let c : code ≡ 255 = eqb-true code 255 full in omega arith)
-    (λ (open' : is_full (code ∷ bytes) ≡ false). let j : length (joint (code ∷ bytes)) ≡ 1 = ap (λ (b : Bool). length {A = ℕ} (if b then [] else 0 ∷ [])) open' in omega arith)
-    (cases_Bool (is_full (code ∷ bytes)))
+some_message (code ∷ bytes) (next ∷ blocks) is more e = let z = ap length e in grind (arith, cases_Bool, eqb-true, length-append)
 
 -- the frame of what goes on behind some blocks
 pub len-blocks : (front : List (List ℕ)) (code : ℕ) (bytes t : List ℕ) → All IsBlock front → (is_full (last_of front) ≡ true → bytes ++ t ≢ [])
@@ -69,14 +61,10 @@ len-blocks (b ∷ c ∷ front) code bytes t each some =
     let more = All-tail IsBlock b (c ∷ front) each in
     let m : List ℕ = message_of (c ∷ front ++ (code ∷ bytes) ∷ []) in
     let is_some : m ≢ [] = some_message c (front ++ (code ∷ bytes) ∷ []) (All-head IsBlock c front more) (append-some front (code ∷ bytes) []) in
-    let not_none : m ++ t ≢ [] = λ e. is_some (nil_front m t e) in
+    let not_none : m ++ t ≢ [] = λ e. is_some (nil_from_length m (let l = length-append m t in let z = ap length e in omega arith)) in
     let ih = len-blocks (c ∷ front) code bytes t more some in
     let l = length-append b (concat (c ∷ front)) in
     len-block b m t (All-head IsBlock b (c ∷ front) each) (λ full. not_none) ∙ omega arith
-  where
-    nil_front : (x y : List ℕ) → x ++ y ≡ [] → x ≡ []
-    nil_front [] y e = refl
-    nil_front (n ∷ x) y e = absurd (cc)
 
 -- the frame of a message that goes on
 pub Opened-len : (slice m : List ℕ) (index next : ℕ) (full : Bool) (t : List ℕ) → (full ≡ true → t ≢ []) → Opened slice m index next full → encoded_len (m ++ t) ≡ index + open_len (next - index) t

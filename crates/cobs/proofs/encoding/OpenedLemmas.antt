@@ -1,14 +1,13 @@
 -- A slice that holds the open frame of a message but for the open block's code, and how it goes on.
-use Rattle.std.proofs.Common.{◌≡◌, ◌≢◌, ℕ, ◌+◌, ◌<◌, ◌≤◌, ◌==◌, Bool, false, if◌then◌else◌, List, [], ◌∷◌, ◌++◌, length, drop, take, suc, All, refl, sym, ap, ◌∙◌, arith, append-nil, append_assoc, length-append, length-take-le, length-take}
+use Rattle.std.proofs.Common.{◌≡◌, ◌≢◌, ℕ, ◌+◌, ◌<◌, ◌≤◌, ◌==◌, Bool, false, if◌then◌else◌, List, [], ◌∷◌, ◌++◌, length, drop, take, suc, All, refl, sym, ap, ◌∙◌, arith, length-append, length-take-le, length-take}
 use Rattle.std.specs.List.{concat}
 use Rattle.std.proofs.Math.ListN.{set}
 use Rattle.std.proofs.Math.Seq.{take-set-lt, take-add}
 use Rattle.std.proofs.lemmas.List.{take-take, set_split, drop-append-le, drop_all}
 use Rattle.std.proofs.lemmas.List.Elements.{All-append, All-push, All-nil}
 use Rattle.cobs.specs.Grammar.{HasNoZero, IsBlock, is_full, joint, lone_block, last_of, message_of}
-use Rattle.cobs.proofs.encoding.OpenLemmas.{message_of-append, message_of-more}
+use Rattle.cobs.proofs.encoding.OpenLemmas.{append-some, concat-push, message_of-close, message_of-more}
 use Rattle.cobs.proofs.format.FrameLemmas.{last_of-push}
-use Rattle.cobs.proofs.format.JoinLemmas.{concat-append}
 
 -- whether the frame's last block is full, so that the open one is a placeholder alone
 abbrev pub ends_in_full : List (List ℕ) → List ℕ → Bool
@@ -30,46 +29,35 @@ pub record Opened (slice m : List ℕ) (index next : ℕ) (full : Bool) : Type 0
   pub stands : drop (index + 1) (take next slice) ≡ bytes
   pub noted : full ≡ ends_in_full front bytes
 
+-- the same blocks in another slice
+Opened-in : (slice slice' m : List ℕ) (index next : ℕ) (full : Bool) → take index slice' ≡ take index slice → drop (index + 1) (take next slice') ≡ drop (index + 1) (take next slice)
+    → Opened slice m index next full → Opened slice' m index next full
+Opened-in slice slice' m index next full front behind o = record {
+  front = o.front;
+  bytes = o.bytes;
+  each = o.each;
+  nonzero = o.nonzero;
+  few = o.few;
+  message = o.message;
+  begins = o.begins;
+  place = o.place;
+  written = front ∙ o.written;
+  stands = behind ∙ o.stands;
+  noted = o.noted;
+}
+
 -- what stands behind is no matter
 pub Opened-same : (slice slice' m : List ℕ) (index next : ℕ) (full : Bool) → take next slice' ≡ take next slice → Opened slice m index next full → Opened slice' m index next full
 Opened-same slice slice' m index next full same o =
     let le : index ≤ next = omega arith in
-    record {
-      front = o.front;
-      bytes = o.bytes;
-      each = o.each;
-      nonzero = o.nonzero;
-      few = o.few;
-      message = o.message;
-      begins = o.begins;
-      place = o.place;
-      written = sym (take-take index next slice' le) ∙ ap (take index) same ∙ take-take index next slice le ∙ o.written;
-      stands = ap (drop (index + 1)) same ∙ o.stands;
-      noted = o.noted;
-    }
+    Opened-in slice slice' m index next full (sym (take-take index next slice' le) ∙ ap (take index) same ∙ take-take index next slice le) (ap (drop (index + 1)) same) o
 
 -- where the open block has no bytes, the byte in its code's place is no matter either
 pub Opened-same-empty : (slice slice' m : List ℕ) (index next : ℕ) (full : Bool) → next ≡ index + 1 → take index slice' ≡ take index slice → Opened slice m index next full → Opened slice' m index next full
-Opened-same-empty slice slice' m index next full empty same o =
-    let l = length-take next slice' in
-    let none : o.bytes ≡ [] = no_bytes o.bytes (omega arith) in
-    record {
-      front = o.front;
-      bytes = o.bytes;
-      each = o.each;
-      nonzero = o.nonzero;
-      few = o.few;
-      message = o.message;
-      begins = o.begins;
-      place = o.place;
-      written = same ∙ o.written;
-      stands = drop_all (index + 1) (take next slice') (omega arith) ∙ sym none;
-      noted = o.noted;
-    }
+Opened-same-empty slice slice' m index next full empty same o = Opened-in slice slice' m index next full same (none slice' ∙ sym (none slice)) o
   where
-    no_bytes : (bytes : List ℕ) → length bytes ≡ 0 → bytes ≡ []
-    no_bytes [] e = refl
-    no_bytes (b ∷ bytes) e = absurd (omega arith)
+    none : (xs : List ℕ) → drop (index + 1) (take next xs) ≡ []
+    none xs = drop_all (index + 1) (take next xs) (let l = length-take next xs in omega arith)
 
 not_full-more : (front : List (List ℕ)) (bytes more : List ℕ) → more ≢ [] → ends_in_full front (bytes ++ more) ≡ false
 not_full-more front [] [] some = absurd (some refl)
@@ -97,9 +85,6 @@ Opened-join slice m more index next full some nonzero short fits here o =
       noted = sym (not_full-more o.front o.bytes more some);
     }
 
-concat-push : (front : List (List ℕ)) (block : List ℕ) → concat (front ++ block ∷ []) ≡ concat front ++ block
-concat-push front block = concat-append front (block ∷ []) ∙ ap (λ (x : List ℕ). concat front ++ x) (append-nil block)
-
 -- the code of the open block is written, and the block behind it is open
 pub Opened-close : (slice m : List ℕ) (index next code : ℕ) (full : Bool) → next ≤ length slice → index + code ≡ next → Opened slice m index next full
     → Opened (set slice index code) (m ++ joint (code ∷ [])) next (next + 1) (code == 255)
@@ -118,7 +103,7 @@ Opened-close slice m index next code full fits is o =
     ∙ ap (λ (n : ℕ). concat o.front ++ n ∷ o.bytes) code_is in
     let goes : m ++ joint (code ∷ []) ≡ message_of (front' ++ lone_block ∷ []) =
     ap (λ (x : List ℕ). x ++ joint (code ∷ [])) o.message ∙ ap (λ (t : Bool). message_of front' ++ (if t then [] else 0 ∷ [])) (sym same_code)
-    ∙ sym (append-nil (message_of front' ++ joint block)) ∙ sym (message_of-append o.front block lone_block []) ∙ ap message_of (sym (append_assoc o.front (block ∷ []) (lone_block ∷ []))) in
+    ∙ sym (message_of-close front' (append-some o.front block []) ∙ ap (λ (b : List ℕ). message_of front' ++ joint b) (last_of-push o.front block)) in
     record {
       front = front';
       bytes = [];

@@ -1,10 +1,10 @@
 -- How far the core of the encoder has come with some bytes: `pos` of them are taken into the open block and those before it.
-use Rattle.std.proofs.Common.{◌≡◌, ◌≢◌, ℕ, ◌+◌, ◌-◌, ◌<◌, ◌≤◌, ◌==◌, Bool, true, false, if◌then◌else◌, List, [], ◌∷◌, ◌++◌, length, drop, take, get_or, replicate, zero, suc, refl, sym, ap, ◌∙◌, subst, arith, inl, inr, ◌⊎◌, append-nil, append_assoc, length-take-le, length-drop, take-append-drop, take_all}
+use Rattle.std.proofs.Common.{◌≡◌, ◌≢◌, ℕ, ◌+◌, ◌-◌, ◌<◌, ◌≤◌, ◌==◌, Bool, true, false, if◌then◌else◌, List, ◌∷◌, ◌++◌, length, drop, take, get_or, replicate, zero, suc, refl, sym, ap, ◌∙◌, arith, inl, inr, ◌⊎◌, append-nil, append_assoc, length-take-le, length-drop, take-append-drop, take_all}
 use Rattle.std.proofs.Math.ListN.{set}
 use Rattle.std.proofs.Math.Seq.{take-add}
 use Rattle.std.proofs.lemmas.Bool.{cases_eq, ne_eqb}
 use Rattle.std.proofs.lemmas.List.{drop-drop, drop_more, drop_all, drop-set-lt, take_more, take_more_set, length-set}
-use Rattle.cobs.specs.Grammar.{HasNoZero, joint}
+use Rattle.cobs.specs.Grammar.{HasNoZero}
 use Rattle.cobs.specs.Length.{open_len}
 use Rattle.cobs.proofs.encoding.OpenedLemmas.{Opened, Opened-same, Opened-same-empty, Opened-join, Opened-close}
 use Rattle.cobs.proofs.encoding.OpenLenLemmas.{open_len-join, open_len-zero, open_len-least, length-ones, ones}
@@ -24,11 +24,17 @@ pub record Reaches (H : List ℕ → Type 0) (source old slice : List ℕ) (end 
 pub least : (source : List ℕ) (end pos index next : ℕ) → index < next → pos ≤ length source → index + open_len (next - index) (drop pos source) ≡ end → next + (length source - pos) ≤ end
 least source end pos index next ordered within room = grind (arith, length-drop, open_len-least)
 
-module _ (H : List ℕ → Type 0) (source old slice : List ℕ) (end pos index next : ℕ) (P Q : Bool → Type 0) where
-  -- the same places, by other names
-  pub Reaches-at : (slice' : List ℕ) (pos' index' next' : ℕ) → slice ≡ slice' → pos ≡ pos' → index ≡ index' → next ≡ next' → ((full : Bool) → P full → Q full) → Reaches H source old slice end pos index next P → Reaches H source old slice' end pos' index' next' Q
-  Reaches-at slice' pos' index' next' s p i n weaker r = grind arith
+-- the same places, by other names
+pub Reaches-at : {H : List ℕ → Type 0} {source old slice slice' : List ℕ} {end pos pos' index index' next next' : ℕ} {P Q : Bool → Type 0} → slice ≡ slice' → pos ≡ pos' → index ≡ index' → next ≡ next'
+    → ((full : Bool) → P full → Q full) → Reaches H source old slice end pos index next P → Reaches H source old slice' end pos' index' next' Q
+Reaches-at s p i n weaker r = grind arith
 
+-- less said of the last block
+pub Reaches-weaker : {H : List ℕ → Type 0} {source old slice : List ℕ} {end pos index next : ℕ} {P Q : Bool → Type 0} → ((full : Bool) → P full → Q full)
+    → Reaches H source old slice end pos index next P → Reaches H source old slice end pos index next Q
+Reaches-weaker weaker r = Reaches-at refl refl refl refl weaker r
+
+module _ (H : List ℕ → Type 0) (source old slice : List ℕ) (end pos index next : ℕ) (P Q : Bool → Type 0) where
   -- other bytes behind
   pub Reaches-same : (slice' : List ℕ) → take next slice' ≡ take next slice → drop end slice' ≡ drop end slice → Reaches H source old slice end pos index next P → Reaches H source old slice' end pos index next P
   Reaches-same slice' front back r = grind (arith, Opened-same)
@@ -45,65 +51,45 @@ module _ (H : List ℕ → Type 0) (source old slice : List ℕ) (end pos index 
       let long : length bytes ≡ k = length-take-le k (drop pos source) (omega arith) in
       let least' = least source end pos index next r.ordered r.within r.room in
       let split : drop pos source ≡ bytes ++ drop (pos + k) source = sym (take-append-drop k (drop pos source)) ∙ ap (λ (x : List ℕ). bytes ++ x) (drop-drop k pos source) in
-      let code : next - index + length bytes ≡ next + k - index = omega arith in
+      let more = open_len-join (next - index) bytes (drop (pos + k) source) (omega arith) nonzero in
       record {
         ordered = omega arith;
         short = short;
         within = within;
-        room = ap (λ (n : ℕ). index + open_len n (drop (pos + k) source)) (sym code)
-            ∙ ap (λ (n : ℕ). index + n) (sym (open_len-join (next - index) bytes (drop (pos + k) source) (omega arith) nonzero))
-            ∙ ap (λ (x : List ℕ). index + open_len (next - index) x) (sym split) ∙ r.room;
+        room = let e : open_len (next + k - index) (drop (pos + k) source) ≡ open_len (next - index) (drop pos source) = grind arith in omega arith;
         rest = r.rest;
         taken = λ m h. by_count (cases_eq k 0) m (r.taken m h);
       }
     where
       by_count : (k ≡ 0) ⊎ (k ≢ 0) → (m : List ℕ) → (full : Bool) × P full × Opened slice (m ++ take pos source) index next full → (full : Bool) × Q full × Opened slice (m ++ take (pos + k) source) index (next + k) full
-      by_count (inl is) m t =
-          let p : pos ≡ pos + k = omega arith in
-          let n : next ≡ next + k = omega arith in
-          (t.0, none t.0 is t.1, subst (λ (x : ℕ). Opened slice (m ++ take x source) index (next + k) t.0) p (subst (λ (x : ℕ). Opened slice (m ++ take pos source) index x t.0) n t.2))
+      by_count (inl is) m t = (t.0, none t.0 is t.1, grind arith)
       by_count (inr other) m t =
-          let bytes : List ℕ = take k (drop pos source) in
-          let d = length-drop pos source in
-          let long : length bytes ≡ k = length-take-le k (drop pos source) (omega arith) in
           let least' = least source end pos index next r.ordered r.within r.room in
-          let not_none : bytes ≢ [] = λ e. let z = ap length e in other (omega arith) in
-          let joined = Opened-join slice (m ++ take pos source) bytes index next t.0 not_none nonzero (omega arith) (omega arith) (ap (λ (n : ℕ). take n (drop next slice)) long ∙ here) t.2 in
-          let goes : (m ++ take pos source) ++ bytes ≡ m ++ take (pos + k) source = append_assoc m (take pos source) bytes ∙ ap (λ (x : List ℕ). m ++ x) (sym (take-add pos k source)) in (
-            false,
-            some (omega arith),
-            subst (λ (x : List ℕ). Opened slice x index (next + k) false) goes (subst (λ (n : ℕ). Opened slice ((m ++ take pos source) ++ bytes) index (next + n) false) long joined),
-          )
+          let d = length-drop pos source in
+          let long : length (take k (drop pos source)) ≡ k = length-take-le k (drop pos source) (omega arith) in
+          let here' : take (length (take k (drop pos source))) (drop next slice) ≡ take k (drop pos source) = grind arith in
+          let joined = Opened-join slice (m ++ take pos source) (take k (drop pos source)) index next t.0 (λ e. let z = ap length e in other (omega arith)) nonzero (omega arith)
+          (omega arith) here' t.2 in
+          (false, some (omega arith), grind (arith, append_assoc, take-add))
 
   -- a zero closes the open block
   pub Reaches-zero : pos < length source → get_or source pos 0 ≡ 0 → next < index + 255 → end ≤ length slice → Q false → Reaches H source old slice end pos index next P
       → Reaches H source old (set slice index (next - index)) end (pos + 1) next (next + 1) Q
   Reaches-zero more is open' fits not_full r =
       let least' = least source end pos index next r.ordered r.within r.room in
-      let left : drop pos source ≡ 0 ∷ drop (pos + 1) source = drop_more source pos 0 more ∙ ap (λ (n : ℕ). n ∷ drop (pos + 1) source) is in
-      let code : next - index ≢ 255 = λ e. omega arith in
-      let one : next + 1 - next ≡ 1 = omega arith in
+      let left : drop pos source ≡ 0 ∷ drop (pos + 1) source = grind (arith, drop_more) in
       let zero_len = open_len-zero (next - index) (drop (pos + 1) source) (omega arith) (omega arith) in
+      let apart : (next - index == 255) ≡ false = ne_eqb (next - index) 255 (λ e. omega arith) in
       record {
         ordered = omega arith;
         short = omega arith;
         within = omega arith;
-        room = ap (λ (n : ℕ). next + open_len n (drop (pos + 1) source)) one
-            ∙ (let s : next + open_len 1 (drop (pos + 1) source) ≡ index + open_len (next - index) (0 ∷ drop (pos + 1) source) = omega arith in s)
-            ∙ ap (λ (x : List ℕ). index + open_len (next - index) x) (sym left) ∙ r.room;
+        room = grind arith;
         rest = drop-set-lt end slice index (next - index) (omega arith) ∙ r.rest;
         taken = λ m h.
             let t = r.taken m h in
             let closed = Opened-close slice (m ++ take pos source) index next (next - index) t.0 (omega arith) (omega arith) t.2 in
-            let not_full' : (next - index == 255) ≡ false = ne_eqb (next - index) 255 code in
-            let goes : (m ++ take pos source) ++ joint ((next - index) ∷ []) ≡ m ++ take (pos + 1) source =
-            ap (λ (b : Bool). (m ++ take pos source) ++ (if b then [] else 0 ∷ [])) not_full' ∙ append_assoc m (take pos source) (0 ∷ [])
-            ∙ ap (λ (n : ℕ). m ++ (take pos source ++ n ∷ [])) (sym is) ∙ ap (λ (x : List ℕ). m ++ x) (sym (take_more source pos 0 more)) in (
-              false,
-              not_full,
-              subst (λ (x : List ℕ). Opened (set slice index (next - index)) x next (next + 1) false) goes
-                  (subst (λ (b : Bool). Opened (set slice index (next - index)) ((m ++ take pos source) ++ joint ((next - index) ∷ [])) next (next + 1) b) not_full' closed),
-            );
+            (false, not_full, grind (arith, append_assoc, take_more));
       }
 
   -- what a full block leaves, once its code is written
@@ -111,7 +97,7 @@ module _ (H : List ℕ → Type 0) (source old slice : List ℕ) (end pos index 
   full-taken full fits r m h =
       let t = r.taken m h in
       let closed = Opened-close slice (m ++ take pos source) index next 255 t.0 fits (sym full) t.2 in
-      subst (λ (x : List ℕ). Opened (set slice index 255) x next (next + 1) true) (append-nil (m ++ take pos source)) closed
+      grind (arith, append-nil)
 
   pub Reaches-full : pos < length source → next ≡ index + 255 → end ≤ length slice → Q true → Reaches H source old slice end pos index next P → Reaches H source old (set slice index 255) end pos next (next + 1) Q
   Reaches-full more full fits is_full r =
@@ -128,9 +114,6 @@ module _ (H : List ℕ → Type 0) (source old slice : List ℕ) (end pos index 
   pub ends-open : pos ≡ length source → Reaches H source old slice end pos index next P → end ≡ next
   ends-open last r = grind (arith, drop_all, length-ones, append-nil, encoded_len-last, ones)
 
-  pub taken-open : pos ≡ length source → ((full : Bool) → P full → full ≡ false) → Reaches H source old slice end pos index next P → (m : List ℕ) → H m → Opened slice (m ++ source) index next false
-  taken-open last not_full r m h = grind (arith, take_all)
-
 -- where the core begins, with what is noted of the last block
 pub Reaches-noted : (H : List ℕ → Type 0) (source old : List ℕ) (end index next : ℕ) (full : Bool) → index < next → next < index + 255 → index + open_len (next - index) source ≡ end
     → ((m : List ℕ) → H m → Opened old m index next full) → Reaches H source old old end 0 index next (λ noted. noted ≡ full)
@@ -144,37 +127,28 @@ IsNotFull full = full ≡ false
 abbrev pub IsNotedAt : Bool → ℕ → ℕ → Bool → Type 0
 IsNotedAt full last read noted = last ≤ read → noted ≡ (if last == 0 then full else false)
 
-pub Reaches-open : (H : List ℕ → Type 0) (source old slice : List ℕ) (end pos index next : ℕ) (full : Bool) (last : ℕ) → 0 < last → Reaches H source old slice end pos index next IsNotFull
+pub Reaches-open : {H : List ℕ → Type 0} {source old slice : List ℕ} {end pos index next : ℕ} (full : Bool) (last : ℕ) → 0 < last → Reaches H source old slice end pos index next IsNotFull
     → Reaches H source old slice end pos index next (IsNotedAt full last pos)
-Reaches-open H source old slice end pos index next full last some r =
-    let other : (last == 0) ≡ false = ne_eqb last 0 (λ e. omega arith) in
-    Reaches-at H source old slice end pos index next IsNotFull (IsNotedAt full last pos) slice pos index next refl refl refl refl (λ noted open' done. open' ∙ sym (ap (λ (b : Bool). if b then full else false) other)) r
+Reaches-open full last some r = grind (arith, ne_eqb)
 
 -- n blocks of no bytes behind a closed one
 pub Reaches-ones : (n : ℕ) (H : List ℕ → Type 0) (source old slice after : List ℕ) (end pos index : ℕ) → pos + n ≤ length source → take n (drop pos source) ≡ replicate n 0 → end ≤ length slice
     → take (index + n) after ≡ take index slice ++ replicate n 1 → drop end after ≡ drop end old → Reaches H source old slice end pos index (index + 1) IsNotFull
     → Reaches H source old after end (pos + n) (index + n) (index + n + 1) IsNotFull
 Reaches-ones zero H source old slice after end pos index within zeros fits front back r =
-    let same : take index after ≡ take index slice = ap (λ (n : ℕ). take n after) (let e : index ≡ index + 0 = omega arith in e) ∙ front ∙ append-nil (take index slice) in
-    Reaches-at H source old after end pos index (index + 1) IsNotFull IsNotFull after (pos + 0) (index + 0) (index + 0 + 1) refl (omega arith) (omega arith) (omega arith) (λ full p. p)
+    let same : take index after ≡ take index slice = grind (arith, append-nil) in
+    Reaches-at refl (omega arith) (omega arith) (omega arith) (λ full p. p)
     (Reaches-same-empty H source old slice end pos index (index + 1) IsNotFull IsNotFull after refl same back r)
 Reaches-ones (suc n) H source old slice after end pos index within zeros fits front back r =
     let o = least source end pos index (index + 1) r.ordered r.within r.room in
     let l = length-set slice index 1 in
-    let more : pos < length source = omega arith in
-    let left : drop pos source ≡ get_or source pos 0 ∷ drop (pos + 1) source = drop_more source pos 0 more in
-    let all : get_or source pos 0 ∷ take n (drop (pos + 1) source) ≡ 0 ∷ replicate n 0 = ap (take (suc n)) (sym left) ∙ zeros in
+    let left = drop_more source pos 0 (omega arith) in
     let first : get_or source pos 0 ≡ 0 = cc in
     let others : take n (drop (pos + 1) source) ≡ replicate n 0 = cc in
-    let one : index + 1 - index ≡ 1 = omega arith in
-    let z = Reaches-zero H source old slice end pos index (index + 1) IsNotFull IsNotFull more first (omega arith) fits refl r in
-    let z' = subst (λ (c : ℕ). Reaches H source old (set slice index c) end (pos + 1) (index + 1) (index + 1 + 1) IsNotFull) one z in
-    let sum : index + suc n ≡ index + 1 + n = omega arith in
-    let front' : take (index + 1 + n) after ≡ take (index + 1) (set slice index 1) ++ replicate n 1 =
-    ap (λ (k : ℕ). take k after) (sym sum) ∙ front ∙ sym (append_assoc (take index slice) (1 ∷ []) (replicate n 1))
-    ∙ ap (λ (x : List ℕ). x ++ replicate n 1) (sym (take_more_set slice index 1 (omega arith))) in
-    let ih = Reaches-ones n H source old (set slice index 1) after end (pos + 1) (index + 1) (omega arith) others (omega arith) front' back z' in
-    Reaches-at H source old after end (pos + 1 + n) (index + 1 + n) (index + 1 + n + 1) IsNotFull IsNotFull after (pos + suc n) (index + suc n) (index + suc n + 1) refl (omega arith) (omega arith) (omega arith) (λ full p. p) ih
+    let z = Reaches-zero H source old slice end pos index (index + 1) IsNotFull IsNotFull (omega arith) first (omega arith) fits refl r in
+    let front' : take (index + 1 + n) after ≡ take (index + 1) (set slice index 1) ++ replicate n 1 = grind (arith, append_assoc, take_more_set) in
+    let ih = Reaches-ones n H source old (set slice index 1) after end (pos + 1) (index + 1) (omega arith) others (omega arith) front' back (grind arith) in
+    Reaches-at refl (omega arith) (omega arith) (omega arith) (λ full p. p) ih
 
 -- zeros close the open block, and the ones behind it
 pub Reaches-zeros : (n : ℕ) (H : List ℕ → Type 0) (source old slice after : List ℕ) (end pos index next : ℕ) (P : Bool → Type 0) → pos + suc n ≤ length source → take (suc n) (drop pos source) ≡ replicate (suc n) 0 → end ≤ length slice
@@ -182,11 +156,9 @@ pub Reaches-zeros : (n : ℕ) (H : List ℕ → Type 0) (source old slice after 
     → Reaches H source old after end (pos + suc n) (next + n) (next + n + 1) IsNotFull
 Reaches-zeros n H source old slice after end pos index next P within zeros fits short front back r =
     let l = length-set slice index (next - index) in
-    let more : pos < length source = omega arith in
-    let left : drop pos source ≡ get_or source pos 0 ∷ drop (pos + 1) source = drop_more source pos 0 more in
-    let all : get_or source pos 0 ∷ take n (drop (pos + 1) source) ≡ 0 ∷ replicate n 0 = ap (take (suc n)) (sym left) ∙ zeros in
+    let left = drop_more source pos 0 (omega arith) in
     let first : get_or source pos 0 ≡ 0 = cc in
     let others : take n (drop (pos + 1) source) ≡ replicate n 0 = cc in
-    let z = Reaches-zero H source old slice end pos index next P IsNotFull more first short fits refl r in
+    let z = Reaches-zero H source old slice end pos index next P IsNotFull (omega arith) first short fits refl r in
     let all = Reaches-ones n H source old (set slice index (next - index)) after end (pos + 1) next (omega arith) others (omega arith) front back z in
-    Reaches-at H source old after end (pos + 1 + n) (next + n) (next + n + 1) IsNotFull IsNotFull after (pos + suc n) (next + n) (next + n + 1) refl (omega arith) refl refl (λ full p. p) all
+    Reaches-at refl (omega arith) refl refl (λ full p. p) all

@@ -17,13 +17,9 @@ more-ones old dest after at count n room first next =
     let a : length (take at old) ≡ at = length-take-le at old (omega arith) in
     let behind : List ℕ = drop (at + count) old in
     let whole : dest ≡ (take at old ++ ones) ++ behind = first ∙ sym (append_assoc (take at old) ones behind) in
-    let front : take (at + count) dest ≡ take at old ++ ones =
-    ap (take (at + count)) whole ∙ take_at (take at old ++ ones) behind (at + count) (length-append (take at old) ones ∙ omega arith) in
-    let rest : drop (at + count + n) dest ≡ drop (at + (count + n)) old =
-    ap (drop (at + count + n)) first ∙ behind-three old ones at count l (omega arith) (at + count + n) (omega arith) ∙ ap (λ (k : ℕ). drop k old) (omega arith) in
+    let front : take (at + count) dest ≡ take at old ++ ones = grind (arith, take_at, length-append) in
+    let rest : drop (at + count + n) dest ≡ drop (at + (count + n)) old = grind (arith, behind-three) in
     let end : List ℕ = drop (at + (count + n)) old in
-    next ∙ ap (λ (x : List ℕ). x ++ (replicate n 1 ++ drop (at + count + n) dest)) front
-    ∙ ap (λ (x : List ℕ). (take at old ++ ones) ++ (replicate n 1 ++ x)) rest
-    ∙ append_assoc (take at old) ones (replicate n 1 ++ end)
-    ∙ ap (λ (x : List ℕ). take at old ++ x) (sym (append_assoc ones (replicate n 1) end))
+    next ∙ ap (λ (x : List ℕ). x ++ (replicate n 1 ++ drop (at + count + n) dest)) front ∙ ap (λ (x : List ℕ). (take at old ++ ones) ++ (replicate n 1 ++ x)) rest
+    ∙ append_assoc (take at old) ones (replicate n 1 ++ end) ∙ ap (λ (x : List ℕ). take at old ++ x) (sym (append_assoc ones (replicate n 1) end))
     ∙ ap (λ (x : List ℕ). take at old ++ (x ++ end)) (replicate-append-replicate count n 1)

@@ -3,25 +3,31 @@ use Rattle.std.proofs.Common.{◌≡◌, ℕ, ◌+◌, ◌-◌, ◌<◌, ◌≤�
 use Rattle.std.proofs.Math.ListN.{set}
 use Rattle.std.proofs.Math.Seq.{take-add}
 use Rattle.std.proofs.lemmas.Bool.{cases_Bool, cases_lt}
-use Rattle.std.proofs.lemmas.List.{drop-drop, drop_all, length-set}
+use Rattle.std.proofs.lemmas.List.{drop-drop, drop_all, length-set, take_rest}
 use Rattle.std.proofs.lemmas.Grind.{common_steps}
 use Rattle.cobs.specs.Length.{encoded_len, open_len}
 use Rattle.cobs.specs.OpenBlock.{Reached, CobsEncoderAfter, IsPlaceIn, end_after, end_of, next_of}
 use Rattle.cobs.specs.Internal.Taking.{TakesFront}
-use Rattle.cobs.proofs.encoding.AfterLemmas.{at, end-is}
-use Rattle.cobs.proofs.encoding.CoreLemmas.{after-nothing, core-noted, after-len, after-so-far, full-after, full-end, full-rest}
+use Rattle.cobs.proofs.encoding.AfterLemmas.{at, end-is, from_after}
+use Rattle.cobs.proofs.encoding.OpenLemmas.{All-front}
+use Rattle.cobs.proofs.encoding.CoreLemmas.{after-fits, after-nothing, after-len, after-so-far, full-after, full-end, full-rest}
 use Rattle.cobs.proofs.encoding.OpenLenLemmas.{open_len-least, open_len-most}
-use Rattle.cobs.proofs.encoding.ReachLemmas.{Reaches, Reaches-at, ends-open, least}
-
-pub no-bytes : (bytes : List ℕ) → length bytes ≡ 0 → bytes ≡ []
-no-bytes [] e = refl
-no-bytes (b ∷ bytes) e = absurd (omega arith)
+use Rattle.cobs.proofs.encoding.ReachLemmas.{Reaches, Reaches-noted, Reaches-weaker, ends-open, least}
 
 pub after-some : (r : Reached) (bytes : List ℕ) → 0 < length bytes → end_after r bytes ≡ r.block.index + open_len r.block.code bytes
 after-some r bytes h = grind arith
 
 -- for the tactics of `take`
 pub ruleset short_room = (after-some, open_len-most, cases_Bool)
+
+-- an encoder that has taken a message stands at a place
+pub after-place : (slice m : List ℕ) (r : Reached) → CobsEncoderAfter slice r m → IsPlaceIn (length slice) r
+after-place slice m r h =
+    let o = h.follows.1 in
+    let block = (All-front o.front (r.block.code ∷ o.bytes) o.frame.each).1 in
+    let end = end-is slice m r h in
+    let within = after-fits slice m r h in
+    record { some = let c = block.0 in omega arith; not_full = o.not_full; fits = omega arith }
 
 -- how long the frame is once the encoder has taken these bytes too
 pub after-end : (slice m bytes : List ℕ) (r : Reached) → CobsEncoderAfter slice r m → encoded_len (m ++ bytes) ≡ end_after r bytes
@@ -33,26 +39,21 @@ pub next-least : (r : Reached) (source : List ℕ) → 0 < r.block.code → 0 < 
 next-least r source code some = let e = after-some r source some in let l = open_len-least r.block.code source code in omega arith
 
 module _ (source old : List ℕ) (r : Reached) (some : 0 < length source) (code : 0 < r.block.code) (short : r.block.code < 255) where
-  coded : next_of r - r.block.index ≡ r.block.code
-  coded = omega arith
-
-  place : at r.block.index (next_of r - r.block.index) r.full ≡ r
-  place = ap (λ (n : ℕ). at r.block.index n r.full) coded
-
   pub reaches-noted : Reaches (CobsEncoderAfter old r) source old old (end_after r source) 0 r.block.index (next_of r) (λ noted. noted ≡ r.full)
   reaches-noted =
-      subst (λ (e : ℕ). Reaches (CobsEncoderAfter old r) source old old e 0 r.block.index (next_of r) (λ noted. noted ≡ r.full)) (sym (after-some r source some))
-      (core-noted source old r r.block.index (next_of r) r.full place (omega arith) (omega arith))
+      let coded : next_of r - r.block.index ≡ r.block.code = omega arith in
+      Reaches-noted (CobsEncoderAfter old r) source old (end_after r source) r.block.index (next_of r) r.full (omega arith) (omega arith)
+      (ap (λ (n : ℕ). r.block.index + open_len n source) coded ∙ sym (after-some r source some)) (λ m h. from_after old m r h)
 
   pub reaches-start : Reaches (CobsEncoderAfter old r) source old old (end_after r source) 0 r.block.index (next_of r) (λ _. Unit {0})
-  reaches-start = Reaches-at _ _ _ _ _ _ _ _ _ _ _ _ _ _ refl refl refl refl (λ noted p. tt) reaches-noted
+  reaches-start = Reaches-weaker (λ noted p. tt) reaches-noted
 
 -- where a step ends
-module _ (source old slice : List ℕ) (r r' : Reached) (fits : end_after r source ≤ length slice) where
+module _ {source old slice : List ℕ} {r r' : Reached} (fits : end_after r source ≤ length slice) where
   -- so far, which is not the whole source behind a full block
-  pub front-taken : (pos index next : ℕ) (full : Bool) → Reaches (CobsEncoderAfter old r) source old slice (end_after r source) pos index next (λ noted. noted ≡ full) → next < index + 255
+  pub front-taken : {pos index next : ℕ} {full : Bool} → Reaches (CobsEncoderAfter old r) source old slice (end_after r source) pos index next (λ noted. noted ≡ full) → next < index + 255
       → (pos ≡ length source → full ≡ false) → r' ≡ at index (next - index) full → TakesFront old r source pos slice r'
-  front-taken pos index next full s short last is =
+  front-taken {pos} {index} {next} {full} s short last is =
       let l = least source (end_after r source) pos index next s.ordered s.within s.room in
       let d = length-drop pos source in
       let sum : index + (next - index) ≡ next = omega arith in
@@ -74,9 +75,9 @@ module _ (source old slice : List ℕ) (r r' : Reached) (fits : end_after r sour
       })
 
   -- the last byte filled its block
-  pub front-full : (pos index : ℕ) → Reaches (CobsEncoderAfter old r) source old slice (end_after r source) pos index (index + 255) (λ _. Unit {0}) → pos ≡ length source
+  pub front-full : {pos index : ℕ} → Reaches (CobsEncoderAfter old r) source old slice (end_after r source) pos index (index + 255) (λ _. Unit {0}) → pos ≡ length source
       → r' ≡ at (index + 255) 1 true → TakesFront old r source pos (set slice index 255) r'
-  front-full pos index s last is =
+  front-full {pos} {index} s last is =
       let l = length-set slice index 255 in
       let e = full-end (CobsEncoderAfter old r) source old slice (end_after r source) pos index s fits last in
       let one : index + 255 + 1 - (index + 255) ≡ 1 = omega arith in
@@ -143,3 +144,10 @@ module _ (slice : List ℕ) (r : Reached) (is : r ≡ at 0 1 false) (some : 0 < 
 
     pub start-len : end_of r' ≡ encoded_len source
     start-len = all-end t ∙ start-fits source
+
+-- for the tactics of the functions that take a source in steps, of those that begin with nothing, and of the encoders
+pub ruleset next_steps = (next-least, left-end, front-next, take_rest)
+
+pub ruleset from_start = (start-fits, start-place, left-end, all-rest, take_rest)
+
+pub ruleset encoder_steps = (end-is, after-end, all-after, all-rest)

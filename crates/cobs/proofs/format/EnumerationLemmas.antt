@@ -1,6 +1,7 @@
 -- All frames of a message.
-use Rattle.std.proofs.Common.{◌≡◌, ◌≢◌, ℕ, ◌+◌, ◌==◌, ◌↔◌, true, false, List, [], ◌∷◌, ◌++◌, length, map, set, All, refl, sym, ap, ◌∙◌, subst, arith, append-nil, append_assoc, length-append, inl, inr, ⊎_elim, ◌⊎◌}
+use Rattle.std.proofs.Common.{◌≡◌, ◌≢◌, ℕ, zero, suc, ◌+◌, ◌↔◌, true, false, List, [], ◌∷◌, ◌++◌, length, map, set, All, refl, sym, ap, ◌∙◌, subst, arith, append-nil, append_assoc, length-append, inl, inr, ⊎_elim, ◌⊎◌}
 use Rattle.std.specs.List.{concat, join_with_byte}
+use Rattle.std.proofs.lemmas.List.Folds.{concat-append}
 use Rattle.std.proofs.lemmas.List.{length_push}
 use Rattle.std.proofs.lemmas.Bool.{cases_Bool, cases_eq, true≢false, eqb-true, eqb-false}
 use Rattle.std.proofs.lemmas.List.Elements.{All-head, All-tail}
@@ -8,14 +9,13 @@ use Rattle.std.proofs.lemmas.List.Splits.{slice_split_none, slice_split_at, join
 use Rattle.cobs.specs.Grammar.{HasNoZero, IsBlock, is_full, IsFull, joint, lone_block, message_of, last_of, IsFrameOf, IsOpenFrame, Reads, IsEncodedFrame}
 use Rattle.cobs.specs.Length.{last_number, last_run, EndsInFullRun, encoded_len}
 use Rattle.cobs.specs.OpenBlock.{EncoderAfter, OpenBlock, next_open}
-use Rattle.cobs.specs.Stream.{stretches}
 use Rattle.cobs.proofs.encoding.OpenLemmas.{IsOpenFrame-start, open-full, open-more, open-zero}
 use Rattle.cobs.specs.Laws.{IsFrameFor}
-use Rattle.cobs.proofs.format.FrameLemmas.{last_of-cons, last_of-push}
+use Rattle.cobs.proofs.format.FrameLemmas.{All-apart, last_of-cons, last_of-push}
 use Rattle.cobs.proofs.format.GrammarLemmas.{lone_block-reads, IsShorter, IsShorter-tail, IsShorter-cons, IsShorter-single}
 use Rattle.cobs.proofs.format.LengthLemmas.{no_zero, some_stretch, stretches-append, onto_parts}
-use Rattle.cobs.proofs.format.JoinLemmas.{concat-append, message_of-append, All-left, Reads-append}
-use Rattle.cobs.proofs.format.UniqueLemmas.{IsEncodedFrame-shorter, full-more, message-rest, length-encoded}
+use Rattle.cobs.proofs.format.JoinLemmas.{message_of-append, Reads-append}
+use Rattle.cobs.proofs.format.UniqueLemmas.{IsEncodedFrame-shorter, first-block, length-encoded}
 
 -- THE LAST RUN
 
@@ -37,9 +37,8 @@ last-onto_parts bytes ps h = grind (arith, length-append)
 
 last_run-append : (bytes m : List ℕ) → HasNoZero bytes → (last_run (bytes ++ m) ≡ last_run m) ⊎ ((last_run (bytes ++ m) ≡ length bytes + last_run m) × (length m ≡ last_run m))
 last_run-append bytes m h =
-    let e = ap (λ ps. last_number (map length ps)) (stretches-append bytes m h) in
-    let j = ap length (join_with_byte-slice_split 0 m) in
-    ⊎_elim (λ k. inl (e ∙ k)) (λ k. inr (e ∙ k.0, sym j ∙ k.1)) (last-onto_parts bytes (stretches m) (some_stretch m))
+    let j = join_with_byte-slice_split 0 m in
+    grind (arith, stretches-append, last-onto_parts, some_stretch)
 
 -- what follows a full block ends in a full run exactly where all does
 full_run-append : (bytes k : List ℕ) → length bytes ≡ 254 → HasNoZero bytes → k ≢ [] → EndsInFullRun (bytes ++ k) ↔ EndsInFullRun k
@@ -56,20 +55,13 @@ ends_full ((c ∷ bytes) ∷ []) some h s =
     let l = last_run-all bytes is.2 in
     grind (arith, eqb-true, eqb-false)
 ends_full ((c ∷ bytes) ∷ d ∷ ds) some h s =
-    let is = All-head IsBlock (c ∷ bytes) (d ∷ ds) h in
-    let code = is.0 in let cap = is.1 in
+    let nonzero = (All-head IsBlock (c ∷ bytes) (d ∷ ds) h).2 in
     let k : List ℕ = message_of (d ∷ ds) in
     let ih = ends_full (d ∷ ds) (λ e. cc) (All-tail IsBlock (c ∷ bytes) (d ∷ ds) h) (IsShorter-tail (c ∷ bytes) (d ∷ ds) s) in
     ⊎_elim
-    (λ (full : (c == 255) ≡ true).
-    let n : c ≡ 255 = eqb-true c 255 full in
-    let all : message_of ((c ∷ bytes) ∷ d ∷ ds) ≡ bytes ++ k = message-rest (c ∷ bytes) d ds true full in
-    let same = full_run-append bytes k (omega arith) is.2 (full-more (c ∷ bytes) d ds h s full) in
-    (λ t. subst EndsInFullRun (sym all) (same.1 (ih.0 t)), λ x. ih.1 (same.0 (subst EndsInFullRun all x))))
-    (λ (open' : (c == 255) ≡ false).
-    let e = ap last_run (message-rest (c ∷ bytes) d ds false open') ∙ last_run-zero bytes k is.2 in
-    grind arith)
-    (cases_Bool (c == 255))
+    (λ o. let same = ap last_run o.1 ∙ last_run-zero bytes k nonzero in grind arith)
+    (λ f. let all = f.1 in let same = full_run-append bytes k f.0 nonzero f.2 in grind arith)
+    (first-block c bytes d ds h s)
 
 -- the same of an encoded frame
 pub ends_in_full : (g m : List ℕ) (e : IsEncodedFrame g m) → IsFull (last_of e.reads.blocks) ↔ EndsInFullRun m
@@ -112,7 +104,7 @@ frames_of f m r = ⊎_elim
     (λ s. inl (record { reads = r; canonical = record { blocks = r.blocks; frame = r.frame; shorter = s } }))
     (λ (w : EndsInLone r.blocks).
     let cs = w.0 in
-    let frame : IsFrameOf (concat cs) cs = record { some = w.2; each = All-left cs (lone_block ∷ []) (subst (All IsBlock) w.1 r.frame.each); whole = refl } in
+    let frame : IsFrameOf (concat cs) cs = record { some = w.2; each = (All-apart IsBlock cs (lone_block ∷ []) (subst (All IsBlock) w.1 r.frame.each)).0; whole = refl } in
     let message : m ≡ message_of cs = grind (arith, message_of-append, append-nil) in
     let encoded : IsEncodedFrame (concat cs) m = record { reads = record { blocks = cs; frame = frame; message = message }; canonical = record { blocks = cs; frame = frame; shorter = w.3 } } in
     let whole : f ≡ concat cs ++ lone_block = r.frame.whole ∙ ap concat w.1 ∙ concat-append cs (lone_block ∷ []) in
@@ -152,15 +144,11 @@ open_longer f m index code o x = ⊎_elim
 
 -- a byte behind a message that an encoder has taken
 pub EncoderAfter-push : (state : OpenBlock) (m : List ℕ) (b : ℕ) → EncoderAfter state m → EncoderAfter (next_open state b) (m ++ b ∷ [])
-EncoderAfter-push state m b (f, o) =
-    let g : List ℕ = set f state.index 0 in
-    ⊎_elim
-    (λ (zero : b ≡ 0). let r = open-zero m f g state.index state.code o (0, refl) 0 in subst (λ (x : ℕ). EncoderAfter (next_open state x) (m ++ x ∷ [])) (sym zero) (r.0, r.1))
-    (λ (some : b ≢ 0). ⊎_elim
-    (λ (full : state.code ≡ 254). let r = open-full m f g state.index state.code o (0, refl) b 0 some full in grind arith)
-    (λ (room : state.code ≢ 254). let r = open-more m f g state.index state.code o (0, refl) b some room in grind arith)
-    (cases_eq state.code 254))
-    (cases_eq b 0)
+EncoderAfter-push state m zero (f, o) = let r = open-zero m f (set f state.index 0) state.index state.code o (0, refl) 0 in (r.0, r.1)
+EncoderAfter-push state m (suc b) (f, o) = ⊎_elim
+    (λ (full : state.code ≡ 254). let r = open-full m f (set f state.index 0) state.index state.code o (0, refl) (suc b) 0 (λ e. omega arith) full in grind arith)
+    (λ (room : state.code ≢ 254). let r = open-more m f (set f state.index 0) state.index state.code o (0, refl) (suc b) (λ e. omega arith) room in grind arith)
+    (cases_eq state.code 254)
 
 after_all : (more m : List ℕ) (state : OpenBlock) → EncoderAfter state m → (next : OpenBlock) × EncoderAfter next (m ++ more)
 after_all [] m state h = (state, subst (EncoderAfter state) (sym (append-nil m)) h)

@@ -1,9 +1,9 @@
 -- A frame reads as its output: the parts of a frame are its blocks.
-use Rattle.std.proofs.Common.{◌≡◌, ◌≢◌, ℕ, zero, suc, ◌-◌, ◌<◌, ◌≤◌, List, [], ◌∷◌, ◌++◌, length, take, drop, All, refl, sym, ap, ◌∙◌, subst, arith, append-nil, length-take, length-take-le, take-append-drop, take_at, drop_at, ⊎_elim}
+use Rattle.std.proofs.Common.{◌≡◌, ◌≢◌, ℕ, zero, suc, ◌-◌, ◌<◌, ◌≤◌, List, [], ◌∷◌, ◌++◌, length, take, drop, All, refl, sym, ap, ◌∙◌, subst, arith, append-nil, append_assoc, length-take, length-take-le, take-append-drop, take_at, drop_at, ⊎_elim}
 use Rattle.std.specs.List.{concat}
 use Rattle.std.proofs.lemmas.Bool.{cases_lt, eq-eqb, eqb-true}
 use Rattle.std.proofs.lemmas.List.{drop_all}
-use Rattle.std.proofs.lemmas.List.Elements.{All-head, All-tail, All-cons, All-nil, All-append, All-take}
+use Rattle.std.proofs.lemmas.List.Elements.{All-head, All-tail, All-cons, All-nil, All-append, All-take, All-drop}
 use Rattle.cobs.specs.Grammar.{HasNoZero, IsBlock, bytes_of, joint, message_of, last_of, IsFrameOf, Reads}
 use Rattle.cobs.specs.Piece.{parts_after, parts, last_part, lacks, is_whole, IsWhole, output}
 
@@ -59,10 +59,13 @@ pub parts-block : (block rest : List ℕ) → IsBlock block → parts (block ++ 
 unfolding parts parts_after
 parts-block block rest h = grind (arith, take_at, drop_at, parts_after-drop)
 
+pub parts-append : (blocks : List (List ℕ)) (rest : List ℕ) → All IsBlock blocks → parts (concat blocks ++ rest) ≡ blocks ++ parts rest
+parts-append [] rest h = refl
+parts-append (block ∷ blocks) rest h = grind (arith, append_assoc, parts-block, All-head, (parts-append blocks rest (All-tail IsBlock block blocks h)))
+
 pub parts-blocks : (blocks : List (List ℕ)) → All IsBlock blocks → parts (concat blocks) ≡ blocks
 unfolding parts parts_after
-parts-blocks [] h = refl
-parts-blocks (block ∷ blocks) h = grind (arith, parts-block, All-head, All-tail, (parts-blocks blocks (All-tail IsBlock block blocks h)))
+parts-blocks blocks h = ap parts (sym (append-nil (concat blocks))) ∙ parts-append blocks [] h ∙ append-nil blocks
 
 pub parts-frame : (f : List ℕ) (blocks : List (List ℕ)) → IsFrameOf f blocks → parts f ≡ blocks
 parts-frame f blocks frame = ap parts frame.whole ∙ parts-blocks blocks frame.each
@@ -134,11 +137,11 @@ reads_output f some nonzero below whole = grind (arith, parts-some, blocks_of_wh
 -- A FRAME OF BYTES
 
 -- two lists end to end, each by itself
-pub All-apart : (P : ℕ → Type 0) (xs ys : List ℕ) → All P (xs ++ ys) → All P xs × All P ys
-All-apart P [] ys h = (All-nil P, h)
-All-apart P (x ∷ xs) ys h =
-    let more = All-apart P xs ys (All-tail P x (xs ++ ys) h) in
-    (All-cons P x xs (All-head P x (xs ++ ys) h) more.0, more.1)
+pub All-apart : {X : Type 0} (P : X → Type 0) (xs ys : List X) → All P (xs ++ ys) → All P xs × All P ys
+All-apart P xs ys h = (
+  subst (All P) (take_at xs ys (length xs) refl) (All-take P (length xs) (xs ++ ys) h),
+  subst (All P) (drop_at xs ys (length xs) refl) (All-drop P (length xs) (xs ++ ys) h),
+)
 
 block_bytes : (block : List ℕ) → IsBlock block → All (λ b. b < 256) (bytes_of block) → All (λ b. b < 256) block
 block_bytes block h e = grind (arith, All-cons)

@@ -1,10 +1,9 @@
 -- Blocks and frames, and which frame a block makes of the bytes behind it.
-use Rattle.std.proofs.Common.{◌≡◌, ◌≢◌, ◌↔◌, ℕ, ◌+◌, ◌<◌, true, false, List, [], ◌∷◌, ◌++◌, length, All, refl, sym, ap, ◌∙◌, subst, arith, append-nil, append_assoc, length-append, length-take}
+use Rattle.std.proofs.Common.{◌≡◌, ◌≢◌, ◌↔◌, ℕ, ◌+◌, ◌<◌, List, [], ◌∷◌, ◌++◌, length, All, refl, sym, ap, ◌∙◌, subst, arith, append-nil, length-append, length-take}
 use Rattle.std.specs.List.{concat}
-use Rattle.std.proofs.lemmas.Bool.{ne_eqb, eq-eqb}
 use Rattle.std.proofs.lemmas.List.{append_cancel_left}
 use Rattle.std.proofs.lemmas.List.Elements.{All-cons, All-nil, All-head, All-tail}
-use Rattle.cobs.specs.Grammar.{HasNoZero, IsBlock, IsFull, is_full, bytes_of, joint, lone_block, message_of, IsFrame, IsFrameOf, Reads, IsCanonical, IsEncodedFrame}
+use Rattle.cobs.specs.Grammar.{IsBlock, IsFull, bytes_of, joint, lone_block, message_of, IsFrame, IsFrameOf, Reads, IsCanonical}
 use Rattle.cobs.specs.Piece.{parts, parts_after}
 use Rattle.cobs.proofs.format.FrameLemmas.{parts-block, parts-frame, frame_output}
 
@@ -45,46 +44,19 @@ IsCanonical-cons b f h apart r = record {
   shorter = IsShorter-cons b r.blocks (λ full e. apart full (r.frame.whole ∙ ap concat e)) r.shorter;
 }
 
--- a block alone is the encoded frame of its bytes
+-- a block alone is a canonical frame
 pub block-frame : (b : List ℕ) → IsBlock b → IsFrameOf b (b ∷ [])
 block-frame b h = record { some = λ e. cc; each = All-cons IsBlock b [] h (All-nil IsBlock); whole = sym (append-nil b) }
 
-abbrev pub Reads-block : (b : List ℕ) → IsBlock b → Reads b (bytes_of b)
-Reads-block b h = record { blocks = b ∷ []; frame = block-frame b h; message = refl }
-
-pub IsEncodedFrame-block : (b : List ℕ) → IsBlock b → IsEncodedFrame b (bytes_of b)
-IsEncodedFrame-block b h = record {
-  reads = Reads-block b h;
-  canonical = record { blocks = b ∷ []; frame = block-frame b h; shorter = IsShorter-single b };
-}
+pub IsCanonical-block : (b : List ℕ) → IsBlock b → IsCanonical b
+IsCanonical-block b h = record { blocks = b ∷ []; frame = block-frame b h; shorter = IsShorter-single b }
 
 pub lone_block-is_block : IsBlock lone_block
 lone_block-is_block = (refl, omega arith, All-nil (λ byte. byte ≢ 0))
 
 -- the lone block reads as the empty message
 pub lone_block-reads : Reads lone_block []
-lone_block-reads = Reads-block lone_block lone_block-is_block
-
--- a block stands last in an encoded frame
-pub IsEncodedFrame-last : (bytes : List ℕ) → length bytes < 255 → HasNoZero bytes → IsEncodedFrame ((length bytes + 1) ∷ bytes) bytes
-IsEncodedFrame-last bytes l h = IsEncodedFrame-block ((length bytes + 1) ∷ bytes) (refl, omega arith, h)
-
--- a block stands in front of an encoded frame, of a message that is written in another way
-encoded-cons : (b f m k : List ℕ) → IsBlock b → (IsFull b → f ≢ lone_block) → IsEncodedFrame f m → bytes_of b ++ joint b ++ m ≡ k → IsEncodedFrame (b ++ f) k
-encoded-cons b f m k h apart e is = record { reads = subst (Reads (b ++ f)) is (Reads-cons b f m h e.reads); canonical = IsCanonical-cons b f h apart e.canonical }
-
--- a block that isn't full stands in front of an encoded frame: a zero joins them
-pub IsEncodedFrame-zero : (bytes f m : List ℕ) → length bytes < 254 → HasNoZero bytes → IsEncodedFrame f m → IsEncodedFrame ((length bytes + 1) ∷ bytes ++ f) (bytes ++ 0 ∷ m)
-IsEncodedFrame-zero bytes f m l h e =
-    let open' : is_full ((length bytes + 1) ∷ bytes) ≡ false = ne_eqb (length bytes + 1) 255 (λ e. omega arith) in
-    encoded-cons ((length bytes + 1) ∷ bytes) f m (bytes ++ 0 ∷ m) (refl, omega arith, h) (λ full. cc) e (grind (arith, append_assoc))
-
--- a full block stands in front of the encoded frame of a message that isn't empty
-pub IsEncodedFrame-full : (bytes f m : List ℕ) → length bytes ≡ 254 → HasNoZero bytes → m ≢ [] → IsEncodedFrame f m → IsEncodedFrame ((length bytes + 1) ∷ bytes ++ f) (bytes ++ m)
-IsEncodedFrame-full bytes f m l h more e =
-    let full : is_full ((length bytes + 1) ∷ bytes) ≡ true = eq-eqb (length bytes + 1) 255 (omega arith) in
-    encoded-cons ((length bytes + 1) ∷ bytes) f m (bytes ++ m) (refl, omega arith, h)
-    (λ _ only. more (one_message lone_block m [] (subst (λ (x : List ℕ). Reads x m) only e.reads) lone_block-reads)) e (grind (arith, append_assoc))
+lone_block-reads = record { blocks = lone_block ∷ []; frame = block-frame lone_block lone_block-is_block; message = refl }
 
 -- A BLOCK IN FRONT OF OTHER BYTES: WHICH FRAME THE TWO MAKE
 

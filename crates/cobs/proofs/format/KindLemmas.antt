@@ -1,5 +1,5 @@
 -- Which frame bytes are, by what is left behind their first blocks.
-use Rattle.std.proofs.Common.{◌≡◌, ◌≢◌, ◌↔◌, ℕ, ◌+◌, ◌<◌, ◌≤◌, Bool, true, List, [], ◌∷◌, ◌++◌, length, take, drop, get_or, All, IsTrue, refl, sym, ap, ◌∙◌, subst, arith, append_assoc, append-nil, length-append, length-drop, take-append-drop, take_all}
+use Rattle.std.proofs.Common.{◌≡◌, ◌≢◌, ◌↔◌, ℕ, ◌<◌, Bool, true, List, [], ◌∷◌, ◌++◌, length, take, drop, get_or, All, IsTrue, refl, sym, ap, ◌∙◌, subst, arith, append_assoc, append-nil, length-append, length-drop, take-append-drop, take_all, ⊎_elim}
 use Rattle.std.specs.List.{concat}
 use Rattle.std.proofs.lemmas.Bool.{cases_Bool, eq-eqb, eqb-true, ne_eqb}
 use Rattle.std.proofs.lemmas.List.Elements.{All-head, All-tail, All-take}
@@ -8,10 +8,10 @@ use Rattle.cobs.specs.Piece.{last_part, output}
 use Rattle.cobs.specs.Internal.Decoded.{IsFlat}
 use Rattle.cobs.specs.declared.dec.blocks.FrameKind.{FrameKind}
 use Rattle.cobs.specs.declared.dec.blocks.FrameKind.TheVariants.{NotAFrame, Canonical, Longer}
-use Rattle.cobs.proofs.format.FrameLemmas.{All-apart, last_of-push, parts-blocks, parts-frame, frame_some, reads_output}
+use Rattle.cobs.proofs.format.FrameLemmas.{All-apart, parts-frame, frame_some, reads_output}
 use Rattle.cobs.proofs.format.GrammarLemmas.{front-canonical, front-frame, short-frame}
-use Rattle.cobs.proofs.format.JoinLemmas.{All-left, concat-append, message_of-append}
-use Rattle.cobs.proofs.decoding.PieceCuts.{last_part-last, output-le}
+use Rattle.cobs.proofs.format.EnumerationLemmas.{all_frames, length-second}
+use Rattle.cobs.proofs.decoding.PieceCuts.{last_part-last}
 use Rattle.cobs.proofs.decoding.FlatLemmas.{flat-is_whole}
 
 -- WHAT A KIND SAYS
@@ -78,24 +78,10 @@ front-reads p flat nonzero below = reads_output p (λ e. omega (arith, ap length
 
 -- and canonical: a full block in front of the lone one would be a byte more than the message has
 flat-canonical : (q : List ℕ) → IsFlat q → HasNoZero q → All (λ b. b < 256) q → IsCanonical q
-unfolding output
-flat-canonical q flat nonzero below =
-    let r : Reads q (output q) = front-reads q flat nonzero below in
-    record {
-      blocks = r.blocks;
-      frame = r.frame;
-      shorter = λ front block full same. (
-          let bs : List (List ℕ) = front ++ block ∷ [] in
-          let two : r.blocks ≡ bs ++ lone_block ∷ [] = same ∙ sym (append_assoc front (block ∷ []) (lone_block ∷ [])) in
-          let each = All-left bs (lone_block ∷ []) (subst (All IsBlock) two r.frame.each) in
-          let some : bs ≢ [] = λ e. omega (arith, ap length e, length-append front (block ∷ [])) in
-          let is : output (concat bs) ≡ message_of bs = ap message_of (parts-blocks bs each) in
-          let le : length (message_of bs) + 1 ≤ length (concat bs) = grind (arith, output-le, concat-append, length-append) in
-          let m : message_of (bs ++ lone_block ∷ []) ≡ message_of bs = grind (arith, message_of-append, append-nil, last_of-push) in
-          let whole = r.frame.whole ∙ ap concat two ∙ concat-append bs (lone_block ∷ []) in
-          omega (arith, flat.len, ap length (r.message ∙ ap message_of two ∙ m), ap length whole, length-append (concat bs) lone_block)
-          );
-    }
+flat-canonical q flat nonzero below = ⊎_elim
+    (λ e. e.canonical)
+    (λ w. absurd (omega (arith, flat.len, ap length w.1.2, length-second w.1.0 (output q) w.1.1 w.0)))
+    ((all_frames q (output q)).0 (front-reads q flat nonzero below))
 
 lone-is : (q : List ℕ) → IsFlat q → HasNoZero q → length q ≡ 1 → q ≡ lone_block
 lone-is [] flat nonzero one = absurd (omega arith)

@@ -1,8 +1,8 @@
 -- Lemmas on the length of an encoded frame.
-use Rattle.std.proofs.Common.{drop, take, get_or, take_all, length-take-le, take-append-drop, ◌≡◌, ◌≢◌, ℕ, ◌+◌, ◌<◌, ◌≤◌, ◌==◌, false, List, [], ◌∷◌, ◌++◌, length, map, All, refl, sym, ap, ◌∙◌, subst, arith, length-append}
+use Rattle.std.proofs.Common.{◌≡◌, ◌≢◌, ℕ, ◌+◌, ◌<◌, ◌≤◌, ◌==◌, false, List, [], ◌∷◌, ◌++◌, length, map, All, refl, ap, ◌∙◌, subst, arith, length-append}
 use Rattle.std.specs.List.{onto_first, join_with_byte}
 use Rattle.std.proofs.lemmas.Bool.{ne_eqb}
-use Rattle.std.proofs.lemmas.List.{length-replicate, length-drop, drop-drop, drop_more}
+use Rattle.std.proofs.lemmas.List.{length-replicate}
 use Rattle.std.proofs.lemmas.List.Elements.{All-weaker, All-replicate, All-head, All-tail}
 use Rattle.std.proofs.lemmas.List.Splits.{slice_split_none, slice_split_at, slice_split-cons_no, join_with_byte-slice_split, length-slice_split}
 use Rattle.cobs.specs.Grammar.{HasNoZero}
@@ -29,18 +29,11 @@ abbrev pub onto_parts : List ℕ → List (List ℕ) → List (List ℕ)
 onto_parts a [] = a ∷ []
 onto_parts a (p ∷ ps) = (a ++ p) ∷ ps
 
-onto_more : (x : ℕ) (a : List ℕ) (ps : List (List ℕ)) → onto_first x (onto_parts a ps) ≡ onto_parts (x ∷ a) ps
-onto_more x a ps = grind arith
-
-onto_none : (ps : List (List ℕ)) → ps ≢ [] → onto_parts [] ps ≡ ps
-onto_none ps h = grind arith
-
 -- nonzero bytes lengthen the first stretch
 pub stretches-append : (bytes m : List ℕ) → HasNoZero bytes → stretches (bytes ++ m) ≡ onto_parts bytes (stretches m)
-stretches-append [] m h = sym (onto_none (stretches m) (some_stretch m))
+stretches-append [] m h = let some = some_stretch m in grind arith
 stretches-append (b ∷ bs) m h =
-    slice_split-cons_no (λ b. b == 0) b (bs ++ m) (ne_eqb b 0 (All-head (λ b. b ≢ 0) b bs h))
-    ∙ ap (onto_first b) (stretches-append bs m (All-tail (λ b. b ≢ 0) b bs h)) ∙ onto_more b bs (stretches m)
+    slice_split-cons_no (λ b. b == 0) b (bs ++ m) (ne_eqb b 0 (All-head (λ b. b ≢ 0) b bs h)) ∙ ap (onto_first b) (stretches-append bs m (All-tail (λ b. b ≢ 0) b bs h)) ∙ grind arith
 
 full_more : (bytes : List ℕ) (parts : List (List ℕ)) → length bytes ≡ 254 → parts ≢ [] → join_with_byte 0 parts ≢ [] → full_blocks (map length (onto_parts bytes parts)) ≡ 1 + full_blocks (map length parts)
 full_more bytes [] l some more = absurd (some refl)
@@ -76,25 +69,3 @@ encoded_len-reached n =
 
 -- the bound, for the tactics of a function
 pub ruleset bounds = encoded_len-le
-
--- the three lemmas on a first block, for what is left of a message behind `read` bytes, of which the first `len` are nonzero
-module _ (source : List ℕ) (read len : ℕ) (short : len ≤ length (drop read source)) (nonzero : HasNoZero (take len (drop read source))) where
-  pub encoded_len-last-at : len < 255 → read + len ≡ length source → encoded_len (drop read source) ≡ len + 1
-  encoded_len-last-at cap end = grind (arith, length-drop, length-take-le, take_all, encoded_len-last)
-
-  pub encoded_len-zero-at : len < 254 → len < length (drop read source) → get_or (drop read source) len 0 ≡ 0 → encoded_len (drop read source) ≡ len + 1 + encoded_len (drop (read + len + 1) source)
-  encoded_len-zero-at cap more stop =
-      let rest : List ℕ = drop read source in
-      let b = length-take-le len rest short in
-      let sum : read + (len + 1) ≡ read + len + 1 = omega arith in
-      let parts : take len rest ++ 0 ∷ drop (read + len + 1) source ≡ rest =
-      ap (λ (x : List ℕ). take len rest ++ x) (sym (drop_more rest len 0 more ∙ ap (λ (k : ℕ). k ∷ drop (len + 1) rest) stop ∙ ap (λ (x : List ℕ). 0 ∷ x) (drop-drop (len + 1) read source ∙ ap (λ (k : ℕ). drop k source) sum)))
-      ∙ take-append-drop len rest in
-      sym (ap encoded_len parts) ∙ encoded_len-zero (take len rest) (drop (read + len + 1) source) (omega arith) nonzero ∙ ap (λ k. k + 1 + encoded_len (drop (read + len + 1) source)) b
-
-  pub encoded_len-full-at : len ≡ 254 → read + len ≢ length source → encoded_len (drop read source) ≡ 255 + encoded_len (drop (read + len) source)
-  encoded_len-full-at cap more =
-      let rest : List ℕ = drop read source in
-      let b = length-take-le len rest short in
-      let parts : take len rest ++ drop (read + len) source ≡ rest = ap (λ (x : List ℕ). take len rest ++ x) (sym (drop-drop len read source)) ∙ take-append-drop len rest in
-      grind (arith, length-drop, encoded_len-full)

@@ -1,5 +1,5 @@
 -- The stream of some messages: a frame and a zero for each.
-use Rattle.std.proofs.Common.{◌≡◌, ◌≢◌, ℕ, ◌+◌, ◌<◌, ◌≤◌, List, [], ◌∷◌, ◌++◌, length, take, set, map, All, refl, ap, ◌∙◌, subst, arith, append_assoc, length-append, length-take, get_or}
+use Rattle.std.proofs.Common.{◌≡◌, ◌≢◌, ℕ, ◌+◌, ◌<◌, ◌≤◌, List, [], ◌∷◌, ◌++◌, length, take, set, map, All, ap, ◌∙◌, subst, arith, append_assoc, length-append, length-take, get_or}
 use Rattle.std.specs.List.{AllZip, flat_map}
 use Rattle.std.proofs.lemmas.List.{take_more, take_more_set, map_push, take-map, flat_map_more, take-append-le}
 use Rattle.std.proofs.lemmas.List.Elements.{AllZip-push, All-nil, All-head, All-tail}
@@ -10,11 +10,11 @@ use Rattle.std.proofs.lemmas.Grind.{common_steps}
 use borrow.Rule.Slice.PartMut.{put_mid, post_of}
 use Rattle.cobs.specs.Grammar.{Reads, IsEncodedFrame}
 use Rattle.cobs.specs.Length.{max_encoded_len}
-use Rattle.cobs.specs.Stream.{Outcome, Message, outcome_of, stream_outcomes, unended}
+use Rattle.cobs.specs.Stream.{Outcome, Message, stream_outcomes}
 use Rattle.cobs.specs.Messages.{AreFrames, messages_in, room_for_frames}
 use Rattle.cobs.proofs.format.FrameLemmas.{frame_some, frame_nonzero}
 use Rattle.cobs.proofs.decoding.OutcomeLemmas.{outcome_frame}
-use Rattle.cobs.proofs.format.StreamLemmas.{stream_outcomes-append, stream_outcomes-piece, stream_outcomes-no_zero, unended-zero}
+use Rattle.cobs.proofs.format.StreamLemmas.{stream_outcomes-append, stream_outcomes-one, stream_outcomes-no_zero, unended-zero}
 
 -- ONE MORE MESSAGE
 
@@ -32,19 +32,14 @@ messages_in-more vectors i d within = ap messages_in (take_more vectors i d with
 
 -- THE ROOM
 
--- one more message takes the room of its longest frame and a zero
-pub room-more : (vectors : List (Vec ℕ)) (i : ℕ) (d : Vec ℕ) → i < length vectors
-    → room_for_frames (messages_in (take (i + 1) vectors)) ≡ room_for_frames (messages_in (take i vectors)) + (max_encoded_len (length (get_or vectors i d).items) + 1)
-room-more vectors i d within = grind (arith, common_steps, messages_in-more, sum_by-append)
-
 -- some of the messages take no more room than all of them
 pub room-some : (vectors : List (Vec ℕ)) (i : ℕ) → room_for_frames (messages_in (take i vectors)) ≤ room_for_frames (messages_in vectors)
 room-some vectors i = subst (λ (x : List (List ℕ)). room_for_frames x ≤ room_for_frames (messages_in vectors)) (take-map (λ v. v.items) i vectors) (sum_by-take-le (λ m. max_encoded_len (length m) + 1) (messages_in vectors) i)
 
--- the room behind one of the vectors
+-- the room behind one of the vectors: its longest frame and a zero more
 pub room-step : (vectors : List (Vec ℕ)) (i : ℕ) (vector : Vec ℕ) → i < length vectors → vector ≡ get_or vectors i vector
     → room_for_frames (messages_in (take (i + 1) vectors)) ≡ room_for_frames (messages_in (take i vectors)) + (max_encoded_len (length vector.items) + 1)
-room-step vectors i vector within is = grind (arith, room-more)
+room-step vectors i vector within is = grind (arith, common_steps, messages_in-more, sum_by-append)
 
 -- WHERE THE FRAMES ARE WRITTEN
 
@@ -62,12 +57,11 @@ length-written dest new end part within = omega (arith, length-append (take end 
 
 -- a frame and its zero in front of a stream come to the frame's message
 outcomes_behind : (frame message bytes : List ℕ) (n : ℕ) → Reads frame message → length message ≤ n → stream_outcomes ((frame ++ 0 ∷ []) ++ bytes) n ≡ Message message ∷ stream_outcomes bytes n
-outcomes_behind [] message bytes n r fits = absurd (frame_some [] message r refl)
-outcomes_behind (c ∷ f) message bytes n r fits =
-    stream_outcomes-append ((c ∷ f) ++ 0 ∷ []) bytes n
-    ∙ ap (λ (x : List Outcome). x ++ stream_outcomes (unended ((c ∷ f) ++ 0 ∷ []) ++ bytes) n) (stream_outcomes-piece (c ∷ f) n (frame_nonzero (c ∷ f) message r))
-    ∙ ap (λ (x : List ℕ). outcome_of (c ∷ f) n ∷ stream_outcomes (x ++ bytes) n) (unended-zero (c ∷ f))
-    ∙ ap (λ (x : Outcome). x ∷ stream_outcomes bytes n) (outcome_frame (c ∷ f) message n r fits)
+outcomes_behind frame message bytes n r fits =
+    stream_outcomes-append (frame ++ 0 ∷ []) bytes n
+    ∙ ap (λ (x : List ℕ). stream_outcomes (frame ++ 0 ∷ []) n ++ stream_outcomes (x ++ bytes) n) (unended-zero frame)
+    ∙ ap (λ (x : List Outcome). x ++ stream_outcomes bytes n) (stream_outcomes-one frame n (frame_some frame message r) (frame_nonzero frame message r))
+    ∙ ap (λ (x : Outcome). x ∷ stream_outcomes bytes n) (outcome_frame frame message n r fits)
 
 outcomes_of_frames : (frames messages : List (List ℕ)) (n : ℕ) → AllZip IsEncodedFrame frames messages → All (λ m. length m ≤ n) messages
     → stream_outcomes (flat_map (λ f. f ++ 0 ∷ []) frames) n ≡ map Message messages

@@ -1,8 +1,8 @@
 -- Lemmas on frames for another sentinel, and on frames between sentinels.
-use Rattle.std.proofs.Common.{◌≡◌, ◌≢◌, ℕ, length-append, suc, ◌+◌, ◌<◌, ◌≤◌, List, [], ◌∷◌, ◌++◌, length, drop, take, set, refl, sym, ap, ◌∙◌, subst, arith, take_at, length-take-le, take-append-drop}
+use Rattle.std.proofs.Common.{rules, get_or, ◌≡◌, ◌≢◌, ℕ, length-append, ◌+◌, ◌<◌, ◌≤◌, List, [], ◌∷◌, length, drop, take, set, refl, sym, ap, ◌∙◌, subst, arith, take_at}
 use borrow.Rule.Slice.PartMut.{put_mid}
 use Rattle.std.specs.Int.Bits.{bit_xor, xor_assoc, xor_self, xor_zero_r}
-use Rattle.std.proofs.lemmas.List.{drop-append-le, drop-drop, drop-set-lt}
+use Rattle.std.proofs.lemmas.List.{same_lists, places}
 use Rattle.std.proofs.lemmas.List.Elements.{All-map, All-weaker}
 use Rattle.cobs.specs.Grammar.{HasNoZero, IsEncodedFrame, IsFrame}
 use Rattle.cobs.specs.Sentinel.{xor_each, IsEncodedFrameFor, IsDelimitedFrame, IsFreeOf, between_ends}
@@ -24,15 +24,8 @@ xor_each-zero (b ∷ f) = ap (λ (x : ℕ). x ∷ xor_each 0 f) (xor_zero_r b) �
 -- behind a frame and two sentinels a slice is as it was, where the part between its ends is behind the frame
 pub behind_sentinels : (dest part : List ℕ) (k n : ℕ) → n ≤ k → length part ≡ k → k < length dest → drop n part ≡ drop n (take k (drop 1 dest))
     → drop (n + 2) (set (set (put_mid 1 k dest part) 0 0) (n + 1) 0) ≡ drop (n + 2) dest
-behind_sentinels [] part k n short len within behind = absurd (omega arith)
-behind_sentinels (x ∷ xs) part k n short len within behind =
-    let after : List ℕ = part ++ drop k xs in
-    let two : n + 2 ≡ suc (n + 1) = omega arith in
-    let front : length (take k xs) ≡ k = length-take-le k xs (omega arith) in
-    let all = take-append-drop k xs in
-    let same : drop n after ≡ drop n xs = grind (arith, drop-append-le) in
-    drop-set-lt (n + 2) (0 ∷ after) (n + 1) 0 (omega arith) ∙ ap (λ (i : ℕ). drop i (0 ∷ after)) two
-    ∙ sym (drop-drop 1 n after) ∙ ap (drop 1) same ∙ drop-drop 1 n xs ∙ ap (λ (i : ℕ). drop i (x ∷ xs)) (sym two)
+behind_sentinels dest part k n short len within behind =
+    same_lists _ _ (search (rules, places)) (λ i d h. let same = ap (λ (x : List ℕ). get_or x (1 + i) d) behind in grind (arith, places))
 
 -- FREE OF THE SENTINEL
 

@@ -1,18 +1,15 @@
 -- A stream in two parts, and one more byte of it.
-use Rattle.std.proofs.Common.{◌≡◌, ◌≢◌, ℕ, zero, suc, ◌+◌, ◌-◌, ◌<◌, Bool, true, cond, eqb, List, [], ◌∷◌, ◌++◌, length, take, map, refl, sym, ap, ◌∙◌, arith, append_assoc, length-append, filter, not, get_or, inl, inr}
+use Rattle.std.proofs.Common.{◌≡◌, ◌≢◌, ℕ, zero, suc, ◌+◌, ◌-◌, ◌<◌, ◌==◌, Bool, true, cond, eqb, List, [], ◌∷◌, ◌++◌, length, take, map, refl, sym, ap, ◌∙◌, arith, append_assoc, length-append, filter, not, get_or, inl, inr}
 use Rattle.std.proofs.lemmas.List.{map-append, take_all, take_more}
-use Rattle.std.proofs.lemmas.List.Elements.{All-push, All-nil, All-cons, All-head, All-tail}
-use Rattle.std.proofs.lemmas.List.Splits.{slice_split-cons_no}
+use Rattle.std.proofs.lemmas.List.Elements.{All-push, All-nil, All-cons, filter-append}
+use Rattle.std.proofs.lemmas.List.Splits.{slice_split-cons_no, slice_split_at, slice_split_none, length-slice_split}
 use Rattle.std.proofs.lemmas.Bool.{ne_eqb}
 use Rattle.std.specs.List.{onto_first}
 use Rattle.cobs.specs.Grammar.{HasNoZero, last_of}
 use Rattle.cobs.specs.Stream.{stretches, is_nonempty, but_last, ended_pieces, unended, Outcome, outcome_of, stream_outcomes}
 use Rattle.cobs.specs.Feed.{fed}
 use Rattle.cobs.specs.Laws.{IsAtSentinel}
-
--- whether a byte ends a piece
-abbrev pub is_zero : ℕ → Bool
-is_zero byte = eqb byte 0
+use Rattle.cobs.proofs.format.LengthLemmas.{no_zero}
 
 -- A FRONT OF A PIECE AND ONE MORE BYTE
 
@@ -23,48 +20,27 @@ fed-nonzero p b h = ap (λ (x : Bool). cond x [] (p ++ b ∷ [])) (ne_eqb b 0 h)
 -- STRETCHES OF A STREAM IN TWO PARTS
 
 stretches-nonzero : (b : ℕ) (t : List ℕ) → b ≢ 0 → stretches (b ∷ t) ≡ onto_first b (stretches t)
-stretches-nonzero b t h = slice_split-cons_no is_zero b t (ne_eqb b 0 h)
-
-length-onto_first : (b : ℕ) (ss : List (List ℕ)) → 0 < length (onto_first b ss)
-length-onto_first b ss = grind arith
+stretches-nonzero b t h = slice_split-cons_no (λ byte. byte == 0) b t (ne_eqb b 0 h)
 
 -- a stream has a stretch
 pub length-stretches : (t : List ℕ) → 0 < length (stretches t)
-length-stretches [] = omega arith
-length-stretches (zero ∷ t) = omega arith
-length-stretches (suc b ∷ t) = rw (stretches-nonzero (suc b) t (λ e. omega arith)) (length-onto_first (suc b) (stretches t))
-
-but_last-cons : (s : List ℕ) (ss : List (List ℕ)) → 0 < length ss → but_last (s ∷ ss) ≡ s ∷ but_last ss
-unfolding but_last
-but_last-cons s ss h = grind arith
-
-last_of-cons : (s : List ℕ) (ss : List (List ℕ)) → 0 < length ss → last_of (s ∷ ss) ≡ last_of ss
-last_of-cons s ss h = grind arith
-
-onto_first-append : (b : ℕ) (u : List ℕ) (ss : List (List ℕ)) → b ≢ 0 → 0 < length ss
-    → onto_first b (but_last ss ++ stretches (last_of ss ++ u)) ≡ but_last (onto_first b ss) ++ stretches (last_of (onto_first b ss) ++ u)
-unfolding but_last
-onto_first-append b u ss h e = grind (arith, stretches-nonzero)
+length-stretches t = omega (arith, length-slice_split (λ byte. byte == 0) t)
 
 -- the stretches of a stream in two parts: the last stretch of the first goes on in the second
 pub stretches-append : (t u : List ℕ) → stretches (t ++ u) ≡ but_last (stretches t) ++ stretches (last_of (stretches t) ++ u)
 unfolding but_last
 stretches-append [] u = refl
-stretches-append (zero ∷ t) u = grind (arith, but_last-cons, length-stretches, last_of-cons, (stretches-append t u))
-stretches-append (suc b ∷ t) u = grind (arith, stretches-nonzero, onto_first-append, length-stretches, (stretches-append t u))
+stretches-append (zero ∷ t) u = let some = length-stretches t in grind (arith, (stretches-append t u))
+stretches-append (suc b ∷ t) u = grind (arith, stretches-nonzero, length-stretches, (stretches-append t u))
 
 but_last-append : (xs ys : List (List ℕ)) → 0 < length ys → but_last (xs ++ ys) ≡ xs ++ but_last ys
+unfolding but_last
 but_last-append [] ys h = refl
-but_last-append (x ∷ xs) ys h = but_last-cons x (xs ++ ys) (omega (arith, length-append xs ys)) ∙ ap (λ (z : List (List ℕ)). x ∷ z) (but_last-append xs ys h)
+but_last-append (x ∷ xs) ys h = let len = length-append xs ys in grind (arith, (but_last-append xs ys h))
 
 last_of-append : (xs ys : List (List ℕ)) → 0 < length ys → last_of (xs ++ ys) ≡ last_of ys
 last_of-append [] ys h = refl
-last_of-append (x ∷ xs) ys h = last_of-cons x (xs ++ ys) (omega (arith, length-append xs ys)) ∙ last_of-append xs ys h
-
-filter-append : (xs ys : List (List ℕ)) → filter is_nonempty (xs ++ ys) ≡ filter is_nonempty xs ++ filter is_nonempty ys
-filter-append [] ys = refl
-filter-append ([] ∷ xs) ys = filter-append xs ys
-filter-append ((b ∷ x) ∷ xs) ys = ap (λ (z : List (List ℕ)). (b ∷ x) ∷ z) (filter-append xs ys)
+last_of-append (x ∷ xs) ys h = let len = length-append xs ys in grind (arith, (last_of-append xs ys h))
 
 -- the pieces of a stream in two parts
 pub ended_pieces-append : (t u : List ℕ) → ended_pieces (t ++ u) ≡ ended_pieces t ++ ended_pieces (unended t ++ u)
@@ -85,17 +61,11 @@ stream_outcomes-append t u n = ap (map (λ p. outcome_of p n)) (ended_pieces-app
 
 -- the zero behind a piece ends its stretch
 pub stretches-piece : (p u : List ℕ) → HasNoZero p → stretches (p ++ 0 ∷ u) ≡ p ∷ stretches u
-stretches-piece [] u h = refl
-stretches-piece (b ∷ p) u h =
-    stretches-nonzero b (p ++ 0 ∷ u) (All-head (λ x. x ≢ 0) b p h)
-    ∙ ap (onto_first b) (stretches-piece p u (All-tail (λ x. x ≢ 0) b p h))
+stretches-piece p u h = slice_split_at (λ byte. byte == 0) p 0 u (no_zero p h) refl
 
 -- a list without a zero is one stretch
 pub stretches-no_zero : (p : List ℕ) → HasNoZero p → stretches p ≡ p ∷ []
-stretches-no_zero [] h = refl
-stretches-no_zero (b ∷ p) h =
-    stretches-nonzero b p (All-head (λ x. x ≢ 0) b p h)
-    ∙ ap (onto_first b) (stretches-no_zero p (All-tail (λ x. x ≢ 0) b p h))
+stretches-no_zero p h = slice_split_none (λ byte. byte == 0) p (no_zero p h)
 
 -- nothing has ended in a list without a zero
 pub ended_pieces-no_zero : (p : List ℕ) → HasNoZero p → ended_pieces p ≡ []
@@ -124,10 +94,6 @@ pub stream_outcomes-piece : (p : List ℕ) (n : ℕ) → HasNoZero p → stream_
 unfolding stream_outcomes ended_pieces but_last
 stream_outcomes-piece p n h = grind (arith, filter, stretches-piece)
 
-unended-piece : (p : List ℕ) → HasNoZero p → unended (p ++ 0 ∷ []) ≡ []
-unfolding unended
-unended-piece p h = ap last_of (stretches-piece p [] h)
-
 pub outcomes_at-nonzero : (p : List ℕ) (b n : ℕ) → b ≢ 0 → outcomes_at p b n ≡ []
 outcomes_at-nonzero p b n h = grind (arith, ne_eqb)
 
@@ -136,7 +102,8 @@ push_outcomes p zero n h = stream_outcomes-piece p n h
 push_outcomes p (suc b) n h = stream_outcomes-no_zero (p ++ suc b ∷ []) n (All-push (λ x. x ≢ 0) p (suc b) h (λ e. omega arith)) ∙ sym (outcomes_at-nonzero p (suc b) n (λ e. omega arith))
 
 push_unended : (p : List ℕ) (b : ℕ) → HasNoZero p → unended (p ++ b ∷ []) ≡ fed p b
-push_unended p zero h = unended-piece p h
+unfolding unended
+push_unended p zero h = ap last_of (stretches-piece p [] h)
 push_unended p (suc b) h = unended-no_zero (p ++ suc b ∷ []) (All-push (λ x. x ≢ 0) p (suc b) h (λ e. omega arith)) ∙ sym (fed-nonzero p (suc b) (λ e. omega arith))
 
 -- WHAT IS UNENDED HAS NO ZERO
@@ -144,14 +111,11 @@ push_unended p (suc b) h = unended-no_zero (p ++ suc b ∷ []) (All-push (λ x. 
 last_of-onto_first : (b : ℕ) (ss : List (List ℕ)) → b ≢ 0 → 0 < length ss → HasNoZero (last_of ss) → HasNoZero (last_of (onto_first b ss))
 last_of-onto_first b ss h e p = grind (arith, All-cons)
 
-last_no_zero : (t : List ℕ) → HasNoZero (last_of (stretches t))
-last_no_zero [] = All-nil (λ x. x ≢ 0)
-last_no_zero (zero ∷ t) = rw (last_of-cons [] (stretches t) (length-stretches t)) (last_no_zero t)
-last_no_zero (suc b ∷ t) = rw (stretches-nonzero (suc b) t (λ e. omega arith)) (last_of-onto_first (suc b) (stretches t) (λ e. omega arith) (length-stretches t) (last_no_zero t))
-
 pub unended_no_zero : (t : List ℕ) → HasNoZero (unended t)
 unfolding unended
-unended_no_zero t = last_no_zero t
+unended_no_zero [] = All-nil (λ x. x ≢ 0)
+unended_no_zero (zero ∷ t) = let some = length-stretches t in grind (arith, (unended_no_zero t))
+unended_no_zero (suc b ∷ t) = rw (stretches-nonzero (suc b) t (λ e. omega arith)) (last_of-onto_first (suc b) (stretches t) (λ e. omega arith) (length-stretches t) (unended_no_zero t))
 
 -- ONE MORE BYTE OF A STREAM
 
@@ -193,11 +157,9 @@ unended-at_sentinel t (inr (front, ends)) = ap unended ends ∙ unended-zero fro
 -- what stands in front of a sentinel, up to the next one, and behind that one has its outcomes by itself
 pub stream_outcomes-apart : (a d z : List ℕ) (n : ℕ) → IsAtSentinel a → stream_outcomes (a ++ d ++ 0 ∷ z) n ≡ stream_outcomes a n ++ stream_outcomes (d ++ 0 ∷ []) n ++ stream_outcomes z n
 stream_outcomes-apart a d z n h =
-    ap (λ (x : List ℕ). stream_outcomes x n) (sym (append_assoc (a ++ d) (0 ∷ []) z) ∙ ap (λ (x : List ℕ). x ++ z) (append_assoc a d (0 ∷ [])))
-    ∙ stream_outcomes-append (a ++ (d ++ 0 ∷ [])) z n
-    ∙ ap (λ (x : List ℕ). stream_outcomes (a ++ (d ++ 0 ∷ [])) n ++ stream_outcomes (x ++ z) n) (ap unended (sym (append_assoc a d (0 ∷ []))) ∙ unended-zero (a ++ d))
-    ∙ ap (λ (x : List Outcome). x ++ stream_outcomes z n)
-    (stream_outcomes-append a (d ++ 0 ∷ []) n ∙ ap (λ (x : List ℕ). stream_outcomes a n ++ stream_outcomes (x ++ (d ++ 0 ∷ [])) n) (unended-at_sentinel a h))
+    let cut = stream_outcomes-append (a ++ d ++ 0 ∷ []) z n in
+    let inner = stream_outcomes-append a (d ++ 0 ∷ []) n in
+    grind (arith, append_assoc, unended-at_sentinel, unended-zero)
 
 -- one piece between two sentinels has one outcome
 pub stream_outcomes-one : (d : List ℕ) (n : ℕ) → d ≢ [] → HasNoZero d → stream_outcomes (d ++ 0 ∷ []) n ≡ outcome_of d n ∷ []

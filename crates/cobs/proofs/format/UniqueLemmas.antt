@@ -1,5 +1,5 @@
 -- Each message has one encoded frame, and its length.
-use Rattle.std.proofs.Common.{◌≡◌, ◌≢◌, ℕ, ◌+◌, ◌<◌, Bool, true, false, if◌then◌else◌, List, [], ◌∷◌, ◌++◌, length, take, get_or, All, refl, sym, ap, ◌∙◌, subst, arith, append-nil, append_assoc, length-append, take_at, ⊎_elim}
+use Rattle.std.proofs.Common.{◌⊎◌, inl, inr, ◌≡◌, ◌≢◌, ℕ, ◌<◌, Bool, true, false, if◌then◌else◌, List, [], ◌∷◌, ◌++◌, length, take, get_or, All, refl, sym, ap, ◌∙◌, subst, arith, append-nil, append_assoc, length-append, take_at, ⊎_elim}
 use Rattle.std.specs.List.{concat}
 use Rattle.std.proofs.lemmas.Bool.{cases_order, cases_Bool, ne_eqb, eqb-true, eqb-false}
 use Rattle.std.proofs.lemmas.List.{get_or_append_left, get_or_at, append_cancel_left}
@@ -32,6 +32,16 @@ message-rest b d ds t e = append_assoc (bytes_of b) (joint b) (message_of (d ∷
 pub full-more : (b d : List ℕ) (ds : List (List ℕ)) → All IsBlock (b ∷ d ∷ ds) → IsShorter (b ∷ d ∷ ds) → is_full b ≡ true → message_of (d ∷ ds) ≢ []
 full-more b d ds h s full none = s [] b full (ap (λ (l : List (List ℕ)). b ∷ l) (no_message d ds (All-tail IsBlock b (d ∷ ds) h) none))
 
+-- between a block and canonical ones behind it is a zero, or the block is full and something is left
+pub first-block : (c : ℕ) (a d : List ℕ) (ds : List (List ℕ)) → All IsBlock ((c ∷ a) ∷ d ∷ ds) → IsShorter ((c ∷ a) ∷ d ∷ ds) → let k = message_of (d ∷ ds) in
+    ((length a < 254) × (message_of ((c ∷ a) ∷ d ∷ ds) ≡ a ++ 0 ∷ k)) ⊎ ((length a ≡ 254) × (message_of ((c ∷ a) ∷ d ∷ ds) ≡ a ++ k) × (k ≢ []))
+first-block c a d ds h s =
+    let is = All-head IsBlock (c ∷ a) (d ∷ ds) h in
+    ⊎_elim
+    (λ (full : is_full (c ∷ a) ≡ true). inr (omega (arith, is.0, eqb-true c 255 full), message-rest (c ∷ a) d ds true full, full-more (c ∷ a) d ds h s full))
+    (λ (open' : is_full (c ∷ a) ≡ false). inl (omega (arith, is.0, is.1, eqb-false c 255 open'), message-rest (c ∷ a) d ds false open'))
+    (cases_Bool (is_full (c ∷ a)))
+
 -- how long canonical blocks are
 length-blocks : (bs : List (List ℕ)) → bs ≢ [] → All IsBlock bs → IsShorter bs → length (concat bs) ≡ encoded_len (message_of bs)
 length-blocks [] p h s = absurd (p refl)
@@ -40,17 +50,11 @@ length-blocks ((c ∷ a) ∷ []) p h s = let is = All-head IsBlock (c ∷ a) [] 
 length-blocks ((c ∷ a) ∷ d ∷ ds) p h s =
     let is = All-head IsBlock (c ∷ a) (d ∷ ds) h in
     let ih = length-blocks (d ∷ ds) (λ e. cc) (All-tail IsBlock (c ∷ a) (d ∷ ds) h) (IsShorter-tail (c ∷ a) (d ∷ ds) s) in
-    let k : List ℕ = message_of (d ∷ ds) in
-    let sum : length (concat ((c ∷ a) ∷ d ∷ ds)) ≡ length a + 1 + encoded_len k = (let n = length-append a (concat (d ∷ ds)) in omega arith) in
+    let n = length-append a (concat (d ∷ ds)) in
     ⊎_elim
-    (λ (full : is_full (c ∷ a) ≡ true).
-    let n : c ≡ 255 = eqb-true c 255 full in
-    let l = encoded_len-full a k (omega arith) is.2 (full-more (c ∷ a) d ds h s full) in
-    sum ∙ omega arith ∙ ap encoded_len (sym (message-rest (c ∷ a) d ds true full)))
-    (λ (open' : is_full (c ∷ a) ≡ false).
-    let l = encoded_len-zero a k (let n = eqb-false c 255 open' in omega arith) is.2 in
-    sum ∙ omega arith ∙ ap encoded_len (sym (message-rest (c ∷ a) d ds false open')))
-    (cases_Bool (is_full (c ∷ a)))
+    (λ o. omega (arith, ap encoded_len o.1, encoded_len-zero a (message_of (d ∷ ds)) o.0 is.2))
+    (λ f. omega (arith, ap encoded_len f.1, encoded_len-full a (message_of (d ∷ ds)) f.0 is.2 f.2))
+    (first-block c a d ds h s)
 
 -- THERE IS ONE ENCODED FRAME
 

@@ -1,25 +1,18 @@
 -- A piece that is taken byte by byte.
-use Rattle.std.proofs.Common.{◌≡◌, ℕ, ◌+◌, ◌<◌, ◌≤◌, List, [], ◌∷◌, ◌++◌, length, take, drop, get_or, Option, Some, None, Result, IfOk, IfSome, subst, arith, inl, inr}
-use Rattle.std.proofs.lemmas.Bool.{cases_eq, leb-true}
-use Rattle.cobs.specs.Feed.{Phase, Feeds}
-use Rattle.cobs.specs.FeedPiece.{IsWithin, TakesPiece, end_told, outcome_at}
-use Rattle.cobs.specs.Internal.PieceEnds.{LeavesRest, outcome_told}
-use Rattle.cobs.specs.Step.{next_answer, next_buffer, next_phase}
+use Rattle.std.proofs.Common.{◌≡◌, ◌≢◌, ℕ, ◌+◌, ◌<◌, ◌≤◌, List, [], ◌∷◌, ◌++◌, length, take, drop, get_or, Option, Some, None, Result, refl, sym, ap, ◌∙◌, subst, arith, append_assoc, inl, inr, IfOk, IfSome}
+use Rattle.std.proofs.lemmas.Bool.{cases_eq, eq-eqb, ne_eqb}
+use Rattle.std.proofs.lemmas.List.{append-nil, take_more}
+use Rattle.cobs.specs.Feed.{Phase, PhaseAfter, DecoderAfter, Feeds}
+use Rattle.cobs.specs.FeedPiece.{IsWithin, TakesBytes, TakesPiece, end_told, outcome_at}
+use Rattle.cobs.specs.Stream.{unended, stream_outcomes}
+use Rattle.cobs.specs.Push.{last_piece}
+use Rattle.cobs.specs.Overwritten.{overwritten}
 use Rattle.cobs.specs.Piece.{output}
 use Rattle.cobs.specs.declared.dec.DecodeError.{DecodeError}
 use Rattle.cobs.specs.declared.dec.frame_decoder.PieceEnd.{PieceEnd}
-use Rattle.cobs.proofs.streaming.FeedLemmas.{Feeds-step}
-use Rattle.cobs.proofs.streaming.PushLemmas.{last_piece-unended}
-use Rattle.cobs.proofs.streaming.SoFar.{LeavesRest-start, LeavesRest-step, SoFar, SoFar-start, TakesPiece-at_zero, TakesPiece-none, no_outcomes, step_none, step_nonzero}
-
--- THE STEP
-
--- no more bytes are told than the buffer has
-answer-bound : (n : ℕ) (phase : Phase) (byte : ℕ) → IfOk (next_answer n phase byte) (λ found. IfSome found (λ k. k ≤ n))
-answer-bound n phase byte = grind (arith, leb-true)
-
-pub step-feeds : (buffer : List ℕ) (phase : Phase) (byte : ℕ) → let n = length buffer in Feeds buffer phase byte (next_answer n phase byte) (next_buffer buffer phase byte) (next_phase n phase byte)
-step-feeds buffer phase byte = Feeds-step buffer phase byte (answer-bound (length buffer) phase byte)
+use Rattle.cobs.proofs.format.StreamLemmas.{fed-nonzero, unended-push, unended-no_zero, ended_pieces-no_zero}
+use Rattle.cobs.proofs.streaming.LastPiece.{begun, drop-later, output-longer, last_piece-unended, last_piece-zero, ended_pieces-nonzero}
+use Rattle.cobs.proofs.streaming.SoFar.{SoFar-start, SoFar-more, TakesBytes-byte, outcome_told, told_by, count-within, here, nil-alike, no_outcomes}
 
 -- THE ANSWER TO A ZERO
 
@@ -33,27 +26,103 @@ told-some result buffer end e bound = grind arith
 -- THE BYTES SO FAR
 
 pub piece-nothing : (buffer : List ℕ) (phase : Phase) → TakesPiece buffer phase [] None buffer phase
-piece-nothing buffer phase = TakesPiece-none [] (SoFar-start buffer phase) (LeavesRest-start buffer phase)
+piece-nothing buffer phase = record {
+  takes = SoFar-start buffer phase;
+  ends = tt;
+  holds = λ p h. begun _ buffer buffer refl (rw (last p h.phased) h.begins) refl;
+  untouched = λ p h. refl;
+  bound = λ p h. tt;
+  idle = tt;
+  within = tt;
+}
+  where
+    last : (p : List ℕ) → PhaseAfter (length buffer) phase p → last_piece (p ++ []) ≡ p
+    last p h = grind (arith, append-nil, last_piece-unended, ended_pieces-no_zero, unended-no_zero)
 
--- what is behind the output of the piece that they leave unended
-leaves : {buffer between : List ℕ} {phase phase_between : Phase} {bytes : List ℕ} → TakesPiece buffer phase bytes None between phase_between → LeavesRest buffer phase bytes between
-leaves {buffer} {between} {phase} {phase_between} {bytes} t = λ p h none.
-    subst (λ (q : List ℕ). drop (length (output q)) between ≡ drop (length (output q)) buffer) (last_piece-unended (p ++ bytes) (no_outcomes _ _ none)) (t.untouched p h)
+-- bytes in which no piece ended, and one more, whatever it brings
+module _ {buffer₀ buffer buffer' : List ℕ} {phase₀ phase phase' : Phase} {result : Result (Option ℕ) DecodeError} (bytes : List ℕ) (i : ℕ) (inside : i < length bytes)
+    (t : TakesPiece buffer₀ phase₀ (take i bytes) None buffer phase) (f : Feeds buffer phase (get_or bytes i 0) result buffer' phase') where
+  pub none_before : (p : List ℕ) → PhaseAfter (length buffer₀) phase₀ p → stream_outcomes (p ++ take i bytes) (length buffer₀) ≡ []
+  none_before p h = nil-alike _ (t.takes.alike p h)
+
+  stream_on : (p : List ℕ) → p ++ take (i + 1) bytes ≡ (p ++ take i bytes) ++ get_or bytes i 0 ∷ []
+  stream_on p = ap (λ (x : List ℕ). p ++ x) (take_more bytes i 0 inside) ∙ sym (append_assoc p (take i bytes) (get_or bytes i 0 ∷ []))
+
+  -- the piece that was read last
+  last_zero : get_or bytes i 0 ≡ 0 → (p : List ℕ) → PhaseAfter (length buffer₀) phase₀ p → last_piece (p ++ take (i + 1) bytes) ≡ unended (p ++ take i bytes)
+  last_zero z p h = ap last_piece (stream_on p ∙ ap (λ (b : ℕ). (p ++ take i bytes) ++ b ∷ []) z) ∙ last_piece-zero (p ++ take i bytes) (no_outcomes _ _ (none_before p h))
+
+  last_nonzero : get_or bytes i 0 ≢ 0 → (p : List ℕ) → PhaseAfter (length buffer₀) phase₀ p → last_piece (p ++ take (i + 1) bytes) ≡ unended (p ++ take i bytes) ++ get_or bytes i 0 ∷ []
+  last_nonzero nz p h =
+      let t = p ++ take i bytes in
+      ap last_piece (stream_on p) ∙ last_piece-unended (t ++ get_or bytes i 0 ∷ []) (ended_pieces-nonzero t _ nz ∙ no_outcomes _ _ (none_before p h)) ∙ unended-push t _ ∙ fed-nonzero _ _ nz
+
+  -- the bytes behind its output stay
+  left_so_far : (p : List ℕ) → PhaseAfter (length buffer₀) phase₀ p → drop (length (output (unended (p ++ take i bytes)))) buffer ≡ drop (length (output (unended (p ++ take i bytes)))) buffer₀
+  left_so_far p h = rw (last_piece-unended (p ++ take i bytes) (no_outcomes _ _ (none_before p h))) at (t.untouched p h)
+
+  pub untouched_behind : (p : List ℕ) → PhaseAfter (length buffer₀) phase₀ p
+      → drop (length (output (last_piece (p ++ take (i + 1) bytes)))) buffer' ≡ drop (length (output (last_piece (p ++ take (i + 1) bytes)))) buffer₀
+  untouched_behind p h = elim (cases_eq (get_or bytes i 0) 0) [
+    | inl z ↦ rw (last_zero z p h, f.zero_unchanged z) (left_so_far p h)
+    | inr nz ↦ rw (last_nonzero nz p h) (f.untouched _ (here t.takes p h) nz ∙ drop-later _ _ _ _ (output-longer _ (get_or bytes i 0)) (left_so_far p h))
+  ]
+
+  begins_behind : (p : List ℕ) → DecoderAfter buffer₀ phase₀ p
+      → take (length (output (last_piece (p ++ take (i + 1) bytes)))) buffer' ≡ take (length buffer') (output (last_piece (p ++ take (i + 1) bytes)))
+  begins_behind p h = elim (cases_eq (get_or bytes i 0) 0) [
+    | inl z ↦ rw (last_zero z p h.phased, f.zero_unchanged z) (t.takes.after p h).begins
+    | inr nz ↦ rw (last_nonzero nz p h.phased) (rw (fed-nonzero _ _ nz) at (f.after _ (t.takes.after p h))).begins
+  ]
+
+  pub holds_behind : (p : List ℕ) → DecoderAfter buffer₀ phase₀ p → buffer' ≡ overwritten buffer₀ (output (last_piece (p ++ take (i + 1) bytes)))
+  holds_behind p h = begun (output (last_piece (p ++ take (i + 1) bytes))) buffer₀ buffer' (f.len ∙ t.takes.len) (begins_behind p h) (untouched_behind p h.phased)
+
+  pub takes_behind : TakesBytes buffer₀ phase₀ (take (i + 1) bytes) (told_by (get_or bytes i 0) result buffer') buffer' phase'
+  takes_behind = rw (take_more bytes i 0 inside) (SoFar-more t.takes (TakesBytes-byte f))
+
+  -- it ends no piece
+  pub piece-more : (get_or bytes i 0 ≡ 0 → end_told result ≡ None) → TakesPiece buffer₀ phase₀ (take (i + 1) bytes) None buffer' phase'
+  piece-more none = record {
+    takes = subst (λ told. TakesBytes buffer₀ phase₀ (take (i + 1) bytes) told buffer' phase') nothing takes_behind;
+    ends = tt;
+    holds = holds_behind;
+    untouched = untouched_behind;
+    bound = λ p h. tt;
+    idle = tt;
+    within = tt;
+  }
+    where
+      nothing : told_by (get_or bytes i 0) result buffer' ≡ []
+      nothing = grind (arith, cases_eq, eq-eqb, ne_eqb, told-none)
+
+  -- it ends a piece
+  pub piece-ended : (end : PieceEnd) → get_or bytes i 0 ≡ 0 → end_told result ≡ Some end → TakesPiece buffer₀ phase₀ bytes (Some (end, i + 1)) buffer' phase'
+  piece-ended end z is =
+      let e = told-some result buffer' end is (rw f.len f.bound) in
+      let told : told_by (get_or bytes i 0) result buffer' ≡ outcome_at end buffer' ∷ [] = rw (eq-eqb _ 0 z) e.0 in
+      let takes = subst (λ told. TakesBytes buffer₀ phase₀ (take (i + 1) bytes) told buffer' phase') told takes_behind in
+      let fits = subst (λ n. IsWithin n end) (f.len ∙ t.takes.len) e.1 in
+      record {
+        takes = takes;
+        ends = record {
+          front = take i bytes;
+          taken = take_more bytes i 0 inside ∙ ap (λ (x : ℕ). take i bytes ++ x ∷ []) z;
+          none_before = none_before;
+        };
+        holds = holds_behind;
+        untouched = untouched_behind;
+        bound = λ p h. count-within end buffer' _ _ (takes.alike p h) fits;
+        idle = f.zero_idle z;
+        within = (omega arith, fits);
+      }
 
 pub piece-byte : (bytes buffer between buffer' : List ℕ) (phase phase_between phase' : Phase) (result : Result (Option ℕ) DecodeError) (i : ℕ) → i < length bytes
     → TakesPiece buffer phase (take i bytes) None between phase_between → Feeds between phase_between (get_or bytes i 0) result buffer' phase'
     → (get_or bytes i 0 ≡ 0 → end_told result ≡ None) → TakesPiece buffer phase (take (i + 1) bytes) None buffer' phase'
-piece-byte bytes buffer between buffer' phase phase_between phase' result i within t f none =
-    let s : SoFar buffer phase between phase_between (take i bytes) [] = t.takes in
-    let rest = LeavesRest-step bytes i within s (leaves t) f in
-    elim (cases_eq (get_or bytes i 0) 0) [
-      | inl z ↦ TakesPiece-none (take (i + 1) bytes) (step_none bytes i within z (told-none result buffer' (none z)) s f) rest
-      | inr nz ↦ TakesPiece-none (take (i + 1) bytes) (step_nonzero bytes i within nz s f) rest
-    ]
+piece-byte bytes _ _ _ _ _ _ result i inside t f none = piece-more bytes i inside t f none
 
 pub piece-end : (bytes buffer between buffer' : List ℕ) (phase phase_between phase' : Phase) (result : Result (Option ℕ) DecodeError) (end : PieceEnd) (i : ℕ) → i < length bytes
     → TakesPiece buffer phase (take i bytes) None between phase_between → Feeds between phase_between (get_or bytes i 0) result buffer' phase'
     → get_or bytes i 0 ≡ 0 → end_told result ≡ Some end → TakesPiece buffer phase bytes (Some (end, i + 1)) buffer' phase'
-piece-end bytes buffer between buffer' phase phase_between phase' result end i within t f z is =
-    let e = told-some result buffer' end is (rw f.len f.bound) in
-    TakesPiece-at_zero bytes i within z t.takes (leaves t) f end e.0 e.1
+piece-end bytes _ _ _ _ _ _ result end i inside t f z is = piece-ended bytes i inside t f end z is

@@ -1,17 +1,19 @@
 -- The step from a front of a piece to the next one, in phases.
-use Rattle.std.proofs.Common.{◌≡◌, ◌≢◌, ℕ, zero, suc, ◌+◌, ◌<◌, ◌≤◌, Bool, true, false, cond, leb, eqb, List, [], ◌∷◌, ◌++◌, length, take, drop, set, refl, sym, ap, ◌∙◌, arith, length-append, None, Ok, Err, add-one}
+use Rattle.std.proofs.Common.{◌≡◌, ◌≢◌, ℕ, zero, suc, ◌+◌, ◌<◌, ◌≤◌, Bool, true, false, cond, leb, eqb, List, [], ◌∷◌, ◌++◌, length, take, drop, set, refl, sym, ap, ◌∙◌, arith, length-append, Option, None, Result, Ok, Err, add-one}
 use Rattle.std.proofs.lemmas.List.{take_all, take-append-le, append-nil, length_push, take_more_set, set_past, drop-set-lt, length-set}
 use Rattle.std.proofs.lemmas.List.Elements.{All-push, All-nil}
-use Rattle.std.proofs.lemmas.Bool.{cases_lt, cond-true, cond-false, ne_eqb, le-leb, lt-leb}
+use Rattle.std.proofs.lemmas.Bool.{cases_lt, cond-true, cond-false, ne_eqb, le-leb, leb-true, lt-leb}
 use Rattle.cobs.specs.Grammar.{HasNoZero, is_full}
 use Rattle.cobs.specs.Piece.{lacks, output, last_part, is_whole}
 use Rattle.cobs.specs.Stream.{outcome_of, TooLong}
 use Rattle.cobs.specs.Feed.{Phase, Idle, Within, Over, phase_after, PhaseAfter, DecoderAfter, fed, answer_at_end, answer_to, Feeds}
 use Rattle.cobs.specs.Step.{grows, next_phase, next_buffer, if_over, end_answer, next_answer}
+use Rattle.cobs.specs.declared.dec.DecodeError.{DecodeError}
 use Rattle.cobs.specs.declared.dec.DecodeError.TheVariants.{TargetBufTooSmall}
 use Rattle.std.specs.Prelude.{IfOk, IfSome}
 use Rattle.std.proofs.lemmas.Grind.{common_steps}
 use Rattle.cobs.proofs.format.StreamLemmas.{fed-nonzero}
+use Rattle.cobs.proofs.streaming.LastPiece.{output-longer}
 use Rattle.cobs.proofs.streaming.TableLemmas.{output-nil, phase_by_table}
 use Rattle.cobs.proofs.decoding.PieceLemmas.{output-one, last_part-one, output-push_more, output-push_next, last_part-push_next, lacks-push_more, is_full-push_more, output-push}
 
@@ -37,13 +39,7 @@ nonzero b h = ne_eqb b 0 (λ e. omega arith)
 -- within a part
 within_step : (n c : ℕ) (q : List ℕ) (b : ℕ) (full : Bool) (left : ℕ) → is_full (last_part (c ∷ q)) ≡ full → lacks (last_part (c ∷ q)) ≡ left → 0 < b → length (output (c ∷ q)) ≤ n
     → next_phase n (Within full left (length (output (c ∷ q)))) b ≡ phase_after (c ∷ q ++ b ∷ []) n
-within_step n c q b full (suc left) f l h fits =
-    ap (λ (x : Bool). cond x Idle (grows n full left (length (output (c ∷ q))))) (nonzero b h)
-    ∙ grows-is n full left (length (output (c ∷ q)))
-    ∙ sym (phase_after-is c (q ++ b ∷ []) n full left (length (output (c ∷ q)) + 1)
-    (is_full-push_more (c ∷ q) b (omega arith) ∙ f)
-    (omega (arith, lacks-push_more (c ∷ q) b (omega arith)))
-    (ap length (output-push_more (c ∷ q) b (omega arith)) ∙ length_push (output (c ∷ q)) b))
+within_step n c q b full (suc left) f l h fits = grind (arith, nonzero, grows-is, phase_after-is, is_full-push_more (c ∷ q) b, lacks-push_more (c ∷ q) b, output-push_more (c ∷ q) b, length_push)
 within_step n c q b true zero f l h fits = grind (arith, nonzero, phase_after-is, last_part-push_next, output-push_next, append-nil, cond-true, le-leb)
 within_step n c q b false zero f l h fits = grind (arith, nonzero, grows-is, phase_after-is, last_part-push_next, output-push_next, length_push)
 
@@ -53,14 +49,11 @@ fits_phase c q n h = grind (arith, phase_after-is, cond-true, le-leb)
 over_phase : (c : ℕ) (q : List ℕ) (n : ℕ) → n < length (output (c ∷ q)) → phase_after (c ∷ q) n ≡ Over
 over_phase c q n h = grind (arith, phase_after-is, cond-false, lt-leb)
 
-longer : (c : ℕ) (q : List ℕ) (b : ℕ) → length (output (c ∷ q)) ≤ length (output (c ∷ q ++ b ∷ []))
-longer c q b = omega (arith, ap length (output-push c q b).1, length-append (output (c ∷ q)) (output-push c q b).0)
-
 -- the phase behind one more byte
 nonzero_step : (n : ℕ) (p : List ℕ) (b : ℕ) → 0 < b → next_phase n (phase_after p n) b ≡ phase_after (p ++ b ∷ []) n
 unfolding phase_after
 nonzero_step n [] b h = grind (arith, nonzero, phase_after-is, last_part-one, output-one, cond-true, le-leb)
-nonzero_step n (c ∷ q) b h = grind (arith, cases_lt, over_phase, nonzero, longer, fits_phase, within_step)
+nonzero_step n (c ∷ q) b h = grind (arith, cases_lt, over_phase, nonzero, output-longer (c ∷ q) b, fits_phase, within_step)
 
 phase-step : (n : ℕ) (p : List ℕ) (b : ℕ) → next_phase n (phase_after p n) b ≡ phase_after (fed p b) n
 unfolding phase_after
@@ -110,8 +103,7 @@ begins-push buffer o w e = grind (arith, cases_lt, length_push, take_more_set, t
 
 begins_within : (buffer : List ℕ) (c : ℕ) (q : List ℕ) (b : ℕ) (full : Bool) (left : ℕ) → is_full (last_part (c ∷ q)) ≡ full → lacks (last_part (c ∷ q)) ≡ left → 0 < b
     → Begins buffer (output (c ∷ q)) → Begins (next_buffer buffer (Within full left (length (output (c ∷ q)))) b) (output (c ∷ q ++ b ∷ []))
-begins_within buffer c q b full (suc left) f l h e =
-    rw (nonzero b h, output-push_more (c ∷ q) b (omega arith)) (begins-push buffer (output (c ∷ q)) b e)
+begins_within buffer c q b full (suc left) f l h e = grind (arith, output-push_more (c ∷ q) b, nonzero, begins-push)
 begins_within buffer c q b true zero f l h e = grind (arith, output-push_next, append-nil)
 begins_within buffer c q b false zero f l h e = grind (arith, output-push_next, nonzero, begins-push)
 
@@ -145,8 +137,7 @@ DecoderAfter-step buffer phase p b h =
 
 untouched_within : (buffer : List ℕ) (c : ℕ) (q : List ℕ) (b : ℕ) (full : Bool) (left : ℕ) → is_full (last_part (c ∷ q)) ≡ full → lacks (last_part (c ∷ q)) ≡ left → 0 < b
     → drop (length (output (c ∷ q ++ b ∷ []))) (next_buffer buffer (Within full left (length (output (c ∷ q)))) b) ≡ drop (length (output (c ∷ q ++ b ∷ []))) buffer
-untouched_within buffer c q b full (suc left) f l h =
-    rw (nonzero b h) (drop-set-lt _ buffer _ b (omega (arith, ap length (output-push_more (c ∷ q) b (omega arith)), length_push (output (c ∷ q)) b)))
+untouched_within buffer c q b full (suc left) f l h = grind (arith, output-push_more (c ∷ q) b, nonzero, drop-set-lt, length_push)
 untouched_within buffer c q b true zero f l h = refl
 untouched_within buffer c q b false zero f l h = grind (arith, output-push_next, nonzero, drop-set-lt, length_push)
 
@@ -165,10 +156,13 @@ pub DecoderAfter-idle : (buffer : List ℕ) (phase : Phase) → phase ≡ Idle �
 unfolding phase_after
 DecoderAfter-idle buffer phase e = grind (arith, All-nil, output-nil, begins-nil)
 
+-- no more bytes are told than the buffer has
+answer-bound : (n : ℕ) (phase : Phase) (byte : ℕ) → IfOk (next_answer n phase byte) (λ found. IfSome found (λ k. k ≤ n))
+answer-bound n phase byte = grind (arith, leb-true)
+
 -- the machine feeds a byte
-pub Feeds-step : (buffer : List ℕ) (phase : Phase) (b : ℕ) → IfOk (next_answer (length buffer) phase b) (λ found. IfSome found (λ n. n ≤ length buffer))
-    → Feeds buffer phase b (next_answer (length buffer) phase b) (next_buffer buffer phase b) (next_phase (length buffer) phase b)
-Feeds-step buffer phase b fits = record {
+pub Feeds-step : (buffer : List ℕ) (phase : Phase) (b : ℕ) → let n = length buffer in Feeds buffer phase b (next_answer n phase b) (next_buffer buffer phase b) (next_phase n phase b)
+Feeds-step buffer phase b = record {
   answer = λ p h. PhaseAfter-answer_to (length buffer) phase p b h;
   phased = λ p h. PhaseAfter-step (length buffer) phase p b h;
   after = λ p h. DecoderAfter-step buffer phase p b h;
@@ -176,6 +170,11 @@ Feeds-step buffer phase b fits = record {
   zero_idle = λ e. rw e (next_phase-zero (length buffer) phase);
   zero_unchanged = λ e. rw e (next_buffer-zero buffer phase);
   by_table = λ state e going. phase_by_table (length buffer) phase b state e going;
-  bound = fits;
+  bound = answer-bound (length buffer) phase b;
   len = length-next_buffer buffer phase b;
 }
+
+-- whatever does what the machine does feeds the byte
+pub Feeds-as : {buffer buffer' : List ℕ} {phase phase' : Phase} {b : ℕ} {result : Result (Option ℕ) DecodeError} → result ≡ next_answer (length buffer) phase b → phase' ≡ next_phase (length buffer) phase b
+    → buffer' ≡ next_buffer buffer phase b → Feeds buffer phase b result buffer' phase'
+Feeds-as {buffer} {buffer'} {phase} {phase'} {b} answer phase_is buffer_is = rw (answer, phase_is, buffer_is) (Feeds-step buffer phase b)

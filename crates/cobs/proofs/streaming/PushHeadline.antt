@@ -13,7 +13,7 @@ use Rattle.cobs.specs.Headline.{IsPiece, PushesMessage}
 use Rattle.cobs.specs.declared.dec.DecodeReport.{DecodeReport}
 use Rattle.cobs.specs.declared.dec.PushError.{PushError}
 use Rattle.cobs.proofs.streaming.FeedLemmas.{DecoderAfter-idle}
-use Rattle.cobs.proofs.streaming.PushLemmas.{output-grows}
+use Rattle.cobs.proofs.streaming.LastPiece.{output-grows}
 use Rattle.cobs.proofs.format.StreamLemmas.{stream_outcomes-no_zero, stream_outcomes-one, unended-no_zero}
 use Rattle.cobs.proofs.decoding.OutcomeLemmas.{outcome_reads}
 use Rattle.cobs.proofs.decoding.ReadsLemmas.{frame_piece}

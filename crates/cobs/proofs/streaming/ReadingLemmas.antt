@@ -1,7 +1,7 @@
 -- Reads, one after another, and the first piece that ends in what they gave.
 use Rattle.std.proofs.Common.{◌≡◌, ◌≢◌, ℕ, ◌+◌, ◌-◌, ◌<◌, ◌≤◌, Bool, true, false, leb, List, [], ◌∷◌, ◌++◌, length, take, drop, refl, sym, ap, ◌∙◌, subst, arith, append_assoc, length-append, length-take, Some, None, Ok, Err}
 use Rattle.std.specs.List.{All}
-use Rattle.std.proofs.lemmas.List.{append-nil, take_all, take-append-le, take-append-drop, drop-take, flat_map_more, length_push, same_from_push}
+use Rattle.std.proofs.lemmas.List.{append-nil, take_all, take-append-le, take-append-drop, drop-take, drop-drop, flat_map_more, length_push, same_from_push}
 use Rattle.std.proofs.lemmas.List.Elements.{All-nil, All-push, All-take, All-head, All-tail}
 use Rattle.std.proofs.lemmas.Grind.{flat_map-append}
 use Rattle.std.proofs.Math.Logic.{∥∥₁_elim}
@@ -34,17 +34,12 @@ EndsFirstIn-taken {buffer} {buffer'} {phase} {phase'} {end} {count} bytes t p h 
 pub EndsFirst-behind : (t : List ℕ) {bytes behind : List ℕ} {n : ℕ} {outcome : Outcome} → stream_outcomes t n ≡ [] → EndsFirstIn (unended t) bytes n outcome behind → EndsFirst (t ++ bytes) n outcome behind
 EndsFirst-behind t {bytes} {behind} {n} {outcome} none w = record {
   front = t ++ w.front;
-  cut = ap (λ (x : List ℕ). t ++ x) w.cut ∙ sym (append_assoc t w.front (0 ∷ behind));
-  none_before = stream_outcomes-append t w.front n ∙ ap (λ (x : List Outcome). x ++ stream_outcomes (unended t ++ w.front) n) none ∙ w.none_before;
+  cut = grind (arith, append_assoc);
+  none_before = rw (stream_outcomes-append t w.front n, none) w.none_before;
   outcomes =
-      ap (λ (x : List ℕ). stream_outcomes x n) (ap (λ (x : List ℕ). t ++ x) (w.cut ∙ sym (append_assoc w.front (0 ∷ []) behind)) ∙ sym (append_assoc t (w.front ++ 0 ∷ []) behind))
-      ∙ stream_outcomes-append (t ++ (w.front ++ 0 ∷ [])) behind n
-      ∙ ap (λ (x : List Outcome). x ++ stream_outcomes (unended (t ++ (w.front ++ 0 ∷ [])) ++ behind) n) at_zero
-      ∙ ap (λ (x : List ℕ). outcome ∷ stream_outcomes (x ++ behind) n) (ap unended (sym (append_assoc t w.front (0 ∷ []))) ∙ unended-zero (t ++ w.front));
+      let cut : t ++ bytes ≡ (t ++ (w.front ++ 0 ∷ [])) ++ behind = grind (arith, append_assoc) in
+      rw (cut, stream_outcomes-append (t ++ (w.front ++ 0 ∷ [])) behind n, stream_outcomes-append t (w.front ++ 0 ∷ []) n, none, w.here, ← append_assoc t w.front (0 ∷ []), unended-zero (t ++ w.front)) refl;
 }
-  where
-    at_zero : stream_outcomes (t ++ (w.front ++ 0 ∷ [])) n ≡ outcome ∷ []
-    at_zero = stream_outcomes-append t (w.front ++ 0 ∷ []) n ∙ ap (λ (x : List Outcome). x ++ stream_outcomes (unended t ++ (w.front ++ 0 ∷ [])) n) none ∙ w.here
 
 -- THE READER'S OWN NOTE OF A BEGUN PIECE
 
@@ -261,3 +256,7 @@ front_rest xs n count h =
 -- a range that ends where it starts is empty
 pub empty_range : (xs : List ℕ) (from to : ℕ) → from ≡ to → take (to - from) (drop from xs) ≡ []
 empty_range xs from to e = let none : to - from ≡ 0 = omega (arith, e) in ap (λ (k : ℕ). take k (drop from xs)) none
+
+-- what is left of a range after its first n bytes
+pub left_of_range : (xs : List ℕ) (from to n : ℕ) → n + from ≤ to → drop n (take (to - from) (drop from xs)) ≡ take (to - (from + n)) (drop (from + n) xs)
+left_of_range xs from to n h = front_rest (drop from xs) (to - from) n (omega arith) ∙ ap (λ (k : ℕ). take k (drop n (drop from xs))) (omega arith) ∙ ap (take (to - (from + n))) (drop-drop n from xs)

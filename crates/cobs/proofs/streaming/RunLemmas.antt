@@ -1,19 +1,19 @@
 -- So many bytes of a block at once are so many feeds.
-use Rattle.std.proofs.Common.{◌≡◌, ◌≢◌, ℕ, zero, suc, ◌+◌, ◌-◌, ◌<◌, ◌≤◌, Bool, false, List, [], ◌∷◌, ◌++◌, length, take, drop, set, get_or, sym, ap, ◌∙◌, subst, arith, append_assoc, IfOk, IfSome}
-use Rattle.std.proofs.lemmas.List.{set-append_right, length_push, drop_more, take_more_set, drop-set-lt, length-set, take-append-drop, length-take-le, get_or-take, get_or-drop, drop-drop}
-use Rattle.std.proofs.Common.{length-drop, length-take, min}
+use Rattle.std.proofs.Common.{◌≡◌, ◌≢◌, ℕ, zero, suc, ◌+◌, ◌-◌, ◌<◌, ◌≤◌, Bool, false, List, [], ◌∷◌, ◌++◌, length, take, drop, set, get_or, sym, ap, ◌∙◌, subst, refl, arith, append_assoc, None, Ok}
+use Rattle.std.proofs.lemmas.List.{set-append_right, length_push, drop_more, take_more_set, drop-set-lt, length-set, take-append-drop, length-take-le, drop-drop}
 use Rattle.std.proofs.Math.Seq.{set-append_seam}
 use borrow.Rule.Slice.PartMut.{put_mid}
 use Rattle.cobs.specs.declared.dec.unbuffered.UnbufferedDecoder.{UnbufferedDecoder}
 use Rattle.std.proofs.lemmas.List.Elements.{All-head, All-tail}
 use Rattle.std.proofs.lemmas.Bool.{ne_eqb, lt-ltb}
 use Rattle.cobs.specs.Grammar.{HasNoZero}
-use Rattle.cobs.specs.Feed.{Phase, Within, Feeds}
+use Rattle.cobs.specs.Feed.{Phase, Within, Over}
+use Rattle.cobs.specs.FeedPiece.{TakesPiece, end_told}
 use Rattle.cobs.specs.Fields.Decoders.{phase_of, phase_with}
 use Rattle.cobs.specs.Internal.FedInTurn.{FedInTurn}
 use Rattle.cobs.specs.Step.{next_phase, next_buffer, next_answer}
 use Rattle.cobs.proofs.streaming.FeedLemmas.{Feeds-step}
-use Rattle.cobs.proofs.streaming.PushLemmas.{Pushed, Pushed-more}
+use Rattle.cobs.proofs.streaming.ByByteLemmas.{piece-more}
 
 -- the list with xs written over as many elements from the place on
 abbrev pub over : ℕ → List ℕ → List ℕ → List ℕ
@@ -49,31 +49,37 @@ FedInTurn-within (x ∷ xs) buffer full (suc left) count h l r =
     = FedInTurn-within xs (set buffer count x) full left (count + 1) (All-tail (λ b. b ≢ 0) x xs h) (omega arith) (omega (arith, length-set buffer count x)) in
     grind (arith, ne_eqb, lt-ltb, over-cons)
 
--- a push so far goes on over bytes that are fed in turn
-pub Pushed-run : {buffer₀ buffer' : List ℕ} {phase₀ phase' : Phase} (bytes xs buffer : List ℕ) (phase : Phase) (i : ℕ)
-    → i + length xs ≤ length bytes → ((j : ℕ) → j < length xs → get_or bytes (i + j) 0 ≡ get_or xs j 0)
-    → Pushed buffer₀ phase₀ buffer phase bytes i → FedInTurn buffer phase xs buffer' phase' → Pushed buffer₀ phase₀ buffer' phase' bytes (i + length xs)
-Pushed-run {buffer₀} {buffer'} {phase₀} {phase'} bytes [] buffer phase i within same s f = grind arith
-Pushed-run {buffer₀} {buffer'} {phase₀} {phase'} bytes (x ∷ xs) buffer phase i within same s f =
-    let at : get_or bytes i 0 ≡ x = ap (λ (k : ℕ). get_or bytes k 0) (omega arith) ∙ same 0 (omega arith) in
-    let fits : IfOk (next_answer (length buffer) phase x) (λ found. IfSome found (λ n. n ≤ length buffer)) = rw f.0 tt in
-    let step : Feeds buffer phase (get_or bytes i 0) (next_answer (length buffer) phase x) (next_buffer buffer phase x) (next_phase (length buffer) phase x)
-    = subst (λ (b : ℕ). Feeds buffer phase b (next_answer (length buffer) phase x) (next_buffer buffer phase x) (next_phase (length buffer) phase x)) (sym at) (Feeds-step buffer phase x fits) in
-    subst (λ (k : ℕ). Pushed buffer₀ phase₀ buffer' phase' bytes k) (omega arith)
-    (Pushed-run bytes xs (next_buffer buffer phase x) (next_phase (length buffer) phase x) (i + 1) (omega arith)
-    (λ j below. ap (λ (k : ℕ). get_or bytes k 0) (omega arith) ∙ same (suc j) (omega arith))
-    (Pushed-more bytes i (omega arith) s step f.0) f.1)
+-- the first of the bytes behind a place
+from_here : (bytes : List ℕ) (i r : ℕ) → i < length bytes → take (suc r) (drop i bytes) ≡ get_or bytes i 0 ∷ take r (drop (i + 1) bytes)
+from_here bytes i r within = ap (take (suc r)) (drop_more bytes i 0 within)
 
--- the first r of the m bytes from the place i on are fed
-pub Pushed-ran : {buffer₀ buffer' : List ℕ} {phase₀ phase' : Phase} (bytes buffer : List ℕ) (phase : Phase) (i m r : ℕ) → i ≤ length bytes → r ≤ length (take m (drop i bytes))
-    → Pushed buffer₀ phase₀ buffer phase bytes i → FedInTurn buffer phase (take r (take m (drop i bytes))) buffer' phase' → Pushed buffer₀ phase₀ buffer' phase' bytes (i + r)
-Pushed-ran {buffer₀} {buffer'} {phase₀} {phase'} bytes buffer phase i m r here within s f =
-    let long : length (take r _) ≡ r = length-take-le r _ within in
-    let most : length _ ≡ min m (length (drop i bytes)) = length-take m (drop i bytes) in
-    let rest : length (drop i bytes) ≡ length bytes - i = length-drop i bytes in
-    subst (λ (k : ℕ). Pushed buffer₀ phase₀ buffer' phase' bytes (i + k)) long
-    (Pushed-run bytes (take r _) buffer phase i (omega arith)
-    (λ j below. sym (get_or-take r _ j 0 (omega arith) ∙ get_or-take m (drop i bytes) j 0 (omega arith) ∙ get_or-drop i bytes j 0)) s f)
+-- what goes on by each byte that is answered by `Ok(None)` goes on by the r bytes behind the place i, fed in turn
+pub ran-on : (P : List ℕ → Phase → ℕ → Type 0) (bytes : List ℕ)
+    → ((buffer : List ℕ) (phase : Phase) (i : ℕ) → i < length bytes → P buffer phase i → let byte = get_or bytes i 0 in next_answer (length buffer) phase byte ≡ Ok None
+    → P (next_buffer buffer phase byte) (next_phase (length buffer) phase byte) (i + 1))
+    → (buffer buffer' : List ℕ) (phase phase' : Phase) (i r : ℕ) → i + r ≤ length bytes → P buffer phase i → FedInTurn buffer phase (take r (drop i bytes)) buffer' phase' → P buffer' phase' (i + r)
+ran-on P bytes more buffer buffer' phase phase' i zero within s f = grind arith
+ran-on P bytes more buffer buffer' phase phase' i (suc r) within s f =
+    let fed = subst (λ (l : List ℕ). FedInTurn buffer phase l buffer' phase') (from_here bytes i r (omega arith)) f in
+    subst (P buffer' phase') (omega arith) (ran-on P bytes more (next_buffer buffer phase (get_or bytes i 0)) buffer' (next_phase (length buffer) phase (get_or bytes i 0)) phase' (i + 1) r (omega arith) (more buffer phase i (omega arith) s fed.0) fed.1)
+
+-- a piece that has not ended goes on so
+pub piece-run : {buffer₀ buffer buffer' : List ℕ} {phase₀ phase phase' : Phase} (bytes : List ℕ) (i r : ℕ) → i + r ≤ length bytes → TakesPiece buffer₀ phase₀ (take i bytes) None buffer phase
+    → FedInTurn buffer phase (take r (drop i bytes)) buffer' phase' → TakesPiece buffer₀ phase₀ (take (i + r) bytes) None buffer' phase'
+piece-run {buffer₀} {phase₀ = phase₀} bytes i r within t f =
+    ran-on (λ buffer phase i. TakesPiece buffer₀ phase₀ (take i bytes) None buffer phase) bytes
+    (λ buffer phase i within t quiet. piece-more bytes i within t (Feeds-step buffer phase (get_or bytes i 0)) (λ _. ap end_told quiet)) _ _ _ _ i r within t f
+
+-- a piece that is too long goes on by bytes that are no zeros
+pub piece-over : {buffer₀ buffer : List ℕ} {phase₀ : Phase} (bytes : List ℕ) (i r : ℕ) → i + r ≤ length bytes → HasNoZero (take r (drop i bytes))
+    → TakesPiece buffer₀ phase₀ (take i bytes) None buffer Over → TakesPiece buffer₀ phase₀ (take (i + r) bytes) None buffer Over
+piece-over bytes i zero within some t = grind arith
+piece-over {buffer₀} {buffer} {phase₀} bytes i (suc r) within some t =
+    let rest = subst HasNoZero (from_here bytes i r (omega arith)) some in
+    let nz = All-head (λ b. b ≢ 0) _ _ rest in
+    let over : next_phase (length buffer) Over (get_or bytes i 0) ≡ Over = rw (ne_eqb _ 0 nz) refl in
+    let one = subst (λ phase. TakesPiece buffer₀ phase₀ (take (i + 1) bytes) None buffer phase) over (piece-more bytes i (omega arith) t (Feeds-step buffer Over (get_or bytes i 0)) (λ z. absurd (nz z))) in
+    subst (λ (k : ℕ). TakesPiece buffer₀ phase₀ (take k bytes) None buffer Over) (omega arith) (piece-over bytes (i + 1) r (omega arith) (All-tail (λ b. b ≢ 0) _ _ rest) one)
 
 -- THE RUN OF A DECODER
 

@@ -8,14 +8,14 @@ use Rattle.std.specs.List.{All}
 use borrow.Rule.Slice.PartMut.{put_mid}
 use Rattle.cobs.specs.Grammar.{HasNoZero, code_of, is_full}
 use Rattle.cobs.specs.Piece.{output, last_part, lacks, parts, parts_after}
-use Rattle.cobs.specs.Feed.{Phase, Idle, Within, Over}
+use Rattle.cobs.specs.Feed.{Phase, Within, Over}
 use Rattle.cobs.specs.declared.dec.unbuffered.UnbufferedDecoder.{UnbufferedDecoder}
 use Rattle.cobs.specs.Fields.Decoders.{phase_of, phase_with}
 use Rattle.cobs.specs.Internal.FedInTurn.{FedInTurn}
 use Rattle.cobs.specs.Step.{grows, next_phase, next_buffer, next_answer, end_answer, if_over}
 use Rattle.cobs.proofs.decoding.PieceLemmas.{output-one, last_part-one, output-push_more, output-push_next, last_part-push_next, lacks-push_more, is_full-push_more}
 use Rattle.cobs.proofs.decoding.PieceCuts.{last_part-more, last_part-last, output-last, output-more, joint_of, output_short}
-use Rattle.cobs.proofs.streaming.PushLemmas.{output-grows}
+use Rattle.cobs.proofs.streaming.LastPiece.{output-grows}
 use Rattle.cobs.proofs.streaming.RunLemmas.{over, over-nil, over-push, begun}
 
 -- the bytes are fed in two parts
@@ -55,19 +55,7 @@ within_same full full' left left' count count' f l c = ap (λ (v : Bool). Within
 step_at : (base : ℕ) (buffer : List ℕ) (c : ℕ) (q : List ℕ) (x : ℕ) (full : Bool) (left : ℕ) → is_full (last_part (c ∷ q)) ≡ full → lacks (last_part (c ∷ q)) ≡ left → x ≢ 0
     → base + length (output (c ∷ q ++ x ∷ [])) ≤ length buffer → Steps base buffer (Within full left (base + length (output (c ∷ q)))) (output (c ∷ q)) (c ∷ q ++ x ∷ []) x
 step_at base buffer c q x full (suc left) f l nz room =
-    let n : ℕ = length buffer in
-    let count : ℕ = base + length (output (c ∷ q)) in
-    let out : output (c ∷ q ++ x ∷ []) ≡ output (c ∷ q) ++ x ∷ [] = output-push_more (c ∷ q) x (omega arith) in
-    let long : length (output (c ∷ q ++ x ∷ [])) ≡ length (output (c ∷ q)) + 1 = ap length out ∙ length_push (output (c ∷ q)) x in
-    let is : next_phase n (Within full (suc left) count) x ≡ phase_at base (c ∷ q ++ x ∷ []) =
-    ap (λ (v : Bool). cond v Idle (grows n full left count)) (ne_eqb x 0 nz) ∙ grown_phase n full left count (omega arith)
-    ∙ within_same _ _ _ _ _ _ (sym (is_full-push_more (c ∷ q) x (omega arith) ∙ f)) (omega (arith, lacks-push_more (c ∷ q) x (omega arith))) (omega arith) in
-    record {
-      answer = answer_if n (Within full (suc left) count) _ x nz is refl;
-      phase_is = is;
-      buffer_is = ap (λ (v : Bool). cond v (over base buffer (output (c ∷ q))) (set (over base buffer (output (c ∷ q))) count x)) (ne_eqb x 0 nz)
-          ∙ over-push base buffer (output (c ∷ q)) x (omega arith) ∙ ap (over base buffer) (sym out);
-    }
+    grind (arith, output-push_more (c ∷ q) x, lacks-push_more (c ∷ q) x, is_full-push_more (c ∷ q) x, length_push, ne_eqb, grown_phase, within_same, answer_if, over, over-push)
 step_at base buffer c q x true zero f l nz room = grind (arith, output-push_next, append-nil, ne_eqb, within_same, last_part-push_next, answer_if, over)
 step_at base buffer c q x false zero f l nz room = grind (arith, output-push_next, length_push, ne_eqb, grown_phase, within_same, last_part-push_next, answer_if, over, over-push)
 

@@ -12,7 +12,7 @@ use Rattle.cobs.specs.declared.dec.state.DecoderState.TheVariants.{Idle, Grab, G
 use Rattle.cobs.specs.Feed.{Phase, Within, Over, state_in}
 use Rattle.cobs.specs.Feed as phases
 use Rattle.cobs.specs.Step.{next_phase}
-use Rattle.cobs.specs.declared.dec.state.DecodeResult.TheVariants.{DataComplete, DataContinue}
+use Rattle.cobs.specs.declared.dec.state.DecodeResult.TheVariants.{DataComplete}
 use Rattle.cobs.specs.declared.dec.DecodeError.TheVariants.{InvalidFrame}
 use Rattle.cobs.proofs.decoding.OutcomeLemmas.{reads_iff}
 use Rattle.cobs.proofs.decoding.PieceLemmas.{output-one, last_part-one, output-push_more, output-push_next, last_part-push_next, lacks-push_more, is_full-push_more}
@@ -30,20 +30,14 @@ opened_after c q b is = grind (arith, state_after-is, eqb-true)
 -- one more byte inside a piece
 module _ (c : ℕ) (q : List ℕ) (b : ℕ) (some : b ≢ 0) where
   state_step : (full : Bool) (left : ℕ) → is_full (last_part (c ∷ q)) ≡ full → lacks (last_part (c ∷ q)) ≡ left → table_state (inside full left) b ≡ state_after (c ∷ q ++ b ∷ [])
-  state_step true (suc left) f l =
-      ap (λ (t : Bool). cond t Idle (GrabChain left)) (ne_eqb b 0 some)
-      ∙ sym (state_after-is c (q ++ b ∷ []) (is_full-push_more (c ∷ q) b (omega arith) ∙ f) (let k = lacks-push_more (c ∷ q) b (omega arith) in omega arith))
-  state_step false (suc left) f l =
-      ap (λ (t : Bool). cond t Idle (Grab left)) (ne_eqb b 0 some)
-      ∙ sym (state_after-is c (q ++ b ∷ []) (is_full-push_more (c ∷ q) b (omega arith) ∙ f) (let k = lacks-push_more (c ∷ q) b (omega arith) in omega arith))
-  state_step true zero f l = ap (λ (t : Bool). cond t Idle (opened_by b)) (ne_eqb b 0 some) ∙ opened_after c (q ++ b ∷ []) b (last_part-push_next c q b l)
-  state_step false zero f l = ap (λ (t : Bool). cond t Idle (opened_by b)) (ne_eqb b 0 some) ∙ opened_after c (q ++ b ∷ []) b (last_part-push_next c q b l)
+  state_step true (suc left) f l = grind (arith, ne_eqb, state_after-is, is_full-push_more (c ∷ q) b, lacks-push_more (c ∷ q) b)
+  state_step false (suc left) f l = grind (arith, ne_eqb, state_after-is, is_full-push_more (c ∷ q) b, lacks-push_more (c ∷ q) b)
+  state_step true zero f l = grind (arith, ne_eqb, opened_after, last_part-push_next)
+  state_step false zero f l = grind (arith, ne_eqb, opened_after, last_part-push_next)
 
   data_step : (full : Bool) (left : ℕ) → is_full (last_part (c ∷ q)) ≡ full → lacks (last_part (c ∷ q)) ≡ left → output (c ∷ q) ++ data_of (table_answer (inside full left) b) ≡ output (c ∷ q ++ b ∷ [])
-  data_step true (suc left) f l =
-      ap (λ (t : Bool). output (c ∷ q) ++ data_of (cond t (Err (InvalidFrame 0)) (Ok (DataContinue b)))) (ne_eqb b 0 some) ∙ sym (output-push_more (c ∷ q) b (omega arith))
-  data_step false (suc left) f l =
-      ap (λ (t : Bool). output (c ∷ q) ++ data_of (cond t (Err (InvalidFrame 0)) (Ok (DataContinue b)))) (ne_eqb b 0 some) ∙ sym (output-push_more (c ∷ q) b (omega arith))
+  data_step true (suc left) f l = grind (arith, ne_eqb, output-push_more (c ∷ q) b)
+  data_step false (suc left) f l = grind (arith, ne_eqb, output-push_more (c ∷ q) b)
   data_step true zero f l = grind (arith, ne_eqb, output-push_next)
   data_step false zero f l = grind (arith, ne_eqb, output-push_next)
 

@@ -1,6 +1,6 @@
 -- How far a piece is decoded.
-use Rattle.std.specs.Prelude.{◌≡◌, ℕ, ◌+◌, ◌<◌, Bool, true, List, [], ◌∷◌, ◌++◌, length, take, drop}
-use Rattle.cobs.specs.Piece.{output, last_part, lacks, is_whole}
+use Rattle.std.specs.Prelude.{◌≡◌, ℕ, ◌+◌, ◌<◌, ◌≤◌, Bool, true, List, [], ◌∷◌, ◌++◌, length, take, drop}
+use Rattle.cobs.specs.Piece.{output, kept_output, last_part, lacks, is_whole}
 
 -- a whole piece whose parts but the last aren't full, so that each byte after the first gives one byte of the output
 pub record IsFlat (p : List ℕ) : Type 0 where
@@ -21,3 +21,16 @@ pub record Decoded (piece old new : List ℕ) (read written : ℕ) : Type 0 wher
 abbrev pub whole_left : List ℕ → Bool
 whole_left [] = true
 whole_left (byte ∷ bytes) = is_whole (byte ∷ bytes)
+
+-- the blocks in the first `read` bytes of h are decoded into the bytes `done`
+pub record BlocksRead (h done : List ℕ) (read : ℕ) : Type 0 where
+  pub within : read ≤ length h
+  pub kepts : kept_output h ≡ done ++ kept_output (drop read h)
+  pub whole : whole_left h ≡ whole_left (drop read h)
+
+-- the blocks in the first `read` bytes of h are decoded to the front of the buffer, and behind it is as it was
+pub record DecodedSource (h old dest : List ℕ) (read written : ℕ) : Type 0 where
+  pub room : written ≤ length old
+  pub len : length dest ≡ length old
+  pub rest : drop written dest ≡ drop written old
+  pub blocks : BlocksRead h (take written dest) read

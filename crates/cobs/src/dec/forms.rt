@@ -1,5 +1,5 @@
 //! The other decode forms from a source that stays as it is: for any sentinel, and into a vector.
-ghost use Rattle.std.specs.Prelude.{◌≡◌, IsTrue, false, ◌≢◌, ◌+◌, ◌-◌, if◌then◌else◌, ◌++◌, ◌<◌, ◌≤◌, length, take, drop, List, ℕ, [], IfOk, IfErr, IsOkAnd};
+ghost use Rattle.std.specs.Prelude.{◌≡◌, IsTrue, false, ◌≢◌, ◌+◌, ◌-◌, ◌++◌, ◌≤◌, length, take, drop, List, ℕ, [], IfOk, IfErr, IsOkAnd};
 ghost use Rattle.cobs.specs.Overwritten.{overwritten};
 ghost use Rattle.cobs.specs.Decode.{head_answer_within, source_answer, decoded, decoded_head, IsRefusal};
 ghost use Rattle.cobs.specs.Grammar.{HasNoZero, Reads};
@@ -11,43 +11,27 @@ ghost use Rattle.cobs.specs.Stream.{head};
 ghost use Rattle.cobs.specs.declared.dec.DecodeError.TheVariants.{EmptyFrame, TargetBufTooSmall};
 
 use crate::dec::blocks::{flat_front, write_joints};
-use crate::dec::piece::{copy_few, first_of, len_without};
+use crate::dec::piece::{copy_few, first_of};
 use crate::dec::{DecodeError, DecodeVecError, decode};
 use crate::lanes::copy_xored_short;
 use crate::window::WIDE_WINDOW;
 use std::alloc::Global;
 
-/// Writes the bytes of the source, each XORed with the sentinel, to where `at` says.
+/// Writes the bytes of the source, each XORed with the sentinel, to the front of `dest`.
 #[inline(never)]
-fn copy_xored(source: &[u8], dest: &mut [u8], at: usize, sentinel: u8)
-    requires { at + length source.now ≤ length dest.old }
-    ensures { dest.new ≡ take at dest.old ++ xor_each sentinel source.now
-        ++ drop (at + length source.now) dest.old }
+fn copy_xored(source: &[u8], dest: &mut [u8], sentinel: u8)
+    requires { length source.now ≤ length dest.old }
+    ensures { dest.new ≡ xor_each sentinel source.now ++ drop (length source.now) dest.old }
 {
     'by_byte: for i in 0..source.len() {
-        dest[at + i] = source[i] ^ sentinel;
+        dest[i] = source[i] ^ sentinel;
     }
-}
-
-/// Decodes blocks of which none but the last is full, and the last may be cut, to the front of `dest`: one copy, and a
-/// zero at each code. Each byte after what they give stays.
-fn decode_xored_flat(source: &[u8], dest: &mut [u8], sentinel: u8)
-    requires nonzero { HasNoZero (xor_each sentinel source.now) }
-    requires some { 0 < length source.now }
-    requires flat { length (output (xor_each sentinel source.now)) + 1 ≡ length source.now }
-    requires room { length source.now ≤ length dest.old + 1 }
-    ensures begins { take (length source.now - 1) dest.new
-        ≡ output (xor_each sentinel source.now) }
-    ensures rest { drop (length source.now - 1) dest.new ≡ drop (length source.now - 1) dest.old }
-{
-    let first = (source[0] ^ sentinel) as usize;
-    copy_xored(&source[1..], dest, 0, sentinel);
-    write_joints(dest, first, source.len(), true);
 }
 
 /// Decodes the blocks of a source that has no sentinel, and returns how many bytes they give.
 ///
-/// The whole blocks through each full one are decoded by one copy; if their bytes don't fit, those of them that do.
+/// The whole blocks through each full one are decoded by one copy, and a zero at each code; if their bytes don't fit,
+/// those of them that do. Each byte after what they give stays.
 fn decode_fronts(source: &[u8], dest: &mut [u8], sentinel: u8) -> Result<usize, DecodeError>
     requires { HasNoZero (xor_each sentinel source.now) }
     ensures answer { result ≡ head_answer_within (xor_each sentinel source.now) (length dest.old) }
@@ -62,17 +46,19 @@ fn decode_fronts(source: &[u8], dest: &mut [u8], sentinel: u8) -> Result<usize, 
                 decoded_bytes: written,
             });
         }
-        let due = !full && read + len < source.len();
-        let gives = if due { len } else { len - 1 };
-        let room = dest.len() - written;
-        if room < gives {
-            decode_xored_flat(&source[read..=read + room], &mut dest[written..], sentinel);
+        let fit = len.min(dest.len() - written + 1);
+        let place = &mut dest[written..];
+        copy_xored(&source[read + 1..read + fit], place, sentinel);
+        write_joints(place, (source[read] ^ sentinel) as usize, fit, true);
+        if fit < len {
             return Err(DecodeError::TargetBufTooSmall);
         }
-        decode_xored_flat(&source[read..read + len], &mut dest[written..], sentinel);
         read += len;
-        written += len - 1;
-        if due {
+        written += fit - 1;
+        if !full && read < source.len() {
+            if written == dest.len() {
+                return Err(DecodeError::TargetBufTooSmall);
+            }
             dest[written] = 0;
             written += 1;
         }
@@ -148,7 +134,12 @@ pub fn decode_with_sentinel(
     if source.is_empty() {
         return Err(DecodeError::EmptyFrame);
     }
-    let len = len_without(source, sentinel);
+    let last = source.len() - 1;
+    let len = if source[last] == sentinel {
+        last
+    } else {
+        source.len()
+    };
     if decode_xored_short(&source[..len], dest, sentinel) {
         return Ok(len - 1);
     }

@@ -1,8 +1,7 @@
 //! The traits of the streaming decoders: what `stream` and `framed` know of one, and writing to its buffer.
-ghost use Rattle.std.specs.Prelude.{◌≡◌, ◌≤◌, ◌∷◌, ℕ, List, [], length, IfOk, IfSome, MatchOption, ◌+◌};
+ghost use Rattle.std.specs.Prelude.{◌≡◌, ◌≤◌, ℕ, List, length, ◌+◌};
 ghost use Rattle.cobs.specs.Feed.{Feeds, Phase};
-ghost use Rattle.cobs.specs.FeedPiece.{outcome_at, IsWithin, TakesPiece};
-ghost use Rattle.cobs.specs.Internal.PieceEnds.{outcome_told};
+ghost use Rattle.cobs.specs.FeedPiece.{end_told, TakesPiece};
 ghost use Rattle.std.specs.Borrow.{sem};
 ghost use Rattle.cobs.specs.Overwritten.{written_at};
 ghost use Rattle.cobs.specs.Fields.Decoders.{LendsBytes};
@@ -32,9 +31,7 @@ pub enum PieceEnd {
 
 /// What the result for a zero means: nothing if no piece has ended.
 pub(crate) fn piece_end(answer: Result<Option<usize>, DecodeError>) -> Option<PieceEnd>
-    ensures { (buffer : List ℕ) → IfOk answer (λ found. IfSome found (λ n. n ≤ length buffer)) →
-        MatchOption result (outcome_told answer buffer ≡ []) (λ end.
-        (outcome_told answer buffer ≡ outcome_at end buffer ∷ []) × IsWithin (length buffer) end) }
+    ensures { result ≡ end_told answer }
 {
     match answer {
         Ok(None) | Err(DecodeError::EmptyFrame) => None,

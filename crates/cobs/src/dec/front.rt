@@ -61,55 +61,6 @@ pub(crate) fn decode_window(source: &[u8], dest: &mut [u8]) -> usize
     }
 }
 
-/// Decodes the full block at the front of a source, if neither it nor the code after it has a zero.
-#[inline(always)]
-fn decode_full(source: &[u8], dest: &mut [u8]) -> Cursor
-    requires begun { 0 < length (head source.now) }
-    requires code { slice_index source.now 0 ≡ 255 }
-    requires long { 256 ≤ length source.now }
-    requires room { 254 ≤ length dest.old }
-    ensures decoded { Decoded (head source.now) dest.old dest.new result.read result.written }
-    ensures slower { result.written ≤ result.read }
-    ensures within { result.read ≤ 255 }
-{
-    let copied = copy_nonzero(source, 1, FULL_CODE - 1, dest, 0);
-    if copied < FULL_CODE - 1 || source[FULL_CODE] == 0 {
-        return Cursor {
-            read: 0,
-            written: 0,
-        };
-    }
-    Cursor {
-        read: FULL_CODE,
-        written: FULL_CODE - 1,
-    }
-}
-
-/// Decodes the block at the front of a source, one with 32 bytes or more that isn't full, if neither it nor the code
-/// after it has a zero; returns how many bytes it has read and written.
-#[inline(always)]
-fn decode_long(source: &[u8], dest: &mut [u8]) -> usize
-    requires begun { 0 < length (head source.now) }
-    requires long { 32 < slice_index source.now 0 }
-    requires not_full { slice_index source.now 0 < 255 }
-    requires source { slice_index source.now 0 < length source.now }
-    requires room { slice_index source.now 0 ≤ length dest.old }
-    ensures decoded { Decoded (head source.now) dest.old dest.new result result }
-    ensures within { result ≤ 254 }
-{
-    let code = source[0] as usize;
-    let copied = if code <= 2 * WINDOW {
-        copy_xored_short(&source[1..code + 1], dest, 0)
-    } else {
-        copy_nonzero(source, 1, code, dest, 0) == code
-    };
-    if !copied {
-        return 0;
-    }
-    dest[code - 1] = 0;
-    code
-}
-
 /// Decodes what is at the front of a source up to a code: a block, or those of a window. It has read nothing where
 /// a zero is near.
 #[inline(always)]
@@ -123,12 +74,32 @@ fn decode_step(source: &[u8], dest: &mut [u8]) -> Cursor
 {
     let code = source[0] as usize;
     if code == FULL_CODE {
-        return decode_full(source, dest);
+        let copied = copy_nonzero(source, 1, FULL_CODE - 1, dest, 0);
+        if copied < FULL_CODE - 1 || source[FULL_CODE] == 0 {
+            return Cursor {
+                read: 0,
+                written: 0,
+            };
+        }
+        return Cursor {
+            read: FULL_CODE,
+            written: FULL_CODE - 1,
+        };
     }
     let step = if code <= WINDOW {
         decode_window(source, dest)
     } else {
-        decode_long(source, dest)
+        let copied = if code <= 2 * WINDOW {
+            copy_xored_short(&source[1..code + 1], dest, 0)
+        } else {
+            copy_nonzero(source, 1, code, dest, 0) == code
+        };
+        if copied {
+            dest[code - 1] = 0;
+            code
+        } else {
+            0
+        }
     };
     Cursor {
         read: step,

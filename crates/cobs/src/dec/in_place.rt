@@ -1,11 +1,11 @@
 //! Decoding a frame in its own buffer.
-ghost use Rattle.std.specs.Prelude.{◌≡◌, false, ◌≢◌, ◌↔◌, ◌+◌, ◌-◌, ◌<◌, ◌≤◌, ◌∷◌, ℕ, List, length, take, drop, slice_index, IfErr, IsTrue};
+ghost use Rattle.std.specs.Prelude.{◌≡◌, ◌≢◌, ◌+◌, ◌-◌, ◌<◌, ◌≤◌, ◌∷◌, ℕ, List, length, take, drop, slice_index, IfErr};
 ghost use Rattle.cobs.specs.Overwritten.{overwritten};
 ghost use Rattle.cobs.specs.Decode.{head_answer, in_place, in_place_answer, in_place_report};
 ghost use Rattle.cobs.specs.Grammar.{HasNoZero, Reads, code_of};
 ghost use Rattle.cobs.specs.Headline.{AnswersMessage, IsPiece, ReportsMessage};
 ghost use Rattle.cobs.specs.Piece.{kept_output, last_part, output};
-ghost use Rattle.cobs.specs.Internal.Decoded.{IsFlat, whole_left};
+ghost use Rattle.cobs.specs.Internal.Decoded.{DecodedSource, IsFlat, whole_left};
 ghost use Rattle.cobs.specs.Sentinel.{xor_each};
 ghost use Rattle.cobs.specs.declared.dec.DecodeError.TheVariants.{TargetBufTooSmall};
 
@@ -69,76 +69,37 @@ fn mark_front(first: usize, rest: &mut [u8], len: usize) -> (usize, usize)
     (read + code, code)
 }
 
-/// Decodes the first whole blocks of a frame, through the first full one, where they are: one walk that writes a zero
-/// over each code, and one move. Returns how many bytes they have, and whether the last of them is full; 0 bytes: the
-/// first block is broken. Each byte after what they give stays.
-#[inline(always)]
-fn decode_first(buffer: &mut [u8], len: usize) -> (usize, bool)
-    requires some { 0 < len }
-    requires within { len ≤ length buffer.old }
-    requires nonzero { HasNoZero (take len buffer.old) }
-    ensures within { result.0 ≤ len }
-    ensures flat { 0 < result.0 → IsFlat (take result.0 buffer.old) }
-    ensures full { 0 < result.0
-        → (IsTrue result.1 ↔ (code_of (last_part (take result.0 buffer.old)) ≡ 255)) }
-    ensures broken { result.0 ≡ 0 → len < slice_index buffer.old 0 }
-    ensures begins { 0 < result.0
-        → take (result.0 - 1) buffer.new ≡ output (take result.0 buffer.old) }
-    ensures rest { drop (result.0 - 1) buffer.new ≡ drop (result.0 - 1) buffer.old }
-{
-    let first = buffer[0] as usize;
-    if len < first {
-        return (0, false);
-    }
-    let (front, code) = mark_front(first, &mut buffer[1..], len);
-    move_to_front(buffer, 1, front - 1);
-    if code == 1 {
-        // The code of an empty block at the end, which the walk may have overwritten, is no part of the message.
-        buffer[front - 1] = 1;
-    }
-    (front, code == FULL_CODE)
-}
-
-/// Decodes `len` bytes of the buffer, which begin at `from`, to its front, where they are whole blocks of which none
-/// but the last is full: one move of all these bytes, and a zero at each code. Each byte after what they give stays.
-#[inline(always)]
-fn decode_flat_in_place(buffer: &mut [u8], from: usize, len: usize)
-    requires within { from + len ≤ length buffer.old }
-    requires nonzero { HasNoZero (take len (drop from buffer.old)) }
-    requires flat { IsFlat (take len (drop from buffer.old)) }
-    ensures begins { take (len - 1) buffer.new ≡ output (take len (drop from buffer.old)) }
-    ensures rest { drop (len - 1) buffer.new ≡ drop (len - 1) buffer.old }
-{
-    let first = buffer[from] as usize;
-    move_to_front(buffer, from + 1, len - 1);
-    write_joints(buffer, first, len, true);
-}
-
-/// Decodes the `len` bytes that begin at `from` to the front of the buffer, and returns how many bytes their whole blocks
-/// give, and whether the last block is whole too. Every other byte is as it was.
+/// Decodes the blocks in the first `end` bytes of the buffer from `first` on, where those before it have become the first
+/// `start` bytes; returns how many bytes all blocks give, and whether the last is whole too. Every other byte is as it
+/// was. `old` is the buffer before any block was decoded.
 ///
-/// The blocks are walked over first, as far as the next full one, since the bytes behind the message must stay.
+/// The blocks are walked over first, as far as the next full one, since the bytes behind the message must stay. Then all
+/// their bytes are moved at once, and a zero is written at each code.
 #[inline(never)]
-fn decode_behind(buffer: &mut [u8], from: usize, len: usize) -> (usize, bool)
-    requires within { from + len ≤ length buffer.old }
-    requires nonzero { HasNoZero (take len (drop from buffer.old)) }
-    ensures within { result.0 ≤ length buffer.old }
-    ensures count { result.0 ≡ length (kept_output (take len (drop from buffer.old))) }
-    ensures whole { result.1 ≡ whole_left (take len (drop from buffer.old)) }
-    ensures buffer { buffer.new
-        ≡ overwritten buffer.old (kept_output (take len (drop from buffer.old))) }
+fn decode_behind(buffer: &mut [u8], end: usize, first: usize, start: usize) -> (usize, bool)
+    ghost old: { List ℕ }
+    requires nonzero { HasNoZero (take end old) }
+    requires within { end ≤ length buffer.old }
+    requires decoded { DecodedSource (take end old) old buffer.old first start }
+    requires order { start ≤ first }
+    ensures count { result.0 ≡ length (kept_output (take end old)) }
+    ensures whole { result.1 ≡ whole_left (take end old) }
+    ensures buffer { buffer.new ≡ overwritten old (kept_output (take end old)) }
 {
-    let mut read = 0;
-    let mut written = 0;
-    'by_front: while read < len {
-        let (front, full) = flat_front(&buffer[from + read..from + len], 0);
+    let mut read = first;
+    let mut written = start;
+    'by_front: while read < end {
+        let (front, full) = flat_front(&buffer[read..end], 0);
         if front == 0 {
             return (written, false);
         }
-        decode_flat_in_place(&mut buffer[written..], from + read - written, front);
+        let place = &mut buffer[written..];
+        let code = place[read - written] as usize;
+        move_to_front(place, read - written + 1, front - 1);
+        write_joints(place, code, front, true);
         read += front;
         written += front - 1;
-        if !full && read < len {
+        if !full && read < end {
             buffer[written] = 0;
             written += 1;
         }
@@ -148,31 +109,39 @@ fn decode_behind(buffer: &mut [u8], from: usize, len: usize) -> (usize, bool)
 
 /// Decodes the blocks in the first `end` bytes of the buffer, and returns how many bytes they give.
 ///
-/// Most frames have no full block before their last, and are one walk and one move.
+/// The blocks through the first full one are one walk, which writes a zero over each code, and one move. Most frames
+/// have no others.
 #[inline(always)]
 fn decode_blocks_in_place(buffer: &mut [u8], end: usize) -> Result<usize, DecodeError>
+    ghost old: { List ℕ }
     requires within { end ≤ length buffer.old }
     requires nonzero { HasNoZero (take end buffer.old) }
+    requires old { buffer.old ≡ old }
     ensures answer { result ≡ head_answer (take end buffer.old) }
     ensures buffer { buffer.new ≡ overwritten buffer.old (kept_output (take end buffer.old)) }
 {
     if end == 0 {
         return Ok(0);
     }
-    let (first, full) = decode_first(buffer, end);
-    if first == 0 {
+    let code = buffer[0] as usize;
+    if end < code {
         return Err(DecodeError::InvalidFrame { decoded_bytes: 0 });
     }
+    let (first, last) = mark_front(code, &mut buffer[1..], end);
     let mut written = first - 1;
+    move_to_front(buffer, 1, written);
+    if last == 1 {
+        // The code of an empty block at the end, which the walk may have overwritten, is no part of the message.
+        buffer[written] = 1;
+    }
     if first == end {
         return Ok(written);
     }
-    if !full {
+    if last != FULL_CODE {
         buffer[written] = 0;
         written += 1;
     }
-    let (more, whole) = decode_behind(&mut buffer[written..], first - written, end - first);
-    let decoded_bytes = written + more;
+    let (decoded_bytes, whole) = decode_behind(buffer, end, first, written);
     if whole {
         Ok(decoded_bytes)
     } else {
@@ -218,7 +187,10 @@ pub fn decode_in_place_report(buf: &mut [u8]) -> Result<DecodeReport, DecodeErro
     }
     let end = piece_len(buf);
     let frame_size = decode_blocks_in_place(buf, end)?;
-    Ok(DecodeReport::new(end, frame_size))
+    Ok(DecodeReport {
+        parsed_size: end,
+        frame_size,
+    })
 }
 
 /// Decodes the frame at the front of the buffer in its own place, up to the first zero or the buffer's end, and returns

@@ -11,7 +11,6 @@ use crate::dec::blocks::write_joints;
 use crate::dec::front::{decode_front, decode_window};
 use crate::dec::{DecodeError, MANY};
 use crate::enc::FULL_CODE;
-use crate::lanes::copy_xored_short;
 use crate::window::{WIDE_WINDOW, WINDOW, copy_window, first_zero_of_few};
 use memchr::memchr;
 
@@ -33,19 +32,6 @@ pub(crate) fn first_of(source: &[u8], byte: u8) -> usize
     ensures stop { result < length source.now → slice_index source.now result ≡ byte }
 {
     memchr(byte, source).unwrap_or(source.len())
-}
-
-/// How many bytes of a source come before such a byte at its end; all of them if its last byte is another.
-#[inline(always)]
-pub(crate) fn len_without(source: &[u8], byte: u8) -> usize
-    ensures within { result ≤ length source.now }
-    ensures stop { result < length source.now → slice_index source.now result ≡ byte }
-{
-    let len = source.len();
-    if len > 0 && source[len - 1] == byte {
-        return len - 1;
-    }
-    len
 }
 
 /// The place of the first zero of the source, or the source's length if it has none.
@@ -93,29 +79,6 @@ pub(crate) fn copy_few(source: &[u8], dest: &mut [u8])
     }
 }
 
-/// Writes a zero at each code of a piece but the first, over a copy of what follows that one, where no code follows a
-/// full part.
-#[inline(always)]
-fn write_codes(piece: &[u8], dest: &mut [u8]) -> PieceOutput
-    requires some { 0 < length piece.now }
-    requires nonzero { HasNoZero piece.now }
-    requires flat { length (output piece.now) + 1 ≡ length piece.now }
-    requires room { length piece.now ≤ length dest.old + 1 }
-    requires copied { take (length piece.now - 1) dest.old ≡ drop 1 piece.now }
-    ensures written { result.written ≡ length (output piece.now) }
-    ensures begins { take result.written dest.new ≡ output piece.now }
-    ensures rest { drop result.written dest.new ≡ drop result.written dest.old }
-    ensures code { result.code ≡ code_of (last_part piece.now) }
-    ensures left { result.left ≡ lacks (last_part piece.now) }
-{
-    let (code, left) = write_joints(dest, piece[0] as usize, piece.len(), false);
-    PieceOutput {
-        written: piece.len() - 1,
-        code,
-        left,
-    }
-}
-
 /// Decodes a piece in which no code is after a full part: one copy, and a zero at each code.
 #[tactic(auto, using(std::proofs::lemmas::Grind::common_steps, std::proofs::Common::take_at, std::proofs::Common::drop_at))]
 fn decode_flat_piece(piece: &[u8], dest: &mut [u8]) -> PieceOutput
@@ -130,47 +93,11 @@ fn decode_flat_piece(piece: &[u8], dest: &mut [u8]) -> PieceOutput
     ensures left { result.left ≡ lacks (last_part piece.now) }
 {
     copy_few(&piece[1..], dest);
-    write_codes(piece, dest)
-}
-
-/// Copies what is after the first byte of a source, if that is some bytes, at most 64, they fit, and none is a
-/// zero; says whether it did.
-#[inline(always)]
-pub(crate) fn copy_short(source: &[u8], dest: &mut [u8]) -> bool
-    requires some { 0 < length source.now }
-    ensures few { IsTrue result → length source.now ≤ 65 }
-    ensures nonzero { IsTrue result → HasNoZero (drop 1 source.now) }
-    ensures room { IsTrue result → length source.now ≤ length dest.old + 1 }
-    ensures copied { IsTrue result
-        → dest.new ≡ drop 1 source.now ++ drop (length source.now - 1) dest.old }
-    ensures kept { result ≡ false → dest.new ≡ dest.old }
-{
-    let len = source.len() - 1;
-    if len == 0 || WIDE_WINDOW < len || dest.len() < len {
-        return false;
-    }
-    copy_xored_short(&source[1..], dest, 0)
-}
-
-/// Decodes a short piece, of which all but the first code is copied already, and returns its message's length.
-#[inline(always)]
-#[tactic(auto, using(crate::proofs::decoding::PieceCuts::output_short, crate::proofs::decoding::OutcomeSteps::sized_whole, crate::proofs::decoding::OutcomeSteps::sized_broken,))]
-pub(crate) fn decode_copied(piece: &[u8], dest: &mut [u8]) -> Result<usize, DecodeError>
-    requires some { 0 < length piece.now }
-    requires nonzero { HasNoZero piece.now }
-    requires few { length piece.now < 255 }
-    requires room { length piece.now ≤ length dest.old + 1 }
-    requires copied { take (length piece.now - 1) dest.old ≡ drop 1 piece.now }
-    ensures answer { result ≡ sized (outcome_of piece.now (length dest.old)) }
-    ensures buffer { dest.new ≡ overwritten dest.old (output piece.now) }
-{
-    let end = write_codes(piece, dest);
-    if end.left == 0 {
-        Ok(end.written)
-    } else {
-        Err(DecodeError::InvalidFrame {
-            decoded_bytes: end.written,
-        })
+    let (code, left) = write_joints(dest, piece[0] as usize, piece.len(), false);
+    PieceOutput {
+        written: piece.len() - 1,
+        code,
+        left,
     }
 }
 

@@ -5,8 +5,7 @@ ghost use Rattle.cobs.specs.declared.dec.DecodeError.TheVariants.{TargetBufTooSm
 ghost use Rattle.cobs.specs.Fields.Decoders.{phase_at, phase_of};
 ghost use Rattle.cobs.specs.Step.{next_phase, next_buffer, next_answer, end_answer};
 ghost use Rattle.cobs.specs.Push.{PushesBytes};
-ghost use Rattle.cobs.specs.Internal.PieceEnds.{LeavesRest};
-ghost use Rattle.cobs.specs.FeedPiece.{TakesBytes, TakesPiece};
+ghost use Rattle.cobs.specs.FeedPiece.{TakesPiece};
 
 use crate::dec::frame_decoder::{PieceEnd, piece_end};
 use crate::dec::piece::piece_len;
@@ -113,7 +112,6 @@ impl UnbufferedDecoder {
     fn end(&mut self, len: usize) -> Result<Option<usize>, DecodeError>
         ensures answer { result ≡ end_answer len (phase_of self.old) }
         ensures idle { phase_of self.new ≡ Idle }
-        ensures bound { IfOk result (λ found. IfSome found (λ n. n ≤ len)) }
     {
         let ended = mem::replace(self, UnbufferedDecoder::new());
         if ended.over {
@@ -133,51 +131,6 @@ impl UnbufferedDecoder {
         } else {
             Ok(Some(ended.dest_idx))
         }
-    }
-
-    /// The state when a byte of the output doesn't fit.
-    #[inline(always)]
-    fn overflow(&mut self) -> Result<Option<usize>, DecodeError>
-        ensures answer { result ≡ Err TargetBufTooSmall }
-        ensures phase { phase_of self.new ≡ Over }
-    {
-        self.over = true;
-        Err(DecodeError::TargetBufTooSmall)
-    }
-
-    /// Takes one step of the machine, in any phase.
-    #[inline(always)]
-    fn step(&mut self, dest: &mut [u8], byte: u8) -> Result<Option<usize>, DecodeError>
-        ensures answer { result ≡ next_answer (length dest.old) (phase_of self.old) byte }
-        ensures phase { phase_of self.new ≡ next_phase (length dest.old) (phase_of self.old) byte }
-        ensures buffer { dest.new ≡ next_buffer dest.old (phase_of self.old) byte }
-        ensures bound { IfOk result (λ found. IfSome found (λ n. n ≤ length dest.old)) }
-    {
-        if byte == 0 {
-            return self.end(dest.len());
-        }
-        if self.over {
-            return Err(DecodeError::TargetBufTooSmall);
-        }
-        if self.left != 0 {
-            if dest.len() <= self.dest_idx {
-                return self.overflow();
-            }
-            dest[self.dest_idx] = byte;
-            self.dest_idx += 1;
-            self.left -= 1;
-            return Ok(None);
-        }
-        if self.code != FULL {
-            if dest.len() <= self.dest_idx {
-                return self.overflow();
-            }
-            dest[self.dest_idx] = 0;
-            self.dest_idx += 1;
-        }
-        self.code = byte;
-        self.left = byte - 1;
-        Ok(None)
     }
 
     /// Makes a decoder in this state, whatever the numbers are. A complete full block, with nothing
@@ -269,7 +222,28 @@ impl UnbufferedDecoder {
         ensures feeds { Feeds dest.old (phase_of self.old) byte result
             dest.new (phase_of self.new) }
     {
-        self.step(dest, byte)
+        if byte == 0 {
+            return self.end(dest.len());
+        }
+        if self.over {
+            return Err(DecodeError::TargetBufTooSmall);
+        }
+        let is_code = self.left == 0;
+        if !(is_code && self.code == FULL) {
+            if dest.len() <= self.dest_idx {
+                self.over = true;
+                return Err(DecodeError::TargetBufTooSmall);
+            }
+            dest[self.dest_idx] = if is_code { 0 } else { byte };
+            self.dest_idx += 1;
+        }
+        if is_code {
+            self.code = byte;
+            self.left = byte - 1;
+        } else {
+            self.left -= 1;
+        }
+        Ok(None)
     }
 
     /// Takes bytes of the stream, over this buffer, up to the first one whose result by `feed` isn't `Ok(None)`, as
@@ -296,36 +270,20 @@ impl UnbufferedDecoder {
         'by_run: while at < bytes.len() {
             at += self.take_run(dest, &bytes[at..]);
             if at < bytes.len() {
+                let parsed_size = at + 1;
                 match self.feed(dest, bytes[at]) {
-                    Ok(None) => at += 1,
-                    Ok(Some(n)) => return Ok(Some(DecodeReport::new(at + 1, n))),
-                    Err(error) => return Err(PushError {
-                        error,
-                        parsed_size: at + 1,
-                    }),
+                    Ok(None) => at = parsed_size,
+                    Ok(Some(frame_size)) => {
+                        return Ok(Some(DecodeReport {
+                            parsed_size,
+                            frame_size,
+                        }));
+                    }
+                    Err(error) => return Err(PushError { error, parsed_size }),
                 }
             }
         }
         Ok(None)
-    }
-}
-
-impl UnbufferedDecoder {
-    /// Takes first bytes in which no piece ends, as many as can be taken at once, and returns how many: of a piece that
-    /// is too long for the buffer, all in front of its zero.
-    fn take_inside(&mut self, dest: &mut [u8], bytes: &[u8]) -> usize
-        ensures within { result ≤ length bytes.now }
-        ensures takes { TakesBytes dest.old (phase_of self.old) (take result bytes.now) []
-            dest.new (phase_of self.new) }
-        ensures rest { (buffer : List ℕ) (phase : Phase) (done : List ℕ)
-            → TakesBytes buffer phase done [] dest.old (phase_of self.old)
-            → LeavesRest buffer phase done dest.old
-            → LeavesRest buffer phase (done ++ take result bytes.now) dest.new }
-    {
-        if self.over {
-            return piece_len(bytes);
-        }
-        self.take_run(dest, bytes)
     }
 
     /// Takes bytes of the stream, over this buffer, through the first zero that ends a piece, as
@@ -346,7 +304,12 @@ impl UnbufferedDecoder {
     {
         let mut taken = 0;
         'by_run: while taken < bytes.len() {
-            taken += self.take_inside(dest, &bytes[taken..]);
+            // Of a piece that is too long for the buffer, all in front of its zero is taken.
+            taken += if self.over {
+                piece_len(&bytes[taken..])
+            } else {
+                self.take_run(dest, &bytes[taken..])
+            };
             if taken < bytes.len() {
                 let byte = bytes[taken];
                 let answer = self.feed(dest, byte);

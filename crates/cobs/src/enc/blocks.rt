@@ -8,8 +8,7 @@ ghost use Rattle.cobs.specs.Internal.Taking.{MarksZeros, TakesFront};
 
 use crate::enc::unbuffered::EncoderProgress;
 use crate::window::{
-    WINDOW, copy_at, copy_window, first_zero_of_few, is_all_zeros, write_row, write_some_ones,
-    zeros_at,
+    ONES, WINDOW, copy_at, copy_window, first_zero_of_few, is_all_zeros, write_row, zeros_at,
 };
 use memchr::memchr;
 
@@ -92,6 +91,7 @@ fn mark_zeros(dest: &mut [u8], index: usize, next: usize, zeros: u64) -> usize
 /// two zeros are marked before the first question is how many there are. With `few_zeros` a source without zeros is
 /// asked for before that.
 #[inline(always)]
+#[tactic(auto, using(crate::proofs::encoding::TakingLemmas::next_steps))]
 pub(crate) fn append_short(
     source: &[u8],
     dest: &mut [u8],
@@ -115,8 +115,9 @@ pub(crate) fn append_short(
     }
     let (first, left) = mark_first(dest, start, next, mask);
     let (mut index, zeros) = mark_first(dest, first, next, left);
+    // A row of zeros gives way to ones at once.
     if zeros != 0 && is_all_zeros(mask, len) {
-        write_some_ones(dest, next, len);
+        copy_window(&ONES, 0, len, dest, next);
         index = next + len - 1;
     } else {
         index = mark_zeros(dest, index, next, zeros);
@@ -161,6 +162,7 @@ fn write_rows(source: &[u8], read: usize, dest: &mut [u8], at: usize) -> usize
 /// A full block that no window follows ends it where that block is closed. So after the loop the last block is full only
 /// if it was at the start, and there was no window.
 #[inline(always)]
+#[tactic(auto, using(crate::proofs::encoding::TakingLemmas::next_steps))]
 pub(crate) fn append_windows(
     source: &[u8],
     dest: &mut [u8],
@@ -230,6 +232,7 @@ pub(crate) fn run_len(source: &[u8]) -> usize
 /// at most 254 bytes, and each stretch of it is copied as one slice. Returns how many bytes these are, and how far the
 /// frame has come.
 #[inline(always)]
+#[tactic(auto, using(crate::proofs::encoding::TakingLemmas::next_steps))]
 fn append_run(source: &[u8], dest: &mut [u8], progress: EncoderProgress) -> (usize, EncoderProgress)
     requires some { 0 < length source.now }
     requires place { IsPlaceIn (length dest.old) (reached_at progress) }
@@ -269,6 +272,7 @@ fn append_run(source: &[u8], dest: &mut [u8], progress: EncoderProgress) -> (usi
 
 /// Takes a `source` of which [`append`] takes no more at once: by a run, and by windows where the run has ended.
 #[inline(never)]
+#[tactic(auto, using(crate::proofs::encoding::TakingLemmas::next_steps))]
 fn append_runs(source: &[u8], dest: &mut [u8], progress: EncoderProgress) -> EncoderProgress
     requires place { IsPlaceIn (length dest.old) (reached_at progress) }
     requires fits { end_after (reached_at progress) source.now ≤ length dest.old }
@@ -314,6 +318,7 @@ pub(crate) fn append(source: &[u8], dest: &mut [u8], progress: EncoderProgress) 
 }
 
 /// Writes the code of the open block where that block is part of the frame, and returns where the frame ends.
+/// Only this writes that code: what is in its place before doesn't matter.
 pub(crate) fn close(dest: &mut [u8], progress: EncoderProgress) -> usize
     requires { IsPlaceIn (length dest.old) (reached_at progress) }
     ensures frame { (m : List ℕ) → CobsEncoderAfter dest.old (reached_at progress) m
@@ -331,6 +336,7 @@ pub(crate) fn close(dest: &mut [u8], progress: EncoderProgress) -> usize
 /// Takes a `source` as [`append_runs`] does, and ends the frame: one call at the end of `encode_long`, so that no value
 /// of that function has to outlive a call.
 #[inline(never)]
+#[tactic(auto, using(crate::proofs::encoding::TakingLemmas::next_steps))]
 pub(crate) fn close_runs(source: &[u8], dest: &mut [u8], progress: EncoderProgress) -> usize
     requires place { IsPlaceIn (length dest.old) (reached_at progress) }
     requires fits { end_after (reached_at progress) source.now ≤ length dest.old }

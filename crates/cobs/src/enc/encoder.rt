@@ -75,6 +75,7 @@ impl<'a> CobsEncoder<'a> {
     /// assert_eq!(rt; encoder.finalize(), 4);
     /// assert_eq!(rt; dest, [4, 1, 2, 3]);
     /// ```
+    #[tactic(auto, using(crate::proofs::encoding::TakingLemmas::encoder_steps))]
     pub fn push(&mut self, bytes: &[u8]) -> Result<(), DestBufTooSmallError>
         ensures same_slice { IsOverSameSlice self.old self.new }
         ensures len { length (slice_of self.new) ≡ length (slice_of self.old) }

@@ -1,6 +1,6 @@
 //! Whether a frame fits, before a byte of it is written.
-ghost use Rattle.std.specs.Prelude.{◌≡◌, ◌<◌, ◌≤◌, ◌+◌, ◌-◌, ◌++◌, ◌↔◌, IsTrue, length, replicate};
-ghost use Rattle.cobs.specs.Length.{full_blocks, runs, open_len};
+ghost use Rattle.std.specs.Prelude.{◌<◌, ◌≤◌, ◌↔◌, IsTrue};
+ghost use Rattle.cobs.specs.Length.{open_len};
 
 use crate::enc::blocks::run_len;
 use crate::max_encoding_overhead;
@@ -12,6 +12,10 @@ const FULL_BLOCK_BYTES: usize = 254;
 /// Whether `room` bytes, counted from the index of an open block with this code, are enough for the frame once the
 /// block has taken `source`. Most of the time the lengths decide it: the frame is longest where no byte is a zero, and
 /// shortest where no block becomes full.
+///
+/// Else the full blocks are counted, but for a last one. A block can't be full if one of its next 254 bytes is a zero:
+/// the last such zero is as far as a search goes at once. A run that fills a block is searched for its end, as by the
+/// encoder, and has a full block for each 254 of its bytes.
 #[inline(never)]
 #[tactic(auto, using(crate::proofs::encoding::RoomLemmas::counted))]
 pub(crate) fn fits(code: usize, source: &[u8], room: usize) -> bool
@@ -26,21 +30,10 @@ pub(crate) fn fits(code: usize, source: &[u8], room: usize) -> bool
     if spare < code {
         return false;
     }
-    let taken = code - 1;
-    if taken + max_encoding_overhead(taken + source.len()) <= spare {
+    let mut run = code - 1;
+    if run + max_encoding_overhead(run + source.len()) <= spare {
         return true;
     }
-    code + count_full_blocks(taken, source) <= spare
-}
-
-/// How many full blocks the encoded frame of `run` nonzero bytes and then `source` has, but for a last one. A block
-/// can't be full if one of its next 254 bytes is a zero: the last such zero is as far as a search goes at once. A run
-/// that fills a block is searched for its end, as by the encoder, and has a full block for each 254 of its bytes.
-fn count_full_blocks(run: usize, source: &[u8]) -> usize
-    requires { run < 254 }
-    ensures count { result ≡ full_blocks (runs (replicate run 1 ++ source.now)) }
-{
-    let mut run = run;
     let mut counted = 0;
     let mut read = 0;
     'by_run: while FULL_BLOCK_BYTES - run < source.len() - read {
@@ -51,12 +44,12 @@ fn count_full_blocks(run: usize, source: &[u8]) -> usize
             let more = run_len(&source[read..]);
             read += more;
             if read == source.len() {
-                return counted + (run + more - 1) / FULL_BLOCK_BYTES;
+                return code + counted + (run + more - 1) / FULL_BLOCK_BYTES <= spare;
             }
             counted += (run + more) / FULL_BLOCK_BYTES;
             read += 1;
         }
         run = 0;
     }
-    counted
+    code + counted <= spare
 }

@@ -36,19 +36,12 @@ pub struct EncoderProgress {
     pub is_full: bool,
 }
 
-impl EncoderProgress {
-    /// The start: one open block without bytes at the front of the buffer.
-    pub(crate) fn start() -> Self
-        ensures { reached_at result
-            ≡ record { block = record { index = 0; code = 1 }; full = false } }
-    {
-        EncoderProgress {
-            index: 0,
-            code: 1,
-            is_full: false,
-        }
-    }
-}
+/// The start: one open block without bytes at the front of the buffer.
+pub(crate) const START: EncoderProgress = EncoderProgress {
+    index: 0,
+    code: 1,
+    is_full: false,
+};
 
 /// Encodes a message that comes in pieces, straight into a buffer that the caller passes to each call.
 ///
@@ -87,9 +80,7 @@ impl UnbufferedEncoder {
         ensures taken { (buffer : List ℕ) → 0 < length buffer
             → CobsEncoderAfter buffer (reached_by result) [] }
     {
-        UnbufferedEncoder {
-            progress: EncoderProgress::start(),
-        }
+        UnbufferedEncoder { progress: START }
     }
 
     /// Makes an encoder in this state, whatever the numbers are.
@@ -217,6 +208,7 @@ impl UnbufferedEncoder {
     /// assert_eq!(rt; encoder.finalize(&mut buffer), Ok(3));
     /// assert_eq!(rt; buffer, [3, 7, 8]);
     /// ```
+    #[tactic(auto, using(crate::proofs::encoding::TakingLemmas::encoder_steps))]
     pub fn push(&mut self, dest: &mut [u8], bytes: &[u8]) -> Result<(), DestBufTooSmallError>
         ensures room { IsOk result ↔ HasRoomFor (length dest.old) (reached_by self.old) bytes.now }
         ensures fits { (m : List ℕ) → CobsEncoderAfter dest.old (reached_by self.old) m

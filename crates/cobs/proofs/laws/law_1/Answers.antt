@@ -1,5 +1,5 @@
 use Rattle.cobs.proofs.decoding.OutcomeLemmas.{output_within, reads_iff, reads_only}
-use Rattle.cobs.proofs.streaming.PushLemmas.{output-longer}
+use Rattle.cobs.proofs.streaming.LastPiece.{output-longer}
 use Rattle.cobs.proofs.laws.law_1.Goals as goal
 
 pub returns : goal.returns

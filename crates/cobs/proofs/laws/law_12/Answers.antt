@@ -1,10 +1,7 @@
-use Rattle.std.proofs.Common.{◌≢◌, drop, refl, arith}
-use Rattle.std.proofs.lemmas.List.Elements.{All-nil}
-use Rattle.cobs.specs.Decode.{leading_zeros}
 use Rattle.cobs.proofs.decoding.HeadLemmas.{first_piece_behind, first_piece_none, first_piece_some, front_is_head}
 use Rattle.cobs.proofs.decoding.OutcomeLemmas.{first_piece_head, head_reads}
 use Rattle.cobs.proofs.decoding.SourceSteps.{xor_head}
-use Rattle.cobs.proofs.streaming.PushLemmas.{last_piece-unended, last_piece-zero}
+use Rattle.cobs.proofs.streaming.LastPiece.{last_piece-unended, last_piece-zero}
 use Rattle.cobs.proofs.streaming.SoFar.{no_outcomes}
 use Rattle.cobs.proofs.laws.law_12.Goals as goal
 
@@ -15,8 +12,8 @@ returns c = record {
   behind = first_piece_behind;
   head = front_is_head;
   head_for = λ t n s. xor_head t n s;
-  found = λ t n some within nonzero stop. first_piece_some t (drop (leading_zeros t) t) n refl within nonzero stop some;
-  none = λ t stop. first_piece_none t (drop (leading_zeros t) t) 0 refl (omega arith) (All-nil (λ byte. byte ≢ 0)) stop refl;
+  found = first_piece_some;
+  none = first_piece_none;
   last = λ t n none. last_piece-unended t (no_outcomes t n none);
   last_ended = λ t n none. last_piece-zero t (no_outcomes t n none);
 }

@@ -1,11 +1,7 @@
-use Rattle.std.proofs.Common.{◌≡◌, [], List, ℕ}
-use Rattle.cobs.specs.Feed.{DecoderAfter, Idle, Phase, phase_after}
+use Rattle.cobs.specs.Feed.{phase_after}
 use Rattle.cobs.proofs.streaming.FeedLemmas.{DecoderAfter-idle}
 use Rattle.cobs.proofs.laws.law_14.Goals as goal
 
-idle_of : (buffer : List ℕ) (phase : Phase) → DecoderAfter buffer phase [] → phase ≡ Idle
-unfolding phase_after
-idle_of buffer phase h = h.phased.phase_is
-
 pub returns : goal.returns
-returns c = record { idle = λ buffer phase. (idle_of buffer phase, DecoderAfter-idle buffer phase) }
+unfolding phase_after
+returns c = record { idle = λ buffer phase. (λ h. h.phased.phase_is, DecoderAfter-idle buffer phase) }

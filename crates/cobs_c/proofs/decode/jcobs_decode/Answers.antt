@@ -3,7 +3,8 @@ use Rattle.cobs.specs.Decode.{len_through_piece, sized}
 use Rattle.cobs.specs.Stream.{outcome_of}
 use Rattle.cobs_abi.specs.Answer.{answer_by}
 use Rattle.cobs_abi.specs.declared.answer.Answer.{Answer}
-use Rattle.cobs_c.proofs.SourceLemmas.{answer-some, reported-err, too_long-output, too_small-only}
+use Rattle.cobs_abi.proofs.RoomLemmas.{too_long-output, too_small-only}
+use Rattle.cobs_c.proofs.SourceLemmas.{answer-some, reported-err}
 use Rattle.cobs_c.proofs.decode.jcobs_decode.Goals as goal
 
 pub returns-in-Some : goal.returns-in-Some

@@ -1,6 +1,6 @@
 use Rattle.std.proofs.Common.{length, ◌-◌}
 use Rattle.cobs.specs.Sentinel.{xor_each}
-use Rattle.cobs.proofs.decoding.SourceSteps.{DecodedSource}
+use Rattle.cobs.specs.Internal.Decoded.{DecodedSource}
 use Rattle.cobs.proofs.dec.forms.decode_fronts.Given as goal
 
 abbrev pub invariant-by_front : goal.invariant-by_front

@@ -1,4 +1,4 @@
-use Rattle.std.proofs.Common.{◌≡◌, ◌∙◌, ◌+◌, ◌-◌, ℕ, List, ◌∷◌, length, take, get_or, bit_xor, arith, length-take-le}
+use Rattle.std.proofs.Common.{◌≡◌, ◌∙◌, ◌+◌, ◌-◌, ℕ, ◌∷◌, length, take, get_or, bit_xor, arith, length-take-le}
 use Rattle.cobs.proofs.decoding.PieceCuts.{output_short}
 use Rattle.cobs.proofs.dec.forms.decode_xored_short.Goals as goal
 

@@ -1,4 +1,4 @@
-use Rattle.std.proofs.Common.{◌<◌, ◌≤◌, ◌+◌, ◌∙◌, ℕ, List, length, refl, ap, arith, length-drop}
+use Rattle.std.proofs.Common.{◌∙◌, ℕ, List, refl, ap, arith, length-drop}
 use Rattle.std.proofs.lemmas.List.{take_rest}
 use Rattle.cobs.specs.Stream.{head}
 use Rattle.cobs.proofs.decoding.OutcomeLemmas.{length-head}
@@ -24,22 +24,11 @@ by_step-preserved c =
     let source : List ℕ = c.args.source.now in
     let i = c.by_step.invariant in
     let w = i.decoded.within in
-    let e = c.decode_step-step.ensures in
-    let end : ℕ = c.if-end-read.end in
-    let now : (c.by_step.read < end) × (end + 256 ≤ length source) × (end + 256 + c.by_step.written ≤ length c.args.dest.now + c.by_step.read) = elim c.if-end-read.branch [
-      | then-end-read+else-left w ↦ (
-          (omega (arith, w.end-is, w.if-left.false), omega (arith, w.end-is, w.if-left.false), omega (arith, w.end-is, w.if-left.false, i.room))
-          )
-      | else-end-read w ↦ (
-          let ahead : c.by_step.read < c.by_step.end = omega (arith, w.if-end-read.false) in
-          (omega (arith, w.end-is), omega (arith, w.end-is, i.source ahead), omega (arith, w.end-is, i.both ahead))
-          )
-    ] in
     let part = ap head (take_rest source c.by_step.read) ∙ head-drop c.by_step.read source (omega arith) in
     record {
       decoded = decoded-joined (head source) c.args.dest.now c.by_step.dest c.by_step.read c.by_step.written i.decoded (omega (arith, i.room)) c.decode_step-step.new.dest _ part
-          _ (take_rest c.by_step.dest c.by_step.written) _ refl _ _ e.decoded;
-      room = omega (arith, i.room, e.slower, e.within, now.0, now.2);
-      source = λ ahead. now.1;
-      both = λ ahead. omega (arith, e.slower, now.2);
+          _ (take_rest c.by_step.dest c.by_step.written) _ refl _ _ c.decode_step-step.ensures.decoded;
+      room = grind (arith, then-end-read+else-left, else-end-read);
+      source = λ ahead. grind (arith, then-end-read+else-left, else-end-read);
+      both = λ ahead. grind (arith, then-end-read+else-left, else-end-read);
     }

@@ -1,9 +1,12 @@
-use Rattle.std.proofs.Common.{◌-◌}
-use Rattle.cobs.proofs.decoding.InPlaceSteps.{DecodedInPlace}
+use Rattle.std.proofs.Common.{◌-◌, ◌≤◌, take}
+use Rattle.cobs.specs.Internal.Decoded.{DecodedSource}
 use Rattle.cobs.proofs.dec.in_place.decode_behind.Given as goal
 
 abbrev pub invariant-by_front : goal.invariant-by_front
-invariant-by_front l = DecodedInPlace l.fn.buffer l.from l.len l.buffer l.read l.written
+invariant-by_front g l = record {
+  done : DecodedSource (take l.end g.old) g.old l.buffer l.read l.written;
+  order : l.written ≤ l.read;
+}
 
 abbrev pub decreases-by_front : goal.decreases-by_front
-decreases-by_front l = l.len - l.read
+decreases-by_front g l = l.end - l.read

@@ -1,91 +1,125 @@
-use Rattle.std.proofs.Common.{Ok, Err, ◌≡◌, ◌+◌, ◌-◌, ◌∙◌, ◌≤◌, Bool, cond, ℕ, List, take, drop, set, sym, ap, subst, arith, inl, inr, length-take-le}
-use Rattle.std.proofs.lemmas.Bool.{ne_eqb, eq-eqb, true≢false}
-use Rattle.std.proofs.lemmas.List.{get_or-take}
-use Rattle.cobs.specs.Decode.{head_answer}
-use Rattle.cobs.specs.declared.dec.DecodeError.TheVariants.{InvalidFrame}
-use Rattle.cobs.proofs.decoding.BlockSteps.{all-answer, broken-answer}
-use Rattle.cobs.proofs.decoding.SourceSteps.{DecodedSource, all-buffer, broken-buffer}
-use Rattle.cobs.proofs.decoding.InPlaceSteps.{start, first-end, first-zero, behind-nonzero, behind-answer, behind-buffer}
+use Rattle.std.proofs.Common.{Ok, ◌≡◌, ◌-◌, ◌∙◌, ◌∷◌, ◌++◌, ◌≤◌, ℕ, List, length, take, drop, get_or, set, sym, ap, subst, arith, inl, inr, length-take-le, take_at}
+use Rattle.std.proofs.lemmas.Bool.{ne_eqb, eq-eqb}
+use Rattle.std.proofs.lemmas.List.{get_or-take, take_rest, take-set}
+use Rattle.cobs.specs.Grammar.{HasNoZero, code_of}
+use Rattle.cobs.specs.Internal.Decoded.{DecodedSource, IsFlat}
+use Rattle.cobs.specs.Piece.{output, last_part}
+use Rattle.cobs.proofs.decoding.BlockSteps.{all-answer, broken-answer, kept-answer}
+use Rattle.cobs.proofs.decoding.FirstFront.{marked-buffer, whole-buffer, first-rest, first-rest-empty}
+use Rattle.cobs.proofs.decoding.SourceSteps.{all-buffer, broken-buffer}
+use Rattle.cobs.proofs.decoding.InPlaceSteps.{start, cut-is, first-end, first-zero}
 use Rattle.cobs.proofs.dec.in_place.decode_blocks_in_place.Goals as goal
-use Rattle.cobs.proofs.dec.in_place.decode_blocks_in_place.Goals.{Joined-not-full, then-not-full, else-not-full}
+use Rattle.cobs.proofs.dec.in_place.decode_blocks_in_place.Goals.{Joined-last-eq1, then-last-eq1, else-last-eq1, Joined-last-ne-FULL_CODE, then-last-ne-FULL_CODE, else-last-ne-FULL_CODE}
 
 pub returns-then-end-eq0-clause-buffer : goal.returns-then-end-eq0-clause-buffer
-returns-then-end-eq0-clause-buffer c =
-    let l = length-take-le c.args.end c.args.buffer.now c.requires.within in
-    all-buffer _ _ _ _ _ (start c.args.buffer.now c.args.buffer.now c.args.end 0 c.requires.within) (omega arith)
+returns-then-end-eq0-clause-buffer g c =
+    let l = length-take-le c.args.end c.args.buffer.now c.requires.0 in
+    all-buffer _ _ _ _ _ (start c.args.buffer.now c.args.end 0 c.requires.0) (omega arith)
 
-pub returns-then-first-eq0 : goal.returns-then-first-eq0
-returns-then-first-eq0 c =
-    let old : List ℕ = c.args.buffer.now in
-    let l = length-take-le c.args.end old c.requires.within in
-    let broken = c.decode_first-first.ensures.broken c.if-first-eq0.true in
-    let s = start old old c.args.end 0 c.requires.within in
-    let code = sym (get_or-take c.args.end old 0 0 (omega arith)) in
+pub returns-then-end-code : goal.returns-then-end-code
+returns-then-end-code g c =
+    let l = length-take-le c.args.end c.args.buffer.now c.requires.0 in
+    let s = start c.args.buffer.now c.args.end 0 c.requires.0 in
+    let code = sym (get_or-take c.args.end c.args.buffer.now 0 0 (omega arith)) in
     record {
       answer = broken-answer _ _ _ s.blocks _ (omega arith) code (omega arith);
-      buffer = subst (λ (n : ℕ). drop (n - 1) c.decode_first-first.new.buffer ≡ drop (n - 1) old) c.if-first-eq0.true c.decode_first-first.ensures.rest
-          ∙ broken-buffer _ _ _ _ _ s _ (omega arith) code (omega arith);
+      buffer = broken-buffer _ _ _ _ _ s _ (omega arith) code (omega arith);
     }
 
--- one front
+pub mark_front-first-requires-clause-nonzero : goal.mark_front-first-requires-clause-nonzero
+mark_front-first-requires-clause-nonzero g c = subst HasNoZero (sym (cut-is c.args.buffer.now c.args.end (omega arith) c.requires.0)) c.requires.1.0
+
+-- the first front, once it is walked over and moved
+module _ (g : _) (c : Joined-last-eq1 g) where
+  abbrev old : List ℕ
+  old = c.args.buffer.now
+
+  abbrev first : ℕ
+  first = c.mark_front-first.result.0
+
+  flat : IsFlat (take first old)
+  flat = subst IsFlat (cut-is old first (omega arith) (omega arith)) c.mark_front-first.ensures.flat
+
+  is : c.move_to_front.new.buffer ≡ take (first - 1) c.mark_front-first.new.rest ++ drop (first - 1) (get_or old 0 0 ∷ c.mark_front-first.new.rest)
+  is = subst (λ (xs : List ℕ). c.move_to_front.new.buffer ≡ take (first - 1) (drop 1 xs) ++ drop (first - 1) xs) (marked-buffer old _ (omega arith)) c.move_to_front.ensures
+
+  tail-is : get_or old 0 0 ∷ take (length old - 1) (drop 1 old) ≡ old
+  tail-is = ap (λ (xs : List ℕ). get_or old 0 0 ∷ xs) (take_rest old 1) ∙ whole-buffer old (omega arith)
+
+  begins : take (first - 1) c.if-last-eq1.buffer ≡ output (take first old)
+  begins =
+      let e = c.mark_front-first.ensures in
+      let same = c.mark_front-first.auto.rest in
+      let l = ap length tail-is in
+      let moved = ap (take (first - 1)) is ∙ take_at (take (first - 1) c.mark_front-first.new.rest) _ (first - 1) (length-take-le (first - 1) c.mark_front-first.new.rest (omega arith)) ∙ e.begins
+      ∙ ap output (cut-is old first (omega arith) (omega arith)) in
+      elim c.if-last-eq1.branch [
+        | then-last-eq1 w ↦ ap (take (first - 1)) w.buffer-is ∙ take-set c.move_to_front.new.buffer (first - 1) 1 ∙ moved
+        | else-last-eq1 w ↦ ap (take (first - 1)) w.buffer-is ∙ moved
+      ]
+
+  rest : drop (first - 1) c.if-last-eq1.buffer ≡ drop (first - 1) old
+  rest =
+      let e = c.mark_front-first.ensures in
+      let same = c.mark_front-first.auto.rest in
+      let l = ap length tail-is in
+      elim c.if-last-eq1.branch [
+        | then-last-eq1 w ↦ ap (drop (first - 1)) w.buffer-is
+            ∙ first-rest-empty (get_or old 0 0) (take (length old - 1) (drop 1 old)) _ _ first e.some (omega arith) same e.rest is (e.empty w.if-last-eq1.true) ∙ ap (drop (first - 1)) tail-is
+        | else-last-eq1 w ↦ ap (drop (first - 1)) w.buffer-is
+            ∙ first-rest (get_or old 0 0) (take (length old - 1) (drop 1 old)) _ _ first e.some (omega arith) same e.rest is (e.last w.if-last-eq1.false) ∙ ap (drop (first - 1)) tail-is
+      ]
+
+  last-is : c.mark_front-first.result.1 ≡ code_of (last_part (take first old))
+  last-is = c.mark_front-first.ensures.code ∙ ap (λ (xs : List ℕ). code_of (last_part xs)) (cut-is old first (omega arith) (omega arith))
+
+  same : length c.if-last-eq1.buffer ≡ length old
+  same =
+      let l = ap length tail-is in
+      let marked = ap length (marked-buffer old c.mark_front-first.new.rest (omega arith)) in
+      omega arith
+
 pub returns-then-first-end : goal.returns-then-first-end
-returns-then-first-end c =
-    let e = c.decode_first-first.ensures in
-    let d = first-end c.args.buffer.now _ c.args.end c.decode_first-first.result.0 c.requires.within c.requires.nonzero (omega arith) e.within (e.flat (omega arith)) (e.begins (omega arith)) e.rest c.decode_first-first.auto.buffer (inl (omega arith)) in
-    let l = length-take-le c.args.end c.args.buffer.now c.requires.within in
-    let t = length-take-le (c.decode_first-first.result.0 - 1) c.decode_first-first.new.buffer (omega arith) in
+returns-then-first-end g c =
+    let at = (goal.at.returns-then-first-end g c).Joined-last-eq1 in
+    let l = length-take-le c.args.end c.args.buffer.now c.requires.0 in
+    let d = first-end c.args.buffer.now c.args.end _ c.requires.0 c.if-last-eq1.buffer c.requires.1.0 (omega arith) (omega arith) (flat g at) (begins g at) (rest g at) (same g at)
+    (inl (omega arith)) in
+    let t = length-take-le (c.mark_front-first.result.0 - 1) c.if-last-eq1.buffer (let s = same g at in omega arith) in
     record {
       answer = ap Ok (sym t) ∙ all-answer _ _ _ d.blocks (omega arith);
       buffer = all-buffer _ _ _ _ _ d (omega arith);
     }
 
 -- behind the first front
-done : (c : Joined-not-full) → DecodedSource (take c.args.end c.args.buffer.now) c.args.buffer.now c.if-not-full.buffer c.decode_first-first.result.0 c.if-not-full.written × (c.if-not-full.written ≤ c.decode_first-first.result.0)
-done c =
-    let e = c.decode_first-first.ensures in
-    let first : ℕ = c.decode_first-first.result.0 in
-    let h : List ℕ = take c.args.end c.args.buffer.now in
-    let new : List ℕ = c.decode_first-first.new.buffer in
-    elim c.if-not-full.branch [
-      | then-not-full w ↦ (
-        subst (λ (x : List ℕ). DecodedSource h c.args.buffer.now x first c.if-not-full.written) (sym w.buffer-is)
-            (subst (λ (n : ℕ). DecodedSource h c.args.buffer.now (set new (first - 1) 0) first n) (sym w.written-is)
-            (first-zero c.args.buffer.now _ c.args.end first c.requires.within c.requires.nonzero (omega arith) e.within (e.flat (omega arith)) (e.begins (omega arith)) e.rest c.decode_first-first.auto.buffer (omega arith)
-            (ne_eqb _ 255 (λ is. true≢false (sym ((e.full (omega arith)).1 is) ∙ w.if-not-full.true))))),
+pub decode_behind-decoded_bytes-requires : goal.decode_behind-decoded_bytes-requires
+decode_behind-decoded_bytes-requires g c =
+    let at = (goal.at.decode_behind-decoded_bytes-requires g c).Joined-last-eq1 in
+    let old : List ℕ = c.args.buffer.now in
+    let n : ℕ = c.mark_front-first.result.0 in
+    let long = same g at in
+    let after = c.if-last-ne-FULL_CODE in
+    let done = elim after.branch as (λ _. DecodedSource (take c.args.end old) old after.buffer n after.written × (after.written ≤ n)) [
+      | then-last-ne-FULL_CODE w ↦ (
+        subst (λ (x : List ℕ). DecodedSource (take c.args.end old) old x n after.written) (sym w.buffer-is)
+            (subst (DecodedSource (take c.args.end old) old (set c.if-last-eq1.buffer (n - 1) 0) n) (sym w.written-is)
+            (first-zero old c.args.end n c.requires.0 c.if-last-eq1.buffer c.requires.1.0 (omega arith) (omega arith) (flat g at) (begins g at) (rest g at) (same g at) (omega arith)
+            (ne_eqb _ 255 (λ full. w.if-last-ne-FULL_CODE.true (last-is g at ∙ full))))),
         omega (arith, w.written-is),
       )
-      | else-not-full w ↦ (
-        subst (λ (x : List ℕ). DecodedSource h c.args.buffer.now x first c.if-not-full.written) (sym w.buffer-is)
-            (subst (λ (n : ℕ). DecodedSource h c.args.buffer.now new first n) (sym w.written-is)
-            (first-end c.args.buffer.now _ c.args.end first c.requires.within c.requires.nonzero (omega arith) e.within (e.flat (omega arith)) (e.begins (omega arith)) e.rest c.decode_first-first.auto.buffer
-            (inr (eq-eqb _ 255 ((e.full (omega arith)).0 w.if-not-full.false))))),
+      | else-last-ne-FULL_CODE w ↦ (
+        subst (λ (x : List ℕ). DecodedSource (take c.args.end old) old x n after.written) (sym w.buffer-is) (subst (DecodedSource (take c.args.end old) old c.if-last-eq1.buffer n) (sym w.written-is)
+            (first-end old c.args.end n c.requires.0 c.if-last-eq1.buffer c.requires.1.0 (omega arith) (omega arith) (flat g at) (begins g at) (rest g at) (same g at)
+            (inr (eq-eqb _ 255 (sym (last-is g at) ∙ w.if-last-ne-FULL_CODE.false))))),
         omega (arith, w.written-is),
       )
-    ]
+    ] in (
+      subst (λ (xs : List ℕ). HasNoZero (take c.args.end xs)) c.requires.1.1 c.requires.1.0,
+      (omega arith, (subst (λ (xs : List ℕ). DecodedSource (take c.args.end xs) xs after.buffer n after.written) c.requires.1.1 done.0, done.1)),
+    )
 
-pub decode_behind-more-requires-clause-nonzero : goal.decode_behind-more-requires-clause-nonzero
-decode_behind-more-requires-clause-nonzero c =
-    let d = done (goal.at.decode_behind-more-requires-clause-nonzero c).Joined-not-full in
-    behind-nonzero _ _ _ _ _ d.0 d.1 c.decode_first-first.ensures.within c.requires.nonzero
+pub returns-then-whole-clause-answer : goal.returns-then-whole-clause-answer
+returns-then-whole-clause-answer g c = grind (arith, kept-answer)
 
-pub returns-then-whole : goal.returns-then-whole
-returns-then-whole c =
-    let d = done (goal.at.returns-then-whole c).Joined-not-full in
-    let e = c.decode_behind-more.ensures in
-    let n : ℕ = c.if-not-full.written + c.decode_behind-more.result.0 in
-    record {
-      answer = subst (λ (w : Bool). cond w (Ok n) (Err (InvalidFrame n)) ≡ head_answer (take c.args.end c.args.buffer.now)) c.if-whole.true
-          (behind-answer _ _ _ _ _ d.0 d.1 c.decode_first-first.ensures.within _ _ _ e.within e.count e.whole e.buffer);
-      buffer = behind-buffer _ _ _ _ _ d.0 d.1 c.decode_first-first.ensures.within _ _ _ e.within e.count e.whole e.buffer;
-    }
-
-pub returns-else-whole : goal.returns-else-whole
-returns-else-whole c =
-    let d = done (goal.at.returns-else-whole c).Joined-not-full in
-    let e = c.decode_behind-more.ensures in
-    let n : ℕ = c.if-not-full.written + c.decode_behind-more.result.0 in
-    record {
-      answer = subst (λ (w : Bool). cond w (Ok n) (Err (InvalidFrame n)) ≡ head_answer (take c.args.end c.args.buffer.now)) c.if-whole.false
-          (behind-answer _ _ _ _ _ d.0 d.1 c.decode_first-first.ensures.within _ _ _ e.within e.count e.whole e.buffer);
-      buffer = behind-buffer _ _ _ _ _ d.0 d.1 c.decode_first-first.ensures.within _ _ _ e.within e.count e.whole e.buffer;
-    }
+pub returns-else-whole-clause-answer : goal.returns-else-whole-clause-answer
+returns-else-whole-clause-answer g c = grind (arith, kept-answer)

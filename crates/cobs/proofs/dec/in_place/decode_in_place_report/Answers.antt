@@ -1,9 +1,8 @@
 use Rattle.std.proofs.Common.{arith, length-take-le}
 use Rattle.std.proofs.lemmas.Bool.{eqb-false}
 use Rattle.cobs.proofs.decoding.HeadLemmas.{front_is_head}
-use Rattle.cobs.proofs.decoding.HeadlineLemmas.{in_place_report_reads}
+use Rattle.cobs.proofs.decoding.HeadlineLemmas.{in_place_reads, in_place_only}
 use Rattle.cobs.proofs.decoding.OutcomeSteps.{in_place_report-refused, in_place_report-decoded}
-use Rattle.cobs.proofs.decoding.ReadsLemmas.{frame_piece}
 use Rattle.cobs.proofs.dec.in_place.decode_in_place_report.Goals as goal
 
 pub returns-in_err-frame_size-clause-answer : goal.returns-in_err-frame_size-clause-answer
@@ -14,12 +13,10 @@ pub returns-in_err-frame_size-clause-buffer : goal.returns-in_err-frame_size-cla
 returns-in_err-frame_size-clause-buffer c = grind (arith, front_is_head)
 
 pub returns-in_err-frame_size-clause-reads : goal.returns-in_err-frame_size-clause-reads
-returns-in_err-frame_size-clause-reads c =
-    λ m r. (in_place_report_reads c.args.buf.now _ _ (returns-in_err-frame_size-clause-answer c) (returns-in_err-frame_size-clause-buffer c) c.piece_len-end.ensures.bytes (frame_piece r) m).1 r
+returns-in_err-frame_size-clause-reads c = in_place_reads _ _ _ (returns-in_err-frame_size-clause-answer c) (returns-in_err-frame_size-clause-buffer c) c.piece_len-end.ensures.bytes
 
 pub returns-in_err-frame_size-clause-only : goal.returns-in_err-frame_size-clause-only
-returns-in_err-frame_size-clause-only c =
-    λ piece m told. (in_place_report_reads c.args.buf.now _ _ (returns-in_err-frame_size-clause-answer c) (returns-in_err-frame_size-clause-buffer c) c.piece_len-end.ensures.bytes piece m).0 told
+returns-in_err-frame_size-clause-only c = in_place_only _ _ _ (returns-in_err-frame_size-clause-answer c) (returns-in_err-frame_size-clause-buffer c) c.piece_len-end.ensures.bytes
 
 pub returns-clause-answer : goal.returns-clause-answer
 returns-clause-answer c =
@@ -29,9 +26,7 @@ pub returns-clause-buffer : goal.returns-clause-buffer
 returns-clause-buffer c = grind (arith, front_is_head)
 
 pub returns-clause-reads : goal.returns-clause-reads
-returns-clause-reads c =
-    λ m r. (in_place_report_reads c.args.buf.now _ _ (returns-clause-answer c) (returns-clause-buffer c) c.piece_len-end.ensures.bytes (frame_piece r) m).1 r
+returns-clause-reads c = in_place_reads _ _ _ (returns-clause-answer c) (returns-clause-buffer c) c.piece_len-end.ensures.bytes
 
 pub returns-clause-only : goal.returns-clause-only
-returns-clause-only c =
-    λ piece m told. (in_place_report_reads c.args.buf.now _ _ (returns-clause-answer c) (returns-clause-buffer c) c.piece_len-end.ensures.bytes piece m).0 told
+returns-clause-only c = in_place_only _ _ _ (returns-clause-answer c) (returns-clause-buffer c) c.piece_len-end.ensures.bytes

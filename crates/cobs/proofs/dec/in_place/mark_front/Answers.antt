@@ -25,20 +25,17 @@ in_turn-preserved c = record {
 pub by_code-preserved : goal.by_code-preserved
 by_code-preserved c = c.in_turn.invariant.marked
 
-pub returns-clause-flat : goal.returns-clause-flat
-returns-clause-flat c = marked-flat _ _ _ _ _ _ c.by_code.invariant c.requires.room
-
-pub returns-clause-code : goal.returns-clause-code
-returns-clause-code c = marked-last _ _ _ _ _ _ c.by_code.invariant c.requires.room
-
-pub returns-clause-begins : goal.returns-clause-begins
-returns-clause-begins c = marked-begins _ _ _ _ _ _ c.by_code.invariant c.requires.room
-
-pub returns-clause-rest : goal.returns-clause-rest
-returns-clause-rest c = marked-rest _ _ _ _ _ _ c.by_code.invariant c.requires.room
-
-pub returns-clause-empty : goal.returns-clause-empty
-returns-clause-empty c = marked-empty _ _ _ _ _ _ c.by_code.invariant c.requires.room
-
-pub returns-clause-last : goal.returns-clause-last
-returns-clause-last c = marked-kept _ _ _ _ _ _ c.by_code.invariant c.requires.room
+pub returns : goal.returns
+returns c =
+    let m = c.by_code.invariant in
+    let room = c.requires.room in
+    record {
+      some = omega arith;
+      within = omega arith;
+      flat = marked-flat _ _ _ _ _ _ m room;
+      code = marked-last _ _ _ _ _ _ m room;
+      begins = marked-begins _ _ _ _ _ _ m room;
+      rest = marked-rest _ _ _ _ _ _ m room;
+      empty = marked-empty _ _ _ _ _ _ m room;
+      last = marked-kept _ _ _ _ _ _ m room;
+    }

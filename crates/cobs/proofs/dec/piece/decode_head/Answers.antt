@@ -1,4 +1,4 @@
-use Rattle.std.proofs.Common.{◌≡◌, ◌≢◌, ◌<◌, ◌-◌, ℕ, List, length, take, drop, arith, length-drop, length-take-le}
+use Rattle.std.proofs.Common.{◌≢◌, arith, length-drop, length-take-le}
 use Rattle.std.proofs.lemmas.List.{take_rest}
 use Rattle.std.proofs.lemmas.List.Elements.{All-drop, All-same}
 use Rattle.cobs.specs.Stream.{head}
@@ -6,9 +6,6 @@ use Rattle.cobs.proofs.decoding.OutcomeLemmas.{head_alone, head_nonzero, length-
 use Rattle.cobs.proofs.decoding.PieceCuts.{output-le}
 use Rattle.cobs.proofs.decoding.FrontSteps.{finished-begins, finished-long, finished-rest, head-rest}
 use Rattle.cobs.proofs.dec.piece.decode_head.Goals as goal
-
-rest-is : (source : List ℕ) (read end : ℕ) → end ≡ length (head source) → read < length (head source) → take (end - read) (drop read source) ≡ drop read (head source)
-rest-is source read end is lt = head-rest source read end is (omega arith)
 
 pub slice_bounds-decode_piece-start : goal.slice_bounds-decode_piece-start
 slice_bounds-decode_piece-start c = omega (arith, c.decode_front-end.ensures.decoded.within, c.decode_front-end.ensures.end)
@@ -18,15 +15,15 @@ slice_bounds-decode_piece-end c = omega (arith, length-head c.args.source.now, c
 
 pub decode_piece-rest-requires : goal.decode_piece-rest-requires
 decode_piece-rest-requires c = record {
-  some = grind (arith, rest-is, length-drop);
+  some = grind (arith, head-rest, length-drop);
   nonzero =
-      All-same (λ b. b ≢ 0) _ _ (rest-is c.args.source.now _ _ c.decode_front-end.ensures.end c.decode_front-end.ensures.decoded.within)
+      All-same (λ b. b ≢ 0) _ _ (head-rest c.args.source.now _ _ c.decode_front-end.ensures.end (omega (arith, c.decode_front-end.ensures.decoded.within, c.decode_front-end.ensures.end)))
       (All-drop (λ b. b ≢ 0) c.decode_front-end.result.0.read (head c.args.source.now) (head_nonzero c.args.source.now));
-  room = grind (arith, rest-is, length-head, output-le, length-drop, length-take-le);
+  room = grind (arith, head-rest, length-head, output-le, length-drop, length-take-le);
 }
 
 pub returns : goal.returns
-returns c = grind (arith, rest-is, finished-long, take_rest, finished-begins, finished-rest)
+returns c = grind (arith, head-rest, finished-long, take_rest, finished-begins, finished-rest)
 
 pub decode_piece-requires : goal.decode_piece-requires
 decode_piece-requires c = grind (arith, length-head, output-le)

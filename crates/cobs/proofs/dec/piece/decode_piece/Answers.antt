@@ -1,9 +1,9 @@
-use Rattle.std.proofs.Common.{◌≡◌, ◌+◌, ◌-◌, ◌∙◌, ◌≢◌, length-drop, ℕ, take, drop, refl, ap, arith}
+use Rattle.std.proofs.Common.{◌≢◌, length-drop, drop, refl, arith}
 use Rattle.std.proofs.lemmas.List.{take_rest}
-use Rattle.cobs.proofs.decoding.WindowSteps.{code-pos, room-zero, room-full, long-decoded, full-decoded, joined-begins, joined-rest, flat-few, flat-one}
+use Rattle.cobs.proofs.decoding.WindowSteps.{code-pos, room-zero, room-full, long-decoded, full-decoded}
 use Rattle.std.proofs.lemmas.List.Elements.{All-drop, All-take, All-same}
-use Rattle.cobs.proofs.decoding.PieceCuts.{output-long}
-use Rattle.cobs.proofs.decoding.FrontSteps.{decoded-joined, part-head}
+use Rattle.cobs.proofs.decoding.PieceCuts.{output-long, output_short, length-output-last}
+use Rattle.cobs.proofs.decoding.FrontSteps.{decoded-joined, finished-begins, finished-rest, part-head}
 use Rattle.cobs.proofs.dec.piece.decode_piece.Goals as goal
 use Rattle.cobs.proofs.dec.piece.decode_piece.Goals.{else-by_window-test, then-by_window-test+else-code-le-WINDOW+then-piece-read}
 
@@ -33,33 +33,28 @@ pub bounds-dest-written : goal.bounds-dest-written
 bounds-dest-written c =
     let p = c.by_window.invariant in
     let pos = code-pos c.args.piece.now c.by_window.read c.requires.nonzero p.within in
-    let r = room-zero c.args.piece.now c.args.dest.now c.by_window.dest c.by_window.read c.by_window.written _ p refl pos (omega arith) c.if-code-ne-FULL_CODE.true in
+    let r = room-zero _ _ _ _ _ _ p refl pos (omega arith) c.if-code-ne-FULL_CODE.true in
     omega arith
 
 pub by_window-preserved-then-code-ne-FULL_CODE : goal.by_window-preserved-then-code-ne-FULL_CODE
 by_window-preserved-then-code-ne-FULL_CODE c =
     let p = c.by_window.invariant in
-    let read : ℕ = c.by_window.read in
-    let pos = code-pos c.args.piece.now read c.requires.nonzero p.within in
-    let n : read + _ - (read + 1) ≡ _ - 1 = omega arith in
-    let part-is = c.copy_from_slice.ensures.after ∙ ap (λ (m : ℕ). take m (drop (read + 1) c.args.piece.now)) n in
-    long-decoded c.args.piece.now c.args.dest.now c.by_window.dest c.by_window.read c.by_window.written _ p refl pos (omega arith) _ _ (omega arith) (omega arith) part-is c.if-code-ne-FULL_CODE.true
+    let pos = code-pos c.args.piece.now c.by_window.read c.requires.nonzero p.within in
+    let r = room-full _ _ _ _ _ _ p refl pos (omega arith) in
+    long-decoded _ _ _ _ _ _ p refl pos (omega arith) _ _ _ (omega arith) (omega arith) (omega arith) c.copy_from_slice.ensures.after c.if-code-ne-FULL_CODE.true (omega arith)
 
 pub by_window-preserved : goal.by_window-preserved
 by_window-preserved c =
     let p = c.by_window.invariant in
-    let read : ℕ = c.by_window.read in
-    let pos = code-pos c.args.piece.now read c.requires.nonzero p.within in
-    let r = room-full c.args.piece.now c.args.dest.now c.by_window.dest read c.by_window.written _ p refl pos (omega arith) in
-    let n : read + _ - (read + 1) ≡ _ - 1 = omega arith in
-    let part-is = c.copy_from_slice.ensures.after ∙ ap (λ (m : ℕ). take m (drop (read + 1) c.args.piece.now)) n in
-    full-decoded c.args.piece.now c.args.dest.now c.by_window.dest c.by_window.read c.by_window.written _ p refl pos (omega arith) _ _ (omega arith) (omega arith) part-is (omega arith)
+    let pos = code-pos c.args.piece.now c.by_window.read c.requires.nonzero p.within in
+    let r = room-full _ _ _ _ _ _ p refl pos (omega arith) in
+    full-decoded _ _ _ _ _ _ p refl pos (omega arith) _ _ _ (omega arith) (omega arith) (omega arith) c.copy_from_slice.ensures.after (omega arith)
 
 pub decode_flat_piece-end-requires-clause-flat : goal.decode_flat_piece-end-requires-clause-flat
-decode_flat_piece-end-requires-clause-flat c = grind (arith, else-by_window-test, flat-few, then-by_window-test+else-code-le-WINDOW+then-piece-read, flat-one, take_rest)
+decode_flat_piece-end-requires-clause-flat c = grind (arith, else-by_window-test, output_short, length-drop, then-by_window-test+else-code-le-WINDOW+then-piece-read, length-output-last, take_rest)
 
 pub returns-clause-begins : goal.returns-clause-begins
-returns-clause-begins c = grind (arith, joined-begins, take_rest)
+returns-clause-begins c = grind (arith, finished-begins, take_rest)
 
 pub returns-clause-rest : goal.returns-clause-rest
-returns-clause-rest c = grind (arith, joined-rest, take_rest)
+returns-clause-rest c = grind (arith, finished-rest, take_rest)

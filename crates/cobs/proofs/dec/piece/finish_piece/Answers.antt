@@ -2,7 +2,7 @@ use Rattle.std.proofs.Common.{◌≡◌, ◌<◌, ◌≤◌, ◌+◌, ◌-◌, �
 use Rattle.std.proofs.lemmas.List.{take_all, take_rest}
 use Rattle.std.proofs.lemmas.Bool.{cases_lt}
 use Rattle.cobs.specs.Internal.Decoded.{Decoded}
-use Rattle.cobs.specs.Piece.{output, last_part, lacks}
+use Rattle.cobs.specs.Piece.{output}
 use Rattle.cobs.proofs.decoding.FrontSteps.{ended-buffer}
 use Rattle.cobs.proofs.decoding.OutcomeSteps.{sized-too_long, sized_whole, sized_broken}
 use Rattle.cobs.proofs.dec.piece.finish_piece.Goals as goal
@@ -25,24 +25,21 @@ module _ (piece old dest : List ℕ) (read written : ℕ) (p : Decoded piece old
   long-output : written + length (output rest) ≡ length (output piece)
   long-output = ap (λ (x : List ℕ). written + length (output x)) rest-is ∙ p.left
 
-  whole-last : (fit : ℕ) → length rest ≤ fit → lacks (last_part (take (read + fit - read) (drop read piece))) ≡ lacks (last_part piece)
-  whole-last fit all = grind (arith, take_all, rest-is, take_rest)
-
-  whole-output : (fit : ℕ) → length rest ≤ fit → output (take (read + fit - read) (drop read piece)) ≡ output rest
-  whole-output fit all = grind (arith, take_all, take_rest)
+  whole-rest : (fit : ℕ) → length rest ≤ fit → take (read + fit - read) (drop read piece) ≡ drop read piece
+  whole-rest fit all = take_all (read + fit - read) (drop read piece) (let e = ap length rest-is in omega arith)
 
 pub returns-then-read-fit : goal.returns-then-read-fit
 returns-then-read-fit c =
     grind (arith, long-rest, long-output, sized-too_long, ended-buffer, take_rest)
 
 pub returns-then-end-eq0-clause-answer : goal.returns-then-end-eq0-clause-answer
-returns-then-end-eq0-clause-answer c old p = grind (arith, long-rest, long-output, fits-of, whole-output, sized_whole, whole-last)
+returns-then-end-eq0-clause-answer c old p = grind (arith, long-rest, long-output, fits-of, whole-rest, rest-is, sized_whole)
 
 pub returns-then-end-eq0-clause-buffer : goal.returns-then-end-eq0-clause-buffer
 returns-then-end-eq0-clause-buffer c old same p = grind (arith, ended-buffer, take_rest)
 
 pub returns-else-end-eq0-clause-answer : goal.returns-else-end-eq0-clause-answer
-returns-else-end-eq0-clause-answer c old p = grind (arith, long-rest, long-output, fits-of, whole-output, sized_broken, whole-last)
+returns-else-end-eq0-clause-answer c old p = grind (arith, long-rest, long-output, fits-of, whole-rest, rest-is, sized_broken)
 
 pub returns-else-end-eq0-clause-buffer : goal.returns-else-end-eq0-clause-buffer
 returns-else-end-eq0-clause-buffer c old same p = grind (arith, ended-buffer, take_rest)

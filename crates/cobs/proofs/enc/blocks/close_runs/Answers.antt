@@ -2,9 +2,6 @@ use Rattle.std.proofs.Common.{◌≡◌, ◌++◌, ℕ, drop, sym, ◌∙◌, su
 use Rattle.cobs.proofs.encoding.TakingLemmas.{all-after, all-end, all-rest}
 use Rattle.cobs.proofs.enc.blocks.close_runs.Goals as goal
 
-pub close-requires : goal.close-requires
-close-requires c = c.append_runs-behind.ensures.place
-
 pub returns : goal.returns
 returns c = record {
   frame = λ m h. c.close.ensures.frame (m ++ c.args.source.now) (all-after c.append_runs-behind.ensures m h);

@@ -1,12 +1,12 @@
 use Rattle.std.proofs.Common.{◌≡◌, ◌≤◌, [], ◌∙◌, sym, subst, take, length-take, Some, arith}
-use Rattle.cobs.proofs.streaming.ReadingLemmas.{Going-start, Going-push, ReadsNext-kept, ReadsNext-failed, ReadsNext-end, ReadsNext-piece, ReadsNext-too_many, front_nonempty, front_rest, empty_range}
+use Rattle.cobs.proofs.streaming.ReadingLemmas.{Going-start, Going-push, ReadsNext-kept, ReadsNext-failed, ReadsNext-end, ReadsNext-piece, ReadsNext-too_many, front_nonempty, front_rest, empty_range, left_of_range}
 use Rattle.cobs.proofs.framed.FrameReader.next_frame.Goals as goal
 
 pub returns-in-Some-clause-next : goal.returns-in-Some-clause-next
-returns-in-Some-clause-next g c = ReadsNext-kept _ _ _ _ _ c.in-Some.ensures.first c.in-Some.ensures.idle
+returns-in-Some-clause-next g c = ReadsNext-kept _ _ _ _ _ (λ p h. grind (arith, length-take, left_of_range)) c.in-Some.ensures.idle
 
 pub by_read-init : goal.by_read-init
-by_read-init g c = grind (arith, Going-start)
+by_read-init g c = grind (arith, Going-start, empty_range)
 
 pub returns-in-None-clause-next : goal.returns-in-None-clause-next
 returns-in-None-clause-next g c = ReadsNext-failed _ (empty_range _ _ _ c.by_read.invariant.emptied) (omega arith) c.by_read.invariant.going c.in-None.ensures.step
@@ -19,7 +19,7 @@ returns-in-Some-eq0-clause-next g c =
 
 pub by_read-preserved : goal.by_read-preserved
 by_read-preserved g c =
-    let r = c.feed_through_end.new.self in
+    let r = c.feed_through_end-in-Some-read_some.new.self in
     let e = c.in_default-feed_through_end.ensures in
     let emptied : r.start ≡ r.end = e.same_start ∙ c.by_read.invariant.emptied ∙ sym e.same_end in
     record {

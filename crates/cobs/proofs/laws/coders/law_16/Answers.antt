@@ -1,5 +1,5 @@
 use Rattle.cobs.proofs.encoding.CoreLemmas.{after-nothing, closed-full, closed-open}
-use Rattle.cobs.proofs.encoding.PlaceLemmas.{after-place}
+use Rattle.cobs.proofs.encoding.TakingLemmas.{after-place}
 use Rattle.cobs.proofs.encoding.ByteLemmas.{after-byte, after-filled, after-more, after-zero}
 use Rattle.cobs.proofs.laws.coders.law_16.Goals as goal
 

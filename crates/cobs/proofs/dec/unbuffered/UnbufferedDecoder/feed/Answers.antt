@@ -1,5 +1,19 @@
-use Rattle.cobs.proofs.streaming.FeedLemmas.{Feeds-step}
+use Rattle.std.proofs.Common.{arith}
+use Rattle.std.proofs.lemmas.Grind.{common_steps}
+use Rattle.cobs.proofs.streaming.FeedLemmas.{Feeds-as}
 use Rattle.cobs.proofs.dec.unbuffered.UnbufferedDecoder.feed.Goals as goal
 
-pub returns : goal.returns
-returns c = record { feeds = rw (c.step.ensures.answer, c.step.ensures.phase, c.step.ensures.buffer) (Feeds-step _ _ c.args.byte (rw c.step.ensures.answer at c.step.ensures.bound)) }
+pub returns-then-byte-eq0 : goal.returns-then-byte-eq0
+returns-then-byte-eq0 c = record { feeds = Feeds-as (grind (arith, common_steps)) (grind (arith, common_steps)) (grind (arith, common_steps)) }
+
+pub returns-then-self : goal.returns-then-self
+returns-then-self c = record { feeds = Feeds-as (grind (arith, common_steps)) (grind (arith, common_steps)) (grind (arith, common_steps)) }
+
+pub returns-then-dest-self : goal.returns-then-dest-self
+returns-then-dest-self c = record { feeds = Feeds-as (grind (arith, common_steps)) (grind (arith, common_steps)) (grind (arith, common_steps)) }
+
+pub returns-then-is_code-3 : goal.returns-then-is_code-3
+returns-then-is_code-3 c = record { feeds = Feeds-as (grind (arith, common_steps)) (grind (arith, common_steps)) (grind (arith, common_steps)) }
+
+pub returns-else-is_code-3 : goal.returns-else-is_code-3
+returns-else-is_code-3 c = record { feeds = Feeds-as (grind (arith, common_steps)) (grind (arith, common_steps)) (grind (arith, common_steps)) }

@@ -1,11 +1,8 @@
-use Rattle.std.proofs.Common.{ap, length, ◌∙◌, sym, subst}
-use Rattle.cobs.specs.OpenBlock.{CobsEncoderAfter, IsPlaceIn, Reached, end_of}
+use Rattle.std.proofs.Common.{ap, ◌∙◌, sym, subst}
+use Rattle.cobs.specs.OpenBlock.{CobsEncoderAfter, Reached, end_of}
 use Rattle.cobs.proofs.encoding.AfterLemmas.{end-is}
 use Rattle.cobs.proofs.format.SentinelLemmas.{encoded_nonzero}
 use Rattle.cobs.proofs.enc.encoder.CobsEncoder.finalize.Goals as goal
-
-pub close-requires : goal.close-requires
-close-requires c = subst (IsPlaceIn (length c.args.self.dest.now)) (sym c.progress.ensures.progress) c.args.self.place
 
 pub returns-clause-len : goal.returns-clause-len
 returns-clause-len c = λ m h. c.close.ensures.end ∙ ap end_of c.progress.ensures.progress ∙ sym (end-is c.args.self.dest.now m _ h)

@@ -1,6 +1,6 @@
 use Rattle.std.proofs.Common.{◌∙◌, sym}
 use Rattle.cobs.proofs.encoding.AfterLemmas.{end-is}
-use Rattle.cobs.proofs.encoding.PlaceLemmas.{after-place}
+use Rattle.cobs.proofs.encoding.TakingLemmas.{after-place}
 use Rattle.cobs.proofs.format.SentinelLemmas.{encoded_nonzero}
 use Rattle.cobs.proofs.enc.unbuffered.UnbufferedEncoder.finalize.Goals as goal
 

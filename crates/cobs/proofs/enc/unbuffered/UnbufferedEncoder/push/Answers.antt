@@ -1,7 +1,6 @@
 use Rattle.std.proofs.Common.{arith}
 use Rattle.cobs.specs.Fields.Progress.{reached_by}
-use Rattle.cobs.proofs.encoding.PlaceLemmas.{after-place}
-use Rattle.cobs.proofs.encoding.TakingLemmas.{after-end, all-after, all-rest}
+use Rattle.cobs.proofs.encoding.TakingLemmas.{after-end, after-place}
 use Rattle.cobs.proofs.enc.unbuffered.UnbufferedEncoder.push.Goals as goal
 
 pub returns-then-not-is_within-clause-fits : goal.returns-then-not-is_within-clause-fits
@@ -11,18 +10,3 @@ pub returns-then-not-take-clause-fits : goal.returns-then-not-take-clause-fits
 returns-then-not-take-clause-fits c = λ m h.
     let e = after-end c.args.dest.now m c.args.bytes.now (reached_by c.args.self.now) h in
     (λ t. cc, λ le. let yes = c.take.ensures.fits.1 (omega arith) in cc)
-
-pub returns-clause-room : goal.returns-clause-room
-returns-clause-room c = grind arith
-
-pub returns-clause-fits : goal.returns-clause-fits
-returns-clause-fits c = λ m h. grind (arith, after-end)
-
-pub returns-clause-taken : goal.returns-clause-taken
-returns-clause-taken c = λ m h. all-after (c.take.ensures.taken c.if-not-take.false) m h
-
-pub returns-clause-rest : goal.returns-clause-rest
-returns-clause-rest c = all-rest (c.take.ensures.taken c.if-not-take.false)
-
-pub returns-clause-within : goal.returns-clause-within
-returns-clause-within c = (c.take.ensures.taken c.if-not-take.false).place

@@ -1,12 +1,12 @@
 use Rattle.std.proofs.Common.{◌≡◌, ◌<◌, ◌≤◌, ◌+◌, ◌-◌, length, drop}
 use Rattle.cobs.proofs.encoding.RoomLemmas.{blocks_in, behind}
-use Rattle.cobs.proofs.enc.room.count_full_blocks.Given as goal
+use Rattle.cobs.proofs.enc.room.fits.Given as goal
 
 abbrev pub invariant-by_run : goal.invariant-by_run
 invariant-by_run l = record {
   within : l.read ≤ length l.source;
   run : l.run < 254;
-  counted : l.counted + blocks_in (behind l.run (drop l.read l.source)) ≡ blocks_in (behind l.fn.run l.source);
+  counted : l.counted + blocks_in (behind l.run (drop l.read l.source)) ≡ blocks_in (behind (l.code - 1) l.source);
 }
 
 abbrev pub decreases-by_run : goal.decreases-by_run

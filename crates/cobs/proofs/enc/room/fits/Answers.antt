@@ -2,11 +2,11 @@ use Rattle.std.proofs.Common.{◌≡◌, ◌+◌, ◌-◌, ◌/◌, ℕ, List, d
 use Rattle.std.proofs.lemmas.Bool.{eqb-true}
 use Rattle.std.proofs.lemmas.List.{drop_all, get_or-take, get_or-drop, take_rest, drop_more}
 use Rattle.cobs.specs.Grammar.{HasNoZero}
-use Rattle.cobs.proofs.encoding.RoomLemmas.{blocks_in, behind, blocks-le, blocks-end, blocks-none, skipped, run-more, blocks-zero}
-use Rattle.cobs.proofs.enc.room.count_full_blocks.Goals as goal
+use Rattle.cobs.proofs.encoding.RoomLemmas.{blocks_in, behind, blocks-le, blocks-end, blocks-none, skipped, run-more, blocks-zero, open_len-is}
+use Rattle.cobs.proofs.enc.room.fits.Goals as goal
 
 -- the source ends with the run
-ended : (c : goal.Then-read-source) → c.by_run.counted + (c.by_run.run + c.run_len-more.result - 1) / 254 ≡ blocks_in (behind c.args.run c.args.source.now)
+ended : (c : goal.Then-read-source) → c.by_run.counted + (c.by_run.run + c.run_len-more.result - 1) / 254 ≡ blocks_in (behind (c.args.code - 1) c.args.source.now)
 ended c =
     let source : List ℕ = c.args.source.now in
     let nonzero = subst HasNoZero (ap (take _) (take_rest source _)) c.run_len-more.ensures.nonzero in
@@ -14,14 +14,14 @@ ended c =
     grind (arith, drop_all, blocks_in, behind, blocks-end)
 
 pub overflow_add-result-then-read-source : goal.overflow_add-result-then-read-source
-overflow_add-result-then-read-source c = let le = blocks-le c.args.run c.args.source.now in let e = ended c in omega arith
+overflow_add-result-then-read-source c = let le = blocks-le (c.args.code - 1) c.args.source.now in let e = ended c in omega arith
 
 pub returns-then-read-source : goal.returns-then-read-source
-returns-then-read-source c = record { count = ended c }
+returns-then-read-source c = let e = ended c in grind (arith, open_len-is)
 
 -- a zero ends the run
 stopped : (c : goal.Else-read-source) → c.by_run.counted + (c.by_run.run + c.run_len-more.result) / 254 + blocks_in (behind 0 (drop (c.by_run.read + c.run_len-more.result + 1) c.args.source.now))
-    ≡ blocks_in (behind c.args.run c.args.source.now)
+    ≡ blocks_in (behind (c.args.code - 1) c.args.source.now)
 stopped c =
     let source : List ℕ = c.args.source.now in
     let read : ℕ = c.by_run.read in
@@ -32,7 +32,7 @@ stopped c =
     grind (arith, get_or-drop, drop_more, blocks-zero)
 
 pub overflow_add-counted-in_default : goal.overflow_add-counted-in_default
-overflow_add-counted-in_default c = let le = blocks-le c.args.run c.args.source.now in let e = stopped c in omega arith
+overflow_add-counted-in_default c = let le = blocks-le (c.args.code - 1) c.args.source.now in let e = stopped c in omega arith
 
 pub by_run-preserved-in-Some : goal.by_run-preserved-in-Some
 by_run-preserved-in-Some c =
@@ -42,4 +42,4 @@ pub by_run-preserved : goal.by_run-preserved
 by_run-preserved c = grind (arith, stopped, take_rest, length-drop)
 
 pub returns : goal.returns
-returns c = grind (arith, length-drop, blocks-none)
+returns c = grind (arith, length-drop, blocks-none, open_len-is)

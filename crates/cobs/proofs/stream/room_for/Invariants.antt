@@ -1,6 +1,0 @@
-use Rattle.std.proofs.Common.{◌≡◌, take}
-use Rattle.cobs.specs.Messages.{messages_in, room_for_frames}
-use Rattle.cobs.proofs.stream.room_for.Given as goal
-
-abbrev pub invariant-by_message : goal.invariant-by_message
-invariant-by_message l = l.room ≡ room_for_frames (messages_in (take l.message-index l.messages))

@@ -1,0 +1,72 @@
+-- The last piece of a stream, and outputs that grow with it.
+use Rattle.std.proofs.Common.{◌≡◌, ◌≢◌, ℕ, ◌+◌, ◌-◌, ◌<◌, ◌≤◌, List, [], ◌∷◌, ◌++◌, length, take, drop, filter, refl, sym, ap, ◌∙◌, subst, arith, append_assoc, length-append}
+use Rattle.std.proofs.lemmas.List.{append-nil, take-append-drop, drop-drop}
+use Rattle.std.proofs.lemmas.List.Elements.{filter-append}
+use Rattle.cobs.specs.Grammar.{HasNoZero, last_of}
+use Rattle.cobs.specs.Piece.{output, parts, parts_after}
+use Rattle.cobs.specs.Stream.{stretches, is_nonempty, but_last, ended_pieces, unended}
+use Rattle.cobs.specs.Overwritten.{overwritten}
+use Rattle.cobs.specs.Push.{last_piece}
+use Rattle.cobs.proofs.decoding.PieceLemmas.{output-push}
+use Rattle.cobs.proofs.format.StreamLemmas.{fed-nonzero, length-stretches, ended_pieces-append, stretches-piece, ended_pieces-no_zero, unended-push, unended_no_zero, unended-zero}
+
+-- THE LAST PIECE OF A STREAM
+
+-- some lists are all but the last, and the last
+all_but_last : (xs : List (List ℕ)) → 0 < length xs → xs ≡ but_last xs ++ last_of xs ∷ []
+unfolding but_last
+all_but_last [] h = absurd (omega arith)
+all_but_last (x ∷ []) h = refl
+all_but_last (x ∷ y ∷ xs) h = ap (λ (z : List (List ℕ)). x ∷ z) (all_but_last (y ∷ xs) (omega arith))
+
+-- the pieces of a stream are those that have ended, and what is unended where that is some
+pieces : (t : List ℕ) → filter is_nonempty (stretches t) ≡ ended_pieces t ++ filter is_nonempty (unended t ∷ [])
+unfolding ended_pieces unended
+pieces t = ap (filter is_nonempty) (all_but_last (stretches t) (length-stretches t)) ∙ filter-append is_nonempty (but_last (stretches t)) (last_of (stretches t) ∷ [])
+
+-- where no piece has ended, the last one is what is unended
+pub last_piece-unended : (t : List ℕ) → ended_pieces t ≡ [] → last_piece t ≡ unended t
+unfolding last_piece
+last_piece-unended t none = grind (arith, pieces, filter)
+
+ended_at : (q : List ℕ) → HasNoZero q → ended_pieces (q ++ 0 ∷ []) ≡ filter is_nonempty (q ∷ [])
+unfolding ended_pieces but_last
+ended_at q h = ap (λ (z : List (List ℕ)). filter is_nonempty (but_last z)) (stretches-piece q [] h)
+
+-- the pieces that have ended behind one more byte
+ended_pieces-zero : (t : List ℕ) → ended_pieces (t ++ 0 ∷ []) ≡ ended_pieces t ++ filter is_nonempty (unended t ∷ [])
+ended_pieces-zero t = ended_pieces-append t (0 ∷ []) ∙ ap (λ (z : List (List ℕ)). ended_pieces t ++ z) (ended_at (unended t) (unended_no_zero t))
+
+pub ended_pieces-nonzero : (t : List ℕ) (b : ℕ) → b ≢ 0 → ended_pieces (t ++ b ∷ []) ≡ ended_pieces t
+ended_pieces-nonzero t b h =
+    ended_pieces-append t (b ∷ [])
+    ∙ ap (λ (z : List (List ℕ)). ended_pieces t ++ z) (ended_pieces-no_zero (unended t ++ b ∷ []) (subst HasNoZero (unended-push t b ∙ fed-nonzero (unended t) b h) (unended_no_zero (t ++ b ∷ []))))
+    ∙ append-nil (ended_pieces t)
+
+-- where none had ended before a zero, the last piece is the one that it ends
+pub last_piece-zero : (t : List ℕ) → ended_pieces t ≡ [] → last_piece (t ++ 0 ∷ []) ≡ unended t
+unfolding last_piece
+last_piece-zero t none = grind (arith, pieces, unended-zero, append-nil, ended_pieces-zero)
+
+-- WHAT IS WRITTEN OF IT
+
+pub drop-later : (to n : ℕ) (xs ys : List ℕ) → to ≤ n → drop to xs ≡ drop to ys → drop n xs ≡ drop n ys
+drop-later to n xs ys h e =
+    let k : to + (n - to) ≡ n = omega arith in
+    sym (ap (λ (m : ℕ). drop m xs) k) ∙ sym (drop-drop (n - to) to xs) ∙ ap (drop (n - to)) e ∙ drop-drop (n - to) to ys ∙ ap (λ (m : ℕ). drop m ys) k
+
+-- an output grows by each byte of its piece
+pub output-longer : (q : List ℕ) (b : ℕ) → length (output q) ≤ length (output (q ++ b ∷ []))
+unfolding output parts parts_after
+output-longer [] b = omega arith
+output-longer (c ∷ q) b = omega (arith, ap length (output-push c q b).1, length-append (output (c ∷ q)) (output-push c q b).0)
+
+-- an output grows with its piece
+pub output-grows : (q tail : List ℕ) → length (output q) ≤ length (output (q ++ tail))
+output-grows q [] = omega (arith, ap (λ (x : List ℕ). length (output x)) (append-nil q))
+output-grows q (x ∷ tail) = omega (arith, output-longer q x, output-grows (q ++ x ∷ []) tail, ap (λ (z : List ℕ). length (output z)) (append_assoc q (x ∷ []) tail))
+
+-- a buffer that begins with an output, as far as it fits, and is otherwise as before
+pub begun : (written buffer buffer' : List ℕ) → length buffer' ≡ length buffer → take (length written) buffer' ≡ take (length buffer') written → drop (length written) buffer' ≡ drop (length written) buffer
+    → buffer' ≡ overwritten buffer written
+begun written buffer buffer' len begins rest = grind (arith, take-append-drop, len)
