@@ -9,7 +9,7 @@ use Rattle.cobs.specs.Internal.Decoded.{IsFlat}
 use Rattle.cobs.specs.Decode.{head_answer}
 use Rattle.cobs.specs.Sentinel.{xor_each}
 use Rattle.cobs.proofs.format.SentinelLemmas.{xor_twice}
-use Rattle.cobs.proofs.decoding.PieceCuts.{output-le, last_part-more, last_part-last, is_whole-of, length-output-last, length-output-more, joint_of, joint-length}
+use Rattle.cobs.proofs.decoding.PieceCuts.{last_part-more, last_part-last, is_whole-of, length-output-last, length-output-more, joint_of, joint-length}
 use Rattle.cobs.proofs.decoding.WindowSteps.{CopiedTo, Decoded, code-pos, code-decoded, code-copied, flat-short, end-begins, last-code, last-lacks}
 
 -- the parts in front of `read` aren't full, and what is left ends as the piece does

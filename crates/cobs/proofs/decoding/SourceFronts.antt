@@ -1,5 +1,5 @@
 -- A source for any sentinel, of which stretches of whole blocks are decoded by one copy each.
-use Rattle.std.proofs.Common.{Ok, Err, ◌≡◌, ◌≢◌, ℕ, ◌+◌, ◌-◌, ◌<◌, ◌≤◌, ◌⊎◌, inl, inr, true, false, List, [], ◌∷◌, ◌++◌, length, take, drop, get_or, set, bit_xor, sym, ap, ◌∙◌, subst, arith, append_assoc, length-append, length-drop, length-take-le, take_at, drop_at, take_all, append-nil, take-append-drop}
+use Rattle.std.proofs.Common.{Ok, Err, ◌≡◌, ◌≢◌, ℕ, ◌+◌, ◌-◌, ◌<◌, ◌≤◌, ◌⊎◌, inl, inr, true, false, List, [], ◌∷◌, ◌++◌, length, take, drop, get_or, set, bit_xor, sym, ap, ◌∙◌, subst, arith, append_assoc, length-append, length-drop, length-take-le, append-nil, take-append-drop}
 use Rattle.std.proofs.lemmas.List.{drop-drop, drop_all, take_rest, length-map, get_or-drop, take-map, drop-map, length-set, take_more_set, drop-set-lt}
 use Rattle.std.proofs.lemmas.List.Elements.{All-take, All-drop}
 use borrow.Rule.Slice.PartMut.{put_mid}
