@@ -200,7 +200,7 @@ pub(crate) fn write_row(dest: &mut [u8], at: usize, byte: u8)
 #[inline(always)]
 pub(crate) fn is_all_zeros(mask: u64, len: usize) -> bool
     requires few { len ≤ 32 }
-    ensures { IsTrue result → mask + 1 ≡ 2 ^ len }
+    ensures { IsTrue result ↔ ((8 ≤ len) × (mask + 1 ≡ 2 ^ len)) }
 {
     len >= 8 && mask == (1 << len) - 1
 }

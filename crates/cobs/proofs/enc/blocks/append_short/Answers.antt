@@ -48,7 +48,7 @@ taken c =
     let first = c.mark_first-first.ensures in
     let second = c.mark_first-index.ensures in
     elim c.if-zeros-ne0.branch [
-      | then-zeros-ne0+then-is_all_zeros b ↦ WindowTaken-at (sym b.dest-is) (sym b.index-is) (all-taken w (b.is_all_zeros.ensures b.if-is_all_zeros.true) _ first.code first.some second.code b.copy_window.ensures.copied)
+      | then-zeros-ne0+then-is_all_zeros b ↦ WindowTaken-at (sym b.dest-is) (sym b.index-is) (all-taken w (b.is_all_zeros.ensures.0 b.if-is_all_zeros.true).1 _ first.code first.some second.code b.copy_window.ensures.copied)
       | else-zeros-ne0 b ↦ WindowTaken-at (sym b.dest-is) (sym b.index-is)
           (marks-zeros b.mark_zeros-index.ensures (two-marks w (omega arith) first.code first.none first.some second.code second.none second.some) (omega arith))
     ]
