@@ -1,7 +1,7 @@
 -- Frames in which no block but the last is full, decoded in their own place.
 use Rattle.std.proofs.Common.{take_at, drop_at, bit_xor, append-nil, zero, suc, ◌≤◌, ◌++◌, replicate, subst, append_assoc, take-append-drop, length-take-le, set, ◌≡◌, ◌≢◌, ℕ, ◌+◌, ◌-◌, ◌<◌, true, List, [], ◌∷◌, length, take, drop, get_or, Ok, refl, sym, ap, ◌∙◌, arith, length-drop}
 use Rattle.std.proofs.lemmas.Bool.{eq-eqb}
-use Rattle.std.proofs.lemmas.List.{take-take, take-map, drop-map, drop_all, length-set, drop-set-lt, take_more_set, drop-drop, drop_more, get_or-take, get_or-drop}
+use Rattle.std.proofs.lemmas.List.{length-map, take-take, take-map, drop-map, drop_all, length-set, drop-set-lt, take_more_set, drop-drop, drop_more, get_or-take, get_or-drop, get_or-map, get_or-set_other}
 use borrow.Rule.Slice.PartMut.{put_mid}
 use Rattle.cobs.specs.Grammar.{code_of, HasNoZero}
 use Rattle.cobs.specs.Piece.{output, kept_output, last_part, lacks, is_whole}
@@ -50,6 +50,10 @@ pub record FrontSoFar (piece : List ℕ) (read : ℕ) : Type 0 where
   pub front : (end : ℕ) → read < end → end ≤ length piece → FlatSoFar (take end piece) read
   pub whole : 0 < read → IsFlat (take read piece) × (code_of (last_part (take read piece)) ≢ 255)
 
+-- a code under the sentinel
+pub xored-code : (piece : List ℕ) (sentinel read : ℕ) → read < length piece → bit_xor (get_or piece read 0) sentinel ≡ get_or (xor_each sentinel piece) read 0
+xored-code piece sentinel read within = sym (get_or-map (λ b. bit_xor b sentinel) piece read 0 0 within)
+
 pub front-started : (piece : List ℕ) → 0 < length piece → FrontSoFar piece 0
 front-started piece some = record {
   within = some;
@@ -73,6 +77,14 @@ module _ (piece : List ℕ) (read code : ℕ) (f : FrontSoFar piece read) (is : 
             flat-more (take end piece) read code (f.front end (omega arith) le) (is ∙ sym (get_or-take end piece read 0 (omega arith))) some (omega arith) other;
         whole = λ _. (w.0, λ full. other (sym w.1 ∙ full));
       }
+
+-- one block more that isn't full, under the sentinel
+pub front-next : (piece : List ℕ) (sentinel read code : ℕ) → HasNoZero (xor_each sentinel piece) → FrontSoFar (xor_each sentinel piece) read → code ≡ get_or (xor_each sentinel piece) read 0
+    → read + code < length piece → code ≢ 255 → FrontSoFar (xor_each sentinel piece) (read + code)
+front-next piece sentinel read code none f is lt other =
+    let long = length-map piece (λ (byte : ℕ). bit_xor byte sentinel) in
+    let pos : 0 < code = subst (λ (n : ℕ). 0 < n) (sym is) (code-pos _ read none f.within) in
+    front-more (xor_each sentinel piece) read code f is pos (omega arith) other
 
 -- empty blocks
 front-ones-by : (n : ℕ) (piece : List ℕ) (read : ℕ) → FrontSoFar piece read → take n (drop read piece) ≡ replicate n 1 → read + n < length piece → FrontSoFar piece (read + n)
@@ -219,6 +231,22 @@ module _ (first len : ℕ) (old : List ℕ) (some : 0 < len) (room : len ≤ len
           let w = j.flat.decoded.within in
           let b = j.begun in
           omega (arith, last-lacks piece old dest _ _ code j.flat.decoded j.flat.at-read j.some ends)
+
+  -- two codes, of which the second is the open part's
+  pub joints-turn : (dest : List ℕ) (end code : ℕ) → JointsWritten first len old dest end code → length (output piece) + 1 ≡ len → (other : ℕ) → end + other < len
+      → get_or dest (end - 1) 0 ≡ other → get_or dest (end + (other - 1)) 0 ≡ code
+      → JointsWritten first len old (set (set dest (end - 1) 0) (end + (other - 1)) 0) (end + (other + code)) code
+  joints-turn dest end code j flat other fits here then =
+      let once : List ℕ = set dest (end - 1) 0 in
+      let n : JointsWritten first len old once (end + other) other = joints-more dest end code j flat (omega arith) other (sym here) in
+      let some = n.some in
+      let pos = j.some in
+      let begun = j.begun in
+      let at : end + other - 1 ≡ end + (other - 1) = omega arith in
+      let is : code ≡ get_or once (end + other - 1) 0 =
+      sym (get_or-set_other dest (end - 1) (end + other - 1) 0 0 (λ e. omega (arith, e)) ∙ ap (λ (i : ℕ). get_or dest i 0) at ∙ then) in
+      subst (λ (i : ℕ). JointsWritten first len old (set once i 0) (end + (other + code)) code) at
+      (subst (λ (k : ℕ). JointsWritten first len old (set once (end + other - 1) 0) k code) (omega arith) (joints-more once (end + other) other n flat (omega arith) code is))
 
 -- what stands after the first code, moved to the front
 module _ (old after : List ℕ) (from len : ℕ) (inside : from + len ≤ length old) (some : 0 < len) (is : after ≡ take (len - 1) (drop (from + 1) old) ++ drop (len - 1) old) where

@@ -19,8 +19,8 @@ use crate::window::{WIDE_WINDOW, WINDOW, is_all, write_row};
 /// How many bytes the first whole blocks of a piece have, through the first full one, and whether the last of them is
 /// full. 0 bytes: the first block is broken. Each byte of the piece is XORed with the sentinel.
 ///
-/// Rows of empty blocks go by 32 at a time, and codes of one value in a row by a loop of their own, which needn't
-/// wait for each.
+/// Rows of empty blocks go by 32 at a time, and two codes that take turns by a loop of their own, which needn't wait for
+/// each.
 #[inline(always)]
 pub(crate) fn flat_front(piece: &[u8], sentinel: u8) -> (usize, bool)
     requires { HasNoZero (xor_each sentinel piece.now) }
@@ -31,6 +31,7 @@ pub(crate) fn flat_front(piece: &[u8], sentinel: u8) -> (usize, bool)
     ensures broken { result.0 ≡ 0 → 0 < length piece.now
         → length piece.now < slice_index (xor_each sentinel piece.now) 0 }
 {
+    let mut before = 0;
     let mut read = 0;
     if piece.is_empty() {
         return (read, false);
@@ -40,21 +41,27 @@ pub(crate) fn flat_front(piece: &[u8], sentinel: u8) -> (usize, bool)
         if code == 1 && piece.len() - read > WINDOW && is_all(piece, read, 1 ^ sentinel) {
             read += WINDOW;
         } else {
-            'alike: loop {
-                if piece.len() - read <= code {
-                    if piece.len() - read < code {
-                        return (read, false);
-                    }
-                    return (read + code, code == FULL_CODE);
+            if piece.len() - read <= code {
+                if piece.len() - read < code {
+                    return (read, false);
                 }
-                if code == FULL_CODE {
-                    return (read + code, true);
-                }
-                read += code;
-                if (piece[read] ^ sentinel) as usize != code {
-                    break;
-                }
+                return (read + code, code == FULL_CODE);
             }
+            if code == FULL_CODE {
+                return (read + code, true);
+            }
+            read += code;
+            let next = (piece[read] ^ sentinel) as usize;
+            let both = code + next;
+            'in_turn: while next == before
+                && next != FULL_CODE
+                && both < piece.len() - read
+                && (piece[read + next] ^ sentinel) as usize == code
+                && (piece[read + both] ^ sentinel) as usize == next
+            {
+                read += both;
+            }
+            before = code;
         }
     }
 }
@@ -63,7 +70,7 @@ pub(crate) fn flat_front(piece: &[u8], sentinel: u8) -> (usize, bool)
 /// of `len` bytes, or of one that is cut. Each byte after them stays. Returns the code of the last part, and how many
 /// of its bytes are missing.
 ///
-/// `alike` says that rows of empty blocks, and codes of one value in a row, are worth loops of their own, which needn't
+/// `alike` says that rows of empty blocks, and two codes that take turns, are worth loops of their own, which needn't
 /// wait for each.
 #[inline(always)]
 pub(crate) fn write_joints(dest: &mut [u8], first: usize, len: usize, alike: bool) -> (usize, usize)
@@ -76,6 +83,7 @@ pub(crate) fn write_joints(dest: &mut [u8], first: usize, len: usize, alike: boo
     ensures code { result.0 ≡ code_of (last_part (first ∷ take (len - 1) dest.old)) }
     ensures left { result.1 ≡ lacks (last_part (first ∷ take (len - 1) dest.old)) }
 {
+    let mut before = 0;
     let mut code = first;
     let mut end = first;
     'by_code: while end < len {
@@ -83,15 +91,22 @@ pub(crate) fn write_joints(dest: &mut [u8], first: usize, len: usize, alike: boo
             write_row(dest, end - 1, 0);
             end += WINDOW;
         } else {
-            'alike: loop {
-                let next = dest[end - 1] as usize;
+            let next = dest[end - 1] as usize;
+            dest[end - 1] = 0;
+            end += next;
+            let both = code + next;
+            'in_turn: while alike
+                && next == before
+                && code < len.saturating_sub(end)
+                && dest[end - 1] as usize == code
+                && dest[end + (code - 1)] as usize == next
+            {
                 dest[end - 1] = 0;
-                end += next;
-                if !alike || next != code || len <= end {
-                    code = next;
-                    break;
-                }
+                dest[end + (code - 1)] = 0;
+                end += both;
             }
+            before = code;
+            code = next;
         }
     }
     (code, end - len)
@@ -274,7 +289,8 @@ impl UnbufferedDecoder {
             self.left -= len as u8;
         } else {
             // What the open block is missing is what a code of one more would open.
-            let (code, left) = write_joints(&mut dest[at..], left + 1, len + 1, false);
+            let alike = (self.code < 8) & (bytes[left] == self.code);
+            let (code, left) = write_joints(&mut dest[at..], left + 1, len + 1, alike);
             self.code = code as u8;
             self.left = left as u8;
         }

@@ -1,5 +1,5 @@
-use Rattle.std.proofs.Common.{refl, arith, subst, length-take-le}
-use Rattle.cobs.proofs.decoding.FlatLemmas.{JointsWritten, joints-start, joints-more, joints-ones, joints-written, joints-code, joints-lack}
+use Rattle.std.proofs.Common.{refl, arith, length-take-le}
+use Rattle.cobs.proofs.decoding.FlatLemmas.{joints-start, joints-more, joints-turn, joints-ones, joints-written, joints-code, joints-lack}
 use Rattle.cobs.proofs.dec.blocks.write_joints.Goals as goal
 
 pub by_code-init : goal.by_code-init
@@ -10,26 +10,29 @@ by_code-preserved-then-is_all c =
     let r = c.requires in
     joints-ones _ _ _ r.some r.room r.nonzero _ _ _ c.by_code.invariant _ c.if-code-eq1.true (omega arith) (c.is_all.ensures c.if-is_all.true) c.write_row.ensures (omega arith)
 
-pub alike-preserved : goal.alike-preserved
-alike-preserved c =
+pub in_turn-init : goal.in_turn-init
+in_turn-init c =
     let r = c.requires in
-    let i = c.alike.invariant in
     record {
-      written = subst (JointsWritten c.args.first c.args.len c.args.dest.now _ _) c.if-next-code.false (joints-more _ _ _ r.some r.room r.nonzero _ _ _ i.written r.flat i.more _ refl);
-      more = omega arith;
+      written = joints-more _ _ _ r.some r.room r.nonzero _ _ _ c.by_code.invariant r.flat (omega arith) _ refl;
+      onward = omega arith;
+    }
+
+pub in_turn-preserved : goal.in_turn-preserved
+in_turn-preserved c =
+    let r = c.requires in
+    record {
+      written = joints-turn _ _ _ r.some r.room r.nonzero _ _ _ c.in_turn.invariant.written r.flat _ (omega arith) c.if-dest-end.true c.if-dest-end-2.true;
       onward = omega arith;
     }
 
 pub by_code-preserved : goal.by_code-preserved
-by_code-preserved c =
-    let r = c.requires in
-    let i = c.alike.invariant in
-    joints-more _ _ _ r.some r.room r.nonzero _ _ _ i.written r.flat i.more _ refl
+by_code-preserved c = c.in_turn.invariant.written
 
 pub by_code-smaller : goal.by_code-smaller
 by_code-smaller c =
-    let i = c.alike.invariant in
-    let some = (by_code-preserved c).some in
+    let i = c.in_turn.invariant in
+    let some = i.written.some in
     omega arith
 
 pub returns-clause-begins : goal.returns-clause-begins

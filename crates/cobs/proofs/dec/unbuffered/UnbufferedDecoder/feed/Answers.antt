@@ -12,8 +12,11 @@ returns-then-self c = record { feeds = Feeds-as (grind (arith, common_steps)) (g
 pub returns-then-dest-self : goal.returns-then-dest-self
 returns-then-dest-self c = record { feeds = Feeds-as (grind (arith, common_steps)) (grind (arith, common_steps)) (grind (arith, common_steps)) }
 
-pub returns-then-is_code-3 : goal.returns-then-is_code-3
-returns-then-is_code-3 c = record { feeds = Feeds-as (grind (arith, common_steps)) (grind (arith, common_steps)) (grind (arith, common_steps)) }
+pub returns-then-self-ne0 : goal.returns-then-self-ne0
+returns-then-self-ne0 c = record { feeds = Feeds-as (grind (arith, common_steps)) (grind (arith, common_steps)) (grind (arith, common_steps)) }
 
-pub returns-else-is_code-3 : goal.returns-else-is_code-3
-returns-else-is_code-3 c = record { feeds = Feeds-as (grind (arith, common_steps)) (grind (arith, common_steps)) (grind (arith, common_steps)) }
+pub returns-then-dest-self-2 : goal.returns-then-dest-self-2
+returns-then-dest-self-2 c = record { feeds = Feeds-as (grind (arith, common_steps)) (grind (arith, common_steps)) (grind (arith, common_steps)) }
+
+pub returns : goal.returns
+returns c = record { feeds = Feeds-as (grind (arith, common_steps)) (grind (arith, common_steps)) (grind (arith, common_steps)) }
