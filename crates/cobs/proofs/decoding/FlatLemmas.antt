@@ -1,7 +1,7 @@
 -- Frames in which no block but the last is full, decoded in their own place.
 use Rattle.std.proofs.Common.{take_at, drop_at, bit_xor, append-nil, zero, suc, ◌≤◌, ◌++◌, replicate, subst, append_assoc, take-append-drop, length-take-le, set, ◌≡◌, ◌≢◌, ℕ, ◌+◌, ◌-◌, ◌<◌, true, List, [], ◌∷◌, length, take, drop, get_or, Ok, refl, sym, ap, ◌∙◌, arith, length-drop}
 use Rattle.std.proofs.lemmas.Bool.{eq-eqb}
-use Rattle.std.proofs.lemmas.List.{length-map, take-take, take-map, drop-map, drop_all, length-set, drop-set-lt, take_more_set, drop-drop, drop_more, get_or-take, get_or-drop, get_or-map, get_or-set_other}
+use Rattle.std.proofs.lemmas.List.{take-take, take-map, drop-map, drop_all, length-set, drop-set-lt, take_more_set, drop-drop, drop_more, get_or-take, get_or-drop, get_or-set_other}
 use borrow.Rule.Slice.PartMut.{put_mid}
 use Rattle.cobs.specs.Grammar.{code_of, HasNoZero}
 use Rattle.cobs.specs.Piece.{output, kept_output, last_part, lacks, is_whole}
@@ -50,10 +50,6 @@ pub record FrontSoFar (piece : List ℕ) (read : ℕ) : Type 0 where
   pub front : (end : ℕ) → read < end → end ≤ length piece → FlatSoFar (take end piece) read
   pub whole : 0 < read → IsFlat (take read piece) × (code_of (last_part (take read piece)) ≢ 255)
 
--- a code under the sentinel
-pub xored-code : (piece : List ℕ) (sentinel read : ℕ) → read < length piece → bit_xor (get_or piece read 0) sentinel ≡ get_or (xor_each sentinel piece) read 0
-xored-code piece sentinel read within = sym (get_or-map (λ b. bit_xor b sentinel) piece read 0 0 within)
-
 pub front-started : (piece : List ℕ) → 0 < length piece → FrontSoFar piece 0
 front-started piece some = record {
   within = some;
@@ -77,14 +73,6 @@ module _ (piece : List ℕ) (read code : ℕ) (f : FrontSoFar piece read) (is : 
             flat-more (take end piece) read code (f.front end (omega arith) le) (is ∙ sym (get_or-take end piece read 0 (omega arith))) some (omega arith) other;
         whole = λ _. (w.0, λ full. other (sym w.1 ∙ full));
       }
-
--- one block more that isn't full, under the sentinel
-pub front-next : (piece : List ℕ) (sentinel read code : ℕ) → HasNoZero (xor_each sentinel piece) → FrontSoFar (xor_each sentinel piece) read → code ≡ get_or (xor_each sentinel piece) read 0
-    → read + code < length piece → code ≢ 255 → FrontSoFar (xor_each sentinel piece) (read + code)
-front-next piece sentinel read code none f is lt other =
-    let long = length-map piece (λ (byte : ℕ). bit_xor byte sentinel) in
-    let pos : 0 < code = subst (λ (n : ℕ). 0 < n) (sym is) (code-pos _ read none f.within) in
-    front-more (xor_each sentinel piece) read code f is pos (omega arith) other
 
 -- empty blocks
 front-ones-by : (n : ℕ) (piece : List ℕ) (read : ℕ) → FrontSoFar piece read → take n (drop read piece) ≡ replicate n 1 → read + n < length piece → FrontSoFar piece (read + n)

@@ -11,7 +11,7 @@ ghost use Rattle.cobs.specs.Internal.FedInTurn.{FedInTurn};
 
 use crate::dec::piece::{decode_head, piece_len};
 use crate::dec::unbuffered::{FULL, UnbufferedDecoder};
-use crate::dec::{FEW, LONG, MANY};
+use crate::dec::{FEW, LONG, MANY, SHORT_CODE};
 use crate::enc::FULL_CODE;
 use crate::lanes::copy_to_zero;
 use crate::window::{WIDE_WINDOW, WINDOW, is_all, write_row};
@@ -19,8 +19,8 @@ use crate::window::{WIDE_WINDOW, WINDOW, is_all, write_row};
 /// How many bytes the first whole blocks of a piece have, through the first full one, and whether the last of them is
 /// full. 0 bytes: the first block is broken. Each byte of the piece is XORed with the sentinel.
 ///
-/// Rows of empty blocks go by 32 at a time, and two codes that take turns by a loop of their own, which needn't wait for
-/// each.
+/// Rows of empty blocks go by 32 at a time, and codes of one value in a row by a loop of their own, which needn't
+/// wait for each.
 #[inline(always)]
 pub(crate) fn flat_front(piece: &[u8], sentinel: u8) -> (usize, bool)
     requires { HasNoZero (xor_each sentinel piece.now) }
@@ -31,7 +31,6 @@ pub(crate) fn flat_front(piece: &[u8], sentinel: u8) -> (usize, bool)
     ensures broken { result.0 ≡ 0 → 0 < length piece.now
         → length piece.now < slice_index (xor_each sentinel piece.now) 0 }
 {
-    let mut before = 0;
     let mut read = 0;
     if piece.is_empty() {
         return (read, false);
@@ -41,27 +40,21 @@ pub(crate) fn flat_front(piece: &[u8], sentinel: u8) -> (usize, bool)
         if code == 1 && piece.len() - read > WINDOW && is_all(piece, read, 1 ^ sentinel) {
             read += WINDOW;
         } else {
-            if piece.len() - read <= code {
-                if piece.len() - read < code {
-                    return (read, false);
+            'alike: loop {
+                if piece.len() - read <= code {
+                    if piece.len() - read < code {
+                        return (read, false);
+                    }
+                    return (read + code, code == FULL_CODE);
                 }
-                return (read + code, code == FULL_CODE);
+                if code == FULL_CODE {
+                    return (read + code, true);
+                }
+                read += code;
+                if (piece[read] ^ sentinel) as usize != code {
+                    break;
+                }
             }
-            if code == FULL_CODE {
-                return (read + code, true);
-            }
-            read += code;
-            let next = (piece[read] ^ sentinel) as usize;
-            let both = code + next;
-            'in_turn: while next == before
-                && next != FULL_CODE
-                && both < piece.len() - read
-                && (piece[read + next] ^ sentinel) as usize == code
-                && (piece[read + both] ^ sentinel) as usize == next
-            {
-                read += both;
-            }
-            before = code;
         }
     }
 }
@@ -95,9 +88,10 @@ pub(crate) fn write_joints(dest: &mut [u8], first: usize, len: usize, alike: boo
             dest[end - 1] = 0;
             end += next;
             let both = code + next;
+            let until = len.saturating_sub(code);
             'in_turn: while alike
                 && next == before
-                && code < len.saturating_sub(end)
+                && end < until
                 && dest[end - 1] as usize == code
                 && dest[end + (code - 1)] as usize == next
             {
@@ -229,13 +223,16 @@ impl UnbufferedDecoder {
         len
     }
 
-    /// Takes first bytes up to a zero, as many as there is room for, and returns how many: those that the open block
-    /// is missing, and then whole blocks.
+    /// Takes first bytes up to a zero, as many as there is room for, and returns how many. Of few bytes that is one part,
+    /// in which it expects alike blocks; of more it takes those that the open block is missing, and then whole blocks.
     fn take_many(&mut self, dest: &mut [u8], bytes: &[u8]) -> usize
         ensures within { result ≤ length bytes.now }
         ensures fed { FedInTurn dest.old (phase_of self.old) (take result bytes.now)
             dest.new (phase_of self.new) }
     {
+        if bytes.len() < MANY && !self.over {
+            return self.take_part(dest, bytes, true);
+        }
         let near = bytes.len().min(LONG);
         let clean = piece_len(&bytes[..near]);
         let open = clean.min(self.left as usize);
@@ -265,9 +262,9 @@ impl UnbufferedDecoder {
     }
 
     /// Takes first bytes up to a zero, as many as one step can take, and returns how many: a code that nothing is
-    /// joined to, or up to 64 bytes in which no full block ends.
+    /// joined to, or up to 64 bytes in which no full block ends. `alike` is for `write_joints`.
     #[inline(always)]
-    fn take_part(&mut self, dest: &mut [u8], bytes: &[u8]) -> usize
+    fn take_part(&mut self, dest: &mut [u8], bytes: &[u8], alike: bool) -> usize
         requires going { self.old.over ≡ false }
         ensures within { result ≤ length bytes.now }
         ensures fed { FedInTurn dest.old (phase_of self.old) (take result bytes.now)
@@ -289,7 +286,6 @@ impl UnbufferedDecoder {
             self.left -= len as u8;
         } else {
             // What the open block is missing is what a code of one more would open.
-            let alike = (self.code < 8) & (bytes[left] == self.code);
             let (code, left) = write_joints(&mut dest[at..], left + 1, len + 1, alike);
             self.code = code as u8;
             self.left = left as u8;
@@ -309,6 +305,10 @@ impl UnbufferedDecoder {
         if self.over || bytes.len() <= FEW {
             return 0;
         }
+        let left = self.left as usize;
+        if self.code < SHORT_CODE && left < bytes.len() && bytes[left] == self.code {
+            return self.take_many(dest, bytes);
+        }
         // A copy, so that it stays in registers.
         let mut here = UnbufferedDecoder {
             dest_idx: self.dest_idx,
@@ -321,7 +321,7 @@ impl UnbufferedDecoder {
             && bytes[run] != 0
             && (run < WIDE_WINDOW || bytes.len() - run < MANY)
         {
-            let part = here.take_part(dest, &bytes[run..]);
+            let part = here.take_part(dest, &bytes[run..], false);
             run += part;
             if part == 0 {
                 break;

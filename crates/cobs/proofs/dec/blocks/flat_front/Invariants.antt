@@ -9,12 +9,12 @@ invariant-by_code l = FrontSoFar (xor_each l.sentinel l.piece) l.read
 abbrev pub decreases-by_code : goal.decreases-by_code
 decreases-by_code l = length l.piece - l.read
 
-abbrev pub invariant-in_turn : goal.invariant-in_turn
-invariant-in_turn l = record {
+abbrev pub invariant-alike : goal.invariant-alike
+invariant-alike l = record {
   front : FrontSoFar (xor_each l.sentinel l.piece) l.read;
-  next : l.next ≡ get_or (xor_each l.sentinel l.piece) l.read 0;
+  code : l.code ≡ get_or (xor_each l.sentinel l.piece) l.read 0;
   onward : l.initial.read ≤ l.read;
 }
 
-abbrev pub decreases-in_turn : goal.decreases-in_turn
-decreases-in_turn l = length l.piece - l.read
+abbrev pub decreases-alike : goal.decreases-alike
+decreases-alike l = length l.piece - l.read
