@@ -228,7 +228,7 @@ impl UnbufferedDecoder {
         if self.over {
             return Err(DecodeError::TargetBufTooSmall);
         }
-        // Three branches, which a processor predicts, take a sixth less time than one with a choice of the byte.
+        // Three branches, which a processor predicts, take a third less time than one write of a chosen byte.
         if self.left != 0 {
             if dest.len() <= self.dest_idx {
                 self.over = true;
