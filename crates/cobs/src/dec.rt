@@ -42,10 +42,6 @@ pub use unbuffered::{DecoderPhase, UnbufferedDecoder};
 /// So few bytes are pushed by a step each: a run takes some 130 instructions, however short it is.
 const FEW: usize = 4;
 
-/// If a block has a code below this, and the next one the same, `push` expects more of them: zeros in chunks of 64 bytes
-/// take 3.1 instructions a byte so, and 7.0 without.
-const SHORT_CODE: u8 = 3;
-
 /// At least this many bytes are decoded by windows, and are worth a search for the end of their piece: of a telemetry
 /// stream `push` takes 4.9 instructions a byte so, and 7.0 in chunks of 64 bytes.
 const MANY: usize = 128;

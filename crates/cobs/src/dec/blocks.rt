@@ -11,7 +11,7 @@ ghost use Rattle.cobs.specs.Internal.FedInTurn.{FedInTurn};
 
 use crate::dec::piece::{decode_head, piece_len};
 use crate::dec::unbuffered::{FULL, UnbufferedDecoder};
-use crate::dec::{FEW, LONG, MANY, SHORT_CODE};
+use crate::dec::{FEW, LONG, MANY};
 use crate::enc::FULL_CODE;
 use crate::lanes::copy_to_zero;
 use crate::window::{WIDE_WINDOW, WINDOW, is_all, write_row};
@@ -223,16 +223,13 @@ impl UnbufferedDecoder {
         len
     }
 
-    /// Takes first bytes up to a zero, as many as there is room for, and returns how many. Of few bytes that is one part,
-    /// in which it expects alike blocks; of more it takes those that the open block is missing, and then whole blocks.
+    /// Takes first bytes up to a zero, as many as there is room for, and returns how many: those that the open block
+    /// is missing, and then whole blocks.
     fn take_many(&mut self, dest: &mut [u8], bytes: &[u8]) -> usize
         ensures within { result ≤ length bytes.now }
         ensures fed { FedInTurn dest.old (phase_of self.old) (take result bytes.now)
             dest.new (phase_of self.new) }
     {
-        if bytes.len() < MANY && !self.over {
-            return self.take_part(dest, bytes, true);
-        }
         let near = bytes.len().min(LONG);
         let clean = piece_len(&bytes[..near]);
         let open = clean.min(self.left as usize);
@@ -262,9 +259,9 @@ impl UnbufferedDecoder {
     }
 
     /// Takes first bytes up to a zero, as many as one step can take, and returns how many: a code that nothing is
-    /// joined to, or up to 64 bytes in which no full block ends. `alike` is for `write_joints`.
+    /// joined to, or up to 64 bytes in which no full block ends.
     #[inline(always)]
-    fn take_part(&mut self, dest: &mut [u8], bytes: &[u8], alike: bool) -> usize
+    fn take_part(&mut self, dest: &mut [u8], bytes: &[u8]) -> usize
         requires going { self.old.over ≡ false }
         ensures within { result ≤ length bytes.now }
         ensures fed { FedInTurn dest.old (phase_of self.old) (take result bytes.now)
@@ -286,7 +283,7 @@ impl UnbufferedDecoder {
             self.left -= len as u8;
         } else {
             // What the open block is missing is what a code of one more would open.
-            let (code, left) = write_joints(&mut dest[at..], left + 1, len + 1, alike);
+            let (code, left) = write_joints(&mut dest[at..], left + 1, len + 1, false);
             self.code = code as u8;
             self.left = left as u8;
         }
@@ -305,10 +302,6 @@ impl UnbufferedDecoder {
         if self.over || bytes.len() <= FEW {
             return 0;
         }
-        let left = self.left as usize;
-        if self.code < SHORT_CODE && left < bytes.len() && bytes[left] == self.code {
-            return self.take_many(dest, bytes);
-        }
         // A copy, so that it stays in registers.
         let mut here = UnbufferedDecoder {
             dest_idx: self.dest_idx,
@@ -321,7 +314,7 @@ impl UnbufferedDecoder {
             && bytes[run] != 0
             && (run < WIDE_WINDOW || bytes.len() - run < MANY)
         {
-            let part = here.take_part(dest, &bytes[run..], false);
+            let part = here.take_part(dest, &bytes[run..]);
             run += part;
             if part == 0 {
                 break;
