@@ -1,5 +1,4 @@
 pub mod format
-pub mod bytes
 pub mod encoding
 pub mod decoding
 pub mod streaming

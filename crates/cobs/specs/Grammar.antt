@@ -2,10 +2,8 @@
 -- After Cheshire and Baker, "Consistent Overhead Byte Stuffing", 1999.
 use Rattle.std.specs.Prelude.{◌≡◌, ◌≢◌, ℕ, ◌+◌, ◌<◌, ◌==◌, Bool, List, [], ◌∷◌, ◌++◌, length, All, IsTrue, if◌then◌else◌}
 use Rattle.std.specs.List.{concat}
-
 -- no byte of the list is the sentinel
-abbrev pub HasNoZero : List ℕ → Type 0
-HasNoZero bytes = All (λ byte. byte ≢ 0) bytes
+pub use Rattle.cobs_bytes.specs.Bytes.{HasNoZero}
 
 -- a block is a code, from 1 to 255, and nonzero bytes after it; the code counts them and itself
 abbrev pub IsBlock : List ℕ → Type 0

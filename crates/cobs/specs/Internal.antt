@@ -1,5 +1,4 @@
 -- Words that contracts of private functions alone cite.
-pub mod Mask
 pub mod Taking
 pub mod Decoded
 pub mod FedInTurn

@@ -1,11 +1,9 @@
 -- Frames for another sentinel than 0, and frames between sentinels.
-use Rattle.std.specs.Prelude.{◌≡◌, ◌≢◌, ◌-◌, ℕ, List, [], ◌∷◌, ◌++◌, length, map, bit_xor, All}
+use Rattle.std.specs.Prelude.{◌≡◌, ◌≢◌, ◌-◌, ℕ, List, [], ◌∷◌, ◌++◌, length, All}
 use Rattle.std.specs.List.{slice_range}
 use Rattle.cobs.specs.Grammar.{IsEncodedFrame}
-
 -- each byte XORed with s; a frame for the sentinel s is a frame for 0 so changed, and the other way round
-abbrev pub xor_each : ℕ → List ℕ → List ℕ
-xor_each s bytes = map (λ byte. bit_xor byte s) bytes
+pub use Rattle.cobs_bytes.specs.Bytes.{xor_each}
 
 -- no byte of the list is the sentinel s
 abbrev pub IsFreeOf : ℕ → List ℕ → Type 0

@@ -19,11 +19,11 @@ mod piece;
 mod state;
 mod unbuffered;
 
-use crate::lanes::copy_xored_short;
-use crate::window::WIDE_WINDOW;
 use blocks::write_joints;
 pub use blocks::{FrameKind, frame_kind};
 pub use buffered::{CobsDecoder, CobsDecoderOwned};
+use cobs_bytes::lanes::copy_xored_short;
+use cobs_bytes::window::WIDE_WINDOW;
 pub use forms::{decode_vec, decode_vec_with_sentinel, decode_with_sentinel};
 pub(crate) use frame_decoder::piece_end;
 pub use frame_decoder::{FrameDecoder, PieceEnd, WriteBuffer};

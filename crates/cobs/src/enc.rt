@@ -12,9 +12,9 @@ mod state;
 mod unbuffered;
 mod vector;
 
-use crate::window::WINDOW;
 pub(crate) use blocks::FULL_CODE;
 use blocks::{append_short, append_windows, close, close_runs, is_short};
+use cobs_bytes::window::WINDOW;
 pub use encoder::CobsEncoder;
 pub use error::DestBufTooSmallError;
 use room::fits;

@@ -63,10 +63,8 @@ ghost use Rattle.cobs.specs.Length.{max_overhead, max_encoded_len};
 mod dec;
 mod enc;
 mod framed;
-mod lanes;
 pub mod laws;
 mod stream;
-mod window;
 
 pub use dec::{
     CobsDecoder, CobsDecoderHeapless, CobsDecoderOwned, DecodeError, DecodeReport, DecodeResult,

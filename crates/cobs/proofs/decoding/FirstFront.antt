@@ -7,7 +7,7 @@ use Rattle.cobs.specs.Internal.Decoded.{IsFlat}
 use Rattle.cobs.proofs.decoding.PieceCuts.{output-le}
 use Rattle.cobs.proofs.decoding.WindowSteps.{code-pos, code-decoded, code-copied, end-begins, last-code}
 use borrow.Rule.Slice.PartMut.{put_mid}
-use Rattle.cobs.proofs.decoding.SourceSteps.{drop-later}
+use Rattle.cobs_bytes.proofs.bytes.DropLemmas.{drop-later}
 use Rattle.cobs.proofs.decoding.FlatLemmas.{FlatCopied, flat-whole, next-code, copied-ones, put-back}
 
 -- the first bytes of a piece, by its first code and what follows that

@@ -12,7 +12,7 @@ use Rattle.cobs.proofs.decoding.FirstFront.{whole-piece}
 use Rattle.cobs.proofs.decoding.FlatLemmas.{moved-piece, moved-rest, put-back}
 use Rattle.cobs.proofs.decoding.SourceFronts.{stretch-last, stretch-zero}
 use Rattle.cobs.proofs.decoding.StretchSteps.{StretchCopied}
-use Rattle.cobs.proofs.decoding.SourceSteps.{drop-later}
+use Rattle.cobs_bytes.proofs.bytes.DropLemmas.{drop-later}
 
 module _ (old : List ℕ) (end : ℕ) (none : HasNoZero (take end old)) (buffer : List ℕ) (read written : ℕ) (d : DecodedSource (take end old) old buffer read written)
     (order : written ≤ read) (here : read < end) (within : end ≤ length buffer) where

@@ -12,7 +12,8 @@ use Rattle.cobs.proofs.decoding.KeptLemmas.{joins, joins-full, joins-zero-due}
 use Rattle.cobs.proofs.decoding.WholeLemmas.{in_front}
 use Rattle.cobs.proofs.decoding.WindowSteps.{take-past, drop-past, put_mid-end}
 use Rattle.cobs.proofs.decoding.BlockSteps.{overwritten-front}
-use Rattle.cobs.proofs.decoding.SourceSteps.{front-head, drop-later, answer-fits, answer-too_long, overwritten-full, source_answer-head}
+use Rattle.cobs_bytes.proofs.bytes.DropLemmas.{drop-later}
+use Rattle.cobs.proofs.decoding.SourceSteps.{front-head, answer-fits, answer-too_long, overwritten-full, source_answer-head}
 use Rattle.cobs.proofs.decoding.FlatLemmas.{flat-kept, flat-answer}
 use Rattle.cobs.specs.Stream.{head}
 use Rattle.cobs.specs.declared.dec.DecodeError.TheVariants.{TargetBufTooSmall}

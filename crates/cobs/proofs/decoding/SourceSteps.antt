@@ -1,8 +1,8 @@
 -- A source for any sentinel that is decoded into a buffer of its own, so far.
-use Rattle.std.proofs.Common.{◌≡◌, ◌≢◌, ℕ, ◌+◌, ◌-◌, ◌<◌, ◌≤◌, Bool, cond, All, List, [], ◌∷◌, ◌++◌, length, take, drop, get_or, bit_xor, Err, Ok, sym, ap, ◌∙◌, subst, arith, length-append, length-take-le, take_at, append-nil}
+use Rattle.std.proofs.Common.{◌≡◌, ◌≢◌, ℕ, ◌-◌, ◌<◌, ◌≤◌, Bool, cond, All, List, [], ◌∷◌, ◌++◌, length, take, get_or, bit_xor, Err, Ok, sym, ap, ◌∙◌, subst, arith, length-append, length-take-le, take_at, append-nil}
 use Rattle.std.specs.Int.Bits.{xor_self}
 use Rattle.std.proofs.lemmas.Bool.{le-leb, lt-leb}
-use Rattle.std.proofs.lemmas.List.{drop-drop, drop_all, get_or-map, length-map, take-map}
+use Rattle.std.proofs.lemmas.List.{drop_all, get_or-map, length-map, take-map}
 use Rattle.std.proofs.lemmas.List.Elements.{All-map, All-weaker}
 use Rattle.cobs.specs.Overwritten.{overwritten}
 use Rattle.cobs.specs.Grammar.{HasNoZero}
@@ -17,10 +17,6 @@ use Rattle.cobs.proofs.decoding.HeadLemmas.{front_is_head}
 use Rattle.cobs.proofs.decoding.KeptLemmas.{kept_output-empty}
 use Rattle.cobs.proofs.decoding.OutcomeSteps.{overwritten-none}
 use Rattle.cobs.proofs.decoding.BlockSteps.{all-kept, all-answer, broken-kept, broken-answer, overwritten-front}
-
--- what two lists have behind n bytes they have behind more
-pub drop-later : (n m : ℕ) (xs ys : List ℕ) → n ≤ m → drop n xs ≡ drop n ys → drop m xs ≡ drop m ys
-drop-later n m xs ys h e = let k : n + (m - n) ≡ m = omega arith in grind (arith, drop-drop (m - n) n xs, drop-drop (m - n) n ys)
 
 -- ANSWERS BY THE KEPT OUTPUT
 

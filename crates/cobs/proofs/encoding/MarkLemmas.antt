@@ -10,8 +10,8 @@ use lib.Count.{count_trailing_zeros}
 use Rattle.std.specs.Int.Bits.{bit_and}
 use Rattle.std.specs.Int.Count.{trailing_of_zero}
 use Rattle.cobs.specs.Grammar.{HasNoZero}
-use Rattle.cobs.specs.Internal.Mask.{zero_mask}
-use Rattle.cobs.proofs.bytes.MaskLemmas.{mask_behind, mask_behind-none, mask_behind-and, some_left, lowest_bit, lowest_left, nonzero_len, nonzero_len-lt, nonzero_len-before, nonzero_len-at, clear_front}
+use Rattle.cobs_bytes.specs.Mask.{zero_mask}
+use Rattle.cobs_bytes.proofs.bytes.MaskLemmas.{mask_behind, mask_behind-none, mask_behind-and, some_left, lowest_bit, lowest_left, nonzero_len, nonzero_len-lt, nonzero_len-before, nonzero_len-at, clear_front}
 use Rattle.cobs.proofs.encoding.ReachLemmas.{Reaches, Reaches-at, Reaches-same, Reaches-full, Reaches-join, Reaches-zero, Reaches-zeros, IsNotFull, least}
 
 -- what stands in a list that was made of three parts

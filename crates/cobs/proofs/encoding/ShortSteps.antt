@@ -9,8 +9,8 @@ use Rattle.std.proofs.lemmas.Nat.{and_le_l}
 use Rattle.std.specs.Int.Count.{count_trailing_zeros, trailing_of_zero}
 use Rattle.std.specs.Int.Bits.{bit_and}
 use Rattle.std.proofs.lemmas.Grind.{common_steps}
-use Rattle.cobs.specs.Internal.Mask.{zero_mask}
-use Rattle.cobs.proofs.bytes.MaskLemmas.{zero_mask-all, zero_mask-lt, lowest_bit, lowest-ordered, lowest-within, nonzero_len}
+use Rattle.cobs_bytes.specs.Mask.{zero_mask}
+use Rattle.cobs_bytes.proofs.bytes.MaskLemmas.{zero_mask-all, zero_mask-lt, lowest_bit, lowest-ordered, lowest-within, nonzero_len}
 use Rattle.cobs.proofs.encoding.ReachLemmas.{least}
 use Rattle.cobs.proofs.encoding.MarkLemmas.{Copied, Marks, length-after, marks-start, marks-step, marks-end, place-le, place-lt, WindowTaken, WindowTaken-at, row-taken}
 use Rattle.cobs.specs.Internal.Taking.{MarksZeros, none_left, first_marked, TakesFront}

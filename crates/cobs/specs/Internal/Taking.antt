@@ -1,7 +1,7 @@
 -- What a step of the encoder makes of the front of a source.
 use Rattle.std.specs.Prelude.{◌≡◌, ◌≢◌, ℕ, ◌+◌, ◌-◌, ◌%◌, List, ◌++◌, length, take, drop, slice_set}
 use Rattle.cobs.specs.OpenBlock.{Reached, CobsEncoderAfter, IsPlaceIn, end_after}
-use Rattle.cobs.specs.Internal.Mask.{lowest, without_lowest}
+use Rattle.cobs_bytes.specs.Mask.{lowest, without_lowest}
 
 -- From a slice, in which the frame had come so far, a step took n bytes of a source, and led to this slice and so far.
 -- The frame of the whole source ends where it would have, and the slice behind that is as it was.

@@ -13,8 +13,8 @@ use crate::dec::piece::{decode_head, piece_len};
 use crate::dec::unbuffered::{FULL, UnbufferedDecoder};
 use crate::dec::{FEW, LONG, MANY};
 use crate::enc::FULL_CODE;
-use crate::lanes::copy_to_zero;
-use crate::window::{WIDE_WINDOW, WINDOW, is_all, write_row};
+use cobs_bytes::lanes::copy_to_zero;
+use cobs_bytes::window::{WIDE_WINDOW, WINDOW, is_all, write_row};
 
 /// How many bytes the first whole blocks of a piece have, through the first full one, and whether the last of them is
 /// full. 0 bytes: the first block is broken. Each byte of the piece is XORed with the sentinel.

@@ -13,8 +13,8 @@ ghost use Rattle.cobs.specs.declared.dec.DecodeError.TheVariants.{EmptyFrame, Ta
 use crate::dec::blocks::{flat_front, write_joints};
 use crate::dec::piece::{copy_few, first_of};
 use crate::dec::{DecodeError, DecodeVecError, decode};
-use crate::lanes::copy_xored_short;
-use crate::window::WIDE_WINDOW;
+use cobs_bytes::lanes::copy_xored_short;
+use cobs_bytes::window::WIDE_WINDOW;
 use std::alloc::Global;
 
 /// Writes the bytes of the source, each XORed with the sentinel, to the front of `dest`.

@@ -7,8 +7,8 @@ ghost use Rattle.cobs.specs.Stream.{head};
 
 use crate::dec::piece::piece_len;
 use crate::enc::FULL_CODE;
-use crate::lanes::copy_xored_short;
-use crate::window::{WINDOW, copy_at, copy_nonzero, is_all, write_row, zeros_at};
+use cobs_bytes::lanes::copy_xored_short;
+use cobs_bytes::window::{WINDOW, copy_at, copy_nonzero, is_all, write_row, zeros_at};
 
 /// No step reads or writes more bytes than a full block and the code after it.
 const LONGEST_STEP: usize = FULL_CODE + 1;

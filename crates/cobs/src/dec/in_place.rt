@@ -13,8 +13,8 @@ use crate::dec::blocks::{flat_front, write_joints};
 use crate::dec::piece::piece_len;
 use crate::dec::{DecodeError, DecodeReport};
 use crate::enc::{FULL_CODE, xor_bytes};
-use crate::lanes::move_to_front;
-use crate::window::{WINDOW, is_all, write_row};
+use cobs_bytes::lanes::move_to_front;
+use cobs_bytes::window::{WINDOW, is_all, write_row};
 
 /// Writes a zero over each code but the first of the first whole blocks of a piece, through the first full one; returns
 /// how many bytes these blocks have, and the code of the last of them. `rest` begins with what follows the first code.

@@ -11,7 +11,7 @@ use crate::dec::blocks::write_joints;
 use crate::dec::front::{decode_front, decode_window};
 use crate::dec::{DecodeError, MANY};
 use crate::enc::FULL_CODE;
-use crate::window::{WIDE_WINDOW, WINDOW, copy_window, first_zero_of_few};
+use cobs_bytes::window::{WIDE_WINDOW, WINDOW, copy_window, first_zero_of_few};
 use memchr::memchr;
 
 /// What is to be known of a piece once its output is written.

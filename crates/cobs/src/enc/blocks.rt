@@ -3,11 +3,11 @@ ghost use Rattle.std.specs.Prelude.{◌≡◌, ◌≢◌, ◌<◌, ◌≤◌, �
 ghost use Rattle.cobs.specs.Grammar.{HasNoZero, IsEncodedFrame};
 ghost use Rattle.cobs.specs.OpenBlock.{CobsEncoderAfter, IsPlaceIn, end_after, end_of};
 ghost use Rattle.cobs.specs.Fields.Progress.{reached_at};
-ghost use Rattle.cobs.specs.Internal.Mask.{lowest, without_lowest};
+ghost use Rattle.cobs_bytes.specs.Mask.{lowest, without_lowest};
 ghost use Rattle.cobs.specs.Internal.Taking.{MarksZeros, TakesFront};
 
 use crate::enc::unbuffered::EncoderProgress;
-use crate::window::{
+use cobs_bytes::window::{
     ONES, WINDOW, copy_at, copy_window, first_zero_of_few, is_all_zeros, write_row, zeros_at,
 };
 use memchr::memchr;

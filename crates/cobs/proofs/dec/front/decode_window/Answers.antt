@@ -2,8 +2,8 @@ use Rattle.std.proofs.Common.{◌≢◌, ◌∙◌, ℕ, List, take, drop, refl,
 use Rattle.std.proofs.lemmas.List.{drop-take}
 use Rattle.std.proofs.lemmas.List.Elements.{All-drop}
 use Rattle.cobs.specs.Grammar.{HasNoZero}
-use Rattle.cobs.proofs.bytes.MaskLemmas.{zero_mask-none}
-use Rattle.cobs.proofs.bytes.NonzeroCopies.{zero_mask-clear}
+use Rattle.cobs_bytes.proofs.bytes.MaskLemmas.{zero_mask-none}
+use Rattle.cobs_bytes.proofs.bytes.NonzeroCopies.{zero_mask-clear}
 use Rattle.cobs.proofs.decoding.FrontSteps.{ones-decoded, window-begun, window-next, window-more}
 use Rattle.cobs.proofs.dec.front.decode_window.Goals as goal
 

@@ -5,7 +5,7 @@ use Rattle.cobs.specs.OpenBlock.{CobsEncoderAfter, end_after}
 use Rattle.cobs.specs.Fields.Progress.{reached_at}
 use Rattle.cobs.proofs.encoding.ReachLemmas.{Reaches-weaker, Reaches-open}
 use Rattle.cobs.proofs.encoding.MarkLemmas.{Copied, filled, first-within, length-after, length-window, marks-start, marks-step, marks-end, row-taken}
-use Rattle.cobs.proofs.bytes.MaskLemmas.{window_all}
+use Rattle.cobs_bytes.proofs.bytes.MaskLemmas.{window_all}
 use Rattle.cobs.proofs.encoding.ShortSteps.{code-inside, code-ordered, marks-within, marks-zeros}
 use Rattle.cobs.proofs.encoding.TakingLemmas.{front-taken, reaches-noted}
 use Rattle.cobs.proofs.enc.blocks.append_windows.Goals.{After-copy_at-window, Joined-window-eq0, then-window-eq0+else-next-index, else-window-eq0+else-place-index-lt-FULL_CODE, then-last-eq0, else-last-eq0}

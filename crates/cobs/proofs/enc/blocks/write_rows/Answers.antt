@@ -1,5 +1,5 @@
 use Rattle.std.proofs.Common.{◌≡◌, ◌+◌, ◌∙◌, List, ℕ, drop, length, take, sym, arith, length-drop, length-take-le}
-use Rattle.cobs.proofs.bytes.MaskLemmas.{window_all}
+use Rattle.cobs_bytes.proofs.bytes.MaskLemmas.{window_all}
 use Rattle.cobs.proofs.encoding.RowLemmas.{more-ones, more-zeros}
 use Rattle.cobs.proofs.enc.blocks.write_rows.Goals as goal
 

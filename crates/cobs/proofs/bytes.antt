@@ -1,6 +1,0 @@
--- Bytes and windows, whatever they mean: masks of zeros, copies and moves in parts that overlap.
-pub mod MaskLemmas
-pub mod PartMasks
-pub mod NonzeroCopies
-pub mod XoredLemmas
-pub mod MoveLemmas

@@ -1,7 +1,0 @@
-use Rattle.std.proofs.Common.{replicate}
-use Rattle.std.proofs.lemmas.Simd.{length-replicate}
-use Rattle.cobs.proofs.bytes.MaskLemmas.{put_is}
-use Rattle.cobs.proofs.window.write_row.Goals as goal
-
-pub returns : goal.returns
-returns c = put_is c.args.dest.now (replicate 32 c.args.byte) c.args.at 32 (length-replicate 32 c.args.byte) c.requires

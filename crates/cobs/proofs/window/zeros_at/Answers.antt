@@ -1,5 +1,0 @@
-use Rattle.cobs.proofs.bytes.MaskLemmas.{zeros_by_lanes}
-use Rattle.cobs.proofs.window.zeros_at.Goals as goal
-
-pub returns : goal.returns
-returns g c = zeros_by_lanes c.args.bytes.now c.args.at g.row.N c.requires.source c.requires.lanes

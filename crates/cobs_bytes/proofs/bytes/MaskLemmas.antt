@@ -1,0 +1,198 @@
+-- Lemmas on the mask of the zeros among bytes.
+use Rattle.std.proofs.Common.{min, ◌≡◌, ◌≢◌, ℕ, ◌+◌, ◌-◌, ◌*◌, ◌/◌, ◌%◌, ◌^◌, ◌<◌, ◌≤◌, cond, eqb, not, List, [], ◌∷◌, ◌++◌, length, map, drop, take, get_or, replicate, All, if◌then◌else◌, ◌==◌, suc, zero, refl, sym, ap, ◌∙◌, subst, inl, inr, arith, length-take-le, length-append, w8, w64}
+use Rattle.std.proofs.Math.Nat.{pow-suc, pow-le-pow_right}
+use Rattle.std.proofs.lemmas.Bool.{ne_eqb, eq-eqb, eqb-true, not-true, not-false, cases_eq, cases_lt}
+use Rattle.std.proofs.lemmas.List.{get_or-take, drop-drop, length-map, length-replicate, take-take}
+use Rattle.std.proofs.Math.Seq.{drop-append-add}
+use Rattle.std.proofs.lemmas.List.Elements.{All-nil, All-cons, All-take, All-from_get_or}
+use Rattle.std.proofs.lemmas.List.Sums.{prefix_len_passes, prefix_len_stops}
+use Rattle.std.proofs.lemmas.Simd.{bitmask_splat, mask_l-lt, trailing_mask_l, put_chunk_is, length-chunk}
+use Rattle.std.specs.List.{prefix_len}
+use lib.Lanes.{mask_l, put_chunk, zip2, top}
+use lib.Count.{count_trailing_zeros}
+use Rattle.std.specs.Int.Bits.{bit_and, and_self}
+use Rattle.std.specs.Int.Count.{trailing_of_zero}
+use Rattle.std.proofs.lemmas.Nat.{and_le_l}
+use Rattle.std.specs.Int.{bit_at}
+use Rattle.std.proofs.lemmas.Nat.Bits.{same_from_bits, bit_at_lowest, bit_at-suc, bit_at_and, bit_at_above, bit_at-trailing_zeros}
+use Rattle.cobs_bytes.specs.Bytes.{HasNoZero}
+use Rattle.cobs_bytes.specs.Mask.{zero_mask}
+
+pub zero_mask-lanes : (bytes : List ℕ) → mask_l (map (λ b. eqb b 0) bytes) ≡ zero_mask bytes
+zero_mask-lanes [] = refl
+zero_mask-lanes (b ∷ bytes) = ap (λ m. cond (eqb b 0) 1 0 + 2 * m) (zero_mask-lanes bytes)
+
+-- what a store of n bytes leaves
+pub put_is : (dest bytes : List ℕ) (at n : ℕ) → length bytes ≡ n → at + n ≤ length dest → put_chunk at dest bytes ≡ take at dest ++ (bytes ++ drop (at + n) dest)
+put_is dest bytes at n l room = grind (arith, put_chunk_is, drop-drop)
+
+-- the bits that a comparison with 0 gives
+pub zeros_by_lanes : (source : List ℕ) (at n : ℕ) → at + n ≤ length source → n ≤ 64
+    → mask_l (map (top 7) (zip2 (λ a b. cond (eqb a b) (2 ^ 8 - 1) 0) (take n (drop at source)) (replicate n 0))) % 2 ^ 64 ≡ zero_mask (take n (drop at source))
+zeros_by_lanes source at n room few =
+    bitmask_splat w8 eqb (take n (drop at source)) n 0 (length-chunk at n source room) few
+    ∙ zero_mask-lanes (take n (drop at source))
+
+-- a zero's bit, and another byte's
+pub set_if : (b : ℕ) → b ≡ 0 → ◌≡◌ {A = ℕ} (if b == 0 then 1 else 0) 1
+set_if b is = ap (λ t. if t then 1 else 0) (eq-eqb b 0 is)
+
+pub clear_if : (b : ℕ) → b ≢ 0 → ◌≡◌ {A = ℕ} (if b == 0 then 1 else 0) 0
+clear_if b other = ap (λ t. if t then 1 else 0) (ne_eqb b 0 other)
+
+-- no bit is set where no byte is 0
+pub zero_mask-none : (bytes : List ℕ) → zero_mask bytes ≡ 0 → All (λ b. b ≢ 0) bytes
+zero_mask-none [] e = All-nil (λ b. b ≢ 0)
+zero_mask-none (b ∷ bytes) e = grind (arith, cases_eq, set_if, All-cons, (zero_mask-none bytes (omega arith)))
+
+-- how many bytes stand before the first zero
+abbrev pub nonzero_len : List ℕ → ℕ
+nonzero_len bytes = prefix_len (λ b. not (eqb b 0)) bytes
+
+pub nonzero_len-lt : (bytes : List ℕ) → zero_mask bytes ≢ 0 → nonzero_len bytes < length bytes
+nonzero_len-lt [] some = absurd (some refl)
+nonzero_len-lt (b ∷ bytes) some = grind (arith, cases_eq, eq-eqb, ne_eqb, nonzero_len-lt bytes)
+
+-- the bytes in front of the first zero
+pub nonzero_len-before : (bytes : List ℕ) → zero_mask bytes ≢ 0 → HasNoZero (take (nonzero_len bytes) bytes)
+nonzero_len-before bytes some = grind (arith, nonzero_len, nonzero_len-lt, length-take-le, All-from_get_or, eq-eqb, get_or-take, not-true, prefix_len_passes)
+
+pub nonzero_len-at : (bytes : List ℕ) → zero_mask bytes ≢ 0 → get_or bytes (nonzero_len bytes) 0 ≡ 0
+nonzero_len-at bytes some = eqb-true _ 0 (not-false _ (prefix_len_stops (λ b. not (eqb b 0)) bytes 0 (nonzero_len-lt bytes some)))
+
+-- the lowest bit that is set says where the first zero is
+pub lowest_bit : (bytes : List ℕ) → length bytes ≤ 64 → zero_mask bytes ≢ 0 → count_trailing_zeros 64 (zero_mask bytes) ≡ nonzero_len bytes
+lowest_bit bytes few some =
+    let e = zero_mask-lanes bytes in
+    ap (count_trailing_zeros 64) (sym e) ∙ trailing_mask_l (λ b. eqb b 0) 64 bytes few (omega arith)
+
+-- the zeros of some bytes behind d other ones, which aren't zeros
+abbrev pub mask_behind : ℕ → List ℕ → ℕ
+mask_behind d bytes = zero_mask (replicate d 1 ++ bytes)
+
+mask_behind-more : (d : ℕ) (bytes : List ℕ) → mask_behind (suc d) bytes ≡ 2 * mask_behind d bytes
+mask_behind-more d bytes = let z : zero_mask (1 ∷ replicate d 1 ++ bytes) ≡ 0 + 2 * mask_behind d bytes = refl in omega arith
+
+pub mask_behind-none : (d : ℕ) (bytes : List ℕ) → mask_behind d bytes ≡ 0 → HasNoZero bytes
+mask_behind-none zero bytes e = zero_mask-none bytes e
+mask_behind-none (suc d) bytes e = let m = mask_behind-more d bytes in mask_behind-none d bytes (omega arith)
+
+mask_behind-some : (d : ℕ) (bytes : List ℕ) → mask_behind d bytes ≢ 0 → zero_mask bytes ≢ 0
+mask_behind-some zero bytes some = some
+mask_behind-some (suc d) bytes some = let m = mask_behind-more d bytes in mask_behind-some d bytes (λ e. some (omega arith))
+
+nonzero_len-behind : (d : ℕ) (bytes : List ℕ) → nonzero_len (replicate d 1 ++ bytes) ≡ d + nonzero_len bytes
+nonzero_len-behind zero bytes = omega arith
+nonzero_len-behind (suc d) bytes = let ih = nonzero_len-behind d bytes in let e : nonzero_len (1 ∷ replicate d 1 ++ bytes) ≡ 1 + nonzero_len (replicate d 1 ++ bytes) = refl in omega arith
+
+-- the first zero taken from a mask
+mask-less : (bytes : List ℕ) → zero_mask bytes ≢ 0 → zero_mask bytes ≡ 2 ^ nonzero_len bytes + mask_behind (nonzero_len bytes + 1) (drop (nonzero_len bytes + 1) bytes)
+mask-less [] some = absurd (some refl)
+mask-less (b ∷ bytes) some = grind (arith, cases_eq, eq-eqb, ne_eqb, mask_behind-more, pow-suc, mask-less bytes)
+
+-- a number's lowest bit, and the others
+pub bit_at-first : (a x : ℕ) → a ≤ 1 → bit_at (a + 2 * x) 0 ≡ a
+bit_at-first a x le = omega (arith, bit_at_lowest (a + 2 * x))
+
+pub bit_at-next : (a x i : ℕ) → a ≤ 1 → bit_at (a + 2 * x) (suc i) ≡ bit_at x i
+bit_at-next a x i le = bit_at-suc (a + 2 * x) i ∙ ap (λ n. bit_at n i) (let half : (a + 2 * x) / 2 ≡ x = omega arith in half)
+
+and-step : (a b x y : ℕ) → a ≤ 1 → b ≤ 1 → bit_and (a + 2 * x) (b + 2 * y) ≡ min a b + 2 * bit_and x y
+and-step a b x y la lb = same_from_bits (bit_and (a + 2 * x) (b + 2 * y)) (min a b + 2 * bit_and x y) by_place
+  where
+    by_place : (i : ℕ) → bit_at (bit_and (a + 2 * x) (b + 2 * y)) i ≡ bit_at (min a b + 2 * bit_and x y) i
+    by_place zero = omega (arith, bit_at_and (a + 2 * x) (b + 2 * y) 0, bit_at-first a x la, bit_at-first b y lb, bit_at-first (min a b) (bit_and x y) (omega arith))
+    by_place (suc i) =
+        omega (arith, bit_at_and (a + 2 * x) (b + 2 * y) (suc i), bit_at_and x y i, bit_at-next a x i la, bit_at-next b y i lb, bit_at-next (min a b) (bit_and x y) i (omega arith))
+
+-- a number and one less: the lowest bit that is set is taken from it
+less-odd : (m z : ℕ) → m ≡ 1 + 2 * z → bit_and m (m - 1) ≡ 0 + 2 * z
+less-odd m z is =
+    let less : m - 1 ≡ 0 + 2 * z = omega arith in
+    ap (bit_and m) less ∙ ap (λ k. bit_and k (0 + 2 * z)) is ∙ and-step 1 0 z z (omega arith) (omega arith) ∙ omega (arith, and_self z)
+
+less-even : (m z : ℕ) → z ≢ 0 → m ≡ 2 * z → bit_and m (m - 1) ≡ 2 * bit_and z (z - 1)
+less-even m z some is =
+    let all : m ≡ 0 + 2 * z = omega arith in
+    let less : m - 1 ≡ 1 + 2 * (z - 1) = omega arith in
+    ap (bit_and m) less ∙ ap (λ k. bit_and k (1 + 2 * (z - 1))) all ∙ and-step 0 1 z (z - 1) (omega arith) (omega arith) ∙ omega arith
+
+-- a mask and one less: the first zero is taken from it
+mask-and : (bytes : List ℕ) → zero_mask bytes ≢ 0 → bit_and (zero_mask bytes) (zero_mask bytes - 1) ≡ mask_behind (nonzero_len bytes + 1) (drop (nonzero_len bytes + 1) bytes)
+mask-and [] some = absurd (some refl)
+mask-and (b ∷ bytes) some =
+    elim (cases_eq b 0) [
+      | inl is ↦ (let here = set_if b is in
+          let none : nonzero_len (b ∷ bytes) ≡ 0 = ap (λ t. cond (not t) (1 + nonzero_len bytes) 0) (eq-eqb b 0 is) in
+          less-odd (zero_mask (b ∷ bytes)) (zero_mask bytes) (omega arith) ∙ ap (λ k. mask_behind (k + 1) (drop (k + 1) (b ∷ bytes))) (sym none))
+      | inr other ↦ (let here = clear_if b other in
+          let more : suc (nonzero_len bytes + 1) ≡ nonzero_len (b ∷ bytes) + 1 = omega (arith, ap (λ t. cond (not t) (1 + nonzero_len bytes) 0) (ne_eqb b 0 other)) in
+          let rest : zero_mask bytes ≢ 0 = λ e. some (omega arith) in
+          less-even (zero_mask (b ∷ bytes)) (zero_mask bytes) rest (omega arith) ∙ ap (λ m. 2 * m) (mask-and bytes rest)
+          ∙ sym (mask_behind-more (nonzero_len bytes + 1) (drop (nonzero_len bytes + 1) bytes)) ∙ ap (λ k. mask_behind k (drop k (b ∷ bytes))) more)
+    ]
+
+length-ones : (n : ℕ) → length {A = ℕ} (replicate n 1) ≡ n
+length-ones n = length-replicate n 1
+
+-- a mask some of whose zeros have been taken from it
+module _ (d : ℕ) (bytes : List ℕ) (few : d + length bytes ≤ 64) (some : mask_behind d bytes ≢ 0) where
+  pub some_left : zero_mask bytes ≢ 0
+  some_left = mask_behind-some d bytes some
+
+  pub lowest_left : count_trailing_zeros 64 (mask_behind d bytes) ≡ d + nonzero_len bytes
+  lowest_left = grind (arith, length-append, length-ones, lowest_bit, nonzero_len-behind)
+
+  left : drop (d + nonzero_len bytes + 1) (replicate d 1 ++ bytes) ≡ drop (nonzero_len bytes + 1) bytes
+  left = ap (λ k. drop k (replicate d 1 ++ bytes)) (omega (arith, length-ones d)) ∙ drop-append-add (replicate d 1) bytes (nonzero_len bytes + 1)
+
+  -- the next zero taken from it
+  pub mask_behind-less : mask_behind d bytes ≡ 2 ^ (d + nonzero_len bytes) + mask_behind (d + nonzero_len bytes + 1) (drop (nonzero_len bytes + 1) bytes)
+  mask_behind-less = grind (arith, nonzero_len-behind, left, mask-less)
+
+  pub mask_behind-and : bit_and (mask_behind d bytes) (mask_behind d bytes - 1) ≡ mask_behind (d + nonzero_len bytes + 1) (drop (nonzero_len bytes + 1) bytes)
+  mask_behind-and = grind (arith, nonzero_len-behind, left, mask-and)
+
+-- where the lowest bit stands no lower than k, the first k bytes aren't zeros
+pub clear_front : (bytes : List ℕ) (k : ℕ) → length bytes ≤ 64 → k ≤ count_trailing_zeros 64 (zero_mask bytes) → HasNoZero (take k bytes)
+clear_front bytes k few le =
+    elim (cases_eq (zero_mask bytes) 0) [
+      | inl none ↦ All-take (λ b. b ≢ 0) k bytes (zero_mask-none bytes none)
+      | inr some ↦ (let front = All-take (λ b. b ≢ 0) k (take (nonzero_len bytes) bytes) (nonzero_len-before bytes some) in
+          subst HasNoZero (take-take k (nonzero_len bytes) bytes (omega (arith, lowest_bit bytes few some))) front)
+    ]
+
+pub zero_mask-lt : (bytes : List ℕ) → zero_mask bytes < 2 ^ length bytes
+zero_mask-lt bytes = rw (← zero_mask-lanes bytes) (subst (λ (n : ℕ). mask_l (map (λ b. eqb b 0) bytes) < 2 ^ n) (length-map bytes (λ b. eqb b 0)) (mask_l-lt (map (λ b. eqb b 0) bytes)))
+
+-- the first zero of a mask is within its bits, and in front of those that are left without it
+module _ (zeros : ℕ) (some : zeros ≢ 0) (few : zeros < 2 ^ 64) where
+  pub lowest-within : (k : ℕ) → zeros < 2 ^ k → count_trailing_zeros 64 zeros < k
+  lowest-within k lt = let one = bit_at-trailing_zeros w64 zeros (omega arith) few in let none = bit_at_above zeros k (count_trailing_zeros 64 zeros) lt in grind arith
+
+  pub lowest-ordered : count_trailing_zeros 64 zeros ≤ count_trailing_zeros 64 (bit_and zeros (zeros - 1))
+  lowest-ordered =
+      let left : ℕ = bit_and zeros (zeros - 1) in
+      let first = bit_at-trailing_zeros w64 zeros (omega arith) few in
+      let le = and_le_l zeros (zeros - 1) in
+      elim (cases_eq left 0) [
+        | inl none ↦ (let all : count_trailing_zeros 64 left ≡ 64 = ap (count_trailing_zeros 64) none ∙ trailing_of_zero 64 in omega arith)
+        | inr other ↦ (let next = bit_at-trailing_zeros w64 left (omega arith) (omega arith) in
+            let both = bit_at_and zeros (zeros - 1) (count_trailing_zeros 64 left) in
+            let none = first.2 (count_trailing_zeros 64 left) in
+            grind arith)
+      ]
+
+-- where every bit is set, each byte is 0
+pub zero_mask-all : (bytes : List ℕ) → zero_mask bytes + 1 ≡ 2 ^ length bytes → bytes ≡ replicate (length bytes) 0
+zero_mask-all [] e = refl
+zero_mask-all (b ∷ bytes) e = grind (arith, pow-suc, cases_eq, set_if, clear_if, zero_mask-all bytes)
+
+pub window_all : (bytes : List ℕ) → length bytes ≤ 32 → zero_mask bytes ≡ 4294967295 → (length bytes ≡ 32) × (bytes ≡ replicate 32 0)
+window_all bytes few e =
+    let most = zero_mask-lt bytes in
+    let long : length bytes ≡ 32 = elim (cases_lt (length bytes) 32) [
+      | inl short ↦ absurd (let p : 2 ^ length bytes ≤ 2 ^ 31 = pow-le-pow_right {n = 2} (omega arith) {i = length bytes} {j = 31} (omega arith) in omega arith)
+      | inr enough ↦ omega arith
+    ] in
+    (long, zero_mask-all bytes (omega (arith, ap (λ k. 2 ^ k) long)) ∙ ap (λ k. replicate k 0) long)

@@ -1,0 +1,6 @@
+use Rattle.std.proofs.Common.{arith}
+use Rattle.cobs_bytes.proofs.bytes.NonzeroCopies.{two-copied}
+use Rattle.cobs_bytes.proofs.lanes.move_two.Goals as goal
+
+pub returns : goal.returns
+returns g c = two-copied c.args.buffer.now c.args.buffer.now c.args.from 0 c.args.len g.row.N _ _ c.args.len c.requires.within (omega arith) c.requires.some c.requires.few (omega arith) (omega arith) (omega arith)

@@ -1,0 +1,24 @@
+use Rattle.std.proofs.Common.{◌≡◌, ◌≢◌, ℕ, List, [], ◌∷◌, length, take, drop, map, replicate, cond, eqb, not, refl, sym, ap, ◌∙◌, inl, inr, arith, w8}
+use Rattle.std.proofs.lemmas.Bool.{cases_eq, ne_eqb, eqb-true}
+use Rattle.std.proofs.lemmas.Simd.{bitmask_splat, length-chunk}
+use lib.Lanes.{mask_l}
+use Rattle.cobs_bytes.proofs.window.is_all.Goals as goal
+
+-- a lane that isn't this byte has its bit in the mask
+bit-other : (byte b : ℕ) → b ≢ byte → ◌≡◌ {A = ℕ} (cond (not (eqb b byte)) 1 0) 1
+bit-other byte b other = ap (λ t. cond (not t) 1 0) (ne_eqb b byte other)
+
+-- where the mask has no bit each lane is the byte
+all_alike : (byte : ℕ) (xs : List ℕ) → mask_l (map (λ x. not (eqb x byte)) xs) ≡ 0 → xs ≡ replicate (length xs) byte
+all_alike byte [] e = refl
+all_alike byte (x ∷ xs) e = elim (cases_eq x byte) [
+  | inl is ↦ (let ih : xs ≡ replicate (length xs) byte = all_alike byte xs (omega arith) in cc)
+  | inr other ↦ absurd (omega (arith, bit-other byte x other))
+]
+
+pub returns : goal.returns
+returns c is =
+    let here : List ℕ = take 32 (drop c.args.at c.args.bytes.now) in
+    let long : length here ≡ 32 = length-chunk c.args.at 32 c.args.bytes.now c.requires in
+    let mask = bitmask_splat w8 (λ a b. not (eqb a b)) here 32 c.args.byte long (omega arith) in
+    all_alike c.args.byte here (sym mask ∙ eqb-true _ 0 is) ∙ ap (λ (k : ℕ). replicate k c.args.byte) long
