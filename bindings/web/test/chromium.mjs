@@ -171,7 +171,10 @@ export class Page {
 
   /** A click with the mouse on the middle of an element. */
   async click(selector) {
-    const place = await this.placeOf(selector);
+    await this.clickAt(await this.placeOf(selector));
+  }
+
+  async clickAt(place) {
     for (const type of ["mousePressed", "mouseReleased"]) await this.send("Input.dispatchMouseEvent", { type, ...place, button: "left", clickCount: 1 });
   }
 
