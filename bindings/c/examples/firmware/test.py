@@ -108,6 +108,7 @@ def main():
             shown.close()
         finally:
             machine.kill()
+            machine.wait()
     lines = [f"message {len(it)} {it.hex()}" for it in wanted]
     for line in found:
         print(line)
