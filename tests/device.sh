@@ -63,7 +63,7 @@ on_arm() { # MACHINE PROGRAM ARGUMENT..: its flags for QEMU are in $icount
     shift 2
     arguments=arg=program
     for it; do arguments=$arguments,arg=$it; done
-    timeout 120 qemu-system-arm -M "$machine" ${icount:-} -nographic -monitor none -serial null \
+    timeout 900 qemu-system-arm -M "$machine" ${icount:-} -nographic -monitor none -serial null \
         -semihosting-config "enable=on,target=native,$arguments" -kernel "$program"
 }
 
@@ -81,7 +81,7 @@ on_riscv() { # PROGRAM ARGUMENT..
     shift
     arguments=
     for it; do arguments=$arguments,arg=$it; done
-    timeout 120 qemu-system-riscv32 -M virt -bios none -nographic -monitor none -serial null \
+    timeout 900 qemu-system-riscv32 -M virt -bios none -nographic -monitor none -serial null \
         -semihosting-config "enable=on,target=native$arguments" -kernel "$program" 2>&1 || :
 }
 

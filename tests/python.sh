@@ -90,7 +90,7 @@ assert decoder.feed(b"\x06hello\x06wor") == []
 assert repr(decoder.feed(b"ld\x00\x03hi\x00")) == repr([jcobs.Message(b"hello\x00world"), jcobs.Message(b"hi")])'
 }
 tests() { # PYTHON FOLDER
-    in_work timeout 300 "$1" -m pytest -q -rs "$2"
+    in_work timeout 1800 "$1" -m pytest -q -rs "$2"
 }
 strict() { # PYTHON FILES..
     interpreter=$1

@@ -169,7 +169,7 @@ PROGRAM
         arm-none-eabi-gcc -mcpu=cortex-m4 -mthumb -Os -std=c99 -I"$there/src" --specs=rdimon.specs \
             -T "$tree/bindings/c/device/tests/mps2.ld" "$tree/bindings/c/device/tests/start_arm.c" "$work/device.c" \
             "$there/src/cortex-m4/libjcobs.a" -o "$work/device.elf" &&
-        prints '0 hello\n' timeout 60 qemu-system-arm -M mps2-an386 -nographic -monitor none -serial null \
+        prints '0 hello\n' timeout 900 qemu-system-arm -M mps2-an386 -nographic -monitor none -serial null \
             -semihosting-config enable=on,target=native,arg=program -kernel "$work/device.elf"
 }
 

@@ -15,7 +15,7 @@ STREAM = b"\x06hello\x00\x01\x00\x03\xff\x07\x00\x03\x07\x00\x04abc\x00\x02"
 
 
 def run(*words, data=b"", status=0):
-    ran = subprocess.run([sys.executable, "-m", "jcobs", *words], input=data, capture_output=True, timeout=60)
+    ran = subprocess.run([sys.executable, "-m", "jcobs", *words], input=data, capture_output=True, timeout=250)
     assert ran.returncode == status, ran.stderr
     return ran.stdout if status == 0 else ran.stderr.decode()
 
@@ -82,7 +82,7 @@ def test_no_pyserial(tmp_path):
 def test_output_that_no_one_reads():
     command = f"'{sys.executable}' -m jcobs | head -n 1"
     stream = jcobs.encode(b"hello", terminated=True) * 100_000
-    ran = subprocess.run(command, shell=True, input=stream, capture_output=True, timeout=60)
+    ran = subprocess.run(command, shell=True, input=stream, capture_output=True, timeout=250)
     assert (ran.stdout, ran.stderr) == (b"message 5 hello\n", b"")
 
 
@@ -113,7 +113,7 @@ def test_show_a_port(port):
                 lines = (shown.stdout.read() or b"").splitlines()
             assert set(lines) == {b"message 2 hi"}
             shown.send_signal(signal.SIGINT)
-            assert (shown.wait(20), shown.stderr.read()) == (130, b"")
+            assert (shown.wait(250), shown.stderr.read()) == (130, b"")
         finally:
             shown.kill()
 

@@ -4,7 +4,6 @@ import asyncio
 import io
 import os
 import threading
-import time
 
 import pytest
 
@@ -83,25 +82,36 @@ def pair():
     other, device = os.openpty()
     tty.setraw(other)
     tty.setraw(device)
-    with serial.Serial(os.ttyname(device), timeout=0.2) as port, os.fdopen(other, "r+b", buffering=0) as end:
+    with serial.Serial(os.ttyname(device)) as port, os.fdopen(other, "r+b", buffering=0) as end:
         os.close(device)
         yield port, end
 
 
 def test_serial_port(pair):
-    port, end = pair
-    reader = jcobs.FrameReader(port, max_length=5)
+    port, end = pair  # without a timeout, so that a read which waits for more bytes than there are has no end
+    outcomes = iter(jcobs.FrameReader(port, max_length=5))
     end.write(STREAM[:5])
-    begin = time.monotonic()
-    assert next(iter(reader)) == OUTCOMES[0]
-    assert time.monotonic() - begin < 0.15, "it waited for the timeout"
+    assert next(outcomes) == OUTCOMES[0]
     end.write(STREAM[5:])
-    assert list(reader) == OUTCOMES[1:]
-    assert reader.unfinished
+    assert [next(outcomes) for _ in OUTCOMES[1:]] == OUTCOMES[1:]
     end.write(b"\x01\0")
-    assert list(reader) == [jcobs.Message(b"\x01")]
+    assert next(outcomes) == jcobs.Message(b"\x01")
     port.write(jcobs.encode(b"back", terminated=True))
     assert next(iter(jcobs.FrameReader(end))) == jcobs.Message(b"back")
+
+
+def test_the_timeout_of_a_serial_port_ends_the_iteration(pair):
+    port, end = pair
+    port.timeout = 0.05
+    reader = jcobs.FrameReader(port)
+    assert list(reader) == []
+    end.write(b"\x03h")
+    while not reader.unfinished:  # what was written may come after a timeout
+        assert list(reader) == []
+    end.write(b"i\0")
+    while not (found := list(reader)):
+        pass
+    assert (found, reader.unfinished) == ([jcobs.Message(b"hi")], False)
 
 
 def test_serial_port_in_full(pair):
@@ -110,7 +120,8 @@ def test_serial_port_in_full(pair):
     stream = b"".join(jcobs.encode(message, terminated=True) for message in messages)
     writer = threading.Thread(target=lambda: [end.write(stream[at : at + 512]) for at in range(0, len(stream), 512)])
     writer.start()
-    assert [outcome.data for outcome in jcobs.FrameReader(port)] == messages
+    outcomes = iter(jcobs.FrameReader(port))
+    assert [next(outcomes).data for _ in messages] == messages
     writer.join()
 
 

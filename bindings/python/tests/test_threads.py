@@ -5,7 +5,6 @@ import subprocess
 import sys
 import textwrap
 import threading
-import time
 
 import pytest
 
@@ -43,8 +42,9 @@ def lets_others_run(call):
 )
 def test_long_calls_release_the_gil(call, make):
     data = make(LONG)
-    # on a busy machine the other thread may come too late
-    assert any(lets_others_run(lambda: call(data)) for _ in range(10))
+    # on a busy machine the other thread may come too late, so it has another try until the limit of time is over
+    while not lets_others_run(lambda: call(data)):
+        pass
 
 
 def test_short_calls_keep_the_gil():
@@ -76,8 +76,7 @@ def test_a_coder_in_use_raises(coder, calls):
         worker.start()
         try:
             with pytest.raises(RuntimeError, match="in use by another thread"):
-                end = time.monotonic() + 8
-                while time.monotonic() < end:
+                while True:  # until the limit of time is over
                     value = getattr(coder, call)
                     if call != "unfinished":
                         value(*[b""] * (call == "feed"))
@@ -224,6 +223,6 @@ def test_subinterpreters():
         [sys.executable, "-W", "error", "-c", textwrap.dedent(INTERPRETERS)],
         capture_output=True,
         text=True,
-        timeout=120,
+        timeout=250,
     )
     assert (ran.returncode, ran.stdout, ran.stderr) == (0, "done\n", "")

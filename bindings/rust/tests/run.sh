@@ -169,7 +169,7 @@ on_aarch64() { # COMPILER
     RUSTC=$1 CARGO_TARGET_DIR=$work/aarch64 \
         CARGO_TARGET_AARCH64_UNKNOWN_LINUX_GNU_LINKER=aarch64-linux-gnu-gcc \
         CARGO_TARGET_AARCH64_UNKNOWN_LINUX_GNU_RUNNER='qemu-aarch64 -L /usr/aarch64-linux-gnu' \
-        timeout 300 cargo test --offline --target aarch64-unknown-linux-gnu --lib --tests
+        timeout 1800 cargo test --offline --target aarch64-unknown-linux-gnu --lib --tests
 }
 
 part 'units, signatures, differences and vectors' units

@@ -47,13 +47,21 @@ export function once(act) {
   };
 }
 
-/** Calls `act` a while after the last time it was asked: for live regions, which would speak at each key. */
-export function settled(act, milliseconds = 400) {
+/**
+ * A view's status: `show(text)` sets it in sight at once, and `speak(text)` says it, or another text, to those who hear the page.
+ * Of texts that follow each other faster than `milliseconds` the last is spoken, since a live region would speak at each key.
+ */
+export function statusOf(view, milliseconds) {
   let timer = 0;
-  return () => {
+  const speak = (text) => {
     clearTimeout(timer);
-    timer = setTimeout(act, milliseconds);
+    timer = setTimeout(() => (byId(`${view}-spoken`).textContent = text), milliseconds);
   };
+  const show = (text) => {
+    byId(`${view}-status`).textContent = text;
+    speak(text);
+  };
+  return { show, speak };
 }
 
 /** Offers a text as a file. */

@@ -1,7 +1,7 @@
 // The view of a line: a device by Web Serial, or the loop; what comes in, and what is sent.
 import { Connection } from "./connection.js";
 import { parseHex, printHex, printText } from "./hex.js";
-import { byId, complain, count, counted, once, readRoom, readSentinel, save, settled } from "./inputs.js";
+import { byId, complain, count, counted, once, readRoom, readSentinel, save, statusOf } from "./inputs.js";
 import { Log, readLog, writeLog } from "./log.js";
 import { LoopPort } from "./loop.js";
 import { Rows } from "./rows.js";
@@ -23,7 +23,7 @@ let isPaused = false;
 let chosen = -1; // the number of the row that the keyboard is at
 let known = [];
 
-const status = (text) => (byId("line-status").textContent = text);
+const status = statusOf("line", 800);
 const fault = (text) => complain(byId("line-connect"), text, byId("line-error"));
 
 function counters() {
@@ -44,17 +44,13 @@ const paint = once(() => {
   if (isAtEnd && log.entries.length > 0) rows.reveal(log.entries.length - 1);
 });
 
-const say = settled(() => {
-  if (connection) status(`Connected. ${counted(totals.messages, "message")}, ${count(totals.broken)} broken, ${count(totals.tooLong)} too long.`);
-}, 800);
-
 function add(entry) {
   const box = byId("line-log");
   const isAtEnd = box.scrollTop + box.clientHeight >= box.scrollHeight - ROW_HEIGHT;
   const dropped = log.add(entry);
   if (dropped > 0 && !isAtEnd && !isPaused) box.scrollTop -= dropped * ROW_HEIGHT; // the rows in sight stay where they are
   paint();
-  say();
+  if (connection) status.speak(`Connected. ${counted(totals.messages, "message")}, ${count(totals.broken)} broken, ${count(totals.tooLong)} too long.`); // which the counters show
 }
 
 function receive({ message, broken, tooLong }, raw) {
@@ -155,7 +151,7 @@ async function connect(choose, name, skipFirst) {
   setConnected(connection !== null);
   if (connection === null) return;
   byId("line-close").focus();
-  status(`Connected to ${name}.`);
+  status.show(`Connected to ${name}.`);
   const own = connection;
   await own.receive();
   if (connection === own) await disconnect();
@@ -173,7 +169,7 @@ async function disconnect() {
   connectedPort = null;
   isBusy = false;
   setConnected(false);
-  status("Not connected.");
+  status.show("Not connected.");
   if (wasHere) byId(byId("line-connect").disabled ? "line-loop" : "line-connect").focus();
   listKnown();
 }
@@ -223,7 +219,7 @@ async function loadLog(file) {
   if (error) return;
   clear();
   for (const entry of entries) add(entry);
-  status(`${counted(entries.length, "row")} of ${file.name}.`);
+  status.show(`${counted(entries.length, "row")} of ${file.name}.`);
 }
 
 /** Lists the devices that were chosen before, which need no question. */

@@ -7,7 +7,7 @@ import { Canvas } from "./canvas.js";
 import { FORMS, toClipboard } from "./copy.js";
 import { Field } from "./field.js";
 import { printHex } from "./hex.js";
-import { byId, complain, count, counted, once, readSentinel, settled } from "./inputs.js";
+import { byId, complain, count, counted, once, readSentinel, statusOf } from "./inputs.js";
 import { BADGES, MESSAGE, Pieces } from "./pieces.js";
 import { LONGEST, setSteps, startSteps } from "./steps.js";
 import { setStream } from "./stream.js";
@@ -56,11 +56,13 @@ function notePasted(text) {
 
 const isFull = (at) => (frame[at] ^ sentinel) === 255;
 
-const say = settled(() => {
+const status = statusOf("message", 400);
+
+function say() {
   const blocks = byId("message-blocks").dataset.count;
-  byId("message-status").textContent = `${counted(message.length, "byte")} in a frame of ${counted(frame.length, "byte")}: ${blocks === "1" ? "one block" : `${count(Number(blocks))} blocks`}.${readAs}`
-    + (sentinel === 0 ? "" : ` Each byte of the frame is XORed with ${printHex([sentinel])}, so that ${printHex([sentinel])} is in no frame.`);
-});
+  status.show(`${counted(message.length, "byte")} in a frame of ${counted(frame.length, "byte")}: ${blocks === "1" ? "one block" : `${count(Number(blocks))} blocks`}.${readAs}`
+    + (sentinel === 0 ? "" : ` Each byte of the frame is XORed with ${printHex([sentinel])}, so that ${printHex([sentinel])} is in no frame.`));
+}
 
 const steps = () => setSteps(message, message.length <= LONGEST ? encode(message) : null);
 

@@ -6,7 +6,7 @@ import { Canvas } from "./canvas.js";
 import { FORMS, toClipboard } from "./copy.js";
 import { Field } from "./field.js";
 import { printHex, printText } from "./hex.js";
-import { byId, complain, count, counted, once, readRoom, readSentinel, settled } from "./inputs.js";
+import { byId, complain, count, counted, once, readRoom, readSentinel, statusOf } from "./inputs.js";
 import { isLog, readLog, streamOf } from "./log.js";
 import { BADGES, BROKEN, MESSAGE, Pieces, TOO_LONG } from "./pieces.js";
 
@@ -113,7 +113,9 @@ async function copy() {
   byId("stream-copied").textContent = isLong ? "The stream is too long for a link." : !isCopied ? refused : isLink ? "The link is copied." : `${counted(stream.length, "byte")} copied.`;
 }
 
-const say = settled(() => {
+const status = statusOf("stream", 250);
+
+function say() {
   const parts = [MESSAGE, BROKEN, TOO_LONG].map((kind) => [pieces.countOf(kind), BADGES[kind]]);
   const said = parts.filter(([number]) => number > 0).map(([number, name]) => (name === "message" ? counted(number, name) : `${count(number)} ${name}`));
   let text = `${counted(stream.length, "byte")}, ${counted(pieces.ended, "piece")}${said.length > 0 ? `: ${said.join(", ")}` : ""}.`;
@@ -125,8 +127,8 @@ const say = settled(() => {
     const altered = pieces.changedFrom(before, hurt).filter((at) => pieces.kinds[at] === MESSAGE).length;
     if (altered > 0) text += ` ${counted(altered, "message")} that nobody sent: COBS doesn't notice such damage, a CRC in the message does.`;
   }
-  byId("stream-status").textContent = text;
-}, 250);
+  status.show(text);
+}
 
 function fillOutcome(element, at) {
   const kind = pieces.kinds[at];

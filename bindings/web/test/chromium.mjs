@@ -3,8 +3,9 @@ import { spawn } from "node:child_process";
 import { mkdtemp, rm, writeFile } from "node:fs/promises";
 import { tmpdir } from "node:os";
 import { join } from "node:path";
+import { until } from "./tally.mjs";
 
-const ANSWER_MILLISECONDS = 60_000;
+const ANSWER_MILLISECONDS = 600_000;
 const KEYS = {
   Enter: { code: "Enter", windowsVirtualKeyCode: 13, text: "\r" },
   Tab: { code: "Tab", windowsVirtualKeyCode: 9 },
@@ -136,17 +137,13 @@ export class Page {
     return result.value;
   }
 
-  async until(expression, milliseconds = 60_000) {
-    const end = Date.now() + milliseconds;
-    for (;;) {
-      try {
-        if (await this.value(expression)) return;
-      } catch (error) {
-        if (Date.now() > end) throw error;
-      }
-      if (Date.now() > end) throw new Error(`this never came true: ${expression}`);
-      await new Promise((done) => setTimeout(done, 25));
-    }
+  until(expression) {
+    return until(() => this.value(expression), expression);
+  }
+
+  /** Waits until the page was drawn, with what a change of size makes it do. */
+  drawn() {
+    return this.value("new Promise((done) => requestAnimationFrame(() => requestAnimationFrame(() => done())))");
   }
 
   text(selector) {
@@ -171,7 +168,10 @@ export class Page {
 
   /** A click with the mouse on the middle of an element. */
   async click(selector) {
-    const place = await this.placeOf(selector);
+    await this.clickAt(await this.placeOf(selector));
+  }
+
+  async clickAt(place) {
     for (const type of ["mousePressed", "mouseReleased"]) await this.send("Input.dispatchMouseEvent", { type, ...place, button: "left", clickCount: 1 });
   }
 

@@ -2,7 +2,7 @@
 import * as cobs from "../jcobs.js";
 import { memoryOf } from "./memory.mjs";
 import { FRAME, MESSAGE, all, bytes, fresh, randomBytes, source, wasm } from "./module-setup.mjs";
-import { check, equal, holds, throws } from "./tally.mjs";
+import { check, equal, holds, throws, until } from "./tally.mjs";
 
 await check("10,000 decoders are closed in any order in no time", () => {
   const decoders = Array.from({ length: 10_000 }, () => new cobs.FrameDecoder({ maxLength: 10 }));
@@ -34,9 +34,10 @@ await check("a stream that isn't read to its end gives its memory back at once",
     await throws(() => all(source(["text"]).pipeThrough(new own.FrameDecoderStream({ maxLength: 1 << 20 }))), (error) => error instanceof TypeError, "a chunk that is no bytes");
     const waiting = new own.FrameDecoderStream({ maxLength: 1 << 20 });
     const held = waiting.writable.getWriter();
-    const late = held.write(chunk).then(() => "written", () => "failed");
+    let end;
+    held.write(chunk).then(() => (end = "written"), () => (end = "failed"));
     await waiting.readable.cancel(new Error("no more"));
-    equal(await Promise.race([late, new Promise((done) => setTimeout(done, 500))]) !== undefined, true, "a write that waits has an end");
+    await until(() => end, "a write that waits has an end");
   }
   holds(pages() <= before + 3 * 17, `memory had ${before} pages and has ${pages()}`);
 }));
@@ -78,10 +79,16 @@ if (globalThis.gc) {
     const cobs = await fresh();
     await cobs.load(wasm);
     const before = pages();
-    for (let round = 0; round < 20; round++) {
-      for (let i = 0; i < 20; i++) new cobs.FrameDecoder({ maxLength: 1 << 20 }).push(bytes(1, 0), () => {});
-      globalThis.gc();
-      await new Promise((done) => setTimeout(done, 5));
+    let collected = 0;
+    const collector = new FinalizationRegistry(() => collected++);
+    const letGo = () => {
+      const decoder = new cobs.FrameDecoder({ maxLength: 1 << 20 });
+      decoder.push(bytes(1, 0), () => {});
+      collector.register(decoder);
+    };
+    for (let round = 1; round <= 20; round++) {
+      for (let i = 0; i < 20; i++) letGo();
+      await until(() => (globalThis.gc(), collected === 20 * round), "each decoder is collected");
     }
     holds(pages() < before + 100 * 17, `memory had ${before} pages and has ${pages()}, and 400 decoders of 17 pages were made`);
   }));

@@ -153,7 +153,7 @@ await check("a stream waits until what it gave out is read", async () => {
   const writer = stream.writable.getWriter();
   let count = 0;
   const writes = Array.from({ length: 5 }, () => writer.write(bytes(2, 7, 0, 2, 8, 0)).then(() => count++));
-  await new Promise((done) => setTimeout(done, 20));
+  for (let turn = 0; turn < 100; turn++) await new Promise((done) => setImmediate(done));
   equal(count, 0, "writes done before a read");
   const reader = stream.readable.getReader();
   for (let i = 0; i < 10; i++) equal((await reader.read()).value, { message: bytes(7 + (i % 2)) });

@@ -5,11 +5,11 @@ import { tmpdir } from "node:os";
 import { join } from "node:path";
 import { fileURLToPath, pathToFileURL } from "node:url";
 import { FakePort } from "./port.js";
-import { check, equal, holds, report } from "./tally.mjs";
+import { check, equal, holds, report, until } from "./tally.mjs";
 
 const web = fileURLToPath(new URL("..", import.meta.url));
 const folder = await mkdtemp(join(tmpdir(), "jcobs-package-"));
-const run = (command, ...args) => execFileSync(command, args, { cwd: folder, encoding: "utf8", stdio: ["ignore", "pipe", "pipe"], timeout: 60_000 });
+const run = (command, ...args) => execFileSync(command, args, { cwd: folder, encoding: "utf8", stdio: ["ignore", "pipe", "pipe"], timeout: 600_000 });
 const has = (command) => {
   try {
     return run("sh", "-c", `command -v ${command}`) !== "";
@@ -61,7 +61,7 @@ try {
     port.give(9, 9, 0, 3, 10);
     port.give(11, 0, 2, 7, 0);
     await send(Uint8Array.of(5));
-    while (shown.length < 2) await new Promise((done) => setTimeout(done, 5));
+    await until(() => shown.length === 2, "two messages are shown");
     equal(shown, [[10, 11], [7]], "the messages");
     equal(port.sent, [2, 5, 0], "what was sent");
     await close();

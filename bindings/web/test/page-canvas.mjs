@@ -7,10 +7,15 @@ const cursor = (page, box) => page.value(`document.getElementById("${box}").getA
 const isFrame = (page, digits) => page.until(`document.getElementById("message-frame").textContent === "${digits}"`);
 const isMessage = (page, text) => page.until(`document.getElementById("message-input").value === ${JSON.stringify(text)}`);
 
-/** Puts the mouse on the middle of an element. */
+/** Puts the mouse on the middle of an element, and says where that is. */
 async function point(page, selector) {
-  await page.send("Input.dispatchMouseEvent", { type: "mouseMoved", ...(await page.placeOf(selector)) });
+  const place = await page.placeOf(selector);
+  await page.send("Input.dispatchMouseEvent", { type: "mouseMoved", ...place });
+  return place;
 }
+
+/** Where an element is in the page, however that is scrolled. */
+const boxOf = (page, id) => page.value(`(({ left, top, width, height }) => [left + scrollX, top + scrollY, width, height])(document.getElementById("${id}").getBoundingClientRect())`);
 
 for (const [sentinel, over, code] of [["00", "0b: the frame has it as it is.", "Byte 3, 02: a code"], ["aa", "0b: the frame has it XORed with the sentinel, as a1.", "Byte 3, a8 (02 XORed with the sentinel): a code"]]) {
   await check(`canvas: each byte is explained under the mouse, with the sentinel ${sentinel}`, () => on("message", async (page) => {
@@ -33,20 +38,47 @@ for (const [sentinel, over, code] of [["00", "0b: the frame has it as it is.", "
   }));
 }
 
-for (const [name, options] of [["a phone", { width: 360, isPhone: true }], ["a computer", { width: 900 }]]) {
-  await check(`canvas: an explanation moves nothing under the mouse, on ${name}`, () => on("message", async (page) => {
+for (const [name, options] of [["a phone", { width: 360, isPhone: true }], ["a small window", { width: 900 }], ["a computer", { width: 1280, height: 800 }]]) {
+  await check(`canvas: neither status nor explanation moves a byte of a message, on ${name}`, () => on("message", async (page) => {
+    const said = (words) => page.until(`document.getElementById("message-status").textContent === "510 bytes in a frame of 513 bytes: 3 blocks.${words}"`);
+    await chooseHex(page);
+    await page.click("#message-input");
+    await page.selectAll();
+    await page.paste("09 ".repeat(510)); // no frame, so that nothing is offered
+    await said("");
+    const before = await boxOf(page, "message-drawing");
     await page.fill("#message-sentinel", "aa");
-    await page.until('document.getElementById("message-byte-5").getAttribute("aria-label").includes("aa, sentinel")');
-    await page.click('[data-run="255"]');
-    await page.until('document.getElementById("message-length").dataset.bytes === "255"');
-    const top = () => page.value('document.getElementById("message-byte-0").getBoundingClientRect().top + scrollY');
-    await point(page, "#message-byte-1");
-    const before = await top();
-    for (const [place, words] of [["#message-byte-0", "It marks a full block"], ["#message-over-1", "Byte 0 of the message, 01"], ["#message-drawing .spot.none", "The first code stands"]]) {
+    await said(" Each byte of the frame is XORed with aa, so that aa is in no frame.");
+    equal(await boxOf(page, "message-drawing"), before, "the place of the drawing, after a longer status");
+    const columns = await page.value('document.querySelectorAll("#message-drawing .row:first-child .frame .spot").length');
+    for (const [line, place, words] of [
+      [0, "#message-byte-0", "It marks a full block"],
+      [0, "#message-over-1", "Byte 0 of the message, 09"],
+      [0, "#message-drawing .spot.none", "The first code stands"],
+      [Math.floor(255 / columns), "#message-byte-255", "a code after a full block, for no zero of the message. It marks a full block"],
+    ]) {
+      await page.value(`document.getElementById("message-drawing").scrollTop = ${93 * line}`);
       await point(page, place);
       await explained(page, "message", words);
-      equal(await top(), before, `the place of the first byte, at ${place}`);
+      equal(await boxOf(page, "message-drawing"), before, `the place of the drawing, with the mouse on ${place}`);
     }
+  }, options));
+  await check(`canvas: a click damages a byte, and one at the same place mends it, on ${name}`, () => on("stream", async (page) => {
+    const whole = "28 bytes, 5 pieces: 4 messages, 1 broken. The last bytes have no sentinel behind them yet.";
+    const said = (words) => page.until(`document.getElementById("stream-status").textContent === "${whole}${words}"`);
+    await fillStream(page, STREAM);
+    await said("");
+    await page.click("#stream-copy");
+    await page.until('document.getElementById("stream-copied").textContent === "The link is copied."');
+    const place = await point(page, "#stream-byte-1");
+    await explained(page, "stream", "Byte 1, 0a: byte 0 of the message");
+    const before = await boxOf(page, "stream-pieces");
+    await page.clickAt(place);
+    await said(" 1 byte damaged: 4 of the 5 pieces came through as before. 1 message that nobody sent: COBS doesn't notice such damage, a CRC in the message does.");
+    equal(await boxOf(page, "stream-pieces"), before, "the place of the pieces, after a longer status");
+    await page.clickAt(place);
+    await said("");
+    equal(await page.value('document.querySelectorAll("#stream-pieces [aria-selected=true]").length'), 0, "damaged bytes");
   }, options));
 }
 

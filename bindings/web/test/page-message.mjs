@@ -16,6 +16,34 @@ await check("message: text that is typed", () => on("message", async (page) => {
   await page.until('document.getElementById("message-status").textContent.includes("5 bytes in a frame of 6 bytes: one block")');
 }));
 
+/** Holds back what the page does later until `doLater` is called, so that no clock decides what comes before it. */
+const BY_HAND = `{
+  const later = new Map();
+  let number = 0;
+  globalThis.setTimeout = (act) => (later.set(++number, act), number);
+  globalThis.clearTimeout = (timer) => void later.delete(timer);
+  globalThis.doLater = () => later.forEach((act, timer) => (later.delete(timer), act()));
+}`;
+
+await check("message: the status is in sight at once, and spoken when it has settled", () => on("message", async (page) => {
+  const texts = () => page.value('["length", "status", "spoken"].map((name) => document.getElementById(`message-${name}`).textContent)');
+  const first = "4 bytes in a frame of 5 bytes: 2 blocks.";
+  await page.value("doLater()");
+  equal(await texts(), ["4 bytes", first, first], "the message's length, the status, and what is spoken");
+  await chooseText(page);
+  await page.click("#message-input");
+  await page.selectAll();
+  for (const [at, key] of [..."hello"].entries()) {
+    await page.type(key);
+    await page.until(`document.getElementById("message-length").dataset.bytes === "${at + 1}"`);
+    const counted = `${at + 1} byte${at > 0 ? "s" : ""}`;
+    equal(await texts(), [counted, `${counted} in a frame of ${at + 2} bytes: one block.`, first], `they after ${at + 1} keys`);
+  }
+  await page.value("doLater()");
+  equal((await texts())[2], "5 bytes in a frame of 6 bytes: one block.", "what is spoken then");
+  equal(await page.value('["status", "spoken"].map((name) => [document.getElementById(`message-${name}`).getAttribute("aria-hidden"), document.getElementById(`message-${name}`).getAttribute("role")])'), [["true", null], [null, "status"]], "who gets which");
+}, { before: BY_HAND }));
+
 await check("message: hex that is typed, and its drawing", () => on("message", async (page) => {
   await chooseHex(page);
   await page.fill("#message-input", "0A,0b 0x00:0c");

@@ -24,6 +24,7 @@ export async function on(view, act, options = {}) {
   try {
     await page.until(READY);
     await page.until(`!document.getElementById("${view}").hidden`);
+    await page.drawn();
     await act(page);
     equal(page.faults, [], "what the page complained of on its console");
   } finally {

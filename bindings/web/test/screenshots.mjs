@@ -15,7 +15,6 @@ async function shot(name, view, options, act) {
   await page.send("Emulation.setTimezoneOverride", { timezoneId: "UTC" });
   await page.until("document.documentElement.dataset.ready === 'yes'");
   await act(page);
-  await new Promise((done) => setTimeout(done, 1200)); // until the status lines have been set
   await page.value("document.activeElement.matches('.rows') || document.activeElement.blur(), scrollTo({ top: 0, behavior: 'instant' })");
   await page.screenshot(join(folder, name));
   await page.close();
@@ -30,8 +29,8 @@ async function message(page) {
 
 async function stream(page) {
   await page.click("#stream-byte-3");
-  await page.click("#stream-byte-24");
-  await page.until('document.querySelectorAll("#stream-pieces [aria-selected=true]").length > 0');
+  await page.click("#stream-byte-11");
+  await page.until('document.querySelectorAll("#stream-pieces [aria-selected=true]").length === 2');
   await page.value('document.getElementById("stream-pieces").scrollTop = 0, document.activeElement.blur()');
 }
 
@@ -39,12 +38,13 @@ async function line(page) {
   await page.click("#line-noise");
   await page.click("#line-loop");
   await page.until('!document.getElementById("line-submit").disabled');
+  let rows = 0;
   for (const text of ["hello", "temp=21.5", "temp=21.6", "temp=21.7"]) {
     await page.fill("#line-text", text);
     await page.press("Enter");
-    await new Promise((done) => setTimeout(done, 60));
+    rows += 2; // what is sent, and what comes of it
+    await page.until(`document.querySelectorAll("#line-log .row").length === ${rows}`);
   }
-  await page.until('document.querySelectorAll("#line-log .row").length === 8');
   await page.click("#line-row-6 .badge");
 }
 

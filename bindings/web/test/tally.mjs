@@ -41,6 +41,17 @@ export async function throws(act, matches, what) {
   throw new Error(`${what}: nothing was thrown`);
 }
 
+/** Waits until `act` gives something true, which it may promise, and returns it. An error of its own is the end only when time is up. */
+export async function until(act, what = act) {
+  for (const end = Date.now() + 120_000; ; await new Promise((done) => setTimeout(done, 25))) {
+    const found = await Promise.resolve().then(act).catch((error) => {
+      if (Date.now() > end) throw error;
+    });
+    if (found) return found;
+    if (Date.now() > end) throw new Error(`this never came true: ${what}`);
+  }
+}
+
 export function report(name) {
   console.log(`${name}: ${passed} passed, ${failed} failed`);
   process.exitCode = failed === 0 ? 0 : 1;

@@ -5,7 +5,7 @@ import { spawn } from "node:child_process";
 import { readdir } from "node:fs/promises";
 import { createServer } from "node:net";
 import { serve } from "../serve.mjs";
-import { check, count, equal, holds, report } from "./tally.mjs";
+import { check, count, equal, holds, report, until } from "./tally.mjs";
 
 const [, , browser, folder] = process.argv;
 const { server, address } = await serve(0, { conformance: folder });
@@ -19,24 +19,10 @@ const env = { ...process.env, WEBKIT_DISABLE_SANDBOX_THIS_IS_DANGEROUS: "1", WEB
 const driver = spawn("WebKitWebDriver", [`--port=${port}`], { env, stdio: "ignore" });
 
 async function call(method, path, body) {
-  const response = await fetch(`http://127.0.0.1:${port}${path}`, { method, body: body && JSON.stringify(body), signal: AbortSignal.timeout(120_000) });
+  const response = await fetch(`http://127.0.0.1:${port}${path}`, { method, body: body && JSON.stringify(body), signal: AbortSignal.timeout(660_000) });
   const { value } = await response.json();
   if (value?.error) throw new Error(`${path}: ${value.error}: ${value.message}`);
   return value;
-}
-
-async function until(act) {
-  const end = Date.now() + 60_000;
-  for (;;) {
-    try {
-      const found = await act();
-      if (found) return found;
-    } catch (error) {
-      if (Date.now() > end) throw error;
-    }
-    if (Date.now() > end) throw new Error(`this never came true: ${act}`);
-    await new Promise((done) => setTimeout(done, 50));
-  }
 }
 
 let session;
@@ -49,14 +35,19 @@ const value = (expression) => call("POST", `/session/${session}/execute/async`, 
 const type = (keys) => call("POST", `/session/${session}/actions`, {
   actions: [{ type: "key", id: "keys", actions: [...keys].flatMap((key) => [{ type: "keyDown", value: key }, { type: "keyUp", value: key }]) }],
 });
-/** The mouse to the middle of an element, and a click if it is wanted. */
+/** The mouse to the middle of an element that is in sight and no longer moves, and a click if it is wanted. */
 async function point(id, isClick = false) {
-  const [x, y] = await value(`(() => {
-    const element = document.getElementById("${id}");
-    element.scrollIntoView({ block: "center", behavior: "instant" });
-    const { left, top, width, height } = element.getBoundingClientRect();
-    return [left + width / 2, top + height / 2].map(Math.round);
-  })()`);
+  let last;
+  const [x, y] = await until(async () => {
+    const before = last;
+    last = await value(`(() => {
+      const element = document.getElementById("${id}");
+      element.scrollIntoView({ block: "center", behavior: "instant" });
+      const { left, top, width, height } = element.getBoundingClientRect();
+      return width > 0 && [left + width / 2, top + height / 2].map(Math.round);
+    })()`);
+    return last && String(last) === String(before) && last;
+  });
   const press = isClick ? [{ type: "pointerDown", button: 0 }, { type: "pointerUp", button: 0 }] : [];
   await call("POST", `/session/${session}/actions`, { actions: [{ type: "pointer", id: "mouse", actions: [{ type: "pointerMove", x, y, duration: 0 }, ...press] }] });
 }
@@ -68,7 +59,7 @@ try {
   const started = await call("POST", "/session", { capabilities: { alwaysMatch: { "webkitgtk:browserOptions": options } } });
   session = started.sessionId;
   console.log(`webkit: in ${started.capabilities.browserName} ${started.capabilities.browserVersion}`);
-  await call("POST", `/session/${session}/timeouts`, { script: 100_000 });
+  await call("POST", `/session/${session}/timeouts`, { script: 600_000 });
   const names = (await readdir(folder)).filter((name) => name.endsWith(".txt")).sort();
 
   await go("test/speed.html");

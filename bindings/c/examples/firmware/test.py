@@ -8,11 +8,10 @@ shows what comes back; without it this program decodes it.
 """
 import os
 import re
-import select
+import signal
 import subprocess
 import sys
 import tempfile
-import time
 import tty
 from pathlib import Path
 
@@ -47,37 +46,43 @@ def message(piece):
     return bytes(out)
 
 
-def lines_of(terminal, watch, count):
-    """The first lines that cobs_watch shows of what comes, or would show."""
+def lines_of(terminal, watch):
+    """The lines that cobs_watch shows of what comes, or would show."""
     if watch:
-        shown = subprocess.Popen([watch], stdin=terminal, stdout=subprocess.PIPE, text=True)
-        for _ in range(count):
-            yield shown.stdout.readline().rstrip("\n")
-        shown.kill()
+        with subprocess.Popen([watch], stdin=terminal, stdout=subprocess.PIPE, text=True) as shown:
+            try:
+                while line := shown.stdout.readline():
+                    yield line.rstrip("\n")
+            finally:
+                shown.kill()
         return
     held = b""
-    end = time.monotonic() + 20
-    while count and time.monotonic() < end:
-        if select.select([terminal], [], [], 1)[0]:
-            held += os.read(terminal, 4096)
+    while True:
+        held += os.read(terminal, 4096)
         *pieces, held = held.split(b"\0")
-        for piece in pieces[:count]:
-            count -= 1
+        for piece in pieces:
             text = message(piece)
             yield f"message {len(text)}" + (f" {text.hex()}" if text else "")
 
 
+def late(number, stack):
+    sys.exit("no answer within five minutes")
+
+
 def main():
+    signal.signal(signal.SIGALRM, late)
+    signal.alarm(300)
     watch = sys.argv[1] if len(sys.argv) > 1 else None
     good = [b"e", b"ehello", bytes([101, 0, 0, 255, 0]), b"a\1\2\3\4", b"a" + bytes([255] * 40)]
-    stream = frame(good[0])
-    stream += b"\x09broken\0"  # says nine bytes, and has six
-    stream += frame(good[1]) + b"\0\0" + frame(good[2])
-    stream += frame(b"e" + bytes([7] * 100))  # longer than a command may be
-    stream += frame(good[3])
     cut = frame(b"ecut off in the middle")
-    stream += cut[:9] + b"\0"  # cut off by a zero
-    stream += frame(good[4]) + frame(b"s")
+    bursts = [  # each ends with a command that is answered, and fits into the firmware's ring
+        frame(good[0]),
+        b"\x09broken\0" + frame(good[1]),  # says nine bytes, and has six
+        b"\0\0" + frame(good[2]),
+        frame(b"e" + bytes([7] * 100)) + frame(good[3]),  # longer than a command may be
+        cut[:9] + b"\0" + frame(good[4]),  # cut off by a zero
+        frame(b"s"),
+    ]
     sums = [b"a\0\x0a", b"a" + (255 * 40).to_bytes(2, "big")]
     wanted = [*good[:3], *sums, bytes([ord("s"), 6, 2, 1])]
     with tempfile.TemporaryDirectory() as work:
@@ -95,13 +100,15 @@ def main():
                 sys.exit(f"QEMU: {said}")
             terminal = os.open(path[0], os.O_RDWR | os.O_NOCTTY)
             tty.setraw(terminal)
-            time.sleep(1.5)  # until QEMU has seen that the terminal is open
-            for at in range(0, len(stream), 16):  # as slowly as a serial line
-                os.write(terminal, stream[at : at + 16])
-                time.sleep(0.02)
-            found = list(lines_of(terminal, watch, len(wanted)))
+            shown = lines_of(terminal, watch)
+            found = []
+            for burst in bursts:
+                os.write(terminal, burst)  # the terminal holds the first one until QEMU has seen that it is open
+                found.append(next(shown))
+            shown.close()
         finally:
             machine.kill()
+            machine.wait()
     lines = [f"message {len(it)} {it.hex()}" for it in wanted]
     for line in found:
         print(line)
