@@ -1,0 +1,40 @@
+//! Lists of messages, and their frames one after the other.
+use cobs::{encode_frames, encode_frames_room, max_encoding_length};
+use std::alloc::{AllocError, Global};
+use std::process::Abort;
+use std::test::Fail;
+
+/// The empty message, a zero, and two bytes.
+pub fn three_messages(alloc: Global) -> Result<Vec<Vec<u8>>, AllocError> {
+    let mut messages = Vec::new(alloc);
+    messages.push(Vec::new(alloc))?;
+    messages.push([0].to_vec(alloc)?)?;
+    messages.push([1, 2].to_vec(alloc)?)?;
+    Ok(messages)
+}
+
+/// `encode_frames` of messages that are few and short enough.
+pub fn encode_few(
+    rt: &impl Abort,
+    alloc: Global,
+    messages: &[Vec<u8>],
+) -> Result<Vec<u8>, AllocError> {
+    let mut room = 0usize;
+    'by_message: for message in messages {
+        assert!(rt; message.len() < 10_000 && room < 1_000_000);
+        room += max_encoding_length(message.len()) + 1;
+    }
+    assert!(rt; room < 2_000_000);
+    encode_frames(alloc, messages)
+}
+
+#[test]
+fn frames_of_several_messages(rt: HostRuntime) -> Result<(), Fail> {
+    let messages = three_messages(rt.alloc())?;
+    assert_eq!(rt; encode_frames_room(&messages), Some(9));
+    let stream = encode_few(&rt, rt.alloc(), &messages)?;
+    assert_eq!(rt; stream.as_slice(), [1, 0, 1, 1, 0, 3, 1, 2, 0].as_slice());
+    assert_eq!(rt; encode_frames_room(&[]), Some(0));
+    assert!(rt; encode_few(&rt, rt.alloc(), &[])?.is_empty());
+    Ok(())
+}
