@@ -1,10 +1,1 @@
-pub mod Crc
-pub mod Seen
-pub mod Timed
-pub mod Counted
-pub mod Dump
-pub mod Json
-pub mod Shown
-pub mod Watched
-pub mod Live
-pub mod Sent
+pub mod Options

@@ -19,30 +19,17 @@
 //! the usage. Where nobody reads the output any more, the program ends with status 0.
 #![tactic(auto)]
 
-mod clock;
-mod crc;
-mod dump;
-mod fault;
-mod json;
-mod line;
 mod options;
-mod seen;
-mod send;
-mod show;
-mod shown;
-mod tally;
-#[cfg(test)]
-mod tests;
 
-use clock::Timer;
-use fault::WatchFault;
+use cobs_live::clock::Timer;
+use cobs_live::fault::WatchFault;
+use cobs_live::send::run_send;
+use cobs_live::show::run_show;
+use cobs_live::tally::Tally;
 use options::{Task, task_of};
-use send::run_send;
-use show::run_show;
 use std::env::{self, VarError};
 use std::io::{BufReader, BufWriter, IsTerminal};
 use std::process::ExitCode;
-use tally::Tally;
 
 /// How many bytes of output are held before they are written, 128 KiB: the digits of a chunk of input.
 const OUTPUT_LEN: usize = 131_072;

@@ -1,17 +1,17 @@
 //! What the command line asks for.
 ghost use Rattle.std.specs.Prelude.{◌≡◌, ◌≤◌, IfOk};
-ghost use Rattle.cobs_watch.specs.Watched.{IsOffered};
+ghost use Rattle.cobs_watch.specs.Options.{IsOffered};
 
-use crate::clock::Stamp;
-use crate::crc::{Checksum, Crc};
-use crate::send;
-use crate::shown::{Filter, Settings, Style, View};
 use clap::error::ErrorKind;
 use clap::{Arg, ArgAction, ArgMatches, Command, Error, value_parser};
+use cobs_live::clock::Stamp;
+use cobs_live::crc::{Checksum, Crc};
+use cobs_live::send;
+use cobs_live::shown::{Filter, Settings, Style, View};
 use std::alloc::Global;
 
 /// The length in bytes of the longest message that may be asked for, 16 MiB.
-pub const MAX_LENGTH: usize = 16_777_216;
+const MAX_LENGTH: usize = 16_777_216;
 
 /// The length in bytes of the longest message, where none is asked for.
 const LENGTH: &str = "65536";
@@ -33,7 +33,7 @@ const SEND_EXAMPLES: &str = "Examples:
 
 /// What the program is to do.
 #[derive(Debug, PartialEq, Eq, Drop)]
-pub enum Task {
+pub(crate) enum Task {
     /// Show a stream. Count what came, where it is asked for: at its end, and at intervals of this many milliseconds.
     Show {
         settings: Settings,
@@ -49,7 +49,7 @@ pub enum Task {
 /// words leave that open.
 ///
 /// An error is also how help and the version are asked for: it has the text to print and the status to end with.
-pub fn task_of(alloc: Global, words: &[String], auto_color: bool) -> Result<Task, Error>
+pub(crate) fn task_of(alloc: Global, words: &[String], auto_color: bool) -> Result<Task, Error>
     ensures offered { IfOk result IsOffered }
 {
     let show = with_show_options(

@@ -1,0 +1,21 @@
+-- Lemmas on bytes sixteen a line.
+use Rattle.std.proofs.Common.{◌≡◌, ◌+◌, ◌-◌, ℕ, add-one, List, [], ◌++◌, length, take, drop, min, inl, inr, refl, ap, sym, ◌∙◌, arith, length-drop, take_all}
+use Rattle.std.proofs.lemmas.Bool.{cases_lt}
+use Rattle.cobs_live.specs.Dump.{upto}
+
+pub upto-none : (f : ℕ → List ℕ) → upto f 0 ≡ []
+unfolding upto
+upto-none f = refl
+
+pub upto-more : (f : ℕ → List ℕ) (n : ℕ) → upto f (n + 1) ≡ upto f n ++ f n
+unfolding upto
+upto-more f n = rw add-one refl
+
+-- the bytes of a row, as a slice has them
+pub row_of : (bytes : List ℕ) (start end : ℕ) → end ≡ min (length bytes) (start + 16) → take (end - start) (drop start bytes) ≡ take 16 (drop start bytes)
+row_of bytes start end e = elim (cases_lt (length bytes) (start + 16)) [
+  | inl short ↦ take_all (end - start) (drop start bytes) (omega (arith, length-drop start bytes)) ∙ sym (take_all 16 (drop start bytes) (omega (arith, length-drop start bytes)))
+  | inr long ↦
+      let whole : end - start ≡ 16 = omega arith in
+      ap (λ (n : ℕ). take n (drop start bytes)) whole
+]

@@ -1,0 +1,116 @@
+-- Lemmas on the pieces that have ended in a stream, and on what a buffer holds of the last one.
+use Rattle.std.proofs.Common.{◌≡◌, ◌≤◌, ◌<◌, nat_le, ℕ, Bool, true, false, List, [], ◌∷◌, ◌++◌, length, take, drop, map, min, refl, sym, ap, ◌∙◌, arith, append_assoc, append-nil, length-append, length-take, Option, Some, None}
+use Rattle.std.specs.Prelude.{if◌then◌else◌}
+use Rattle.std.proofs.Math.ListN.{drop_of_length-le}
+use Rattle.std.proofs.Math.Seq.{take-append_seam}
+use Rattle.std.proofs.lemmas.Bool.{cases_Bool, leb-true, leb-false}
+use Rattle.std.proofs.lemmas.List.{length-map, map-append, nil_from_length}
+use Rattle.cobs.specs.Feed.{DecoderAfter, Phase}
+use Rattle.cobs.specs.FeedPiece.{TakesPiece, outcome_at}
+use Rattle.cobs.specs.Grammar.{HasNoZero}
+use Rattle.cobs.specs.Laws.{StreamLaw}
+use Rattle.cobs.specs.Overwritten.{overwritten}
+use Rattle.cobs.specs.Piece.{output}
+use Rattle.cobs.specs.Push.{last_piece}
+use Rattle.cobs.specs.Stream.{Outcome, Broken as OfBroken, TooLong as OfTooLong, but_last, ended_pieces, outcome_of, stream_outcomes, unended}
+use Rattle.cobs.specs.declared.dec.frame_decoder.PieceEnd.{PieceEnd}
+use Rattle.cobs.specs.declared.dec.frame_decoder.PieceEnd.TheVariants as ends
+use Rattle.cobs_live.specs.Crc.{body_of, is_checked}
+use Rattle.cobs_live.specs.Seen.{Ended, Seen, all_ended, ended_in, held, seen_message, seen_of, seen_piece, whole, with_part}
+use Rattle.cobs_live.specs.declared.crc.Checksum.{Checksum}
+use Rattle.cobs_live.specs.declared.seen.Kind.TheVariants.{Message, BadCrc}
+
+-- THE PIECES THAT HAVE ENDED
+
+pub all_ended-append : (law : StreamLaw) (t u : List ℕ) (n : ℕ) → all_ended (t ++ u) n ≡ all_ended t n ++ all_ended (unended t ++ u) n
+unfolding all_ended
+all_ended-append law t u n = ap (map (ended_in n)) (law.pieces t u) ∙ map-append (ended_in n) (ended_pieces t) (ended_pieces (unended t ++ u))
+
+pub length-all_ended : (t : List ℕ) (n : ℕ) → length (all_ended t n) ≡ length (stream_outcomes t n)
+unfolding all_ended stream_outcomes
+length-all_ended t n = length-map (ended_pieces t) (ended_in n) ∙ sym (length-map (ended_pieces t) (λ p. outcome_of p n))
+
+pub all_ended-none : (t : List ℕ) (n : ℕ) → stream_outcomes t n ≡ [] → all_ended t n ≡ []
+all_ended-none t n none = nil_from_length (all_ended t n) (length-all_ended t n ∙ ap length none)
+
+-- THE ONE THAT A ZERO ENDS
+
+one_piece : (law : StreamLaw) (q : List ℕ) (n : ℕ) (outcome : Outcome) → HasNoZero q → outcome ∷ [] ≡ stream_outcomes (q ++ 0 ∷ []) n → (all_ended (q ++ 0 ∷ []) n ≡ ended_in n q ∷ []) × (outcome ≡ outcome_of q n)
+unfolding all_ended stream_outcomes ended_pieces but_last
+one_piece law [] n outcome h told = absurd cc
+one_piece law (b ∷ q) n outcome h told =
+    let one = law.piece (b ∷ q) (λ none. cc) h in
+    (ap (map (ended_in n)) one, let same = told ∙ ap (map (λ p. outcome_of p n)) one in cc)
+
+one_ended : (law : StreamLaw) (t : List ℕ) (n : ℕ) (outcome : Outcome) → stream_outcomes t n ≡ [] → outcome ∷ [] ≡ stream_outcomes (t ++ 0 ∷ []) n → (all_ended (t ++ 0 ∷ []) n ≡ ended_in n (unended t) ∷ []) × (outcome ≡ outcome_of (unended t) n)
+one_ended law t n outcome none told =
+    let behind = all_ended-append law t (0 ∷ []) n ∙ ap (λ (z : List Ended). z ++ all_ended (unended t ++ 0 ∷ []) n) (all_ended-none t n none) in
+    let one = one_piece law (unended t) n outcome (law.begun t) (told ∙ law.cut t (0 ∷ []) n ∙ ap (λ (z : List Outcome). z ++ stream_outcomes (unended t ++ 0 ∷ []) n) none) in
+    (behind ∙ one.0, one.1)
+
+-- WHAT THE BUFFER HOLDS OF IT
+
+broken-fits : (q : List ℕ) (n count : ℕ) → OfBroken count ≡ outcome_of q n → (count ≡ length (output q)) × (length (output q) ≤ n)
+unfolding outcome_of
+broken-fits q n count e = (grind (arith, nat_le, leb-true, cases_Bool), grind (arith, nat_le, leb-true, cases_Bool))
+
+too_long-exceeds : (q : List ℕ) (n : ℕ) → OfTooLong ≡ outcome_of q n → n < length (output q)
+unfolding outcome_of
+too_long-exceeds q n e = grind (arith, nat_le, leb-false, cases_Bool)
+
+held-broken : (out buffer : List ℕ) → length out ≤ length buffer → take (min (length out) (length (overwritten buffer out))) (overwritten buffer out) ≡ take (length buffer) out
+held-broken out buffer fits =
+    let front : List ℕ = take (length buffer) out in
+    let rest : List ℕ = drop (length out) buffer in
+    let size : min (length out) (length (front ++ rest)) ≡ length front = omega (arith, length-append front rest, length-take (length buffer) out, fits) in
+    ap (λ (k : ℕ). take k (front ++ rest)) size ∙ take-append_seam front rest
+
+held-too_long : (out buffer : List ℕ) → length buffer < length out → overwritten buffer out ≡ take (length buffer) out
+held-too_long out buffer more = ap (λ (l : List ℕ). take (length buffer) out ++ l) (drop_of_length-le buffer (omega arith)) ∙ append-nil (take (length buffer) out)
+
+-- of a message only its own bytes are seen
+message-alone : (checksum : Option Checksum) (message d e : List ℕ) → with_part true (seen_message checksum message) d ≡ with_part true (seen_message checksum message) e
+message-alone None message d e = refl
+message-alone (Some c) message d e = elim (is_checked c message) as (λ (b : Bool). with_part true (if b then whole Message (body_of c message) else whole BadCrc message) d ≡ with_part true (if b then whole Message (body_of c message) else whole BadCrc message) e) [ true ↦ refl | false ↦ refl ]
+
+seen-held : (checksum : Option Checksum) (partial : Bool) (q buffer buffer' : List ℕ) (end : PieceEnd) → buffer' ≡ overwritten buffer (output q) → outcome_at end buffer' ≡ outcome_of q (length buffer)
+    → (seen : Seen) → seen ≡ seen_of checksum (outcome_at end buffer') → with_part partial seen (held seen.kind seen.len buffer') ≡ seen_piece checksum partial (ended_in (length buffer) q)
+seen-held checksum false q buffer buffer' end holds same seen is = is ∙ ap (seen_of checksum) same
+seen-held checksum true q buffer buffer' (ends.Message k) holds same seen is =
+    ap (λ (s : Seen). with_part true s (held seen.kind seen.len buffer')) is
+    ∙ message-alone checksum (take k buffer') (held seen.kind seen.len buffer') (take (length buffer) (output q))
+    ∙ ap (λ (o : Outcome). with_part true (seen_of checksum o) (take (length buffer) (output q))) same
+seen-held checksum true q buffer buffer' (ends.Broken count) holds same seen is =
+    let size = broken-fits q (length buffer) count same in
+    let bytes : take (min count (length buffer')) buffer' ≡ take (length buffer) (output q) = rw (size.0, holds) (held-broken (output q) buffer size.1) in
+    ap (λ (s : Seen). with_part true s (held s.kind s.len buffer')) is
+    ∙ ap (λ (l : List ℕ). with_part true (seen_of checksum (OfBroken count)) l) bytes
+    ∙ ap (λ (o : Outcome). with_part true (seen_of checksum o) (take (length buffer) (output q))) same
+seen-held checksum true q buffer buffer' ends.TooLong holds same seen is =
+    let bytes : buffer' ≡ take (length buffer) (output q) = holds ∙ held-too_long (output q) buffer (too_long-exceeds q (length buffer) same) in
+    ap (λ (s : Seen). with_part true s (held s.kind s.len buffer')) is
+    ∙ ap (λ (l : List ℕ). with_part true (seen_of checksum OfTooLong) l) bytes
+    ∙ ap (λ (o : Outcome). with_part true (seen_of checksum o) (take (length buffer) (output q))) same
+
+-- the piece that a decoder has come to the end of, and what is seen of it
+pub record IsLastPiece (checksum : Option Checksum) (partial : Bool) (stream : List ℕ) (n : ℕ) (seen : Seen) : Type 0 where
+  pub piece : Ended
+  pub ended : all_ended stream n ≡ piece ∷ []
+  pub seen_so : seen ≡ seen_piece checksum partial piece
+
+pub IsLastPiece-taken : StreamLaw → ((t : List ℕ) (n : ℕ) → stream_outcomes t n ≡ [] → last_piece (t ++ 0 ∷ []) ≡ unended t) → {buffer bytes buffer' : List ℕ} {phase phase' : Phase} {end : PieceEnd} {count : ℕ} (h : TakesPiece buffer phase bytes (Some (end, count)) buffer' phase') (p : List ℕ) → DecoderAfter buffer phase p → (checksum : Option Checksum) (partial : Bool) (seen : Seen)
+    → seen ≡ seen_of checksum (outcome_at end buffer') → IsLastPiece checksum partial (p ++ take count bytes) (length buffer) (with_part partial seen (held seen.kind seen.len buffer'))
+IsLastPiece-taken law last_ended {buffer} {bytes} {buffer'} {phase} {phase'} {end} {count} h p d checksum partial seen is =
+    let n : ℕ = length buffer in
+    let front : List ℕ = h.ends.front in
+    let cut : p ++ take count bytes ≡ (p ++ front) ++ 0 ∷ [] = ap (λ (l : List ℕ). p ++ l) h.ends.taken ∙ sym (append_assoc p front (0 ∷ [])) in
+    let none : stream_outcomes (p ++ front) n ≡ [] = h.ends.none_before p d.phased in
+    let q : List ℕ = unended (p ++ front) in
+    let one = one_ended law (p ++ front) n (outcome_at end buffer') none (h.takes.outcomes p d ∙ ap (λ (l : List ℕ). stream_outcomes l n) cut) in
+    let last : last_piece (p ++ take count bytes) ≡ q = ap last_piece cut ∙ last_ended (p ++ front) n none in
+    let holds : buffer' ≡ overwritten buffer (output q) = h.holds p d ∙ ap (λ (l : List ℕ). overwritten buffer (output l)) last in
+    record {
+      piece = ended_in n q;
+      ended = ap (λ (l : List ℕ). all_ended l n) cut ∙ one.0;
+      seen_so = seen-held checksum partial q buffer buffer' end holds one.1 seen is;
+    }

@@ -1,0 +1,123 @@
+-- Lemmas on showing the pieces that end in some bytes.
+use Rattle.std.proofs.Common.{◌≡◌, ◌+◌, ◌-◌, ℕ, List, [], ◌∷◌, ◌++◌, length, take, drop, refl, sym, ap, ◌∙◌, subst, append_assoc, append-nil, arith, length-append, length-drop, take-append-drop, take_all, Option}
+use Rattle.std.proofs.Math.Seq.{take-add}
+use Rattle.std.proofs.KnownBytes.{Appends-nil, Appends-trans}
+use Rattle.std.specs.Io.KnownBytes.{Appends}
+use Rattle.cobs.specs.Stream.{Outcome, stream_outcomes, unended}
+use Rattle.cobs.specs.Feed.{DecoderAfter, Phase}
+use Rattle.cobs.specs.Laws.{StreamLaw}
+use Rattle.cobs_live.specs.Counted.{IsTallyOf, counted}
+use Rattle.cobs_live.specs.Live.{ShowsBytes}
+use Rattle.cobs_live.proofs.PartLemmas.{all_ended-append, all_ended-none, length-all_ended}
+use Rattle.cobs_live.specs.Seen.{Ended, Seen, all_ended, seen_piece}
+use Rattle.cobs_live.specs.Shown.{in_view, shown, shown_from}
+use Rattle.cobs_live.specs.Timed.{IsReadAt, time_of}
+use Rattle.cobs_live.specs.declared.clock.Times.{Times}
+use Rattle.cobs_live.specs.declared.shown.View.{View}
+use Rattle.cobs_live.specs.declared.tally.Tally.{Tally}
+
+-- what is shown of outcomes, and of others behind them
+pub shown_from-append : (view : View) (times : ℕ → ℕ) (index : ℕ) (xs ys : List Ended) → shown_from view times index (xs ++ ys) ≡ shown_from view times index xs ++ shown_from view times (index + length xs) ys
+unfolding shown_from
+shown_from-append view times index [] ys = ap (λ (k : ℕ). shown_from view times k ys) (omega arith)
+shown_from-append view times index (x ∷ xs) ys =
+    let next : index + 1 + length xs ≡ index + length (x ∷ xs) = omega arith in
+    ap (λ (l : List ℕ). shown view times index x ++ l) (shown_from-append view times (index + 1) xs ys ∙ ap (λ (k : ℕ). shown_from view times (index + 1) xs ++ shown_from view times k ys) next)
+    ∙ sym (append_assoc (shown view times index x) (shown_from view times (index + 1) xs) (shown_from view times (index + length (x ∷ xs)) ys))
+
+pub shown_from-none : (view : View) (times : ℕ → ℕ) (index : ℕ) → shown_from view times index [] ≡ []
+unfolding shown_from
+shown_from-none view times index = refl
+
+pub shown_from-one : (view : View) (times : ℕ → ℕ) (index : ℕ) (piece : Ended) → shown_from view times index (piece ∷ []) ≡ shown view times index piece
+unfolding shown_from
+shown_from-one view times index piece = append-nil (shown view times index piece)
+
+-- what is shown of a piece, given the tally that counts it too, and the clock before it
+pub shown_now : (view : View) (times : ℕ → ℕ) (tally : Tally) (clock : Times) (gone : List Outcome) (outcome : Outcome) (read : ℕ) (before after : Option (List ℕ)) (seen : Seen) (piece : Ended) → seen ≡ seen_piece view.checksum view.partial piece
+    → IsTallyOf view.checksum tally (gone ++ outcome ∷ []) read → IsReadAt times (length gone) clock
+    → Appends before after (in_view view tally.pieces (time_of view.stamp clock.last clock.now) seen) → Appends before after (shown view times (length gone) piece)
+shown_now view times tally clock gone outcome read before after seen piece same t r written =
+    let size : length (gone ++ outcome ∷ []) ≡ length gone + 1 = length-append gone (outcome ∷ []) in
+    let is : tally.pieces ≡ counted (length gone + 1) = t.pieces ∙ ap counted size in
+    let now : clock.now ≡ times (length gone + 1) = sym (r.now (length gone + 1) (omega arith)) in
+    subst (λ (s : Seen). Appends before after (in_view view (counted (length gone + 1)) (time_of view.stamp (times (length gone)) (times (length gone + 1))) s)) same
+    (subst (λ (k : ℕ). Appends before after (in_view view (counted (length gone + 1)) (time_of view.stamp (times (length gone)) k) seen)) now
+    (subst (λ (k : ℕ). Appends before after (in_view view (counted (length gone + 1)) (time_of view.stamp k clock.now) seen)) r.last
+    (subst (λ (k : ℕ). Appends before after (in_view view k (time_of view.stamp clock.last clock.now) seen)) is written)))
+
+pub ShowsBytes-start : (law : StreamLaw) (view : View) (times : ℕ → ℕ) (p buffer : List ℕ) (phase : Phase) (gone : List Outcome) (read : ℕ) (before : Option (List ℕ)) (tally : Tally) (clock : Times) → DecoderAfter buffer phase p
+    → IsTallyOf view.checksum tally gone read → IsReadAt times (length gone) clock → ShowsBytes view times (length buffer) p [] gone read buffer phase before before tally clock
+ShowsBytes-start law view times p buffer phase gone read before tally clock d t r =
+    let none : stream_outcomes (p ++ []) (length buffer) ≡ [] = ap (λ (l : List ℕ). stream_outcomes l (length buffer)) (append-nil p) ∙ law.none p (length buffer) d.phased.piece in
+    let no_piece : all_ended (p ++ []) (length buffer) ≡ [] = all_ended-none (p ++ []) (length buffer) none in
+    record {
+      written = rw (no_piece, shown_from-none view times (length gone)) (Appends-nil before);
+      taken = rw (append-nil p, law.same p d.phased.piece) d;
+      tallied = rw (none, append-nil) t;
+      timed = rw (none, append-nil) r;
+      len = refl;
+    }
+
+module _ (law : StreamLaw) {view : View} {times : ℕ → ℕ} {n : ℕ} {p bytes : List ℕ} {gone : List Outcome} {read : ℕ} {buffer : List ℕ} {phase : Phase} {before after : Option (List ℕ)} {tally : Tally} {clock : Times}
+    (s : ShowsBytes view times n p bytes gone read buffer phase before after tally clock) (rest : List ℕ) where
+  left-on : unended (p ++ (bytes ++ rest)) ≡ unended (unended (p ++ bytes) ++ rest)
+  left-on = ap unended (sym (append_assoc p bytes rest)) ∙ law.left (p ++ bytes) rest
+
+  outcomes-on : stream_outcomes (p ++ (bytes ++ rest)) n ≡ stream_outcomes (p ++ bytes) n ++ stream_outcomes (unended (p ++ bytes) ++ rest) n
+  outcomes-on = ap (λ (l : List ℕ). stream_outcomes l n) (sym (append_assoc p bytes rest)) ∙ law.cut (p ++ bytes) rest n
+
+  pieces-on : all_ended (p ++ (bytes ++ rest)) n ≡ all_ended (p ++ bytes) n ++ all_ended (unended (p ++ bytes) ++ rest) n
+  pieces-on = ap (λ (l : List ℕ). all_ended l n) (sym (append_assoc p bytes rest)) ∙ all_ended-append law (p ++ bytes) rest n
+
+  -- the bytes through the end of one more piece
+  pub ShowsBytes-piece : {buffer' : List ℕ} {phase' : Phase} {after' : Option (List ℕ)} {tally' : Tally} {clock' : Times} (outcome : Outcome) (piece : Ended) → length buffer' ≡ length buffer → DecoderAfter buffer' phase' (unended (unended (p ++ bytes) ++ rest))
+      → outcome ∷ [] ≡ stream_outcomes (unended (p ++ bytes) ++ rest) (length buffer)
+      → all_ended (unended (p ++ bytes) ++ rest) (length buffer) ≡ piece ∷ []
+      → Appends after after' (shown view times (length (gone ++ stream_outcomes (p ++ bytes) n)) piece)
+      → IsTallyOf view.checksum tally' ((gone ++ stream_outcomes (p ++ bytes) n) ++ outcome ∷ []) read
+      → IsReadAt times (length ((gone ++ stream_outcomes (p ++ bytes) n) ++ outcome ∷ [])) clock'
+      → ShowsBytes view times n p (bytes ++ rest) gone read buffer' phase' before after' tally' clock'
+  ShowsBytes-piece {after' = after'} outcome piece len taken told ended written counted timed =
+      let one : outcome ∷ [] ≡ stream_outcomes (unended (p ++ bytes) ++ rest) n = subst (λ (k : ℕ). outcome ∷ [] ≡ stream_outcomes (unended (p ++ bytes) ++ rest) k) s.len told in
+      let last : all_ended (unended (p ++ bytes) ++ rest) n ≡ piece ∷ [] = subst (λ (k : ℕ). all_ended (unended (p ++ bytes) ++ rest) k ≡ piece ∷ []) s.len ended in
+      let number : length gone + length (all_ended (p ++ bytes) n) ≡ length (gone ++ stream_outcomes (p ++ bytes) n) = omega (arith, length-append gone (stream_outcomes (p ++ bytes) n), length-all_ended (p ++ bytes) n) in
+      let text : shown_from view times (length gone) (all_ended (p ++ (bytes ++ rest)) n) ≡ shown_from view times (length gone) (all_ended (p ++ bytes) n) ++ shown view times (length (gone ++ stream_outcomes (p ++ bytes) n)) piece =
+      ap (shown_from view times (length gone)) (pieces-on ∙ ap (λ (l : List Ended). all_ended (p ++ bytes) n ++ l) last)
+      ∙ shown_from-append view times (length gone) (all_ended (p ++ bytes) n) (piece ∷ [])
+      ∙ ap (λ (l : List ℕ). shown_from view times (length gone) (all_ended (p ++ bytes) n) ++ l)
+      (shown_from-one view times (length gone + length (all_ended (p ++ bytes) n)) piece ∙ ap (λ (k : ℕ). shown view times k piece) number) in
+      record {
+        written = rw text (Appends-trans before after after' _ _ s.written written);
+        taken = rw left-on taken;
+        tallied = rw (outcomes-on, sym one, sym (append_assoc gone (stream_outcomes (p ++ bytes) n) (outcome ∷ []))) counted;
+        timed = rw (outcomes-on, sym one, sym (append_assoc gone (stream_outcomes (p ++ bytes) n) (outcome ∷ []))) timed;
+        len = len ∙ s.len;
+      }
+
+  -- bytes in which no piece ends
+  pub ShowsBytes-rest : {buffer' : List ℕ} {phase' : Phase} → length buffer' ≡ length buffer → DecoderAfter buffer' phase' (unended (unended (p ++ bytes) ++ rest)) → [] ≡ stream_outcomes (unended (p ++ bytes) ++ rest) (length buffer)
+      → ShowsBytes view times n p (bytes ++ rest) gone read buffer' phase' before after tally clock
+  ShowsBytes-rest len taken told =
+      let none : [] ≡ stream_outcomes (unended (p ++ bytes) ++ rest) n = subst (λ (k : ℕ). [] ≡ stream_outcomes (unended (p ++ bytes) ++ rest) k) s.len told in
+      let same : stream_outcomes (p ++ (bytes ++ rest)) n ≡ stream_outcomes (p ++ bytes) n = outcomes-on ∙ ap (λ (l : List Outcome). stream_outcomes (p ++ bytes) n ++ l) (sym none) ∙ append-nil (stream_outcomes (p ++ bytes) n) in
+      let same_pieces : all_ended (p ++ (bytes ++ rest)) n ≡ all_ended (p ++ bytes) n = pieces-on ∙ ap (λ (l : List Ended). all_ended (p ++ bytes) n ++ l) (all_ended-none (unended (p ++ bytes) ++ rest) n (sym none)) ∙ append-nil (all_ended (p ++ bytes) n) in
+      record {
+        written = rw same_pieces s.written;
+        taken = rw left-on taken;
+        tallied = rw same s.tallied;
+        timed = rw same s.timed;
+        len = len ∙ s.len;
+      }
+
+-- the bytes behind some of them, as a slice has them
+rest-of : (at : ℕ) (bytes : List ℕ) → take (length bytes - at) (drop at bytes) ≡ drop at bytes
+rest-of at bytes = take_all (length bytes - at) (drop at bytes) (omega (arith, length-drop at bytes))
+
+-- the bytes through the end of a piece that was found behind others
+pub take-piece : (at count : ℕ) (bytes : List ℕ) → take (at + count) bytes ≡ take at bytes ++ take count (take (length bytes - at) (drop at bytes))
+take-piece at count bytes = take-add at count bytes ∙ ap (λ (l : List ℕ). take at bytes ++ take count l) (sym (rest-of at bytes))
+
+-- and all of them
+pub take-rest : (at : ℕ) (bytes : List ℕ) → take at bytes ++ take (length bytes - at) (drop at bytes) ≡ bytes
+take-rest at bytes = ap (λ (l : List ℕ). take at bytes ++ l) (rest-of at bytes) ∙ take-append-drop at bytes

@@ -1,0 +1,11 @@
+use Rattle.std.proofs.Common.{rules, add-one}
+use Rattle.cobs_live.specs.Crc.{after_bits}
+use Rattle.cobs_live.proofs.crc.Params.after_byte.Goals as goal
+
+pub by_bit-init : goal.by_bit-init
+unfolding after_bits
+by_bit-init c = search rules
+
+pub by_bit-preserved : goal.by_bit-preserved
+unfolding after_bits
+by_bit-preserved c = rw add-one (search rules)

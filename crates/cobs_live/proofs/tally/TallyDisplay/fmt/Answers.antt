@@ -1,0 +1,9 @@
+use Rattle.std.proofs.Common.{true, false}
+use Rattle.cobs_live.proofs.TallyLemmas.{text-flag}
+use Rattle.cobs_live.proofs.tally.TallyDisplay.fmt.Goals as goal
+
+pub returns-then-self-clause-writes : goal.returns-then-self-clause-writes
+returns-then-self-clause-writes g c = λ plain ok. rw (text-flag c.args.self.now true c.if-self.true) (c.write.ensures.writes plain ok)
+
+pub returns-else-self-clause-writes : goal.returns-else-self-clause-writes
+returns-else-self-clause-writes g c = λ plain ok. rw (text-flag c.args.self.now false c.if-self.false) (c.write-else-self.ensures.writes plain ok)

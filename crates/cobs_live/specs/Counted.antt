@@ -1,0 +1,36 @@
+-- How much came.
+use Rattle.std.specs.Prelude.{ℕ, ◌≡◌, ◌-◌, ◌^◌, ◌==◌, min, Bool, List, length, filter, Option, is_some}
+use Rattle.cobs.specs.Stream.{Outcome}
+use Rattle.cobs_live.specs.Seen.{seen_of}
+use Rattle.cobs_live.specs.declared.crc.Checksum.{Checksum}
+use Rattle.cobs_live.specs.declared.seen.Kind.{Kind}
+use Rattle.cobs_live.specs.declared.seen.Kind.TheVariants.{Message, Broken, TooLong, BadCrc}
+use Rattle.cobs_live.specs.declared.tally.Tally.{Tally}
+
+abbrev pub kind_number : Kind → ℕ
+kind_number Message = 0
+kind_number Broken = 1
+kind_number TooLong = 2
+kind_number BadCrc = 3
+
+-- whether an outcome is seen as a piece of this kind
+abbrev pub is_of_kind : Option Checksum → Kind → Outcome → Bool
+is_of_kind checksum kind outcome = kind_number (seen_of checksum outcome).kind == kind_number kind
+
+-- a count, which stops at the greatest `u64`
+abbrev pub counted : ℕ → ℕ
+counted n = min n (2 ^ 64 - 1)
+
+-- how many of some outcomes are seen as pieces of this kind
+abbrev pub count_of : Option Checksum → Kind → List Outcome → ℕ
+count_of checksum kind outcomes = counted (length (filter (is_of_kind checksum kind) outcomes))
+
+-- the tally of these outcomes, whose messages are to end with such a checksum, and of this many bytes
+pub record IsTallyOf (checksum : Option Checksum) (tally : Tally) (outcomes : List Outcome) (read : ℕ) : Type 0 where
+  pub messages : tally.messages ≡ count_of checksum Message outcomes
+  pub broken : tally.broken ≡ count_of checksum Broken outcomes
+  pub too_long : tally.too_long ≡ count_of checksum TooLong outcomes
+  pub bad_crc : tally.bad_crc ≡ count_of checksum BadCrc outcomes
+  pub checked : tally.checked ≡ is_some checksum
+  pub bytes : tally.bytes ≡ counted read
+  pub pieces : tally.pieces ≡ counted (length outcomes)

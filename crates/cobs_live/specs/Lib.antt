@@ -1,0 +1,10 @@
+pub mod Crc
+pub mod Seen
+pub mod Timed
+pub mod Counted
+pub mod Dump
+pub mod Json
+pub mod Shown
+pub mod Watched
+pub mod Live
+pub mod Sent

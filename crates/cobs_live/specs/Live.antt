@@ -1,0 +1,44 @@
+-- A stream that is shown read by read.
+use Rattle.std.specs.Prelude.{ℕ, ◌≡◌, ◌++◌, Bool, true, false, List, length, Option, Result, Ok, Err}
+use Rattle.std.specs.Io.KnownBytes.{Appends}
+use Rattle.cobs.specs.Feed.{DecoderAfter, Phase}
+use Rattle.cobs.specs.Fields.Decoders.{phase_of}
+use Rattle.cobs.specs.Stream.{Outcome, stream_outcomes, unended}
+use Rattle.cobs_live.specs.Counted.{IsTallyOf}
+use Rattle.cobs_live.specs.Seen.{all_ended}
+use Rattle.cobs_live.specs.Shown.{shown_from, shown_pieces}
+use Rattle.cobs.specs.Sentinel.{xor_each}
+use Rattle.cobs_live.specs.Watched.{HasShown, HasWritten, skips_on, stream_of}
+use Rattle.cobs_live.specs.Timed.{IsReadAt}
+use Rattle.cobs_live.specs.declared.clock.Times.{Times}
+use Rattle.cobs_live.specs.declared.fault.WatchFault.{WatchFault}
+use Rattle.cobs_live.specs.declared.show.Watch.{Watch}
+use Rattle.cobs_live.specs.declared.shown.Settings.{Settings}
+use Rattle.cobs_live.specs.declared.shown.View.{View}
+use Rattle.cobs_live.specs.declared.tally.Tally.{Tally}
+
+-- a run so far: the text of every piece that ended in the bytes that were read is written, and the decoder has taken them
+pub record HasShownSoFar (settings : Settings) (from to before after : Option (List ℕ)) (watch : Watch) : Type 0 where
+  pub ended : HasWritten (λ times bytes. shown_pieces settings.view times settings.length (stream_of settings bytes)) from to before after
+  pub taken : DecoderAfter watch.message.items (phase_of watch.decoder) (unended (stream_of settings ended.bytes))
+  pub tallied : IsTallyOf settings.view.checksum watch.tally (stream_outcomes (stream_of settings ended.bytes) settings.length) (length ended.bytes)
+  pub len : length watch.message.items ≡ settings.length
+  pub timed : watch.clock.last ≡ ended.times (length (stream_outcomes (stream_of settings ended.bytes) settings.length))
+  pub same : watch.settings.now ≡ settings
+  -- whether the first sentinel is still awaited
+  pub skips : watch.skipping ≡ skips_on settings.skip_first (xor_each settings.sentinel ended.bytes)
+
+-- what the next read comes to: the run goes on, or it has ended
+abbrev pub ShowsNext : Settings → Result Bool WatchFault → (from to before after : Option (List ℕ)) → Watch → Type 0
+ShowsNext settings (Ok true) from to before after watch = HasShownSoFar settings from to before after watch
+ShowsNext settings (Ok false) from to before after watch = HasShown settings (Ok watch.tally) from to before after
+ShowsNext settings (Err fault) from to before after watch = HasShown settings (Err fault) from to before after
+
+-- a decoder over n bytes that had taken the front p of a piece has taken these bytes too; the pieces that ended in them,
+-- which these outcomes have gone before, are shown and counted
+pub record ShowsBytes (view : View) (times : ℕ → ℕ) (n : ℕ) (p bytes : List ℕ) (gone : List Outcome) (read : ℕ) (buffer : List ℕ) (phase : Phase) (before after : Option (List ℕ)) (tally : Tally) (clock : Times) : Type 0 where
+  pub written : Appends before after (shown_from view times (length gone) (all_ended (p ++ bytes) n))
+  pub taken : DecoderAfter buffer phase (unended (p ++ bytes))
+  pub tallied : IsTallyOf view.checksum tally (gone ++ stream_outcomes (p ++ bytes) n) read
+  pub timed : IsReadAt times (length (gone ++ stream_outcomes (p ++ bytes) n)) clock
+  pub len : length buffer ≡ n

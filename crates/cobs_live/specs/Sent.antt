@@ -1,0 +1,74 @@
+-- What a run of `send` has read, and what it has written of it.
+use Rattle.std.specs.Prelude.{ℕ, ◌≡◌, ◌↔◌, ◌-◌, ◌==◌, ◌&&◌, nat_lt, Bool, true, false, IsTrue, IsOk, List, [], ◌∷◌, ◌++◌, length, take, slice_index, All, Option, IfSome, Result, Ok, Err, MatchResult, if◌then◌else◌}
+use Rattle.std.specs.List.{AllZip, concat}
+use Rattle.std.specs.Io.{StopsAt}
+use Rattle.std.specs.Io.KnownBytes.{Appends, Consumes, IsAtEnd}
+use Rattle.hex.specs.Hex.{decode_of}
+use Rattle.cobs.specs.Sentinel.{IsEncodedFrameFor}
+use Rattle.cobs_live.specs.Crc.{with_sum}
+use Rattle.cobs_live.specs.declared.fault.WatchFault.{WatchFault}
+use Rattle.cobs_live.specs.declared.fault.WatchFault.TheVariants.{ReadFailed, WriteFailed, OutputClosed, OutOfMemory}
+use Rattle.cobs_live.specs.declared.send.Settings.{Settings}
+
+-- a line without the newline at its end; 10 is the newline
+abbrev pub text_of : List ℕ → List ℕ
+text_of line = if nat_lt 0 (length line) && (slice_index line (length line - 1) == 10) then take (length line - 1) line else line
+
+-- the bytes are the message's frame and its sentinel
+pub record IsSent (sentinel : ℕ) (message bytes : List ℕ) : Type 0 where
+  pub frame : List ℕ
+  pub encoded : IsEncodedFrameFor sentinel frame message
+  pub ended : bytes ≡ frame ++ sentinel ∷ []
+
+-- what is written of a message: its frame, or with a checksum the frame of the message with its checksum behind it
+abbrev pub SendsMessage : Settings → List ℕ → List ℕ → Type 0
+SendsMessage settings message bytes = IsSent settings.sentinel (with_sum settings.checksum message) bytes
+
+-- what is written of a line's text: as a message, or of the message whose digits it has; nothing where it has none
+abbrev pub SendsAs : (hex : Bool) → Settings → List ℕ → List ℕ → Type 0
+SendsAs false settings text bytes = SendsMessage settings text bytes
+SendsAs true settings text bytes = MatchResult (decode_of text) (λ message. SendsMessage settings message bytes) (λ error. bytes ≡ [])
+
+abbrev pub SendsText : Settings → List ℕ → List ℕ → Type 0
+SendsText settings text bytes = SendsAs settings.hex settings text bytes
+
+-- a line's text stands for a message: where its digits are wanted, it has them
+abbrev pub IsSendable : Settings → List ℕ → Type 0
+IsSendable settings text = IsTrue settings.hex → IsOk (decode_of text)
+
+-- a byte in front of the first of some lines
+abbrev pub in_front : ℕ → List (List ℕ) → List (List ℕ)
+in_front byte [] = (byte ∷ []) ∷ []
+in_front byte (line ∷ lines) = (byte ∷ line) ∷ lines
+
+-- the lines of some bytes, each with the newline that ends it; the last one may have none
+unfoldable pub lines_of : List ℕ → List (List ℕ)
+lines_of [] = []
+lines_of (byte ∷ bytes) = if byte == 10 then (byte ∷ []) ∷ lines_of bytes else in_front byte (lines_of bytes)
+
+-- lines that were read, the first of those that the reader had, and what was written of each; `rest` was read after them and
+-- not sent: what a failed read cut off, or a line for whose frame memory ran out
+pub record HasSentLines (settings : Settings) (rest : List ℕ) (from to before after : Option (List ℕ)) : Type 0 where
+  pub lines : List (List ℕ)
+  pub first : IfSome from (λ bytes. (more : List (List ℕ)) × (lines_of bytes ≡ lines ++ more))
+  pub each_stops : All (λ line. StopsAt line 10) lines
+  pub rest_stops : StopsAt rest 10
+  pub sent : List (List ℕ)
+  pub each : AllZip (λ line bytes. SendsText settings (text_of line) bytes) lines sent
+  pub read : Consumes from to (concat lines ++ rest)
+  pub written : Appends before after (concat sent)
+
+-- all lines that the reader had, and a flag that says whether each could be sent
+pub record HasSentAll (settings : Settings) (all_sent : Bool) (from to before after : Option (List ℕ)) : Type 0 where
+  pub so_far : HasSentLines settings [] from to before after
+  pub all : IfSome from (λ bytes. so_far.lines ≡ lines_of bytes)
+  pub end : IfSome from (λ bytes. IsAtEnd to)
+  pub flag : IsTrue all_sent ↔ All (λ line. IsSendable settings (text_of line)) so_far.lines
+
+-- a run of `send`, by its result
+abbrev pub HasSent : Settings → Result Bool WatchFault → (from to before after : Option (List ℕ)) → Type 0
+HasSent settings (Ok all_sent) from to before after = HasSentAll settings all_sent from to before after
+HasSent settings (Err ReadFailed) from to before after = (rest : List ℕ) × HasSentLines settings rest from to before after
+HasSent settings (Err OutOfMemory) from to before after = (rest : List ℕ) × HasSentLines settings rest from to before after
+HasSent settings (Err WriteFailed) from to before after = Unit {0}
+HasSent settings (Err OutputClosed) from to before after = Unit {0}

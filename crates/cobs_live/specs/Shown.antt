@@ -1,0 +1,115 @@
+-- What is shown of a stream.
+use Rattle.std.specs.Prelude.{ℕ, ◌+◌, ◌==◌, ◌&&◌, nat_le, Bool, true, false, not, List, [], ◌∷◌, ◌++◌, length, codes, if◌then◌else◌}
+use Rattle.std.specs.Fmt.{decimal}
+use Rattle.std.specs.List.{list_all, starts_with}
+use Rattle.std.specs.Str.{chars}
+use Rattle.std.specs.Str.Lossy.{utf8_valid_len}
+use Rattle.std.specs.Char.{is_control}
+use Rattle.cobs.specs.Stream.{is_nonempty, unended}
+use Rattle.cobs_lines.specs.Lines.{spaced_digits}
+use Rattle.cobs_live.specs.Counted.{counted}
+use Rattle.cobs_live.specs.Dump.{dump}
+use Rattle.cobs_live.specs.Json.{json}
+use Rattle.cobs_live.specs.Seen.{Ended, Seen, all_ended, heading, seen_piece}
+use Rattle.cobs_live.specs.Timed.{stamped, time_of}
+use Rattle.cobs_live.specs.declared.clock.Stamp.{Stamp}
+use Rattle.cobs_live.specs.declared.seen.Kind.{Kind}
+use Rattle.cobs_live.specs.declared.seen.Kind.TheVariants.{Message, Broken, TooLong, BadCrc}
+use Rattle.cobs_live.specs.declared.shown.Filter.{Filter}
+use Rattle.cobs_live.specs.declared.shown.View.{View}
+use Rattle.cobs_live.specs.declared.shown.Style.{Style}
+use Rattle.cobs_live.specs.declared.shown.Style.TheVariants.{Hex, Text, Raw, Hexdump, Json}
+use Rattle.cobs_live.specs.declared.tally.Tally.{Tally}
+
+-- whether the bytes are UTF-8 without control characters
+abbrev pub is_plain : List ℕ → Bool
+is_plain bytes = (utf8_valid_len bytes == length bytes) && list_all (λ c. not (is_control c)) (chars bytes)
+
+-- a text and a space in front of it; nothing for the empty text
+abbrev pub spaced : List ℕ → List ℕ
+spaced [] = []
+spaced (byte ∷ bytes) = codes " " ++ (byte ∷ bytes)
+
+-- a piece's line, with its bytes as digits, as text, and sixteen a line below it; what becomes of it may have a colour
+abbrev pub hex_line : (color : Bool) → Seen → List ℕ
+hex_line color seen = heading color seen ++ spaced_digits seen.bytes ++ codes "\n"
+
+abbrev pub text_line : (color : Bool) → Seen → List ℕ
+text_line color seen = heading color seen ++ (if is_plain seen.bytes then spaced seen.bytes else spaced_digits seen.bytes) ++ codes "\n"
+
+abbrev pub dump_lines : (color : Bool) → Seen → List ℕ
+dump_lines color seen = heading color seen ++ codes "\n" ++ dump seen.bytes
+
+-- a message's bytes and a newline, and nothing of other pieces
+abbrev pub raw_of : Kind → List ℕ → List ℕ
+raw_of Message bytes = bytes ++ codes "\n"
+raw_of Broken bytes = []
+raw_of TooLong bytes = []
+raw_of BadCrc bytes = []
+
+-- what a style makes of a piece that has this number and time; JSON and raw bytes have no colour
+abbrev pub styled : Style → (color : Bool) → ℕ → Stamp → ℕ → Seen → List ℕ
+styled Hex color number stamp time seen = hex_line color seen
+styled Text color number stamp time seen = text_line color seen
+styled Raw color number stamp time seen = raw_of seen.kind seen.bytes
+styled Hexdump color number stamp time seen = dump_lines color seen
+styled Json color number stamp time seen = json number stamp time seen
+
+-- the time of a piece in front of its line, which JSON has inside, and raw bytes haven't
+abbrev pub in_front : Style → Stamp → ℕ → List ℕ
+in_front Hex stamp time = stamped stamp time
+in_front Text stamp time = stamped stamp time
+in_front Raw stamp time = []
+in_front Hexdump stamp time = stamped stamp time
+in_front Json stamp time = []
+
+-- the number of a piece in front of its line
+abbrev pub numbered : Bool → ℕ → List ℕ
+numbered true number = decimal number ++ codes " "
+numbered false number = []
+
+-- the kinds of pieces that a filter lets through
+abbrev pub has_kind : Filter → Kind → Bool
+has_kind filter Message = filter.messages
+has_kind filter Broken = filter.broken
+has_kind filter TooLong = filter.too_long
+has_kind filter BadCrc = filter.bad_crc
+
+-- whether a filter lets a piece through: by its kind, its length and its first bytes
+abbrev pub passes : Filter → Seen → Bool
+passes filter seen = has_kind filter seen.kind && (nat_le filter.min seen.len && (nat_le seen.len filter.max && starts_with (λ a b. a == b) seen.bytes filter.prefix.items))
+
+-- what a view makes of a piece that has this number and time
+abbrev pub in_view : View → ℕ → ℕ → Seen → List ℕ
+in_view view number time seen = if passes view.filter seen then in_front view.style view.stamp time ++ numbered view.number number ++ styled view.style view.color number view.stamp time seen else []
+
+-- WHAT IS SHOWN OF A PIECE that this many others have gone before: the pieces are numbered from 1 on, and each has a time
+abbrev pub shown : View → (ℕ → ℕ) → ℕ → Ended → List ℕ
+shown view times index piece = in_view view (counted (index + 1)) (time_of view.stamp (times index) (times (index + 1))) (seen_piece view.checksum view.partial piece)
+
+-- what is shown of pieces that this many others have gone before
+unfoldable pub shown_from : View → (ℕ → ℕ) → ℕ → List Ended → List ℕ
+shown_from view times index [] = []
+shown_from view times index (piece ∷ pieces) = shown view times index piece ++ shown_from view times (index + 1) pieces
+
+-- what is shown of all pieces that have ended in a stream, over a buffer of n bytes
+abbrev pub shown_pieces : View → (ℕ → ℕ) → ℕ → List ℕ → List ℕ
+shown_pieces view times n stream = shown_from view times 0 (all_ended stream n)
+
+-- what is shown after a stream that has come to its end: whether a piece has begun that no zero ended
+abbrev pub shown_end : Style → Bool → List ℕ
+shown_end style false = []
+shown_end Hex true = codes "unfinished\n"
+shown_end Text true = codes "unfinished\n"
+shown_end Hexdump true = codes "unfinished\n"
+shown_end Json true = codes "{\"kind\":\"unfinished\"}\n"
+shown_end Raw true = []
+
+-- what is shown of a stream that has come to its end
+abbrev pub shown_stream : View → (ℕ → ℕ) → ℕ → List ℕ → List ℕ
+shown_stream view times n stream = shown_pieces view times n stream ++ shown_end view.style (is_nonempty (unended stream))
+
+-- the text of how much came; where messages are to end with checksums, how many were wrong too
+abbrev pub tally_text : Tally → List ℕ
+tally_text tally =
+    codes "messages " ++ decimal tally.messages ++ codes ", broken " ++ decimal tally.broken ++ codes ", too long " ++ decimal tally.too_long ++ (if tally.checked then codes ", bad crc " ++ decimal tally.bad_crc else []) ++ codes ", bytes " ++ decimal tally.bytes

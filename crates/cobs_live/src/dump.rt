@@ -1,0 +1,80 @@
+//! Bytes sixteen a line, as `hexdump -C` prints them.
+ghost use Rattle.std.specs.Prelude.{◌+◌, ◌<◌, OnOk, map};
+ghost use Rattle.std.specs.Io.KnownBytes.{Appends};
+ghost use Rattle.cobs_live.specs.Dump.{cell, character, dump, dump_row, upto};
+
+use cobs_lines::write_digits;
+use std::io::{self, Write};
+
+/// How many bytes are built on a line.
+const ROW: usize = 16;
+
+/// Writes the bytes sixteen a line, each line with the offset of its first byte, the bytes as digits, and the
+/// characters.
+pub fn write_dump<W: Write>(output: &mut W, bytes: &[u8]) -> io::Result<()>
+    ensures written { OnOk result
+        (Appends (W.contents output.old) (W.contents output.new) (dump bytes.now)) }
+{
+    let rows = bytes.len().div_ceil(ROW);
+    'by_row: for row in 0..rows {
+        let start = ROW * row;
+        let end = bytes.len().min(start + ROW);
+        write_row(output, start, &bytes[start..end])?;
+    }
+    Ok(())
+}
+
+/// Writes the line of at most sixteen bytes.
+fn write_row<W: Write>(output: &mut W, offset: usize, row: &[u8]) -> io::Result<()>
+    ensures written { OnOk result
+        (Appends (W.contents output.old) (W.contents output.new) (dump_row offset row.now)) }
+{
+    write!(output, "{offset:08x}  ")?;
+    write_cells(output, row, 0)?;
+    output.write_all(b" ")?;
+    write_cells(output, row, 8)?;
+    output.write_all(b" |")?;
+    write_characters(output, row)?;
+    output.write_all(b"|\n")
+}
+
+/// Writes the digits of eight bytes from an index on, and spaces in place of those that the row doesn't have.
+fn write_cells<W: Write>(output: &mut W, row: &[u8], from: usize) -> io::Result<()>
+    requires few { from < 16 }
+    ensures written { OnOk result (Appends (W.contents output.old) (W.contents output.new)
+        (upto (λ i. cell row.now (from + i)) 8)) }
+{
+    'by_cell: for i in 0..8 {
+        write_cell(output, row, from + i)?;
+    }
+    Ok(())
+}
+
+/// Writes the digits of the byte at an index, or spaces.
+fn write_cell<W: Write>(output: &mut W, row: &[u8], i: usize) -> io::Result<()>
+    ensures written { OnOk result
+        (Appends (W.contents output.old) (W.contents output.new) (cell row.now i)) }
+{
+    if i < row.len() {
+        write_digits(output, &[row[i]])?;
+        output.write_all(b" ")
+    } else {
+        output.write_all(b"   ")
+    }
+}
+
+/// Writes each byte as a character of ASCII, or as a dot.
+fn write_characters<W: Write>(output: &mut W, row: &[u8]) -> io::Result<()>
+    ensures written { OnOk result
+        (Appends (W.contents output.old) (W.contents output.new) (map character row.now)) }
+{
+    'by_byte: for byte in row {
+        let shown = if 32 <= *byte && *byte <= 126 {
+            *byte
+        } else {
+            46
+        };
+        output.write_all(&[shown])?;
+    }
+    Ok(())
+}

@@ -1,0 +1,131 @@
+//! A piece as an object of JSON.
+ghost use Rattle.std.specs.Prelude.{◌≡◌, ◌==◌, OnOk, length};
+ghost use Rattle.std.specs.Str.Lossy.{utf8_valid_len};
+ghost use Rattle.std.specs.Io.KnownBytes.{Appends};
+ghost use Rattle.std.specs.List.{flat_map};
+ghost use Rattle.cobs_live.specs.Json.{escaped, json, json_kind, json_message, json_partial, json_text};
+ghost use Rattle.cobs_live.specs.Seen.{seen_in};
+
+use crate::clock::{Stamp, write_json_time};
+use crate::seen::{Kind, Sight};
+use cobs_lines::write_digits;
+use std::io::{self, Write};
+use std::str;
+
+/// Writes a piece as an object of JSON on a line.
+pub fn write_json<W: Write>(
+    output: &mut W,
+    number: u64,
+    stamp: Stamp,
+    time: u64,
+    piece: &Sight<'_>,
+) -> io::Result<()>
+    ensures written { OnOk result (Appends (W.contents output.old) (W.contents output.new)
+        (json number stamp time (seen_in piece.now))) }
+{
+    write!(output, "{{\"frame\":{number}")?;
+    write_json_time(output, stamp, time)?;
+    output.write_all(b",\"kind\":")?;
+    write_kind(output, piece)?;
+    output.write_all(b"}\n")
+}
+
+/// Writes the kind of a piece, the length of what it decodes to, and the bytes of a message.
+fn write_kind<W: Write>(output: &mut W, piece: &Sight<'_>) -> io::Result<()>
+    ensures written { OnOk result (Appends (W.contents output.old) (W.contents output.new)
+        (json_kind (seen_in piece.now).kind (seen_in piece.now).len (seen_in piece.now).bytes)) }
+{
+    let len = piece.len;
+    match piece.kind {
+        Kind::Message => {
+            output.write_all(b"\"message\"")?;
+            write_message(output, len, piece.bytes)
+        }
+        Kind::Broken => {
+            write!(output, "\"broken\",\"length\":{len}")?;
+            write_partial(output, piece.bytes)
+        }
+        Kind::TooLong => {
+            output.write_all(b"\"too long\"")?;
+            write_partial(output, piece.bytes)
+        }
+        Kind::BadCrc => {
+            output.write_all(b"\"bad-crc\"")?;
+            write_message(output, len, piece.bytes)
+        }
+    }
+}
+
+/// Writes the bytes of a piece that is no message, if there are any.
+fn write_partial<W: Write>(output: &mut W, bytes: &[u8]) -> io::Result<()>
+    ensures written { OnOk result
+        (Appends (W.contents output.old) (W.contents output.new) (json_partial bytes.now)) }
+{
+    if bytes.len() == 0 {
+        return Ok(());
+    }
+    output.write_all(b",\"hex\":\"")?;
+    write_digits(output, bytes)?;
+    output.write_all(b"\"")
+}
+
+/// Writes the length and the bytes of a message.
+fn write_message<W: Write>(output: &mut W, len: usize, bytes: &[u8]) -> io::Result<()>
+    ensures written { OnOk result (Appends (W.contents output.old) (W.contents output.new)
+        (json_message len bytes.now)) }
+{
+    write!(output, ",\"length\":{len},\"hex\":\"")?;
+    write_digits(output, bytes)?;
+    output.write_all(b"\"")?;
+    write_utf8(output, bytes)?;
+    Ok(())
+}
+
+/// Writes the text of a message, if it is UTF-8.
+fn write_utf8<W: Write>(output: &mut W, bytes: &[u8]) -> io::Result<()>
+    ensures written { OnOk result
+        (Appends (W.contents output.old) (W.contents output.new) (json_text bytes.now)) }
+{
+    if !is_utf8(bytes) {
+        return Ok(());
+    }
+    output.write_all(b",\"text\":\"")?;
+    write_escaped(output, bytes)?;
+    output.write_all(b"\"")
+}
+
+/// Whether the bytes are UTF-8.
+fn is_utf8(bytes: &[u8]) -> bool
+    ensures utf8 { result ≡ (utf8_valid_len bytes.now == length bytes.now) }
+{
+    match str::from_utf8(bytes) {
+        Ok(_) => true,
+        Err(_) => false,
+    }
+}
+
+/// Writes the bytes of a text as a string of JSON has them.
+fn write_escaped<W: Write>(output: &mut W, bytes: &[u8]) -> io::Result<()>
+    ensures written { OnOk result
+        (Appends (W.contents output.old) (W.contents output.new) (flat_map escaped bytes.now)) }
+{
+    'by_byte: for byte in bytes {
+        write_byte(output, *byte)?;
+    }
+    Ok(())
+}
+
+/// Writes a byte of a text as a string of JSON has it.
+fn write_byte<W: Write>(output: &mut W, byte: u8) -> io::Result<()>
+    ensures written { OnOk result
+        (Appends (W.contents output.old) (W.contents output.new) (escaped byte)) }
+{
+    if byte < 32 {
+        output.write_all(b"\\u00")?;
+        write_digits(output, &[byte])
+    } else if byte == b'"' || byte == b'\\' {
+        output.write_all(&[b'\\', byte])
+    } else {
+        output.write_all(&[byte])
+    }
+}

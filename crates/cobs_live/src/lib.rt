@@ -1,0 +1,17 @@
+//! Frames on a live line: shown as they come, and sent line by line, over any reader and writer.
+//!
+//! The part of `cobs_watch` that doesn't know the command line. `show::run_show` reads a stream of frames and shows each
+//! piece once its sentinel has come; `send::run_send` sends each line as a frame.
+#![tactic(auto)]
+
+pub mod clock;
+pub mod crc;
+mod dump;
+pub mod fault;
+mod json;
+mod line;
+mod seen;
+pub mod send;
+pub mod show;
+pub mod shown;
+pub mod tally;

@@ -1,0 +1,175 @@
+//! What each style makes of a piece.
+ghost use Rattle.std.specs.Prelude.{◌≡◌, OnOk, IfSome, IsSome, ◌↔◌, IsTrue};
+ghost use Rattle.std.specs.Io.KnownBytes.{Appends};
+ghost use Rattle.cobs_lines.specs.Lines.{spaced_digits};
+ghost use Rattle.cobs_live.specs.Seen.{color_end, color_of, heading, mark, seen_in, title, titled};
+ghost use Rattle.cobs_live.specs.Shown.{dump_lines, hex_line, is_plain, raw_of, spaced, styled, text_line};
+
+use crate::dump::write_dump;
+use crate::json::write_json;
+use crate::seen::{Kind, Sight};
+use crate::shown::{Style, View};
+use cobs_lines::write_digits;
+use std::io::{self, Write};
+use std::str;
+
+/// Writes what a view's style makes of a piece that has this number and time.
+pub fn write_line<W: Write>(
+    output: &mut W,
+    view: &View,
+    number: u64,
+    time: u64,
+    piece: &Sight<'_>,
+) -> io::Result<()>
+    ensures written { OnOk result (Appends (W.contents output.old) (W.contents output.new)
+        (styled view.now.style view.now.color number view.now.stamp time (seen_in piece.now))) }
+{
+    match view.style {
+        Style::Hex => write_hex(output, view.color, piece),
+        Style::Text => write_text(output, view.color, piece),
+        Style::Raw => write_raw(output, piece),
+        Style::Hexdump => write_dumped(output, view.color, piece),
+        Style::Json => write_json(output, number, view.stamp, time, piece),
+    }
+}
+
+/// Writes the kind of a piece, and how many bytes it decodes to, in the colour of the kind if that is wanted.
+fn write_titled<W: Write>(output: &mut W, color: bool, kind: Kind, len: usize) -> io::Result<()>
+    ensures written { OnOk result
+        (Appends (W.contents output.old) (W.contents output.new) (titled color kind len)) }
+{
+    if !color {
+        return write_title(output, kind, len);
+    }
+    output.write_all(color_of(kind))?;
+    write_title(output, kind, len)?;
+    output.write_all(b"\x1b[0m")
+}
+
+/// The escape sequence that begins the colour of a kind.
+fn color_of(kind: Kind) -> &'static [u8]
+    ensures color { result.now ≡ color_of kind }
+{
+    match kind {
+        Kind::Message => b"\x1b[32m",
+        Kind::Broken => b"\x1b[33m",
+        Kind::TooLong => b"\x1b[35m",
+        Kind::BadCrc => b"\x1b[31m",
+    }
+}
+
+/// Writes the kind of a piece, and how many bytes it decodes to.
+fn write_title<W: Write>(output: &mut W, kind: Kind, len: usize) -> io::Result<()>
+    ensures written { OnOk result
+        (Appends (W.contents output.old) (W.contents output.new) (title kind len)) }
+{
+    match kind {
+        Kind::Message => write!(output, "message {len}"),
+        Kind::Broken => write!(output, "broken {len}"),
+        Kind::TooLong => output.write_all(b"too long"),
+        Kind::BadCrc => write!(output, "bad crc {len}"),
+    }
+}
+
+/// Writes what begins the line of a piece: its title, and a mark if it has bytes that are no message.
+fn write_heading<W: Write>(output: &mut W, color: bool, piece: &Sight<'_>) -> io::Result<()>
+    ensures written { OnOk result (Appends (W.contents output.old) (W.contents output.new)
+        (heading color (seen_in piece.now))) }
+{
+    write_titled(output, color, piece.kind, piece.len)?;
+    write_mark(output, piece.kind, piece.bytes)
+}
+
+/// Writes the mark in front of bytes that are no message, if there are any.
+fn write_mark<W: Write>(output: &mut W, kind: Kind, bytes: &[u8]) -> io::Result<()>
+    ensures written { OnOk result
+        (Appends (W.contents output.old) (W.contents output.new) (mark kind bytes.now)) }
+{
+    match kind {
+        Kind::Message | Kind::BadCrc => Ok(()),
+        Kind::Broken | Kind::TooLong => {
+            if bytes.len() > 0 {
+                output.write_all(b" partial")?;
+            }
+            Ok(())
+        }
+    }
+}
+
+/// Writes a space and the bytes as digits, or nothing if there are no bytes.
+fn write_spaced<W: Write>(output: &mut W, bytes: &[u8]) -> io::Result<()>
+    ensures written { OnOk result
+        (Appends (W.contents output.old) (W.contents output.new) (spaced_digits bytes.now)) }
+{
+    if bytes.len() > 0 {
+        output.write_all(b" ")?;
+        write_digits(output, bytes)?;
+    }
+    Ok(())
+}
+
+/// Writes the line of a piece, with its bytes as digits.
+fn write_hex<W: Write>(output: &mut W, color: bool, piece: &Sight<'_>) -> io::Result<()>
+    ensures written { OnOk result (Appends (W.contents output.old) (W.contents output.new)
+        (hex_line color (seen_in piece.now))) }
+{
+    write_heading(output, color, piece)?;
+    write_spaced(output, piece.bytes)?;
+    output.write_all(b"\n")
+}
+
+/// Writes the line of a piece, with its bytes as text if they are UTF-8 without control characters, else as digits.
+fn write_text<W: Write>(output: &mut W, color: bool, piece: &Sight<'_>) -> io::Result<()>
+    ensures written { OnOk result (Appends (W.contents output.old) (W.contents output.new)
+        (text_line color (seen_in piece.now))) }
+{
+    write_heading(output, color, piece)?;
+    match plain_text(piece.bytes) {
+        Some(text) => {
+            if text.len() > 0 {
+                output.write_all(b" ")?;
+                output.write_all(text.as_bytes())?;
+            }
+        }
+        None => write_spaced(output, piece.bytes)?,
+    }
+    output.write_all(b"\n")
+}
+
+/// The text of a message that is UTF-8 without control characters.
+fn plain_text(message: &[u8]) -> Option<&str>
+    ensures text { IfSome result (λ text. text.now ≡ message.now) }
+    ensures plain { IsSome result ↔ IsTrue (is_plain message.now) }
+{
+    let text = str::from_utf8(message).ok()?;
+    for c in text.chars() {
+        if c.is_control() {
+            return None;
+        }
+    }
+    Some(text)
+}
+
+/// Writes the bytes of a message and a newline.
+fn write_raw<W: Write>(output: &mut W, piece: &Sight<'_>) -> io::Result<()>
+    ensures written { OnOk result (Appends (W.contents output.old) (W.contents output.new)
+        (raw_of (seen_in piece.now).kind (seen_in piece.now).bytes)) }
+{
+    match piece.kind {
+        Kind::Message => {
+            output.write_all(piece.bytes)?;
+            output.write_all(b"\n")
+        }
+        Kind::Broken | Kind::TooLong | Kind::BadCrc => Ok(()),
+    }
+}
+
+/// Writes the title of a piece, and its bytes sixteen a line.
+fn write_dumped<W: Write>(output: &mut W, color: bool, piece: &Sight<'_>) -> io::Result<()>
+    ensures written { OnOk result (Appends (W.contents output.old) (W.contents output.new)
+        (dump_lines color (seen_in piece.now))) }
+{
+    write_heading(output, color, piece)?;
+    output.write_all(b"\n")?;
+    write_dump(output, piece.bytes)
+}

@@ -1,0 +1,193 @@
+//! Sending lines as frames.
+ghost use Rattle.std.specs.Prelude.{◌≡◌, ◌≢◌, ◌↔◌, List, [], OnOk, IfOk, IfErr, IsOk, IsTrue, ℕ, Some, true};
+ghost use Rattle.std.specs.Io.Buffered.{writer_buffer, writer_inner};
+ghost use Rattle.std.specs.Io.KnownBytes.{Appends, Keeps};
+ghost use Rattle.hex.specs.Hex.{decode_of};
+ghost use Rattle.cobs_live.specs.Crc.{with_sum};
+ghost use Rattle.cobs_live.specs.Sent.{HasSent, IsSendable, IsSent, SendsAs, SendsMessage, SendsText, text_of};
+ghost use Rattle.cobs_live.specs.Watched.{IsFlushed};
+
+use crate::crc::Checksum;
+use crate::fault::WatchFault;
+use cobs::encode_vec_with_sentinel;
+use hex::FromHexError;
+use std::alloc::{AllocError, Global};
+use std::io::{BufRead, BufWriter, Write};
+
+/// How lines are sent.
+#[derive(Debug, PartialEq, Eq, Clone, Copy)]
+pub struct Settings {
+    /// Whether a line is the hexadecimal digits of a message, and not the message itself.
+    pub hex: bool,
+
+    /// The checksum that is behind each message in its frame, if any.
+    pub checksum: Option<Checksum>,
+
+    /// The byte that ends each frame.
+    pub sentinel: u8,
+}
+
+/// Sends each line of the input, without its newline, as a frame and its sentinel, and flushes the output after it. With a
+/// checksum, it is behind the line's bytes in the frame.
+///
+/// The result is whether each line was sent: one that isn't hexadecimal digits, where these are wanted, is named on
+/// `errors` with its number, counted from 1, and skipped. An interrupted read is tried again. Memory is taken for one
+/// line and its frame.
+///
+/// - `ReadFailed`: a read failed, or memory ran out while a line was read. All lines before it were sent.
+/// - `WriteFailed`: a write or a flush failed. How much of it went out is not known.
+/// - `OutputClosed`: the same, since nobody reads the output any more.
+/// - `OutOfMemory`: memory ran out for a frame. All lines before it were sent.
+pub fn run_send<B: BufRead, W: Write + Drop, E: Write>(
+    alloc: Global,
+    settings: &Settings,
+    input: &mut B,
+    output: &mut BufWriter<W>,
+    errors: &mut E,
+) -> Result<bool, WatchFault>
+    requires flushed { writer_buffer output.old ≡ [] }
+    ensures sent { HasSent settings.now result (B.remaining input.old) (B.remaining input.new)
+        (W.contents (writer_inner output.old)) (W.contents (writer_inner output.new)) }
+    ensures flushed { IsFlushed result (writer_buffer output.new) }
+{
+    let mut line = Vec::new(alloc);
+    let mut all_sent = true;
+    'by_line: for number in 1..usize::MAX {
+        line.clear();
+        let Ok(count) = input.read_until(b'\n', &mut line) else {
+            return Err(WatchFault::ReadFailed);
+        };
+        if count == 0 {
+            return Ok(all_sent);
+        }
+        if !send_text(alloc, settings, without_newline(&line), output)? {
+            all_sent = false;
+            let _ = writeln!(errors, "cobs_watch: line {number}: not hexadecimal digits");
+        }
+    }
+    Err(WatchFault::ReadFailed)
+}
+
+/// The line without the newline at its end.
+fn without_newline(line: &[u8]) -> &[u8]
+    ensures text { result.now ≡ text_of line.now }
+{
+    if line.len() > 0 && line[line.len() - 1] == b'\n' {
+        &line[..line.len() - 1]
+    } else {
+        line
+    }
+}
+
+/// Sends the text of a line, and returns whether it was sent.
+fn send_text<W: Write + Drop>(
+    alloc: Global,
+    settings: &Settings,
+    text: &[u8],
+    output: &mut BufWriter<W>,
+) -> Result<bool, WatchFault>
+    requires flushed { writer_buffer output.old ≡ [] }
+    ensures sent { OnOk result ((bytes : List ℕ) × SendsText settings.now text.now bytes
+        × Appends (W.contents (writer_inner output.old)) (W.contents (writer_inner output.new)) bytes) }
+    ensures answer { IfOk result (λ sent. IsTrue sent ↔ IsSendable settings.now text.now) }
+    ensures fault { IfErr result (λ fault. fault ≢ WatchFault.ReadFailed) }
+    ensures unwritten { IfErr result (λ fault. fault ≡ WatchFault.OutOfMemory
+        → Keeps (W.contents (writer_inner output.old)) (W.contents (writer_inner output.new))) }
+    ensures flushed { IsFlushed result (writer_buffer output.new) }
+{
+    if settings.hex {
+        send_digits(alloc, settings, text, output)
+    } else {
+        send_message(alloc, settings, text, output)?;
+        Ok(true)
+    }
+}
+
+/// Sends the message whose hexadecimal digits the text has, and returns whether it has some.
+fn send_digits<W: Write + Drop>(
+    alloc: Global,
+    settings: &Settings,
+    text: &[u8],
+    output: &mut BufWriter<W>,
+) -> Result<bool, WatchFault>
+    requires flushed { writer_buffer output.old ≡ [] }
+    ensures sent { OnOk result ((bytes : List ℕ) × SendsAs true settings.now text.now bytes
+        × Appends (W.contents (writer_inner output.old)) (W.contents (writer_inner output.new)) bytes) }
+    ensures answer { IfOk result (λ sent. IsTrue sent ↔ IsOk (decode_of text.now)) }
+    ensures fault { IfErr result (λ fault. fault ≢ WatchFault.ReadFailed) }
+    ensures unwritten { IfErr result (λ fault. fault ≡ WatchFault.OutOfMemory
+        → Keeps (W.contents (writer_inner output.old)) (W.contents (writer_inner output.new))) }
+    ensures flushed { IsFlushed result (writer_buffer output.new) }
+{
+    match hex::decode(alloc, text) {
+        Ok(message) => {
+            send_message(alloc, settings, &message, output)?;
+            Ok(true)
+        }
+        Err(error) => {
+            if error == FromHexError::OutOfMemory {
+                return Err(WatchFault::OutOfMemory);
+            }
+            Ok(false)
+        }
+    }
+}
+
+/// Sends a message, with its checksum behind it if it is to have one.
+fn send_message<W: Write + Drop>(
+    alloc: Global,
+    settings: &Settings,
+    message: &[u8],
+    output: &mut BufWriter<W>,
+) -> Result<(), WatchFault>
+    requires flushed { writer_buffer output.old ≡ [] }
+    ensures sent { OnOk result ((bytes : List ℕ) × SendsMessage settings.now message.now bytes
+        × Appends (W.contents (writer_inner output.old)) (W.contents (writer_inner output.new)) bytes) }
+    ensures fault { IfErr result (λ fault. fault ≢ WatchFault.ReadFailed) }
+    ensures unwritten { IfErr result (λ fault. fault ≡ WatchFault.OutOfMemory
+        → Keeps (W.contents (writer_inner output.old)) (W.contents (writer_inner output.new))) }
+    ensures flushed { IsFlushed result (writer_buffer output.new) }
+{
+    let bytes = summed_frame(alloc, settings.sentinel, settings.checksum, message)?;
+    output.write_all(&bytes)?;
+    output.flush()?;
+    Ok(())
+}
+
+/// The frame and the sentinel of a message, with its checksum behind it if it is to have one.
+fn summed_frame(
+    alloc: Global,
+    sentinel: u8,
+    checksum: Option<Checksum>,
+    message: &[u8],
+) -> Result<Vec<u8>, AllocError>
+    ensures frame { IfOk result (λ bytes. IsSent sentinel (with_sum checksum message.now) bytes.items) }
+{
+    let Some(checksum) = checksum else {
+        return ended_frame(alloc, sentinel, message);
+    };
+    let whole = with_sum(alloc, checksum, message)?;
+    ended_frame(alloc, sentinel, &whole)
+}
+
+/// A message with its checksum behind it.
+fn with_sum(alloc: Global, checksum: Checksum, message: &[u8]) -> Result<Vec<u8>, AllocError>
+    ensures sum { IfOk result (λ whole. whole.items ≡ with_sum (Some checksum) message.now) }
+{
+    let mut whole = Vec::new(alloc);
+    whole.extend_from_slice(message)?;
+    whole.extend_from_slice(checksum.sum(message, &mut [0; 4]))?;
+    Ok(whole)
+}
+
+/// The frame of a message and its sentinel.
+fn ended_frame(alloc: Global, sentinel: u8, message: &[u8]) -> Result<Vec<u8>, AllocError>
+    ensures frame { IfOk result (λ bytes. IsSent sentinel message.now bytes.items) }
+{
+    if usize::MAX / 2 < message.len() {
+        return Err(AllocError);
+    }
+    let mut bytes = encode_vec_with_sentinel(alloc, message, sentinel)?;
+    bytes.push(sentinel)?;
+    Ok(bytes)
+}

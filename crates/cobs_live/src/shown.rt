@@ -1,0 +1,232 @@
+//! What is shown of a stream, and in which style.
+ghost use Rattle.std.specs.Prelude.{◌≡◌, OnOk, length};
+ghost use Rattle.std.specs.Io.KnownBytes.{Appends};
+ghost use Rattle.cobs.specs.FeedPiece.{IsWithin, outcome_at};
+ghost use Rattle.cobs_live.specs.Seen.{held, seen_in, seen_message, seen_of, whole, with_part};
+ghost use Rattle.cobs_live.specs.Shown.{has_kind, in_front, in_view, passes, shown_end};
+
+use crate::clock::{Stamp, write_stamp};
+use crate::crc::Checksum;
+use crate::line::write_line;
+use crate::seen::{Kind, Sight};
+use cobs::PieceEnd;
+use std::io::{self, Write};
+
+/// How a piece is written.
+#[derive(Debug, PartialEq, Eq, Clone, Copy)]
+pub enum Style {
+    /// A line, with a message as hexadecimal digits.
+    Hex,
+
+    /// A line, with a message as text if it is UTF-8 without control characters, else as hexadecimal digits.
+    Text,
+
+    /// The bytes of a message and a newline; nothing of other pieces.
+    Raw,
+
+    /// A line, and below it a message's bytes, sixteen a line, each line with its offset and the characters.
+    Hexdump,
+
+    /// A line with an object of JSON.
+    Json,
+}
+
+/// Which pieces are shown.
+#[derive(Debug, PartialEq, Eq, Drop)]
+pub struct Filter {
+    /// Whether messages are shown.
+    pub messages: bool,
+
+    /// Whether broken pieces are shown.
+    pub broken: bool,
+
+    /// Whether pieces that are too long are shown.
+    pub too_long: bool,
+
+    /// Whether messages with a wrong checksum are shown.
+    pub bad_crc: bool,
+
+    /// The least and the greatest number of bytes that a piece decodes to, if it is shown. A piece that is too long is
+    /// taken to decode to `usize::MAX` bytes.
+    pub min: usize,
+    pub max: usize,
+
+    /// The first bytes of each piece that is shown. If there are any, pieces whose bytes aren't shown are held back.
+    pub prefix: Vec<u8>,
+}
+
+/// How pieces are shown, and which.
+#[derive(Debug, PartialEq, Eq, Drop)]
+pub struct View {
+    /// How a piece is written.
+    pub style: Style,
+
+    /// Whether the kind of a piece and how many bytes it decodes to have a colour. `Raw` and `Json` have none.
+    pub color: bool,
+
+    /// Whether each piece's number is in front of it. Pieces that a filter holds back are counted too.
+    pub number: bool,
+
+    /// Which time is in front of each piece's line, or in its object.
+    pub stamp: Stamp,
+
+    /// Which pieces are shown.
+    pub filter: Filter,
+
+    /// The checksum that each message is to end with, if any. One that is right isn't shown.
+    pub checksum: Option<Checksum>,
+
+    /// Whether the bytes that were decoded of a piece that is broken or too long are shown, as far as they are held.
+    pub partial: bool,
+}
+
+/// How a stream is read and shown.
+#[derive(Debug, PartialEq, Eq, Drop)]
+pub struct Settings {
+    /// How pieces are shown, and which.
+    pub view: View,
+
+    /// The length in bytes of the longest message that is shown: a piece that decodes to more is too long.
+    pub length: usize,
+
+    /// The byte that ends each frame.
+    pub sentinel: u8,
+
+    /// Whether all bytes up to the first sentinel are skipped: the reader may have come in the middle of a frame.
+    pub skip_first: bool,
+}
+
+/// A piece that ended so, over the buffer that it left; each message is to end with such a checksum.
+pub fn sight_of(checksum: Option<Checksum>, end: PieceEnd, buffer: &[u8]) -> Sight<'_>
+    requires within { IsWithin (length buffer.now) end }
+    ensures seen { seen_in result ≡ seen_of checksum (outcome_at end buffer.now) }
+{
+    match end {
+        PieceEnd::Message(len) => message_sight(checksum, &buffer[..len]),
+        PieceEnd::Broken(count) => Sight {
+            kind: Kind::Broken,
+            len: count,
+            bytes: &[],
+        },
+        PieceEnd::TooLong => Sight {
+            kind: Kind::TooLong,
+            len: usize::MAX,
+            bytes: &[],
+        },
+    }
+}
+
+/// A message that is to end with such a checksum.
+fn message_sight(checksum: Option<Checksum>, message: &[u8]) -> Sight<'_>
+    ensures seen { seen_in result ≡ seen_message checksum message.now }
+{
+    let Some(checksum) = checksum else {
+        return whole(Kind::Message, message);
+    };
+    match checksum.checked(message) {
+        Some(body) => whole(Kind::Message, body),
+        None => whole(Kind::BadCrc, message),
+    }
+}
+
+/// A piece of this kind, all of whose bytes are shown.
+fn whole(kind: Kind, bytes: &[u8]) -> Sight<'_>
+    ensures seen { seen_in result ≡ whole kind bytes.now }
+{
+    Sight {
+        kind,
+        len: bytes.len(),
+        bytes,
+    }
+}
+
+/// With `partial`, the piece with what the buffer holds of it, if it is broken or too long; else the piece itself.
+pub fn with_part<'a>(partial: bool, piece: &Sight<'a>, buffer: &'a [u8]) -> Sight<'a>
+    ensures seen { seen_in result
+        ≡ with_part partial (seen_in piece.now) (held piece.now.kind piece.now.len buffer.now) }
+{
+    if !partial {
+        return *piece;
+    }
+    let bytes = match piece.kind {
+        Kind::Message | Kind::BadCrc => piece.bytes,
+        Kind::Broken => &buffer[..piece.len.min(buffer.len())],
+        Kind::TooLong => buffer,
+    };
+    Sight {
+        kind: piece.kind,
+        len: piece.len,
+        bytes,
+    }
+}
+
+impl Filter {
+    /// Returns whether a piece is shown.
+    fn passes(&self, piece: &Sight<'_>) -> bool
+        ensures passes { result ≡ passes self.now (seen_in piece.now) }
+    {
+        self.has_kind(piece.kind)
+            && self.min <= piece.len
+            && piece.len <= self.max
+            && (self.prefix.is_empty() || piece.bytes.starts_with(&self.prefix))
+    }
+
+    /// Returns whether pieces of this kind are shown.
+    fn has_kind(&self, kind: Kind) -> bool
+        ensures kind { result ≡ has_kind self.now kind }
+    {
+        match kind {
+            Kind::Message => self.messages,
+            Kind::Broken => self.broken,
+            Kind::TooLong => self.too_long,
+            Kind::BadCrc => self.bad_crc,
+        }
+    }
+}
+
+/// Shows a piece that has this number and time.
+pub fn show_piece<W: Write>(
+    output: &mut W,
+    view: &View,
+    number: u64,
+    time: u64,
+    piece: &Sight<'_>,
+) -> io::Result<()>
+    ensures shown { OnOk result (Appends (W.contents output.old) (W.contents output.new)
+        (in_view view.now number time (seen_in piece.now))) }
+{
+    if !view.filter.passes(piece) {
+        return Ok(());
+    }
+    write_time(output, view, time)?;
+    if view.number {
+        write!(output, "{number} ")?;
+    }
+    write_line(output, view, number, time, piece)
+}
+
+/// Writes the time of a piece in front of its line, if the style has it there.
+fn write_time<W: Write>(output: &mut W, view: &View, time: u64) -> io::Result<()>
+    ensures written { OnOk result (Appends (W.contents output.old) (W.contents output.new)
+        (in_front view.now.style view.now.stamp time)) }
+{
+    match view.style {
+        Style::Hex | Style::Text | Style::Hexdump => write_stamp(output, view.stamp, time),
+        Style::Raw | Style::Json => Ok(()),
+    }
+}
+
+/// Shows the end of a stream, given whether a piece has begun that no zero ended.
+pub fn show_end<W: Write>(output: &mut W, style: Style, unfinished: bool) -> io::Result<()>
+    ensures shown { OnOk result (Appends (W.contents output.old) (W.contents output.new)
+        (shown_end style unfinished)) }
+{
+    if !unfinished {
+        return Ok(());
+    }
+    match style {
+        Style::Hex | Style::Text | Style::Hexdump => output.write_all(b"unfinished\n"),
+        Style::Json => output.write_all(b"{\"kind\":\"unfinished\"}\n"),
+        Style::Raw => Ok(()),
+    }
+}

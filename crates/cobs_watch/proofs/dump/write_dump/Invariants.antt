@@ -1,6 +1,0 @@
-use Rattle.std.specs.Io.KnownBytes.{Appends}
-use Rattle.cobs_watch.specs.Dump.{numbered_row, upto}
-use Rattle.cobs_watch.proofs.dump.write_dump.Given as goal
-
-abbrev pub invariant-by_row : goal.invariant-by_row
-invariant-by_row g l = Appends (g.W.Write.contents l.fn.output) (g.W.Write.contents l.output) (upto (numbered_row l.bytes) l.row)
