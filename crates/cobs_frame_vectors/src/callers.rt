@@ -1,5 +1,6 @@
 //! The callers that a test runs.
-use cobs::{CobsDecoder, DestBufTooSmallError, FrameOutcome};
+use crate::messages::{encode_few, three_messages};
+use cobs::{CobsDecoder, DestBufTooSmallError, FrameOutcome, encode_frames_room};
 use cobs_vectors::bytes::ONES;
 use cobs_vectors::worked_callers::{
     encode_both, encode_by_state, send_and_receive, write_first_borrowed,
@@ -57,5 +58,16 @@ fn a_caller_that_sends_and_receives(rt: HostRuntime) -> Result<(), Fail> {
         found.get(2),
         Some(&FrameOutcome::Message([1u8, 2].to_vec(alloc)?))
     );
+    Ok(())
+}
+
+#[test]
+fn frames_of_several_messages(rt: HostRuntime) -> Result<(), Fail> {
+    let messages = three_messages(rt.alloc())?;
+    assert_eq!(rt; encode_frames_room(&messages), Some(9));
+    let stream = encode_few(&rt, rt.alloc(), &messages)?;
+    assert_eq!(rt; stream.as_slice(), [1, 0, 1, 1, 0, 3, 1, 2, 0].as_slice());
+    assert_eq!(rt; encode_frames_room(&[]), Some(0));
+    assert!(rt; encode_few(&rt, rt.alloc(), &[])?.is_empty());
     Ok(())
 }

@@ -1,8 +1,7 @@
 //! Lists of messages, and their frames one after the other.
-use cobs::{encode_frames, encode_frames_room, max_encoding_length};
+use cobs::{encode_frames, max_encoding_length};
 use std::alloc::{AllocError, Global};
 use std::process::Abort;
-use std::test::Fail;
 
 /// The empty message, a zero, and two bytes.
 pub fn three_messages(alloc: Global) -> Result<Vec<Vec<u8>>, AllocError> {
@@ -26,15 +25,4 @@ pub fn encode_few(
     }
     assert!(rt; room < 2_000_000);
     encode_frames(alloc, messages)
-}
-
-#[test]
-fn frames_of_several_messages(rt: HostRuntime) -> Result<(), Fail> {
-    let messages = three_messages(rt.alloc())?;
-    assert_eq!(rt; encode_frames_room(&messages), Some(9));
-    let stream = encode_few(&rt, rt.alloc(), &messages)?;
-    assert_eq!(rt; stream.as_slice(), [1, 0, 1, 1, 0, 3, 1, 2, 0].as_slice());
-    assert_eq!(rt; encode_frames_room(&[]), Some(0));
-    assert!(rt; encode_few(&rt, rt.alloc(), &[])?.is_empty());
-    Ok(())
 }

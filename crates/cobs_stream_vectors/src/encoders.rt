@@ -30,10 +30,10 @@ pub fn encode_in_pieces(
 }
 
 /// The message in two pieces, with an empty one between and one after, gives the frame.
-fn check_two_pieces(
+fn check_two_pieces<'a>(
     rt: &impl Abort,
     alloc: Global,
-    (front, back): (&[u8], &[u8]),
+    (front, back): (&'a [u8], &'a [u8]),
     frame: &[u8],
 ) -> Result<(), Fail> {
     let mut slice = repeated(alloc, 170, frame.len())?;
