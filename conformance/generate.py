@@ -7,6 +7,7 @@ import itertools
 import os
 import sys
 
+import by_hand
 import model
 from definition import encoded_frame, is_whole, masked, output, parts
 
@@ -44,6 +45,11 @@ class Group:
         self.seen.add(said)
         self.count[label] = self.count.get(label, 0) + 1
         self.lines.append(f"{self.name}-{label}-{self.count[label]} {said}")
+
+    def has(self, call, arguments, answers):
+        """Whether there is such a case, of either level."""
+        said = " ".join(map(word, [call, *arguments, "->", *answers]))
+        return f"owed {said}" in self.seen or f"choice {said}" in self.seen
 
     def choice(self, label, call, *arguments):
         self.line(label, "choice", call, arguments, getattr(model, call)(*arguments))
@@ -432,7 +438,10 @@ GROUPS = [lengths, encoding, rooms, sentinels, decoding, damage, in_place, encod
 
 def main(words):
     texts, joined = {}, ""
-    for group in [make() for make in GROUPS]:
+    groups = [make() for make in GROUPS]
+    groups.append(by_hand.of_tests(Group("original", "The tests of the original crate: a name has that of its test.")))
+    groups.append(by_hand.of_own(Group("by-hand", "Other cases whose results are worked out by hand."), groups))
+    for group in groups:
         text = "\n".join(group.lines) + "\n"
         texts[f"{HERE}/{group.name.replace('-', '_')}.txt"] = text
         joined += text

@@ -5,10 +5,10 @@ usage: tests/docs.py [--write]
 
 - Each public item of crates/cobs/src has an example in its doc comment: types, traits, functions, methods, the methods
   of public traits, the methods of impls of other traits that have a doc comment of their own, and modules.
-- Each example is, with the same lines, in doc_examples.rt, doc_decoders.rt or doc_laws.rt of crates/cobs_vectors/src,
-  whose tests run it, or a caller in worked_callers.rt. Lines that begin with 'use ' are left out.
+- crates/cobs_doc_vectors has each of these examples as a test or a function, but for its layout. With --write they are
+  written (examples.py); run `rt fmt` there then.
 - The proof of an example of a law, if the tests have one, is printed with it.
-- So do the functions that README.md and crates/cobs/CALLING.md show, or in callers.rt; of a test, its statements.
+- The functions that README.md and crates/cobs/CALLING.md show are in a crate of tests; of a test, its statements.
 - The contracts in crates/cobs/CALLING.md are those of src, of the calls in QUOTED. With --write they are written.
 - No file outside crates/cobs names its proofs: what a caller cites are its specs and its laws.
 - docs/MAP.md names each file of the repository, or a folder that it is in.
@@ -24,80 +24,17 @@ import sys
 sys.dont_write_bytecode = True
 from pathlib import Path, PurePosixPath
 
+import examples
 import prose
 
 TOP = Path(__file__).resolve().parent.parent
 SRC = TOP / "crates/cobs/src"
-RUN = "doc_examples doc_decoders doc_laws worked_callers callers clients".split()
-TESTS = [TOP / f"crates/cobs_vectors/src/{name}.rt" for name in RUN]
 CALLING = TOP / "crates/cobs/CALLING.md"
-PAGES = [TOP / "README.md", CALLING]
 MAP = TOP / "docs/MAP.md"
 # The calls whose contracts CALLING.md quotes.
 QUOTED = """encode try_encode encode_vec CobsEncoder::push CobsEncoder::finalize EncoderState::default EncoderState::clone
     decode CobsDecoder::push encode_frames FrameReader::next_frame""".split()
 HEADING = "## Contracts\n"
-
-
-def blocks(path, kind):
-    """The blocks in the doc comments of a file that begin with ``` and this word: the line of each, and its own lines."""
-    found, inside = [], None
-    for number, line in enumerate(path.read_text().splitlines(), 1):
-        comment = re.match(r"\s*//[/!] ?(.*)", line)
-        if comment and comment[1].startswith("```"):
-            inside = comment[1][3:] if inside is None else None
-            if inside == kind:
-                found.append((number, []))
-        elif inside == kind and comment and comment[1]:
-            found[-1][1].append(comment[1].strip())
-    return found
-
-
-def examples(path):
-    """The examples in the doc comments of a file: the line of each, and its own lines."""
-    return [(number, [text for text in lines if not text.startswith("use ")]) for number, lines in blocks(path, "")]
-
-
-def unprinted_answers():
-    """A line for each example of a law whose proof in the tests isn't printed with it, and each printed one that isn't there."""
-    files = sorted((TOP / "crates/cobs_vectors/proofs/doc_laws").glob("*/Answers.antt"))
-    answers = {
-        path.parent.name: [text.strip() for text in path.read_text().splitlines() if text and not text.endswith(" as goal")]
-        for path in files
-    }
-    for path in [SRC / "laws.rt", *sorted((SRC / "laws").glob("*.rt"))]:
-        printed = blocks(path, "antt")
-        for number, lines in printed:
-            if lines not in answers.values():
-                yield f"{path.relative_to(TOP)}:{number}: cobs_vectors has no such answer"
-        for number, lines in blocks(path, ""):
-            name = re.match(r"fn (\w+)", lines[0])
-            if name and name[1] in answers and answers[name[1]] not in [answer for _, answer in printed]:
-                yield f"{path.relative_to(TOP)}:{number}: the proof of {name[1]} isn't printed"
-
-
-def shown(path):
-    """The functions in the blocks of Rust of a page: the line of each block, and its lines."""
-    found, inside = [], False
-    for number, line in enumerate(path.read_text().splitlines(), 1):
-        text = re.sub(r"\s+// .*", "", line).strip()
-        if text.startswith("```"):
-            inside = text == "```rust"
-            if inside:
-                found.append((number, []))
-        elif inside and text and not re.match(r"(ghost )?use |//|#!?\[", text):
-            found[-1][1].append(text)
-    # of a test the statements, without its name and its last line
-    return [(number, lines[1:-2] if "rt: HostRuntime" in lines[0] else lines) for number, lines in found]
-
-
-def unrun_examples():
-    """A line for each example that isn't in the tests."""
-    run = "\n".join(line.strip() for path in TESTS for line in path.read_text().splitlines() if line.strip())
-    found = [(path, *example) for path in sorted(SRC.rglob("*.rt")) for example in examples(path)]
-    for path, number, lines in found + [(path, *example) for path in PAGES for example in shown(path)]:
-        if "\n".join(lines) not in run:
-            yield f"{path.relative_to(TOP)}:{number}: cobs_vectors lacks this example"
 
 
 def public_items(path):
@@ -216,7 +153,9 @@ def names_without_file():
 
 
 def main():
-    said = [*items_without_example(), *unrun_examples(), *unprinted_answers(), *files_off_map(), *names_without_file(), *private_names()]
+    if "--write" in sys.argv[1:]:
+        examples.write()
+    said = [*items_without_example(), *examples.complaints(), *files_off_map(), *names_without_file(), *private_names()]
     head, heading, tail = CALLING.read_text().partition(HEADING)
     before = tail.partition("```text\n")[0]
     wanted = head + heading + before + all_contracts()

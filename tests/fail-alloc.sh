@@ -3,7 +3,7 @@
 #
 # usage: tests/fail-alloc.sh [--rounds N] [FIRST]
 #
-# Two files of tests run again and again, unproved: crates/cobs_vectors/src/memory.rt and
+# Two files of tests run again and again, unproved: crates/cobs_frame_vectors/src/memory.rt and
 # crates/cobs_tool/src/refused_memory.rt. At round N the Nth growth that a test asks for fails. All of a file's
 # tests but the last have to pass in each round. The last one, which makes every call and wants its value, fails as long
 # as a growth of its own fails; the first round in which it passes has met no failure, and is that file's last.
@@ -80,9 +80,11 @@ refuse() {
     exit 1
 }
 
+copy cobs_bytes ''
 copy cobs ''
 copy cobs_lines ''
-copy cobs_vectors 'bytes|memory|messages|slices'
+copy cobs_vectors ''
+copy cobs_frame_vectors 'memory|messages|slices'
 copy cobs_tool 'refused_memory'
 refuse cobs_tool refused_memory::without_a_refusal_every_mode_writes_its_output
-refuse cobs_vectors memory::without_a_refusal_every_call_gives_its_value
+refuse cobs_frame_vectors memory::without_a_refusal_every_call_gives_its_value

@@ -1,62 +1,20 @@
-//! Tests of the crate `cobs`, as a caller sees it.
+//! Callers of the crate `cobs`, proved from its public clauses, and what the crates of tests share.
 //!
-//! The contracts of `cobs` say for every input what each call returns and what each buffer then holds. What is
-//! here is what no contract can say: that the contracts mean what they should (examples of the format and of the
-//! crate's own tests, with values worked out by hand), that a call succeeds where nothing is wrong, and what is
-//! printed and written as JSON.
+//! A contract of a caller is derived from the clauses of the calls that it makes. So a clause that says too little for
+//! its users is noticed here.
 //!
-//! A comment at a table, or at the function that checks a case, names the tests of the original crate, `cobs` 0.5.1,
-//! whose cases are there. All 41 are named; one has no row, and the comment in `encoding` says why. A table whose
-//! comment names none has cases of our own.
+//! The tests are in crates of their own, which have nothing else: `cobs_frame_vectors` of whole messages and frames,
+//! `cobs_stream_vectors` of streams, `cobs_doc_vectors` of the examples in the documentation. The contracts of `cobs` say
+//! for every input what each call returns and what each buffer then holds. The tests have what no contract can say: that
+//! the contracts mean what they should, by a plain reference; that a call succeeds if nothing is wrong; what is printed
+//! and written as JSON; and what allocates. Cases that every library of the format can run are in `conformance/`, those
+//! of the tests of the original crate, `cobs` 0.5.1, among them.
 #![tactic(auto)]
 
-#[cfg(test)]
-mod bytes;
+pub mod bytes;
 pub mod callers;
 pub mod clients;
-#[cfg(test)]
-mod decoding;
-#[cfg(test)]
-mod doc_decoders;
-#[cfg(test)]
-mod doc_examples;
-#[cfg(test)]
-mod doc_laws;
-#[cfg(test)]
-mod encoders;
-#[cfg(test)]
-mod encoding;
-#[cfg(test)]
-mod enumerated;
-#[cfg(test)]
-mod examples;
-#[cfg(test)]
-mod hostile;
-#[cfg(test)]
-mod memory;
-#[cfg(test)]
-mod messages;
 pub mod own_coders;
-#[cfg(test)]
-mod readers;
 pub mod receivers;
-#[cfg(test)]
-mod reference;
-#[cfg(test)]
-mod roundtrip;
-#[cfg(test)]
-mod scripts;
-#[cfg(test)]
-mod slices;
-#[cfg(test)]
-mod states;
-#[cfg(test)]
-mod streaming;
-#[cfg(test)]
-mod streams;
-#[cfg(test)]
-mod texts;
-#[cfg(test)]
-mod vectors;
-#[cfg(test)]
-mod worked_callers;
+pub mod reference;
+pub mod worked_callers;

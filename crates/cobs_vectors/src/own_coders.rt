@@ -9,7 +9,7 @@ ghost use Rattle.cobs.specs.Headline.{IsPiece};
 ghost use Rattle.cobs.specs.Length.{encoded_len, max_encoded_len};
 ghost use Rattle.cobs.specs.OpenBlock.{HasRoomFor};
 ghost use Rattle.cobs.specs.Piece.{is_whole, kept_output};
-ghost use Rattle.cobs.specs.Sentinel.{IsEncodedFrameFor};
+ghost use Rattle.cobs.specs.Sentinel.{IsEncodedFrameFor, IsFreeOf, xor_each};
 
 use cobs::laws::{law_1, law_4, law_6, law_15, law_16, law_17, law_19, law_20};
 use cobs::{
@@ -43,6 +43,17 @@ pub fn encode_for_link(message: &[u8], dest: &mut [u8], sentinel: u8) -> usize
         return encode(message, dest);
     }
     encode_with_sentinel(message, dest, sentinel)
+}
+
+/// Changes a frame to one for a sentinel, in its own buffer: it never contains the sentinel.
+pub fn change_sentinel(frame: &mut [u8], sentinel: u8)
+    ensures changed { frame.new ≡ xor_each sentinel frame.old }
+    ensures free { IsFrame frame.old → IsFreeOf sentinel frame.new }
+{
+    law_6();
+    for byte in frame.iter_mut() {
+        *byte ^= sentinel;
+    }
 }
 
 /// The length of a message's frame, counted in one pass: nothing is written.

@@ -1,6 +1,6 @@
-use Rattle.std.proofs.Common.{◌≡◌, ◌≢◌, ◌≤◌, ℕ, ◌+◌, List, [], ◌∷◌, ◌++◌, length, ap, sym, ◌∙◌, arith, append-nil, inr, rules}
+use Rattle.std.proofs.Common.{◌≡◌, ◌≢◌, ℕ, List, [], ◌∷◌, ◌++◌, length, ap, ◌∙◌, arith, append-nil, inr, rules}
 use Rattle.std.proofs.lemmas.List.Elements.{All-nil}
-use Rattle.cobs.specs.Grammar.{HasNoZero, IsEncodedFrame}
+use Rattle.cobs.specs.Grammar.{HasNoZero}
 use Rattle.cobs.specs.Laws.{IsAtSentinel}
 use Rattle.cobs.specs.Stream.{Outcome, Message, stream_outcomes, outcome_of}
 use Rattle.cobs_vectors.proofs.clients.append_to_log.Goals as goal

@@ -1,4 +1,4 @@
-use Rattle.std.proofs.Common.{◌≤◌, [], length, sym, ap, arith, length-take-le}
+use Rattle.std.proofs.Common.{[], length, sym, ap, arith, length-take-le}
 use Rattle.cobs_vectors.proofs.clients.broken_part.Goals as goal
 
 pub slice_bounds-part-end : goal.slice_bounds-part-end

@@ -1,4 +1,4 @@
-use Rattle.std.proofs.Common.{◌≡◌, ℕ, List, length, take, ap, subst, arith}
+use Rattle.std.proofs.Common.{ℕ, List, length, take, ap, subst, arith}
 use Rattle.cobs.specs.Headline.{BeginsWith, IsPiece}
 use Rattle.cobs_vectors.proofs.clients.no_other.Goals as goal
 

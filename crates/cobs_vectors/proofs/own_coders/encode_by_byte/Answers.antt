@@ -1,4 +1,4 @@
-use Rattle.std.proofs.Common.{◌≡◌, ◌≢◌, ◌<◌, ◌≤◌, ◌+◌, ◌-◌, ◌∙◌, ℕ, false, List, [], ◌∷◌, ◌++◌, length, replicate, take, drop, get_or, slice_set, ap, subst, arith, length-append, length-drop, take_all}
+use Rattle.std.proofs.Common.{◌≡◌, ◌≢◌, ◌<◌, ◌≤◌, ◌+◌, ◌-◌, ◌∙◌, ℕ, false, List, [], ◌++◌, length, replicate, take, drop, get_or, slice_set, ap, subst, arith, length-append, length-drop, take_all}
 use Rattle.std.proofs.lemmas.List.{length-replicate, length-set, take-append-drop, take_more}
 use Rattle.std.proofs.lemmas.List.Elements.{All-replicate}
 use Rattle.cobs.specs.Fields.Encoders.{IsPlaceIn}

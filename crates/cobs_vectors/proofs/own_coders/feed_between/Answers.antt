@@ -1,4 +1,4 @@
-use Rattle.std.proofs.Common.{None, Ok, subst, sym}
+use Rattle.std.proofs.Common.{None, Ok, subst}
 use Rattle.cobs.specs.Feed.{Feeds, Idle, Phase}
 use Rattle.cobs_vectors.proofs.own_coders.feed_between.Goals as goal
 

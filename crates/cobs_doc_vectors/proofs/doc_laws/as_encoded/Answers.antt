@@ -1,0 +1,4 @@
+use Rattle.cobs_doc_vectors.proofs.doc_laws.as_encoded.Goals as goal
+
+pub returns : goal.returns
+returns c = c.law_13.ensures.shorter _ _ _ _ c.requires.open c.requires.last_run

@@ -1,0 +1,10 @@
+use Rattle.std.proofs.Common.{[], ◌++◌, length, refl}
+use Rattle.cobs_doc_vectors.proofs.doc_laws.decode_in_two.Goals as goal
+
+pub returns : goal.returns
+returns g c =
+    let first = c.in_ok-found.ensures in
+    let second = c.in_ok-decode_stream.ensures.outcomes _ (first.after [] c.requires) in
+    let room = length (g.D.FrameDecoder.bytes c.args.decoder.now) in
+    let cut = c.law_9.ensures.cut c.args.first.now c.args.second.now room in
+    rw (first.outcomes [] c.requires, second, first.len, cut) refl

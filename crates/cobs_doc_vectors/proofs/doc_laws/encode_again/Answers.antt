@@ -1,0 +1,4 @@
+use Rattle.cobs_doc_vectors.proofs.doc_laws.encode_again.Goals as goal
+
+pub returns : goal.returns
+returns c = c.law_2.ensures.only _ _ _ c.encode.ensures.frame c.requires.frame

@@ -1,0 +1,4 @@
+use Rattle.cobs_doc_vectors.proofs.doc_laws.end_frame.Goals as goal
+
+pub returns : goal.returns
+returns c f m taken frame held = (c.law_18.ensures.fed _ _ f m _ _ _ c.feed.ensures.feeds taken frame held).0

@@ -1,0 +1,8 @@
+use Rattle.std.proofs.Common.{◌≡◌, ◌++◌, rules, subst, sym}
+use Rattle.cobs.specs.Grammar.{IsFrame}
+use Rattle.cobs_doc_vectors.proofs.doc_laws.join.Goals as goal
+
+pub returns : goal.returns
+returns c m k first second =
+    let joined : c.extend_from_slice.new.self.items ≡ c.args.first.now ++ c.args.second.now = search rules in
+    subst IsFrame (sym joined) (_, c.law_8.ensures.joined _ _ _ _ first second)

@@ -1,0 +1,5 @@
+use Rattle.std.proofs.Common.{refl}
+use Rattle.cobs_doc_vectors.proofs.doc_laws.reader_after_zero.Goals as goal
+
+pub new-requires : goal.new-requires
+new-requires c = (c.law_14.ensures.idle _ _).1 (c.feed-ended.ensures.feeds.zero_idle refl)

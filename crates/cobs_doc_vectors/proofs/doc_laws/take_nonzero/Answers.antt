@@ -1,0 +1,6 @@
+use Rattle.cobs.specs.OpenBlock.{place_at}
+use Rattle.cobs_doc_vectors.proofs.doc_laws.take_nonzero.Goals as goal
+
+pub returns : goal.returns
+returns c m full h =
+    c.law_16.ensures.joins _ m (place_at c.args.index c.args.code full) _ h c.requires.byte c.requires.code c.requires.room

@@ -1,0 +1,246 @@
+//! All lists of a few parts through each call that decodes a whole frame, and as messages, compared with the plain
+//! reference.
+use crate::slices::{Answer, Decoder, VectorCall, check_decoder, vector};
+use cobs::{DestBufTooSmallError, FrameKind, frame_kind, try_encode};
+use cobs_vectors::bytes::{LONG_FRAME, LONG_MESSAGE, ONES, chosen, joined, repeated};
+use cobs_vectors::reference::{Reading, frame_of, reading_of, split_at_zero};
+use std::alloc::{AllocError, Global};
+use std::process::Abort;
+use std::test::Fail;
+
+/// This many bytes of 170, written over by the front of the output that fits.
+fn written(alloc: Global, output: &[u8], room: usize) -> Result<Vec<u8>, AllocError> {
+    let mut filled = output.to_vec(alloc)?;
+    filled.resize(filled.len().max(room), 170)?;
+    filled.truncate(room);
+    Ok(filled)
+}
+
+/// `decode` into a buffer of 170s of this length.
+fn check_decode(rt: &impl Abort, alloc: Global, source: &[u8], room: usize) -> Result<(), Fail> {
+    let zeros = source.iter().take_while(|byte| **byte == 0).count();
+    let (_, behind_zeros) = source.split_at(zeros.min(source.len()));
+    let (piece, behind) = split_at_zero(behind_zeros);
+    let Reading {
+        output,
+        is_whole,
+        ..
+    } = reading_of(alloc, piece)?;
+    let answer = if source.is_empty() {
+        Answer::EmptyFrame
+    } else if piece.is_empty() {
+        Answer::InvalidFrame(0)
+    } else if output.len() > room {
+        Answer::TooSmall
+    } else if !is_whole {
+        Answer::InvalidFrame(output.len())
+    } else {
+        let terminator = if behind.is_some() { 1 } else { 0 };
+        let parsed = zeros.saturating_add(piece.len()).saturating_add(terminator);
+        Answer::Sizes(output.len(), parsed)
+    };
+    let before = repeated(alloc, 170, room)?;
+    let after = written(alloc, &output, room)?;
+    check_decoder(
+        rt,
+        alloc,
+        (Decoder::Decode, source, &before),
+        (answer, &after),
+    )
+}
+
+/// `decode_in_place_report`.
+fn check_in_place(rt: &impl Abort, alloc: Global, source: &[u8]) -> Result<(), Fail> {
+    let (head, _) = split_at_zero(source);
+    let Reading {
+        output,
+        is_whole,
+        kept,
+    } = reading_of(alloc, head)?;
+    let answer = if source.is_empty() {
+        Answer::EmptyFrame
+    } else if head.is_empty() || is_whole {
+        Answer::Sizes(output.len(), head.len())
+    } else {
+        Answer::InvalidFrame(kept)
+    };
+    let mut after = output;
+    after.truncate(kept);
+    if let Some(rest) = source.get(kept..) {
+        after.extend_from_slice(rest)?;
+    }
+    check_decoder(
+        rt,
+        alloc,
+        (Decoder::InPlaceReport, &[], source),
+        (answer, &after),
+    )
+}
+
+/// `decode_with_sentinel` into a buffer of 170s of this length.
+fn check_with_sentinel(
+    rt: &impl Abort,
+    alloc: Global,
+    source: &[u8],
+    room: usize,
+) -> Result<(), Fail> {
+    let (head, _) = split_at_zero(source);
+    let Reading {
+        output,
+        is_whole,
+        kept,
+    } = reading_of(alloc, head)?;
+    let answer = if source.is_empty() {
+        Answer::EmptyFrame
+    } else if kept > room {
+        Answer::TooSmall
+    } else if head.is_empty() || is_whole {
+        Answer::Length(kept)
+    } else {
+        Answer::InvalidFrame(kept)
+    };
+    let mut known = output;
+    known.truncate(kept);
+    let before = repeated(alloc, 170, room)?;
+    let after = written(alloc, &known, room)?;
+    check_decoder(
+        rt,
+        alloc,
+        (Decoder::WithSentinel(0), source, &before),
+        (answer, &after),
+    )
+}
+
+/// `frame_kind`: a frame is a whole piece without zeros, and it is the longer one of two where the encoder gives
+/// another one for its message.
+fn check_kind(rt: &impl Abort, alloc: Global, source: &[u8]) -> Result<(), Fail> {
+    let reading = reading_of(alloc, source)?;
+    let wanted = if source.contains(&0) || !reading.is_whole {
+        FrameKind::NotAFrame
+    } else if frame_of(alloc, &reading.output)?.as_slice() == source {
+        FrameKind::Canonical
+    } else {
+        FrameKind::Longer
+    };
+    assert_eq!(rt; frame_kind(source), wanted, "{source:?}");
+    Ok(())
+}
+
+/// Every call that decodes a list, into buffers of these lengths.
+fn check_list(rt: &impl Abort, alloc: Global, list: &[u8], rooms: &[usize]) -> Result<(), Fail> {
+    check_in_place(rt, alloc, list)?;
+    check_kind(rt, alloc, list)?;
+    for room in rooms {
+        check_decode(rt, alloc, list, *room)?;
+        check_with_sentinel(rt, alloc, list, *room)?;
+    }
+    Ok(())
+}
+
+/// All lists of this many of the parts, for each count: the count, and how many lists there are.
+fn check_lists(
+    rt: &impl Abort,
+    alloc: Global,
+    parts: &[&[u8]],
+    counts: &[(usize, usize)],
+    rooms: &[usize],
+) -> Result<(), Fail> {
+    for (count, numbers) in counts {
+        for number in 0..*numbers {
+            let list = chosen(alloc, parts, *count, number)?;
+            check_list(rt, alloc, &list, rooms)?;
+        }
+    }
+    Ok(())
+}
+
+#[test]
+fn every_short_list_decodes_as_the_reference_says(rt: HostRuntime) -> Result<(), Fail> {
+    let parts: [&[u8]; 5] = [&[0], &[1], &[2], &[3], &[255]];
+    let counts = [(0, 1), (1, 5), (2, 25), (3, 125), (4, 625), (5, 3125)];
+    check_lists(&rt, rt.alloc(), &parts, &counts, &[0, 1, 2, 3, 4, 5])
+}
+
+#[test]
+fn every_list_with_full_blocks_decodes_as_the_reference_says(rt: HostRuntime) -> Result<(), Fail> {
+    let full = joined(rt.alloc(), &[&[255], &ONES])?;
+    let nearly_full = joined(rt.alloc(), &[&[254], &[5; 252]])?;
+    let parts: [&[u8]; 5] = [&full, &nearly_full, &[0], &[1], &[2]];
+    let counts = [(1, 5), (2, 25), (3, 125)];
+    check_lists(
+        &rt,
+        rt.alloc(),
+        &parts,
+        &counts,
+        &[253, 254, 255, 507, 508, 1000],
+    )
+}
+
+#[test]
+fn a_frame_of_two_thousand_bytes_decodes_as_the_reference_says(
+    rt: HostRuntime,
+) -> Result<(), Fail> {
+    let frame = joined(rt.alloc(), LONG_FRAME)?;
+    check_list(&rt, rt.alloc(), &frame, &[1000, 2000, 2001])
+}
+
+/// A message to its frame, into a buffer that is a byte short and one that fits, and as vectors there and back.
+fn check_message(rt: &impl Abort, alloc: Global, message: &[u8], frame: &[u8]) -> Result<(), Fail> {
+    let room = frame.len().saturating_sub(1);
+    let mut short = repeated(alloc, 170, room)?;
+    assert_eq!(rt;
+        try_encode(message, &mut short),
+        Err(DestBufTooSmallError),
+        "{message:?}"
+    );
+    assert_eq!(rt; short, repeated(alloc, 170, room)?, "{message:?}");
+    let mut exact = repeated(alloc, 170, frame.len())?;
+    assert_eq!(rt;
+        try_encode(message, &mut exact),
+        Ok(frame.len()),
+        "{message:?}"
+    );
+    assert_eq!(rt; exact.as_slice(), frame, "{message:?}");
+    let made = vector(rt, alloc, VectorCall::Encode, message)?;
+    assert_eq!(rt; made.as_slice(), frame, "{message:?}");
+    let read = vector(rt, alloc, VectorCall::Decode, frame)?;
+    assert_eq!(rt; read.as_slice(), message);
+    Ok(())
+}
+
+/// All messages of this many of the parts, for each count: the count, and how many messages there are.
+fn check_messages(
+    rt: &impl Abort,
+    alloc: Global,
+    parts: &[&[u8]],
+    counts: &[(usize, usize)],
+) -> Result<(), Fail> {
+    for (count, numbers) in counts {
+        for number in 0..*numbers {
+            let message = chosen(alloc, parts, *count, number)?;
+            check_message(rt, alloc, &message, &frame_of(alloc, &message)?)?;
+        }
+    }
+    Ok(())
+}
+
+#[test]
+fn every_short_message_encodes_as_the_reference_says(rt: HostRuntime) -> Result<(), Fail> {
+    let parts: [&[u8]; 3] = [&[0], &[1], &[255]];
+    let counts = [(0, 1), (1, 3), (2, 9), (3, 27), (4, 81), (5, 243), (6, 729)];
+    check_messages(&rt, rt.alloc(), &parts, &counts)
+}
+
+#[test]
+fn every_message_with_long_runs_encodes_as_the_reference_says(rt: HostRuntime) -> Result<(), Fail> {
+    let parts: [&[u8]; 5] = [&[0], &[1], &[1; 253], &[1; 254], &[1; 255]];
+    let counts = [(1, 5), (2, 25), (3, 125), (4, 625)];
+    check_messages(&rt, rt.alloc(), &parts, &counts)
+}
+
+#[test]
+fn a_message_of_two_thousand_bytes_encodes_as_by_hand(rt: HostRuntime) -> Result<(), Fail> {
+    let message = joined(rt.alloc(), LONG_MESSAGE)?;
+    let frame = joined(rt.alloc(), LONG_FRAME)?;
+    check_message(&rt, rt.alloc(), &message, &frame)
+}

@@ -1,0 +1,122 @@
+//! Calls over slices: the call, its arguments, and what it must return and leave.
+use cobs::{
+    DecodeError, DecodeReport, DecodeVecError, decode, decode_in_place_report, decode_vec,
+    decode_vec_with_sentinel, decode_with_sentinel, encode_vec, encode_vec_including_sentinels,
+    encode_vec_with_sentinel,
+};
+use std::alloc::{AllocError, Global};
+use std::process::Abort;
+use std::test::Fail;
+
+/// A call that decodes into a buffer, or a buffer in place.
+#[derive(Clone, Copy)]
+pub enum Decoder {
+    Decode,
+    WithSentinel(u8),
+    InPlaceReport,
+}
+
+/// A call that returns a vector.
+#[derive(Clone, Copy)]
+pub enum VectorCall {
+    Encode,
+    EncodeWithSentinel(u8),
+    EncodeIncludingSentinels,
+    Decode,
+    DecodeWithSentinel(u8),
+}
+
+/// What a call that decodes returns.
+#[derive(Clone, Copy, Debug, PartialEq, Eq)]
+pub enum Answer {
+    /// This many bytes were written.
+    Length(usize),
+
+    /// A report with this frame size and this parsed size.
+    Sizes(usize, usize),
+
+    /// There was no byte to decode.
+    EmptyFrame,
+
+    /// The frame breaks off, with this many bytes decoded.
+    InvalidFrame(usize),
+
+    /// The message doesn't fit.
+    TooSmall,
+}
+
+/// The error of a decoder.
+pub fn refused(error: &DecodeError) -> Answer {
+    match error {
+        DecodeError::EmptyFrame => Answer::EmptyFrame,
+        DecodeError::InvalidFrame { decoded_bytes } => Answer::InvalidFrame(*decoded_bytes),
+        DecodeError::TargetBufTooSmall => Answer::TooSmall,
+    }
+}
+
+/// The result of a decoder that counts bytes.
+fn counted(answer: Result<usize, DecodeError>) -> Answer {
+    match answer {
+        Ok(count) => Answer::Length(count),
+        Err(error) => refused(&error),
+    }
+}
+
+/// The result of a decoder that reports sizes.
+fn reported(answer: Result<DecodeReport, DecodeError>) -> Answer {
+    match answer {
+        Ok(report) => Answer::Sizes(report.frame_size(), report.parsed_size()),
+        Err(error) => refused(&error),
+    }
+}
+
+/// Makes the call.
+fn decoded(call: Decoder, source: &[u8], buffer: &mut [u8]) -> Answer {
+    match call {
+        Decoder::Decode => reported(decode(source, buffer)),
+        Decoder::WithSentinel(sentinel) => counted(decode_with_sentinel(source, buffer, sentinel)),
+        Decoder::InPlaceReport => reported(decode_in_place_report(buffer)),
+    }
+}
+
+/// Makes the call, with this source (nothing in place) and the buffer before it: its result, and the buffer after it.
+pub fn check_decoder(
+    rt: &impl Abort,
+    alloc: Global,
+    (call, source, before): (Decoder, &[u8], &[u8]),
+    (answer, after): (Answer, &[u8]),
+) -> Result<(), Fail> {
+    let mut buffer = before.to_vec(alloc)?;
+    assert_eq!(rt;
+        decoded(call, source, &mut buffer),
+        answer,
+        "{source:?} into {before:?}"
+    );
+    assert_eq!(rt; buffer.as_slice(), after, "{source:?} into {before:?}");
+    Ok(())
+}
+
+/// Makes the call, for a source of less than 10,000 bytes.
+pub fn vector(
+    rt: &impl Abort,
+    alloc: Global,
+    call: VectorCall,
+    source: &[u8],
+) -> Result<Vec<u8>, DecodeVecError> {
+    assert!(rt; source.len() < 10_000);
+    let encoded = match call {
+        VectorCall::Decode => return decode_vec(alloc, source),
+        VectorCall::DecodeWithSentinel(sentinel) => {
+            return decode_vec_with_sentinel(alloc, source, sentinel);
+        }
+        VectorCall::Encode => encode_vec(alloc, source),
+        VectorCall::EncodeWithSentinel(sentinel) => {
+            encode_vec_with_sentinel(alloc, source, sentinel)
+        }
+        VectorCall::EncodeIncludingSentinels => encode_vec_including_sentinels(alloc, source),
+    };
+    match encoded {
+        Ok(frame) => Ok(frame),
+        Err(AllocError) => Err(DecodeVecError::Memory(AllocError)),
+    }
+}

@@ -1,0 +1,171 @@
+//! All lists of a few parts through each streaming decoder, compared with the plain reference.
+use crate::streaming::{Answer, Check, StreamingDecoder, check_all, fed};
+use cobs::{FrameOutcome, decode_stream};
+use cobs_vectors::bytes::{LONG_FRAME, ONES, chosen, joined};
+use cobs_vectors::reference::{Reading, reading_of, split_at_zero};
+use std::alloc::{AllocError, Global};
+use std::process::Abort;
+use std::test::Fail;
+
+/// Bytes to a streaming decoder of `room` bytes.
+#[derive(Drop)]
+struct Fed<'a> {
+    list: &'a [u8],
+    room: usize,
+}
+
+impl Check for Fed<'_> {
+    /// The result of each zero is that of the piece in front of it.
+    fn check<D: StreamingDecoder + Drop>(
+        &self,
+        rt: &impl Abort,
+        alloc: Global,
+        mut decoder: D,
+    ) -> Result<(), Fail> {
+        let Fed { list, room } = *self;
+        let mut piece = Vec::new(alloc);
+        for byte in list {
+            if *byte != 0 {
+                piece.push(*byte)?;
+            }
+            let Reading {
+                output,
+                is_whole,
+                ..
+            } = reading_of(alloc, &piece)?;
+            let wanted = if output.len() > room {
+                Answer::TooSmall
+            } else if *byte != 0 || piece.is_empty() {
+                Answer::Nothing
+            } else if is_whole {
+                Answer::Length(output.len())
+            } else {
+                Answer::InvalidFrame(output.len())
+            };
+            assert_eq!(rt;
+                fed(decoder.feed_one(*byte)),
+                wanted,
+                "{byte} in {list:?} over {room}"
+            );
+            let (front, _) = output.split_at(output.len().min(room));
+            assert!(rt;
+                decoder.whole_buffer().starts_with(front),
+                "{list:?} over {room}"
+            );
+            if *byte == 0 {
+                piece.clear();
+            }
+        }
+        Ok(())
+    }
+}
+
+/// Bytes and a zero, as a stream to a decoder of `room` bytes.
+#[derive(Drop)]
+struct Streamed<'a> {
+    list: &'a [u8],
+    room: usize,
+}
+
+/// The outcomes of the pieces that a stream has, over a buffer of `room` bytes.
+fn outcomes_of(alloc: Global, stream: &[u8], room: usize) -> Result<Vec<FrameOutcome>, AllocError> {
+    let mut outcomes = Vec::new(alloc);
+    let mut rest = stream;
+    for _ in stream {
+        let (piece, Some(behind)) = split_at_zero(rest) else {
+            break;
+        };
+        rest = behind;
+        if !piece.is_empty() {
+            let Reading {
+                output,
+                is_whole,
+                ..
+            } = reading_of(alloc, piece)?;
+            outcomes.push(if output.len() > room {
+                FrameOutcome::TooLong
+            } else if is_whole {
+                FrameOutcome::Message(output)
+            } else {
+                FrameOutcome::Broken(output.len())
+            })?;
+        }
+    }
+    Ok(outcomes)
+}
+
+impl Check for Streamed<'_> {
+    /// Each piece comes to what the reference reads.
+    fn check<D: StreamingDecoder + Drop>(
+        &self,
+        rt: &impl Abort,
+        alloc: Global,
+        mut decoder: D,
+    ) -> Result<(), Fail> {
+        let Streamed { list, room } = *self;
+        let stream = joined(alloc, &[list, &[0]])?;
+        let wanted = outcomes_of(alloc, &stream, room)?;
+        let found = decode_stream(alloc, &mut decoder, &stream)?;
+        assert_eq!(rt; found, wanted, "{stream:?} over {room}");
+        Ok(())
+    }
+}
+
+/// Each decoder over buffers of these lengths. Only a short list is fed byte by byte: there the reference reads each
+/// front anew.
+fn check_list(rt: &impl Abort, alloc: Global, list: &[u8], rooms: &[usize]) -> Result<(), Fail> {
+    for room in rooms {
+        check_all(rt, alloc, *room, &Streamed { list, room: *room })?;
+        if list.len() < 10 {
+            check_all(rt, alloc, *room, &Fed { list, room: *room })?;
+        }
+    }
+    Ok(())
+}
+
+/// All lists of this many of the parts, for each count: the count, and how many lists there are.
+fn check_lists(
+    rt: &impl Abort,
+    alloc: Global,
+    parts: &[&[u8]],
+    counts: &[(usize, usize)],
+    rooms: &[usize],
+) -> Result<(), Fail> {
+    for (count, numbers) in counts {
+        for number in 0..*numbers {
+            let list = chosen(alloc, parts, *count, number)?;
+            check_list(rt, alloc, &list, rooms)?;
+        }
+    }
+    Ok(())
+}
+
+#[test]
+fn every_short_list_decodes_as_the_reference_says(rt: HostRuntime) -> Result<(), Fail> {
+    let parts: [&[u8]; 5] = [&[0], &[1], &[2], &[3], &[255]];
+    let counts = [(0, 1), (1, 5), (2, 25), (3, 125), (4, 625), (5, 3125)];
+    check_lists(&rt, rt.alloc(), &parts, &counts, &[0, 1, 2, 3, 4, 5])
+}
+
+#[test]
+fn every_list_with_full_blocks_decodes_as_the_reference_says(rt: HostRuntime) -> Result<(), Fail> {
+    let full = joined(rt.alloc(), &[&[255], &ONES])?;
+    let nearly_full = joined(rt.alloc(), &[&[254], &[5; 252]])?;
+    let parts: [&[u8]; 5] = [&full, &nearly_full, &[0], &[1], &[2]];
+    let counts = [(1, 5), (2, 25), (3, 125)];
+    check_lists(
+        &rt,
+        rt.alloc(),
+        &parts,
+        &counts,
+        &[253, 254, 255, 507, 508, 1000],
+    )
+}
+
+#[test]
+fn a_frame_of_two_thousand_bytes_decodes_as_the_reference_says(
+    rt: HostRuntime,
+) -> Result<(), Fail> {
+    let frame = joined(rt.alloc(), LONG_FRAME)?;
+    check_list(&rt, rt.alloc(), &frame, &[1000, 2000, 2001])
+}

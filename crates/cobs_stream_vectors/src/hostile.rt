@@ -1,0 +1,152 @@
+//! Decoders in states that no careful caller brings about.
+use crate::streaming::{Answer, Check, StreamingDecoder, check_all, feed_all, overwrite};
+use cobs_vectors::bytes::{ONES, Parts, joined};
+use std::alloc::Global;
+use std::process::Abort;
+use std::test::Fail;
+
+/// Over a buffer of this many bytes: bytes that lead from idle to each phase.
+const FRONTS: [(usize, Parts); 10] = [
+    // idle, at the start and after a frame
+    (4, &[]),
+    (4, &[&[0]]),
+    (4, &[&[2, 5, 0]]),
+    // in a block, at its start, inside it, and at its end
+    (4, &[&[4]]),
+    (4, &[&[4, 7]]),
+    (4, &[&[3, 7, 8]]),
+    // in a full block, and at its end
+    (4, &[&[255, 1, 2]]),
+    (254, &[&[255], &ONES]),
+    // over, in a block and at its end
+    (4, &[&[9, 1, 2, 3, 4, 5]]),
+    (4, &[&[6, 1, 2, 3, 4, 5]]),
+];
+
+/// What comes after the write.
+const BEHIND: [&[u8]; 5] = [&[], &[1], &[3], &[2, 9], &[7, 8, 9, 1, 1, 1]];
+
+/// A buffer that is written to inside a piece: whatever comes of it, the decoder is idle after the next zero.
+#[derive(Drop)]
+struct Written<'a> {
+    front: &'a [u8],
+    behind: &'static [u8],
+    is_pushed: bool,
+}
+
+/// Gives the decoder bytes whose results don't matter.
+fn give<D: StreamingDecoder>(decoder: &mut D, bytes: &[u8], is_pushed: bool) {
+    if is_pushed {
+        let _ = decoder.push_some(bytes);
+    } else {
+        for byte in bytes {
+            let _ = decoder.feed_one(*byte);
+        }
+    }
+}
+
+/// The decoder is idle: the next frame is read.
+fn check_idle<D: StreamingDecoder>(rt: &impl Abort, decoder: &mut D) {
+    assert_eq!(rt; feed_all(rt, decoder, &[2, 5, 0]), Answer::Length(1));
+    assert!(rt; decoder.whole_buffer().starts_with(&[5]));
+}
+
+impl Check for Written<'_> {
+    fn check<D: StreamingDecoder + Drop>(
+        &self,
+        rt: &impl Abort,
+        _alloc: Global,
+        mut decoder: D,
+    ) -> Result<(), Fail> {
+        give(&mut decoder, self.front, self.is_pushed);
+        overwrite(&mut decoder, 77);
+        give(&mut decoder, self.behind, self.is_pushed);
+        give(&mut decoder, &[0], self.is_pushed);
+        check_idle(rt, &mut decoder);
+        Ok(())
+    }
+}
+
+/// A reset inside a piece: the decoder is idle at once, and its buffer is as it was.
+#[derive(Drop)]
+struct Resets<'a> {
+    front: &'a [u8],
+}
+
+impl Check for Resets<'_> {
+    fn check<D: StreamingDecoder + Drop>(
+        &self,
+        rt: &impl Abort,
+        alloc: Global,
+        mut decoder: D,
+    ) -> Result<(), Fail> {
+        give(&mut decoder, self.front, false);
+        let before = decoder.whole_buffer().to_vec(alloc)?;
+        if decoder.begin_anew() {
+            assert!(rt; decoder.whole_buffer() == before.as_slice());
+            assert_eq!(rt; feed_all(rt, &mut decoder, &[0]), Answer::Nothing);
+            check_idle(rt, &mut decoder);
+
+            give(&mut decoder, self.front, false);
+            let _ = decoder.begin_anew();
+            check_idle(rt, &mut decoder);
+        }
+        Ok(())
+    }
+}
+
+/// Writes to the buffer, and resets the decoder, after each front.
+fn check_fronts(
+    rt: &impl Abort,
+    alloc: Global,
+    fronts: &[(usize, Parts)],
+    behinds: &[&'static [u8]],
+) -> Result<(), Fail> {
+    for (room, front) in fronts {
+        let front = joined(alloc, front)?;
+        check_all(rt, alloc, *room, &Resets { front: &front })?;
+        for behind in behinds {
+            for is_pushed in [false, true] {
+                let written = Written {
+                    front: &front,
+                    behind: *behind,
+                    is_pushed,
+                };
+                check_all(rt, alloc, *room, &written)?;
+            }
+        }
+    }
+    Ok(())
+}
+
+#[test]
+fn a_decoder_forgets_at_a_zero_and_at_a_reset(rt: HostRuntime) -> Result<(), Fail> {
+    check_fronts(&rt, rt.alloc(), &FRONTS, &BEHIND)
+}
+
+/// What is written to the buffer inside a piece is in its message, and stays at a reset.
+#[derive(Drop)]
+struct Overwritten;
+
+impl Check for Overwritten {
+    fn check<D: StreamingDecoder + Drop>(
+        &self,
+        rt: &impl Abort,
+        _alloc: Global,
+        mut decoder: D,
+    ) -> Result<(), Fail> {
+        assert_eq!(rt; feed_all(rt, &mut decoder, &[3, 7]), Answer::Nothing);
+        overwrite(&mut decoder, 8);
+        assert_eq!(rt; feed_all(rt, &mut decoder, &[9, 0]), Answer::Length(2));
+        assert!(rt; decoder.whole_buffer() == [8, 9].as_slice());
+        overwrite(&mut decoder, 9);
+        let _ = decoder.begin_anew();
+        assert!(rt; decoder.whole_buffer() == [9, 9].as_slice());
+        Ok(())
+    }
+}
+
+#[test]
+fn what_is_written_stays(rt: HostRuntime) -> Result<(), Fail> {
+    check_all(&rt, rt.alloc(), 2, &Overwritten)
+}

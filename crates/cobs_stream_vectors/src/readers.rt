@@ -1,0 +1,254 @@
+//! Frames from readers that fail, that end and that never end, by a table. `conformance/reader.txt` has more reads.
+use cobs::{
+    CobsDecoder, CobsDecoderHeapless, CobsDecoderOwned, FrameDecoder, FrameReader, FrameSource,
+    Next, ReadFault, Recorded,
+};
+use std::alloc::Global;
+use std::io;
+use std::io::Read;
+use std::process::Abort;
+use std::test::Fail;
+
+/// What a reader gives.
+#[derive(Clone, Copy)]
+enum Given {
+    /// The bytes, at most this many a read.
+    Bytes(&'static [u8], usize),
+
+    /// This many zeros and then the bytes, one a read.
+    Zeros(u64, &'static [u8]),
+
+    /// The bytes, one a read, of which the second one fails, by an interruption or not.
+    Failing(&'static [u8], bool),
+}
+
+/// A reader that counts its reads.
+#[derive(Drop)]
+struct Counted {
+    zeros: u64,
+    bytes: &'static [u8],
+    at_a_time: usize,
+    second_fails: Option<io::ErrorKind>,
+    reads: usize,
+}
+
+/// The reader that gives this.
+fn reader_of(given: Given) -> Counted {
+    let (zeros, bytes, at_a_time, second_fails) = match given {
+        Given::Bytes(bytes, at_a_time) => (0, bytes, at_a_time, None),
+        Given::Zeros(zeros, bytes) => (zeros, bytes, 1, None),
+        Given::Failing(bytes, true) => (0, bytes, 1, Some(io::ErrorKind::Interrupted)),
+        Given::Failing(bytes, false) => (0, bytes, 1, Some(io::ErrorKind::TimedOut)),
+    };
+    Counted {
+        zeros,
+        bytes,
+        at_a_time,
+        second_fails,
+        reads: 0,
+    }
+}
+
+impl Read for Counted {
+    fn read(&mut self, buf: &mut [u8]) -> io::Result<usize> {
+        self.reads = self.reads.saturating_add(1);
+        if let (2, Some(kind)) = (self.reads, self.second_fails) {
+            return Err(io::Error::from(kind));
+        }
+        if let (Some(left), Some(place)) = (self.zeros.checked_sub(1), buf.first_mut()) {
+            self.zeros = left;
+            *place = 0;
+            return Ok(1);
+        }
+        let count = self.at_a_time.min(buf.len()).min(self.bytes.len());
+        let (given, rest) = self.bytes.split_at(count);
+        buf[..count].copy_from_slice(given);
+        self.bytes = rest;
+        Ok(count)
+    }
+}
+
+/// What a call of `next_frame` finds.
+#[derive(Clone, Copy)]
+enum Found {
+    Message(&'static [u8]),
+    Broken(usize),
+    TooLong,
+    End { unfinished: bool },
+    Io,
+    TooManyReads,
+}
+
+/// The result that says so.
+fn answer_of(found: Found) -> Result<Next, ReadFault> {
+    match found {
+        Found::Message(message) => Ok(Next::Message(message.len())),
+        Found::Broken(count) => Ok(Next::Broken(count)),
+        Found::TooLong => Ok(Next::TooLong),
+        Found::End { unfinished } => Ok(Next::End { unfinished }),
+        Found::Io => Err(ReadFault::Io),
+        Found::TooManyReads => Err(ReadFault::TooManyReads),
+    }
+}
+
+/// What a reader gives, what each call finds in it, and how often it has been read then.
+type ReaderRow = (Given, &'static [Found], usize);
+
+/// Finds the frames of a reader.
+fn find_all<D: FrameDecoder>(
+    rt: &impl Abort,
+    frames: &mut FrameReader<D>,
+    (given, wanted, reads): &ReaderRow,
+    row: usize,
+) {
+    let mut source = Recorded::new(reader_of(*given));
+    for (at, found) in wanted.iter().enumerate() {
+        let answer = frames.next_frame(&mut source);
+        assert_eq!(rt; answer, answer_of(*found), "row {row}, call {at}");
+        if let Found::Message(message) = found {
+            let is_there = frames.decoder().buffer().starts_with(message);
+            assert!(rt; is_there, "row {row}, call {at}");
+        }
+    }
+    assert_eq!(rt; source.into_inner().reads, *reads, "row {row}");
+}
+
+/// Finds the frames of some readers, one after the other.
+fn find_in_each<D: FrameDecoder + Drop>(
+    rt: &impl Abort,
+    mut frames: FrameReader<D>,
+    readers: &[ReaderRow],
+    row: usize,
+) {
+    for reader in readers {
+        find_all(rt, &mut frames, reader, row);
+    }
+}
+
+/// The end of a reader, after the end of a piece.
+const END: Found = Found::End { unfinished: false };
+
+/// A stream with a message, a broken piece, one that is too long for four bytes, and a message.
+const DAMAGED: &[u8] = &[0, 3, 7, 8, 0, 5, 1, 0, 6, 1, 2, 3, 4, 5, 0, 2, 9, 0];
+
+/// What is found in it.
+const OUTCOMES: &[Found] = &[
+    Found::Message(&[7, 8]),
+    Found::Broken(1),
+    Found::TooLong,
+    Found::Message(&[9]),
+    END,
+];
+
+/// Over a decoder of four bytes.
+const READERS: [&[ReaderRow]; 9] = [
+    // an unfinished piece goes on with another reader
+    &[
+        (
+            Given::Bytes(&[2, 5, 0, 3, 1], 64),
+            &[Found::Message(&[5]), Found::End { unfinished: true }],
+            2,
+        ),
+        (Given::Bytes(&[7, 0], 64), &[Found::Message(&[1, 7])], 1),
+    ],
+    // what was read goes on with another reader too
+    &[
+        (
+            Given::Bytes(&[1, 0, 1, 0, 2, 5, 0], 64),
+            &[Found::Message(&[])],
+            1,
+        ),
+        (
+            Given::Bytes(&[], 64),
+            &[Found::Message(&[]), Found::Message(&[5]), END],
+            1,
+        ),
+    ],
+    // each outcome
+    &[(Given::Bytes(DAMAGED, 5), OUTCOMES, 5)],
+    // a failed read inside a frame loses nothing
+    &[(
+        Given::Failing(&[2, 5, 0], false),
+        &[Found::Io, Found::Message(&[5]), END],
+        5,
+    )],
+    &[(
+        Given::Failing(&[2, 5, 0], true),
+        &[Found::Io, Found::Message(&[5]), END],
+        5,
+    )],
+    // zeros without end are given up at each call, after as many reads as it makes at most
+    &[(Given::Zeros(u64::MAX, &[]), &[Found::TooManyReads], 65_536)],
+    &[(
+        Given::Zeros(u64::MAX, &[]),
+        &[Found::TooManyReads, Found::TooManyReads],
+        131_072,
+    )],
+    // a frame may end with the last read of a call
+    &[(
+        Given::Zeros(65_534, &[1, 0]),
+        &[Found::Message(&[])],
+        65_536,
+    )],
+    &[(
+        Given::Zeros(65_535, &[1, 0]),
+        &[Found::TooManyReads, Found::Message(&[])],
+        65_537,
+    )],
+];
+
+/// Finds the frames of each row's readers, by each of the three decoders.
+fn check_readers(rt: &impl Abort, alloc: Global, rows: &[&[ReaderRow]]) -> Result<(), Fail> {
+    for (at, readers) in rows.iter().enumerate() {
+        let mut buffer = [0; 4];
+        find_in_each(
+            rt,
+            FrameReader::new(CobsDecoder::new(&mut buffer)),
+            readers,
+            at,
+        );
+        find_in_each(
+            rt,
+            FrameReader::new(CobsDecoderHeapless::<4>::new()),
+            readers,
+            at,
+        );
+        find_in_each(
+            rt,
+            FrameReader::new(CobsDecoderOwned::new(alloc, 4)?),
+            readers,
+            at,
+        );
+    }
+    Ok(())
+}
+
+#[test]
+fn frames_are_found_in_readers(rt: HostRuntime) -> Result<(), Fail> {
+    check_readers(&rt, rt.alloc(), &READERS)
+}
+
+#[test]
+fn a_source_reads_once_a_call_and_fails_only_with_its_reader(rt: HostRuntime) {
+    let mut reader = reader_of(Given::Failing(&[2, 5, 0, 3], false));
+    reader.at_a_time = 3;
+    let mut source = Recorded::new(reader);
+    let mut chunk = [9u8; 64];
+    assert_eq!(rt; source.read_some(&mut chunk), Some(3));
+    assert!(rt; chunk.as_slice().starts_with(&[2, 5, 0, 9]));
+    assert_eq!(rt; source.read_some(&mut chunk), None);
+    assert_eq!(rt; source.read_some(&mut chunk), Some(1));
+    assert!(rt; chunk.as_slice().starts_with(&[3]));
+    assert_eq!(rt; source.read_some(&mut chunk), Some(0));
+    assert_eq!(rt; source.into_inner().reads, 4);
+}
+
+#[test]
+fn a_reader_that_was_not_read_is_given_back_whole(rt: HostRuntime) -> Result<(), Fail> {
+    let mut reader = Recorded::new(reader_of(Given::Bytes(&[2, 5, 0], 64))).into_inner();
+    assert_eq!(rt; reader.reads, 0);
+    let mut given = [9u8; 8];
+    assert_eq!(rt; reader.read(&mut given)?, 3);
+    assert_eq!(rt; given, [2, 5, 0, 9, 9, 9, 9, 9]);
+    Ok(())
+}

@@ -1,0 +1,136 @@
+//! From messages to frames and back, in pieces.
+use crate::encoders::encode_in_pieces;
+use crate::streaming::{Answer, Check, StreamingDecoder, check_all, feed_all, pushed};
+use cobs::{CobsDecoder, CobsDecoderHeapless, CobsDecoderOwned, max_encoding_length};
+use cobs_vectors::bytes::{LONG_FRAME, LONG_MESSAGE, joined, repeated};
+use std::alloc::Global;
+use std::process::Abort;
+use std::test::Fail;
+
+/// The bytes from `first` to `2 * first - 1`, each modulo 256.
+fn ascending_from(alloc: Global, first: u16) -> Result<Vec<u8>, Fail> {
+    let mut bytes = Vec::new(alloc);
+    for number in first..first.saturating_mul(2) {
+        bytes.push((number % 256) as u8)?;
+    }
+    Ok(bytes)
+}
+
+/// Encodes the message pushed by 17 bytes, decodes its frame pushed by 11, and a sentinel fed.
+///
+/// Test of the original crate: `stream_roundtrip`, for messages of 1 to 1,000 bytes.
+fn check_stream(rt: &impl Abort, alloc: Global, message: &[u8]) -> Result<(), Fail> {
+    assert!(rt; message.len() <= 1000);
+    let mut frame = repeated(alloc, 0, max_encoding_length(message.len()))?;
+    let len = encode_in_pieces(rt, alloc, message, 17, &mut frame)?;
+    frame.truncate(len);
+
+    let mut buffer = repeated(alloc, 128, message.len())?;
+    let mut decoder = CobsDecoder::new(&mut buffer);
+    for piece in frame.chunks(11) {
+        assert_eq!(rt; decoder.push(piece), Ok(None));
+    }
+    assert_eq!(rt; decoder.feed(0), Ok(Some(message.len())));
+    assert!(rt; decoder.dest() == message);
+    assert_eq!(rt; buffer.as_slice(), message);
+    Ok(())
+}
+
+#[test]
+fn streams_go_there_and_back(rt: HostRuntime) -> Result<(), Fail> {
+    for first in 1..=1000 {
+        let message = ascending_from(rt.alloc(), first)?;
+        assert_eq!(rt; message.len(), usize::from(first));
+        check_stream(&rt, rt.alloc(), &message)?;
+    }
+    Ok(())
+}
+
+/// A frame of two blocks or more in pieces of one size, and then a sentinel.
+#[derive(Drop)]
+struct Pieces<'a> {
+    frame: &'a [u8],
+    size: usize,
+    answer: Answer,
+}
+
+impl Check for Pieces<'_> {
+    /// Each piece finds nothing or is an error, and the sentinel gets the result. Once a piece was an error, so is each
+    /// one after it. The buffer then holds what of the message fits.
+    fn check<D: StreamingDecoder + Drop>(
+        &self,
+        rt: &impl Abort,
+        alloc: Global,
+        mut decoder: D,
+    ) -> Result<(), Fail> {
+        let size = self.size;
+        assert!(rt; size > 0);
+        let mut last = Answer::Nothing;
+        for piece in self.frame.chunks(size) {
+            let (answer, _) = pushed(decoder.push_some(piece), piece.len());
+            if last == Answer::Nothing {
+                assert!(rt;
+                    answer == last || answer == self.answer,
+                    "in pieces of {size}"
+                );
+            } else {
+                assert_eq!(rt; answer, last, "in pieces of {size}");
+            }
+            last = answer;
+        }
+        let end = pushed(decoder.push_some(&[0]), 1);
+        assert_eq!(rt; end, (self.answer, 1), "in pieces of {size}");
+        assert_eq!(rt; last == Answer::TooSmall, self.answer == Answer::TooSmall);
+        let message = joined(alloc, LONG_MESSAGE)?;
+        assert!(rt;
+            message.as_slice().starts_with(decoder.whole_buffer()),
+            "in pieces of {size}"
+        );
+        Ok(())
+    }
+}
+
+#[test]
+fn pieces_of_any_size_give_the_message_or_overflow(rt: HostRuntime) -> Result<(), Fail> {
+    let mut frame = joined(rt.alloc(), LONG_FRAME)?;
+    for (room, answer) in [(2001, Answer::Length(2001)), (2000, Answer::TooSmall)] {
+        for size in [1, 7, 254, 255, 1000, 2008] {
+            check_all(
+                &rt,
+                rt.alloc(),
+                room,
+                &Pieces {
+                    frame: &frame,
+                    size,
+                    answer,
+                },
+            )?;
+        }
+    }
+    // The frame's last byte is the one that overflows.
+    let mut decoder = CobsDecoderOwned::new(rt.alloc(), 2000)?;
+    frame.push(0)?;
+    let found = pushed(decoder.push(&frame), frame.len());
+    assert_eq!(rt; found, (Answer::TooSmall, 2008));
+    Ok(())
+}
+
+/// Tests of the original crate: `stream_continuously_heapless` and `test_decoder_heapless_push_function`. Those of the
+/// other decoders are in `conformance/`, whose program knows this one only over four bytes.
+#[test]
+fn the_decoder_with_its_buffer_inside(rt: HostRuntime) {
+    let mut decoder = CobsDecoderHeapless::<32>::new();
+    for _ in 0..10 {
+        assert_eq!(rt;
+            feed_all(&rt, &mut decoder, b"\x0chello world\0"),
+            Answer::Length(11)
+        );
+        assert!(rt; decoder.dest().starts_with(b"hello world"));
+    }
+    let delimited = b"\0\x0chello world\0";
+    assert_eq!(rt;
+        pushed(decoder.push(delimited), 14),
+        (Answer::Length(11), 14)
+    );
+    assert!(rt; decoder.dest().starts_with(b"hello world"));
+}

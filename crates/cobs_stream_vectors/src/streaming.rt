@@ -1,0 +1,179 @@
+//! The three streaming decoders under one trait.
+use cobs::{
+    CobsDecoder, CobsDecoderHeapless, CobsDecoderOwned, DecodeError, DecodeReport, FrameDecoder,
+    PushError, WriteBuffer,
+};
+use cobs_vectors::bytes::repeated;
+use std::alloc::Global;
+use std::process::Abort;
+use std::test::Fail;
+
+/// A streaming decoder, by its own methods beside those of the library's traits.
+pub trait StreamingDecoder: FrameDecoder + WriteBuffer {
+    fn feed_one(&mut self, byte: u8) -> Result<Option<usize>, DecodeError>;
+
+    fn push_some(&mut self, bytes: &[u8]) -> Result<Option<DecodeReport>, PushError>;
+
+    fn whole_buffer(&self) -> &[u8];
+
+    /// Resets the decoder, and says whether it can be reset.
+    fn begin_anew(&mut self) -> bool;
+}
+
+impl StreamingDecoder for CobsDecoder<'_> {
+    fn feed_one(&mut self, byte: u8) -> Result<Option<usize>, DecodeError> {
+        self.feed(byte)
+    }
+
+    fn push_some(&mut self, bytes: &[u8]) -> Result<Option<DecodeReport>, PushError> {
+        self.push(bytes)
+    }
+
+    fn whole_buffer(&self) -> &[u8] {
+        self.dest()
+    }
+
+    fn begin_anew(&mut self) -> bool {
+        false
+    }
+}
+
+impl<const N: usize> StreamingDecoder for CobsDecoderHeapless<N> {
+    fn feed_one(&mut self, byte: u8) -> Result<Option<usize>, DecodeError> {
+        self.feed(byte)
+    }
+
+    fn push_some(&mut self, bytes: &[u8]) -> Result<Option<DecodeReport>, PushError> {
+        self.push(bytes)
+    }
+
+    fn whole_buffer(&self) -> &[u8] {
+        self.dest()
+    }
+
+    fn begin_anew(&mut self) -> bool {
+        self.reset();
+        true
+    }
+}
+
+impl StreamingDecoder for CobsDecoderOwned {
+    fn feed_one(&mut self, byte: u8) -> Result<Option<usize>, DecodeError> {
+        self.feed(byte)
+    }
+
+    fn push_some(&mut self, bytes: &[u8]) -> Result<Option<DecodeReport>, PushError> {
+        self.push(bytes)
+    }
+
+    fn whole_buffer(&self) -> &[u8] {
+        self.dest()
+    }
+
+    fn begin_anew(&mut self) -> bool {
+        self.reset();
+        true
+    }
+}
+
+/// What is tested of a new streaming decoder, whichever of the three it is.
+pub trait Check {
+    fn check<D: StreamingDecoder + Drop>(
+        &self,
+        rt: &impl Abort,
+        alloc: Global,
+        decoder: D,
+    ) -> Result<(), Fail>;
+}
+
+/// Checks each of the three decoders over a buffer of `room` zeros.
+pub fn check_all(
+    rt: &impl Abort,
+    alloc: Global,
+    room: usize,
+    check: &impl Check,
+) -> Result<(), Fail> {
+    let mut buffer = repeated(alloc, 0, room)?;
+    check.check(rt, alloc, CobsDecoder::new(&mut buffer))?;
+    check.check(rt, alloc, CobsDecoderOwned::new(alloc, room)?)?;
+    match room {
+        0 => check.check(rt, alloc, CobsDecoderHeapless::<0>::new()),
+        1 => check.check(rt, alloc, CobsDecoderHeapless::<1>::new()),
+        2 => check.check(rt, alloc, CobsDecoderHeapless::<2>::new()),
+        3 => check.check(rt, alloc, CobsDecoderHeapless::<3>::new()),
+        4 => check.check(rt, alloc, CobsDecoderHeapless::<4>::new()),
+        5 => check.check(rt, alloc, CobsDecoderHeapless::<5>::new()),
+        16 => check.check(rt, alloc, CobsDecoderHeapless::<16>::new()),
+        32 => check.check(rt, alloc, CobsDecoderHeapless::<32>::new()),
+        200 => check.check(rt, alloc, CobsDecoderHeapless::<200>::new()),
+        253 => check.check(rt, alloc, CobsDecoderHeapless::<253>::new()),
+        254 => check.check(rt, alloc, CobsDecoderHeapless::<254>::new()),
+        255 => check.check(rt, alloc, CobsDecoderHeapless::<255>::new()),
+        507 => check.check(rt, alloc, CobsDecoderHeapless::<507>::new()),
+        508 => check.check(rt, alloc, CobsDecoderHeapless::<508>::new()),
+        1000 => check.check(rt, alloc, CobsDecoderHeapless::<1000>::new()),
+        2000 => check.check(rt, alloc, CobsDecoderHeapless::<2000>::new()),
+        2001 => check.check(rt, alloc, CobsDecoderHeapless::<2001>::new()),
+        _ => panic!(rt; "no fixed vector of {room} bytes is listed"),
+    }
+}
+
+/// What a call returns.
+#[derive(Clone, Copy, Debug, PartialEq, Eq)]
+pub enum Answer {
+    /// Nothing is wrong, and no message has ended.
+    Nothing,
+
+    /// A message of this many bytes has ended.
+    Length(usize),
+
+    /// The frame breaks off, with this many bytes decoded.
+    InvalidFrame(usize),
+
+    /// The message doesn't fit.
+    TooSmall,
+}
+
+/// The error of a decoder.
+fn refused(error: &DecodeError) -> Answer {
+    match error {
+        DecodeError::EmptyFrame => Answer::Nothing,
+        DecodeError::InvalidFrame { decoded_bytes } => Answer::InvalidFrame(*decoded_bytes),
+        DecodeError::TargetBufTooSmall => Answer::TooSmall,
+    }
+}
+
+/// The result for a byte.
+pub fn fed(answer: Result<Option<usize>, DecodeError>) -> Answer {
+    match answer {
+        Ok(None) => Answer::Nothing,
+        Ok(Some(count)) => Answer::Length(count),
+        Err(error) => refused(&error),
+    }
+}
+
+/// The result for this many bytes, and how many of them were consumed.
+pub fn pushed(answer: Result<Option<DecodeReport>, PushError>, count: usize) -> (Answer, usize) {
+    match answer {
+        Ok(None) => (Answer::Nothing, count),
+        Ok(Some(report)) => (Answer::Length(report.frame_size()), report.parsed_size()),
+        Err(PushError { error, parsed_size }) => (refused(&error), parsed_size),
+    }
+}
+
+/// Feeds the bytes, and returns the last result. Each before it has to be that nothing has ended.
+pub fn feed_all<D: StreamingDecoder>(rt: &impl Abort, decoder: &mut D, bytes: &[u8]) -> Answer {
+    let mut last = Answer::Nothing;
+    for byte in bytes {
+        assert_eq!(rt; last, Answer::Nothing, "before {byte} in {bytes:?}");
+        last = fed(decoder.feed_one(*byte));
+    }
+    last
+}
+
+/// Writes this byte to every place of the buffer.
+pub fn overwrite<D: StreamingDecoder>(decoder: &mut D, byte: u8) {
+    for place in decoder.dest_mut().iter_mut() {
+        *place = byte;
+    }
+}

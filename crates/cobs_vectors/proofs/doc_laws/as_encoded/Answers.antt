@@ -1,4 +1,0 @@
-use Rattle.cobs_vectors.proofs.doc_laws.as_encoded.Goals as goal
-
-pub returns : goal.returns
-returns c = c.law_13.ensures.shorter _ _ _ _ c.requires.open c.requires.last_run

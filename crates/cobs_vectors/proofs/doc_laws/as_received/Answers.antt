@@ -1,4 +1,0 @@
-use Rattle.cobs_vectors.proofs.doc_laws.as_received.Goals as goal
-
-pub returns : goal.returns
-returns c held = c.law_6.ensures.received _ _ held

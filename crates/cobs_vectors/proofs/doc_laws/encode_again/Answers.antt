@@ -1,4 +1,0 @@
-use Rattle.cobs_vectors.proofs.doc_laws.encode_again.Goals as goal
-
-pub returns : goal.returns
-returns c = c.law_2.ensures.only _ _ _ c.encode.ensures.frame c.requires.frame

@@ -1,4 +1,0 @@
-use Rattle.cobs_vectors.proofs.doc_laws.is_begun.Goals as goal
-
-pub returns : goal.returns
-returns c lost m is reads = c.law_7.ensures.message _ lost _ m reads (c.reads_as.ensures.0 is).0

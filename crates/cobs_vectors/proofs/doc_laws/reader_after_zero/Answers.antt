@@ -1,5 +1,0 @@
-use Rattle.std.proofs.Common.{refl}
-use Rattle.cobs_vectors.proofs.doc_laws.reader_after_zero.Goals as goal
-
-pub new-requires : goal.new-requires
-new-requires c = (c.law_14.ensures.idle _ _).1 (c.feed-ended.ensures.feeds.zero_idle refl)
