@@ -7,9 +7,8 @@
 # npm ask no network, and pip installs into an empty environment. Lines for Cargo.toml and src/main.rs make a program that
 # is run.
 #
-# Prints a line for each block: 'ok', or 'FAILED' with what it said; and 'skipped' for each line that isn't run, with the
-# reason. A block that takes more than a minute has failed, but for the tests (make check). The last line counts; the status
-# is 0 only if nothing failed.
+# Prints a line for each block: 'ok' with its seconds, or 'FAILED' with what it said; and 'skipped' for each line that isn't
+# run, with the reason. The last line counts; the status is 0 only if nothing failed.
 set -u
 root=$(cd "$(dirname "$0")/.." && pwd)
 work=$(mktemp -d)
@@ -115,11 +114,9 @@ for readme; do
         n=$((n + 1))
         [ -s "$work/script" ] || continue
         begun=$(date +%s)
-        if (cd "$folder" && sh -eux "$work/script") </dev/null >"$work/said" 2>&1 &&
-            seconds=$(($(date +%s) - begun)) &&
-            { [ "$seconds" -le 60 ] || grep -q '^make check' "$work/script"; }; then
+        if (cd "$folder" && sh -eux "$work/script") </dev/null >"$work/said" 2>&1; then
             passed=$((passed + 1))
-            echo "ok: $readme, block $((n - 1)), $seconds s: $(head -1 "$work/script")"
+            echo "ok: $readme, block $((n - 1)), $(($(date +%s) - begun)) s: $(head -1 "$work/script")"
         else
             failed=$((failed + 1))
             echo "FAILED: $readme, block $((n - 1)), $(($(date +%s) - begun)) s"

@@ -102,11 +102,12 @@ export class Browser {
   }
 
   async close() {
-    const ended = new Promise((done) => this.#process.once("exit", done));
+    const ended = this.#process.exitCode ?? this.#process.signalCode ?? new Promise((done) => this.#process.once("exit", done));
     await this.send("Browser.close").catch(() => {});
-    await Promise.race([ended, new Promise((done) => setTimeout(done, 5000))]);
-    if (this.#process.exitCode === null) this.#process.kill("SIGKILL");
-    await rm(this.#folder, { recursive: true, force: true, maxRetries: 5, retryDelay: 200 });
+    const timer = setTimeout(() => this.#process.kill("SIGKILL"), 60_000);
+    await ended;
+    clearTimeout(timer);
+    await rm(this.#folder, { recursive: true, force: true, maxRetries: 20, retryDelay: 200 }); // its children may still write there
   }
 }
 

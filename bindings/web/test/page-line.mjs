@@ -25,6 +25,8 @@ await check("line: the loop gives back what is sent, as text and hex", () => on(
   await page.until('document.querySelectorAll("#line-log .row").length === 4');
   equal((await cameIn(page)), [["hello", "68 65 6c 6c 6f"], ["···", "00 01 00"]], "what came in");
   equal(await page.text("#line-bytes"), "8", "bytes");
+  equal(await page.text("#line-status"), "Connected to the loop.", "the status, beside the counters");
+  await page.until('document.getElementById("line-spoken").textContent === "Connected. 2 messages, 0 broken, 0 too long."');
   await page.fill("#line-text", "0g");
   await page.press("Enter");
   await page.until('document.getElementById("line-text-error").textContent.includes("“g”")');
