@@ -4,21 +4,15 @@
 # repository and without the toolchain. The last line here is their sum; the status is 0 only if nothing failed.
 set -u
 root=$(cd "$(dirname "$0")/.." && pwd)
-# The toolchain, if it is there.
-PATH=$PATH:/opt/rattle/bin
-export PATH
-said=$(mktemp)
-trap 'rm -f "$said"' EXIT
-passed=0
-failed=0
-skipped=0
+# shellcheck source=SCRIPTDIR/count.sh
+. "$root/tests/count.sh"
 
 counted() { # NAME COMMAND..
     name=$1
     shift
     echo "== $name"
-    "$@" | tee "$said"
-    counts=$(sed -n '$s/^\([0-9]*\) passed, \([0-9]*\) failed\(, \([0-9]*\) skipped\)*$/\1 \2 \4/p' "$said")
+    "$@" | tee "$work/said"
+    counts=$(sed -n '$s/^\([0-9]*\) passed, \([0-9]*\) failed\(, \([0-9]*\) skipped\)*$/\1 \2 \4/p' "$work/said")
     if [ -z "$counts" ]; then
         echo "FAILED: $name ended with no count"
         failed=$((failed + 1))
@@ -36,5 +30,4 @@ for run in "$root"/bindings/*/tests/run.sh; do
 done
 counted 'the commands of the READMEs' "$root/tests/readme.sh" bindings/c/README.md bindings/rust/README.md \
     bindings/python/README.md bindings/web/README.md README.md
-echo "$passed passed, $failed failed, $skipped skipped"
-[ "$failed" -eq 0 ]
+finish

@@ -1,5 +1,5 @@
 #!/bin/sh
-# Builds the library for 32-bit controllers, runs it in QEMU, and measures it.
+# Runs the libraries for 32-bit controllers in QEMU, and measures them.
 #
 # On each target: the vectors of the calls that it has, through the C interface; random calls, each compared with plain C,
 # with bytes around the buffers that no call may change, and states of random bytes. On a Cortex-M4: flash, stack and
@@ -9,45 +9,15 @@
 # Lists of flags are meant to be split.
 # shellcheck disable=SC2086,SC2317
 set -u
-top=$(cd "$(dirname "$0")/.." && pwd)
-device=$top/bindings/c/device
-include=$top/bindings/c/include
-work=$(mktemp -d)
-trap 'rm -rf "$work"' EXIT
-PATH=$PATH:/opt/rattle/bin
-passed=0
-failed=0
-skipped=0
-
-part() { # NAME COMMAND..
-    name=$1
-    shift
-    if "$@" >"$work/said" 2>&1; then
-        passed=$((passed + 1))
-        echo "ok: $name$(sed -n '/^= /{s/^= /: /p;q}' "$work/said")"
-    else
-        failed=$((failed + 1))
-        echo "FAILED: $name"
-        tail -20 "$work/said" | sed 's/^/    /'
-    fi
-}
-
-has() { # FILE-OR-TOOL PACKAGE PART
-    if command -v "$1" >/dev/null || [ -e "$1" ]; then return 0; fi
-    skipped=$((skipped + 1))
-    echo "skipped: $3: lacks Debian's $2"
-    return 1
-}
-
-finish() {
-    echo "$passed passed, $failed failed, $skipped skipped"
-    [ "$failed" -eq 0 ]
-    exit
-}
+root=$(cd "$(dirname "$0")/.." && pwd)
+device=$root/bindings/c/device
+include=$root/bindings/c/include
+# shellcheck source=SCRIPTDIR/count.sh
+. "$root/tests/count.sh"
 
 # The cases whose calls the library has.
 awk '$3 ~ /^(encode_vec|encode|try_encode|encoder|encode_frames|decode_vec|decode|decode_in_place|decode_in_place_report|frame_kind|decoder|decode_stream|max_encoding_length|max_encoding_overhead)$/' \
-    "$top"/conformance/*.txt >"$work/cases"
+    "$root"/conformance/*.txt >"$work/cases"
 
 arm() { # CPU OUTPUT SOURCE..
     cpu=$1
@@ -85,8 +55,8 @@ on_riscv() { # PROGRAM ARGUMENT..
         -semihosting-config "enable=on,target=native$arguments" -kernel "$program" 2>&1 || :
 }
 
-archive() { # TARGET
-    echo "$device/build/$1/libjcobs.a"
+archive() { # PROCESSOR
+    echo "$device/src/$1/libjcobs.a"
 }
 
 # Each case that is run passes, and this many are run.
@@ -102,15 +72,15 @@ random_pass() { # COMMAND..
     grep -q '^100000 random calls, none differs' "$work/random"
 }
 
-arm_target() { # TARGET CPU MACHINE
-    part "$1: build the tests" arm "$2" "$work/$1.vectors" "$top/bindings/c/tests/vectors.c" "$device/tests/absent.c" "$device/tests/pushed.c" "$(archive "$1")"
-    part "$1: vectors" vectors_pass on_arm "$3" "$work/$1.vectors" "$work/cases"
-    part "$1: build random calls" arm "$2" "$work/$1.random" "$device/tests/random.c" "$device/tests/plain.c" "$(archive "$1")"
-    part "$1: random calls" random_pass on_arm "$3" "$work/$1.random" 100000
+arm_target() { # PROCESSOR MACHINE
+    part "$1: build the tests" arm "$1" "$work/$1.vectors" "$root/bindings/c/tests/vectors.c" "$device/tests/absent.c" "$device/tests/pushed.c" "$(archive "$1")"
+    part "$1: vectors" vectors_pass on_arm "$2" "$work/$1.vectors" "$work/cases"
+    part "$1: build random calls" arm "$1" "$work/$1.random" "$device/tests/random.c" "$device/tests/plain.c" "$(archive "$1")"
+    part "$1: random calls" random_pass on_arm "$2" "$work/$1.random" 100000
 }
 
-riscv_target() { # TARGET
-    part "$1: build the tests" riscv "$work/$1.vectors" "$top/bindings/c/tests/vectors.c" "$device/tests/absent.c" "$device/tests/pushed.c" "$(archive "$1")"
+riscv_target() { # PROCESSOR
+    part "$1: build the tests" riscv "$work/$1.vectors" "$root/bindings/c/tests/vectors.c" "$device/tests/absent.c" "$device/tests/pushed.c" "$(archive "$1")"
     part "$1: vectors" vectors_pass on_riscv "$work/$1.vectors" "$work/cases"
     part "$1: build random calls" riscv "$work/$1.random" "$device/tests/random.c" "$device/tests/plain.c" "$(archive "$1")"
     part "$1: random calls" random_pass on_riscv "$work/$1.random" 100000
@@ -122,7 +92,7 @@ flash() { # LIMIT CALL..
     shift
     wanted=
     for it; do wanted="$wanted -u jcobs_$it"; done
-    arm-none-eabi-ld --gc-sections -e "jcobs_$1" $wanted "$(archive thumbv7em-none-eabi)" \
+    arm-none-eabi-ld --gc-sections -e "jcobs_$1" $wanted "$(archive cortex-m4)" \
         "$(arm-none-eabi-gcc -mcpu=cortex-m4 -mthumb -print-libgcc-file-name)" -o "$work/flash" || return 1
     taken=$(arm-none-eabi-size "$work/flash" | awk 'NR == 2 { print $1 + $2 }')
     echo "= $taken bytes of at most $limit"
@@ -137,23 +107,19 @@ plain_flash() { # CALL..: the same of plain C, for comparison
     echo "= $(arm-none-eabi-size "$work/flash" | awk 'NR == 2 { print $1 + $2 }') bytes"
 }
 
-# A call's stack: all functions of its object, and for the calls that are made of others those of the push that they make.
-stack_of() { # USAGE
-    awk -F '\t' '{ n += $2 } END { print n }' "$1"
-}
-
+# The stack of each call, as the compiler gave it; for those that are made of others with that of the push that they make.
 stack() {
-    most=0
-    for usage in "$device"/build/*/objects/*.su; do
-        taken=$(stack_of "$usage")
-        case $usage in
-        */decoder_feed.su | */encoder_feed.su) taken=$((taken + $(stack_of "${usage%feed.su}push.su"))) ;;
-        esac
-        [ "$taken" -le "$most" ] || most=$taken
-        echo "$taken $usage"
-    done
-    echo "= at most $most bytes a call, of 96"
-    [ "$most" -gt 0 ] && [ "$most" -le 96 ]
+    awk '{ own[FILENAME, $1] = $2 }
+        END {
+            for (each in own) {
+                taken = own[each]
+                split(each, at, SUBSEP)
+                if (at[2] ~ /coder_feed$/) { sub(/feed$/, "push", at[2]); taken += own[at[1], at[2]] }
+                if (taken > most) most = taken
+            }
+            print "= at most " most " bytes a call, of 96"
+            exit !(most > 0 && most <= 96)
+        }' "$device"/src/*/stack.txt
 }
 
 state() {
@@ -163,7 +129,7 @@ state() {
 
 # At most twice the instructions of plain C, for each call and kind of message.
 instructions() {
-    arm cortex-m4 "$work/measure" "$device/tests/measure.c" "$device/tests/plain.c" "$(archive thumbv7em-none-eabi)" || return 1
+    arm cortex-m4 "$work/measure" "$device/tests/measure.c" "$device/tests/plain.c" "$(archive cortex-m4)" || return 1
     icount='-icount shift=0' on_arm mps2-an386 "$work/measure" >"$work/instructions" || return 1
     cat "$work/instructions"
     awk '/^instructions/ { n++; if ($NF > most) most = $NF } END { print "= at most " most " hundredths of those of plain C"; exit !(n == 9 && most <= 200) }' \
@@ -194,19 +160,14 @@ sketch() {
     done
 }
 
-if ! command -v rt >/dev/null; then
-    echo "skipped tests/device.sh: it needs Rattle's toolchain"
-    exit 0
-fi
 has arm-none-eabi-gcc gcc-arm-none-eabi 'the device' || finish
 has /usr/lib/arm-none-eabi/include/stdio.h libnewlib-arm-none-eabi 'the device' || finish
 has qemu-system-arm qemu-system-arm 'the device' || finish
-part 'build' "$device/build.sh"
-arm_target thumbv6m-none-eabi cortex-m0plus mps2-an385
-arm_target thumbv7em-none-eabi cortex-m4 mps2-an386
+arm_target cortex-m0plus mps2-an385
+arm_target cortex-m4 mps2-an386
 if has riscv64-unknown-elf-gcc gcc-riscv64-unknown-elf riscv32imac && has qemu-system-riscv32 qemu-system-misc riscv32imac &&
     has /usr/lib/picolibc/riscv64-unknown-elf/picolibc.specs picolibc-riscv64-unknown-elf riscv32imac; then
-    riscv_target riscv32imac-unknown-none-elf
+    riscv_target riscv32imac
 fi
 part 'flash: decoder push and feed' flash 450 decoder_push decoder_feed
 part 'flash: the same in plain C' plain_flash decoder_push
@@ -219,14 +180,13 @@ part 'flash: everything' flash 2500 decoder_push decoder_feed decoder_reset deco
 part 'stack' stack
 part 'state: at most 16 bytes' state
 part 'instructions a byte' instructions
-firmware=$top/bindings/c/examples/firmware/test.py
+firmware=$root/bindings/c/examples/firmware/test.py
 part 'firmware on a serial line' "$firmware"
-watch=$top/crates/cobs_watch/out/cobs_watch
+watch=$root/crates/cobs_watch/out/cobs_watch
 if [ -x "$watch" ]; then
     part 'firmware on a serial line, shown by cobs_watch' "$firmware" "$watch"
 else
-    skipped=$((skipped + 1))
-    echo "skipped: firmware shown by cobs_watch: it is not built (rt run in crates/cobs_watch)"
+    skip 'firmware shown by cobs_watch' "it isn't built (rt run in crates/cobs_watch)"
 fi
 part 'library.json and library.properties' python3 "$device/tests/packages.py"
 part 'an Arduino sketch' sketch

@@ -9,29 +9,8 @@
 # skipped, and the tool named. The last line counts; the status is 0 only if nothing failed.
 set -u
 root=$(cd "$(dirname "$0")/.." && pwd)
-work=$(mktemp -d)
-trap 'rm -rf "$work"' EXIT
-passed=0
-failed=0
-skipped=0
-
-check() { # NAME COMMAND..
-    name=$1
-    shift
-    if "$@" >"$work/said" 2>&1; then
-        passed=$((passed + 1))
-        echo "ok: $name"
-    else
-        failed=$((failed + 1))
-        echo "FAILED: $name"
-        sed 's/^/    /' "$work/said"
-    fi
-}
-
-skip() { # PART REASON
-    skipped=$((skipped + 1))
-    echo "skipped: $1: $2"
-}
+# shellcheck source=SCRIPTDIR/count.sh
+. "$root/tests/count.sh"
 
 has_module() { # PYTHON MODULE
     "$1" -c "import $2" >/dev/null 2>&1
@@ -46,12 +25,6 @@ missing() { # PYTHON
     done
     headers=$("$1" -c 'import sysconfig; print(sysconfig.get_path("include"))')
     [ -f "$headers/Python.h" ] || printf 'python3-dev '
-}
-
-finish() {
-    echo "$passed passed, $failed failed$([ $skipped -eq 0 ] || echo ", $skipped skipped")"
-    [ $failed -eq 0 ]
-    exit
 }
 
 python=
@@ -70,7 +43,8 @@ tree=$work/tree
 mkdir -p "$tree/bindings"
 cp -R "$root/bindings/python" "$tree/bindings"
 (cd "$tree/bindings/python" && rm -rf build dist src/*.egg-info)
-ln -s "$root/bindings/c" "$tree/bindings/c"
+mkdir "$tree/bindings/c"
+ln -s "$root/bindings/c/include" "$root/bindings/c/prebuilt" "$tree/bindings/c"
 ln -s "$root/conformance" "$root"/LICENSE-* "$tree"
 package=$tree/bindings/python
 export PYTHONDONTWRITEBYTECODE=1 PIP_DISABLE_PIP_VERSION_CHECK=1 PIP_NO_INDEX=1
@@ -99,52 +73,52 @@ strict() { # PYTHON FILES..
 }
 
 echo "$("$python" --version), $python"
-check "an empty environment" environment "$work/first"
+part "an empty environment" environment "$work/first"
 here=$work/first/bin/python
-check "pip install" "$here" -m pip install -q --no-build-isolation "$package"
-check "the first example" first_example "$here"
-check "pytest" tests "$here" "$package/tests"
+part "pip install" "$here" -m pip install -q --no-build-isolation "$package"
+part "the first example" first_example "$here"
+part "pytest" tests "$here" "$package/tests"
 grep -h '^SKIPPED' "$work/said" | sed 's/^/    /'
 tail -n 1 "$work/said" | sed 's/^/    /'
 
 if command -v black >/dev/null; then
-    check "layout of the Python files" black -q --check "$package"
+    part "layout of the Python files" black -q --check "$package"
 else
     skip "layout of the Python files" "black is not there: install Debian's black"
 fi
 if command -v clang-format >/dev/null; then
-    check "layout of the C files" clang-format --dry-run -Werror "$root"/bindings/python/src/_core/*.[ch]
+    part "layout of the C files" clang-format --dry-run -Werror "$root"/bindings/python/src/_core/*.[ch]
 else
     skip "layout of the C files" "clang-format is not there: install Debian's clang-format"
 fi
 if command -v mypy >/dev/null; then
-    check "mypy --strict, the package" strict "$here" src/jcobs
-    check "mypy --strict, a user of the installed package" strict "$here" tests/typed.py
+    part "mypy --strict, the package" strict "$here" src/jcobs
+    part "mypy --strict, a user of the installed package" strict "$here" tests/typed.py
 else
     skip "types" "mypy is not there: install Debian's mypy"
 fi
 
 if has_module "$python" build; then
-    check "python -m build" in_work "$here" -m build --no-isolation --outdir "$work/dist" "$package"
+    part "python -m build" in_work "$here" -m build --no-isolation --outdir "$work/dist" "$package"
     wheel=$(echo "$work"/dist/jcobs-*-cp39-abi3-linux_*.whl)
-    check "one wheel for CPython 3.9 and later" test -f "$wheel"
-    check "an empty environment elsewhere" environment "$work/second"
+    part "one wheel for CPython 3.9 and later" test -f "$wheel"
+    part "an empty environment elsewhere" environment "$work/second"
     there=$work/second/bin/python
     mkdir "$work/elsewhere"
     archive=$(echo "$work"/dist/jcobs-*.tar.gz)
-    check "the source distribution is unpacked" tar -xzf "$archive" -C "$work/elsewhere" --strip-components 1
-    check "pip install of the source distribution" \
+    part "the source distribution is unpacked" tar -xzf "$archive" -C "$work/elsewhere" --strip-components 1
+    part "pip install of the source distribution" \
         env -u JCOBS_LIB_DIR "$there" -m pip install -q --no-build-isolation "$archive"
-    check "the first example, elsewhere" first_example "$there"
-    check "pytest, elsewhere" tests "$there" "$work/elsewhere/tests/test_calls.py"
+    part "the first example, elsewhere" first_example "$there"
+    part "pytest, elsewhere" tests "$there" "$work/elsewhere/tests/test_calls.py"
 
     mkdir "$work/wheel"
-    check "the wheel is unpacked" "$python" -m zipfile -e "$wheel" "$work/wheel"
+    part "the wheel is unpacked" "$python" -m zipfile -e "$wheel" "$work/wheel"
     others=0
     for minor in 9 10 11 12 13 14 15; do
         other=$(command -v "python3.$minor") && "$other" -c '' 2>/dev/null || continue
         others=$((others + 1))
-        check "the wheel on $("$other" --version)" env PYTHONPATH="$work/wheel" "$other" "$package/tests/smoke.py"
+        part "the wheel on $("$other" --version)" env PYTHONPATH="$work/wheel" "$other" "$package/tests/smoke.py"
     done
     [ $others -gt 0 ] || skip "other versions" "there is no python3.9 to python3.15"
 else

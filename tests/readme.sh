@@ -11,11 +11,8 @@
 # run, with the reason. The last line counts; the status is 0 only if nothing failed.
 set -u
 root=$(cd "$(dirname "$0")/.." && pwd)
-work=$(mktemp -d)
-trap 'rm -rf "$work"' EXIT
-passed=0
-failed=0
-skipped=0
+# shellcheck source=SCRIPTDIR/count.sh
+. "$root/tests/count.sh"
 
 # The PATH without the folders that have rt.
 path=
@@ -125,5 +122,4 @@ for readme; do
     done
     [ "$n" -gt 1 ] || { failed=$((failed + 1)); echo "FAILED: $readme has no commands"; }
 done
-echo "$passed passed, $failed failed, $skipped skipped"
-[ "$failed" -eq 0 ]
+finish

@@ -1,5 +1,5 @@
 #!/bin/sh
-# Makes the artifacts of a release and checks each: tests/release.sh [FOLDER]
+# Makes the artifacts of a release and checks each: tests/release.sh [--as-built] [FOLDER]
 #
 # In FOLDER, which a second run fills again with the same bytes, or in a folder that goes away:
 #   jcobs-VERSION-source.tar.gz            the repository
@@ -9,8 +9,9 @@
 #   jcobs-VERSION.tgz                      the package for Node and browsers, by npm
 #   jcobs-VERSION.crate                    the crate for Rust
 #   SHA256SUMS
-# Nothing is proved or compiled by the Rattle toolchain: the libraries are those of the folders prebuilt/, whose sums are
-# compared first. Each artifact is then unpacked or installed elsewhere, and an example of it runs. No network is used.
+# The libraries in them are those of the folders prebuilt/, whose sums are compared first. Then the toolchain proves and
+# builds them again, and the module, in some minutes, and the bytes are compared; not with --as-built. Each artifact is
+# unpacked or installed elsewhere, and an example of it runs. No network is used.
 #
 # Prints a line for each part: 'ok', 'FAILED' with what it said, or 'skipped' with the Debian packages that are missing. The
 # last line counts them; the status is 0 only if nothing failed.
@@ -19,8 +20,10 @@
 # shellcheck disable=SC2317
 set -u
 root=$(cd "$(dirname "$0")/.." && pwd)
-work=$(mktemp -d)
-trap 'rm -rf "$work"' EXIT
+# shellcheck source=SCRIPTDIR/count.sh
+. "$root/tests/count.sh"
+again=yes
+[ "${1:-}" != --as-built ] || { again=no && shift; }
 folder=${1:-$work/release}
 version=$(cat "$root/VERSION")
 SOURCE_DATE_EPOCH=1767225600
@@ -37,36 +40,6 @@ export SOURCE_DATE_EPOCH TZ LC_ALL PIP_NO_INDEX PIP_DISABLE_PIP_VERSION_CHECK PY
 export npm_config_cache npm_config_update_notifier PATH
 unset JCOBS_LIB_DIR PKG_CONFIG_PATH MAKEFLAGS MAKELEVEL PYTHONPATH PYTHONHOME
 umask 022
-passed=0
-failed=0
-skipped=0
-
-part() { # NAME COMMAND..
-    name=$1
-    shift
-    if "$@" </dev/null >"$work/said" 2>&1; then
-        passed=$((passed + 1))
-        echo "ok: $name"
-    else
-        failed=$((failed + 1))
-        echo "FAILED: $name"
-        tail -20 "$work/said" | sed 's/^/    /'
-        return 1
-    fi
-}
-
-has() { # TOOL-OR-FILE PACKAGE PART
-    command -v "$1" >/dev/null || [ -f "$1" ] && return 0
-    skipped=$((skipped + 1))
-    echo "skipped: $3: $1 is missing (Debian package $2)"
-    return 1
-}
-
-finish() {
-    echo "$passed passed, $failed failed, $skipped skipped"
-    [ "$failed" -eq 0 ]
-    exit
-}
 
 packed() { # ARCHIVE FOLDER NAME: the folder's NAME, the same bytes each time
     tar --sort=name --owner=0 --group=0 --numeric-owner --mode=u+rw,go+r-w,a+X --mtime="@$SOURCE_DATE_EPOCH" --format=ustar \
@@ -77,10 +50,10 @@ unpacked() { # ARCHIVE FOLDER: its contents, without the one folder that they ar
     mkdir -p "$2" && tar -xzf "$1" -C "$2" --strip-components 1
 }
 
-prints() { # EXPECTED COMMAND..
-    expected=$1
+writes() { # BYTES COMMAND..
+    bytes=$1
     shift
-    "$@" >"$work/printed" && printf '%b' "$expected" | cmp - "$work/printed"
+    "$@" >"$work/printed" && printf '%b' "$bytes" | cmp - "$work/printed"
 }
 
 # What is built is built in a copy, as a build writes beside what it builds.
@@ -95,7 +68,7 @@ sums() {
 source_archive() { packed "$folder/$name_of-source.tar.gz" "$work" "$name_of"; }
 
 c_archive() { # ARCH
-    make -C "$tree/bindings/c" dist RT= TARGET="$1-unknown-linux-gnu" &&
+    make -C "$tree/bindings/c" dist TARGET="$1-unknown-linux-gnu" &&
         cp "$tree/bindings/c/build/$1-unknown-linux-gnu/$name_of-$1-linux.tar.gz" "$folder"
 }
 
@@ -124,11 +97,17 @@ write_sums() { (cd "$folder" && sha256sum -- jcobs-* >SHA256SUMS.new && mv SHA25
 
 # The checks.
 
+libraries_again() {
+    "$root/bindings/c/prebuilt.sh" "$work/again" && diff -r "$work/again" "$root/bindings/rust/prebuilt"
+}
+
+module_again() { "$root/bindings/web/build.sh" to "$work/cobs.wasm" && cmp "$work/cobs.wasm" "$root/bindings/web/cobs.wasm"; }
+
 source_runs() { # the README's command for C, in what the archive has
     unpacked "$folder/$name_of-source.tar.gz" "$work/source" && (cd "$work/source" &&
         cp bindings/c/examples/send_lines.c program.c &&
         cc -Ibindings/c/include program.c "bindings/c/prebuilt/$(uname -m)-linux/libjcobs.a" -o program &&
-        echo hello | prints '\006hello\000' ./program)
+        echo hello | writes '\006hello\000' ./program)
 }
 
 c_runs() { # ARCH COMPILER [RUNNER..]
@@ -144,7 +123,7 @@ c_runs() { # ARCH COMPILER [RUNNER..]
                 $(pkg-config --variable=archive jcobs) -o "$example-$arch" || exit 1
         done
         echo hello | "$@" "./send_lines-$arch" >frames &&
-        prints 'message 5 68656c6c6f\n' "$@" "./read_frames-$arch" <frames)
+        writes 'message 5 68656c6c6f\n' "$@" "./read_frames-$arch" <frames)
 }
 
 device_runs() {
@@ -169,27 +148,27 @@ PROGRAM
         arm-none-eabi-gcc -mcpu=cortex-m4 -mthumb -Os -std=c99 -I"$there/src" --specs=rdimon.specs \
             -T "$tree/bindings/c/device/tests/mps2.ld" "$tree/bindings/c/device/tests/start_arm.c" "$work/device.c" \
             "$there/src/cortex-m4/libjcobs.a" -o "$work/device.elf" &&
-        prints '0 hello\n' timeout 900 qemu-system-arm -M mps2-an386 -nographic -monitor none -serial null \
+        writes '0 hello\n' timeout 900 qemu-system-arm -M mps2-an386 -nographic -monitor none -serial null \
             -semihosting-config enable=on,target=native,arg=program -kernel "$work/device.elf"
 }
 
 python_runs() { # ARTIFACT
     rm -rf "$work/environment" && "$python" -m venv --system-site-packages "$work/environment" &&
         (cd "$work" && environment/bin/python -m pip install -q --no-build-isolation --no-deps "$1" &&
-            prints "0668656c6c6f $version\n" environment/bin/python -c 'import jcobs; print(jcobs.encode(b"hello").hex(), jcobs.__version__)')
+            writes "0668656c6c6f $version\n" environment/bin/python -c 'import jcobs; print(jcobs.encode(b"hello").hex(), jcobs.__version__)')
 }
 
 node_runs() {
     mkdir -p "$work/node" && cp "$tree/bindings/web/examples/first.js" "$work/node" && (cd "$work/node" &&
         echo '{ "type": "module" }' >package.json && npm install --offline --no-audit --no-fund "$folder/$name_of.tgz" &&
-        prints '3 10 11 2 12\n10 11 0 12\n3 10 11 2 12 0\n9 0 1 8 6\n' node first.js)
+        writes '3 10 11 2 12\n10 11 0 12\n3 10 11 2 12 0\n9 0 1 8 6\n' node first.js)
 }
 
 crate_runs() {
     unpacked "$folder/$name_of.crate" "$work/crate" && mkdir -p "$work/program/src" && (cd "$work/program" &&
         printf '[package]\nname = "program"\nversion = "0.1.0"\nedition = "2021"\n\n[dependencies]\ncobs = { package = "jcobs", path = "../crate" }\n' >Cargo.toml &&
         printf 'fn main() {\n    let frame = cobs::encode_vec(b"hello");\n    println!("{:?} {:?}", frame, cobs::decode_vec(&frame));\n}\n' >src/main.rs &&
-        prints '[6, 104, 101, 108, 108, 111] Ok([104, 101, 108, 108, 111])\n' cargo run -q --offline)
+        writes '[6, 104, 101, 108, 108, 111] Ok([104, 101, 108, 108, 111])\n' cargo run -q --offline)
 }
 
 name_of=jcobs-$version
@@ -199,6 +178,16 @@ folder=$(cd "$folder" && pwd)
 rm -f "$folder"/jcobs-* "$folder/SHA256SUMS"
 part 'a copy of the repository' copy || finish
 part 'the sums of the libraries' sums
+part 'the libraries and the module are of these sources' "$root/tests/prebuilt.py"
+if [ "$again" = no ]; then
+    skip 'the libraries and the module, built again' '--as-built'
+elif command -v rt >/dev/null || [ -x /opt/rattle/bin/rt ]; then
+    part 'the libraries, built again' libraries_again
+    part 'the module, built again' module_again
+    part 'the libraries for microcontrollers, built again' "$root/bindings/c/device/build.sh"
+else
+    skip 'the libraries and the module, built again' "lacks Rattle's toolchain"
+fi
 
 part 'source archive' source_archive && has cc gcc 'the source archive runs' && part 'the source archive runs' source_runs
 for arch in x86_64 aarch64; do
@@ -230,8 +219,7 @@ if [ -n "$python" ]; then
         part 'the source distribution runs' python_runs "$folder/$name_of.tar.gz"
     }
 else
-    skipped=$((skipped + 1))
-    echo 'skipped: Python packages: a module is missing (Debian packages python3-build python3-setuptools python3-wheel python3-venv)'
+    skip 'Python packages' "lacks Debian's python3-build, python3-setuptools, python3-wheel or python3-venv"
 fi
 has npm npm 'Node package' && part 'Node package' node_package && part 'the Node package runs' node_runs
 has cargo cargo 'crate' && part 'crate' rust_crate && {

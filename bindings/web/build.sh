@@ -55,7 +55,13 @@ link() { # FILE URL
 }
 
 case ${1:-} in
-    '') need "$node" nodejs; build "$here/cobs.wasm"; "$node" "$here/pack.mjs" "$here/dist"; ls -l "$here/cobs.wasm" "$here/dist" ;;
+    '')
+        need "$node" nodejs
+        build "$here/cobs.wasm"
+        "$node" "$here/pack.mjs" "$here/dist"
+        PATH=$PATH:$kit/bin "$root/tests/prebuilt.py" --write web
+        ls -l "$here/cobs.wasm" "$here/dist"
+        ;;
     to) build "$2" ;;
     dist) need "$node" nodejs; "$node" "$here/pack.mjs" "${2:-$here/dist}" ;;
     site)

@@ -3,8 +3,9 @@
 #
 # Rattle names no 32-bit target. So `rt` proves and builds crates/cobs_small for x86-64, in a folder of links to the kit
 # in which `clang` is a script that keeps the module that it is given. The kit's own clang then compiles that module,
-# with each file of calls/, for a device. It needs the kit's `rt`, in the PATH or in /opt/rattle/bin. With PREBUILT=1 the
-# archives are also put into src/, where they are kept for those who have no kit.
+# with each file of calls/, for a device. It needs the kit's `rt`, in the PATH or in /opt/rattle/bin. The archives have to
+# be those of src/, where they are kept for those who have no kit, with the bytes of stack that each function takes; with
+# PREBUILT=1 they are put there.
 set -eu
 here=$(cd "$(dirname "$0")" && pwd)
 crate=$here/../../../crates/cobs_small
@@ -70,11 +71,15 @@ for target; do
     done
     rm "$out/module.bc"
     (cd "$out/objects" && "$kit/toolchain/bin/llvm-ar" rcD ../libjcobs.a ./*.o)
-    if [ "${PREBUILT:-}" = 1 ]; then
-        mkdir -p "$here/src/$kept" && cp "$out/libjcobs.a" "$here/src/$kept/"
-    elif [ -e "$here/src/$kept/libjcobs.a" ] && ! cmp "$out/libjcobs.a" "$here/src/$kept/libjcobs.a"; then
-        echo "build.sh: src/$kept/libjcobs.a is another one: PREBUILT=1 build.sh" >&2
-        exit 1
-    fi
+    (cd "$out/objects" && cut -d: -f3- ./*.su) >"$out/stack.txt"
+    for file in libjcobs.a stack.txt; do
+        if [ "${PREBUILT:-}" = 1 ]; then
+            mkdir -p "$here/src/$kept" && cp "$out/$file" "$here/src/$kept/"
+        elif ! cmp "$out/$file" "$here/src/$kept/$file"; then
+            echo "build.sh: src/$kept/$file is another one: PREBUILT=1 build.sh" >&2
+            exit 1
+        fi
+    done
     echo "$out/libjcobs.a"
 done
+[ "${PREBUILT:-}" != 1 ] || "$here/../../../tests/prebuilt.py" --write device

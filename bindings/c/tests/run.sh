@@ -10,50 +10,15 @@
 set -u
 c=$(cd "$(dirname "$0")/.." && pwd)
 cd "$c" || exit 1
-work=$(mktemp -d)
-trap 'rm -rf "$work"' EXIT
+# shellcheck source=SCRIPTDIR/../../../tests/count.sh
+. ../../tests/count.sh
 machine=$(uname -m)
 here=build/$machine-unknown-linux-gnu
 flags='-Wall -Wextra -Wpedantic -Wconversion -Werror'
-passed=0
-failed=0
-skipped=0
-
-part() { # NAME COMMAND..
-    name=$1
-    shift
-    if "$@" >"$work/said" 2>&1; then
-        passed=$((passed + 1))
-        echo "ok: $name"
-    else
-        failed=$((failed + 1))
-        echo "FAILED: $name"
-        sed 's/^/    /' "$work/said"
-    fi
-}
-
-# Whether a tool is there; else the part is skipped, and its package named.
-has() { # TOOL PACKAGE PART
-    command -v "$1" >/dev/null && return 0
-    skipped=$((skipped + 1))
-    echo "skipped: $3: lacks $1 (Debian package $2)"
-    return 1
-}
 
 # Whether a compiler has a C library to link with; it can come without one.
 links() { # COMPILER PACKAGE PART
-    [ -e "$("$1" -print-file-name=crti.o)" ] && return 0
-    skipped=$((skipped + 1))
-    echo "skipped: $3: $1 lacks its C library (Debian package $2)"
-    return 1
-}
-
-# Runs a command and compares what it prints.
-prints() { # EXPECTED COMMAND..
-    expected=$1
-    shift
-    "$@" >"$work/printed" || return 1
-    printf '%s\n' "$expected" | diff - "$work/printed"
+    has "$("$1" -print-file-name=crti.o)" "$2" "$3"
 }
 
 header() { # COMPILER LANGUAGE STANDARD..: the header alone, and twice
@@ -208,15 +173,6 @@ unpacked() (
     test -f "$root/share/man/man3/jcobs.3" && test -f "$root/share/doc/jcobs/README.md" && over "$root"
 )
 
-# The libraries of prebuilt/ are those that the toolchain builds from the crates as they are here. Another version of the
-# toolchain than SHA256SUMS names may build them too: the bytes decide.
-rebuilt() {
-    for arch in x86_64 aarch64; do
-        library=build/$arch-unknown-linux-gnu/libjcobs.a
-        make "TARGET=$arch-unknown-linux-gnu" "$library" && cmp "$library" "prebuilt/$arch-linux/libjcobs.a" || return 1
-    done
-}
-
 over_musl() {
     musl-gcc -static -Iinclude examples/send_lines.c "prebuilt/$machine-linux/libjcobs.a" -o "$work/musl" &&
         prints ' 03 68 69 00' sh -c "echo hi | '$work/musl' | od -An -tx1"
@@ -287,8 +243,7 @@ if has pkg-config pkg-config 'install and dist'; then
     if unshare -rm true 2>/dev/null; then
         part 'install to /usr/local' usr_local
     else
-        skipped=$((skipped + 1))
-        echo 'skipped: install to /usr/local: lacks a namespace of its own (unshare -rm)'
+        skip 'install to /usr/local' 'lacks a namespace of its own (unshare -rm)'
     fi
 fi
 if has cmake cmake 'find_package'; then
@@ -299,9 +254,6 @@ if has musl-gcc musl-tools 'over musl'; then
     part 'over musl' over_musl
 fi
 part 'prebuilt: the sums' sums
-if has rt 'none: the toolchain' 'prebuilt: built again'; then
-    part 'prebuilt: built again' rebuilt
-fi
 if has man man-db 'manual page'; then
     part 'manual page' manual
 fi
@@ -321,5 +273,4 @@ if [ "$machine" != aarch64 ] && has aarch64-linux-gnu-gcc gcc-aarch64-linux-gnu 
         part 'jcobs.hpp on aarch64' sh -c "make TARGET=aarch64-unknown-linux-gnu $at/cpp && $run $at/cpp"
     fi
 fi
-echo "$passed passed, $failed failed, $skipped skipped"
-[ "$failed" -eq 0 ]
+finish

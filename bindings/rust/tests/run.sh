@@ -12,38 +12,11 @@ rust=$(cd "$(dirname "$0")/.." && pwd)
 cd "$rust" || exit 1
 PATH=$PATH:$HOME/.cargo/bin
 export PATH
-work=$(mktemp -d)
-trap 'rm -rf "$work"' EXIT
-passed=0
-failed=0
-skipped=0
-
-part() { # NAME COMMAND..
-    name=$1
-    shift
-    if "$@" >"$work/said" 2>&1; then
-        passed=$((passed + 1))
-        echo "ok: $name"
-    else
-        failed=$((failed + 1))
-        echo "FAILED: $name"
-        sed 's/^/    /' "$work/said"
-    fi
-}
-
-skip() { # PART WHAT
-    skipped=$((skipped + 1))
-    echo "skipped: $1: lacks $2"
-}
-
-finish() {
-    echo "$passed passed, $failed failed, $skipped skipped"
-    [ "$failed" -eq 0 ]
-    exit
-}
+# shellcheck source=SCRIPTDIR/../../../tests/count.sh
+. ../../tests/count.sh
 
 if ! command -v cargo >/dev/null; then
-    skip 'bindings/rust' 'cargo (rustup, or Debian package cargo, from Rust 1.83 on)'
+    skip 'bindings/rust' 'lacks cargo (rustup, or Debian package cargo, from Rust 1.83 on)'
     finish
 fi
 # Whether a compiler is of the Rust that this crate needs.
@@ -52,12 +25,8 @@ is_recent() { # COMPILER
     [ "${version:-0}" -ge 83 ]
 }
 if ! is_recent rustc; then
-    skip 'bindings/rust' "Rust 1.83: this is $(rustc --version)"
+    skip 'bindings/rust' "lacks Rust 1.83: this is $(rustc --version)"
     finish
-fi
-# With the toolchain, the library is proved and built; otherwise it is that of prebuilt/.
-if [ -z "${JCOBS_LIB_DIR:-}" ] && command -v rt >/dev/null && command -v make >/dev/null; then
-    part 'build: the library' make -s -C ../c
 fi
 
 units() { # FEATURES..: the library and its tests in a program of their own, with warnings refused
@@ -181,25 +150,25 @@ part 'the package, built alone' packaged
 if [ "$(uname -m)" = aarch64 ]; then
     :
 elif ! compiler=$(compiler_for_aarch64); then
-    skip 'on aarch64' 'the target (rustup target add aarch64-unknown-linux-gnu, or Debian packages rustc-web and libstd-rust-web-dev:arm64)'
+    skip 'on aarch64' 'lacks the target (rustup target add aarch64-unknown-linux-gnu, or Debian packages rustc-web and libstd-rust-web-dev:arm64)'
 elif ! command -v aarch64-linux-gnu-gcc >/dev/null || [ ! -e /usr/aarch64-linux-gnu/lib/crti.o ] || ! command -v qemu-aarch64 >/dev/null; then
-    skip 'on aarch64' 'a compiler, its C library or an emulator (Debian packages gcc-aarch64-linux-gnu, libc6-dev-arm64-cross and qemu-user)'
+    skip 'on aarch64' 'lacks a compiler, its C library or an emulator (Debian packages gcc-aarch64-linux-gnu, libc6-dev-arm64-cross and qemu-user)'
 else
     part "on aarch64, by $("$compiler" --version)" on_aarch64 "$compiler"
 fi
 if cargo fmt --version >/dev/null 2>&1; then
     part 'layout' cargo fmt --check
 else
-    skip 'layout' rustfmt
+    skip 'layout' 'lacks rustfmt'
 fi
 if cargo clippy --version >/dev/null 2>&1; then
     part 'clippy' cargo clippy --offline --all-targets -- -D warnings
 else
-    skip 'clippy' clippy
+    skip 'clippy' 'lacks clippy'
 fi
 if [ -n "${COBS_TESTS:-}" ]; then
     part 'tests of the crate cobs' ./upstream-tests.sh "$COBS_TESTS"
 else
-    skip 'tests of the crate cobs' 'them: COBS_TESTS names no folder'
+    skip 'tests of the crate cobs' 'lacks them: COBS_TESTS names no folder'
 fi
 finish

@@ -16,7 +16,7 @@ import tty
 from pathlib import Path
 
 HERE = Path(__file__).resolve().parent
-LIBRARY = HERE.parent.parent / "device/build/thumbv7em-none-eabi/libjcobs.a"
+LIBRARY = HERE.parent.parent / "device/src/cortex-m4/libjcobs.a"
 FLAGS = """-mcpu=cortex-m4 -mthumb -Os -std=c99 -ffreestanding -Wall -Wextra -Werror -ffunction-sections
     -Wl,--gc-sections -nostdlib""".split()
 

@@ -1,0 +1,48 @@
+# Counts what passed, failed and was skipped: the tests source this file.
+#
+# `part` runs a command, and prints 'ok' with what it said after '= ', or 'FAILED' with the end of what it said; `has` and
+# `skip` print 'skipped' with what is missing; `finish` ends with the line that counts them, and the status 0 only if
+# nothing failed. $work is a folder that goes away.
+# shellcheck shell=sh
+work=$(mktemp -d)
+trap 'rm -rf "$work"' EXIT
+passed=0
+failed=0
+skipped=0
+
+part() { # NAME COMMAND..
+    name=$1
+    shift
+    if "$@" </dev/null >"$work/said" 2>&1; then
+        passed=$((passed + 1))
+        echo "ok: $name$(sed -n '/^= /{s/^= /: /p;q}' "$work/said")"
+    else
+        failed=$((failed + 1))
+        echo "FAILED: $name"
+        tail -n 50 "$work/said" | sed 's/^/    /'
+        return 1
+    fi
+}
+
+skip() { # PART REASON
+    skipped=$((skipped + 1))
+    echo "skipped: $1: $2"
+}
+
+has() { # TOOL-OR-FILE PACKAGE PART
+    if command -v "$1" >/dev/null || [ -f "$1" ]; then return 0; fi
+    skip "$3" "lacks Debian's $2"
+    return 1
+}
+
+prints() { # EXPECTED COMMAND..: the command prints this line
+    expected=$1
+    shift
+    "$@" >"$work/printed" && printf '%s\n' "$expected" | diff - "$work/printed"
+}
+
+finish() {
+    echo "$passed passed, $failed failed, $skipped skipped"
+    [ "$failed" -eq 0 ]
+    exit
+}

@@ -1,0 +1,91 @@
+#!/bin/sh
+# Tests in two minutes, without the Rattle toolchain, what comes built: the library for C, the packages for Rust, Python and
+# Node over it, and the documents.
+#
+# Each language builds and runs a first frame and all cases of conformance/. It takes Debian's gcc, cargo (Rust 1.83),
+# nodejs, and python3-dev, python3-setuptools and python3-pytest; what is missing is skipped and named. Nothing is written
+# into the repository.
+#
+# The functions are called by 'part'.
+# shellcheck disable=SC2317
+set -u
+root=$(cd "$(dirname "$0")/.." && pwd)
+# shellcheck source=SCRIPTDIR/count.sh
+. "$root/tests/count.sh"
+c=$root/bindings/c
+web=$root/bindings/web
+JCOBS_LIB_DIR=$c/prebuilt/$(uname -m)-linux
+PATH=$PATH:$HOME/.cargo/bin
+export JCOBS_LIB_DIR PATH CARGO_TARGET_DIR="$work/target" CARGO_NET_OFFLINE=true PYTHONDONTWRITEBYTECODE=1
+
+compiled() { # SOURCE PROGRAM
+    cc -std=c99 -O2 -Wall -Wextra -Werror -I"$c/include" "$c/$1" "$JCOBS_LIB_DIR/libjcobs.a" -o "$work/$2"
+}
+
+first_in_c() {
+    compiled examples/send_lines.c send && prints ' 06 68 65 6c 6c 6f 00' sh -c "echo hello | '$work/send' | od -An -tx1"
+}
+
+cases_in_c() { compiled tests/vectors.c vectors && "$work/vectors" "$root"/conformance/*.txt; }
+
+first_in_rust() (
+    mkdir -p "$work/app/src" && cd "$work/app" &&
+        printf '[package]\nname = "app"\nedition = "2021"\n[dependencies]\ncobs = { package = "jcobs", path = "%s" }\n' \
+            "$root/bindings/rust" >Cargo.toml &&
+        echo 'fn main() { println!("{:?}", cobs::encode_vec(b"hello")); }' >src/main.rs &&
+        prints '[6, 104, 101, 108, 108, 111]' cargo run -q
+)
+
+# A copy, with a Cargo.lock of its own.
+tests_in_rust() (
+    mkdir -p "$work/tree/bindings" && cp -R "$root/bindings/rust" "$work/tree/bindings" && ln -s "$root/conformance" "$work/tree" &&
+        cd "$work/tree/bindings/rust" && cargo test
+)
+
+extension() (
+    mkdir -p "$work/tree/bindings/c" && cp -R "$root/bindings/python" "$work/tree/bindings" &&
+        ln -s "$c/include" "$work/tree/bindings/c" && cd "$work/tree/bindings/python" &&
+        "$python" setup.py -q build_ext --inplace
+)
+
+in_python() { # ARGUMENT..
+    PYTHONPATH=$work/tree/bindings/python/src "$python" "$@"
+}
+
+first_in_node() {
+    prints '2,1,2,2' "$node" --input-type=module -e \
+        "import { encode, load } from '$web/jcobs.js'; await load(); console.log(String(encode(Uint8Array.of(1, 0, 2))))"
+}
+
+if has cc gcc 'C'; then
+    part 'C: the first frame' first_in_c
+    part 'C: all cases' cases_in_c
+fi
+if has cargo cargo 'Rust'; then
+    if [ "$(rustc --version | sed -n 's/^rustc 1\.\([0-9]*\)\..*/\1/p')" -ge 83 ]; then
+        part 'Rust: the first frame' first_in_rust
+        part 'Rust: the tests of the crate, with all cases' tests_in_rust
+    else
+        skip 'Rust' "it needs Rust 1.83: this is $(rustc --version)"
+    fi
+fi
+python=${PYTHON:-/usr/bin/python3}
+if has "$python" python3 'Python' && has cc gcc 'Python'; then
+    if "$python" -c 'import os, setuptools, pytest, sysconfig; os.stat(sysconfig.get_path("include") + "/Python.h")' 2>/dev/null; then
+        part 'Python: the extension' extension
+        part 'Python: the first frame' prints "b'\\x06hello'" in_python -c 'import jcobs; print(jcobs.encode(b"hello"))'
+        part 'Python: all cases' in_python -m pytest -q -p no:cacheprovider "$root/bindings/python/tests/test_conformance.py"
+    else
+        skip 'Python' "lacks Debian's python3-dev, python3-setuptools or python3-pytest"
+    fi
+fi
+node=${NODE:-node}
+if has "$node" nodejs 'Node'; then
+    part 'Node: the first frame' first_in_node
+    part 'Node: all cases' "$node" "$web/test/vectors.mjs" "$web/cobs.wasm" "$root/conformance"
+fi
+if has python3 python3 'the documents'; then
+    part 'what is built is of these sources' "$root/tests/prebuilt.py"
+    part 'the documents' "$root/tests/docs.py"
+fi
+finish
