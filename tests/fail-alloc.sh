@@ -57,7 +57,7 @@ refuse() {
     cd "$work/crates/$1" || exit 2
     round=$first
     while [ "$round" -le "$last" ]; do
-        rt try --test --fail-alloc "$round" > "$work/log" 2>&1
+        rt try --test --seconds 900 --fail-alloc "$round" > "$work/log" 2>&1
         if ! grep -q "^test $2 \.\.\. " "$work/log"; then
             cat "$work/log"
             echo "$1, round $round: the tests did not run"
