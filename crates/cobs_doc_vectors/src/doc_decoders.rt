@@ -9,6 +9,7 @@ use cobs::{
     PieceEnd, PushError, UnbufferedDecoder, WriteBuffer,
 };
 use std::test::Fail;
+
 #[test]
 fn cobs_decoder_example(rt: HostRuntime) -> Result<(), Fail> {
     let mut buffer = [0; 8];

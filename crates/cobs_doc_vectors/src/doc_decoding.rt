@@ -4,11 +4,13 @@
 //! `dec/`. An example is changed there.
 
 use cobs::{
-    CobsDecoder, DecodeError, DecodeResult, DecodeVecError, DecoderState, DecodingResult, FrameKind,
-    PushError, decode, decode_in_place, decode_in_place_report, decode_in_place_with_sentinel,
-    decode_vec, decode_vec_with_sentinel, decode_with_sentinel, frame_kind,
+    CobsDecoder, DecodeError, DecodeResult, DecodeVecError, DecoderState, DecodingResult,
+    FrameKind, PushError, decode, decode_in_place, decode_in_place_report,
+    decode_in_place_with_sentinel, decode_vec, decode_vec_with_sentinel, decode_with_sentinel,
+    frame_kind,
 };
 use std::test::Fail;
+
 #[test]
 fn decode_example(rt: HostRuntime) -> Result<(), Fail> {
     let mut dest = [170; 12];
