@@ -12,6 +12,7 @@ usage: tests/docs.py [--write]
 - The contracts in crates/cobs/CALLING.md are those of src, of the calls in QUOTED. With --write they are written.
 - No file outside crates/cobs names its proofs: what a caller cites are its specs and its laws.
 - docs/MAP.md names each file of the repository, or a folder that it is in.
+- Each block of tests/wrong_code.txt can be applied. `tests/REFUSED.md` counts and names these and the edits of must-fail/.
 - Each document is in plain words and short enough; its links, the paths and commands that it shows, and the clauses
   that it names are there; all versions are that of the file VERSION (prose.py).
 
@@ -26,6 +27,7 @@ from pathlib import Path, PurePosixPath
 
 import examples
 import prose
+import wrong_code
 
 TOP = Path(__file__).resolve().parent.parent
 SRC = TOP / "crates/cobs/src"
@@ -152,10 +154,28 @@ def names_without_file():
             yield f"docs/MAP.md: it names {name}, which isn't there"
 
 
+def wrong_code_amiss():
+    """A line for each block that can't be applied, and for what `tests/REFUSED.md` does not say of the blocks and the edits."""
+    blocks = wrong_code.all_blocks()
+    for block in blocks:
+        try:
+            block.texts(TOP / "crates")
+        except (OSError, ValueError) as why:
+            yield f"tests/wrong_code.txt: {block.name}: {why}"
+    edits = [path.stem for path in sorted((TOP / "crates").glob("*/must-fail/*.edit"))]
+    text = (TOP / "tests/REFUSED.md").read_text()
+    there, named = [*edits, *(block.name for block in blocks)], re.findall(r"`(\w+-\w+)`", text)
+    yield from (f"tests/REFUSED.md: it doesn't name {name}" for name in there if f"`{name}`" not in text)
+    yield from (f"tests/REFUSED.md: it names {name}, which isn't there" for name in named if name not in there)
+    for count in (f"{len(edits)} edits", f"{len(blocks)} blocks"):
+        if count not in text:
+            yield f"tests/REFUSED.md: these are {count}"
+
+
 def main():
     if "--write" in sys.argv[1:]:
         examples.write()
-    said = [*items_without_example(), *examples.complaints(), *files_off_map(), *names_without_file(), *private_names()]
+    said = [*items_without_example(), *examples.complaints(), *files_off_map(), *names_without_file(), *private_names(), *wrong_code_amiss()]
     head, heading, tail = CALLING.read_text().partition(HEADING)
     before = tail.partition("```text\n")[0]
     wanted = head + heading + before + all_contracts()

@@ -204,26 +204,31 @@ def other_versions():
                 yield f"{name}: jcobs-{found}, where VERSION is {version}"
 
 
+def contracts(path):
+    """Each function of a source: its type, or None, its name, and the names of its clauses."""
+    found, owner = [], None
+    for line in path.read_text().splitlines():
+        block = re.match(r"(?:pub )?(?:impl|trait)\b(?:<[^{]*?>)? *(?:[\w:]+(?:<.*>)? for )?(\w+).*\{$", line)
+        function = re.match(r" *(?:pub )?(?:extern \"C\" )?fn (\w+)", line)
+        clause = re.match(r" *ensures\*? (\w+) \{", line)
+        if block:
+            owner = block[1]
+        elif line == "}":
+            owner = None
+        elif function:
+            found.append((owner, function[1], []))
+        elif clause and found:
+            found[-1][2].append(clause[1])
+    return found
+
+
 def clauses():
     """The clauses of each function and the fields of each record, by its name, and by its type's name with it."""
     known = {}
     for path in sorted((TOP / "crates").glob("*/src/**/*.rt")):
-        owner, name = None, None
-        for line in path.read_text().splitlines():
-            block = re.match(r"(?:pub )?(?:impl|trait)\b(?:<[^{]*?>)? *(?:[\w:]+(?:<.*>)? for )?(\w+).*\{$", line)
-            function = re.match(r" *(?:pub )?(?:extern \"C\" )?fn (\w+)", line)
-            clause = re.match(r" *ensures\*? (\w+) \{", line)
-            if block:
-                owner = block[1]
-            elif line == "}":
-                owner = None
-            elif function:
-                name = function[1]
-                for key in (name, f"{owner}::{name}"):
-                    known.setdefault(key, set())
-            elif clause and name:
-                for key in (name, f"{owner}::{name}"):
-                    known[key].add(clause[1])
+        for owner, name, ensured in contracts(path):
+            for key in (name, f"{owner}::{name}"):
+                known.setdefault(key, set()).update(ensured)
     for path in sorted((TOP / "crates").glob("*/specs/**/*.antt")):
         record = None
         for line in path.read_text().splitlines():
