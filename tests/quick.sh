@@ -57,6 +57,8 @@ first_in_node() {
         "import { encode, load } from '$web/jcobs.js'; await load(); console.log(String(encode(Uint8Array.of(1, 0, 2))))"
 }
 
+dist_is_packed() { "$node" "$web/pack.mjs" "$work/dist" && diff -r "$work/dist" "$web/dist"; }
+
 if has cc gcc 'C'; then
     part 'C: the first frame' first_in_c
     part 'C: all cases' cases_in_c
@@ -74,7 +76,7 @@ if has "$python" python3 'Python' && has cc gcc 'Python'; then
     if "$python" -c 'import os, setuptools, pytest, sysconfig; os.stat(sysconfig.get_path("include") + "/Python.h")' 2>/dev/null; then
         part 'Python: the extension' extension
         part 'Python: the first frame' prints "b'\\x06hello'" in_python -c 'import jcobs; print(jcobs.encode(b"hello"))'
-        part 'Python: all cases' in_python -m pytest -q -p no:cacheprovider "$root/bindings/python/tests/test_conformance.py"
+        part 'Python: all cases' in_python -m pytest -q --noconftest -p no:cacheprovider "$root/bindings/python/tests/test_conformance.py"
     else
         skip 'Python' "lacks Debian's python3-dev, python3-setuptools or python3-pytest"
     fi
@@ -82,6 +84,7 @@ fi
 node=${NODE:-node}
 if has "$node" nodejs 'Node'; then
     part 'Node: the first frame' first_in_node
+    part 'Node: the package has these files and this module' dist_is_packed
     part 'Node: all cases' "$node" "$web/test/vectors.mjs" "$web/cobs.wasm" "$root/conformance"
 fi
 if has python3 python3 'the documents'; then
