@@ -3,7 +3,7 @@
 # Node over it, and the documents.
 #
 # Each language builds and runs a first frame and all cases of conformance/. It takes Debian's gcc, cargo (Rust 1.83),
-# nodejs, and python3-dev, python3-setuptools and python3-pytest; what is missing is skipped and named. Nothing is written
+# nodejs, and python3-dev, -setuptools, -pytest and -hypothesis; what is missing is skipped and named. Nothing is written
 # into the repository.
 #
 # The functions are called by 'part'.
@@ -36,20 +36,26 @@ first_in_rust() (
         prints '[6, 104, 101, 108, 108, 111]' cargo run -q
 )
 
-# A copy, with a Cargo.lock of its own.
+# A copy, as cargo and setup.py write beside what they build.
+copy() {
+    mkdir -p "$work/tree/bindings/c" && ln -s "$root/conformance" "$work/tree" && ln -s "$c/include" "$work/tree/bindings/c" &&
+        cp -R "$root/bindings/rust" "$root/bindings/python" "$work/tree/bindings"
+}
+
 tests_in_rust() (
-    mkdir -p "$work/tree/bindings" && cp -R "$root/bindings/rust" "$work/tree/bindings" && ln -s "$root/conformance" "$work/tree" &&
-        cd "$work/tree/bindings/rust" && cargo test
+    cd "$work/tree/bindings/rust" && cargo test
 )
 
 extension() (
-    mkdir -p "$work/tree/bindings/c" && cp -R "$root/bindings/python" "$work/tree/bindings" &&
-        ln -s "$c/include" "$work/tree/bindings/c" && cd "$work/tree/bindings/python" &&
-        "$python" setup.py -q build_ext --inplace
+    cd "$work/tree/bindings/python" && "$python" setup.py -q build_ext --inplace
 )
 
-in_python() { # ARGUMENT..
-    PYTHONPATH=$work/tree/bindings/python/src "$python" "$@"
+in_python() ( # ARGUMENT..
+    cd "$work/tree/bindings/python" && PYTHONPATH=src "$python" "$@"
+)
+
+pytest_of() { # OPTION-OR-FILE..
+    in_python -m pytest -q -p no:cacheprovider "$@"
 }
 
 first_in_node() {
@@ -59,6 +65,7 @@ first_in_node() {
 
 dist_is_packed() { "$node" "$web/pack.mjs" "$work/dist" && diff -r "$work/dist" "$web/dist"; }
 
+copy || exit
 if has cc gcc 'C'; then
     part 'C: the first frame' first_in_c
     part 'C: all cases' cases_in_c
@@ -76,7 +83,12 @@ if has "$python" python3 'Python' && has cc gcc 'Python'; then
     if "$python" -c 'import os, setuptools, pytest, sysconfig; os.stat(sysconfig.get_path("include") + "/Python.h")' 2>/dev/null; then
         part 'Python: the extension' extension
         part 'Python: the first frame' prints "b'\\x06hello'" in_python -c 'import jcobs; print(jcobs.encode(b"hello"))'
-        part 'Python: all cases' in_python -m pytest -q --noconftest -p no:cacheprovider "$root/bindings/python/tests/test_conformance.py"
+        part 'Python: all cases' pytest_of --noconftest tests/test_conformance.py
+        if "$python" -c 'import hypothesis' 2>/dev/null; then
+            part 'Python: calls and streams' pytest_of tests/test_calls.py tests/test_streams.py
+        else
+            skip 'Python: calls and streams' "lacks Debian's python3-hypothesis"
+        fi
     else
         skip 'Python' "lacks Debian's python3-dev, python3-setuptools or python3-pytest"
     fi
