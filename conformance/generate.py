@@ -21,7 +21,6 @@ FRAME = encoded_frame(MESSAGE)
 STREAM = bytes([0, 3, 7, 8, 0, 5, 1, 0, 6, 1, 2, 3, 4, 5, 0, 2, 9, 0])
 STREAM_OF_OVERFLOW = bytes([4, 7, 8, 9, 0, 2, 5, 0, 3, 1, 0, 0, 1, 0])
 HELLO = b"\x0chello world"
-LONGEST_PART = 1100
 LENGTHS = [*range(252, 257), *range(507, 511), *range(761, 765)]
 
 
@@ -32,31 +31,6 @@ def word(value):
     if isinstance(value, bytes):
         return value.hex() or model.NONE
     return str(value)
-
-
-def repeated(value, at):
-    """What the bytes from a place on are repetitions of, and how many; the byte alone where they are none."""
-    for needle in [1024, 512, 8]:
-        size = value.find(value[at : at + needle], at + 1, at + LONGEST_PART + needle) - at
-        unit, count = value[at : at + size], 1
-        if size > 0 and value.startswith(unit, at + size):
-            for step in [256, 1]:
-                while value.startswith(unit * step, at + size * count):
-                    count += step
-            return unit, count
-    return value[at : at + 1], 1
-
-
-def in_parts(value):
-    """A word whose bytes are in parts: what stands there several times is written once, with how often."""
-    if not isinstance(value, bytes):
-        return str(value)
-    text, at = "", 0
-    while at < len(value):
-        unit, count = repeated(value, at)
-        text += unit.hex() if count == 1 else f"+{unit.hex()}*{count}+"
-        at += len(unit) * count
-    return text.replace("++", "+").strip("+") or model.NONE
 
 
 class Group:
@@ -467,8 +441,7 @@ GROUPS = [lengths, encoding, rooms, sentinels, decoding, damage, in_place, encod
 def main(words):
     texts, joined = {}, ""
     groups = [make() for make in GROUPS]
-    about = "Long messages: 5,000 to 70,000 bytes, in parts. +: and then; *N: the digits in front stand there N times."
-    groups.append(long.of_lengths(Group("long", about, word=in_parts)))
+    groups.append(long.of_lengths(Group("long", "Calls with 5,000 to 70,000 bytes, written in parts.", word=long.in_parts)))
     groups.append(by_hand.of_tests(Group("original", "The tests of the original crate: a name has that of its test.")))
     groups.append(by_hand.of_own(Group("by-hand", "Other cases whose results are worked out by hand."), groups))
     for group in groups:

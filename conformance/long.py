@@ -1,12 +1,39 @@
 """Long cases: 5,000 to 70,000 bytes, in parts. Their lengths are on both sides of those at which a library's faster ways may
 begin, and at which a count of 16 bits is full."""
 
+import model
 from definition import encoded_frame, masked, parts
 
+LONGEST_PART = 1100
 LENGTHS = [5079, 5080, 5081, 8191, 8192, 8193, 8446, 16384, 65535, 65536, 65537, 70000]
 ZERO_EVERY = [2, 3, 8, 31, 32, 33, 63, 64, 65, 128, 254, 255, 256, 509, 1025]
 CYCLE = bytes(range(1, 128))
 INTEGERS = b"".join(number.to_bytes(4, "little") for number in range(230, 281))
+
+
+def repeated(value, at):
+    """What the bytes from a place on are repetitions of, and how many; the byte alone where they are none."""
+    for needle in [1024, 512, 8]:
+        size = value.find(value[at : at + needle], at + 1, at + LONGEST_PART + needle) - at
+        unit, count = value[at : at + size], 1
+        if size > 0 and value.startswith(unit, at + size):
+            for step in [256, 1]:
+                while value.startswith(unit * step, at + size * count):
+                    count += step
+            return unit, count
+    return value[at : at + 1], 1
+
+
+def in_parts(value):
+    """A word whose bytes are in parts: what stands there several times is written once, with how often."""
+    if not isinstance(value, bytes):
+        return str(value)
+    text, at = "", 0
+    while at < len(value):
+        unit, count = repeated(value, at)
+        text += unit.hex() if count == 1 else f"+{unit.hex()}*{count}+"
+        at += len(unit) * count
+    return text.replace("++", "+").strip("+") or model.NONE
 
 
 def rows(unit, length):
