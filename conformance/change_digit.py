@@ -4,8 +4,9 @@
 usage: conformance/change_digit.py COMMAND..
 
 The command is a runner that reads vectors from standard input, as crates/cobs_conformance/out/cobs_conformance. In each file
-every tenth case that has a digit in its answer is changed in turn (a letter, where the file's answers have no digits): the
-runner has to name that case alone, say that one differs, and end with status 1. With no change it has to end with 0."""
+every tenth case that has a digit in its answer is changed in turn (a letter, where the file's answers have no digits), and
+run with the nine lines behind it: the runner has to name that case alone, say that one differs, and end with status 1. With
+no change to the file it has to end with 0."""
 
 import glob
 import os
@@ -38,9 +39,10 @@ def failures(command, path):
         return len(tried), [f"{path}: fails as it is"]
     failed = []
     for at in tried:
-        status, said = run(command, [*lines[:at], changed(lines[at], digits), *lines[at + 1 :]])
+        near = [changed(lines[at], digits), *lines[at + 1 : at + 10]]
+        status, said = run(command, near)
         name = lines[at].split(" ")[0]
-        if status != 1 or said[-1] != f"{len(places)} cases, 1 differ" or not said[0].startswith(f"{name}:"):
+        if status != 1 or said[-1] != f"{len(near)} cases, 1 differ" or not said[0].startswith(f"{name}:"):
             failed.append(f"{path}: {name} was changed, and the run ended with {status} and {said[-1]!r}")
     return len(tried), failed
 

@@ -4,24 +4,29 @@ Nothing here is a decoder or an encoder of the usual kind. A message is cut at i
 cut into blocks; a piece of a stream is cut by its codes. All is for the sentinel 0 but `masked`.
 """
 
+import functools
 
+
+@functools.lru_cache(32)
 def encoded_frame(message):
     """The shorter frame of a message. A run is cut into blocks of 254 bytes and one block of what is left, which
     the last run does without where it would be empty and isn't the only one."""
-    frame, runs = b"", message.split(b"\0")
+    frame, runs = [], message.split(b"\0")
     for place, run in enumerate(runs):
         blocks = [run[at : at + 254] for at in range(0, len(run) + 1, 254)]
         if place == len(runs) - 1 and run and not blocks[-1]:
             blocks.pop()
-        frame += b"".join(bytes([len(block) + 1]) + block for block in blocks)
-    return frame
+        frame += [bytes([len(block) + 1]) + block for block in blocks]
+    return b"".join(frame)
 
 
+@functools.lru_cache(32)
 def parts(piece):
     """The parts of a piece: each as long as its first byte says, the last one maybe shorter."""
-    cut = []
-    while piece:
-        cut, piece = cut + [piece[: piece[0]]], piece[piece[0] :]
+    cut, at = [], 0
+    while at < len(piece):
+        cut.append(piece[at : at + piece[at]])
+        at += piece[at]
     return cut
 
 
@@ -30,10 +35,12 @@ def is_whole(piece):
     return piece != b"" and b"\0" not in piece and len(parts(piece)[-1]) == parts(piece)[-1][0]
 
 
+@functools.lru_cache(32)
 def output(piece):
     """What the parts stand for: their bytes without the codes, and a zero between two, unless the first is full."""
-    between = [b"" if part[0] == 255 else b"\0" for part in parts(piece)[:-1]] + [b""]
-    return b"".join(part[1:] + zero for part, zero in zip(parts(piece), between))
+    cut = parts(piece)
+    between = [b"" if part[0] == 255 else b"\0" for part in cut[:-1]] + [b""]
+    return b"".join(part[1:] + zero for part, zero in zip(cut, between))
 
 
 def kept_output(piece):

@@ -8,6 +8,7 @@ import os
 import sys
 
 import by_hand
+import long
 import model
 from definition import encoded_frame, is_whole, masked, output, parts
 
@@ -35,11 +36,12 @@ def word(value):
 class Group:
     """A file of vectors: its lines, each with a name of its own."""
 
-    def __init__(self, name, *about):
+    def __init__(self, name, *about, word=word):
         self.name, self.lines, self.seen, self.count = name, [f"# {line}" for line in about], set(), {}
+        self.word = word
 
     def line(self, label, level, call, arguments, answers):
-        said = " ".join(map(word, [level, call, *arguments, "->", *answers]))
+        said = " ".join(map(self.word, [level, call, *arguments, "->", *answers]))
         if said in self.seen:
             return
         self.seen.add(said)
@@ -439,6 +441,7 @@ GROUPS = [lengths, encoding, rooms, sentinels, decoding, damage, in_place, encod
 def main(words):
     texts, joined = {}, ""
     groups = [make() for make in GROUPS]
+    groups.append(long.of_lengths(Group("long", "Calls with 5,000 to 70,000 bytes, written in parts.", word=long.in_parts)))
     groups.append(by_hand.of_tests(Group("original", "The tests of the original crate: a name has that of its test.")))
     groups.append(by_hand.of_own(Group("by-hand", "Other cases whose results are worked out by hand."), groups))
     for group in groups:

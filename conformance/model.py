@@ -159,26 +159,38 @@ def frame_kind(given):
 # Streams
 
 
+def bytes_that_fit(piece, room):
+    """The length of the longest front of a piece whose output fits."""
+    if len(output(piece)) <= room:
+        return len(piece)
+    fit, over = 0, len(piece)
+    while fit + 1 < over:
+        middle = (fit + over) // 2
+        fit, over = (middle, over) if len(output(piece[:middle])) <= room else (fit, middle)
+    return fit
+
+
 def decoder(before, *pieces):
-    """A streaming decoder, byte by byte: every answer but 'nothing yet', as the bytes taken, a kind and the buffer's front."""
+    """A streaming decoder: every answer but 'nothing yet', as the bytes taken, a kind and the buffer's front."""
     room, buffer, piece, taken, events = len(before), before, b"", 0, []
     for given in pieces:
         if given == "reset":
             piece = b""
             continue
-        for byte in given:
-            taken += 1
-            if byte == 0:
-                if piece and outcome(piece, room)[0] == "too_long":
-                    events += [taken, "too_small", buffer]
-                elif piece:
-                    events += [taken, outcome(piece, room)[0], output(piece)]
-                piece = b""
-                continue
-            piece += bytes([byte])
+        runs = given.split(b"\0")
+        for at, run in enumerate(runs):
+            begun, piece = len(piece), piece + run
             buffer = laid_over(buffer, output(piece)[:room])
-            if len(output(piece)) > room:
-                events += [taken, "too_small", buffer]
+            for end in range(max(begun, bytes_that_fit(piece, room)) + 1, len(piece) + 1):
+                events += [taken + end - begun, "too_small", buffer]
+            taken += len(run)
+            if at == len(runs) - 1:
+                continue
+            taken += 1
+            if piece:
+                kind = outcome(piece, room)[0]
+                events += [taken, "too_small", buffer] if kind == "too_long" else [taken, kind, output(piece)]
+            piece = b""
     return [buffer, *events]
 
 

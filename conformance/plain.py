@@ -379,6 +379,12 @@ NAMES = {"reset", "fail", "idle", "grab", "grab_chain"}
 REFUSALS = {"empty", "invalid", "too_small", "broken", "too_long"}
 
 
+def written_out(word):
+    """A word without its parts: the digits of each as often as the number after the star says."""
+    parts = (part.partition("*") for part in word.split("+"))
+    return "".join(digits * int(count or 1) for digits, _, count in parts)
+
+
 def value_of(call, at, word):
     if at in NUMBERS.get(call, []) or (call == "decoder_state" and at == 1 and word != "-"):
         return int(word)
@@ -413,7 +419,8 @@ def run(library, line):
 
 
 def cases(file):
-    return [line for line in file.read().splitlines() if line and not line.startswith("#")]
+    lines = [line for line in file.read().splitlines() if line and not line.startswith("#")]
+    return [" ".join(map(written_out, line.split(" "))) for line in lines]
 
 
 def main():

@@ -6,6 +6,7 @@ it wants and what it gets. The status is 1 where some body is noticed by no case
 differs."""
 
 import glob
+import itertools
 import os
 import sys
 
@@ -80,6 +81,17 @@ class AnswersPastBuffer(Library):
         return super().try_encode(message, buffer)
 
 
+class WrapsIndex(Encoder):
+    def put(self, byte):
+        super().put(byte)
+        self.index %= 65536
+
+
+class EncodesOneStretch(Library):
+    def encode_vec(self, message):
+        return super().encode_vec(message[:8192])
+
+
 # Decoders
 
 
@@ -136,6 +148,17 @@ class ReportsCutMessage(Decoder):
 class WritesWrongBytes(Decoder):
     def put(self, byte):
         super().put(byte ^ 1 if self.count else byte)
+
+
+class WritesWrongByteLate(Decoder):
+    def put(self, byte):
+        super().put(byte ^ 1 if self.count == 8192 else byte)
+
+
+class PushesStretch(Decoder):
+    def push(self, piece):
+        answer, taken = super().push(piece[:8192])
+        return answer, taken if answer else len(piece)
 
 
 class OmitsLastByte(Decoder):
@@ -236,27 +259,48 @@ BODIES = {
     "next_frame_reads_after_end": with_parts(Reader=ReadsAfterEnd),
 }
 
+# What the short cases don't notice: these run long.txt, up to the first case that differs.
+LONG_BODIES = {
+    "encode_wraps_index_at_65536": with_parts(Encoder=WrapsIndex),
+    "encode_drops_bytes_after_8192": EncodesOneStretch,
+    "decode_writes_wrong_byte_at_8192": with_parts(Decoder=WritesWrongByteLate),
+    "push_drops_bytes_after_8192": with_parts(StreamDecoder=PushesStretch),
+}
+
 
 def noticed(library, lines):
-    return [answer for answer in (run(library(), line) for line in lines) if not answer[0]]
+    return (answer for answer in (run(library(), line) for line in lines) if not answer[0])
+
+
+def cases_of(path):
+    return cases(open(path, encoding="ascii"))
 
 
 def main():
-    lines = [line for path in sorted(glob.glob(f"{HERE}/*.txt")) for line in cases(open(path, encoding="ascii"))]
-    owed = [line for line in lines if line.split(" ")[1] == "owed"]
-    passed = len(noticed(Library, lines))
-    print(f"the plain library: {len(lines)} cases, {passed} differ")
+    long_file = f"{HERE}/long.txt"
+    lines = [line for path in sorted(glob.glob(f"{HERE}/*.txt")) if path != long_file for line in cases_of(path)]
+    owed = {line.split(" ")[0] for line in lines if line.split(" ")[1] == "owed"}
+    failed = len(list(noticed(Library, lines)))
+    print(f"the plain library: {len(lines)} cases, {failed} differ")
     for name, library in BODIES.items():
-        found = noticed(library, lines)
-        owed_too = len(noticed(library, owed))
-        if not found:
-            passed += 1
-            print(f"{name}: NOTICED BY NO CASE")
-            continue
-        _, case, wanted, came = found[0]
-        print(f"{name}: {len(found)} cases, {owed_too} of them owed; {case}")
-        print(f"    wants {shortened(wanted, came)}, gets {shortened(came, wanted)}")
-    return 1 if passed else 0
+        found = list(noticed(library, lines))
+        count = f"{len(found)} cases, {sum(answer[1] in owed for answer in found)} of them owed"
+        failed += not told(name, count, found)
+    for name, library in LONG_BODIES.items():
+        failed += any(noticed(library, lines))
+        failed += not told(name, "long cases alone", list(itertools.islice(noticed(library, cases_of(long_file)), 1)))
+    return 1 if failed else 0
+
+
+def told(name, count, found):
+    """Says which case notices a body first, and whether one does."""
+    if not found:
+        print(f"{name}: NOTICED BY NO CASE")
+        return False
+    _, case, wanted, came = found[0]
+    print(f"{name}: {count}; {case}")
+    print(f"    wants {shortened(wanted, came)}, gets {shortened(came, wanted)}")
+    return True
 
 
 def shortened(words, other):

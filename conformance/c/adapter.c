@@ -6,16 +6,29 @@
 #include <stdlib.h>
 #include <string.h>
 
-enum { MOST_BYTES = 4096, MOST_WORDS = 256 };
+enum { MOST_BYTES = 131072, MOST_LINE = 8192, MOST_WORDS = 256 };
 
 static uint8_t given[MOST_BYTES], wanted[MOST_BYTES], made[2 * MOST_BYTES];
 
+/* Two digits are a byte. A star and a number: the bytes since the last plus stand there so often. */
 static size_t bytes_of(const char *word, uint8_t *bytes)
 {
-    size_t length = word[0] == '-' ? 0 : strlen(word) / 2;
-    for (size_t i = 0; i < length; i++) {
-        char digits[] = { word[2 * i], word[2 * i + 1], '\0' };
-        bytes[i] = (uint8_t)strtoul(digits, NULL, 16);
+    size_t length = 0, part = 0;
+    while (*word && *word != '-') {
+        if (*word == '+') {
+            part = length;
+            word++;
+        } else if (*word == '*') {
+            char *end;
+            size_t size = length - part;
+            for (unsigned long count = strtoul(word + 1, &end, 10); count > 1; count--, length += size)
+                memcpy(bytes + length, bytes + part, size);
+            word = end;
+        } else {
+            char digits[] = { word[0], word[1], '\0' };
+            bytes[length++] = (uint8_t)strtoul(digits, NULL, 16);
+            word += 2;
+        }
     }
     return length;
 }
@@ -44,7 +57,7 @@ static int answer(const char *call, char **words)
 
 int main(void)
 {
-    static char line[4 * MOST_BYTES];
+    static char line[MOST_LINE];
     unsigned cases = 0, differ = 0, lacking = 0;
 
     while (fgets(line, sizeof line, stdin)) {

@@ -14,8 +14,10 @@
 #include <stdlib.h>
 #include <string.h>
 
-#define MOST_WORDS 200
-#define MOST_LINE 20000
+#define MOST_WORDS 256
+#define MOST_LINE 8192
+#define MOST_TEXT 800000 /* of a line whose parts are written out */
+#define MOST_STREAM 200000
 
 static char *words[MOST_WORDS];
 static size_t word_count; /* of the whole line */
@@ -99,9 +101,12 @@ static void expect_bytes(const char *what, const unsigned char *found, size_t le
     char *text = room_for(2 * len + 2);
     size_t i;
 
-    strcpy(text, "-");
-    for (i = 0; i < len; i++)
-        sprintf(text + 2 * i, "%02x", (unsigned int)found[i]);
+    text[0] = '-';
+    for (i = 0; i < len; i++) {
+        text[2 * i] = "0123456789abcdef"[found[i] / 16];
+        text[2 * i + 1] = "0123456789abcdef"[found[i] % 16];
+    }
+    text[len == 0 ? 1 : 2 * len] = '\0';
     expect_word(what, text);
     free(text);
 }
@@ -285,13 +290,13 @@ static void run_encoder(void)
 
 static void run_encode_frames(void)
 {
-    unsigned char *stream = room_for(MOST_LINE);
+    unsigned char *stream = room_for(MOST_STREAM);
     size_t len = 0;
     size_t i;
 
     for (i = 0; i < argument_count(); i++) {
         bytes message = argument(i);
-        jcobs_answer answer = jcobs_encode_terminated(message.data, message.len, stream + len, MOST_LINE - len);
+        jcobs_answer answer = jcobs_encode_terminated(message.data, message.len, stream + len, MOST_STREAM - len);
         expect("ok", answer.status == JCOBS_OK);
         len += answer.length;
         free(message.data);
@@ -435,7 +440,7 @@ static void run_decoder(int sentinel)
     size_t after = next_answer++;
     size_t i;
 
-    stream.data = room_for(MOST_LINE);
+    stream.data = room_for(MOST_STREAM);
     for (i = 1; i < argument_count(); i++) {
         bytes piece;
         size_t at = 0;
@@ -590,6 +595,34 @@ static int run_case(const char *call)
     return 1;
 }
 
+/* Writes the digits of each part as often as its number says. */
+static void write_out(const char *line, char *text)
+{
+    char *part = text;
+    char *const end = text + MOST_TEXT - 1;
+
+    while (*line != '\0' && text < end) {
+        if (*line == '*') {
+            char *behind;
+            size_t len = (size_t)(text - part);
+            unsigned long count = strtoul(line + 1, &behind, 10);
+            for (; count > 1 && len <= (size_t)(end - text); count--) {
+                memcpy(text, part, len);
+                text += len;
+            }
+            line = behind;
+        } else if (*line == '+') {
+            part = text;
+            line++;
+        } else {
+            *text++ = *line;
+            if (*line++ == ' ')
+                part = text;
+        }
+    }
+    *text = '\0';
+}
+
 /* Cuts the line into its words. */
 static void cut(char *line)
 {
@@ -608,6 +641,7 @@ static void cut(char *line)
 int main(int argc, char **argv)
 {
     static char line[MOST_LINE];
+    static char text[MOST_TEXT];
     unsigned long run = 0;
     unsigned long over = 0;
     unsigned long bad = 0;
@@ -622,7 +656,8 @@ int main(int argc, char **argv)
         while (fgets(line, sizeof line, file) != NULL) {
             if (line[0] == '#' || line[0] == '\n')
                 continue;
-            cut(line);
+            write_out(line, text);
+            cut(text);
             failed = 0;
             if (arrow < 3) {
                 fail("no case");

@@ -22,6 +22,12 @@ LEFT_OUT = {
 pytestmark = pytest.mark.skipif(not FOLDER.is_dir(), reason="conformance/ of the repository is not there")
 
 
+def written_out(word):
+    """A word without its parts: the digits of each as often as the number after the star says."""
+    parts = (part.partition("*") for part in word.split("+"))
+    return "".join(digits * int(count or 1) for digits, _, count in parts)
+
+
 def of_word(word):
     return b"" if word == "-" else bytes.fromhex(word)
 
@@ -230,7 +236,7 @@ def test_cases(path):
     for line in path.read_text().splitlines():
         if line.startswith("#"):
             continue
-        words = line.split(" ")
+        words = list(map(written_out, line.split(" ")))
         arrow = words.index("->")
         name, call, arguments, wanted = words[0], words[2], words[3:arrow], words[arrow + 1 :]
         if call in LEFT_OUT or (call == "encoder" and "too_small" in wanted):

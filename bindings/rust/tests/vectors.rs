@@ -31,6 +31,11 @@ fn vectors() {
             if line.is_empty() || line.starts_with('#') {
                 continue;
             }
+            let line = line
+                .split(' ')
+                .map(written_out)
+                .collect::<Vec<_>>()
+                .join(" ");
             let (case, expected) = line.split_once(" ->").expect("an answer");
             let expected: Vec<_> = expected.split_whitespace().collect();
             let words: Vec<_> = case.split(' ').collect();
@@ -57,6 +62,16 @@ fn vectors() {
     println!("{run} cases");
     assert!(differing.is_empty(), "{}", differing.join("\n"));
     assert!(run > 6000, "{run} cases alone");
+}
+
+/// A word without its parts: the digits of each as often as the number after the star says.
+fn written_out(word: &str) -> String {
+    word.split('+')
+        .map(|part| match part.split_once('*') {
+            Some((digits, count)) => digits.repeat(number(count)),
+            None => part.to_owned(),
+        })
+        .collect()
 }
 
 /// What a call answered, by one of the ways to make it.

@@ -8,6 +8,9 @@ import { Raw } from "./raw.mjs";
 
 let raw;
 
+/** A word without its parts: the digits of each as often as the number after the star says. */
+const writtenOut = (word) => word.split("+").map((part) => part.split("*")).map(([digits, count = "1"]) => digits.repeat(Number(count))).join("");
+
 const bytesOf = (word) => (word === "-" ? new Uint8Array() : Uint8Array.from(word.match(/../g), (pair) => parseInt(pair, 16)));
 const wordOf = (bytes) => (bytes.length === 0 ? "-" : Array.from(bytes, (byte) => byte.toString(16).padStart(2, "0")).join(""));
 const joined = (parts) => Uint8Array.from(parts.flatMap((part) => [...part]));
@@ -113,8 +116,9 @@ function encodedByPieces(room, pieces) {
 
 /** The frame of pieces by jcobs.js. */
 function encodedByModule(pieces) {
-  const encoder = new FrameEncoder();
-  for (const piece of pieces) encoder.push(bytesOf(piece));
+  const given = pieces.map(bytesOf);
+  const encoder = new FrameEncoder({ maxLength: given.reduce((sum, piece) => sum + piece.length, 0) });
+  for (const piece of given) encoder.push(piece);
   const frame = encoder.finish();
   encoder.close();
   return frame;
@@ -218,7 +222,7 @@ export async function runCases(module, texts) {
 
 /** The difference that a line shows, or "" if it shows none, or undefined if it is left out. */
 async function runCase(line) {
-  const [left, right] = line.split(" ->").map((words) => words.trim());
+  const [left, right] = line.split(" ").map(writtenOut).join(" ").split(" ->").map((words) => words.trim());
   const [name, level, call, ...args] = left.split(" ");
   raw.clear();
   let wanted = right === "" ? [] : right.split(" ");

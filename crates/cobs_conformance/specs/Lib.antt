@@ -2,3 +2,4 @@ pub mod Agree
 pub mod Answer
 pub mod Case
 pub mod Fields
+pub mod Short

@@ -1,13 +1,17 @@
 //! The words of a case as values.
 ghost use Rattle.std.specs.Prelude.{◌≡◌, ◌≢◌, ◌≤◌, [], codes, length, IfOk, vec_len};
 ghost use Rattle.hex.specs.Hex.{decode_of};
+ghost use Rattle.cobs_conformance.specs.Short.{number_text};
 
 use crate::fault::CaseFault;
 use hex::FromHexError;
 use std::alloc::Global;
 
 /// The most bytes that a word may have, so that each call has room for the frame.
-pub const MAX_BYTES: usize = 65_536;
+pub const MAX_BYTES: usize = 131_072;
+
+/// Their digits.
+pub const MAX_DIGITS: usize = 2 * MAX_BYTES;
 
 /// The word for no bytes, and for a number where there is none.
 pub const NONE: &str = "-";
@@ -53,7 +57,9 @@ pub fn byte_of(alloc: Global, word: &str) -> Result<u8, CaseFault> {
 ///
 /// # Errors
 /// `Malformed` for anything else.
-pub fn number_of(word: &str) -> Result<usize, CaseFault> {
+pub fn number_of(word: &str) -> Result<usize, CaseFault>
+    ensures value { IfOk result (λ number. number ≡ number_text word.now) }
+{
     match word.parse::<usize>() {
         Ok(number) => Ok(number),
         Err(_) => Err(CaseFault::Malformed),

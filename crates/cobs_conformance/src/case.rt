@@ -5,6 +5,7 @@ ghost use Rattle.cobs_conformance.specs.Case.{IsNoCase};
 use crate::agree::agree;
 use crate::call::answer_to;
 use crate::fault::CaseFault;
+use crate::short::words_of;
 use std::alloc::{AllocError, Global};
 
 /// What came of a line.
@@ -36,7 +37,12 @@ pub fn verdict_of(alloc: Global, line: &str) -> Result<Verdict, AllocError>
     if line.is_empty() || line.starts_with('#') {
         return Ok(Verdict::NoCase);
     }
-    let words: Vec<&str> = line.split(' ').collect(alloc)?;
+    let texts = match words_of(alloc, line) {
+        Ok(texts) => texts,
+        Err(CaseFault::OutOfMemory) => return Err(AllocError),
+        Err(_) => return Ok(Verdict::Differs(format!(in alloc; "no case: {line}")?)),
+    };
+    let words: Vec<&str> = texts.iter().map(|text| text.as_str()).collect(alloc)?;
     let Some(case) = case_of(&words) else {
         return Ok(Verdict::Differs(format!(in alloc; "no case: {line}")?));
     };

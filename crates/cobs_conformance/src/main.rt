@@ -16,6 +16,7 @@ mod encoding;
 mod fault;
 mod machines;
 mod reads;
+mod short;
 mod streams;
 mod tally;
 

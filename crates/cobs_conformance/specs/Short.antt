@@ -1,0 +1,22 @@
+-- What a word in short stands for.
+use Rattle.std.specs.Prelude.{ℕ, ◌==◌, List, [], ◌∷◌}
+use Rattle.std.specs.List.{slice_split, flat_map, repeat}
+use Rattle.std.specs.Str.Parse.{digits_value, without_leading_plus}
+
+-- the number that decimal digits write
+abbrev pub number_text : List ℕ → ℕ
+number_text digits = digits_value 10 (without_leading_plus digits)
+
+-- digits alone stand for themselves, digits and a number for as many repetitions of them
+abbrev pub repeated : List (List ℕ) → List ℕ
+repeated [] = []
+repeated (digits ∷ []) = digits
+repeated (digits ∷ count ∷ more) = repeat (number_text count) digits
+
+-- a part: digits, or digits, a star (42) and a number
+abbrev pub part_text : List ℕ → List ℕ
+part_text part = repeated (slice_split (λ byte. byte == 42) part)
+
+-- a word: parts with a plus sign (43) between two
+abbrev pub word_text : List ℕ → List ℕ
+word_text word = flat_map part_text (slice_split (λ byte. byte == 43) word)

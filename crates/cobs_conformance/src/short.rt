@@ -1,0 +1,66 @@
+//! Long words: parts with `+` between two, each digits alone, or digits, `*` and a count.
+ghost use Rattle.std.specs.Prelude.{◌≡◌, ◌==◌, ◌<◌, ◌≤◌, IfOk, length, map, string_bytes};
+ghost use Rattle.std.specs.List.{slice_split};
+ghost use Rattle.cobs_conformance.specs.Short.{repeated, word_text};
+
+use crate::arguments::{MAX_DIGITS, number_of};
+use crate::fault::CaseFault;
+use std::alloc::{AllocError, Global};
+
+/// The words of a line, each written out.
+///
+/// # Errors
+/// As [`written_out`].
+pub fn words_of(alloc: Global, line: &str) -> Result<Vec<String>, CaseFault> {
+    let mut words = Vec::new(alloc);
+    for word in line.split(' ') {
+        words.push(written_out(alloc, word)?)?;
+    }
+    Ok(words)
+}
+
+/// A word written out: what its parts stand for, one after another.
+///
+/// # Errors
+/// `Malformed` for a part that can't be read, and for more than [`MAX_DIGITS`] digits. `OutOfMemory` where memory ran out.
+fn written_out(alloc: Global, word: &str) -> Result<String, CaseFault>
+    ensures text { IfOk result (λ text. string_bytes text ≡ word_text word.now) }
+    ensures limit { IfOk result (λ text. length (string_bytes text) ≤ MAX_DIGITS) }
+{
+    let parts = split(alloc, word, '+')?;
+    let mut text = String::new(alloc);
+    for part in &parts {
+        text.push_str(&repeated(alloc, &split(alloc, part, '*')?)?)?;
+    }
+    if text.len() > MAX_DIGITS {
+        return Err(CaseFault::Malformed);
+    }
+    Ok(text)
+}
+
+/// The texts between the separators.
+fn split(alloc: Global, text: &str, separator: char) -> Result<Vec<&str>, AllocError>
+    requires ascii { separator < 128 }
+    ensures texts { IfOk result (λ texts. map (λ text. text.now) texts.items
+        ≡ slice_split (λ byte. byte == separator) text.now) }
+{
+    text.split(separator).collect(alloc)
+}
+
+/// What the fields of a part stand for: digits, as often as the number after them says.
+fn repeated(alloc: Global, fields: &[&str]) -> Result<String, CaseFault>
+    ensures text { IfOk result (λ text. string_bytes text
+        ≡ repeated (map (λ field. field.now) fields.now)) }
+{
+    match fields {
+        [digits] => Ok(String::from_str(alloc, digits)?),
+        [digits, count] => {
+            let count = number_of(count)?;
+            match digits.len().checked_mul(count) {
+                Some(len) if len <= MAX_DIGITS => Ok(digits.repeat(alloc, count)?),
+                _ => Err(CaseFault::Malformed),
+            }
+        }
+        _ => Err(CaseFault::Malformed),
+    }
+}
