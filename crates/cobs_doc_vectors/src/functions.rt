@@ -44,23 +44,35 @@ fn laws_of_messages_and_frames(rt: HostRuntime) -> Result<(), Fail> {
 fn laws_of_written_frames(rt: HostRuntime) -> Result<(), Fail> {
     let mut frame = [170; 4];
     assert_eq!(rt; encode_for_stream(&[7, 8], &mut frame), 3);
+    let both = join(rt.alloc(), &frame[..3], &frame[..3])?;
+    assert_eq!(rt; both.as_slice(), [3, 7, 8, 3, 7, 8].as_slice());
+    Ok(())
+}
+
+#[test]
+fn a_law_of_frames_that_are_written_twice(rt: HostRuntime) {
+    let mut frame = [170; 3];
     let len = encode(&[7, 8], &mut frame);
-    let mut again = [170; 4];
+    let mut again = [170; 3];
     assert_eq!(rt; encode_again(&[7, 8], &frame[..len], &mut again), 3);
     assert_eq!(rt; again, frame);
+}
 
-    let both = join(rt.alloc(), &frame[..len], &frame[..len])?;
-    assert_eq!(rt; both.as_slice(), [3, 7, 8, 3, 7, 8].as_slice());
-
+#[test]
+fn laws_of_sentinels_and_open_frames(rt: HostRuntime) {
+    let mut frame = [3, 7, 8, 170];
     change_sentinel(&mut frame, 8);
     assert_eq!(rt; frame, [11, 15, 0, 162]);
     assert_eq!(rt; as_received(&[9], 8), [9].as_slice());
     assert_eq!(rt; as_encoded(&[1], &[], 0, 1), [1].as_slice());
+}
 
-    assert_eq!(rt; encode_short(&[7, 8], &mut again), 3);
-    take_nonzero(&mut again, 0, 3, 9);
-    assert_eq!(rt; again, [3, 7, 8, 9]);
-    Ok(())
+#[test]
+fn laws_of_own_encoders(rt: HostRuntime) {
+    let mut frame = [170; 4];
+    assert_eq!(rt; encode_short(&[7, 8], &mut frame), 3);
+    take_nonzero(&mut frame, 0, 3, 9);
+    assert_eq!(rt; frame, [3, 7, 8, 9]);
 }
 
 #[test]
