@@ -11,7 +11,10 @@ use std::alloc::{AllocError, Global};
 ///
 /// # Errors
 /// As [`written_out`].
-pub fn words_of(alloc: Global, line: &str) -> Result<Vec<String>, CaseFault> {
+pub fn words_of(alloc: Global, line: &str) -> Result<Vec<String>, CaseFault>
+    ensures words { IfOk result (λ words. map string_bytes words.items
+        ≡ map word_text (slice_split (λ byte. byte == 32) line.now)) }
+{
     let mut words = Vec::new(alloc);
     for word in line.split(' ') {
         words.push(written_out(alloc, word)?)?;

@@ -4,5 +4,5 @@ use Rattle.cobs_conformance.proofs.short.split.Goals as goal
 
 pub returns : goal.returns
 returns c = record {
-  texts = map_from_collect _ c.collect.ensures.ran (YieldsList-from_str_split c.args.separator c.args.text.now c.requires.ascii c.split.ensures.text c.split.ensures.has_more c.split.ensures.pattern)
+  texts = map_from_collect _ c.collect.ensures.ran (YieldsList-from_str_split c.args.separator c.args.text.now c.requires.ascii c.split.ensures.text c.split.ensures.has_more c.split.ensures.pattern);
 }
