@@ -209,7 +209,7 @@ def contracts(path):
     found, owner = [], None
     for line in path.read_text().splitlines():
         block = re.match(r"(?:pub )?(?:impl|trait)\b(?:<[^{]*?>)? *(?:[\w:]+(?:<.*>)? for )?(\w+).*\{$", line)
-        function = re.match(r" *(?:pub )?(?:extern \"C\" )?fn (\w+)", line)
+        function = re.match(r" *(?:pub(?:\(crate\))? )?(?:extern \"C\" )?fn (\w+)", line)
         clause = re.match(r" *ensures\*? (\w+) \{", line)
         if block:
             owner = block[1]
