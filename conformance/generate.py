@@ -11,6 +11,7 @@ import by_hand
 import long
 import model
 from definition import encoded_frame, is_whole, masked, output, parts
+from group import Group
 
 HERE = os.path.dirname(os.path.abspath(__file__))
 PROGRAM = f"{HERE}/../crates/cobs_conformance"
@@ -22,48 +23,6 @@ STREAM = bytes([0, 3, 7, 8, 0, 5, 1, 0, 6, 1, 2, 3, 4, 5, 0, 2, 9, 0])
 STREAM_OF_OVERFLOW = bytes([4, 7, 8, 9, 0, 2, 5, 0, 3, 1, 0, 0, 1, 0])
 HELLO = b"\x0chello world"
 LENGTHS = [*range(252, 257), *range(507, 511), *range(761, 765)]
-
-
-# What a line is
-
-
-def word(value):
-    if isinstance(value, bytes):
-        return value.hex() or model.NONE
-    return str(value)
-
-
-class Group:
-    """A file of vectors: its lines, each with a name of its own."""
-
-    def __init__(self, name, *about, word=word):
-        self.name, self.lines, self.seen, self.count = name, [f"# {line}" for line in about], set(), {}
-        self.word = word
-
-    def line(self, label, level, call, arguments, answers):
-        said = " ".join(map(self.word, [level, call, *arguments, "->", *answers]))
-        if said in self.seen:
-            return
-        self.seen.add(said)
-        self.count[label] = self.count.get(label, 0) + 1
-        self.lines.append(f"{self.name}-{label}-{self.count[label]} {said}")
-
-    def has(self, call, arguments, answers):
-        """Whether there is such a case, of either level."""
-        said = " ".join(map(word, [call, *arguments, "->", *answers]))
-        return f"owed {said}" in self.seen or f"choice {said}" in self.seen
-
-    def choice(self, label, call, *arguments):
-        self.line(label, "choice", call, arguments, getattr(model, call)(*arguments))
-
-    def owed(self, label, call, *arguments):
-        self.line(label, "owed", call, arguments, getattr(model, call)(*arguments))
-
-    def owed_decoding(self, label, call, *arguments):
-        """A decoding whose refusal is owed, but not how it is named or counted."""
-        status, length, after = getattr(model, call)(*arguments)
-        answers = [status, length, after] if status == "ok" else ["refused", ANY, ANY]
-        self.line(label, "owed", call, arguments, answers)
 
 
 def filled(length, byte=0xAA):

@@ -1,0 +1,42 @@
+"""A file of vectors, line by line. README.md has the format."""
+
+import model
+
+
+def word(value):
+    if isinstance(value, bytes):
+        return value.hex() or model.NONE
+    return str(value)
+
+
+class Group:
+    """A file of vectors: its lines, each with a name of its own."""
+
+    def __init__(self, name, *about, word=word):
+        self.name, self.lines, self.seen, self.count = name, [f"# {line}" for line in about], set(), {}
+        self.word = word
+
+    def line(self, label, level, call, arguments, answers):
+        said = " ".join(map(self.word, [level, call, *arguments, "->", *answers]))
+        if said in self.seen:
+            return
+        self.seen.add(said)
+        self.count[label] = self.count.get(label, 0) + 1
+        self.lines.append(f"{self.name}-{label}-{self.count[label]} {said}")
+
+    def has(self, call, arguments, answers):
+        """Whether there is such a case, of either level."""
+        said = " ".join(map(self.word, [call, *arguments, "->", *answers]))
+        return f"owed {said}" in self.seen or f"choice {said}" in self.seen
+
+    def choice(self, label, call, *arguments):
+        self.line(label, "choice", call, arguments, getattr(model, call)(*arguments))
+
+    def owed(self, label, call, *arguments):
+        self.line(label, "owed", call, arguments, getattr(model, call)(*arguments))
+
+    def owed_decoding(self, label, call, *arguments):
+        """A decoding whose refusal is owed, but not how it is named or counted."""
+        status, length, after = getattr(model, call)(*arguments)
+        answers = [status, length, after] if status == "ok" else ["refused", "?", "?"]
+        self.line(label, "owed", call, arguments, answers)
