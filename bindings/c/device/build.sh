@@ -13,6 +13,10 @@ build=$here/build
 PATH=$PATH:/opt/rattle/bin
 kit=$(dirname "$(dirname "$(readlink -f "$(command -v rt)")")")
 clang=$kit/toolchain/bin/clang
+if [ "${PREBUILT:-}" = 1 ] && [ $# -gt 0 ]; then
+    echo 'build.sh: PREBUILT=1 takes no target: what is kept is of one build' >&2
+    exit 2
+fi
 [ $# -gt 0 ] || set -- thumbv6m-none-eabi thumbv7em-none-eabi riscv32imac-unknown-none-elf
 
 links() { # FROM TO BUT..: a folder of links to what is in another, but for these names
