@@ -4,6 +4,7 @@ use Rattle.std.specs.List.{flat_map}
 use Rattle.std.specs.Io.KnownBytes.{Consumes}
 use Rattle.cobs.specs.Stream.{Outcome, Message, Broken, TooLong, stream_outcomes, unended, is_nonempty}
 use Rattle.cobs.specs.Feed.{Phase, DecoderAfter}
+use Rattle.cobs.specs.Piece.{output}
 use Rattle.cobs.specs.declared.framed.Next.{Next}
 use Rattle.cobs.specs.declared.framed.Next.TheVariants as nexts
 use Rattle.cobs.specs.declared.framed.ReadFault.{ReadFault}
@@ -76,9 +77,17 @@ pub record ReaderState : Type 0 where
 abbrev pub ReaderAfter : ReaderState → List ℕ → Type 0
 ReaderAfter reader p = DecoderAfter reader.buffer reader.phase p
 
+-- the buffer has what this piece, that comes to the outcome, decodes to: a broken piece's is at its front, and of one
+-- that is too long it is the first bytes
+abbrev pub HasDecoded : Outcome → List ℕ → List ℕ → Type 0
+HasDecoded (Message message) buffer piece = Unit {0}
+HasDecoded (Broken count) buffer piece = (count ≤ length buffer) × (take count buffer ≡ output piece)
+HasDecoded TooLong buffer piece = buffer ≡ take (length buffer) (output piece)
+
 -- a piece has ended in the stream t, and the reader is at its end: the decoder is idle, and what follows is kept
 pub record AtPieceEnd (t : List ℕ) (outcome : Outcome) (reader : ReaderState) : Type 0 where
   pub first : EndsFirst t (length reader.buffer) outcome reader.kept
+  pub decoded : HasDecoded outcome reader.buffer (unended first.front)
   pub idle : ReaderAfter reader []
 
 -- no piece has ended in the stream t, and the reader is at the end of t: the decoder has taken it, and nothing is
@@ -100,10 +109,10 @@ Tells (Err faults.Io) reads t reader = AtStreamEnd t reader × EndsIn reads None
 Tells (Err faults.TooManyReads) reads t reader =
     AtStreamEnd t reader × (length reads ≡ 65536) × All GaveBytes reads
 
--- its message is within a buffer of this length
+-- the bytes that it counts are within a buffer of this length
 abbrev pub IsNextWithin : ℕ → Next → Type 0
 IsNextWithin len (nexts.Message n) = n ≤ len
-IsNextWithin len (nexts.Broken count) = Unit {0}
+IsNextWithin len (nexts.Broken count) = count ≤ len
 IsNextWithin len nexts.TooLong = Unit {0}
 IsNextWithin len (nexts.End unfinished) = Unit {0}
 

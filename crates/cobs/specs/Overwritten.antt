@@ -1,5 +1,6 @@
 -- What a buffer holds after a call.
 use Rattle.std.specs.Prelude.{ℕ, List, ◌+◌, ◌++◌, length, take, drop}
+use Rattle.cobs.specs.Length.{max_overhead}
 
 -- the buffer with these bytes at its front, as far as they fit, and its other bytes as they were
 abbrev pub overwritten : List ℕ → List ℕ → List ℕ
@@ -8,3 +9,7 @@ overwritten buffer bytes = take (length buffer) bytes ++ drop (length bytes) buf
 -- the buffer with these bytes over its own from an index on
 abbrev pub written_at : List ℕ → ℕ → List ℕ → List ℕ
 written_at buffer at bytes = take at buffer ++ bytes ++ drop (at + length bytes) buffer
+
+-- the message of n bytes that lies in a buffer behind the room for the longest frame's other bytes
+abbrev pub message_in : ℕ → List ℕ → List ℕ
+message_in n buffer = take n (drop (max_overhead n) buffer)

@@ -1,4 +1,5 @@
--- What a streaming decoder makes of one byte, in any phase. `Feed` says what that means after the front of a piece.
+-- A machine for decoders of one's own: what one makes of one byte, in any phase. It is no specification: no clause of
+-- `feed` rests on it, and `law_17` ties it to `Feeds`, which says what a byte means after the front of a piece.
 use Rattle.std.specs.Prelude.{ℕ, zero, suc, ◌+◌, ◌-◌, ◌==◌, nat_lt, nat_le, Bool, true, false, List, slice_set, Option, Some, None, Result, Ok, Err, if◌then◌else◌}
 use Rattle.cobs.specs.Feed.{Phase, Idle, Within, Over}
 use Rattle.cobs.specs.declared.dec.DecodeError.{DecodeError}

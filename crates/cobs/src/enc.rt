@@ -6,6 +6,8 @@ ghost use Rattle.cobs.specs.Length.{encoded_len};
 mod blocks;
 mod encoder;
 mod error;
+mod in_place;
+mod progress;
 mod room;
 mod sentinel;
 mod state;
@@ -17,15 +19,17 @@ use blocks::{append_short, append_windows, close, close_runs, is_short};
 use cobs_bytes::window::WINDOW;
 pub use encoder::CobsEncoder;
 pub use error::DestBufTooSmallError;
-use room::fits;
+pub use in_place::encode_in_place;
+pub use progress::EncoderProgress;
+use progress::START;
+use room::try_append;
 pub(crate) use sentinel::xor_bytes;
 pub use sentinel::{
     encode_including_sentinels, encode_with_sentinel, try_encode_including_sentinels,
     try_encode_with_sentinel,
 };
 pub use state::{EncoderState, PushResult};
-use unbuffered::START;
-pub use unbuffered::{EncoderProgress, UnbufferedEncoder};
+pub use unbuffered::UnbufferedEncoder;
 pub use vector::{encode_vec, encode_vec_including_sentinels, encode_vec_with_sentinel};
 
 /// Writes the encoded frame of `source` to the front of `dest`, and returns its length in bytes.
@@ -115,8 +119,14 @@ pub fn try_encode(source: &[u8], dest: &mut [u8]) -> Result<usize, DestBufTooSma
     ensures refused { OnErr result (dest.new ≡ dest.old) }
 {
     // A message that can't fill a block is seen to fit at once.
-    if source.len() >= dest.len().min(FULL_CODE) && !fits(1, source, dest.len()) {
+    if source.len() < dest.len().min(FULL_CODE) {
+        return Ok(encode(source, dest));
+    }
+    if dest.is_empty() {
         return Err(DestBufTooSmallError);
     }
-    Ok(encode(source, dest))
+    match try_append(source, dest, START) {
+        Some(progress) => Ok(close(dest, progress)),
+        None => Err(DestBufTooSmallError),
+    }
 }

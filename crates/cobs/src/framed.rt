@@ -8,7 +8,7 @@ ghost use Rattle.std.specs.Prelude.{◌≡◌, ℕ, ◌≤◌, List, [], ◌∷�
 ghost use Rattle.cobs.specs.Grammar.{HasNoZero};
 ghost use Rattle.cobs.specs.Stream.{Outcome, stream_outcomes, unended, is_nonempty};
 ghost use Rattle.cobs.specs.Feed.{DecoderAfter};
-ghost use Rattle.cobs.specs.FeedPiece.{outcome_at, IsWithin};
+ghost use Rattle.cobs.specs.FeedPiece.{outcome_at, IsCountWithin};
 ghost use Rattle.cobs.specs.Internal.KeptBytes.{DecoderHasTaken, IsOutcome, TellsFirst};
 
 use crate::dec::{FrameDecoder, PieceEnd};
@@ -27,7 +27,7 @@ pub enum Next {
     Message(usize),
 
     /// A piece ended that breaks off inside a block. It decodes to this many bytes, those of the broken block
-    /// included.
+    /// included, which are at the front of the decoder's buffer.
     Broken(usize),
 
     /// A piece ended that decodes to more bytes than the decoder's buffer holds.
@@ -155,7 +155,7 @@ impl<R: Read> FrameSource for Recorded<R> {
 
 /// What a piece that ended so comes to.
 fn next_at(end: PieceEnd) -> Next
-    ensures { (buffer : List ℕ) → IsWithin (length buffer) end
+    ensures { (buffer : List ℕ) → IsCountWithin (length buffer) end
         → IsOutcome result buffer (outcome_at end buffer) }
 {
     match end {

@@ -28,7 +28,7 @@ mod blocks;
 mod coders;
 
 pub use blocks::{law_19, law_20};
-pub use coders::{law_15, law_16, law_17, law_18};
+pub use coders::{law_15, law_16, law_17, law_18, law_21};
 
 /// A frame reads as its output: bytes read as a message exactly if there are some, none is a zero, their last
 /// block has all the bytes that its code counts, and the message is what they decode to. No output is longer than its

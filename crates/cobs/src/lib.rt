@@ -41,7 +41,7 @@
 //! # Which call for what
 //!
 //! - A whole message: [`encode`] into a slice with room, [`try_encode`] if it may not fit, [`encode_vec`] into a
-//!   vector. The forms `.._with_sentinel` use another sentinel than 0, and the forms `.._including_sentinels` write a
+//!   vector, [`encode_in_place`] in its own buffer. The forms `.._with_sentinel` use another sentinel than 0, and the forms `.._including_sentinels` write a
 //!   sentinel on each side.
 //! - A message that comes in pieces: [`CobsEncoder`] over a slice, [`UnbufferedEncoder`] with a buffer that is passed
 //!   to each call, [`EncoderState`] into a container of your own.
@@ -75,7 +75,7 @@ pub use dec::{
 };
 pub use enc::{
     CobsEncoder, DestBufTooSmallError, EncoderProgress, EncoderState, PushResult,
-    UnbufferedEncoder, encode, encode_including_sentinels, encode_vec,
+    UnbufferedEncoder, encode, encode_in_place, encode_including_sentinels, encode_vec,
     encode_vec_including_sentinels, encode_vec_with_sentinel, encode_with_sentinel, try_encode,
     try_encode_including_sentinels, try_encode_with_sentinel,
 };

@@ -1,7 +1,7 @@
 //! Stretches of bytes of other lengths than a window's: copied up to a zero, copied if none is a sentinel, and moved
 //! within one buffer, where the places may overlap. All of a part is loaded before any of it is stored.
 //!
-//! `copy_to_zero` is for chunks of 64 bytes of a stream, `copy_xored_short` for messages of up to 64 bytes, as telemetry
+//! `copy_to_zero` is for chunks of a stream, `copy_xored_short` for messages of up to 64 bytes, as telemetry
 //! has, and `move_to_front` for messages in place.
 ghost use Rattle.std.specs.Prelude.{◌≡◌, ◌<◌, ◌≤◌, ◌+◌, ◌++◌, length, take, drop, IsTrue, false};
 ghost use Rattle.cobs_bytes.specs.Bytes.{HasNoZero, xor_each};
@@ -69,20 +69,24 @@ fn copy_few_to_zero(few: &[u8], dest: &mut [u8], at: usize) -> usize
     len
 }
 
-/// Copies the first bytes of a chunk, up to a zero: up to 64 of them, or up to 32 of a shorter chunk; and returns how
-/// many.
+/// Copies the first bytes of a chunk, up to a zero: up to 192 of them, or up to 64 or 32 of a shorter chunk; and returns
+/// how many.
 #[inline(always)]
 pub fn copy_to_zero(chunk: &[u8], dest: &mut [u8], at: usize) -> usize
     requires room { 0 < length chunk.now → at + length chunk.now ≤ length dest.old }
     ensures within { result ≤ length chunk.now }
-    ensures few { result ≤ 64 }
+    ensures few { result ≤ 192 }
     ensures nonzero { HasNoZero (take result chunk.now) }
     ensures copied { 0 < result → dest.new ≡ take at dest.old
         ++ (take result chunk.now ++ drop (at + result) dest.old) }
     ensures kept { result ≡ 0 → dest.new ≡ dest.old }
 {
     if WIDE_WINDOW <= chunk.len() {
-        let len = copy_nonzero(chunk, 0, WIDE_WINDOW, dest, at);
+        let len = if 3 * WIDE_WINDOW <= chunk.len() {
+            copy_nonzero(chunk, 0, 3 * WIDE_WINDOW, dest, at)
+        } else {
+            copy_nonzero(chunk, 0, WIDE_WINDOW, dest, at)
+        };
         if len > 0 {
             return len;
         }

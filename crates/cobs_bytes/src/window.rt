@@ -154,6 +154,7 @@ pub fn copy_nonzero(source: &[u8], read: usize, len: usize, dest: &mut [u8], at:
     ensures nonzero { HasNoZero (take result (drop read source.now)) }
     ensures copied { dest.new ≡ take at dest.old
         ++ (take result (drop read source.now) ++ drop (at + result) dest.old) }
+    ensures all { HasNoZero (take len (drop read source.now)) → result ≡ len }
 {
     let mut done = 0;
     'by_window: while done < len {

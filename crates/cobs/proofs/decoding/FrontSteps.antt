@@ -1,6 +1,6 @@
 -- The front of a source, decoded while the zero that ends it is sought.
-use Rattle.std.proofs.Common.{◌≡◌, ◌≢◌, ℕ, zero, suc, ◌+◌, ◌-◌, ◌<◌, ◌≤◌, List, [], ◌∷◌, ◌++◌, length, drop, take, get_or, replicate, refl, sym, ap, ◌∙◌, subst, inl, inr, arith, append_assoc, length-take-le, length-drop, take-append-drop, take_at}
-use Rattle.std.proofs.lemmas.List.{drop-drop, drop_all, take-take, take-append-le, take_rest, take_all, drop-take, get_or-take}
+use Rattle.std.proofs.Common.{◌≡◌, ◌≢◌, ℕ, zero, suc, ◌+◌, ◌-◌, ◌<◌, ◌≤◌, List, [], ◌∷◌, ◌++◌, length, drop, take, get_or, replicate, refl, sym, ap, ◌∙◌, subst, inl, inr, arith, append_assoc, length-append, length-take-le, length-drop, take-append-drop, take_at}
+use Rattle.std.proofs.lemmas.List.{length-set, drop-drop, drop_all, take-take, take-append-le, take_rest, take_all, drop-take, get_or-take}
 use Rattle.std.proofs.lemmas.List.Elements.{All-head, All-tail, All-drop, All-replicate}
 use Rattle.std.proofs.lemmas.Bool.{cases_lt}
 use Rattle.std.proofs.Math.ListN.{set}
@@ -70,11 +70,6 @@ piece-end t rest read n rest-is begun within nonzero stop =
     let here : take n rest ≡ drop read (head t) = front_is_head rest n within nonzero stop ∙ ap head rest-is ∙ head-drop read t (omega arith) in
     let l = ap length here in
     omega (arith, length-take-le n rest within, length-drop read (head t))
-
--- what is left of it
-pub head-rest : (t : List ℕ) (read end : ℕ) → end ≡ length (head t) → read ≤ end → take (end - read) (drop read t) ≡ drop read (head t)
-head-rest t read end is le =
-    sym (head-part (end - read) read t (omega arith)) ∙ take_all (end - read) (drop read (head t)) (omega (arith, length-drop read (head t)))
 
 -- what is left of a piece is a head
 pub part-head : (piece : List ℕ) (read : ℕ) → HasNoZero piece → head (take (length piece - read) (drop read piece)) ≡ drop read piece
@@ -197,7 +192,7 @@ module _ (source old : List ℕ) (code : ℕ) (some : 0 < length (head source)) 
         (full-decoded (head source) old old 0 0 255 (started (head source) old some) (sym full ∙ at-head) (omega arith) more 254 254 (take 254 (drop 1 source)) room (omega arith) (omega arith)
         (sym (head-part 254 1 source (omega arith))) (omega arith))
 
--- A WINDOW
+-- A STRETCH
 
 -- 33 codes 1
 ones-front : (t : List ℕ) → 33 ≤ length t → get_or t 0 0 ≡ 1 → take 32 (drop 1 t) ≡ replicate 32 1 → (33 ≤ length (head t)) × (take 32 (head t) ≡ replicate 32 1)
@@ -219,47 +214,66 @@ ones-decoded t dest after long first ones is =
       within = omega arith;
       left = sym (ap length o ∙ omega arith);
       front = ap (λ (x : List ℕ). take 32 x ++ output next) is ∙ ap (λ (x : List ℕ). x ++ output next) (take_at (replicate 32 0) (drop 32 dest) 32 refl) ∙ sym o;
-      rest = (stayed (head t) dest after (replicate 32 0) 32 (omega arith) is refl (output-long (head t) front.0)).rest;
+      rest = (stayed (head t) dest after (replicate 32 0) 32 (omega arith) is refl (output-long 32 (head t) (omega (arith, front.0)) (omega arith))).rest;
       last = sym (ap last_part whole ∙ last_part-ones 32 next (omega arith));
     }
 
--- the codes of a window are read up to this one, which is within it, and behind them stand the bytes that follow the codes
-pub record WindowRead (source old dest : List ℕ) (read code : ℕ) : Type 0 where
+-- the codes of a stretch of n bytes are read up to this one, whose block is within it, and the bytes that follow the codes stand behind them
+pub record StretchRead (source old dest : List ℕ) (n read code : ℕ) : Type 0 where
   pub decoded : Decoded (head source) old dest read read
-  pub copied : CopiedTo (head source) dest read 33 read
+  pub copied : CopiedTo (head source) dest read (n + 1) read
   pub at-read : code ≡ get_or source read 0
   pub some : 0 < code
-  pub inside : read + code < 33
+  pub inside : read + code ≤ n
+  pub same : length dest ≡ length old
 
-pub window-begun : (source dest after : List ℕ) → 0 < length (head source) → 33 ≤ length source → HasNoZero (take 32 (drop 1 source)) → get_or source 0 0 < 33
-    → after ≡ take 32 (drop 1 source) ++ drop 32 dest → WindowRead source dest after 0 (get_or source 0 0)
-window-begun source dest after begun long nonzero first is =
-    let all : 33 ≤ length (head source) = head-behind 32 source begun long nonzero in
-    let window : List ℕ = take 32 (drop 1 source) in
-    let w : length window ≡ 32 = length-take-le 32 (drop 1 source) (omega (arith, length-drop 1 source)) in
+pub stretch-begun : (source dest after : List ℕ) (n : ℕ) → 0 < length (head source) → n < length source → n < 254 → n ≤ length dest → HasNoZero (take n (drop 1 source)) → get_or source 0 0 ≤ n
+    → after ≡ take n (drop 1 source) ++ drop n dest → StretchRead source dest after n 0 (get_or source 0 0)
+stretch-begun source dest after n begun long few room nonzero first is =
+    let all : n + 1 ≤ length (head source) = head-behind n source begun (omega arith) nonzero in
+    let bytes : List ℕ = take n (drop 1 source) in
+    let w : length bytes ≡ n = length-take-le n (drop 1 source) (omega (arith, length-drop 1 source)) in
     record {
-      decoded = stayed (head source) dest after window 32 begun is w (output-long (head source) all);
-      copied = record { within = all; bytes = ap (take 32) is ∙ take_at window (drop 32 dest) 32 w ∙ sym (head-part 32 1 source all) };
+      decoded = stayed (head source) dest after bytes n begun is w (output-long n (head source) (omega arith) few);
+      copied = record {
+        within = all;
+        bytes = ap (λ (k : ℕ). take k after) {x = n + 1 - 1} {y = n} (omega arith) ∙ ap (take n) is ∙ take_at bytes (drop n dest) n w
+            ∙ sym (head-part n 1 source (omega arith)) ∙ ap (λ (k : ℕ). take k (drop 1 (head source))) {x = n} {y = n + 1 - 1} (omega arith);
+      };
       at-read = refl;
       some = head-code 0 source begun;
       inside = omega arith;
+      same = grind (arith, length-append, length-drop);
     }
 
-module _ (source old dest : List ℕ) (read code : ℕ) (w : WindowRead source old dest read code) where
+module _ (source old dest : List ℕ) (n read code : ℕ) (few : n < 255) (room : n ≤ length old) (w : StretchRead source old dest n read code) where
   at-code : code ≡ get_or (head source) read 0
   at-code = w.at-read ∙ sym (head-get read source w.decoded.within)
 
   more : read + code < length (head source)
   more = omega (arith, w.copied.within, w.inside)
 
-  pub window-next : 32 ≤ length dest → Decoded (head source) old (set dest (read + (code - 1)) 0) (read + code) (read + code)
-  window-next room = code-decoded (head source) old dest read read code w.decoded at-code w.some more 33 w.copied w.inside (omega (arith, w.inside)) (omega (arith, w.inside))
+  pub stretch-next : Decoded (head source) old (set dest (read + (code - 1)) 0) (read + code) (read + code)
+  stretch-next =
+      code-decoded (head source) old dest read read code w.decoded at-code w.some more (n + 1) w.copied (omega (arith, w.inside)) (λ e. omega (arith, w.inside, e)) (omega (arith, w.inside, w.same))
 
-  pub window-more : 32 ≤ length dest → (next : ℕ) → next ≡ get_or source (read + code) 0 → read + code + next < 33 → WindowRead source old (set dest (read + (code - 1)) 0) (read + code) next
-  window-more room next is inside = record {
-    decoded = window-next room;
-    copied = code-copied (head source) old dest read read code w.decoded at-code w.some more 33 w.copied w.inside (omega (arith, w.inside));
+  pub stretch-more : (next : ℕ) → next ≡ get_or source (read + code) 0 → read + code + next ≤ n → StretchRead source old (set dest (read + (code - 1)) 0) n (read + code) next
+  stretch-more next is inside = record {
+    decoded = stretch-next;
+    copied = code-copied (head source) old dest read read code w.decoded at-code w.some more (n + 1) w.copied (omega (arith, w.inside)) (λ e. omega (arith, w.inside, e));
     at-read = is;
     some = omega (arith, head-code (read + code) source more, is);
     inside = inside;
+    same = length-set dest (read + (code - 1)) 0 ∙ w.same;
   }
+
+-- two codes, which take turns
+pub stretch-turn : (source old dest : List ℕ) (n read code next both : ℕ) → n < 255 → n ≤ length old → StretchRead source old dest n read code → both ≡ code + next → read + both + code ≤ n
+    → get_or source (read + code) 0 ≡ next → get_or source (read + both) 0 ≡ code → StretchRead source old (set (set dest (read + (code - 1)) 0) (read + (both - 1)) 0) n (read + both) code
+stretch-turn source old dest n read code next both few room w sum inside here then =
+    let once = stretch-more source old dest n read code few room w next (sym here) (omega arith) in
+    let some = once.some in
+    let at : read + code + next ≡ read + both = omega arith in
+    let twice = stretch-more source old (set dest (read + (code - 1)) 0) n (read + code) next few room once code (sym then ∙ ap (λ (i : ℕ). get_or source i 0) (sym at)) (omega arith) in
+    subst (λ (i : ℕ). StretchRead source old (set (set dest (read + (code - 1)) 0) i 0) n (read + both) code) (omega arith)
+    (subst (λ (k : ℕ). StretchRead source old (set (set dest (read + (code - 1)) 0) (read + code + (next - 1)) 0) n k code) at twice)

@@ -81,8 +81,8 @@ output-le p some = (shorter_by (length p) p (omega arith) some).less
 pub output_short : (p : List ℕ) → 0 < length p → length p < 255 → length (output p) + 1 ≡ length p
 output_short p some few = let s = shorter_by (length p) p (omega arith) some in omega arith
 
-pub output-long : (p : List ℕ) → 33 ≤ length p → 32 ≤ length (output p)
-output-long p h = let s = shorter_by (length p) p (omega arith) (omega arith) in omega arith
+pub output-long : (n : ℕ) (p : List ℕ) → n < length p → n < 254 → n ≤ length (output p)
+output-long n p h few = let s = shorter_by (length p) p (omega arith) (omega arith) in omega arith
 
 -- parts of a code alone
 pub output-ones : (n : ℕ) (p : List ℕ) → 0 < length p → output (replicate n 1 ++ p) ≡ replicate n 0 ++ output p

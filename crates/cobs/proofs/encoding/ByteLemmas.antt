@@ -57,3 +57,6 @@ after-zero slice m r h fits =
     let l = length-set slice r.block.index code in
     let closed = Opened-close slice m r.block.index (next_of r) code r.full (omega arith) refl (opened slice m r h fits) in
     grind (arith, to_after)
+
+-- for the tactics of `append_byte`
+pub ruleset byte_steps = (after-byte, after-filled, after-zero)

@@ -1,37 +1,81 @@
 -- Reads, one after another, and the first piece that ends in what they gave.
-use Rattle.std.proofs.Common.{◌≡◌, ◌≢◌, ℕ, ◌+◌, ◌-◌, ◌<◌, ◌≤◌, Bool, true, false, leb, List, [], ◌∷◌, ◌++◌, length, take, drop, refl, sym, ap, ◌∙◌, subst, arith, append_assoc, length-append, length-take, Some, None, Ok, Err}
+use Rattle.std.proofs.Common.{◌≡◌, ◌≢◌, ℕ, ◌+◌, ◌-◌, ◌<◌, ◌≤◌, Bool, true, false, leb, List, [], ◌∷◌, ◌++◌, length, take, drop, refl, sym, ap, ◌∙◌, subst, arith, append_assoc, length-append, length-take, length-drop, Some, None, Ok, Err}
 use Rattle.std.specs.List.{All}
-use Rattle.std.proofs.lemmas.List.{append-nil, take_all, take-append-le, take-append-drop, drop-take, drop-drop, flat_map_more, length_push, same_from_push}
+use Rattle.std.proofs.lemmas.List.{append-nil, nil_from_length, take_all, take-append-le, take-append-drop, drop-take, drop-drop, flat_map_more, length_push, same_from_push}
 use Rattle.std.proofs.lemmas.List.Elements.{All-nil, All-push, All-take, All-head, All-tail}
 use Rattle.std.proofs.lemmas.Grind.{flat_map-append}
 use Rattle.std.proofs.Math.Logic.{∥∥₁_elim}
 use Rattle.std.proofs.Math.Bool.{Bool-set}
-use Rattle.cobs.specs.Stream.{Outcome, stream_outcomes, unended, is_nonempty}
+use Rattle.cobs.specs.Piece.{output}
+use Rattle.cobs.specs.Overwritten.{overwritten}
+use Rattle.cobs.specs.Push.{last_piece}
+use Rattle.cobs.specs.Stream.{Outcome, Message, Broken, TooLong, outcome_of, stream_outcomes, unended, is_nonempty}
 use Rattle.cobs.specs.Feed.{Phase, Idle, Within, Over, DecoderAfter, phase_after}
 use Rattle.cobs.specs.FeedPiece.{outcome_at, TakesPiece}
-use Rattle.cobs.specs.NextFrame.{Read, bytes_given, GaveBytes, all_given, EndsIn, Runs, CallsForMore, EachCalledFor, EndsFirst, ReaderState, ReaderAfter, AtStreamEnd, Tells, ReadsNext}
+use Rattle.cobs.specs.NextFrame.{Read, bytes_given, GaveBytes, all_given, EndsIn, Runs, CallsForMore, EachCalledFor, EndsFirst, HasDecoded, ReaderState, ReaderAfter, AtPieceEnd, AtStreamEnd, Tells, ReadsNext}
 use Rattle.cobs.specs.Internal.KeptBytes.{EndsFirstIn, DecoderHasTaken, TellsFirst}
 use Rattle.cobs.specs.declared.framed.Next.{Next}
 use Rattle.cobs.specs.declared.framed.Next.TheVariants as nexts
 use Rattle.cobs.specs.declared.framed.ReadFault.TheVariants as faults
 use Rattle.cobs.specs.declared.dec.frame_decoder.PieceEnd.{PieceEnd}
-use Rattle.cobs.proofs.format.StreamLemmas.{stream_outcomes-append, stream_outcomes-no_zero, unended-append, unended-no_zero, unended-zero}
-use Rattle.cobs.proofs.streaming.SoFar.{left_nothing}
+use Rattle.cobs.proofs.format.StreamLemmas.{outcomes_at, stream_outcomes-append, stream_outcomes-no_zero, stream_outcomes-push, unended-append, unended-no_zero, unended-zero}
+use Rattle.cobs.proofs.streaming.SoFar.{left_nothing, no_outcomes}
+use Rattle.cobs.proofs.streaming.LastPiece.{last_piece-zero}
+use Rattle.std.proofs.lemmas.Bool.{cases_Bool, leb-true, leb-false}
 
 -- THE FIRST PIECE THAT ENDS
 
 -- a piece that a decoder has taken
-pub EndsFirstIn-taken : {buffer buffer' : List ℕ} {phase phase' : Phase} {end : PieceEnd} {count : ℕ} (bytes : List ℕ) → TakesPiece buffer phase bytes (Some (end, count)) buffer' phase'
-    → (p : List ℕ) → DecoderAfter buffer phase p → EndsFirstIn p bytes (length buffer) (outcome_at end buffer') (drop count bytes)
+abbrev pub EndsFirstIn-taken : {buffer buffer' : List ℕ} {phase phase' : Phase} {end : PieceEnd} {count : ℕ} (bytes : List ℕ) → TakesPiece buffer phase bytes (Some (end, count)) buffer' phase'
+    → (p : List ℕ) → DecoderAfter buffer phase p → EndsFirstIn p bytes (length buffer') (outcome_at end buffer') (drop count bytes)
 EndsFirstIn-taken {buffer} {buffer'} {phase} {phase'} {end} {count} bytes t p h = record {
   front = t.ends.front;
   cut = sym (take-append-drop count bytes) ∙ ap (λ (x : List ℕ). x ++ drop count bytes) t.ends.taken ∙ append_assoc t.ends.front (0 ∷ []) (drop count bytes);
-  none_before = t.ends.none_before p h.phased;
-  here = ap (λ (x : List ℕ). stream_outcomes (p ++ x) (length buffer)) (sym t.ends.taken) ∙ sym (t.takes.outcomes p h);
+  none_before = ap (stream_outcomes (p ++ t.ends.front)) t.takes.len ∙ t.ends.none_before p h.phased;
+  here = ap (stream_outcomes (p ++ (t.ends.front ++ 0 ∷ []))) t.takes.len ∙ ap (λ (x : List ℕ). stream_outcomes (p ++ x) (length buffer)) (sym t.ends.taken) ∙ sym (t.takes.outcomes p h);
 }
 
+-- what the buffer has of a piece that a zero ends, once the piece's output is written over its front
+broken-fits : (p : List ℕ) (count n : ℕ) → outcome_of p n ≡ Broken count → (length (output p) ≤ n) × (count ≡ length (output p))
+unfolding outcome_of
+broken-fits p count n e = grind (arith, leb-true, cases_Bool)
+
+long-exceeds : (p : List ℕ) (n : ℕ) → outcome_of p n ≡ TooLong → n < length (output p)
+unfolding outcome_of
+long-exceeds p n e = grind (arith, leb-false, cases_Bool)
+
+written-fits : (out buffer : List ℕ) (count : ℕ) → length out ≤ length buffer → count ≡ length out → (count ≤ length (overwritten buffer out)) × (take count (overwritten buffer out) ≡ out)
+written-fits out buffer count fits is =
+    let e : overwritten buffer out ≡ out ++ drop (length out) buffer = ap (λ (x : List ℕ). x ++ drop (length out) buffer) (take_all (length buffer) out fits) in
+    (omega (arith, ap length e, length-append out (drop (length out) buffer)), ap (take count) e ∙ take-append-le count out (drop (length out) buffer) (omega arith) ∙ take_all count out (omega arith))
+
+written-long : (out buffer : List ℕ) → length buffer < length out → overwritten buffer out ≡ take (length (overwritten buffer out)) out
+written-long out buffer long =
+    let none : drop (length out) buffer ≡ [] = nil_from_length _ (omega (arith, length-drop (length out) buffer)) in
+    let e : overwritten buffer out ≡ take (length buffer) out = ap (λ (x : List ℕ). take (length buffer) out ++ x) none ∙ append-nil (take (length buffer) out) in
+    let len : length (overwritten buffer out) ≡ length buffer = omega (arith, ap length e, length-take (length buffer) out) in
+    e ∙ ap (λ (k : ℕ). take k out) (sym len)
+
+HasDecoded-written : (outcome : Outcome) (piece buffer : List ℕ) → outcomes_at piece 0 (length buffer) ≡ outcome ∷ [] → HasDecoded outcome (overwritten buffer (output piece)) piece
+HasDecoded-written outcome [] buffer e = absurd cc
+HasDecoded-written (Message message) (byte ∷ bytes) buffer e = tt
+HasDecoded-written (Broken count) (byte ∷ bytes) buffer e = let fits = broken-fits (byte ∷ bytes) count (length buffer) cc in written-fits (output (byte ∷ bytes)) buffer count fits.0 fits.1
+HasDecoded-written TooLong (byte ∷ bytes) buffer e = written-long (output (byte ∷ bytes)) buffer (long-exceeds (byte ∷ bytes) (length buffer) cc)
+
+-- what the buffer has of a piece that a decoder has taken
+pub HasDecoded-taken : {buffer buffer' : List ℕ} {phase phase' : Phase} {end : PieceEnd} {count : ℕ} (bytes : List ℕ) → (t : TakesPiece buffer phase bytes (Some (end, count)) buffer' phase')
+    → (p : List ℕ) → DecoderAfter buffer phase p → HasDecoded (outcome_at end buffer') buffer' (unended (p ++ t.ends.front))
+HasDecoded-taken {buffer} {buffer'} {phase} {phase'} {end} {count} bytes t p h =
+    let front = p ++ t.ends.front in
+    let none = t.ends.none_before p h.phased in
+    let cut : p ++ take count bytes ≡ front ++ 0 ∷ [] = ap (λ (x : List ℕ). p ++ x) t.ends.taken ∙ sym (append_assoc p t.ends.front (0 ∷ [])) in
+    let outcome : outcomes_at (unended front) 0 (length buffer) ≡ outcome_at end buffer' ∷ [] =
+    ap (λ (x : List Outcome). x ++ outcomes_at (unended front) 0 (length buffer)) (sym none) ∙ sym (stream_outcomes-push front 0 (length buffer)) ∙ ap (λ (x : List ℕ). stream_outcomes x (length buffer)) (sym cut) ∙ sym (t.takes.outcomes p h) in
+    let written : buffer' ≡ overwritten buffer (output (unended front)) = t.holds p h ∙ ap (λ (x : List ℕ). overwritten buffer (output x)) (ap last_piece cut ∙ last_piece-zero front (no_outcomes front (length buffer) none)) in
+    subst (λ (b : List ℕ). HasDecoded (outcome_at end buffer') b (unended front)) (sym written) (HasDecoded-written _ (unended front) buffer outcome)
+
 -- bytes behind a stream t in which no piece has ended
-pub EndsFirst-behind : (t : List ℕ) {bytes behind : List ℕ} {n : ℕ} {outcome : Outcome} → stream_outcomes t n ≡ [] → EndsFirstIn (unended t) bytes n outcome behind → EndsFirst (t ++ bytes) n outcome behind
+abbrev pub EndsFirst-behind : (t : List ℕ) {bytes behind : List ℕ} {n : ℕ} {outcome : Outcome} → stream_outcomes t n ≡ [] → EndsFirstIn (unended t) bytes n outcome behind → EndsFirst (t ++ bytes) n outcome behind
 EndsFirst-behind t {bytes} {behind} {n} {outcome} none w = record {
   front = t ++ w.front;
   cut = grind (arith, append_assoc);
@@ -170,7 +214,11 @@ module _ {S : Type 0} {step : S → Read → S → Type 0} {from to : S} {reader
 -- the first piece that ends in some bytes is told, behind a stream in which none has ended
 Tells-first : (next : Next) (reads : List Read) (t bytes : List ℕ) (reader : ReaderState) → stream_outcomes t (length reader.buffer) ≡ []
     → TellsFirst next (unended t) bytes reader.buffer reader.kept → ReaderAfter reader [] → Tells (Ok next) reads (t ++ bytes) reader
-Tells-first next reads t bytes reader none w b = grind (arith, EndsFirst-behind)
+Tells-first next reads t bytes reader none w b =
+    let first = EndsFirst-behind t none w.first in
+    let decoded : HasDecoded w.outcome reader.buffer (unended first.front) = subst (λ (x : List ℕ). HasDecoded w.outcome reader.buffer x) (sym (unended-append t w.first.front)) w.decoded in
+    let ended : AtPieceEnd (t ++ bytes) w.outcome reader = record { first = first; decoded = decoded; idle = b } in
+    grind arith
 
 -- the kept bytes end a piece: nothing is read
 pub ReadsNext-kept : {S : Type 0} (step : S → Read → S → Type 0) (source : S) (reader reader' : ReaderState) (next : Next)

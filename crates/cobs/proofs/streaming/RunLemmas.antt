@@ -1,8 +1,7 @@
 -- So many bytes of a block at once are so many feeds.
-use Rattle.std.proofs.Common.{◌≡◌, ◌≢◌, ℕ, zero, suc, ◌+◌, ◌-◌, ◌<◌, ◌≤◌, Bool, false, List, [], ◌∷◌, ◌++◌, length, take, drop, set, get_or, sym, ap, ◌∙◌, subst, refl, arith, append_assoc, None, Ok}
-use Rattle.std.proofs.lemmas.List.{set-append_right, length_push, drop_more, take_more_set, drop-set-lt, length-set, take-append-drop, length-take-le, drop-drop}
+use Rattle.std.proofs.Common.{◌≡◌, ◌≢◌, ℕ, zero, suc, ◌+◌, ◌-◌, ◌<◌, ◌≤◌, Bool, false, cond, eqb, List, [], ◌∷◌, ◌++◌, length, take, drop, replicate, set, get_or, sym, ap, ◌∙◌, subst, refl, arith, append_assoc, None, Ok}
+use Rattle.std.proofs.lemmas.List.{length-replicate, set-append_right, length_push, drop_more, take_more_set, drop-set-lt, length-set, take-append-drop, length-take-le}
 use Rattle.std.proofs.Math.Seq.{set-append_seam}
-use borrow.Rule.Slice.PartMut.{put_mid}
 use Rattle.cobs.specs.declared.dec.unbuffered.UnbufferedDecoder.{UnbufferedDecoder}
 use Rattle.std.proofs.lemmas.List.Elements.{All-head, All-tail}
 use Rattle.std.proofs.lemmas.Bool.{ne_eqb, lt-ltb}
@@ -49,6 +48,16 @@ FedInTurn-within (x ∷ xs) buffer full (suc left) count h l r =
     = FedInTurn-within xs (set buffer count x) full left (count + 1) (All-tail (λ b. b ≢ 0) x xs h) (omega arith) (omega (arith, length-set buffer count x)) in
     grind (arith, ne_eqb, lt-ltb, over-cons)
 
+-- blocks without bytes behind a block of which nothing is missing
+FedInTurn-ones : (n : ℕ) (buffer : List ℕ) (count : ℕ) → count + n ≤ length buffer
+    → FedInTurn buffer (Within false 0 count) (replicate n 1) (over count buffer (replicate n 0)) (Within false 0 (count + n))
+FedInTurn-ones zero buffer count r = grind (arith, over-nil)
+FedInTurn-ones (suc n) buffer count r =
+    let room : count < length buffer = omega arith in
+    let again : FedInTurn (set buffer count 0) (Within false 0 (count + 1)) (replicate n 1) (over (count + 1) (set buffer count 0) (replicate n 0)) (Within false 0 (count + 1 + n))
+    = FedInTurn-ones n (set buffer count 0) (count + 1) (omega (arith, length-set buffer count 0)) in
+    grind (arith, lt-ltb, over-cons)
+
 -- the first of the bytes behind a place
 from_here : (bytes : List ℕ) (i r : ℕ) → i < length bytes → take (suc r) (drop i bytes) ≡ get_or bytes i 0 ∷ take r (drop (i + 1) bytes)
 from_here bytes i r within = ap (take (suc r)) (drop_more bytes i 0 within)
@@ -92,12 +101,38 @@ pub run_written : (full : Bool) (left count run : ℕ) (dest bytes : List ℕ) �
     → FedInTurn dest (phase_with full left count) (take run bytes) (over count dest (take run bytes)) (phase_with full (left - run) (count + run))
 run_written full left count run dest bytes some most room within nz = grind (arith, length-take-le, FedInTurn-within, begun)
 
-over-put : (count run : ℕ) (buffer xs : List ℕ) → length xs ≡ run → over count buffer xs ≡ put_mid count (count + run - count) buffer xs
-over-put count run buffer xs e = grind (arith, drop-drop)
+-- the same by one copy, of which nothing may come
+pub run_fed : (inner : UnbufferedDecoder) (dest bytes new : List ℕ) (run : ℕ) → inner.over ≡ false → run ≤ inner.left → inner.dest_idx + run ≤ length dest → run ≤ length bytes → HasNoZero (take run bytes)
+    → new ≡ take inner.dest_idx dest ++ (take run bytes ++ drop (inner.dest_idx + run) dest)
+    → FedInTurn dest (phase_of inner) (take run bytes) new (phase_of (record { dest_idx = inner.dest_idx + run; left = inner.left - run; code = inner.code; over = inner.over }))
+run_fed inner dest bytes new zero going most room within nz is =
+    let at : inner.dest_idx + 0 ≡ inner.dest_idx = omega arith in (
+      is ∙ ap (λ (k : ℕ). take inner.dest_idx dest ++ drop k dest) at ∙ take-append-drop inner.dest_idx dest,
+      ap (λ (k : ℕ). cond inner.over Over (phase_with (eqb inner.code 255) (inner.left - 0) k)) at ∙ ap (λ (k : ℕ). cond inner.over Over (phase_with (eqb inner.code 255) k inner.dest_idx)) (omega arith),
+    )
+run_fed inner dest bytes new (suc n) going most room within nz is =
+    let fed = run_written (eqb inner.code 255) inner.left inner.dest_idx (suc n) dest bytes (omega arith) most room within nz in
+    let written : new ≡ over inner.dest_idx dest (take (suc n) bytes)
+    = is ∙ ap (λ (k : ℕ). take inner.dest_idx dest ++ (take (suc n) bytes ++ drop (inner.dest_idx + k) dest)) (sym (length-take-le (suc n) bytes within)) in
+    subst (λ (v : Bool). FedInTurn dest (cond v Over (phase_with (eqb inner.code 255) inner.left inner.dest_idx)) (take (suc n) bytes) new
+    (cond v Over (phase_with (eqb inner.code 255) (inner.left - suc n) (inner.dest_idx + suc n)))) (sym going)
+    (subst (λ (b : List ℕ). FedInTurn dest (phase_with (eqb inner.code 255) inner.left inner.dest_idx) (take (suc n) bytes) b (phase_with (eqb inner.code 255) (inner.left - suc n) (inner.dest_idx + suc n)))
+    (sym written) fed)
 
--- the same by one copy
-pub run_fed : (inner : UnbufferedDecoder) (dest bytes ys : List ℕ) (run : ℕ) → inner.over ≡ false
-    → 0 < run → run ≤ inner.left → inner.dest_idx + run ≤ length dest → run ≤ length bytes → HasNoZero (take run bytes) → ys ≡ take run bytes
-    → FedInTurn dest (phase_of inner) (take run bytes) (put_mid inner.dest_idx (inner.dest_idx + run - inner.dest_idx) dest ys)
-    (phase_of (record { dest_idx = inner.dest_idx + run; left = inner.left - run; code = inner.code; over = inner.over }))
-run_fed inner dest bytes ys run plain some most room within nz same = grind (arith, over, put_mid, over-put, length-take-le, run_written)
+-- a row of n blocks without bytes
+pub row_fed : (n : ℕ) (inner : UnbufferedDecoder) (dest bytes new : List ℕ) → inner.over ≡ false → inner.left ≡ 0 → inner.code ≡ 1 → inner.dest_idx + n ≤ length dest → take n bytes ≡ replicate n 1
+    → new ≡ take inner.dest_idx dest ++ (replicate n 0 ++ drop (inner.dest_idx + n) dest)
+    → FedInTurn dest (phase_of inner) (take n bytes) new (phase_of (record { dest_idx = inner.dest_idx + n; left = inner.left; code = inner.code; over = inner.over }))
+row_fed n inner dest bytes new going none empty room ones is =
+    let at : (count : ℕ) → phase_of (record { dest_idx = count; left = inner.left; code = inner.code; over = inner.over }) ≡ Within false 0 count
+    = λ count. ap (λ (v : Bool). cond v Over (phase_with (eqb inner.code 255) inner.left count)) going ∙ ap (λ (k : ℕ). phase_with (eqb k 255) inner.left count) empty
+    ∙ ap (λ (k : ℕ). phase_with false k count) none in
+    let written : new ≡ over inner.dest_idx dest (replicate n 0)
+    = is ∙ ap (λ (k : ℕ). take inner.dest_idx dest ++ (replicate n 0 ++ drop (inner.dest_idx + k) dest)) (sym (length-replicate n 0)) in
+    let fed = FedInTurn-ones n dest inner.dest_idx room in
+    let to : List ℕ = over inner.dest_idx dest (replicate n 0) in
+    let later : Phase = phase_of (record { dest_idx = inner.dest_idx + n; left = inner.left; code = inner.code; over = inner.over }) in
+    subst (λ (l : List ℕ). FedInTurn dest (phase_of inner) l new later) (sym ones)
+    (subst (λ (b : List ℕ). FedInTurn dest (phase_of inner) (replicate n 1) b later) (sym written)
+    (subst (λ (p : Phase). FedInTurn dest p (replicate n 1) to later) (sym (at inner.dest_idx))
+    (subst (λ (p : Phase). FedInTurn dest (Within false 0 inner.dest_idx) (replicate n 1) to p) (sym (at (inner.dest_idx + n))) fed)))

@@ -1,7 +1,7 @@
 -- A stretch without zeros behind a block boundary, fed as a whole: its output is written, and the phase is that of its last part.
-use Rattle.std.proofs.Common.{◌≡◌, ◌≢◌, ℕ, zero, suc, ◌+◌, ◌-◌, ◌<◌, ◌≤◌, Bool, true, false, cond, eqb, List, [], ◌∷◌, ◌++◌, length, take, drop, set, refl, sym, ap, ◌∙◌, subst, arith, append_assoc, inl, inr, length-append, length-drop, None, Ok}
-use Rattle.std.proofs.lemmas.List.{append-nil, length-set, length_push, length-take-le, take-append-drop, drop_all, drop-drop, take_rest, take-take}
-use Rattle.std.proofs.Math.Seq.{drop-append_seam, take-add, take-append_seam}
+use Rattle.std.proofs.Common.{◌≡◌, ◌≢◌, ℕ, zero, suc, ◌+◌, ◌-◌, ◌<◌, ◌≤◌, Bool, true, false, cond, eqb, List, [], ◌∷◌, ◌++◌, length, take, drop, refl, sym, ap, ◌∙◌, subst, arith, append_assoc, inl, inr, length-append, length-drop, None, Ok}
+use Rattle.std.proofs.lemmas.List.{append-nil, length_push, length-take-le, take-append-drop, drop_all, drop-drop, take_rest, take-take}
+use Rattle.std.proofs.Math.Seq.{drop-append_seam, take-append_seam}
 use Rattle.std.proofs.lemmas.List.Elements.{All-cons, All-head, All-tail, All-drop}
 use Rattle.std.proofs.lemmas.Bool.{ne_eqb, eqb-true, lt-ltb, cases_lt}
 use Rattle.std.specs.List.{All}
@@ -24,11 +24,6 @@ pub FedInTurn-append : (xs ys buffer buffer' buffer'' : List ℕ) (phase phase' 
 FedInTurn-append [] ys buffer buffer' buffer'' phase phase' phase'' f g = grind arith
 FedInTurn-append (x ∷ xs) ys buffer buffer' buffer'' phase phase' phase'' f g =
     (f.0, FedInTurn-append xs ys (next_buffer buffer phase x) buffer' buffer'' (next_phase (length buffer) phase x) phase' phase'' f.1 g)
-
--- the first bytes of those behind the run are fed
-pub fed-on : (bytes buffer buffer' buffer'' : List ℕ) (phase phase' phase'' : Phase) (run more : ℕ) → FedInTurn buffer phase (take run bytes) buffer' phase'
-    → FedInTurn buffer' phase' (take more (take (length bytes - run) (drop run bytes))) buffer'' phase'' → FedInTurn buffer phase (take (run + more) bytes) buffer'' phase''
-fed-on bytes buffer buffer' buffer'' phase phase' phase'' run more f g = grind (arith, take_rest, take-add, FedInTurn-append)
 
 length-over : (base : ℕ) (buffer xs : List ℕ) → base + length xs ≤ length buffer → length (over base buffer xs) ≡ length buffer
 length-over base buffer xs room = omega (arith, length-append (take base buffer) (xs ++ drop (base + length xs) buffer), length-append xs (drop (base + length xs) buffer), length-take-le base buffer (omega arith), length-drop (base + length xs) buffer)
@@ -73,39 +68,11 @@ FedInTurn-on base buffer c q (x ∷ tail) h room =
     = FedInTurn-on base buffer c (q ++ x ∷ []) tail (All-tail (λ b. b ≢ 0) x tail h) fits in
     grind (arith, append_assoc, over, length-over, output-grows, step_at, All-head, All-tail)
 
--- where the output of a stretch begins that stands behind a block boundary
-abbrev pub base_of : Bool → ℕ → ℕ
-base_of true count = count
-base_of false count = count + 1
-
--- the buffer with the zero that joins the stretch to the block before it
-abbrev pub joined : Bool → ℕ → List ℕ → List ℕ
-joined true count buffer = buffer
-joined false count buffer = set buffer count 0
-
 over-start : (base c : ℕ) (buffer : List ℕ) → over base buffer (output (c ∷ [])) ≡ buffer
 over-start base c buffer = ap (over base buffer) (output-one c) ∙ over-nil base buffer
 
 phase-start : (base c : ℕ) → phase_at base (c ∷ []) ≡ Within (eqb c 255) (c - 1) base
 phase-start base c = within_same _ _ _ _ _ _ (ap is_full (last_part-one c)) (ap lacks (last_part-one c)) (omega (arith, ap length (output-one c)))
-
--- the code at a boundary, and the bytes behind it
-first_fed : (base : ℕ) (buffer buffer₁ : List ℕ) (phase : Phase) (c : ℕ) (q : List ℕ) → HasNoZero (c ∷ q) → length buffer₁ ≡ length buffer → base + length (output (c ∷ q)) ≤ length buffer
-    → next_phase (length buffer) phase c ≡ Within (eqb c 255) (c - 1) base → next_buffer buffer phase c ≡ buffer₁
-    → FedInTurn buffer phase (c ∷ q) (over base buffer₁ (output (c ∷ q))) (phase_at base (c ∷ q))
-first_fed base buffer buffer₁ phase c q h same room phase_is buffer_is =
-    let on : FedInTurn (over base buffer₁ (output (c ∷ []))) (phase_at base (c ∷ [])) q (over base buffer₁ (output (c ∷ q))) (phase_at base (c ∷ q))
-    = FedInTurn-on base buffer₁ c [] q (All-tail (λ b. b ≢ 0) c q h) (omega arith) in (
-      answer_if (length buffer) phase _ c (All-head (λ b. b ≢ 0) c q h) phase_is refl,
-      subst (λ (z : List ℕ). FedInTurn z (next_phase (length buffer) phase c) q (over base buffer₁ (output (c ∷ q))) (phase_at base (c ∷ q))) (over-start base c buffer₁ ∙ sym buffer_is)
-          (subst (λ (z : Phase). FedInTurn (over base buffer₁ (output (c ∷ []))) z q (over base buffer₁ (output (c ∷ q))) (phase_at base (c ∷ q))) (phase-start base c ∙ sym phase_is) on),
-    )
-
--- THE BULK LEMMA: a stretch behind a block boundary is fed by writing its output
-pub FedInTurn-blocks : (full : Bool) (count : ℕ) (buffer : List ℕ) (c : ℕ) (q : List ℕ) → HasNoZero (c ∷ q) → base_of full count + length (output (c ∷ q)) ≤ length buffer
-    → FedInTurn buffer (phase_with full 0 count) (c ∷ q) (over (base_of full count) (joined full count buffer) (output (c ∷ q))) (phase_at (base_of full count) (c ∷ q))
-FedInTurn-blocks full count buffer c q h e =
-    grind (arith, first_fed, eqb, ne_eqb, All-head, length-set, grown_phase)
 
 -- a full part that lacks nothing has written bytes
 written_by : (n : ℕ) (p : List ℕ) → length p ≤ n → 0 < length p → is_full (last_part p) ≡ true → lacks (last_part p) ≡ 0 → 0 < length (output p)
@@ -123,28 +90,6 @@ phase_with-at base p full left h e q = grind (arith, begun, written_by)
 put_over : (at written : ℕ) (dest ys out : List ℕ) → at + length out ≤ length dest → written ≡ length out → take written ys ≡ out → drop written ys ≡ drop written (take (length dest - at) (drop at dest))
     → put_mid at (length dest - at) dest ys ≡ over at dest out
 put_over at written dest ys out room long front rest = grind (arith, drop_all, length-drop, take-append-drop, take_rest, drop-drop, append-nil)
-
-some_fed : (full : Bool) (count : ℕ) (buffer piece : List ℕ) → HasNoZero piece → 0 < length piece → base_of full count + length (output piece) ≤ length buffer
-    → FedInTurn buffer (phase_with full 0 count) piece (over (base_of full count) (joined full count buffer) (output piece)) (phase_at (base_of full count) piece)
-some_fed full count buffer [] h some room = absurd (omega arith)
-some_fed full count buffer (c ∷ q) h some room = FedInTurn-blocks full count buffer c q h room
-
-pub blocks_fed : (inner : UnbufferedDecoder) (code left : ℕ) (dest dest₁ piece ys : List ℕ) (at written : ℕ) → inner.over ≡ false → inner.left ≡ 0
-    → HasNoZero piece → 0 < length piece → at ≡ base_of (eqb inner.code 255) inner.dest_idx → dest₁ ≡ joined (eqb inner.code 255) inner.dest_idx dest → length dest₁ ≡ length dest → at + length (output piece) ≤ length dest
-    → written ≡ length (output piece) → take written ys ≡ output piece → drop written ys ≡ drop written (take (length dest₁ - at) (drop at dest₁))
-    → code ≡ code_of (last_part piece) → left ≡ lacks (last_part piece)
-    → FedInTurn dest (phase_of inner) piece (put_mid at (length dest₁ - at) dest₁ ys) (phase_of (record { dest_idx = at + written; left = left; code = code; over = inner.over }))
-blocks_fed inner code left dest dest₁ piece ys at written going boundary nz some at-is dest-is same room long front rest code-is left-is =
-    let fed : FedInTurn dest (phase_with (eqb inner.code 255) 0 inner.dest_idx) piece (over (base_of (eqb inner.code 255) inner.dest_idx) (joined (eqb inner.code 255) inner.dest_idx dest) (output piece)) (phase_at (base_of (eqb inner.code 255) inner.dest_idx) piece)
-    = some_fed (eqb inner.code 255) inner.dest_idx dest piece nz some (omega arith) in
-    let buffer_is : over (base_of (eqb inner.code 255) inner.dest_idx) (joined (eqb inner.code 255) inner.dest_idx dest) (output piece) ≡ put_mid at (length dest₁ - at) dest₁ ys
-    = ap (λ (k : ℕ). over k (joined (eqb inner.code 255) inner.dest_idx dest) (output piece)) (sym at-is) ∙ ap (λ (l : List ℕ). over at l (output piece)) (sym dest-is)
-    ∙ sym (put_over at written dest₁ ys (output piece) (omega arith) long front rest) in
-    let phase_is : phase_at (base_of (eqb inner.code 255) inner.dest_idx) piece ≡ phase_with (eqb code 255) left (at + written) =
-    ap (λ (k : ℕ). phase_at k piece) (sym at-is) ∙ sym (phase_with-at at piece (is_full (last_part piece)) (lacks (last_part piece)) some refl refl)
-    ∙ ap (λ (v : Bool). phase_with v (lacks (last_part piece)) (at + length (output piece))) (sym (ap (λ (k : ℕ). eqb k 255) code-is))
-    ∙ ap (λ (k : ℕ). phase_with (eqb code 255) k (at + length (output piece))) (sym left-is) ∙ ap (λ (k : ℕ). phase_with (eqb code 255) left (at + k)) (sym long) in
-    grind (arith, over, some_fed, put_over, phase_with-at)
 
 -- the last part of a piece of bytes has a code below 256, and lacks less
 last_by : (n : ℕ) (p : List ℕ) → length p ≤ n → All (λ b. b < 256) p → code_of (last_part p) < 256

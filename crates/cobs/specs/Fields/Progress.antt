@@ -1,6 +1,6 @@
 -- How far an `UnbufferedEncoder` has come.
 use Rattle.cobs.specs.OpenBlock.{Reached}
-use Rattle.cobs.specs.declared.enc.unbuffered.EncoderProgress.{EncoderProgress}
+use Rattle.cobs.specs.declared.enc.progress.EncoderProgress.{EncoderProgress}
 use Rattle.cobs.specs.declared.enc.unbuffered.UnbufferedEncoder.{UnbufferedEncoder}
 
 -- what the plain numbers say

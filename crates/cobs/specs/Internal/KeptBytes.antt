@@ -1,8 +1,8 @@
 -- What a `FrameReader` makes of the bytes that it has read and not yet fed.
 use Rattle.std.specs.Prelude.{ℕ, ◌≡◌, ◌≤◌, Bool, List, [], ◌∷◌, ◌++◌, length, take}
-use Rattle.cobs.specs.Stream.{Outcome, Message, Broken, TooLong, stream_outcomes, is_nonempty}
+use Rattle.cobs.specs.Stream.{Outcome, Message, Broken, TooLong, stream_outcomes, unended, is_nonempty}
 use Rattle.cobs.specs.Feed.{Phase, DecoderAfter}
-use Rattle.cobs.specs.NextFrame.{ReaderState}
+use Rattle.cobs.specs.NextFrame.{HasDecoded, ReaderState}
 use Rattle.cobs.specs.declared.framed.Next.{Next}
 use Rattle.cobs.specs.declared.framed.Next.TheVariants as nexts
 
@@ -14,7 +14,7 @@ pub record DecoderHasTaken (buffer : List ℕ) (phase : Phase) (unfinished : Boo
 -- the outcome of a result, over the buffer
 abbrev pub IsOutcome : Next → List ℕ → Outcome → Type 0
 IsOutcome (nexts.Message n) buffer outcome = (outcome ≡ Message (take n buffer)) × (n ≤ length buffer)
-IsOutcome (nexts.Broken count) buffer outcome = outcome ≡ Broken count
+IsOutcome (nexts.Broken count) buffer outcome = (outcome ≡ Broken count) × (count ≤ length buffer)
 IsOutcome nexts.TooLong buffer outcome = outcome ≡ TooLong
 IsOutcome (nexts.End unfinished) buffer outcome = ⊥
 
@@ -30,6 +30,7 @@ pub record TellsFirst (next : Next) (p bytes buffer rest : List ℕ) : Type 0 wh
   pub outcome : Outcome
   pub is : IsOutcome next buffer outcome
   pub first : EndsFirstIn p bytes (length buffer) outcome rest
+  pub decoded : HasDecoded outcome buffer (unended (p ++ first.front))
 
 -- the reader, were these the bytes that it has read but not fed
 abbrev pub with_kept : List ℕ → ReaderState → ReaderState

@@ -1,5 +1,6 @@
 -- What a step of the encoder makes of the front of a source.
-use Rattle.std.specs.Prelude.{◌≡◌, ◌≢◌, ℕ, ◌+◌, ◌-◌, ◌%◌, List, ◌++◌, length, take, drop, slice_set}
+use Rattle.std.specs.Prelude.{◌≡◌, ◌≢◌, ◌<◌, ◌≤◌, ℕ, ◌+◌, ◌-◌, ◌%◌, List, ◌++◌, length, take, drop, slice_index, slice_set}
+use Rattle.cobs.specs.Grammar.{HasNoZero}
 use Rattle.cobs.specs.OpenBlock.{Reached, CobsEncoderAfter, IsPlaceIn, end_after}
 use Rattle.cobs_bytes.specs.Mask.{lowest, without_lowest}
 
@@ -10,6 +11,12 @@ pub record TakesFront (slice : List ℕ) (reached : Reached) (source : List ℕ)
   pub after : (m : List ℕ) → CobsEncoderAfter slice reached m → CobsEncoderAfter slice' reached' (m ++ take n source)
   pub end : end_after reached' (drop n source) ≡ end_after reached source
   pub rest : drop (end_after reached source) slice' ≡ drop (end_after reached source) slice
+
+-- the source begins with a run of this many bytes: a zero comes after them, or nothing
+pub record IsFirstRun (run : ℕ) (source : List ℕ) : Type 0 where
+  pub within : run ≤ length source
+  pub nonzero : HasNoZero (take run source)
+  pub stop : run < length source → slice_index source run ≡ 0
 
 -- A mask says which bytes from next on are zeros, and index is where the code of the open block belongs. Each zero in turn
 -- closes the open block, whose code is written, and gives its place to the code of the next one. That leads to slice' and

@@ -11,7 +11,8 @@ ghost use Rattle.cobs.specs.Stream.{head};
 ghost use Rattle.cobs.specs.declared.dec.DecodeError.TheVariants.{EmptyFrame, TargetBufTooSmall};
 
 use crate::dec::blocks::{flat_front, write_joints};
-use crate::dec::piece::{copy_few, first_of};
+use crate::dec::find::first_of;
+use crate::dec::piece::copy_few;
 use crate::dec::{DecodeError, DecodeVecError, decode};
 use cobs_bytes::lanes::copy_xored_short;
 use cobs_bytes::window::WIDE_WINDOW;

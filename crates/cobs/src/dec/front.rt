@@ -5,13 +5,15 @@ ghost use Rattle.cobs.specs.Grammar.{HasNoZero};
 ghost use Rattle.cobs.specs.Internal.Decoded.{Decoded};
 ghost use Rattle.cobs.specs.Stream.{head};
 
-use crate::dec::piece::piece_len;
+use crate::dec::find::piece_len;
 use crate::enc::FULL_CODE;
-use cobs_bytes::lanes::copy_xored_short;
-use cobs_bytes::window::{WINDOW, copy_at, copy_nonzero, is_all, write_row, zeros_at};
+use cobs_bytes::window::{WIDE_WINDOW, WINDOW, copy_nonzero, is_all, write_row};
 
 /// No step reads or writes more bytes than a full block and the code after it.
 const LONGEST_STEP: usize = FULL_CODE + 1;
+
+/// How many bytes are copied behind a code before the zeros are written.
+const STRETCH: usize = 3 * WIDE_WINDOW;
 
 /// How far a source is decoded: up to a code of it, and how many bytes of the output are written.
 #[derive(Clone, Copy)]
@@ -22,40 +24,46 @@ pub(crate) struct Cursor {
     pub(crate) written: usize,
 }
 
-/// Decodes the codes that are within the first 33 bytes of a source, and returns how many bytes it has read and
-/// written: none where one of the 33 is a zero.
+/// Decodes the first whole blocks of a source, of which none is full, and returns how many bytes it has read and
+/// written: a row of blocks without bytes, or a stretch, whose bytes are copied up to a zero, 64 at a time, before a zero
+/// is written over each code but the first. It has read nothing where a zero is near.
 ///
-/// Codes of one value in a row go by a loop of their own, which needn't wait for each code to know where the next is.
+/// Whether two codes take turns is asked once: the walk over such codes needn't wait for each to know where the next is.
 #[inline(always)]
-pub(crate) fn decode_window(source: &[u8], dest: &mut [u8]) -> usize
+pub(crate) fn decode_stretch(source: &[u8], dest: &mut [u8]) -> usize
     requires begun { 0 < length (head source.now) }
-    requires long { 33 ≤ length source.now }
-    requires first { slice_index source.now 0 < 33 }
-    requires room { 32 ≤ length dest.old }
+    requires long { 193 ≤ length source.now }
+    requires first { slice_index source.now 0 ≤ 64 }
+    requires room { 192 ≤ length dest.old }
     ensures decoded { Decoded (head source.now) dest.old dest.new result result }
-    ensures within { result ≤ 32 }
-    ensures some { HasNoZero (take 33 source.now) → 0 < result }
+    ensures within { result ≤ 192 }
+    ensures some { HasNoZero (take 193 source.now) → 0 < result }
 {
     let mut code = source[0] as usize;
     if code == 1 && is_all(source, 1, 1) {
         write_row(dest, 0, 0);
         return WINDOW;
     }
-    if zeros_at::<32>(source, 1) != 0 {
+    let copied = copy_nonzero(source, 1, STRETCH, dest, 0);
+    if copied < code {
         return 0;
     }
-    copy_at::<32>(source, 1, dest, 0);
+    let next = source[code] as usize;
+    let both = code + next;
     let mut read = 0;
+    'in_turn: while read + both + code <= copied
+        && source[read + code] as usize == next
+        && source[read + both] as usize == code
+    {
+        dest[read + (code - 1)] = 0;
+        dest[read + (both - 1)] = 0;
+        read += both;
+    }
     'by_code: loop {
-        'alike: loop {
-            dest[read + (code - 1)] = 0;
-            read += code;
-            if source[read] as usize != code || WINDOW + 1 - read <= code {
-                break;
-            }
-        }
+        dest[read + (code - 1)] = 0;
+        read += code;
         code = source[read] as usize;
-        if WINDOW + 1 - read <= code {
+        if copied - read < code {
             return read;
         }
     }
@@ -86,20 +94,13 @@ fn decode_step(source: &[u8], dest: &mut [u8]) -> Cursor
             written: FULL_CODE - 1,
         };
     }
-    let step = if code <= WINDOW {
-        decode_window(source, dest)
+    let step = if code <= WIDE_WINDOW {
+        decode_stretch(source, dest)
+    } else if copy_nonzero(source, 1, code, dest, 0) == code {
+        dest[code - 1] = 0;
+        code
     } else {
-        let copied = if code <= 2 * WINDOW {
-            copy_xored_short(&source[1..code + 1], dest, 0)
-        } else {
-            copy_nonzero(source, 1, code, dest, 0) == code
-        };
-        if copied {
-            dest[code - 1] = 0;
-            code
-        } else {
-            0
-        }
+        0
     };
     Cursor {
         read: step,

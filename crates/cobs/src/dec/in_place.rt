@@ -1,5 +1,5 @@
 //! Decoding a frame in its own buffer.
-ghost use Rattle.std.specs.Prelude.{◌≡◌, ◌≢◌, ◌+◌, ◌-◌, ◌<◌, ◌≤◌, ◌∷◌, ℕ, List, length, take, drop, slice_index, IfErr};
+ghost use Rattle.std.specs.Prelude.{◌≡◌, ◌≢◌, ◌+◌, ◌-◌, ◌<◌, ◌≤◌, ◌∷◌, ℕ, IsTrue, false, List, length, take, drop, slice_index, IfErr};
 ghost use Rattle.cobs.specs.Overwritten.{overwritten};
 ghost use Rattle.cobs.specs.Decode.{head_answer, in_place, in_place_answer, in_place_report};
 ghost use Rattle.cobs.specs.Grammar.{HasNoZero, Reads, code_of};
@@ -10,11 +10,12 @@ ghost use Rattle.cobs.specs.Sentinel.{xor_each};
 ghost use Rattle.cobs.specs.declared.dec.DecodeError.TheVariants.{TargetBufTooSmall};
 
 use crate::dec::blocks::{flat_front, write_joints};
-use crate::dec::piece::piece_len;
+use crate::dec::find::piece_len;
+use crate::dec::piece::copy_few;
 use crate::dec::{DecodeError, DecodeReport};
 use crate::enc::{FULL_CODE, xor_bytes};
 use cobs_bytes::lanes::move_to_front;
-use cobs_bytes::window::{WINDOW, is_all, write_row};
+use cobs_bytes::window::{WIDE_WINDOW, WINDOW, is_all, write_row};
 
 /// Writes a zero over each code but the first of the first whole blocks of a piece, through the first full one; returns
 /// how many bytes these blocks have, and the code of the last of them. `rest` begins with what follows the first code.
@@ -149,6 +150,48 @@ fn decode_blocks_in_place(buffer: &mut [u8], end: usize) -> Result<usize, Decode
     }
 }
 
+/// Decodes the blocks in the first `end` bytes of the buffer, if these are 2 to 65 and the blocks are whole; says whether
+/// it did. If not, every byte stays.
+///
+/// Their bytes are loaded before the first is stored: a walk that wrote zeros before the move would let it wait for them.
+#[inline(always)]
+fn decode_short_in_place(buffer: &mut [u8], end: usize) -> bool
+    requires within { end ≤ length buffer.old }
+    requires nonzero { HasNoZero (take end buffer.old) }
+    ensures flat { IsTrue result → IsFlat (take end buffer.old) }
+    ensures begins { IsTrue result → take (end - 1) buffer.new ≡ output (take end buffer.old) }
+    ensures rest { drop (end - 1) buffer.new ≡ drop (end - 1) buffer.old }
+    ensures kept { result ≡ false → buffer.new ≡ buffer.old }
+{
+    if end < 2 || WIDE_WINDOW + 1 < end {
+        return false;
+    }
+    let mut old = [0; WIDE_WINDOW];
+    copy_few(&buffer[..end - 1], &mut old);
+    let code = buffer[0] as usize;
+    move_to_front(buffer, 1, end - 1);
+    let (_, left) = write_joints(buffer, code, end, false);
+    if left > 0 {
+        buffer[..end - 1].copy_from_slice(&old[..end - 1]);
+        return false;
+    }
+    true
+}
+
+/// Decodes the blocks in the first `end` bytes of the buffer, and returns how many bytes they give.
+#[inline(always)]
+fn decode_head_in_place(buffer: &mut [u8], end: usize) -> Result<usize, DecodeError>
+    requires within { end ≤ length buffer.old }
+    requires nonzero { HasNoZero (take end buffer.old) }
+    ensures answer { result ≡ head_answer (take end buffer.old) }
+    ensures buffer { buffer.new ≡ overwritten buffer.old (kept_output (take end buffer.old)) }
+{
+    if decode_short_in_place(buffer, end) {
+        return Ok(end - 1);
+    }
+    decode_blocks_in_place(buffer, end)
+}
+
 /// Decodes the frame at the front of the buffer in its own place, up to the first zero or the buffer's end, and returns
 /// how many bytes the frame and the message have.
 ///
@@ -186,7 +229,7 @@ pub fn decode_in_place_report(buf: &mut [u8]) -> Result<DecodeReport, DecodeErro
         return Err(DecodeError::EmptyFrame);
     }
     let end = piece_len(buf);
-    let frame_size = decode_blocks_in_place(buf, end)?;
+    let frame_size = decode_head_in_place(buf, end)?;
     Ok(DecodeReport {
         parsed_size: end,
         frame_size,

@@ -1,18 +1,17 @@
-//! Pieces that are at hand as a whole: where they end, how long their outputs are, and the outputs.
-ghost use Rattle.std.specs.Prelude.{All, ◌≢◌, false, ◌↔◌, ◌≡◌, ◌+◌, ◌-◌, ◌++◌, ◌<◌, ◌≤◌, ℕ, IsTrue, List, length, take, drop, slice_index};
+//! Pieces that are at hand as a whole: how long their outputs are, and the outputs.
+ghost use Rattle.std.specs.Prelude.{◌≢◌, false, ◌↔◌, ◌≡◌, ◌+◌, ◌-◌, ◌++◌, ◌<◌, ◌≤◌, ℕ, List, length, take, drop, slice_index};
 ghost use Rattle.cobs.specs.Grammar.{HasNoZero, code_of};
 ghost use Rattle.cobs.specs.Overwritten.{overwritten};
-ghost use Rattle.cobs.specs.Decode.{leading_zeros, sized};
+ghost use Rattle.cobs.specs.Decode.{sized};
 ghost use Rattle.cobs.specs.Internal.Decoded.{Decoded};
 ghost use Rattle.cobs.specs.Piece.{output, last_part, lacks};
-ghost use Rattle.cobs.specs.Stream.{head, outcome_of};
+ghost use Rattle.cobs.specs.Stream.{outcome_of};
 
+use crate::dec::DecodeError;
 use crate::dec::blocks::write_joints;
-use crate::dec::front::{decode_front, decode_window};
-use crate::dec::{DecodeError, MANY};
+use crate::dec::front::decode_stretch;
 use crate::enc::FULL_CODE;
-use cobs_bytes::window::{WIDE_WINDOW, WINDOW, copy_window, first_zero_of_few};
-use memchr::memchr;
+use cobs_bytes::window::{WIDE_WINDOW, WINDOW, copy_window};
 
 /// What is to be known of a piece once its output is written.
 #[derive(Clone, Copy)]
@@ -23,46 +22,6 @@ pub(crate) struct PieceOutput {
     pub(crate) code: usize,
     /// How many bytes of the last part are missing.
     pub(crate) left: usize,
-}
-
-/// Where the first such byte of a source is, or the source's length if there is none.
-pub(crate) fn first_of(source: &[u8], byte: u8) -> usize
-    ensures within { result ≤ length source.now }
-    ensures before { All (λ other. other ≢ byte) (take result source.now) }
-    ensures stop { result < length source.now → slice_index source.now result ≡ byte }
-{
-    memchr(byte, source).unwrap_or(source.len())
-}
-
-/// The place of the first zero of the source, or the source's length if it has none.
-///
-/// The clause `bytes` is for a caller that writes the source afterwards, whose type says only what it holds at last.
-pub(crate) fn piece_len(source: &[u8]) -> usize
-    ensures within { result ≤ length source.now }
-    ensures nonzero { HasNoZero (take result source.now) }
-    ensures stop { result < length source.now → slice_index source.now result ≡ 0 }
-    ensures bytes { All (λ other. other < 256) source.now }
-{
-    if source.len() > WIDE_WINDOW {
-        return first_of(source, 0);
-    }
-    if source.is_empty() {
-        return 0;
-    }
-    first_zero_of_few(source)
-}
-
-/// How many zeros the source begins with.
-pub(crate) fn leading_zeros(source: &[u8]) -> usize
-    ensures count { result ≡ leading_zeros source.now }
-    ensures within { result ≤ length source.now }
-{
-    'by_byte: for i in 0..source.len() {
-        if source[i] != 0 {
-            return i;
-        }
-    }
-    source.len()
 }
 
 /// Copies the bytes of a source, which are few as a rule.
@@ -116,10 +75,10 @@ pub(crate) fn decode_piece(piece: &[u8], dest: &mut [u8]) -> PieceOutput
 {
     let mut read = 0;
     let mut written = 0;
-    'by_window: while MANY <= piece.len() - read {
+    'by_stretch: while FULL_CODE <= piece.len() - read {
         let code = piece[read] as usize;
-        if code <= WINDOW {
-            let step = decode_window(&piece[read..], &mut dest[written..]);
+        if code <= WIDE_WINDOW {
+            let step = decode_stretch(&piece[read..], &mut dest[written..]);
             read += step;
             written += step;
         } else if piece.len() - read <= code {
@@ -140,34 +99,6 @@ pub(crate) fn decode_piece(piece: &[u8], dest: &mut [u8]) -> PieceOutput
         code: end.code,
         left: end.left,
     }
-}
-
-/// Decodes what a source has in front of its first zero, or all of it, and returns how many bytes that is, and what is
-/// to be known of it. `clean` says that no byte is a zero.
-///
-/// Precondition: as much room as the source has bytes. No byte after the output is written.
-pub(crate) fn decode_head(source: &[u8], dest: &mut [u8], clean: bool) -> (usize, PieceOutput)
-    requires begun { 0 < length (head source.now) }
-    requires clean { IsTrue clean → HasNoZero source.now }
-    requires room { length source.now ≤ length dest.old }
-    ensures read { result.0 ≡ length (head source.now) }
-    ensures written { result.1.written ≡ length (output (head source.now)) }
-    ensures begins { take result.1.written dest.new ≡ output (head source.now) }
-    ensures rest { drop result.1.written dest.new ≡ drop result.1.written dest.old }
-    ensures code { result.1.code ≡ code_of (last_part (head source.now)) }
-    ensures left { result.1.left ≡ lacks (last_part (head source.now)) }
-{
-    if clean {
-        return (source.len(), decode_piece(source, dest));
-    }
-    let (front, end) = decode_front(source, dest);
-    let rest = decode_piece(&source[front.read..end], &mut dest[front.written..]);
-    let all = PieceOutput {
-        written: front.written + rest.written,
-        code: rest.code,
-        left: rest.left,
-    };
-    (end, all)
 }
 
 /// How many of the first bytes of a piece have an output that fits `room` bytes: all of them exactly if the whole

@@ -7,8 +7,8 @@ ghost use Rattle.cobs.specs.Step.{next_phase, next_buffer, next_answer, end_answ
 ghost use Rattle.cobs.specs.Push.{PushesBytes};
 ghost use Rattle.cobs.specs.FeedPiece.{TakesPiece};
 
+use crate::dec::find::piece_len;
 use crate::dec::frame_decoder::{PieceEnd, piece_end};
-use crate::dec::piece::piece_len;
 use crate::dec::{DecodeError, DecodeReport, PushError};
 use crate::enc::FULL_CODE;
 use std::mem;

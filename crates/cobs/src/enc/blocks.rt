@@ -4,9 +4,9 @@ ghost use Rattle.cobs.specs.Grammar.{HasNoZero, IsEncodedFrame};
 ghost use Rattle.cobs.specs.OpenBlock.{CobsEncoderAfter, IsPlaceIn, end_after, end_of};
 ghost use Rattle.cobs.specs.Fields.Progress.{reached_at};
 ghost use Rattle.cobs_bytes.specs.Mask.{lowest, without_lowest};
-ghost use Rattle.cobs.specs.Internal.Taking.{MarksZeros, TakesFront};
+ghost use Rattle.cobs.specs.Internal.Taking.{IsFirstRun, MarksZeros, TakesFront};
 
-use crate::enc::unbuffered::EncoderProgress;
+use crate::enc::progress::EncoderProgress;
 use cobs_bytes::window::{
     ONES, WINDOW, copy_at, copy_window, first_zero_of_few, is_all_zeros, write_row, zeros_at,
 };
@@ -15,10 +15,8 @@ use memchr::memchr;
 /// The code of a full block, which is how many bytes the block has with its code.
 pub(crate) const FULL_CODE: usize = 255;
 
-/// The length in bytes of a stretch of the source. A block that fills within the last 254 bytes of a stretch ends the
-/// windows, so every run that is longer than a stretch reaches `memchr`, which finds its end, and is copied as slices. For
-/// one block alone these two calls cost more than windows do, and the loop over windows would pay for counting full blocks.
-const STRETCH: usize = 8192;
+/// How many bytes a full block has after its code.
+pub(crate) const FULL_BLOCK_BYTES: usize = FULL_CODE - 1;
 
 /// The mask of a window that has no byte but zeros.
 const ALL_ZEROS: u64 = 0xffff_ffff;
@@ -151,7 +149,18 @@ fn write_rows(source: &[u8], read: usize, dest: &mut [u8], at: usize) -> usize
     count
 }
 
-/// Takes whole windows of 32 bytes while more than one is left, up to where a run turns out to be long. Returns how
+/// Whether three full blocks end at `index`, by the bytes in the places of their codes. It only says which way is
+/// taken: one of these may be another byte that happens to be 255.
+#[inline(always)]
+fn is_behind_long_run(dest: &[u8], index: usize) -> bool
+    requires { index ≤ length dest.now }
+{
+    index >= 3 * FULL_CODE
+        && dest[index - 2 * FULL_CODE] == FULL_CODE as u8
+        && dest[index - 3 * FULL_CODE] == FULL_CODE as u8
+}
+
+/// Takes whole windows of 32 bytes while more than one is left, up to where a run has filled three blocks. Returns how
 /// many bytes these are, and how far the frame has come.
 ///
 /// Each window is copied to where the next byte goes. If no zero is near enough to keep the open block from being full,
@@ -208,7 +217,7 @@ pub(crate) fn append_windows(
         index += FULL_CODE;
         read += index - next;
         next = index + 1;
-        if read >= last || read % STRETCH > STRETCH - FULL_CODE {
+        if read >= last || is_behind_long_run(dest, index) {
             return (read, progress_at(index, next, true));
         }
     }
@@ -218,9 +227,7 @@ pub(crate) fn append_windows(
 /// How many nonzero bytes `source` begins with: those before its next zero, which `memchr` finds.
 pub(crate) fn run_len(source: &[u8]) -> usize
     requires some { 0 < length source.now }
-    ensures within { result ≤ length source.now }
-    ensures nonzero { HasNoZero (take result source.now) }
-    ensures stop { result < length source.now → slice_index source.now result ≡ 0 }
+    ensures { IsFirstRun result source.now }
 {
     if source.len() > WINDOW {
         return memchr(0, source).unwrap_or(source.len());
@@ -228,13 +235,19 @@ pub(crate) fn run_len(source: &[u8]) -> usize
     first_zero_of_few(source)
 }
 
-/// Takes a run: the bytes in front of the next zero, which `memchr` finds, and that zero. The run is cut into blocks of
-/// at most 254 bytes, and each stretch of it is copied as one slice. Returns how many bytes these are, and how far the
-/// frame has come.
+/// Takes the first run of `source`, which has `run` bytes, and the zero after it. The run is cut into blocks of at most
+/// 254 bytes, and each stretch of it is copied as one slice. Returns how many bytes these are, and how far the frame has
+/// come.
 #[inline(always)]
 #[tactic(auto, using(crate::proofs::encoding::TakingLemmas::next_steps))]
-fn append_run(source: &[u8], dest: &mut [u8], progress: EncoderProgress) -> (usize, EncoderProgress)
+fn append_run(
+    source: &[u8],
+    run: usize,
+    dest: &mut [u8],
+    progress: EncoderProgress,
+) -> (usize, EncoderProgress)
     requires some { 0 < length source.now }
+    requires run { IsFirstRun run source.now }
     requires place { IsPlaceIn (length dest.old) (reached_at progress) }
     requires fits { end_after (reached_at progress) source.now ≤ length dest.old }
     ensures some { 0 < result.0 }
@@ -242,7 +255,6 @@ fn append_run(source: &[u8], dest: &mut [u8], progress: EncoderProgress) -> (usi
     ensures taken { TakesFront dest.old (reached_at progress) source.now result.0
         dest.new (reached_at result.1) }
 {
-    let run = run_len(source);
     let mut index = progress.index;
     let mut next = index + progress.code as usize;
     let mut read = 0;
@@ -270,26 +282,29 @@ fn append_run(source: &[u8], dest: &mut [u8], progress: EncoderProgress) -> (usi
     (run + 1, progress_at(next, next + 1, false))
 }
 
-/// Takes a `source` of which [`append`] takes no more at once: by a run, and by windows where the run has ended.
+/// Takes a `source` whose first run has `run` bytes: by that run, then by windows up to the next long one, in turn.
 #[inline(never)]
 #[tactic(auto, using(crate::proofs::encoding::TakingLemmas::next_steps))]
-fn append_runs(source: &[u8], dest: &mut [u8], progress: EncoderProgress) -> EncoderProgress
+pub(crate) fn append_runs(
+    source: &[u8],
+    run: usize,
+    dest: &mut [u8],
+    progress: EncoderProgress,
+) -> EncoderProgress
+    requires some { 0 < length source.now }
+    requires run { IsFirstRun run source.now }
     requires place { IsPlaceIn (length dest.old) (reached_at progress) }
     requires fits { end_after (reached_at progress) source.now ≤ length dest.old }
     ensures { TakesFront dest.old (reached_at progress) source.now (length source.now)
         dest.new (reached_at result) }
 {
-    let mut progress = progress;
-    let mut read = 0;
+    let (mut read, mut progress) = append_run(source, run, dest, progress);
     'by_run: while read < source.len() {
-        let (run, behind) = append_run(&source[read..], dest, progress);
-        read += run;
-        progress = behind;
-        if read == source.len() {
-            return progress;
-        }
         let (windows, behind) = append_windows(&source[read..], dest, progress);
         read += windows;
+        let left = &source[read..];
+        let (next, behind) = append_run(left, run_len(left), dest, behind);
+        read += next;
         progress = behind;
     }
     progress
@@ -313,7 +328,7 @@ pub(crate) fn append(source: &[u8], dest: &mut [u8], progress: EncoderProgress) 
     if is_short(progress, left.len()) {
         append_short(left, dest, progress, false)
     } else {
-        append_runs(left, dest, progress)
+        append_runs(left, run_len(left), dest, progress)
     }
 }
 
@@ -345,6 +360,9 @@ pub(crate) fn close_runs(source: &[u8], dest: &mut [u8], progress: EncoderProgre
     ensures end { result ≡ end_after (reached_at progress) source.now }
     ensures rest { drop result dest.new ≡ drop result dest.old }
 {
-    let behind = append_runs(source, dest, progress);
+    if source.is_empty() {
+        return close(dest, progress);
+    }
+    let behind = append_runs(source, run_len(source), dest, progress);
     close(dest, behind)
 }

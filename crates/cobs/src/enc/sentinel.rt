@@ -86,6 +86,7 @@ pub(crate) fn xor_bytes(bytes: &mut [u8], sentinel: u8)
 /// assert_eq!(rt; len, 7);
 /// assert_eq!(rt; dest, [0, 3, 10, 11, 2, 12, 0, 170]);
 /// ```
+#[tactic(auto, using(crate::proofs::format::SentinelLemmas::behind_sentinels))]
 pub fn encode_including_sentinels(source: &[u8], dest: &mut [u8]) -> usize
     requires { encoded_len source.now + 2 ≤ length dest.old }
     ensures frame { IsDelimitedFrame (take result dest.new) source.now }
@@ -93,7 +94,8 @@ pub fn encode_including_sentinels(source: &[u8], dest: &mut [u8]) -> usize
     ensures len { result ≡ encoded_len source.now + 2 }
     ensures rest { drop result dest.new ≡ drop result dest.old }
 {
-    let len = encode(source, &mut dest[1..]);
+    let last = dest.len() - 1;
+    let len = encode(source, &mut dest[1..last]);
     dest[0] = 0;
     dest[len + 1] = 0;
     len + 2

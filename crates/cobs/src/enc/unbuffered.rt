@@ -7,41 +7,9 @@ ghost use Rattle.cobs.specs.Fields.Progress.{reached_at, reached_by};
 ghost use Rattle.cobs.specs.Internal.Taking.{TakesFront};
 
 use crate::enc::DestBufTooSmallError;
-use crate::enc::blocks::{FULL_CODE, append, append_short, close, is_short};
-use crate::enc::room::fits;
-
-/// How far the frame in a buffer has come, in plain numbers: where an [`UnbufferedEncoder`] is. (A choice of this
-/// library.)
-///
-/// ```
-/// let mut buffer = [0; 64];
-/// let mut encoder = UnbufferedEncoder::new();
-/// encoder.push(&mut buffer, b"hello")?;
-/// let progress = EncoderProgress {
-///     index: 0,
-///     code: 6,
-///     is_full: false,
-/// };
-/// assert_eq!(rt; encoder.progress(), progress);
-/// ```
-#[derive(Debug, Clone, Copy, PartialEq, Eq)]
-pub struct EncoderProgress {
-    /// The index in the buffer at which the code of the open block belongs.
-    pub index: usize,
-
-    /// The code that the open block has so far, which is one more than it has bytes: from 1 to 254.
-    pub code: u8,
-
-    /// Whether the frame's last block is full, so that the open one is only the place after it.
-    pub is_full: bool,
-}
-
-/// The start: one open block without bytes at the front of the buffer.
-pub(crate) const START: EncoderProgress = EncoderProgress {
-    index: 0,
-    code: 1,
-    is_full: false,
-};
+use crate::enc::blocks::{FULL_CODE, append_short, close, is_short};
+use crate::enc::progress::{EncoderProgress, START};
+use crate::enc::room::try_append;
 
 /// Encodes a message that comes in pieces, straight into a buffer that the caller passes to each call.
 ///
@@ -180,10 +148,21 @@ impl UnbufferedEncoder {
         if bytes.is_empty() {
             return true;
         }
-        if !fits(at.code as usize, bytes, room) {
-            return false;
+        // Anew from its fields, so that the short way keeps them in registers.
+        let EncoderProgress {
+            index,
+            code,
+            is_full,
+        } = at;
+        let start = EncoderProgress {
+            index,
+            code,
+            is_full,
+        };
+        match try_append(bytes, dest, start) {
+            Some(behind) => self.progress = behind,
+            None => return false,
         }
-        self.progress = append(bytes, dest, at);
         true
     }
 

@@ -1,6 +1,6 @@
 //! Laws for a coder of one's own: how long a frame gets block by block, what an encoder over a slice has taken after
 //! each byte, and what a decoder has taken. Then what the streaming decoders make of a frame.
-ghost use Rattle.std.specs.Prelude.{◌≡◌, ◌≢◌, ◌<◌, ◌≤◌, ◌+◌, ℕ, List, [], ◌∷◌, ◌++◌, length, take, slice_index, slice_set, true, false, All, Option, Some, None, Ok, Result};
+ghost use Rattle.std.specs.Prelude.{◌≡◌, ◌≢◌, ◌<◌, ◌≤◌, ◌+◌, ℕ, List, [], ◌∷◌, ◌++◌, length, take, drop, slice_index, slice_set, true, false, All, Option, Some, None, Ok, Result};
 ghost use Rattle.cobs.specs.Feed.{DecoderAfter, Feeds, Idle, Phase};
 ghost use Rattle.cobs.specs.FeedPiece.{TakesPiece, end_told, outcome_at};
 ghost use Rattle.cobs.specs.Fields.Encoders.{IsPlaceIn};
@@ -10,7 +10,7 @@ ghost use Rattle.cobs.specs.Step.{next_answer, next_buffer, next_phase};
 ghost use Rattle.cobs.specs.Length.{encoded_len};
 ghost use Rattle.cobs.specs.OpenBlock.{CobsEncoderAfter, Reached, next_of, place_at};
 ghost use Rattle.cobs.specs.Push.{PushesBytes};
-ghost use Rattle.cobs.specs.Stream.{outcome_of};
+ghost use Rattle.cobs.specs.Stream.{outcome_of, stream_outcomes, unended};
 ghost use Rattle.cobs.specs.declared.dec.DecodeError.{DecodeError};
 ghost use Rattle.cobs.specs.declared.dec.PushError.{PushError};
 ghost use Rattle.cobs.specs.declared.dec.frame_decoder.PieceEnd.{PieceEnd};
@@ -201,4 +201,37 @@ pub fn law_18()
         → PushesBytes buffer phase bytes result buffer' phase' → phase ≡ Idle
         → bytes ≡ f ++ 0 ∷ [] → All (λ byte. byte < 256) bytes → IsPiece f
         → PushesMessage result buffer' m → Reads f m × (length m ≤ length buffer) }
+{}
+
+/// What an idle decoder that takes one piece makes of a stream: the stream has the piece's outcome and then those of the
+/// bytes behind it, and leaves unended what they leave. Where no piece ends it has none, and the decoder has taken what
+/// it leaves.
+///
+/// So a loop over `feed_piece` is proved by one equation: the outcomes found so far, and those of the bytes that are
+/// left, are the stream's.
+///
+/// ```
+/// fn first_outcome<D: FrameDecoder>(decoder: &mut D, stream: &[u8]) -> bool
+///     requires { D.phase decoder.old ≡ Idle }
+///     ensures { (result ≡ false)
+///         → stream_outcomes stream.now (length (D.bytes decoder.old)) ≡ [] }
+/// {
+///     law_21();
+///     decoder.feed_piece(stream).is_some()
+/// }
+/// ```
+pub fn law_21()
+    ensures outcomes { (buffer buffer' bytes : List ℕ) (phase phase' : Phase) (end : PieceEnd) (count : ℕ)
+        → TakesPiece buffer phase bytes (Some (end, count)) buffer' phase' → phase ≡ Idle
+        → stream_outcomes bytes (length buffer)
+        ≡ outcome_at end buffer' ∷ stream_outcomes (drop count bytes) (length buffer) }
+    ensures left { (buffer buffer' bytes : List ℕ) (phase phase' : Phase) (end : PieceEnd) (count : ℕ)
+        → TakesPiece buffer phase bytes (Some (end, count)) buffer' phase'
+        → unended bytes ≡ unended (drop count bytes) }
+    ensures none { (buffer buffer' bytes : List ℕ) (phase phase' : Phase)
+        → TakesPiece buffer phase bytes None buffer' phase' → phase ≡ Idle
+        → stream_outcomes bytes (length buffer) ≡ [] }
+    ensures after { (buffer buffer' bytes : List ℕ) (phase phase' : Phase)
+        → TakesPiece buffer phase bytes None buffer' phase' → phase ≡ Idle
+        → DecoderAfter buffer' phase' (unended bytes) }
 {}

@@ -19,6 +19,12 @@ zero_mask-clear (b ∷ bytes) nonzero = omega (arith, clear_if b (All-head (λ x
 pub or-none : (a b x y : ℕ) → a ≡ x → b ≡ y → bit_or a b ≡ 0 → (x ≡ 0) × (y ≡ 0)
 or-none a b x y p q none = grind (arith, le_or_l, le_or_r)
 
+-- a part of bytes without a zero
+pub part-nonzero : (source : List ℕ) (read start n len : ℕ) → start + n ≤ len → read + len ≤ length source → HasNoZero (take len (drop read source)) → HasNoZero (take n (drop (read + start) source))
+part-nonzero source read start n len inside within all = All-from_get_or (λ b. b ≢ 0) (take n (drop (read + start) source)) 0 (λ i lt.
+    let here = All-get_or (λ b. b ≢ 0) (take len (drop read source)) (start + i) 0 in
+    grind (arith, places))
+
 -- done bytes are copied, and n more, from the one at start on
 module _ (source old dest : List ℕ) (read at done start n : ℕ) (inside : read + (start + n) ≤ length source) (room : at + (start + n) ≤ length old) (before : start ≤ done) (behind : done ≤ start + n) where
   abbrev w : List ℕ

@@ -39,8 +39,8 @@ by_block-preserved-then-lacking-eq0 c =
 -- a stretch of the run joins the open block
 pub by_block-preserved : goal.by_block-preserved
 by_block-preserved c =
-    let within = c.run_len-run.ensures.within in
-    let joined = slice-joined _ _ _ _ _ _ _ _ _ (_ + _ - _) (_ + _ - _) _ c.by_block.invariant.reaches c.run_len-run.result c.run_len-run.ensures.nonzero (omega arith) within (omega arith)
+    let within = c.requires.run.within in
+    let joined = slice-joined _ _ _ _ _ _ _ _ _ (_ + _ - _) (_ + _ - _) _ c.by_block.invariant.reaches c.args.run c.requires.run.nonzero (omega arith) within (omega arith)
     (omega arith) (omega arith) (omega arith) (omega arith) _ c.copy_from_slice.ensures.after in
     record {
       within = omega arith;
@@ -62,7 +62,7 @@ returns-then-next-index-clause-taken c =
     let next : ℕ = c.by_block.next in
     let r = c.by_block.invariant.reaches in
     let n = length-set c.by_block.dest index 255 in
-    let at_end : c.by_block.read ≡ c.run_len-run.result = omega arith in
+    let at_end : c.by_block.read ≡ c.args.run = omega arith in
     let full : next ≡ index + 255 = c.if-next-index.true in
     let place : at next (next + 1 - next) true ≡ at (index + 255) 1 true = grind arith in
     rw (← at_end) (elim (cases_lt c.by_block.read (length c.args.source.now)) [
@@ -75,7 +75,7 @@ returns-then-next-index-clause-taken c =
 pub returns-then-run-source-clause-taken : goal.returns-then-run-source-clause-taken
 returns-then-run-source-clause-taken c =
     let i = c.by_block.invariant in
-    let at_end : c.by_block.read ≡ c.run_len-run.result = omega arith in
+    let at_end : c.by_block.read ≡ c.args.run = omega arith in
     let moved = i.moved at_end (omega arith) in
     rw (← at_end) (front-taken (omega arith) {full = false} (Reaches-weaker (λ full p. p (omega arith) moved) i.reaches) (omega arith) (λ all. refl) c.progress_at-then-run-source.ensures)
 
@@ -85,8 +85,8 @@ returns-clause-taken c =
     let read : ℕ = c.by_block.read in
     let index : ℕ = c.by_block.index in
     let next : ℕ = c.by_block.next in
-    let at_end : read ≡ c.run_len-run.result = omega arith in
+    let at_end : read ≡ c.args.run = omega arith in
     let n = length-set c.by_block.dest index (next - index) in
-    let zero : get_or c.args.source.now read 0 ≡ 0 = ap (λ (k : ℕ). get_or c.args.source.now k 0) at_end ∙ c.run_len-run.ensures.stop (omega arith) in
+    let zero : get_or c.args.source.now read 0 ≡ 0 = ap (λ (k : ℕ). get_or c.args.source.now k 0) at_end ∙ c.requires.run.stop (omega arith) in
     rw (← at_end) (front-taken (omega arith) (Reaches-zero _ _ _ _ _ _ index next _ (λ noted. noted ≡ false) (omega arith) zero (omega arith) (omega arith) refl c.by_block.invariant.reaches)
     (omega arith) (λ all. refl) c.progress_at-2.ensures)

@@ -3,24 +3,25 @@ use Rattle.std.proofs.lemmas.Bool.{eqb-true}
 use Rattle.std.proofs.lemmas.List.{drop_all, get_or-take, get_or-drop, take_rest, drop_more}
 use Rattle.cobs.specs.Grammar.{HasNoZero}
 use Rattle.cobs.proofs.encoding.RoomLemmas.{blocks_in, behind, blocks-le, blocks-end, blocks-none, skipped, run-more, blocks-zero, open_len-is}
+use Rattle.cobs.proofs.enc.room.fits.Goals.{Then-read-source, Else-read-source}
 use Rattle.cobs.proofs.enc.room.fits.Goals as goal
 
 -- the source ends with the run
-ended : (c : goal.Then-read-source) → c.by_run.counted + (c.by_run.run + c.run_len-more.result - 1) / 254 ≡ blocks_in (behind (c.args.code - 1) c.args.source.now)
+ended : (c : Then-read-source) → c.by_run.counted + (c.by_run.run + c.run_len-more.result - 1) / 254 ≡ blocks_in (behind (c.args.code - 1) c.args.source.now)
 ended c =
     let source : List ℕ = c.args.source.now in
     let nonzero = subst HasNoZero (ap (take _) (take_rest source _)) c.run_len-more.ensures.nonzero in
     let all = run-more source _ c.by_run.run _ (omega arith) nonzero in
     grind (arith, drop_all, blocks_in, behind, blocks-end)
 
-pub overflow_add-result-then-read-source : goal.overflow_add-result-then-read-source
-overflow_add-result-then-read-source c = let le = blocks-le (c.args.code - 1) c.args.source.now in let e = ended c in omega arith
+pub returns-then-spare-code-2-clause-fits : goal.returns-then-spare-code-2-clause-fits
+returns-then-spare-code-2-clause-fits c = let e = ended (goal.at.returns-then-spare-code-2-clause-fits c).Then-read-source in grind (arith, open_len-is)
 
-pub returns-then-read-source : goal.returns-then-read-source
-returns-then-read-source c = let e = ended c in grind (arith, open_len-is)
+pub returns-then-read-source-clause-fits : goal.returns-then-read-source-clause-fits
+returns-then-read-source-clause-fits c = let e = ended (goal.at.returns-then-read-source-clause-fits c).Then-read-source in grind (arith, open_len-is)
 
 -- a zero ends the run
-stopped : (c : goal.Else-read-source) → c.by_run.counted + (c.by_run.run + c.run_len-more.result) / 254 + blocks_in (behind 0 (drop (c.by_run.read + c.run_len-more.result + 1) c.args.source.now))
+stopped : (c : Else-read-source) → c.by_run.counted + (c.by_run.run + c.run_len-more.result) / 254 + blocks_in (behind 0 (drop (c.by_run.read + c.run_len-more.result + 1) c.args.source.now))
     ≡ blocks_in (behind (c.args.code - 1) c.args.source.now)
 stopped c =
     let source : List ℕ = c.args.source.now in
@@ -41,5 +42,5 @@ by_run-preserved-in-Some c =
 pub by_run-preserved : goal.by_run-preserved
 by_run-preserved c = grind (arith, stopped, take_rest, length-drop)
 
-pub returns : goal.returns
-returns c = grind (arith, length-drop, blocks-none, open_len-is)
+pub returns-then-code-counted-clause-fits : goal.returns-then-code-counted-clause-fits
+returns-then-code-counted-clause-fits c = grind (arith, length-drop, blocks-none, open_len-is)

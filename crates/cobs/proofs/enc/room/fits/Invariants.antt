@@ -1,4 +1,5 @@
 use Rattle.std.proofs.Common.{◌≡◌, ◌<◌, ◌≤◌, ◌+◌, ◌-◌, length, drop}
+use Rattle.cobs.specs.Internal.Taking.{IsFirstRun}
 use Rattle.cobs.proofs.encoding.RoomLemmas.{blocks_in, behind}
 use Rattle.cobs.proofs.enc.room.fits.Given as goal
 
@@ -6,6 +7,7 @@ abbrev pub invariant-by_run : goal.invariant-by_run
 invariant-by_run l = record {
   within : l.read ≤ length l.source;
   run : l.run < 254;
+  first : 0 < l.first → IsFirstRun l.first l.source;
   counted : l.counted + blocks_in (behind l.run (drop l.read l.source)) ≡ blocks_in (behind (l.code - 1) l.source);
 }
 

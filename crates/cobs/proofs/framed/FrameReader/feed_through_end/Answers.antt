@@ -1,5 +1,6 @@
 use Rattle.std.proofs.Common.{ℕ, List, [], length, refl, sym}
-use Rattle.std.proofs.Math.Logic.{∥∥₁_map}
+use Rattle.std.proofs.Math.Bridge.{le_prop}
+use Rattle.std.proofs.Math.Logic.{∥∥₁_elim, ∥∥₁_map}
 use Rattle.cobs.specs.FeedPiece.{outcome_at}
 use Rattle.cobs.specs.Internal.KeptBytes.{IsOutcome}
 use Rattle.cobs.specs.NextFrame.{IsNextWithin}
@@ -7,14 +8,14 @@ use Rattle.cobs.specs.Stream.{Outcome}
 use Rattle.cobs.specs.declared.framed.Next.{Next}
 use Rattle.cobs.specs.declared.framed.Next.TheVariants as nexts
 use Rattle.cobs.proofs.streaming.FeedLemmas.{DecoderAfter-idle}
-use Rattle.cobs.proofs.streaming.ReadingLemmas.{HasTaken-any, EndsFirstIn-taken}
+use Rattle.cobs.proofs.streaming.ReadingLemmas.{HasTaken-any, EndsFirstIn-taken, HasDecoded-taken}
 use Rattle.cobs.proofs.framed.FrameReader.feed_through_end.Goals as goal
 
-next_within : (next : Next) (buffer : List ℕ) (outcome : Outcome) → IsOutcome next buffer outcome → IsNextWithin (length buffer) next
-next_within (nexts.Message n) buffer outcome h = h.1
-next_within (nexts.Broken count) buffer outcome h = tt
-next_within nexts.TooLong buffer outcome h = tt
-next_within (nexts.End unfinished) buffer outcome h = tt
+next_within : {X : Type 0} (next : Next) (buffer : List ℕ) → ∥ X ∥₁ → (X → (outcome : Outcome) × IsOutcome next buffer outcome) → IsNextWithin (length buffer) next
+next_within (nexts.Message n) buffer some h = ∥∥₁_elim some le_prop (λ x. (h x).1.1)
+next_within (nexts.Broken count) buffer some h = ∥∥₁_elim some le_prop (λ x. (h x).1.1)
+next_within nexts.TooLong buffer some h = tt
+next_within (nexts.End unfinished) buffer some h = tt
 
 pub returns-in-None-clause-none : goal.returns-in-None-clause-none
 returns-in-None-clause-none g c = λ p b.
@@ -28,14 +29,15 @@ returns-in-Some-clause-first g c = λ p h.
     let t = c.in-Some.ensures.takes in
     record {
       outcome = outcome_at c.in-Some.end (g.D.FrameDecoder.bytes c.feed_piece.new.self);
-      is = c.next_at.ensures (g.D.FrameDecoder.bytes c.feed_piece.new.self) (rw t.takes.len t.within.1);
-      first = rw t.takes.len (EndsFirstIn-taken _ t p h);
+      is = c.next_at.ensures (g.D.FrameDecoder.bytes c.feed_piece.new.self) (rw t.takes.len (t.bound p h.phased));
+      first = EndsFirstIn-taken _ t p h;
+      decoded = HasDecoded-taken _ t p h;
     }
 
 pub returns-in-Some-clause-bound : goal.returns-in-Some-clause-bound
 returns-in-Some-clause-bound g c =
     let t = c.in-Some.ensures.takes in
-    next_within c.next_at.result _ _ (c.next_at.ensures _ (rw t.takes.len t.within.1))
+    next_within c.next_at.result _ c.args.self.now.has_taken (λ w. (outcome_at c.in-Some.end (g.D.FrameDecoder.bytes c.feed_piece.new.self), c.next_at.ensures _ (rw t.takes.len (t.bound w.0 w.1.after.phased))))
 
 pub returns-in-Some-clause-idle : goal.returns-in-Some-clause-idle
 returns-in-Some-clause-idle g c = DecoderAfter-idle _ _ c.in-Some.ensures.takes.idle

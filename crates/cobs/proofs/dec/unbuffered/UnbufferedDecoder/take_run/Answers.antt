@@ -7,15 +7,14 @@ use Rattle.cobs.specs.declared.dec.unbuffered.UnbufferedDecoder.{UnbufferedDecod
 use Rattle.cobs.specs.Internal.FedInTurn.{FedInTurn}
 use Rattle.cobs.proofs.streaming.StretchLemmas.{FedInTurn-append}
 use Rattle.cobs.proofs.dec.unbuffered.UnbufferedDecoder.take_run.Goals as goal
-use Rattle.cobs.proofs.dec.unbuffered.UnbufferedDecoder.take_run.Goals.{then-by_part-test+then-bytes-run-ne0+else-bytes-run-lt-MANY, then-by_part-test+else-bytes-run-ne0, else-by_part-test, then-by_part-test+then-bytes-run-ne0+then-bytes-run-lt-MANY+then-part-eq0}
 
 -- the first bytes of those behind the run are fed
 joined : (bytes buffer buffer' buffer'' : List ℕ) (phase phase' phase'' : Phase) (run more : ℕ) → FedInTurn buffer phase (take run bytes) buffer' phase'
     → FedInTurn buffer' phase' (take more (drop run bytes)) buffer'' phase'' → FedInTurn buffer phase (take (run + more) bytes) buffer'' phase''
 joined bytes buffer buffer' buffer'' phase phase' phase'' run more f g = grind (arith, take-add, FedInTurn-append)
 
-pub by_part-preserved : goal.by_part-preserved
-by_part-preserved c = grind (arith, length-drop, length-take, joined, take_rest)
+pub by_step-preserved : goal.by_step-preserved
+by_step-preserved c = grind (arith, length-drop, length-take, joined, take_rest)
 
 -- a decoder whose fields are written one by one
 same_phase : (inner : UnbufferedDecoder) (over : Bool) → over ≡ false → inner.over ≡ false

@@ -9,7 +9,7 @@ use Rattle.cobs.proofs.decoding.HeadlineLemmas.{bytes_below, decode_reads}
 use Rattle.cobs.proofs.decoding.HeadLemmas.{first_piece_empty, first_piece_none, first_piece_found, leading_zeros-stop}
 use Rattle.cobs.proofs.decoding.OutcomeSteps.{decode_answer-none, overwritten-none}
 use Rattle.cobs.proofs.decoding.ReadsLemmas.{frame_piece}
-use Rattle.cobs.proofs.dec.decode.Goals as goal
+use Rattle.cobs.proofs.dec.whole.decode.Goals as goal
 
 -- what stands behind the leading zeros
 module _ (source : List ℕ) (start : ℕ) (is : start ≡ leading_zeros source) (more : start < length source) where

@@ -11,10 +11,10 @@ use Rattle.cobs.proofs.decoding.OutcomeLemmas.{length-head, head-zero, head_alon
 use Rattle.cobs.proofs.decoding.OutcomeSteps.{sized_whole, sized_broken}
 use Rattle.cobs.proofs.decoding.FrontSteps.{head-prefix, plain-nonzero, plain-copied}
 use Rattle.cobs.proofs.decoding.BlockSteps.{overwritten-front}
-use Rattle.cobs.proofs.dec.decode_begun.Goals as goal
-use Rattle.cobs.proofs.dec.decode_begun.Goals.{then-left-eq0, else-left-eq0, else-most-gt0-via-else-most-gt0}
-use Rattle.cobs.proofs.dec.decode_begun.Goals.{else-most-gt0-via-then-most-gt0+then-most-le-WIDE_WINDOW+then-most-dest+else-copy_xored_short}
-use Rattle.cobs.proofs.dec.decode_begun.Goals.{else-most-gt0-via-then-most-gt0+then-most-le-WIDE_WINDOW+else-most-dest, else-most-gt0-via-then-most-gt0+else-most-le-WIDE_WINDOW}
+use Rattle.cobs.proofs.dec.whole.decode_begun.Goals as goal
+use Rattle.cobs.proofs.dec.whole.decode_begun.Goals.{then-left-eq0, else-left-eq0, else-most-gt0-via-else-most-gt0}
+use Rattle.cobs.proofs.dec.whole.decode_begun.Goals.{else-most-gt0-via-then-most-gt0+then-most-le-WIDE_WINDOW+then-most-dest+else-copy_xored_short}
+use Rattle.cobs.proofs.dec.whole.decode_begun.Goals.{else-most-gt0-via-then-most-gt0+then-most-le-WIDE_WINDOW+else-most-dest, else-most-gt0-via-then-most-gt0+else-most-le-WIDE_WINDOW}
 
 pub overflow_sub-most : goal.overflow_sub-most
 overflow_sub-most c = let l = length-head c.args.source.now in omega arith

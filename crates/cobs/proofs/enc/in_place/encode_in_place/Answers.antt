@@ -1,0 +1,68 @@
+use Rattle.std.proofs.Common.{◌≡◌, ◌≤◌, ◌+◌, ◌-◌, ◌++◌, ℕ, List, [], ◌∷◌, drop, take, get_or, refl, sym, ap, ◌∙◌, subst, arith, length-drop}
+use Rattle.std.proofs.lemmas.Bool.{cases_Bool}
+use Rattle.std.proofs.lemmas.List.{drop-drop, get_or-drop, take_more}
+use Rattle.cobs.specs.Fields.Progress.{reached_at}
+use Rattle.cobs.specs.OpenBlock.{Reached, end_of, next_of}
+use Rattle.cobs.specs.Overwritten.{message_in}
+use Rattle.cobs.proofs.format.SentinelLemmas.{encoded_nonzero}
+use Rattle.cobs.proofs.encoding.AfterLemmas.{end-is}
+use Rattle.cobs.proofs.encoding.CoreLemmas.{after-nothing}
+use Rattle.cobs.proofs.encoding.TakingLemmas.{after-place}
+use Rattle.cobs.proofs.enc.in_place.encode_in_place.Goals as goal
+
+end-le : (r : Reached) → end_of r ≤ next_of r
+end-le r = grind (arith, cases_Bool)
+
+-- lists that are the same from one index on are the same from a later one on
+further : (a b : ℕ) (x y : List ℕ) → a ≤ b → drop a x ≡ drop a y → drop b x ≡ drop b y
+further a b x y le e =
+    let s : a + (b - a) ≡ b = omega arith in
+    subst (λ (n : ℕ). drop n x ≡ drop n y) s (sym (drop-drop (b - a) a x) ∙ ap (drop (b - a)) e ∙ drop-drop (b - a) a y)
+
+there : (a k : ℕ) (x y : List ℕ) → a ≤ k → drop a x ≡ drop a y → get_or x k 0 ≡ get_or y k 0
+there a k x y le e =
+    let s : a + (k - a) ≡ k = omega arith in
+    subst (λ (n : ℕ). get_or x n 0 ≡ get_or y n 0) s (grind (arith, get_or-drop))
+
+pub by_byte-init : goal.by_byte-init
+by_byte-init c = record { some = omega arith; open' = omega arith; pace = omega arith; after = after-nothing c.args.buffer.now (omega arith); rest = refl }
+
+pub by_byte-preserved : goal.by_byte-preserved
+by_byte-preserved c =
+    let old : List ℕ = c.args.buffer.now in
+    let before : ℕ = c.max_encoding_overhead-before.result in
+    let at : ℕ = before + c.by_byte.taken in
+    let r : Reached = reached_at c.by_byte.progress in
+    let r' : Reached = reached_at c.append_byte-progress.result in
+    let i = c.by_byte.invariant in
+    let e = c.append_byte-progress.ensures in
+    let le = end-le r in
+    let long = length-drop before old in
+    let byte : get_or c.by_byte.buffer at 0 ≡ get_or (drop before old) c.by_byte.taken 0 =
+    there (end_of r) at c.by_byte.buffer old (omega arith) i.rest ∙ sym (get_or-drop before old c.by_byte.taken 0) in
+    let more : take (c.by_byte.taken + 1) (drop before old) ≡ take c.by_byte.taken (drop before old) ++ get_or c.by_byte.buffer at 0 ∷ [] = grind (arith, take_more) in
+    record {
+      some = e.code;
+      open' = e.open_block;
+      pace = omega arith;
+      after = rw more (e.taken _ i.after);
+      rest = e.rest ∙ further (end_of r) (end_of r') c.by_byte.buffer old e.onward i.rest;
+    }
+
+pub close-requires : goal.close-requires
+close-requires c = after-place c.by_byte.buffer _ (reached_at c.by_byte.progress) c.by_byte.invariant.after
+
+pub returns : goal.returns
+returns c =
+    let r : Reached = reached_at c.by_byte.progress in
+    let all : c.by_byte.taken ≡ c.args.len = omega arith in
+    let message : take c.by_byte.taken (drop c.max_encoding_overhead-before.result c.args.buffer.now) ≡ message_in c.args.len c.args.buffer.now =
+    ap (λ (n : ℕ). take n (drop c.max_encoding_overhead-before.result c.args.buffer.now)) all ∙ ap (λ (n : ℕ). take c.args.len (drop n c.args.buffer.now)) c.max_encoding_overhead-before.ensures.overhead in
+    let after = rw message at c.by_byte.invariant.after in
+    let frame = c.close.ensures.frame (message_in c.args.len c.args.buffer.now) after in
+    record {
+      frame = frame;
+      no_sentinel = encoded_nonzero frame;
+      len = c.close.ensures.end ∙ sym (end-is c.by_byte.buffer (message_in c.args.len c.args.buffer.now) r after);
+      rest = c.close.ensures.rest ∙ subst (λ (n : ℕ). drop n c.by_byte.buffer ≡ drop n c.args.buffer.now) (sym c.close.ensures.end) c.by_byte.invariant.rest;
+    }

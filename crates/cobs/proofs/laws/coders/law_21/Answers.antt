@@ -1,0 +1,33 @@
+use Rattle.std.proofs.Common.{◌≡◌, ℕ, List, [], ◌∷◌, ◌++◌, length, take, drop, sym, ap, ◌∙◌, Some}
+use Rattle.std.proofs.lemmas.List.{take-append-drop}
+use Rattle.cobs.specs.Feed.{Phase, Idle}
+use Rattle.cobs.specs.FeedPiece.{TakesPiece, outcome_at}
+use Rattle.cobs.specs.Stream.{Outcome, stream_outcomes, unended}
+use Rattle.cobs.specs.declared.dec.frame_decoder.PieceEnd.{PieceEnd}
+use Rattle.cobs.proofs.format.StreamLemmas.{stream_outcomes-append, unended-append, unended-zero}
+use Rattle.cobs.proofs.streaming.FeedLemmas.{DecoderAfter-idle}
+use Rattle.cobs.proofs.laws.coders.law_21.Goals as goal
+
+module _ {buffer buffer' : List ℕ} {phase phase' : Phase} {end : PieceEnd} {count : ℕ} (bytes : List ℕ) (t : TakesPiece buffer phase bytes (Some (end, count)) buffer' phase') where
+  cut : bytes ≡ take count bytes ++ drop count bytes
+  cut = sym (take-append-drop count bytes)
+
+  nothing_left : unended (take count bytes) ≡ []
+  nothing_left = ap unended t.ends.taken ∙ unended-zero t.ends.front
+
+  left_behind : unended bytes ≡ unended (drop count bytes)
+  left_behind = ap unended cut ∙ unended-append (take count bytes) (drop count bytes) ∙ ap (λ (x : List ℕ). unended (x ++ drop count bytes)) nothing_left
+
+  told_first : phase ≡ Idle → stream_outcomes bytes (length buffer) ≡ outcome_at end buffer' ∷ stream_outcomes (drop count bytes) (length buffer)
+  told_first idle =
+      ap (λ (x : List ℕ). stream_outcomes x (length buffer)) cut ∙ stream_outcomes-append (take count bytes) (drop count bytes) (length buffer)
+      ∙ ap (λ (x : List Outcome). x ++ stream_outcomes (unended (take count bytes) ++ drop count bytes) (length buffer)) (sym (t.takes.outcomes [] (DecoderAfter-idle buffer phase idle)))
+      ∙ ap (λ (x : List ℕ). outcome_at end buffer' ∷ stream_outcomes (x ++ drop count bytes) (length buffer)) nothing_left
+
+pub returns : goal.returns
+returns c = record {
+  outcomes = λ buffer buffer' bytes phase phase' end count t idle. told_first bytes t idle;
+  left = λ buffer buffer' bytes phase phase' end count t. left_behind bytes t;
+  none = λ buffer buffer' bytes phase phase' t idle. sym (t.takes.outcomes [] (DecoderAfter-idle buffer phase idle));
+  after = λ buffer buffer' bytes phase phase' t idle. t.takes.after [] (DecoderAfter-idle buffer phase idle);
+}

@@ -1,0 +1,99 @@
+//! Decoding a whole frame into another buffer.
+ghost use Rattle.std.specs.Prelude.{◌≡◌, ◌<◌, ◌≤◌, List, length, ℕ};
+ghost use Rattle.cobs.specs.Overwritten.{overwritten};
+ghost use Rattle.cobs.specs.Decode.{decode_answer, first_output, sized};
+ghost use Rattle.cobs.specs.Grammar.{Reads};
+ghost use Rattle.cobs.specs.Headline.{IsPiece, ReportsMessage};
+ghost use Rattle.cobs.specs.Piece.{output};
+ghost use Rattle.cobs.specs.Stream.{head, outcome_of};
+
+use crate::dec::blocks::write_joints;
+use crate::dec::find::leading_zeros;
+use crate::dec::front::decode_front;
+use crate::dec::piece::finish_piece;
+use crate::dec::{DecodeError, DecodeReport};
+use cobs_bytes::lanes::copy_xored_short;
+use cobs_bytes::window::WIDE_WINDOW;
+
+/// Decodes what a source has in front of its first zero, where that begins with a code; returns how many bytes that is,
+/// and its message's length.
+#[inline(always)]
+fn decode_begun(source: &[u8], dest: &mut [u8]) -> (usize, Result<usize, DecodeError>)
+    requires begun { 0 < length (head source.now) }
+    ensures len { result.0 ≡ length (head source.now) }
+    ensures answer { result.1 ≡ sized (outcome_of (head source.now) (length dest.old)) }
+    ensures buffer { dest.new ≡ overwritten dest.old (output (head source.now)) }
+{
+    let most = source.len() - 1;
+    if 0 < most
+        && most <= WIDE_WINDOW
+        && most <= dest.len()
+        && copy_xored_short(&source[1..], dest, 0)
+    {
+        let (_, left) = write_joints(dest, source[0] as usize, source.len(), false);
+        let decoded = if left == 0 {
+            Ok(most)
+        } else {
+            Err(DecodeError::InvalidFrame {
+                decoded_bytes: most,
+            })
+        };
+        return (source.len(), decoded);
+    }
+    let (front, len) = decode_front(source, dest);
+    (
+        len,
+        finish_piece(&source[..len], dest, front.read, front.written),
+    )
+}
+
+/// Decodes the first frame of the source into `dest`, and returns how many bytes were consumed and how many the
+/// message has.
+///
+/// Zeros in front of the frame are skipped. The frame ends at the next zero or with the source, and what is after
+/// that zero isn't read. The first `frame_size` bytes of `dest` are the message, and the others are as they were.
+/// `parsed_size` counts the skipped zeros, the frame, and the zero after it where there is one.
+///
+/// # Errors
+///
+/// - `EmptyFrame` if the source is empty, and `InvalidFrame` with 0 if it has only zeros; `dest` is as it was.
+/// - `TargetBufTooSmall` where `dest` is shorter than what the frame decodes to; it then holds the first bytes of that.
+/// - `InvalidFrame` if the frame breaks off inside a block: `dest` begins with what was decoded, the bytes of the
+///   broken block included, `decoded_bytes` says how many these are, and the others are as they were.
+///
+/// The format is that of Cheshire and Baker's paper; what a broken frame returns is a choice of this library.
+///
+/// ```
+/// let mut dest = [170; 12];
+/// let report = decode(b"\0\x0chello world\0\x02a", &mut dest)?;
+/// assert_eq!(rt; report.parsed_size(), 14);
+/// assert_eq!(rt; report.frame_size(), 11);
+/// assert_eq!(rt; &dest, b"hello world\xaa");
+///
+/// let mut dest = [170; 3];
+/// let broken = DecodeError::InvalidFrame { decoded_bytes: 2 };
+/// assert_eq!(rt; decode(&[4, 1, 2, 0], &mut dest), Err(broken));
+/// assert_eq!(rt; dest, [1, 2, 170]);
+/// ```
+pub fn decode(source: &[u8], dest: &mut [u8]) -> Result<DecodeReport, DecodeError>
+    ensures answer { result ≡ decode_answer source.now (length dest.old) }
+    ensures buffer { dest.new ≡ overwritten dest.old (first_output source.now) }
+    ensures reads { (m : List ℕ) → Reads source.now m → length m ≤ length dest.old
+        → ReportsMessage result dest.new m }
+    ensures only { IsPiece source.now → (m : List ℕ) → ReportsMessage result dest.new m
+        → Reads source.now m × (length m ≤ length dest.old) }
+{
+    if source.is_empty() {
+        return Err(DecodeError::EmptyFrame);
+    }
+    let start = leading_zeros(source);
+    if start == source.len() {
+        return Err(DecodeError::InvalidFrame { decoded_bytes: 0 });
+    }
+    let (len, decoded) = decode_begun(&source[start..], dest);
+    let parsed_size = (start + len + 1).min(source.len());
+    decoded.map(|frame_size| DecodeReport {
+        parsed_size,
+        frame_size,
+    })
+}
