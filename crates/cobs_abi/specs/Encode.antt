@@ -1,6 +1,7 @@
 -- What the calls that write frames ensure.
 use Rattle.std.specs.Prelude.{◌≡◌, ◌≤◌, ◌<◌, ◌+◌, ℕ, List, length, take, drop}
-use Rattle.cobs.specs.Length.{encoded_len}
+use Rattle.cobs.specs.Length.{encoded_len, max_encoded_len}
+use Rattle.cobs.specs.Overwritten.{message_in}
 use Rattle.cobs_abi.specs.Frames.{IsFrameOnWire, IsFrameOnWireFor, IsTerminatedFrame}
 use Rattle.cobs_abi.specs.declared.answer.Answer.{Answer}
 use Rattle.cobs_abi.specs.declared.answer.TheConstants.{OK, TOO_SMALL}
@@ -25,3 +26,11 @@ EncodesFor s message buffer result buffer' = Writes (encoded_len message) (lengt
 abbrev pub EncodesTerminated : ℕ → List ℕ → List ℕ → Answer → List ℕ → Type 0
 EncodesTerminated s message buffer result buffer' =
     Writes (encoded_len message + 1) (length message) (λ f. IsTerminatedFrame s f message) buffer result buffer'
+
+-- `jcobs_encode_in_place`, of a message of n bytes: if the longest frame fits the buffer, so that the message lies in it,
+-- the buffer begins with the frame. Otherwise the call takes and changes nothing.
+pub record EncodesInPlace (n : ℕ) (buffer : List ℕ) (result : Answer) (buffer' : List ℕ) : Type 0 where
+  pub fits : max_encoded_len n ≤ length buffer → result ≡ record { status = OK; consumed = n; length = encoded_len (message_in n buffer) }
+  pub wanted : max_encoded_len n ≤ length buffer → IsFrameOnWire (take result.length buffer') (message_in n buffer)
+  pub too_small : length buffer < max_encoded_len n → result ≡ record { status = TOO_SMALL; consumed = 0; length = 0 }
+  pub rest : drop result.length buffer' ≡ drop result.length buffer

@@ -1,6 +1,7 @@
-//! The streaming encoder by a step for each byte.
+//! The streaming encoder by a step for each byte, and a message that is encoded in its own buffer.
 ghost use Rattle.std.specs.Prelude.{◌↔◌, IsTrue};
 ghost use Rattle.cobs.specs.Fields.Encoders.{IsPlaceIn};
+ghost use Rattle.cobs_abi.specs.Encode.{EncodesInPlace};
 ghost use Rattle.cobs_abi.specs.Frames.{IsFrameOnWire, IsTerminatedFrame};
 ghost use Rattle.cobs_abi.specs.State.{reached_in};
 ghost use Rattle.cobs_abi.specs.Stream.{EncodesNext, Finishes};
@@ -9,6 +10,7 @@ use crate::answer::{Answer, OK, done, too_small};
 use crate::block::{append, fits};
 use crate::encoder::{ENCODER_START, Encoder, end_of};
 use cobs::laws::{law_1, law_2, law_13, law_16};
+use cobs::{encode_in_place, max_encoding_overhead};
 
 /// Whether a frame can have come so far in a buffer of `room` bytes.
 #[inline(always)]
@@ -83,4 +85,18 @@ pub fn finish_terminated(encoder: &mut Encoder, buffer: &mut [u8]) -> Answer
     }
     buffer[answer.length] = 0;
     done(answer.consumed, answer.length + 1)
+}
+
+/// Encodes the message of `message_len` bytes that lies in the buffer, in its own place, if the longest frame of such a
+/// message fits.
+#[inline]
+pub fn encode_within(buffer: &mut [u8], message_len: usize) -> Answer
+    ensures encodes { EncodesInPlace message_len buffer.old result buffer.new }
+{
+    let room = buffer.len();
+    if room < message_len || room - message_len < max_encoding_overhead(message_len) {
+        return too_small();
+    }
+    let length = encode_in_place(buffer, message_len);
+    done(message_len, length)
 }

@@ -18,7 +18,7 @@ pub use answer::{Answer, BROKEN, EMPTY, MORE, OK, TOO_SMALL, answer_by, done, to
 pub use decoder::{DECODER_START, Decoder};
 pub use decoding::{answer_of, decode_each, piece_end};
 pub use encoder::{ENCODER_START, Encoder, end_of};
-pub use encoding::{encode_each, finish, finish_terminated};
+pub use encoding::{encode_each, encode_within, finish, finish_terminated};
 pub use kind::{CANONICAL, LONGER, NOT_A_FRAME};
 pub use source::leading_zeros;
 pub use text::{VERSION, words};

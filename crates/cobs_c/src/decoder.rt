@@ -9,6 +9,9 @@ use cobs::UnbufferedDecoder;
 use cobs::laws::law_17;
 use cobs_abi::{Answer, Decoder, answer_of, decode_each};
 
+/// So few bytes are taken by a step each, without a decoder made of the state and put back into it.
+const FEW: usize = 6;
+
 /// Makes the decoder one that has taken nothing, whatever was in it.
 #[unsafe(no_mangle)]
 pub extern "C" fn jcobs_decoder_reset(decoder: &mut Decoder)
@@ -49,6 +52,9 @@ pub extern "C" fn jcobs_decoder_push(
     ensures decodes { DecodesNext decoder.old buffer.old bytes.now result
         decoder.new buffer.new }
 {
+    if bytes.len() <= FEW {
+        return decode_each(decoder, buffer, bytes, 0);
+    }
     if decoder.is_idle() && are_idle(bytes) {
         return answer_of(decoder, None, bytes.len(), buffer.len());
     }

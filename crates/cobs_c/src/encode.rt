@@ -1,10 +1,10 @@
 //! Whole messages to frames, and how long these are at most.
 ghost use Rattle.std.specs.Prelude.{◌≡◌, ◌≤◌, ◌<◌, ◌^◌};
 ghost use Rattle.cobs.specs.Length.{max_encoded_len};
-ghost use Rattle.cobs_abi.specs.Encode.{Encodes, EncodesFor, EncodesTerminated};
+ghost use Rattle.cobs_abi.specs.Encode.{Encodes, EncodesFor, EncodesInPlace, EncodesTerminated};
 
 use cobs::{max_encoding_overhead, try_encode, try_encode_with_sentinel};
-use cobs_abi::{Answer, OK, done, too_small};
+use cobs_abi::{Answer, OK, done, encode_within, too_small};
 
 /// Returns how many bytes the longest frame of a message of `message_len` bytes has, or 0 if that number doesn't fit.
 #[unsafe(no_mangle)]
@@ -82,4 +82,13 @@ pub extern "C" fn jcobs_encode_terminated_with_sentinel(
     }
     frame[answer.length] = sentinel;
     done(answer.consumed, answer.length + 1)
+}
+
+/// Encodes the message of `message_len` bytes that lies in the buffer, behind the room for the longest frame's other bytes,
+/// to the front of the buffer, if the longest frame fits. Otherwise nothing is written.
+#[unsafe(no_mangle)]
+pub extern "C" fn jcobs_encode_in_place(buffer: &mut [u8], message_len: usize) -> Answer
+    ensures encodes { EncodesInPlace message_len buffer.old result buffer.new }
+{
+    encode_within(buffer, message_len)
 }

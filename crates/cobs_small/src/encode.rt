@@ -1,12 +1,12 @@
 //! Whole messages to frames, and how long these are at most.
 ghost use Rattle.std.specs.Prelude.{◌≡◌, ◌≤◌, ◌<◌, ◌^◌};
 ghost use Rattle.cobs.specs.Length.{max_encoded_len};
-ghost use Rattle.cobs_abi.specs.Encode.{Encodes, EncodesTerminated};
+ghost use Rattle.cobs_abi.specs.Encode.{Encodes, EncodesInPlace, EncodesTerminated};
 
 use crate::encoder::{jcobs_encoder_finish, jcobs_encoder_push};
 use cobs::laws::{law_13, law_16};
 use cobs::max_encoding_overhead;
-use cobs_abi::{Answer, ENCODER_START, OK, done, too_small};
+use cobs_abi::{Answer, ENCODER_START, OK, done, encode_within, too_small};
 
 /// Returns how many bytes the longest frame of a message of `message_len` bytes has, or 0 if that number doesn't fit.
 #[unsafe(no_mangle)]
@@ -54,4 +54,13 @@ pub extern "C" fn jcobs_encode_terminated(message: &[u8], frame: &mut [u8]) -> A
     }
     frame[answer.length] = 0;
     done(answer.consumed, answer.length + 1)
+}
+
+/// Encodes the message of `message_len` bytes that lies in the buffer, behind the room for the longest frame's other bytes,
+/// to the front of the buffer, if the longest frame fits. Otherwise nothing is written.
+#[unsafe(no_mangle)]
+pub extern "C" fn jcobs_encode_in_place(buffer: &mut [u8], message_len: usize) -> Answer
+    ensures encodes { EncodesInPlace message_len buffer.old result buffer.new }
+{
+    encode_within(buffer, message_len)
 }
