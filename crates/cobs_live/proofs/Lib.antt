@@ -6,3 +6,5 @@ pub mod SkipLemmas
 pub mod DumpLemmas
 pub mod RunLemmas
 pub mod SendLemmas
+pub mod EscapeLemmas
+pub mod ReadLemmas

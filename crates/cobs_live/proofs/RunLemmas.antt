@@ -16,7 +16,11 @@ use Rattle.cobs_live.proofs.ShowLemmas.{shown_from-append, shown_from-none}
 use Rattle.cobs_live.proofs.SkipLemmas.{begun-append, begun-none, skips_on-append, skips_on-none}
 use Rattle.cobs_live.proofs.TimeLemmas.{extended, IsReadAt-extended, IsTimeline-extended, shown_from-extended}
 use Rattle.cobs_live.specs.Counted.{IsTallyOf}
-use Rattle.cobs_live.specs.Live.{HasShownSoFar}
+use Rattle.std.specs.List.{concat}
+use Rattle.cobs_live.proofs.ReadLemmas.{came-more, live-more, live-none}
+use Rattle.std.proofs.lemmas.List.Folds.{concat-append}
+use Rattle.cobs_live.specs.Reads.{IsLive, Read, ReadsOnce, came}
+use Rattle.cobs_live.specs.Live.{HasShownSoFar, HoldsText, IsLiveSoFar}
 use Rattle.cobs_live.specs.Seen.{all_ended}
 use Rattle.cobs_live.specs.Shown.{shown_from, shown_pieces, shown_end}
 use Rattle.cobs_live.specs.Timed.{IsReadAt}
@@ -57,6 +61,37 @@ HasShownSoFar-start law settings from before watch idle none first len same skip
       same = same;
       skips = skips ∙ sym (skips_on-none settings.skip_first);
     }
+
+-- the text of what had ended, as far as bytes had come
+pub HoldsText-so_far : {settings : Settings} {from to before after : Option (List ℕ)} {watch : Watch} (s : HasShownSoFar settings from to before after watch) (came : List (List ℕ)) → concat came ≡ s.ended.bytes → HoldsText settings before came after
+HoldsText-so_far s came e = record { times = s.ended.times; timeline = s.ended.timeline; written = rw e s.ended.written }
+
+-- before the first read a run is live
+pub HasShownSoFar-live : {S : Type 0} (step : S → Read → S → Type 0) (source : S) {settings : Settings} (from : Option (List ℕ)) {before : Option (List ℕ)} {watch : Watch} → HasShownSoFar settings (Some []) (Some []) before before watch
+    → IsLiveSoFar step source source settings from from before before watch
+HasShownSoFar-live step source from s =
+    let none : s.ended.bytes ≡ [] = sym (append-nil s.ended.bytes) ∙ sym s.ended.read in
+    record {
+      so_far = record {
+        ended = record { bytes = s.ended.bytes; times = s.ended.times; timeline = s.ended.timeline; read = rw none (Consumes-nil from); written = s.ended.written };
+        taken = s.taken;
+        tallied = s.tallied;
+        len = s.len;
+        timed = s.timed;
+        same = s.same;
+        skips = s.skips;
+      };
+      live = live-none step source _;
+      given = sym none;
+    }
+
+module _ {S : Type 0} {step : S → Read → S → Type 0} {source mid source' : S} {settings : Settings} {from to before after : Option (List ℕ)} {watch : Watch} {bytes : List ℕ} where
+  -- a run is live behind its next read
+  abbrev pub live-next : IsLiveSoFar step source mid settings from to before after watch → ReadsOnce step mid source' after bytes → IsLive step source source' (HoldsText settings before)
+  live-next s r = live-more s.live r (λ nothing none. HoldsText-so_far s.so_far (came s.live.reads ++ nothing) (concat-append (came s.live.reads) nothing ∙ ap (λ (x : List ℕ). concat (came s.live.reads) ++ x) none ∙ append-nil _ ∙ s.given))
+
+  pub given-next : (s : IsLiveSoFar step source mid settings from to before after watch) (r : ReadsOnce step mid source' after bytes) → concat (came (live-next s r).reads) ≡ s.so_far.ended.bytes ++ bytes
+  given-next s r = came-more s.live.reads r ∙ ap (λ (x : List ℕ). x ++ bytes) s.given
 
 -- a tally is one for equal settings
 pub same-tallied : (a b : Settings) (tally : Tally) (outcomes : List Outcome) (read : ℕ) → a ≡ b → IsTallyOf a.view.checksum tally outcomes read → IsTallyOf b.view.checksum tally outcomes read
@@ -140,7 +175,7 @@ module _ (law : StreamLaw) {settings : Settings} {from to before after : Option 
 
   -- the input has come to its end
   pub shown-all : {to' after' : Option (List ℕ)} (begun : Bool) → ((begun ≡ false) ↔ (phase_of watch.decoder ≡ Idle)) → Consumes to to' [] → IsAtEnd to'
-      → Appends after after' (shown_end watch.settings.now.view.style begun) → HasShownAll settings watch.tally from to' before after'
+      → Appends after after' (shown_end watch.settings.now.view begun) → HasShownAll settings watch.tally from to' before after'
   shown-all {to' = to'} {after' = after'} begun idle r end written =
       let t = stream_of settings s.ended.bytes in
       let is : begun ≡ is_nonempty (unended t) = begun-after (unended t) (length watch.message.items) (phase_of watch.decoder) begun s.taken.phased.phase_is idle in

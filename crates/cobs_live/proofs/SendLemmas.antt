@@ -9,13 +9,15 @@ use Rattle.std.proofs.KnownBytes.{Appends-kept, Appends-nil, Appends-trans, Cons
 use Rattle.std.specs.Io.{StopsAt}
 use Rattle.std.specs.Io.BufRead.{take_through, drop_through, DropsThrough}
 use Rattle.std.specs.Io.KnownBytes.{Appends, Consumes, IsAtEnd, Keeps}
-use Rattle.cobs_live.specs.Sent.{HasSent, HasSentAll, HasSentLines, IsSendable, SendsText, in_front, lines_of, text_of}
+use Rattle.cobs_live.specs.Reads.{IsLive, Read, came}
+use Rattle.cobs_live.proofs.ReadLemmas.{live-push}
+use Rattle.cobs_live.specs.Sent.{HoldsFrames, HasSent, HasSentAll, HasSentLines, IsSendable, SendsText, in_front, lines_of, text_of}
 use Rattle.cobs_live.specs.declared.send.Settings.{Settings}
 use Rattle.cobs_live.specs.declared.fault.WatchFault.{WatchFault}
 use Rattle.cobs_live.specs.declared.fault.WatchFault.TheVariants.{ReadFailed, WriteFailed, OutputClosed, OutOfMemory}
 
 -- places of two lists, and one more
-zip_push : {A B : Type 0} (R : A → B → Type 0) (xs : List A) (ys : List B) (x : A) (y : B) → AllZip R xs ys → R x y → AllZip R (xs ++ x ∷ []) (ys ++ y ∷ [])
+pub zip_push : {A B : Type 0} (R : A → B → Type 0) (xs : List A) (ys : List B) (x : A) (y : B) → AllZip R xs ys → R x y → AllZip R (xs ++ x ∷ []) (ys ++ y ∷ [])
 zip_push R [] [] x y z r = (r, tt)
 zip_push R [] (b ∷ ys) x y z r = absurd z
 zip_push R (a ∷ xs) [] x y z r = absurd z
@@ -38,11 +40,11 @@ lines_of-first (b ∷ c ∷ bytes) some = ⊎_elim
 abbrev pub AreFirst : (from to : Option (List ℕ)) → List (List ℕ) → Type 0
 AreFirst from to lines = IfSome from (λ xs. IfSome to (λ ys. lines_of xs ≡ lines ++ lines_of ys))
 
-start-AreFirst : (from : Option (List ℕ)) → AreFirst from from []
+pub start-AreFirst : (from : Option (List ℕ)) → AreFirst from from []
 start-AreFirst None = tt
 start-AreFirst (Some xs) = refl
 
-more-AreFirst : (from to to' : Option (List ℕ)) (lines : List (List ℕ)) (read line : List ℕ) → Consumes from to read → AreFirst from to lines → line ≢ []
+pub more-AreFirst : (from to to' : Option (List ℕ)) (lines : List (List ℕ)) (read line : List ℕ) → Consumes from to read → AreFirst from to lines → line ≢ []
     → IfSome to (λ ys. line ≡ take_through 10 ys) → DropsThrough to to' 10 → AreFirst from to' (lines ++ line ∷ [])
 more-AreFirst None to to' lines read line r first some through left = tt
 more-AreFirst (Some xs) None to' lines read line r first some through left = absurd r
@@ -70,11 +72,11 @@ still-at_end (Some xs) (Some ys) None read r end none = absurd none
 still-at_end (Some xs) (Some ys) (Some zs) read r end none = sym none ∙ end
 
 -- a flag that says whether each element has a property, and one more element that has it
-flag_kept : (P : List ℕ → Type 0) (xs : List (List ℕ)) (x : List ℕ) (flag : Bool) → (IsTrue flag ↔ All P xs) → P x → (IsTrue flag ↔ All P (xs ++ x ∷ []))
+pub flag_kept : (P : List ℕ → Type 0) (xs : List (List ℕ)) (x : List ℕ) (flag : Bool) → (IsTrue flag ↔ All P xs) → P x → (IsTrue flag ↔ All P (xs ++ x ∷ []))
 flag_kept P xs x flag h p = (λ e. All-push P xs x (h.0 e) p, λ all. h.1 (All-pop P (xs ++ x ∷ []) xs (Some x) refl all).0)
 
 -- and one more that lacks it
-flag_lost : (P : List ℕ → Type 0) (xs : List (List ℕ)) (x : List ℕ) → (P x → ⊥) → (IsTrue false ↔ All P (xs ++ x ∷ []))
+pub flag_lost : (P : List ℕ → Type 0) (xs : List (List ℕ)) (x : List ℕ) → (P x → ⊥) → (IsTrue false ↔ All P (xs ++ x ∷ []))
 flag_lost P xs x lacks = (λ e. absurd cc, λ all. absurd (lacks (All-pop P (xs ++ x ∷ []) xs (Some x) refl all).1))
 
 -- the lines that were sent so far, and a flag that says whether each could be
@@ -89,7 +91,7 @@ pub record SentSoFar (settings : Settings) (all_sent : Bool) (from to before aft
   pub flag : IsTrue all_sent ↔ All (λ line. IsSendable settings (text_of line)) lines
 
 -- no line yet
-pub SentSoFar-start : (settings : Settings) (from before : Option (List ℕ)) → SentSoFar settings true from from before before
+abbrev pub SentSoFar-start : (settings : Settings) (from before : Option (List ℕ)) → SentSoFar settings true from from before before
 SentSoFar-start settings from before = record {
   lines = [];
   first = start-AreFirst from;
@@ -104,7 +106,7 @@ SentSoFar-start settings from before = record {
 module _ {settings : Settings} {all_sent : Bool} {from to to' before after after' : Option (List ℕ)} (line bytes : List ℕ) (s : SentSoFar settings all_sent from to before after)
     (some : line ≢ []) (through : IfSome to (λ ys. line ≡ take_through 10 ys)) (left : DropsThrough to to' 10)
     (stops : StopsAt line 10) (r : Consumes to to' line) (t : SendsText settings (text_of line) bytes) (w : Appends after after' bytes) where
-  SentSoFar-with : (flag : Bool) → (IsTrue flag ↔ All (λ l. IsSendable settings (text_of l)) (s.lines ++ line ∷ [])) → SentSoFar settings flag from to' before after'
+  abbrev SentSoFar-with : (flag : Bool) → (IsTrue flag ↔ All (λ l. IsSendable settings (text_of l)) (s.lines ++ line ∷ [])) → SentSoFar settings flag from to' before after'
   SentSoFar-with flag all = record {
     lines = s.lines ++ line ∷ [];
     first = more-AreFirst from to to' s.lines (concat s.lines) line s.read s.first some through left;
@@ -117,12 +119,24 @@ module _ {settings : Settings} {all_sent : Bool} {from to to' before after after
   }
 
   -- one more line that could be sent
-  pub SentSoFar-more : (flag : Bool) → flag ≡ all_sent → IsSendable settings (text_of line) → SentSoFar settings flag from to' before after'
+  abbrev pub SentSoFar-more : (flag : Bool) → flag ≡ all_sent → IsSendable settings (text_of line) → SentSoFar settings flag from to' before after'
   SentSoFar-more flag same sendable = SentSoFar-with flag (rw same (flag_kept (λ l. IsSendable settings (text_of l)) s.lines line all_sent s.flag sendable))
 
   -- one more line that could not be sent
-  pub SentSoFar-skipped : (flag : Bool) → flag ≡ false → (IsSendable settings (text_of line) → ⊥) → SentSoFar settings flag from to' before after'
+  abbrev pub SentSoFar-skipped : (flag : Bool) → flag ≡ false → (IsSendable settings (text_of line) → ⊥) → SentSoFar settings flag from to' before after'
   SentSoFar-skipped flag none lacks = SentSoFar-with flag (rw none (flag_lost (λ l. IsSendable settings (text_of l)) s.lines line lacks))
+
+-- a run so far that is live, whose reads gave the lines that were sent
+pub record IsLiveSoFar {S : Type 0} (step : S → Read → S → Type 0) (source source' : S) (settings : Settings) (all_sent : Bool) (from to before after : Option (List ℕ)) : Type 0 where
+  pub so_far : SentSoFar settings all_sent from to before after
+  pub live : IsLive step source source' (HoldsFrames settings before)
+  pub same : came live.reads ≡ so_far.lines
+
+-- the next read of it
+abbrev pub live-read : {S : Type 0} {step : S → Read → S → Type 0} {source mid source' : S} {settings : Settings} {all_sent : Bool} {from to before after : Option (List ℕ)} (read : Read)
+    → IsLiveSoFar step source mid settings all_sent from to before after → step mid read source' → read.back ≡ [] → read.written ≡ after → IsLive step source source' (HoldsFrames settings before)
+live-read {settings = settings} {before = before} read s r back same = live-push read s.live r back
+    (record { sent = s.so_far.sent; each = rw s.same s.so_far.each; written = rw same s.so_far.written })
 
 -- bytes that were read and not sent
 pub unsent : (settings : Settings) (all_sent : Bool) (from to to' before after after' : Option (List ℕ)) (rest : List ℕ) → SentSoFar settings all_sent from to before after

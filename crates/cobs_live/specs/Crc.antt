@@ -4,7 +4,7 @@ use Rattle.std.specs.Int.{reverse_bits, to_le_bytes, w8, w32}
 use Rattle.std.specs.Int.Bits.{bit_xor}
 use Rattle.std.specs.List.{ends_with, fold}
 use Rattle.cobs_live.specs.declared.crc.Crc.{Crc}
-use Rattle.cobs_live.specs.declared.crc.Crc.TheVariants.{Crc8, Crc16CcittFalse, Crc16Modbus, Crc32}
+use Rattle.cobs_live.specs.declared.crc.Crc.TheVariants.{Crc8, Crc16CcittFalse, Crc16Modbus, Crc16Xmodem, Crc16Kermit, Crc16Arc, Crc32c, Crc32}
 use Rattle.cobs_live.specs.declared.crc.Params.{Params}
 use Rattle.cobs_live.specs.declared.crc.Checksum.{Checksum}
 
@@ -13,6 +13,10 @@ abbrev pub params_of : Crc → Params
 params_of Crc8 = record { size = 1; poly = 0x07 * 2 ^ 24; init = 0; reflected = false; xorout = 0 }
 params_of Crc16CcittFalse = record { size = 2; poly = 0x1021 * 2 ^ 16; init = 0xFFFF * 2 ^ 16; reflected = false; xorout = 0 }
 params_of Crc16Modbus = record { size = 2; poly = 0x8005 * 2 ^ 16; init = 0xFFFF * 2 ^ 16; reflected = true; xorout = 0 }
+params_of Crc16Xmodem = record { size = 2; poly = 0x1021 * 2 ^ 16; init = 0; reflected = false; xorout = 0 }
+params_of Crc16Kermit = record { size = 2; poly = 0x1021 * 2 ^ 16; init = 0; reflected = true; xorout = 0 }
+params_of Crc16Arc = record { size = 2; poly = 0x8005 * 2 ^ 16; init = 0; reflected = true; xorout = 0 }
+params_of Crc32c = record { size = 4; poly = 0x1EDC6F41; init = 0xFFFFFFFF; reflected = true; xorout = 0xFFFFFFFF }
 params_of Crc32 = record { size = 4; poly = 0x04C11DB7; init = 0xFFFFFFFF; reflected = true; xorout = 0xFFFFFFFF }
 
 -- a step of the division by a polynomial: the register shifts, and where a one falls out the polynomial is taken off

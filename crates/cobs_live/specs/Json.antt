@@ -1,22 +1,18 @@
 -- A piece as an object of JSON on a line.
-use Rattle.std.specs.Prelude.{ℕ, ◌==◌, nat_lt, ◌||◌, List, [], ◌∷◌, ◌++◌, length, codes, if◌then◌else◌}
+use Rattle.std.specs.Prelude.{ℕ, ◌==◌, List, [], ◌∷◌, ◌++◌, length, codes, if◌then◌else◌}
 use Rattle.std.specs.Fmt.{decimal}
-use Rattle.std.specs.List.{flat_map}
 use Rattle.std.specs.Str.Lossy.{utf8_valid_len}
 use Rattle.hex.specs.Hex.{encode_lower}
+use Rattle.cobs_live.specs.Escaped.{text_escaped}
 use Rattle.cobs_live.specs.Seen.{Seen}
 use Rattle.cobs_live.specs.Timed.{json_time}
 use Rattle.cobs_live.specs.declared.clock.Stamp.{Stamp}
 use Rattle.cobs_live.specs.declared.seen.Kind.{Kind}
 use Rattle.cobs_live.specs.declared.seen.Kind.TheVariants.{Message, Broken, TooLong, BadCrc}
 
--- a byte of a text in a string of JSON: control characters, quotes and backslashes are escaped
-abbrev pub escaped : ℕ → List ℕ
-escaped byte = if nat_lt byte 32 then codes "\\u00" ++ encode_lower (byte ∷ []) else (if (byte == 34) || (byte == 92) then 92 ∷ byte ∷ [] else byte ∷ [])
-
 -- the text of a message, if it is UTF-8
 abbrev pub json_text : List ℕ → List ℕ
-json_text bytes = if utf8_valid_len bytes == length bytes then codes ",\"text\":\"" ++ flat_map escaped bytes ++ codes "\"" else []
+json_text bytes = if utf8_valid_len bytes == length bytes then codes ",\"text\":\"" ++ text_escaped bytes ++ codes "\"" else []
 
 -- the length and the bytes of a message
 abbrev pub json_message : ℕ → List ℕ → List ℕ
@@ -31,7 +27,7 @@ json_partial (byte ∷ bytes) = codes ",\"hex\":\"" ++ encode_lower (byte ∷ by
 abbrev pub json_kind : Kind → ℕ → List ℕ → List ℕ
 json_kind Message len bytes = codes "\"message\"" ++ json_message len bytes
 json_kind Broken len bytes = codes "\"broken\",\"length\":" ++ decimal len ++ json_partial bytes
-json_kind TooLong len bytes = codes "\"too long\"" ++ json_partial bytes
+json_kind TooLong len bytes = codes "\"too-long\"" ++ json_partial bytes
 json_kind BadCrc len bytes = codes "\"bad-crc\"" ++ json_message len bytes
 
 abbrev pub json : ℕ → Stamp → ℕ → Seen → List ℕ

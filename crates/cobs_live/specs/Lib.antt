@@ -1,10 +1,14 @@
 pub mod Crc
 pub mod Seen
 pub mod Timed
+pub mod Ports
 pub mod Counted
 pub mod Dump
+pub mod Capture
+pub mod Escaped
 pub mod Json
 pub mod Shown
+pub mod Reads
 pub mod Watched
 pub mod Live
 pub mod Sent

@@ -9,7 +9,9 @@ use Rattle.cobs_live.specs.Seen.{all_ended}
 use Rattle.cobs_live.specs.Shown.{shown_from, shown_pieces}
 use Rattle.cobs.specs.Sentinel.{xor_each}
 use Rattle.cobs_live.specs.Watched.{HasShown, HasWritten, skips_on, stream_of}
-use Rattle.cobs_live.specs.Timed.{IsReadAt}
+use Rattle.std.specs.List.{concat}
+use Rattle.cobs_live.specs.Reads.{IsLive, Read, came}
+use Rattle.cobs_live.specs.Timed.{IsReadAt, IsTimeline}
 use Rattle.cobs_live.specs.declared.clock.Times.{Times}
 use Rattle.cobs_live.specs.declared.fault.WatchFault.{WatchFault}
 use Rattle.cobs_live.specs.declared.show.Watch.{Watch}
@@ -27,6 +29,18 @@ pub record HasShownSoFar (settings : Settings) (from to before after : Option (L
   pub same : watch.settings.now ≡ settings
   -- whether the first sentinel is still awaited
   pub skips : watch.skipping ≡ skips_on settings.skip_first (xor_each settings.sentinel ended.bytes)
+
+-- what was written is the text of every piece that ended in the bytes that came, chunk by chunk
+pub record HoldsText (settings : Settings) (before : Option (List ℕ)) (came : List (List ℕ)) (after : Option (List ℕ)) : Type 0 where
+  pub times : ℕ → ℕ
+  pub timeline : IsTimeline times
+  pub written : Appends before after (shown_pieces settings.view times settings.length (stream_of settings (concat came)))
+
+-- a run so far that is live, whose reads gave the bytes that are shown
+pub record IsLiveSoFar {S : Type 0} (step : S → Read → S → Type 0) (source source' : S) (settings : Settings) (from to before after : Option (List ℕ)) (watch : Watch) : Type 0 where
+  pub so_far : HasShownSoFar settings from to before after watch
+  pub live : IsLive step source source' (HoldsText settings before)
+  pub given : concat (came live.reads) ≡ so_far.ended.bytes
 
 -- what the next read comes to: the run goes on, or it has ended
 abbrev pub ShowsNext : Settings → Result Bool WatchFault → (from to before after : Option (List ℕ)) → Watch → Type 0

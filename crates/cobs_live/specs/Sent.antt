@@ -1,5 +1,5 @@
 -- What a run of `send` has read, and what it has written of it.
-use Rattle.std.specs.Prelude.{ℕ, ◌≡◌, ◌↔◌, ◌-◌, ◌==◌, ◌&&◌, nat_lt, Bool, true, false, IsTrue, IsOk, List, [], ◌∷◌, ◌++◌, length, take, slice_index, All, Option, IfSome, Result, Ok, Err, MatchResult, if◌then◌else◌}
+use Rattle.std.specs.Prelude.{ℕ, ◌≡◌, ◌↔◌, ◌-◌, ◌==◌, ◌&&◌, ◌||◌, not, nat_lt, Bool, true, false, IsTrue, IsOk, List, [], ◌∷◌, ◌++◌, filter, length, take, slice_index, All, Option, IfSome, Result, Ok, Err, MatchResult, if◌then◌else◌}
 use Rattle.std.specs.List.{AllZip, concat}
 use Rattle.std.specs.Io.{StopsAt}
 use Rattle.std.specs.Io.KnownBytes.{Appends, Consumes, IsAtEnd}
@@ -24,17 +24,24 @@ pub record IsSent (sentinel : ℕ) (message bytes : List ℕ) : Type 0 where
 abbrev pub SendsMessage : Settings → List ℕ → List ℕ → Type 0
 SendsMessage settings message bytes = IsSent settings.sentinel (with_sum settings.checksum message) bytes
 
+-- the digits of a line, without blanks and tabs, and without the carriage return of another system's lines
+abbrev pub is_digit : ℕ → Bool
+is_digit byte = not ((byte == 32) || ((byte == 9) || (byte == 13)))
+
+abbrev pub digits_of : List ℕ → List ℕ
+digits_of text = filter is_digit text
+
 -- what is written of a line's text: as a message, or of the message whose digits it has; nothing where it has none
 abbrev pub SendsAs : (hex : Bool) → Settings → List ℕ → List ℕ → Type 0
 SendsAs false settings text bytes = SendsMessage settings text bytes
-SendsAs true settings text bytes = MatchResult (decode_of text) (λ message. SendsMessage settings message bytes) (λ error. bytes ≡ [])
+SendsAs true settings text bytes = MatchResult (decode_of (digits_of text)) (λ message. SendsMessage settings message bytes) (λ error. bytes ≡ [])
 
 abbrev pub SendsText : Settings → List ℕ → List ℕ → Type 0
 SendsText settings text bytes = SendsAs settings.hex settings text bytes
 
 -- a line's text stands for a message: where its digits are wanted, it has them
 abbrev pub IsSendable : Settings → List ℕ → Type 0
-IsSendable settings text = IsTrue settings.hex → IsOk (decode_of text)
+IsSendable settings text = IsTrue settings.hex → IsOk (decode_of (digits_of text))
 
 -- a byte in front of the first of some lines
 abbrev pub in_front : ℕ → List (List ℕ) → List (List ℕ)
@@ -64,6 +71,12 @@ pub record HasSentAll (settings : Settings) (all_sent : Bool) (from to before af
   pub all : IfSome from (λ bytes. so_far.lines ≡ lines_of bytes)
   pub end : IfSome from (λ bytes. IsAtEnd to)
   pub flag : IsTrue all_sent ↔ All (λ line. IsSendable settings (text_of line)) so_far.lines
+
+-- what was written is the frames of the lines that came
+pub record HoldsFrames (settings : Settings) (before : Option (List ℕ)) (came : List (List ℕ)) (after : Option (List ℕ)) : Type 0 where
+  pub sent : List (List ℕ)
+  pub each : AllZip (λ line bytes. SendsText settings (text_of line) bytes) came sent
+  pub written : Appends before after (concat sent)
 
 -- a run of `send`, by its result
 abbrev pub HasSent : Settings → Result Bool WatchFault → (from to before after : Option (List ℕ)) → Type 0

@@ -4,12 +4,13 @@ use Rattle.std.specs.Fmt.{decimal}
 use Rattle.std.specs.List.{list_all, starts_with}
 use Rattle.std.specs.Str.{chars}
 use Rattle.std.specs.Str.Lossy.{utf8_valid_len}
-use Rattle.std.specs.Char.{is_control}
+use Rattle.cobs_live.specs.Escaped.{is_hidden}
 use Rattle.cobs.specs.Stream.{is_nonempty, unended}
 use Rattle.cobs_lines.specs.Lines.{spaced_digits}
 use Rattle.cobs_live.specs.Counted.{counted}
 use Rattle.cobs_live.specs.Dump.{dump}
 use Rattle.cobs_live.specs.Json.{json}
+use Rattle.cobs_live.specs.Capture.{record_head}
 use Rattle.cobs_live.specs.Seen.{Ended, Seen, all_ended, heading, seen_piece}
 use Rattle.cobs_live.specs.Timed.{stamped, time_of}
 use Rattle.cobs_live.specs.declared.clock.Stamp.{Stamp}
@@ -18,12 +19,12 @@ use Rattle.cobs_live.specs.declared.seen.Kind.TheVariants.{Message, Broken, TooL
 use Rattle.cobs_live.specs.declared.shown.Filter.{Filter}
 use Rattle.cobs_live.specs.declared.shown.View.{View}
 use Rattle.cobs_live.specs.declared.shown.Style.{Style}
-use Rattle.cobs_live.specs.declared.shown.Style.TheVariants.{Hex, Text, Raw, Hexdump, Json}
+use Rattle.cobs_live.specs.declared.shown.Style.TheVariants.{Hex, Text, Raw, Hexdump, Json, Bytes, Pcap}
 use Rattle.cobs_live.specs.declared.tally.Tally.{Tally}
 
--- whether the bytes are UTF-8 without control characters
+-- whether the bytes are UTF-8 without hidden characters
 abbrev pub is_plain : List ℕ → Bool
-is_plain bytes = (utf8_valid_len bytes == length bytes) && list_all (λ c. not (is_control c)) (chars bytes)
+is_plain bytes = (utf8_valid_len bytes == length bytes) && list_all (λ c. not (is_hidden c)) (chars bytes)
 
 -- a text and a space in front of it; nothing for the empty text
 abbrev pub spaced : List ℕ → List ℕ
@@ -47,6 +48,20 @@ raw_of Broken bytes = []
 raw_of TooLong bytes = []
 raw_of BadCrc bytes = []
 
+-- a message's bytes alone
+abbrev pub bytes_of : Kind → List ℕ → List ℕ
+bytes_of Message bytes = bytes
+bytes_of Broken bytes = []
+bytes_of TooLong bytes = []
+bytes_of BadCrc bytes = []
+
+-- a message as a record of a capture
+abbrev pub captured : Kind → ℕ → List ℕ → List ℕ
+captured Message time bytes = record_head time (length bytes) ++ bytes
+captured Broken time bytes = []
+captured TooLong time bytes = []
+captured BadCrc time bytes = []
+
 -- what a style makes of a piece that has this number and time; JSON and raw bytes have no colour
 abbrev pub styled : Style → (color : Bool) → ℕ → Stamp → ℕ → Seen → List ℕ
 styled Hex color number stamp time seen = hex_line color seen
@@ -54,6 +69,8 @@ styled Text color number stamp time seen = text_line color seen
 styled Raw color number stamp time seen = raw_of seen.kind seen.bytes
 styled Hexdump color number stamp time seen = dump_lines color seen
 styled Json color number stamp time seen = json number stamp time seen
+styled Bytes color number stamp time seen = bytes_of seen.kind seen.bytes
+styled Pcap color number stamp time seen = captured seen.kind time seen.bytes
 
 -- the time of a piece in front of its line, which JSON has inside, and raw bytes haven't
 abbrev pub in_front : Style → Stamp → ℕ → List ℕ
@@ -62,6 +79,8 @@ in_front Text stamp time = stamped stamp time
 in_front Raw stamp time = []
 in_front Hexdump stamp time = stamped stamp time
 in_front Json stamp time = []
+in_front Bytes stamp time = []
+in_front Pcap stamp time = []
 
 -- the number of a piece in front of its line
 abbrev pub numbered : Bool → ℕ → List ℕ
@@ -96,18 +115,23 @@ shown_from view times index (piece ∷ pieces) = shown view times index piece ++
 abbrev pub shown_pieces : View → (ℕ → ℕ) → ℕ → List ℕ → List ℕ
 shown_pieces view times n stream = shown_from view times 0 (all_ended stream n)
 
+-- that a piece has begun, by style
+abbrev pub unfinished_in : Style → List ℕ
+unfinished_in Hex = codes "unfinished\n"
+unfinished_in Text = codes "unfinished\n"
+unfinished_in Raw = []
+unfinished_in Hexdump = codes "unfinished\n"
+unfinished_in Json = codes "{\"kind\":\"unfinished\"}\n"
+unfinished_in Bytes = []
+unfinished_in Pcap = []
+
 -- what is shown after a stream that has come to its end: whether a piece has begun that no zero ended
-abbrev pub shown_end : Style → Bool → List ℕ
-shown_end style false = []
-shown_end Hex true = codes "unfinished\n"
-shown_end Text true = codes "unfinished\n"
-shown_end Hexdump true = codes "unfinished\n"
-shown_end Json true = codes "{\"kind\":\"unfinished\"}\n"
-shown_end Raw true = []
+abbrev pub shown_end : View → Bool → List ℕ
+shown_end view begun = if begun && view.filter.unfinished then unfinished_in view.style else []
 
 -- what is shown of a stream that has come to its end
 abbrev pub shown_stream : View → (ℕ → ℕ) → ℕ → List ℕ → List ℕ
-shown_stream view times n stream = shown_pieces view times n stream ++ shown_end view.style (is_nonempty (unended stream))
+shown_stream view times n stream = shown_pieces view times n stream ++ shown_end view (is_nonempty (unended stream))
 
 -- the text of how much came; where messages are to end with checksums, how many were wrong too
 abbrev pub tally_text : Tally → List ℕ

@@ -1,6 +1,8 @@
 //! Checksums at the end of messages.
-ghost use Rattle.std.specs.Prelude.{◌≡◌, ◌↔◌, ◌<◌, ◌≤◌, IfSome, IsSome, IsTrue};
-ghost use Rattle.cobs_live.specs.Crc.{after_byte, body_of, crc, is_checked, params_of, shifted, sum_of};
+ghost use Rattle.std.specs.Prelude.{◌≡◌, ◌↔◌, ◌<◌, ◌≤◌, ℕ, List, Some, IfSome, IsSome, IsTrue};
+ghost use Rattle.cobs_live.specs.Crc.{after_byte, body_of, crc, is_checked, params_of, shifted, sum_of, with_sum};
+ghost use Rattle.cobs_live.specs.Seen.{seen_message, whole};
+ghost use Rattle.cobs_live.specs.declared.seen.Kind.TheVariants.{Message};
 
 /// Which cyclic redundancy check a checksum is.
 #[derive(Debug, PartialEq, Eq, Clone, Copy)]
@@ -13,6 +15,18 @@ pub enum Crc {
 
     /// CRC-16/MODBUS.
     Crc16Modbus,
+
+    /// CRC-16/XMODEM.
+    Crc16Xmodem,
+
+    /// CRC-16/KERMIT.
+    Crc16Kermit,
+
+    /// CRC-16/ARC.
+    Crc16Arc,
+
+    /// CRC-32/ISCSI, known as CRC-32C.
+    Crc32c,
 
     /// CRC-32/ISO-HDLC, as of zip files and Ethernet.
     Crc32,
@@ -52,35 +66,22 @@ impl Crc {
         ensures params { result ≡ params_of self }
         ensures sized { (0 < result.size) × (result.size ≤ 4) }
     {
-        match self {
-            Crc::Crc8 => Params {
-                size: 1,
-                poly: 0x0700_0000,
-                init: 0,
-                reflected: false,
-                xorout: 0,
-            },
-            Crc::Crc16CcittFalse => Params {
-                size: 2,
-                poly: 0x1021_0000,
-                init: 0xFFFF_0000,
-                reflected: false,
-                xorout: 0,
-            },
-            Crc::Crc16Modbus => Params {
-                size: 2,
-                poly: 0x8005_0000,
-                init: 0xFFFF_0000,
-                reflected: true,
-                xorout: 0,
-            },
-            Crc::Crc32 => Params {
-                size: 4,
-                poly: 0x04C1_1DB7,
-                init: 0xFFFF_FFFF,
-                reflected: true,
-                xorout: 0xFFFF_FFFF,
-            },
+        let (size, poly, init, reflected, xorout) = match self {
+            Crc::Crc8 => (1, 0x0700_0000, 0, false, 0),
+            Crc::Crc16CcittFalse => (2, 0x1021_0000, 0xFFFF_0000, false, 0),
+            Crc::Crc16Modbus => (2, 0x8005_0000, 0xFFFF_0000, true, 0),
+            Crc::Crc16Xmodem => (2, 0x1021_0000, 0, false, 0),
+            Crc::Crc16Kermit => (2, 0x1021_0000, 0, true, 0),
+            Crc::Crc16Arc => (2, 0x8005_0000, 0, true, 0),
+            Crc::Crc32c => (4, 0x1EDC_6F41, 0xFFFF_FFFF, true, 0xFFFF_FFFF),
+            Crc::Crc32 => (4, 0x04C1_1DB7, 0xFFFF_FFFF, true, 0xFFFF_FFFF),
+        };
+        Params {
+            size,
+            poly,
+            init,
+            reflected,
+            xorout,
         }
     }
 }
@@ -162,3 +163,11 @@ impl Checksum {
         }
     }
 }
+
+/// What is sent with a checksum is shown as it was: a message with its checksum behind it is seen as that message. (A law:
+/// this function does nothing when it runs.)
+pub fn sum_law()
+    ensures back { (checksum : Checksum) (message : List ℕ)
+        → seen_message (Some checksum) (with_sum (Some checksum) message)
+        ≡ whole Message message }
+{}

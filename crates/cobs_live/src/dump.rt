@@ -1,9 +1,8 @@
 //! Bytes sixteen a line, as `hexdump -C` prints them.
-ghost use Rattle.std.specs.Prelude.{◌+◌, ◌<◌, OnOk, map};
+ghost use Rattle.std.specs.Prelude.{◌≡◌, ◌+◌, ◌<◌, ◌≤◌, OnOk, length, map};
 ghost use Rattle.std.specs.Io.KnownBytes.{Appends};
 ghost use Rattle.cobs_live.specs.Dump.{cell, character, dump, dump_row, upto};
 
-use cobs_lines::write_digits;
 use std::io::{self, Write};
 
 /// How many bytes are built on a line.
@@ -26,6 +25,7 @@ pub fn write_dump<W: Write>(output: &mut W, bytes: &[u8]) -> io::Result<()>
 
 /// Writes the line of at most sixteen bytes.
 fn write_row<W: Write>(output: &mut W, offset: usize, row: &[u8]) -> io::Result<()>
+    requires few { length row.now ≤ 16 }
     ensures written { OnOk result
         (Appends (W.contents output.old) (W.contents output.new) (dump_row offset row.now)) }
 {
@@ -56,25 +56,42 @@ fn write_cell<W: Write>(output: &mut W, row: &[u8], i: usize) -> io::Result<()>
         (Appends (W.contents output.old) (W.contents output.new) (cell row.now i)) }
 {
     if i < row.len() {
-        write_digits(output, &[row[i]])?;
+        let mut digits = [0; 2];
+        if hex::encode_to_slice(&[row[i]], &mut digits).is_err() {
+            unreachable!();
+        }
+        output.write_all(&digits)?;
         output.write_all(b" ")
     } else {
         output.write_all(b"   ")
     }
 }
 
-/// Writes each byte as a character of ASCII, or as a dot.
+/// Writes each byte as a character of ASCII, or as a dot, all at once.
 fn write_characters<W: Write>(output: &mut W, row: &[u8]) -> io::Result<()>
+    requires few { length row.now ≤ 16 }
     ensures written { OnOk result
         (Appends (W.contents output.old) (W.contents output.new) (map character row.now)) }
 {
-    'by_byte: for byte in row {
-        let shown = if 32 <= *byte && *byte <= 126 {
-            *byte
-        } else {
-            46
-        };
-        output.write_all(&[shown])?;
+    let mut room = [0; ROW];
+    let shown = &mut room[..row.len()];
+    shown.copy_from_slice(row);
+    to_characters(shown);
+    output.write_all(shown)
+}
+
+/// Makes each byte a character of ASCII, or a dot.
+fn to_characters(bytes: &mut [u8])
+    ensures shown { bytes.new ≡ map character bytes.old }
+{
+    for byte in bytes.iter_mut() {
+        *byte = character(*byte);
     }
-    Ok(())
+}
+
+/// A byte as a character of ASCII, or a dot.
+fn character(byte: u8) -> u8
+    ensures shown { result ≡ character byte }
+{
+    if 32 <= byte && byte <= 126 { byte } else { 46 }
 }

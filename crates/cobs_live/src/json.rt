@@ -1,12 +1,11 @@
 //! A piece as an object of JSON.
-ghost use Rattle.std.specs.Prelude.{◌≡◌, ◌==◌, OnOk, length};
-ghost use Rattle.std.specs.Str.Lossy.{utf8_valid_len};
+ghost use Rattle.std.specs.Prelude.{OnOk};
 ghost use Rattle.std.specs.Io.KnownBytes.{Appends};
-ghost use Rattle.std.specs.List.{flat_map};
-ghost use Rattle.cobs_live.specs.Json.{escaped, json, json_kind, json_message, json_partial, json_text};
+ghost use Rattle.cobs_live.specs.Json.{json, json_kind, json_message, json_partial, json_text};
 ghost use Rattle.cobs_live.specs.Seen.{seen_in};
 
 use crate::clock::{Stamp, write_json_time};
+use crate::escape::write_escaped;
 use crate::seen::{Kind, Sight};
 use cobs_lines::write_digits;
 use std::io::{self, Write};
@@ -46,7 +45,7 @@ fn write_kind<W: Write>(output: &mut W, piece: &Sight<'_>) -> io::Result<()>
             write_partial(output, piece.bytes)
         }
         Kind::TooLong => {
-            output.write_all(b"\"too long\"")?;
+            output.write_all(b"\"too-long\"")?;
             write_partial(output, piece.bytes)
         }
         Kind::BadCrc => {
@@ -86,46 +85,10 @@ fn write_utf8<W: Write>(output: &mut W, bytes: &[u8]) -> io::Result<()>
     ensures written { OnOk result
         (Appends (W.contents output.old) (W.contents output.new) (json_text bytes.now)) }
 {
-    if !is_utf8(bytes) {
+    let Ok(text) = str::from_utf8(bytes) else {
         return Ok(());
-    }
+    };
     output.write_all(b",\"text\":\"")?;
-    write_escaped(output, bytes)?;
+    write_escaped(output, text)?;
     output.write_all(b"\"")
-}
-
-/// Whether the bytes are UTF-8.
-fn is_utf8(bytes: &[u8]) -> bool
-    ensures utf8 { result ≡ (utf8_valid_len bytes.now == length bytes.now) }
-{
-    match str::from_utf8(bytes) {
-        Ok(_) => true,
-        Err(_) => false,
-    }
-}
-
-/// Writes the bytes of a text as a string of JSON has them.
-fn write_escaped<W: Write>(output: &mut W, bytes: &[u8]) -> io::Result<()>
-    ensures written { OnOk result
-        (Appends (W.contents output.old) (W.contents output.new) (flat_map escaped bytes.now)) }
-{
-    'by_byte: for byte in bytes {
-        write_byte(output, *byte)?;
-    }
-    Ok(())
-}
-
-/// Writes a byte of a text as a string of JSON has it.
-fn write_byte<W: Write>(output: &mut W, byte: u8) -> io::Result<()>
-    ensures written { OnOk result
-        (Appends (W.contents output.old) (W.contents output.new) (escaped byte)) }
-{
-    if byte < 32 {
-        output.write_all(b"\\u00")?;
-        write_digits(output, &[byte])
-    } else if byte == b'"' || byte == b'\\' {
-        output.write_all(&[b'\\', byte])
-    } else {
-        output.write_all(&[byte])
-    }
 }

@@ -4,12 +4,16 @@
 //! piece once its sentinel has come; `send::run_send` sends each line as a frame.
 #![tactic(auto)]
 
+pub mod capture;
 pub mod clock;
 pub mod crc;
 mod dump;
+mod escape;
 pub mod fault;
+pub mod input;
 mod json;
 mod line;
+pub mod port;
 mod seen;
 pub mod send;
 pub mod show;

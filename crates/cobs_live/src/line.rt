@@ -3,9 +3,11 @@ ghost use Rattle.std.specs.Prelude.{◌≡◌, OnOk, IfSome, IsSome, ◌↔◌, 
 ghost use Rattle.std.specs.Io.KnownBytes.{Appends};
 ghost use Rattle.cobs_lines.specs.Lines.{spaced_digits};
 ghost use Rattle.cobs_live.specs.Seen.{color_end, color_of, heading, mark, seen_in, title, titled};
-ghost use Rattle.cobs_live.specs.Shown.{dump_lines, hex_line, is_plain, raw_of, spaced, styled, text_line};
+ghost use Rattle.cobs_live.specs.Shown.{bytes_of, captured, dump_lines, hex_line, is_plain, raw_of, spaced, styled, text_line};
 
+use crate::capture::write_record_head;
 use crate::dump::write_dump;
+use crate::escape::is_hidden;
 use crate::json::write_json;
 use crate::seen::{Kind, Sight};
 use crate::shown::{Style, View};
@@ -30,6 +32,8 @@ pub fn write_line<W: Write>(
         Style::Raw => write_raw(output, piece),
         Style::Hexdump => write_dumped(output, view.color, piece),
         Style::Json => write_json(output, number, view.stamp, time, piece),
+        Style::Bytes => write_bytes(output, piece),
+        Style::Pcap => write_record(output, time, piece),
     }
 }
 
@@ -118,7 +122,7 @@ fn write_hex<W: Write>(output: &mut W, color: bool, piece: &Sight<'_>) -> io::Re
     output.write_all(b"\n")
 }
 
-/// Writes the line of a piece, with its bytes as text if they are UTF-8 without control characters, else as digits.
+/// Writes the line of a piece, with its bytes as text if they are UTF-8 without hidden characters, else as digits.
 fn write_text<W: Write>(output: &mut W, color: bool, piece: &Sight<'_>) -> io::Result<()>
     ensures written { OnOk result (Appends (W.contents output.old) (W.contents output.new)
         (text_line color (seen_in piece.now))) }
@@ -136,14 +140,14 @@ fn write_text<W: Write>(output: &mut W, color: bool, piece: &Sight<'_>) -> io::R
     output.write_all(b"\n")
 }
 
-/// The text of a message that is UTF-8 without control characters.
+/// The text of a message that is UTF-8 without hidden characters.
 fn plain_text(message: &[u8]) -> Option<&str>
     ensures text { IfSome result (λ text. text.now ≡ message.now) }
     ensures plain { IsSome result ↔ IsTrue (is_plain message.now) }
 {
     let text = str::from_utf8(message).ok()?;
     for c in text.chars() {
-        if c.is_control() {
+        if is_hidden(c) {
             return None;
         }
     }
@@ -159,6 +163,31 @@ fn write_raw<W: Write>(output: &mut W, piece: &Sight<'_>) -> io::Result<()>
         Kind::Message => {
             output.write_all(piece.bytes)?;
             output.write_all(b"\n")
+        }
+        Kind::Broken | Kind::TooLong | Kind::BadCrc => Ok(()),
+    }
+}
+
+/// Writes the bytes of a message alone.
+fn write_bytes<W: Write>(output: &mut W, piece: &Sight<'_>) -> io::Result<()>
+    ensures written { OnOk result (Appends (W.contents output.old) (W.contents output.new)
+        (bytes_of (seen_in piece.now).kind (seen_in piece.now).bytes)) }
+{
+    match piece.kind {
+        Kind::Message => output.write_all(piece.bytes),
+        Kind::Broken | Kind::TooLong | Kind::BadCrc => Ok(()),
+    }
+}
+
+/// Writes a message as a record of a capture.
+fn write_record<W: Write>(output: &mut W, time: u64, piece: &Sight<'_>) -> io::Result<()>
+    ensures written { OnOk result (Appends (W.contents output.old) (W.contents output.new)
+        (captured (seen_in piece.now).kind time (seen_in piece.now).bytes)) }
+{
+    match piece.kind {
+        Kind::Message => {
+            write_record_head(output, time, piece.bytes.len())?;
+            output.write_all(piece.bytes)
         }
         Kind::Broken | Kind::TooLong | Kind::BadCrc => Ok(()),
     }

@@ -4,15 +4,17 @@ ghost use Rattle.std.specs.Io.Buffered.{writer_buffer, writer_inner};
 ghost use Rattle.std.specs.Io.KnownBytes.{Appends, Keeps};
 ghost use Rattle.hex.specs.Hex.{decode_of};
 ghost use Rattle.cobs_live.specs.Crc.{with_sum};
-ghost use Rattle.cobs_live.specs.Sent.{HasSent, IsSendable, IsSent, SendsAs, SendsMessage, SendsText, text_of};
+ghost use Rattle.cobs_live.specs.Sent.{HasSent, HoldsFrames, IsSendable, IsSent, SendsAs, SendsMessage, SendsText, digits_of, is_digit, text_of};
+ghost use Rattle.cobs_live.specs.Reads.{IsLive};
 ghost use Rattle.cobs_live.specs.Watched.{IsFlushed};
 
 use crate::crc::Checksum;
 use crate::fault::WatchFault;
+use crate::input::LiveLines;
 use cobs::encode_vec_with_sentinel;
 use hex::FromHexError;
 use std::alloc::{AllocError, Global};
-use std::io::{BufRead, BufWriter, Write};
+use std::io::{BufWriter, Write};
 
 /// How lines are sent.
 #[derive(Debug, PartialEq, Eq, Clone, Copy)]
@@ -38,23 +40,25 @@ pub struct Settings {
 /// - `WriteFailed`: a write or a flush failed. How much of it went out is not known.
 /// - `OutputClosed`: the same, since nobody reads the output any more.
 /// - `OutOfMemory`: memory ran out for a frame. All lines before it were sent.
-pub fn run_send<B: BufRead, W: Write + Drop, E: Write>(
+pub fn run_send<S: LiveLines<W>, W: Write + Drop, E: Write>(
     alloc: Global,
     settings: &Settings,
-    input: &mut B,
+    input: &mut S,
     output: &mut BufWriter<W>,
     errors: &mut E,
 ) -> Result<bool, WatchFault>
     requires flushed { writer_buffer output.old ≡ [] }
-    ensures sent { HasSent settings.now result (B.remaining input.old) (B.remaining input.new)
+    ensures sent { HasSent settings.now result (S.remaining input.old) (S.remaining input.new)
         (W.contents (writer_inner output.old)) (W.contents (writer_inner output.new)) }
+    ensures live { IsLive S.step input.old input.new
+        (HoldsFrames settings.now (W.contents (writer_inner output.old))) }
     ensures flushed { IsFlushed result (writer_buffer output.new) }
 {
     let mut line = Vec::new(alloc);
     let mut all_sent = true;
     'by_line: for number in 1..usize::MAX {
         line.clear();
-        let Ok(count) = input.read_until(b'\n', &mut line) else {
+        let Ok(count) = input.read_line_beside(output, &mut line) else {
             return Err(WatchFault::ReadFailed);
         };
         if count == 0 {
@@ -113,13 +117,14 @@ fn send_digits<W: Write + Drop>(
     requires flushed { writer_buffer output.old ≡ [] }
     ensures sent { OnOk result ((bytes : List ℕ) × SendsAs true settings.now text.now bytes
         × Appends (W.contents (writer_inner output.old)) (W.contents (writer_inner output.new)) bytes) }
-    ensures answer { IfOk result (λ sent. IsTrue sent ↔ IsOk (decode_of text.now)) }
+    ensures answer { IfOk result (λ sent. IsTrue sent ↔ IsOk (decode_of (digits_of text.now))) }
     ensures fault { IfErr result (λ fault. fault ≢ WatchFault.ReadFailed) }
     ensures unwritten { IfErr result (λ fault. fault ≡ WatchFault.OutOfMemory
         → Keeps (W.contents (writer_inner output.old)) (W.contents (writer_inner output.new))) }
     ensures flushed { IsFlushed result (writer_buffer output.new) }
 {
-    match hex::decode(alloc, text) {
+    let digits = digits_of(alloc, text)?;
+    match hex::decode(alloc, &digits) {
         Ok(message) => {
             send_message(alloc, settings, &message, output)?;
             Ok(true)
@@ -131,6 +136,26 @@ fn send_digits<W: Write + Drop>(
             Ok(false)
         }
     }
+}
+
+/// The digits of a line, without blanks, tabs and carriage returns.
+fn digits_of(alloc: Global, text: &[u8]) -> Result<Vec<u8>, AllocError>
+    ensures digits { IfOk result (λ digits. digits.items ≡ digits_of text.now) }
+{
+    let mut digits = Vec::new(alloc);
+    'by_byte: for byte in text {
+        if is_digit(*byte) {
+            digits.push(*byte)?;
+        }
+    }
+    Ok(digits)
+}
+
+/// Whether a byte of a line is for a digit: no blank, tab or carriage return.
+fn is_digit(byte: u8) -> bool
+    ensures digit { result ≡ is_digit byte }
+{
+    !(byte == b' ' || byte == b'\t' || byte == b'\r')
 }
 
 /// Sends a message, with its checksum behind it if it is to have one.

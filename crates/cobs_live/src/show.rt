@@ -1,5 +1,5 @@
 //! Showing a stream as it comes.
-ghost use Rattle.std.specs.Prelude.{◌≡◌, ◌≢◌, ◌≤◌, ◌<◌, ◌↔◌, ℕ, List, [], length, take, OnOk, IfOk, IfErr, Option, Ok, Err, false};
+ghost use Rattle.std.specs.Prelude.{◌≡◌, ◌≢◌, ◌≤◌, ◌<◌, ◌↔◌, ℕ, List, [], length, take, OnOk, IfOk, IfErr, IsTrue, Option, Ok, Err, false};
 ghost use Rattle.std.specs.Io.KnownBytes.{Consumes, IsAtEnd, Keeps};
 ghost use Rattle.std.specs.Io.Buffered.{writer_buffer, writer_inner};
 ghost use Rattle.cobs.specs.Feed.{DecoderAfter, Idle};
@@ -8,18 +8,20 @@ ghost use Rattle.cobs.specs.Sentinel.{xor_each};
 ghost use Rattle.cobs.specs.Stream.{Outcome};
 ghost use Rattle.cobs_live.specs.Counted.{IsTallyOf};
 ghost use Rattle.cobs_live.specs.declared.shown.Settings.{Settings};
-ghost use Rattle.cobs_live.specs.Live.{ShowsBytes};
+ghost use Rattle.cobs_live.specs.Live.{HoldsText, ShowsBytes};
+ghost use Rattle.cobs_live.specs.Reads.{IsLive, ReadsOnce, given};
 ghost use Rattle.cobs_live.specs.Timed.{IsReadAt};
 ghost use Rattle.cobs_live.specs.Watched.{HasShown, IsFlushed, begun, skips_on};
 
 use crate::clock::{Timer, Times};
 use crate::fault::WatchFault;
+use crate::input::LiveInput;
 use crate::shown::{Settings, View, show_end, show_piece, sight_of, with_part};
-use crate::tally::Tally;
+use crate::tally::{Counting, Tally};
 use cobs::laws::{law_6, law_9, law_12};
 use cobs::{DecoderPhase, UnbufferedDecoder};
 use std::alloc::{AllocError, Global};
-use std::io::{BufWriter, ErrorKind, Read, Write};
+use std::io::{BufWriter, ErrorKind, Write};
 use std::rt::Clock;
 
 /// How many bytes are read at once, 64 KiB. What a read gives less is shown at once.
@@ -31,35 +33,42 @@ pub const CHUNK_LEN: usize = 65_536;
 /// whatever has ended in the bytes that came has left the program while the next ones are waited for. Memory is
 /// allocated before the first read alone: for a message of the greatest length, and for a chunk of the input.
 ///
-/// With `count_every`, the counts so far are written to `errors` each time that bytes come and this many milliseconds have
-/// passed since the start, or since they were written last. A failure to write them there is no fault.
+/// The counts are written to `errors` at the end, also at a fault, if `counting` says so; and with `counting.every` those so
+/// far, each time that bytes come and this many milliseconds have passed since the start, or since they were written last. A
+/// failure to write them there is no fault.
 ///
 /// - `ReadFailed`: a read failed. What had ended in all bytes before it is shown.
 /// - `WriteFailed`: a write or a flush failed. How much of it went out is not known.
 /// - `OutputClosed`: the same, since nobody reads the output any more.
 /// - `OutOfMemory`: memory ran out. Nothing was read, and nothing written.
-pub fn run_show<C: Clock + Drop, R: Read, W: Write + Drop, E: Write>(
+pub fn run_show<C: Clock + Drop, S: LiveInput<W>, W: Write + Drop, E: Write>(
     alloc: Global,
     settings: &Settings,
-    count_every: Option<u64>,
+    counting: Counting,
     timer: &Timer<C>,
-    input: &mut R,
+    input: &mut S,
     output: &mut BufWriter<W>,
     errors: &mut E,
 ) -> Result<Tally, WatchFault>
     requires flushed { writer_buffer output.old ≡ [] }
-    ensures shown { HasShown settings.now result (R.remaining input.old) (R.remaining input.new)
+    ensures shown { HasShown settings.now result (S.remaining input.old) (S.remaining input.new)
         (W.contents (writer_inner output.old)) (W.contents (writer_inner output.new)) }
+    ensures live { IsLive S.step input.old input.new
+        (HoldsText settings.now (W.contents (writer_inner output.old))) }
     ensures flushed { IsFlushed result (writer_buffer output.new) }
 {
     let mut watch = Watch::new(alloc, settings)?;
     let mut chunk = vec![in alloc; 0; CHUNK_LEN]?;
     let mut counted = Times::at_start(timer);
     'by_read: for _read in 0..usize::MAX {
-        if !watch.show_next(timer, &mut chunk, input, output)? {
+        let next = watch.show_next(timer, &mut chunk, input, output);
+        if counting.at_end && next != Ok(true) {
+            let _ = writeln!(errors, "{}", watch.tally);
+        }
+        if !next? {
             return Ok(watch.tally);
         }
-        if counted.is_over(count_every, watch.clock.now) {
+        if counted.is_over(counting.every, watch.clock.now) {
             let _ = writeln!(errors, "{}", watch.tally);
         }
     }
@@ -85,7 +94,8 @@ pub struct Watch<'a> {
 }
 
 impl<'a> Watch<'a> {
-    ghost use Rattle.cobs_live.specs.Live.{HasShownSoFar, ShowsNext};
+    ghost use Rattle.cobs_live.specs.Live.{HasShownSoFar, HoldsText, IsLiveSoFar, ShowsNext};
+    ghost use Rattle.cobs_live.specs.Reads.{IsLive};
 
     /// Shows nothing yet.
     ///
@@ -116,19 +126,29 @@ impl<'a> Watch<'a> {
     /// # Errors
     /// `ReadFailed` if the read failed; nothing has changed then. `WriteFailed` if a write or a flush failed, and
     /// `OutputClosed` if that was since nobody reads the output any more.
-    pub fn show_next<C: Clock + Drop, R: Read, W: Write + Drop>(
+    pub fn show_next<C: Clock + Drop, S: LiveInput<W>, W: Write + Drop>(
         &mut self,
         timer: &Timer<C>,
         chunk: &mut [u8],
-        input: &mut R,
+        input: &mut S,
         output: &mut BufWriter<W>,
     ) -> Result<bool, WatchFault>
         requires some { 0 < length chunk.old }
         requires flushed { writer_buffer output.old ≡ [] }
         ensures shown { (settings : Settings) (from before : Option (List ℕ)) → HasShownSoFar settings from
-            (R.remaining input.old) before (W.contents (writer_inner output.old)) self.old
-            → ShowsNext settings result from (R.remaining input.new) before
+            (S.remaining input.old) before (W.contents (writer_inner output.old)) self.old
+            → ShowsNext settings result from (S.remaining input.new) before
             (W.contents (writer_inner output.new)) self.new }
+        ensures live { (settings : Settings) (start : S) (from before : Option (List ℕ))
+            → IsLiveSoFar S.step start input.old settings from (S.remaining input.old) before
+            (W.contents (writer_inner output.old)) self.old
+            → IsLive S.step start input.new (HoldsText settings before) }
+        ensures goes_on { IfOk result (λ more. IsTrue more
+            → (settings : Settings) (start : S) (from before : Option (List ℕ))
+            → IsLiveSoFar S.step start input.old settings from (S.remaining input.old) before
+            (W.contents (writer_inner output.old)) self.old
+            → IsLiveSoFar S.step start input.new settings from (S.remaining input.new) before
+            (W.contents (writer_inner output.new)) self.new) }
         ensures flushed { IsFlushed result (writer_buffer output.new) }
         ensures fault { IfErr result (λ fault. fault ≢ WatchFault.OutOfMemory) }
         ensures len { length chunk.new ≡ length chunk.old }
@@ -137,7 +157,7 @@ impl<'a> Watch<'a> {
         let count = read_chunk(input, output, chunk)?;
         if count == 0 {
             let unfinished = has_begun(self.decoder.phase());
-            show_end(output, self.settings.view.style, unfinished)?;
+            show_end(output, &self.settings.view, unfinished)?;
             output.flush()?;
             return Ok(false);
         }
@@ -162,23 +182,25 @@ impl<'a> Watch<'a> {
 
 /// Reads once into the chunk, and again if the read was interrupted, and returns how many bytes came, 0 at the end of the
 /// input. Every read of a run is made here, where the output holds nothing back.
-fn read_chunk<R: Read, W: Write + Drop>(
-    input: &mut R,
-    _output: &BufWriter<W>,
+fn read_chunk<S: LiveInput<W>, W: Write + Drop>(
+    input: &mut S,
+    output: &BufWriter<W>,
     chunk: &mut [u8],
 ) -> Result<usize, WatchFault>
-    requires flushed { writer_buffer _output.now ≡ [] }
+    requires flushed { writer_buffer output.now ≡ [] }
     ensures within { IfOk result (λ n. n ≤ length chunk.new) }
     ensures read { IfOk result
-        (λ n. Consumes (R.remaining input.old) (R.remaining input.new) (take n chunk.new)) }
+        (λ n. Consumes (S.remaining input.old) (S.remaining input.new) (take n chunk.new)) }
     ensures end { IfOk result
-        (λ n. n ≡ 0 → 0 < length chunk.old → IsAtEnd (R.remaining input.new)) }
+        (λ n. n ≡ 0 → 0 < length chunk.old → IsAtEnd (S.remaining input.new)) }
     ensures failed { IfErr result (λ fault. (fault ≡ WatchFault.ReadFailed)
-        × Keeps (R.remaining input.old) (R.remaining input.new)) }
+        × Keeps (S.remaining input.old) (S.remaining input.new)) }
+    ensures once { ReadsOnce S.step input.old input.new (W.contents (writer_inner output.now))
+        (given result chunk.new) }
     ensures len { length chunk.new ≡ length chunk.old }
 {
     'by_try: for _again in 0..usize::MAX {
-        match input.read(chunk) {
+        match input.read_beside(output, chunk) {
             Ok(count) => return Ok(count),
             Err(error) => {
                 if error.kind() != ErrorKind::Interrupted {

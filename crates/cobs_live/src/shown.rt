@@ -18,7 +18,7 @@ pub enum Style {
     /// A line, with a message as hexadecimal digits.
     Hex,
 
-    /// A line, with a message as text if it is UTF-8 without control characters, else as hexadecimal digits.
+    /// A line, with a message as text if it is UTF-8 without hidden characters, else as hexadecimal digits.
     Text,
 
     /// The bytes of a message and a newline; nothing of other pieces.
@@ -29,6 +29,12 @@ pub enum Style {
 
     /// A line with an object of JSON.
     Json,
+
+    /// The bytes of a message and nothing else; nothing of other pieces.
+    Bytes,
+
+    /// A record of a capture, as of libpcap, for a message; nothing of other pieces.
+    Pcap,
 }
 
 /// Which pieces are shown.
@@ -46,6 +52,9 @@ pub struct Filter {
     /// Whether messages with a wrong checksum are shown.
     pub bad_crc: bool,
 
+    /// Whether it is shown that a piece has begun that no sentinel ended.
+    pub unfinished: bool,
+
     /// The least and the greatest number of bytes that a piece decodes to, if it is shown. A piece that is too long is
     /// taken to decode to `usize::MAX` bytes.
     pub min: usize,
@@ -61,7 +70,7 @@ pub struct View {
     /// How a piece is written.
     pub style: Style,
 
-    /// Whether the kind of a piece and how many bytes it decodes to have a colour. `Raw` and `Json` have none.
+    /// Whether the kind of a piece and how many bytes it decodes to have a colour. `Hex`, `Text` and `Hexdump` may have one.
     pub color: bool,
 
     /// Whether each piece's number is in front of it. Pieces that a filter holds back are counted too.
@@ -212,21 +221,21 @@ fn write_time<W: Write>(output: &mut W, view: &View, time: u64) -> io::Result<()
 {
     match view.style {
         Style::Hex | Style::Text | Style::Hexdump => write_stamp(output, view.stamp, time),
-        Style::Raw | Style::Json => Ok(()),
+        Style::Raw | Style::Json | Style::Bytes | Style::Pcap => Ok(()),
     }
 }
 
 /// Shows the end of a stream, given whether a piece has begun that no zero ended.
-pub fn show_end<W: Write>(output: &mut W, style: Style, unfinished: bool) -> io::Result<()>
+pub fn show_end<W: Write>(output: &mut W, view: &View, unfinished: bool) -> io::Result<()>
     ensures shown { OnOk result (Appends (W.contents output.old) (W.contents output.new)
-        (shown_end style unfinished)) }
+        (shown_end view.now unfinished)) }
 {
-    if !unfinished {
+    if !unfinished || !view.filter.unfinished {
         return Ok(());
     }
-    match style {
+    match view.style {
         Style::Hex | Style::Text | Style::Hexdump => output.write_all(b"unfinished\n"),
         Style::Json => output.write_all(b"{\"kind\":\"unfinished\"}\n"),
-        Style::Raw => Ok(()),
+        Style::Raw | Style::Bytes | Style::Pcap => Ok(()),
     }
 }

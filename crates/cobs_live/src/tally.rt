@@ -23,6 +23,16 @@ pub struct Tally {
     pub checked: bool,
 }
 
+/// When the tally is written to standard error.
+#[derive(Debug, PartialEq, Eq, Clone, Copy)]
+pub struct Counting {
+    /// Whether at the end of a run, however it ends.
+    pub at_end: bool,
+
+    /// Each time that bytes come and this many milliseconds have passed, if a number is given.
+    pub every: Option<u64>,
+}
+
 impl Tally {
     ghost use Rattle.std.specs.Prelude.{List, ℕ, [], ◌∷◌, ◌++◌, ◌+◌, ◌≡◌, Option, is_some};
 

@@ -1,5 +1,7 @@
-//! Tests of `cobs_live`: readers and writers that give little, are interrupted, or fail, which no contract speaks of.
+//! Tests of `cobs_live`: readers and writers that give little, are interrupted, or fail, which no contract speaks of; and
+//! callers of its promise that a run is live.
 #![tactic(auto)]
 
+pub mod recorder;
 #[cfg(test)]
 mod tests;

@@ -1,17 +1,18 @@
 //! What the contracts leave open: that runs succeed, and what readers and writers that fail or give little lead to.
-ghost use Rattle.std.specs.Prelude.{◌≡◌, []};
-ghost use Rattle.std.specs.Io.Buffered.{writer_buffer};
+
+mod faults;
+mod live;
+mod send;
 
 use cobs_live::clock::{Stamp, Timer};
 use cobs_live::crc::{Checksum, Crc};
-use cobs_live::fault::WatchFault;
-use cobs_live::send::{self, run_send};
+use cobs_live::input::AnyInput;
 use cobs_live::show::run_show;
 use cobs_live::shown::{Filter, Settings, Style, View};
-use cobs_live::tally::Tally;
+use cobs_live::tally::{Counting, Tally};
 use std::alloc::Global;
 use std::cell::Cell;
-use std::io::{self, BufReader, BufWriter, ErrorKind, Read, Write};
+use std::io::{self, BufWriter, ErrorKind, Read};
 use std::rt::Clock;
 use std::test::Fail;
 use std::time::Duration;
@@ -19,8 +20,8 @@ use std::time::Duration;
 /// Four pieces over a buffer of four bytes, and the begin of a fifth.
 const STREAM: &[u8] = b"\x00\x03\x07\x08\x00\x05\x01\x00\x06\x01\x02\x03\x04\x05\x00\x03hi\x00\x02";
 
-/// How they are shown, by style.
-const SHOWN: [(Style, &[u8]); 5] = [
+/// How they are shown, by style; in a capture with the time of their one read, 250 ms after the start.
+const SHOWN: [(Style, &[u8]); 7] = [
     (
         Style::Hex,
         b"message 2 0708\nbroken 1\ntoo long\nmessage 2 6869\nunfinished\n",
@@ -30,6 +31,12 @@ const SHOWN: [(Style, &[u8]); 5] = [
         b"message 2 0708\nbroken 1\ntoo long\nmessage 2 hi\nunfinished\n",
     ),
     (Style::Raw, b"\x07\x08\nhi\n"),
+    (Style::Bytes, b"\x07\x08hi"),
+    (
+        Style::Pcap,
+        b"\0\0\0\0\x90\xD0\x03\0\x02\0\0\0\x02\0\0\0\x07\x08\
+        \0\0\0\0\x90\xD0\x03\0\x02\0\0\0\x02\0\0\0hi",
+    ),
     (
         Style::Hexdump,
         b"message 2\n\
@@ -41,7 +48,7 @@ const SHOWN: [(Style, &[u8]); 5] = [
         Style::Json,
         b"{\"frame\":1,\"kind\":\"message\",\"length\":2,\"hex\":\"0708\",\"text\":\"\\u0007\\u0008\"}\n\
         {\"frame\":2,\"kind\":\"broken\",\"length\":1}\n\
-        {\"frame\":3,\"kind\":\"too long\"}\n\
+        {\"frame\":3,\"kind\":\"too-long\"}\n\
         {\"frame\":4,\"kind\":\"message\",\"length\":2,\"hex\":\"6869\",\"text\":\"hi\"}\n\
         {\"kind\":\"unfinished\"}\n",
     ),
@@ -91,7 +98,7 @@ const TIMED: [(Style, Stamp, &[u8]); 4] = [
         Stamp::Start,
         b"{\"frame\":1,\"time\":1.250,\"kind\":\"message\",\"length\":2,\"hex\":\"0708\",\"text\":\"\\u0007\\u0008\"}\n\
         {\"frame\":2,\"time\":2.000,\"kind\":\"broken\",\"length\":1}\n\
-        {\"frame\":3,\"time\":3.750,\"kind\":\"too long\"}\n\
+        {\"frame\":3,\"time\":3.750,\"kind\":\"too-long\"}\n\
         {\"frame\":4,\"time\":4.750,\"kind\":\"message\",\"length\":2,\"hex\":\"6869\",\"text\":\"hi\"}\n\
         {\"kind\":\"unfinished\"}\n",
     ),
@@ -121,7 +128,7 @@ const PARTIAL: [(Style, &[u8]); 5] = [
     (
         Style::Json,
         b"{\"frame\":1,\"kind\":\"broken\",\"length\":2,\"hex\":\"6162\"}\n\
-        {\"frame\":2,\"kind\":\"too long\",\"hex\":\"76777879\"}\n\
+        {\"frame\":2,\"kind\":\"too-long\",\"hex\":\"76777879\"}\n\
         {\"frame\":3,\"kind\":\"broken\",\"length\":0}\n\
         {\"frame\":4,\"kind\":\"message\",\"length\":1,\"hex\":\"63\",\"text\":\"c\"}\n",
     ),
@@ -137,20 +144,18 @@ const SENT: [(bool, &[u8], &[u8], bool); 3] = [
     ),
     (
         true,
-        b"68690a\n\n0g\n00",
+        b"68 69\t0a\r\n\n0g\n00",
         b"\x04hi\n\x00\x01\x00\x01\x01\x00",
         false,
     ),
     (true, b"6\n", b"", false),
 ];
 
-/// Checksums of the digits 1 to 9, as the catalogue of parametrised CRC algorithms has them, highest byte first.
-const SUMS: [(Crc, &[u8]); 4] = [
-    (Crc::Crc8, b"\xF4"),
-    (Crc::Crc16CcittFalse, b"\x29\xB1"),
-    (Crc::Crc16Modbus, b"\x4B\x37"),
-    (Crc::Crc32, b"\xCB\xF4\x39\x26"),
-];
+/// Nothing is counted.
+const SILENT: Counting = Counting {
+    at_end: false,
+    every: None,
+};
 
 /// Gives one byte a read. The read numbered `failing`, from 0 on, fails.
 #[derive(Drop)]
@@ -172,33 +177,6 @@ impl Read for ByteReader<'_> {
             return Ok(0);
         }
         self.bytes.read(&mut buf[..1])
-    }
-}
-
-/// Takes one byte a write. The write numbered `failing`, from 0 on, fails.
-#[derive(Drop)]
-struct ByteWriter {
-    bytes: Vec<u8>,
-    writes: usize,
-    failing: usize,
-    fault: ErrorKind,
-}
-
-impl Write for ByteWriter {
-    fn write(&mut self, buf: &[u8]) -> io::Result<usize> {
-        let number = self.writes;
-        self.writes = number.saturating_add(1);
-        if number == self.failing {
-            return Err(self.fault.into());
-        }
-        if buf.is_empty() {
-            return Ok(0);
-        }
-        self.bytes.write(&buf[..1])
-    }
-
-    fn flush(&mut self) -> io::Result<()> {
-        Ok(())
     }
 }
 
@@ -238,15 +216,6 @@ fn reader(bytes: &[u8], failing: usize, fault: ErrorKind) -> ByteReader<'_> {
     }
 }
 
-fn writer(alloc: Global, failing: usize, fault: ErrorKind) -> ByteWriter {
-    ByteWriter {
-        bytes: Vec::new(alloc),
-        writes: 0,
-        failing,
-        fault,
-    }
-}
-
 /// How each piece is shown in a style, over a buffer of four bytes.
 fn settings(alloc: Global, style: Style, stamp: Stamp) -> Settings {
     Settings {
@@ -260,6 +229,7 @@ fn settings(alloc: Global, style: Style, stamp: Stamp) -> Settings {
                 broken: true,
                 too_long: true,
                 bad_crc: true,
+                unfinished: true,
                 min: 0,
                 max: usize::MAX,
                 prefix: Vec::new(alloc),
@@ -273,36 +243,27 @@ fn settings(alloc: Global, style: Style, stamp: Stamp) -> Settings {
     }
 }
 
-/// Shows each piece as hexadecimal digits, without times.
-fn show<R: Read, W: Write + Drop>(
-    alloc: Global,
-    input: &mut R,
-    output: &mut BufWriter<W>,
-) -> Result<Result<Tally, WatchFault>, Fail>
-    requires flushed { writer_buffer output.old ≡ [] }
-{
-    let settings = settings(alloc, Style::Hex, Stamp::Untimed);
-    Ok(run_show(
-        alloc,
-        &settings,
-        None,
-        &timer(Stamp::Untimed)?,
-        input,
-        output,
-        &mut Vec::new(alloc),
-    ))
+/// How many bytes of the text are written once this many bytes of the stream have come.
+fn written_after(read: usize) -> usize {
+    match read {
+        0..5 => 0,
+        5..8 => 15,
+        8..15 => 24,
+        15..19 => 33,
+        _ => 48,
+    }
 }
 
 #[test]
 fn a_stream_is_shown_in_each_style(rt: HostRuntime) -> Result<(), Fail> {
     let alloc = rt.alloc();
     for (style, shown) in SHOWN {
-        let mut input = STREAM;
+        let mut input = AnyInput::new(STREAM);
         let mut output = BufWriter::new(alloc, Vec::new(alloc))?;
         let tally = run_show(
             alloc,
             &settings(alloc, style, Stamp::Untimed),
-            None,
+            SILENT,
             &timer(Stamp::Untimed)?,
             &mut input,
             &mut output,
@@ -331,12 +292,12 @@ fn each_kind_has_its_colour(rt: HostRuntime) -> Result<(), Fail> {
     for (style, shown) in COLORED {
         let mut how = settings(alloc, style, Stamp::Untimed);
         how.view.color = true;
-        let mut input = STREAM;
+        let mut input = AnyInput::new(STREAM);
         let mut output = BufWriter::new(alloc, Vec::new(alloc))?;
         let done = run_show(
             alloc,
             &how,
-            None,
+            SILENT,
             &timer(Stamp::Untimed)?,
             &mut input,
             &mut output,
@@ -353,13 +314,20 @@ fn counts_are_written_after_each_interval(rt: HostRuntime) -> Result<(), Fail> {
     let alloc = rt.alloc();
     let settings = settings(alloc, Style::Hex, Stamp::Untimed);
     // A read each 250 ms, of one byte: the fourth and the eighth end a second.
-    let mut input = reader(b"\x02a\x00\x03b\x00\x02c\x00", usize::MAX, ErrorKind::Other);
+    let mut input = AnyInput::new(reader(
+        b"\x02a\x00\x03b\x00\x02c\x00",
+        usize::MAX,
+        ErrorKind::Other,
+    ));
     let mut output = BufWriter::new(alloc, Vec::new(alloc))?;
     let mut errors = Vec::new(alloc);
     let done = run_show(
         alloc,
         &settings,
-        Some(1_000),
+        Counting {
+            at_end: true,
+            every: Some(1_000),
+        },
         &timer(Stamp::Utc)?,
         &mut input,
         &mut output,
@@ -368,7 +336,9 @@ fn counts_are_written_after_each_interval(rt: HostRuntime) -> Result<(), Fail> {
     assert!(rt; done.is_ok());
     assert_eq!(rt;
         errors.as_slice(),
-        b"messages 1, broken 0, too long 0, bytes 4\nmessages 1, broken 1, too long 0, bytes 8\n".as_slice(),
+        b"messages 1, broken 0, too long 0, bytes 4\nmessages 1, broken 1, too long 0, bytes 8\n\
+        messages 2, broken 1, too long 0, bytes 9\n"
+            .as_slice(),
     );
     Ok(())
 }
@@ -377,13 +347,13 @@ fn counts_are_written_after_each_interval(rt: HostRuntime) -> Result<(), Fail> {
 fn each_piece_has_its_time(rt: HostRuntime) -> Result<(), Fail> {
     let alloc = rt.alloc();
     for (style, stamp, shown) in TIMED {
-        let mut input = reader(STREAM, usize::MAX, ErrorKind::Other);
+        let mut input = AnyInput::new(reader(STREAM, usize::MAX, ErrorKind::Other));
         let mut output = BufWriter::new(alloc, Vec::new(alloc))?;
         let settings = settings(alloc, style, stamp);
         let done = run_show(
             alloc,
             &settings,
-            None,
+            SILENT,
             &timer(stamp)?,
             &mut input,
             &mut output,
@@ -404,12 +374,12 @@ fn a_right_checksum_is_stripped_and_a_wrong_one_named(rt: HostRuntime) -> Result
         little: false,
     });
     // The digits 1 to 3 and their checksum, with a wrong one, and a message too short to have one.
-    let mut input: &[u8] = b"\x05123\xC0\x00\x05123\xC1\x00\x01\x00";
+    let mut input = AnyInput::new(b"\x05123\xC0\x00\x05123\xC1\x00\x01\x00".as_slice());
     let mut output = BufWriter::new(alloc, Vec::new(alloc))?;
     let tally = run_show(
         alloc,
         &how,
-        None,
+        SILENT,
         &timer(Stamp::Untimed)?,
         &mut input,
         &mut output,
@@ -431,12 +401,12 @@ fn what_was_decoded_of_other_pieces_is_marked(rt: HostRuntime) -> Result<(), Fai
     for (style, shown) in PARTIAL {
         let mut how = settings(alloc, style, Stamp::Untimed);
         how.view.partial = true;
-        let mut input: &[u8] = b"\x05ab\x00\x06vwxyz\x00\x05\x00\x02c\x00";
+        let mut input = AnyInput::new(b"\x05ab\x00\x06vwxyz\x00\x05\x00\x02c\x00".as_slice());
         let mut output = BufWriter::new(alloc, Vec::new(alloc))?;
         let done = run_show(
             alloc,
             &how,
-            None,
+            SILENT,
             &timer(Stamp::Untimed)?,
             &mut input,
             &mut output,
@@ -444,113 +414,6 @@ fn what_was_decoded_of_other_pieces_is_marked(rt: HostRuntime) -> Result<(), Fai
         );
         assert!(rt; done.is_ok());
         assert_eq!(rt; output.get_ref().as_slice(), shown);
-    }
-    Ok(())
-}
-
-#[test]
-fn one_byte_a_read_and_a_write_shows_the_same(rt: HostRuntime) -> Result<(), Fail> {
-    let alloc = rt.alloc();
-    for interrupted in 0..22 {
-        let mut input = reader(STREAM, interrupted, ErrorKind::Interrupted);
-        let mut output = BufWriter::new(alloc, writer(alloc, interrupted, ErrorKind::Interrupted))?;
-        let shown = show(alloc, &mut input, &mut output)?;
-        assert!(rt; shown.is_ok());
-        assert_eq!(rt; output.get_ref().bytes.as_slice(), SHOWN[0].1);
-    }
-    Ok(())
-}
-
-#[test]
-fn a_failed_read_loses_no_piece_that_had_ended(rt: HostRuntime) -> Result<(), Fail> {
-    let alloc = rt.alloc();
-    // How many bytes of the text are out once this many bytes of the stream have come.
-    let ended: [(usize, usize); 5] = [(0, 0), (5, 15), (8, 24), (15, 33), (19, 48)];
-    for failing in 0..20 {
-        let mut input = reader(STREAM, failing, ErrorKind::Other);
-        let mut output = BufWriter::new(alloc, Vec::new(alloc))?;
-        let shown = show(alloc, &mut input, &mut output)?;
-        assert_eq!(rt; shown, Err(WatchFault::ReadFailed));
-        let mut out = 0;
-        for (read, written) in ended {
-            if read <= failing {
-                out = written;
-            }
-        }
-        let text = SHOWN[0].1;
-        assert_eq!(rt; output.get_ref().as_slice(), &text[..out.min(text.len())]);
-    }
-    Ok(())
-}
-
-#[test]
-fn a_failed_write_ends_a_run(rt: HostRuntime) -> Result<(), Fail> {
-    let alloc = rt.alloc();
-    let faults = [
-        (ErrorKind::Other, WatchFault::WriteFailed),
-        (ErrorKind::BrokenPipe, WatchFault::OutputClosed),
-    ];
-    for (kind, fault) in faults {
-        for failing in 0..58 {
-            let mut input = STREAM;
-            let mut output = BufWriter::new(alloc, writer(alloc, failing, kind))?;
-            let shown = show(alloc, &mut input, &mut output)?;
-            assert!(rt; shown.is_err_and(|found| found == fault));
-            assert_eq!(rt; output.get_ref().bytes.as_slice(), &SHOWN[0].1[..failing]);
-        }
-    }
-    Ok(())
-}
-
-#[test]
-fn lines_are_sent(rt: HostRuntime) -> Result<(), Fail> {
-    let alloc = rt.alloc();
-    for (hex, lines, sent, all) in SENT {
-        let how = send::Settings {
-            hex,
-            checksum: None,
-            sentinel: 0,
-        };
-        let mut input = BufReader::new(alloc, reader(lines, usize::MAX, ErrorKind::Other))?;
-        let mut output = BufWriter::new(alloc, Vec::new(alloc))?;
-        let mut errors = Vec::new(alloc);
-        let done = run_send(alloc, &how, &mut input, &mut output, &mut errors);
-        assert_eq!(rt; done, Ok(all));
-        assert_eq!(rt; output.get_ref().as_slice(), sent);
-        assert_eq!(rt; errors.is_empty(), all);
-    }
-    Ok(())
-}
-
-#[test]
-fn a_checksum_is_behind_each_line(rt: HostRuntime) -> Result<(), Fail> {
-    let alloc = rt.alloc();
-    let how = send::Settings {
-        hex: false,
-        checksum: Some(Checksum {
-            crc: Crc::Crc16Modbus,
-            little: true,
-        }),
-        sentinel: 0,
-    };
-    let mut input: &[u8] = b"123456789\n\n";
-    let mut output = BufWriter::new(alloc, Vec::new(alloc))?;
-    let done = run_send(alloc, &how, &mut input, &mut output, &mut Vec::new(alloc));
-    assert_eq!(rt; done, Ok(true));
-    assert_eq!(rt;
-        output.get_ref().as_slice(),
-        b"\x0C123456789\x37\x4B\x00\x03\xFF\xFF\x00".as_slice()
-    );
-    Ok(())
-}
-
-#[test]
-fn checksums_are_those_of_the_catalogue(rt: HostRuntime) -> Result<(), Fail> {
-    for (crc, bytes) in SUMS {
-        let highest_first = Checksum { crc, little: false };
-        let mut room = [0; 4];
-        assert_eq!(rt; &*highest_first.sum(b"123456789", &mut room), bytes);
-        assert!(rt; highest_first.checked(bytes).is_none());
     }
     Ok(())
 }

@@ -10,7 +10,7 @@
 //! | one that decodes to more bytes than are held | `too long` |
 //!
 //! Options colour the lines, show messages as text, as bytes, as `hexdump -C` does or as JSON, number the pieces, and hold some of them
-//! back. `cobs_watch --help` lists them.
+//! back. `cobs_watch --help` lists them. With a path, the line there is shown in place of standard input.
 //!
 //! `cobs_watch send` reads lines and sends each one as a frame and its sentinel.
 //!
@@ -19,100 +19,173 @@
 //! the usage. Where nobody reads the output any more, the program ends with status 0.
 #![tactic(auto)]
 
-mod options;
+ghost use Rattle.std.specs.Prelude.{◌≡◌, [], OnOk};
+ghost use Rattle.std.specs.Io.Buffered.{writer_buffer};
 
+mod options;
+mod values;
+
+use cobs_live::capture::write_capture_head;
 use cobs_live::clock::Timer;
 use cobs_live::fault::WatchFault;
-use cobs_live::send::run_send;
+use cobs_live::input::AnyInput;
+use cobs_live::port::{Logged, Port};
+use cobs_live::send::{self, run_send};
 use cobs_live::show::run_show;
+use cobs_live::shown::Style;
 use cobs_live::tally::Tally;
-use options::{Task, task_of};
+use options::{ShowTask, Task, task_of};
+use std::cell::Cell;
 use std::env::{self, VarError};
-use std::io::{BufReader, BufWriter, IsTerminal};
+use std::fs::File;
+use std::io::{self, BufReader, BufWriter, IsTerminal, Read, Write};
 use std::process::ExitCode;
 
 /// How many bytes of output are held before they are written, 128 KiB: the digits of a chunk of input.
 const OUTPUT_LEN: usize = 131_072;
 
+/// The system's number for why a read or a write failed last, if there is one.
+type Reason = Cell<Option<i32>>;
+
 fn main(rt: HostRuntime) -> anyhow::Result<ExitCode> {
     let words: Vec<String> = env::args(&rt)?.collect(rt.alloc())?;
-    let task = match task_of(rt.alloc(), &words, auto_color(&rt)) {
-        Ok(task) => task,
+    match task_of(rt.alloc(), &words, auto_color(&rt)) {
+        Ok(Task::Show(task)) => show(&rt, &task),
+        Ok(Task::Send(settings)) => send(&rt, &settings),
         Err(error) => {
-            error.print(&rt)?;
-            return Ok(ExitCode::from(error.exit_code() as u8));
-        }
-    };
-    let mut output = BufWriter::with_capacity(rt.alloc(), OUTPUT_LEN, rt.stdout())?;
-    match task {
-        Task::Show {
-            settings,
-            count,
-            count_every,
-        } => {
-            let timer = Timer::new(&rt, settings.view.stamp)?;
-            let tally = run_show(
-                rt.alloc(),
-                &settings,
-                count_every,
-                &timer,
-                &mut rt.stdin(),
-                &mut output,
-                &mut rt.stderr(),
-            );
-            Ok(show_ended(&rt, tally, count))
-        }
-        Task::Send(settings) => {
-            let mut input = BufReader::new(rt.alloc(), rt.stdin())?;
-            let sent = run_send(
-                rt.alloc(),
-                &settings,
-                &mut input,
-                &mut output,
-                &mut rt.stderr(),
-            );
-            Ok(send_ended(&rt, sent))
+            let status = ExitCode::from(error.exit_code() as u8);
+            match error.print(&rt) {
+                Ok(()) => Ok(status),
+                Err(error) => {
+                    let reason = error.raw_os_error();
+                    Ok(faulted(&rt, error.into(), reason))
+                }
+            }
         }
     }
 }
 
-/// Whether lines have colours if the arguments leave it open: standard output is a terminal, and the variable `NO_COLOR`
-/// isn't set, or is empty.
+/// Whether lines have colours if the arguments leave it open: standard output is a terminal that has colours, and the variable
+/// `NO_COLOR` isn't set, or is empty.
 fn auto_color(rt: &HostRuntime) -> bool {
     let no_color = match env::var(rt, "NO_COLOR") {
         Ok(value) => !value.is_empty(),
         Err(error) => error != VarError::NotPresent,
     };
-    !no_color && rt.stdout().is_terminal()
+    let dumb = match env::var(rt, "TERM") {
+        Ok(value) => value.as_str() == "dumb",
+        Err(_) => false,
+    };
+    !no_color && !dumb && rt.stdout().is_terminal()
 }
 
-/// The status of a run of `show` that ended so, and what it says on standard error.
-fn show_ended(rt: &HostRuntime, tally: Result<Tally, WatchFault>, count: bool) -> ExitCode {
-    match tally {
-        Ok(tally) => {
-            if count {
-                let _ = eprintln!(rt; "{tally}");
-            }
-            ExitCode::SUCCESS
-        }
-        Err(fault) => faulted(rt, fault),
+/// Shows standard input, or the line that has a path, and returns the status.
+fn show(rt: &HostRuntime, task: &ShowTask) -> anyhow::Result<ExitCode> {
+    let reason = Cell::new(None);
+    let log = match &task.log {
+        None => None,
+        Some(path) => match File::options().append(true).create(true).open(rt, path) {
+            Ok(file) => Some(Port::new(rt, file, &reason)),
+            Err(error) => return Ok(not_opened(rt, path, &error)),
+        },
+    };
+    let output = Logged::new(Port::new(rt, rt.stdout(), &reason), log);
+    let mut output = BufWriter::with_capacity(rt.alloc(), OUTPUT_LEN, output)?;
+    if let Err(error) = begin(&mut output, task.settings.view.style) {
+        return Ok(faulted(rt, error.into(), reason.get()));
+    }
+    match &task.path {
+        None => show_input(rt, task, rt.stdin(), &reason, &mut output),
+        Some(path) => match File::open(rt, path) {
+            Ok(file) => show_input(rt, task, file, &reason, &mut output),
+            Err(error) => Ok(not_opened(rt, path, &error)),
+        },
     }
 }
 
-/// The status of a run of `send` that ended so, and what it says on standard error.
-fn send_ended(rt: &HostRuntime, sent: Result<bool, WatchFault>) -> ExitCode {
-    match sent {
-        Ok(true) => ExitCode::SUCCESS,
-        Ok(false) => ExitCode::FAILURE,
-        Err(fault) => faulted(rt, fault),
+/// Writes what a capture begins with, where that is the style.
+fn begin<W: Write + Drop>(output: &mut BufWriter<W>, style: Style) -> io::Result<()>
+    requires flushed { writer_buffer output.old ≡ [] }
+    ensures flushed { OnOk result (writer_buffer output.new ≡ []) }
+{
+    if style != Style::Pcap {
+        return Ok(());
     }
+    write_capture_head(output)?;
+    output.flush()?;
+    Ok(())
+}
+
+/// Shows what a reader gives, and returns the status.
+fn show_input<R: Read + Drop, W: Write + Drop>(
+    rt: &HostRuntime,
+    task: &ShowTask,
+    input: R,
+    reason: &Reason,
+    output: &mut BufWriter<W>,
+) -> anyhow::Result<ExitCode>
+    requires flushed { writer_buffer output.old ≡ [] }
+{
+    let timer = Timer::new(rt, task.settings.view.stamp)?;
+    let shown = run_show(
+        rt.alloc(),
+        &task.settings,
+        task.counting,
+        &timer,
+        &mut AnyInput::new(Port::new(rt, input, reason)),
+        output,
+        &mut rt.stderr(),
+    );
+    Ok(show_ended(rt, shown, reason))
+}
+
+/// The status of a run of `show` that ended so.
+fn show_ended(rt: &HostRuntime, shown: Result<Tally, WatchFault>, reason: &Reason) -> ExitCode {
+    match shown {
+        Ok(_) => ExitCode::SUCCESS,
+        Err(fault) => faulted(rt, fault, reason.get()),
+    }
+}
+
+/// Sends the lines of standard input, and returns the status.
+fn send(rt: &HostRuntime, settings: &send::Settings) -> anyhow::Result<ExitCode> {
+    let reason = Cell::new(None);
+    let output = Port::new(rt, rt.stdout(), &reason);
+    let mut output = BufWriter::with_capacity(rt.alloc(), OUTPUT_LEN, output)?;
+    let reader = BufReader::new(rt.alloc(), Port::new(rt, rt.stdin(), &reason))?;
+    let mut input = AnyInput::new(reader);
+    match run_send(
+        rt.alloc(),
+        settings,
+        &mut input,
+        &mut output,
+        &mut rt.stderr(),
+    ) {
+        Ok(true) => Ok(ExitCode::SUCCESS),
+        Ok(false) => Ok(ExitCode::FAILURE),
+        Err(fault) => Ok(faulted(rt, fault, reason.get())),
+    }
+}
+
+/// The status where a file can't be opened.
+fn not_opened(rt: &HostRuntime, path: &str, error: &io::Error) -> ExitCode {
+    let _ = eprintln!(rt; "cobs_watch: {path}: {error}");
+    ExitCode::FAILURE
 }
 
 /// The status of a run that met this fault: success where nobody reads the output any more.
-fn faulted(rt: &HostRuntime, fault: WatchFault) -> ExitCode {
+fn faulted(rt: &HostRuntime, fault: WatchFault, reason: Option<i32>) -> ExitCode {
     if fault == WatchFault::OutputClosed {
         return ExitCode::SUCCESS;
     }
-    let _ = eprintln!(rt; "cobs_watch: {fault}");
+    let _ = match reason {
+        Some(reason) if fault != WatchFault::OutOfMemory => {
+            eprintln!(rt;
+                "cobs_watch: {fault}: {}",
+                io::Error::from_raw_os_error(reason)
+            )
+        }
+        Some(_) | None => eprintln!(rt; "cobs_watch: {fault}"),
+    };
     ExitCode::FAILURE
 }

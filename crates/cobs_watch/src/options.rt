@@ -2,47 +2,77 @@
 ghost use Rattle.std.specs.Prelude.{◌≡◌, ◌≤◌, IfOk};
 ghost use Rattle.cobs_watch.specs.Options.{IsOffered};
 
-use clap::error::ErrorKind;
-use clap::{Arg, ArgAction, ArgMatches, Command, Error, value_parser};
+use crate::values::{checksum_of, filter_of, number_of, sentinel_of};
+use clap::{Arg, ArgAction, ArgMatches, Command, Error};
 use cobs_live::clock::Stamp;
-use cobs_live::crc::{Checksum, Crc};
 use cobs_live::send;
-use cobs_live::shown::{Filter, Settings, Style, View};
-use std::alloc::Global;
+use cobs_live::shown::{Settings, Style, View};
+use cobs_live::tally::Counting;
+use std::alloc::{AllocError, Global};
 
 /// The length in bytes of the longest message that may be asked for, 16 MiB.
-const MAX_LENGTH: usize = 16_777_216;
+const MAX_LENGTH: u64 = 16_777_216;
+
+/// The most seconds between two counts.
+const MAX_SECONDS: u64 = 4_294_967_295;
 
 /// The length in bytes of the longest message, where none is asked for.
 const LENGTH: &str = "65536";
 
 /// The names of checksums.
-const CRCS: [&str; 4] = ["crc-8", "crc-16-ccitt-false", "crc-16-modbus", "crc-32"];
+const CRCS: [&str; 8] = [
+    "crc-8",
+    "crc-16-ccitt-false",
+    "crc-16-modbus",
+    "crc-16-xmodem",
+    "crc-16-kermit",
+    "crc-16-arc",
+    "crc-32",
+    "crc-32c",
+];
+
+/// The kinds of pieces.
+const KINDS: [&str; 5] = ["message", "broken", "too-long", "bad-crc", "unfinished"];
+
+/// The version of the release, that of the file VERSION.
+const VERSION: &str = "1.0.0";
 
 /// Examples of `show`, below the options.
 const SHOW_EXAMPLES: &str = "Examples:
-  cobs_watch --time utc --number < /dev/ttyUSB0
-  cobs_watch --json --only message < /dev/ttyUSB0 > log.json
-  cobs_watch --crc crc-16-modbus --only bad-crc --hexdump < /dev/ttyUSB0";
+  cobs_watch --time utc --number /dev/ttyUSB0
+  cobs_watch --json --only message /dev/ttyUSB0 > log.json
+  cobs_watch --crc crc-16-modbus --only bad-crc --hexdump < /dev/ttyUSB0
+
+Set a serial line first: stty -F /dev/ttyUSB0 raw -echo 115200
+A second program sends while the first one shows: cobs_watch send > /dev/ttyUSB0";
 
 /// Examples of `send`, below the options.
 const SEND_EXAMPLES: &str = "Examples:
   printf 'ping\\n' | cobs_watch send > /dev/ttyUSB0
   cobs_watch send --crc crc-16-modbus < lines.txt > /dev/ttyUSB0
-  echo '00 ff' | tr -d ' ' | cobs_watch send --hex > /dev/ttyUSB0";
+  echo '00 ff' | cobs_watch send --hex > /dev/ttyUSB0";
 
 /// What the program is to do.
 #[derive(Debug, PartialEq, Eq, Drop)]
 pub(crate) enum Task {
-    /// Show a stream. Count what came, where it is asked for: at its end, and at intervals of this many milliseconds.
-    Show {
-        settings: Settings,
-        count: bool,
-        count_every: Option<u64>,
-    },
+    /// Show a stream.
+    Show(ShowTask),
 
     /// Send lines as frames.
     Send(send::Settings),
+}
+
+/// What is shown, and how.
+#[derive(Debug, PartialEq, Eq, Drop)]
+pub(crate) struct ShowTask {
+    pub(crate) settings: Settings,
+    pub(crate) counting: Counting,
+
+    /// The path of what is shown, if that isn't standard input.
+    pub(crate) path: Option<String>,
+
+    /// The path of a file that gets what is shown too.
+    pub(crate) log: Option<String>,
 }
 
 /// The task that the words ask for, the program's own name among them. `auto_color` says whether lines have colours if the
@@ -69,7 +99,7 @@ pub(crate) fn task_of(alloc: Global, words: &[String], auto_color: bool) -> Resu
     let send = with_checksum(alloc, send, "Append this checksum to each message")?;
     let command = with_show_options(alloc, Command::new(alloc, "cobs_watch"))?
         .about("Watch COBS frames on a live line")
-        .version("0.5.1")
+        .version(VERSION)
         .args_conflicts_with_subcommands(true)
         .subcommand(show)?
         .subcommand(send)?;
@@ -78,7 +108,7 @@ pub(crate) fn task_of(alloc: Global, words: &[String], auto_color: bool) -> Resu
         return Ok(Task::Send(send::Settings {
             hex: sent.get_flag("hex"),
             checksum: checksum_of(sent),
-            sentinel: sentinel_of(sent),
+            sentinel: sentinel_of(alloc, sent)?,
         }));
     }
     match matches.subcommand_matches("show") {
@@ -92,21 +122,15 @@ fn sentinel_option<'a>(alloc: Global) -> Arg<'a> {
     Arg::new(alloc, "sentinel")
         .long("sentinel")
         .value_name("B")
-        .value_parser(value_parser!(u8))
         .default_value("0")
         .help("The byte that ends each frame")
 }
 
-/// The sentinel that was asked for.
-fn sentinel_of(matches: &ArgMatches<'_>) -> u8 {
-    matches.get_one::<u8>("sentinel").unwrap_or(0)
-}
-
 /// The command with the options of `show`, by topics, and its examples.
 fn with_show_options<'a>(alloc: Global, command: Command<'a>) -> Result<Command<'a>, Error> {
-    let length = number_option(alloc, "length", "The longest message, in bytes")
-        .value_parser(value_parser!(u32).range(0..16_777_217))
-        .default_value(LENGTH);
+    let length = number_option(alloc, "length", "The longest message, in bytes").default_value(
+        LENGTH,
+    );
     let skip_first = flag(
         alloc,
         "skip-first",
@@ -116,7 +140,8 @@ fn with_show_options<'a>(alloc: Global, command: Command<'a>) -> Result<Command<
         alloc,
         "number",
         "Begin each line with the number of its piece; those that aren't shown are counted too",
-    );
+    )
+    .short('n');
     let command = with_styles(alloc, command.next_help_heading("Styles"))?
         .arg(number)?
         .arg(partial_option(alloc)?)?
@@ -130,7 +155,19 @@ fn with_show_options<'a>(alloc: Global, command: Command<'a>) -> Result<Command<
         .arg(length)?
         .arg(sentinel_option(alloc))?
         .arg(skip_first)?;
-    with_counts(alloc, command)
+    with_line(alloc, with_counts(alloc, command)?)
+}
+
+/// The command with the options of the line that is opened, and of the log.
+fn with_line<'a>(alloc: Global, command: Command<'a>) -> Result<Command<'a>, Error> {
+    let path = Arg::new(alloc, "path").value_name("PATH").help(
+        "The device, FIFO or file that is shown, in place of standard input",
+    );
+    let log = Arg::new(alloc, "log")
+        .long("log")
+        .value_name("FILE")
+        .help("Append what is shown to this file too");
+    Ok(command.arg(path)?.arg(log)?)
 }
 
 /// The command with the options that count.
@@ -138,12 +175,11 @@ fn with_counts<'a>(alloc: Global, command: Command<'a>) -> Result<Command<'a>, E
     let count = flag(
         alloc,
         "count",
-        "At the end, count messages, broken pieces, too long ones and bytes on standard error",
+        "At the end, also at a fault, count messages, broken pieces, too long ones and bytes on standard error",
     );
     let count_every = Arg::new(alloc, "count-every")
         .long("count-every")
         .value_name("SECONDS")
-        .value_parser(value_parser!(u32))
         .help("Count what came so far, each time that bytes come SECONDS after the last count");
     Ok(command.arg(count)?.arg(count_every)?)
 }
@@ -166,7 +202,7 @@ fn color_option<'a>(alloc: Global) -> Arg<'a> {
         .value_parser(["auto", "always", "never"].as_slice())
         .default_value("auto")
         .help(
-            "Colour what becomes of each piece; auto: if standard output is a terminal and NO_COLOR is not set",
+            "Colour what becomes of each piece; auto: on a terminal, unless NO_COLOR is set or TERM is dumb",
         )
 }
 
@@ -184,6 +220,7 @@ fn time_option<'a>(alloc: Global) -> Result<Arg<'a>, Error> {
     Ok(
         Arg::new(alloc, "time")
             .long("time")
+            .short('t')
             .value_name("CLOCK")
             .value_parser(["start", "last", "utc"].as_slice())
             .help(
@@ -199,7 +236,13 @@ fn stamp_of(matches: &ArgMatches<'_>) -> Stamp {
         Some("start") => Stamp::Start,
         Some("last") => Stamp::Last,
         Some("utc") => Stamp::Utc,
-        Some(_) | None => Stamp::Untimed,
+        Some(_) | None => {
+            if matches.get_flag("pcap") {
+                Stamp::Utc
+            } else {
+                Stamp::Untimed
+            }
+        }
     }
 }
 
@@ -220,25 +263,10 @@ fn with_checksum<'a>(
         .value_parser(["big", "little"].as_slice())
         .requires_arg("crc")?
         .help(
-            "Its first byte: the highest (big; crc-8, crc-16-ccitt-false) or the lowest (little; the others)",
+            "Its first byte: the highest (big; crc-8, -ccitt-false, -xmodem) or the lowest (little; the others)",
         );
     let command = command.next_help_heading("Checksums");
     Ok(command.arg(crc)?.arg(order)?)
-}
-
-/// The checksum that was asked for, if any.
-fn checksum_of(matches: &ArgMatches<'_>) -> Option<Checksum> {
-    let crc = match matches.get_str("crc")? {
-        "crc-8" => Crc::Crc8,
-        "crc-16-ccitt-false" => Crc::Crc16CcittFalse,
-        "crc-16-modbus" => Crc::Crc16Modbus,
-        _ => Crc::Crc32,
-    };
-    let little = match matches.get_str("crc-order") {
-        Some(order) => order == "little",
-        None => matches!(crc, Crc::Crc16Modbus | Crc::Crc32),
-    };
-    Some(Checksum { crc, little })
 }
 
 /// An option without a value.
@@ -251,11 +279,7 @@ fn flag<'a>(alloc: Global, name: &'a str, help: &'a str) -> Arg<'a> {
 
 /// An option whose value is a number.
 fn number_option<'a>(alloc: Global, name: &'a str, help: &'a str) -> Arg<'a> {
-    Arg::new(alloc, name)
-        .long(name)
-        .value_name("N")
-        .value_parser(value_parser!(u64))
-        .help(help)
+    Arg::new(alloc, name).long(name).value_name("N").help(help)
 }
 
 /// The command with the options that say how pieces are shown.
@@ -263,7 +287,7 @@ fn with_styles<'a>(alloc: Global, command: Command<'a>) -> Result<Command<'a>, E
     let text = flag(
         alloc,
         "text",
-        "Show messages as text if they are UTF-8 without control characters",
+        "Show messages as text if they are UTF-8 without hidden characters",
     )
     .conflicts_with("raw")?
     .conflicts_with("hexdump")?
@@ -281,24 +305,56 @@ fn with_styles<'a>(alloc: Global, command: Command<'a>) -> Result<Command<'a>, E
         "hexdump",
         "Show messages as `hexdump -C` does: offset, bytes, characters",
     )
+    .short('x')
     .conflicts_with("json")?;
     let json = flag(
         alloc,
         "json",
         "Show each piece as an object of JSON, on a line",
     )
+    .short('j')
     .conflicts_with("number")?;
-    Ok(command.arg(text)?.arg(raw)?.arg(hexdump)?.arg(json)?)
+    let command = command.arg(text)?.arg(raw)?.arg(hexdump)?.arg(json)?;
+    with_bare_styles(alloc, command)
+}
+
+/// With the styles that write messages alone.
+fn with_bare_styles<'a>(alloc: Global, command: Command<'a>) -> Result<Command<'a>, Error> {
+    let bytes = flag(
+        alloc,
+        "bytes",
+        "Write the bytes of messages, and nothing else",
+    );
+    let pcap = flag(
+        alloc,
+        "pcap",
+        "Write messages as a capture of libpcap, of the type USER0, with UTC times",
+    );
+    Ok(
+        command
+            .arg(alone(bytes)?)?
+            .arg(alone(pcap)?.conflicts_with("bytes")?)?,
+    )
+}
+
+/// A style that has no lines.
+fn alone<'a>(style: Arg<'a>) -> Result<Arg<'a>, AllocError> {
+    style.conflicts_with_all([
+        "text", "raw", "hexdump", "json", "number", "time", "partial",
+    ]
+    .as_slice())
 }
 
 /// The command with the options that say which pieces are shown.
 fn with_filters<'a>(alloc: Global, command: Command<'a>) -> Result<Command<'a>, Error> {
     let only = Arg::new(alloc, "only")
         .long("only")
+        .short('o')
         .value_name("KIND")
         .action(ArgAction::Append)
-        .value_parser(["message", "broken", "too-long", "bad-crc"].as_slice())
-        .help("Show pieces of this kind; give it again for another kind");
+        .value_delimiter(',')
+        .value_parser(KINDS.as_slice())
+        .help("Show pieces of this kind, or of these with commas between them");
     let min = number_option(alloc, "min", "Show pieces of at least N decoded bytes");
     let max = number_option(alloc, "max", "Show pieces of at most N decoded bytes");
     let prefix = Arg::new(alloc, "prefix")
@@ -312,8 +368,9 @@ fn with_filters<'a>(alloc: Global, command: Command<'a>) -> Result<Command<'a>, 
 fn show_task(alloc: Global, matches: &ArgMatches<'_>, auto_color: bool) -> Result<Task, Error>
     ensures offered { IfOk result IsOffered }
 {
-    let length = matches.get_one::<u32>("length").unwrap_or(65_536) as usize;
-    Ok(Task::Show {
+    let length = number_of(alloc, matches, "length", MAX_LENGTH)?.unwrap_or(0);
+    let every = number_of(alloc, matches, "count-every", MAX_SECONDS)?;
+    Ok(Task::Show(ShowTask {
         settings: Settings {
             view: View {
                 style: style_of(matches),
@@ -324,15 +381,29 @@ fn show_task(alloc: Global, matches: &ArgMatches<'_>, auto_color: bool) -> Resul
                 checksum: checksum_of(matches),
                 partial: matches.get_flag("partial"),
             },
-            length: length.min(MAX_LENGTH),
-            sentinel: sentinel_of(matches),
+            length: length.min(MAX_LENGTH) as usize,
+            sentinel: sentinel_of(alloc, matches)?,
             skip_first: matches.get_flag("skip-first"),
         },
-        count: matches.get_flag("count"),
-        count_every: matches
-            .get_one::<u32>("count-every")
-            .map(|seconds| 1_000 * u64::from(seconds)),
-    })
+        counting: Counting {
+            at_end: matches.get_flag("count"),
+            every: every.map(|seconds| seconds.saturating_mul(1_000)),
+        },
+        path: owned(alloc, matches, "path")?,
+        log: owned(alloc, matches, "log")?,
+    }))
+}
+
+/// The text of an option, if it was given.
+fn owned(
+    alloc: Global,
+    matches: &ArgMatches<'_>,
+    name: &str,
+) -> Result<Option<String>, AllocError> {
+    match matches.get_str(name) {
+        Some(text) => Ok(Some(String::from_str(alloc, text)?)),
+        None => Ok(None),
+    }
 }
 
 /// The style that was asked for.
@@ -345,29 +416,11 @@ fn style_of(matches: &ArgMatches<'_>) -> Style {
         Style::Hexdump
     } else if matches.get_flag("json") {
         Style::Json
+    } else if matches.get_flag("bytes") {
+        Style::Bytes
+    } else if matches.get_flag("pcap") {
+        Style::Pcap
     } else {
         Style::Hex
     }
-}
-
-/// The filter that was asked for.
-///
-/// # Errors
-/// An error that names the prefix if it isn't hexadecimal digits, and one if memory runs out.
-fn filter_of(alloc: Global, matches: &ArgMatches<'_>) -> Result<Filter, Error> {
-    let kinds = matches.get_strs("only").unwrap_or(&[]);
-    let prefix = matches.get_str("prefix").unwrap_or("");
-    let Ok(prefix) = hex::decode(alloc, prefix) else {
-        let message = "the value of '--prefix <HEX>' isn't pairs of hexadecimal digits";
-        return Err(Command::new(alloc, "cobs_watch").error(ErrorKind::ValueValidation, message)?);
-    };
-    Ok(Filter {
-        messages: kinds.is_empty() || kinds.contains(&"message"),
-        broken: kinds.is_empty() || kinds.contains(&"broken"),
-        too_long: kinds.is_empty() || kinds.contains(&"too-long"),
-        bad_crc: kinds.is_empty() || kinds.contains(&"bad-crc"),
-        min: matches.get_one::<u64>("min").unwrap_or(0) as usize,
-        max: matches.get_one::<u64>("max").unwrap_or(u64::MAX) as usize,
-        prefix,
-    })
 }

@@ -4,12 +4,12 @@ use Rattle.std.proofs.lemmas.Str.{IsUtf8-past_char, chars_past_char, utf8_valid_
 use Rattle.std.proofs.StrCases.{chars_of_empty}
 use Rattle.std.specs.List.{list_all}
 use Rattle.std.specs.Str.Lossy.{utf8_valid_len}
-use Rattle.std.specs.Char.{is_control}
+use Rattle.cobs_live.specs.Escaped.{is_hidden}
 use Rattle.cobs_live.specs.Shown.{is_plain}
 use Rattle.cobs_live.proofs.line.plain_text.Goals as goal
 
 no_controls : List ℕ → Bool
-no_controls cs = list_all (λ c. not (is_control c)) cs
+no_controls cs = list_all (λ c. not (is_hidden c)) cs
 
 is_plain_from : (bytes : List ℕ) → IsUtf8 bytes → no_controls (chars bytes) ≡ true → is_plain bytes ≡ true
 unfolding no_controls
@@ -19,19 +19,19 @@ none_plain : (bytes : List ℕ) → no_controls (chars bytes) ≡ false → is_p
 unfolding no_controls
 none_plain bytes some plain = sym some ∙ (and_parts (utf8_valid_len bytes == length bytes) _ plain).1
 
-pub returns-then-is_control-clause-plain : goal.returns-then-is_control-clause-plain
+pub returns-then-is_hidden-clause-plain : goal.returns-then-is_hidden-clause-plain
 unfolding no_controls
-returns-then-is_control-clause-plain c =
+returns-then-is_hidden-clause-plain c =
     let held = c.loop-c.invariant in
     let step = chars_past_char _ _ c.in-Some.c held.0 c.in-Some.ensures.steps.0 in
-    let is = sym c.is_control.ensures ∙ c.if-is_control.true in
+    let is = sym c.is_hidden.ensures.hidden ∙ c.if-is_hidden.true in
     (λ e. absurd (false≢true e), none_plain _ (sym (rw (step, is) at held.2)))
 
 pub loop-c-preserved : goal.loop-c-preserved
 loop-c-preserved c =
     let held = c.loop-c.invariant in
     let parts = c.in-Some.ensures.steps.0 in
-    let is = sym c.is_control.ensures ∙ c.if-is_control.false in
+    let is = sym c.is_hidden.ensures.hidden ∙ c.if-is_hidden.false in
     (IsUtf8-past_char _ _ c.in-Some.c held.0 parts, held.1, rw (chars_past_char _ _ c.in-Some.c held.0 parts, is) at held.2)
 
 pub returns-clause-plain : goal.returns-clause-plain

@@ -2,9 +2,9 @@ use Rattle.std.proofs.Common.{◌≡◌, not}
 use Rattle.std.specs.List.{list_all}
 use Rattle.std.specs.Str.{IsUtf8, chars}
 use Rattle.std.specs.Str.Iter.{chars_rest}
-use Rattle.std.specs.Char.{is_control}
+use Rattle.cobs_live.specs.Escaped.{is_hidden}
 use Rattle.cobs_live.proofs.line.plain_text.Given as goal
 
--- no character so far was a control character
+-- no character so far was hidden
 abbrev pub invariant-loop-c : goal.invariant-loop-c
-invariant-loop-c l = IsUtf8 (chars_rest l.c-iterator) × IsUtf8 l.fn.message × (list_all (λ c. not (is_control c)) (chars (chars_rest l.c-iterator)) ≡ list_all (λ c. not (is_control c)) (chars l.fn.message))
+invariant-loop-c l = IsUtf8 (chars_rest l.c-iterator) × IsUtf8 l.fn.message × (list_all (λ c. not (is_hidden c)) (chars (chars_rest l.c-iterator)) ≡ list_all (λ c. not (is_hidden c)) (chars l.fn.message))

@@ -1,46 +1,54 @@
-use Rattle.std.proofs.Common.{◌≡◌, ◌≢◌, ℕ, List, [], length, ap, arith, rules, IfSome}
+use Rattle.std.proofs.Common.{◌≡◌, ◌≢◌, ◌∷◌, ◌++◌, ◌∙◌, refl, ℕ, List, [], length, ap, arith, rules, IfSome}
 use Rattle.std.specs.Io.{StopsAt}
 use Rattle.std.specs.Io.BufRead.{take_through}
 use Rattle.std.specs.Io.KnownBytes.{Consumes}
 use Rattle.std.proofs.KnownBytes.{Consumes-nil, Keeps-refl}
 use Rattle.std.proofs.lemmas.List.Elements.{All-nil}
 use Rattle.std.proofs.lemmas.List.{nil_from_length}
-use Rattle.cobs_live.proofs.SendLemmas.{SentSoFar-start, SentSoFar-more, SentSoFar-skipped, send_failed, sent_all, unsent}
+use Rattle.std.specs.Io.Buffered.{writer_buffer, writer_inner}
+use Rattle.cobs_live.specs.Reads.{Read, came}
+use Rattle.cobs_live.proofs.ReadLemmas.{came-push, live-none}
+use Rattle.cobs_live.proofs.SendLemmas.{live-read, SentSoFar-start, SentSoFar-more, SentSoFar-skipped, send_failed, sent_all, unsent}
 use Rattle.cobs_live.proofs.send.run_send.Goals as goal
 use Rattle.cobs_live.proofs.send.run_send.Goals.{then-not-branch, else-not-branch}
 
 pub by_line-init : goal.by_line-init
-by_line-init g c = record { so_far = SentSoFar-start _ _ _; flushed = c.requires.flushed }
+by_line-init g c = record { live = record { so_far = SentSoFar-start _ _ _; live = live-none _ _ _; same = refl }; flushed = c.requires.flushed }
 
 pub returns-then-count-eq0 : goal.returns-then-count-eq0
 returns-then-count-eq0 g c =
     let none : c.in-Ok.count ≡ 0 = c.if-count-eq0.true in
-    let nothing : c.read_until.new.buf.items ≡ [] = nil_from_length _ (omega (arith, c.in-Ok.ensures.ok, c.clear.ensures.len, none, c.read_until.new.buf.ok.0)) in
+    let nothing : c.read_line_beside.new.line.items ≡ [] = nil_from_length _ (omega (arith, c.in-Ok.ensures.ok, c.clear.ensures.len, none, c.read_line_beside.new.line.ok.0)) in
     let start : c.clear.new.self.items ≡ [] = c.clear.ensures.items in
-    let consumed : Consumes (g.B.Read.remaining c.by_line.input) (g.B.Read.remaining c.read_until.new.self) c.read_until.new.buf.items = rw start at c.in-Ok.ensures.none_lost in
+    let consumed : Consumes (g.S.LiveLines.remaining c.by_line.input) (g.S.LiveLines.remaining c.read_line_beside.new.self) c.read_line_beside.new.line.items = rw start at c.in-Ok.ensures.none_lost in
     record {
-      sent = sent_all _ _ _ _ _ _ _ _ c.by_line.invariant.so_far consumed nothing (c.in-Ok.ensures.end none);
+      sent = sent_all _ _ _ _ _ _ _ _ c.by_line.invariant.live.so_far consumed nothing (c.in-Ok.ensures.end none);
+      live = live-read _ c.by_line.invariant.live c.in-Ok.ensures.step c.by_line.invariant.flushed refl;
       flushed = c.by_line.invariant.flushed;
     }
 
 pub by_line-preserved : goal.by_line-preserved
 by_line-preserved g c =
     let sent = c.in_ok-send_text.ensures.sent in
-    let line : List ℕ = c.read_until.new.buf.items in
+    let line : List ℕ = c.read_line_beside.new.line.items in
     let start : c.clear.new.self.items ≡ [] = c.clear.ensures.items in
-    let some : line ≢ [] = (λ none. let more = c.if-count-eq0.false in let l : length line ≡ 0 = ap length none in absurd (more (omega (arith, c.in-Ok.ensures.ok, c.clear.ensures.len, l, c.read_until.new.buf.ok.0)))) in
+    let some : line ≢ [] = (λ none. let more = c.if-count-eq0.false in let l : length line ≡ 0 = ap length none in absurd (more (omega (arith, c.in-Ok.ensures.ok, c.clear.ensures.len, l, c.read_line_beside.new.line.ok.0)))) in
     let stops : StopsAt line 10 = rw start at c.in-Ok.ensures.stops in
-    let through : IfSome (g.B.Read.remaining c.by_line.input) (λ xs. line ≡ take_through 10 xs) = rw start at c.in-Ok.ensures.bytes in
-    let consumed : Consumes (g.B.Read.remaining c.by_line.input) (g.B.Read.remaining c.read_until.new.self) line = rw start at c.in-Ok.ensures.none_lost in
+    let through : IfSome (g.S.LiveLines.remaining c.by_line.input) (λ xs. line ≡ take_through 10 xs) = rw start at c.in-Ok.ensures.bytes in
+    let consumed : Consumes (g.S.LiveLines.remaining c.by_line.input) (g.S.LiveLines.remaining c.read_line_beside.new.self) line = rw start at c.in-Ok.ensures.none_lost in
     let written = rw (c.without_newline.ensures.text, c.deref.ensures.value) at sent.1 in
     let answer = rw (c.without_newline.ensures.text, c.deref.ensures.value) at c.in_ok-send_text.ensures.answer in
+    let read : Read = record { back = writer_buffer c.by_line.output; written = g.W.Write.contents (writer_inner c.by_line.output); came = line } in
+    let step : g.S.LiveLines.step c.by_line.input read c.read_line_beside.new.self = rw start at c.in-Ok.ensures.step in
+    let live = live-read read c.by_line.invariant.live step c.by_line.invariant.flushed refl in
+    let same : came live.reads ≡ c.by_line.invariant.live.so_far.lines ++ line ∷ [] = came-push c.by_line.invariant.live.live.reads read ∙ ap (λ (ls : List (List ℕ)). ls ++ line ∷ []) c.by_line.invariant.live.same in
     elim c.if-not-branch.branch [
       | then-not-branch w ↦ record {
-        so_far = SentSoFar-skipped line sent.0 c.by_line.invariant.so_far some through c.in-Ok.ensures.rest stops consumed written sent.2 _ w.all_sent-is (λ sendable. let yes = answer.1 sendable in let no = w.if-not-branch.true in cc);
+        live = record { live = live; same = same; so_far = SentSoFar-skipped line sent.0 c.by_line.invariant.live.so_far some through c.in-Ok.ensures.rest stops consumed written sent.2 _ w.all_sent-is (λ sendable. let yes = answer.1 sendable in let no = w.if-not-branch.true in cc) };
         flushed = c.in_ok-send_text.ensures.flushed;
       }
       | else-not-branch w ↦ record {
-        so_far = SentSoFar-more line sent.0 c.by_line.invariant.so_far some through c.in-Ok.ensures.rest stops consumed written sent.2 _ w.all_sent-is (answer.0 w.if-not-branch.false);
+        live = record { live = live; same = same; so_far = SentSoFar-more line sent.0 c.by_line.invariant.live.so_far some through c.in-Ok.ensures.rest stops consumed written sent.2 _ w.all_sent-is (answer.0 w.if-not-branch.false) };
         flushed = c.in_ok-send_text.ensures.flushed;
       }
     ]
@@ -48,13 +56,17 @@ by_line-preserved g c =
 pub returns-in_default : goal.returns-in_default
 returns-in_default g c =
     record {
-      sent = unsent _ _ _ _ _ _ _ _ _ c.by_line.invariant.so_far (rw c.clear.ensures.items at c.in_default.ensures.stops) (rw c.clear.ensures.items at c.in_default.ensures.none_lost) (Keeps-refl _);
+      sent = unsent _ _ _ _ _ _ _ _ _ c.by_line.invariant.live.so_far (rw c.clear.ensures.items at c.in_default.ensures.stops) (rw c.clear.ensures.items at c.in_default.ensures.none_lost) (Keeps-refl _);
+      live = live-read _ c.by_line.invariant.live c.in_default.ensures.step c.by_line.invariant.flushed refl;
       flushed = c.by_line.invariant.flushed;
     }
 
 pub returns-in_err-send_text-clause-sent : goal.returns-in_err-send_text-clause-sent
 returns-in_err-send_text-clause-sent g c =
-    send_failed _ _ _ _ _ _ _ _ _ _ (search rules) c.by_line.invariant.so_far (rw c.clear.ensures.items at c.in-Ok.ensures.stops) (rw c.clear.ensures.items at c.in-Ok.ensures.none_lost)
+    send_failed _ _ _ _ _ _ _ _ _ _ (search rules) c.by_line.invariant.live.so_far (rw c.clear.ensures.items at c.in-Ok.ensures.stops) (rw c.clear.ensures.items at c.in-Ok.ensures.none_lost)
 
 pub returns-clause-sent : goal.returns-clause-sent
-returns-clause-sent g c = unsent _ _ _ _ _ _ _ _ [] c.by_line.invariant.so_far (All-nil (λ (b : ℕ). b ≢ 10)) (Consumes-nil _) (Keeps-refl _)
+returns-clause-sent g c = unsent _ _ _ _ _ _ _ _ [] c.by_line.invariant.live.so_far (All-nil (λ (b : ℕ). b ≢ 10)) (Consumes-nil _) (Keeps-refl _)
+
+pub returns-in_err-send_text-clause-live : goal.returns-in_err-send_text-clause-live
+returns-in_err-send_text-clause-live g c = live-read _ c.by_line.invariant.live c.in-Ok.ensures.step c.by_line.invariant.flushed refl

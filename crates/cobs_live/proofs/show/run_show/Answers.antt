@@ -1,19 +1,25 @@
-use Rattle.std.proofs.Common.{rules}
-use Rattle.cobs_live.proofs.RunLemmas.{shown-fault}
+use Rattle.std.proofs.Common.{rules, [], Some}
+use Rattle.cobs_live.proofs.RunLemmas.{HasShownSoFar-live, shown-fault}
 use Rattle.cobs_live.proofs.show.run_show.Goals as goal
 
 pub by_read-init : goal.by_read-init
-by_read-init g c = record { so_far = c.in_ok-watch.ensures.start _ _; flushed = c.requires.flushed; chunk = c.in_ok-chunk.ensures.len }
+by_read-init g c = record { live = HasShownSoFar-live _ _ _ (c.in_ok-watch.ensures.start (Some []) _); flushed = c.requires.flushed; chunk = c.in_ok-chunk.ensures.len }
 
-pub returns-in_err-show_next-clause-shown : goal.returns-in_err-show_next-clause-shown
-returns-in_err-show_next-clause-shown g c = shown-fault _ _ _ _ _ _ c.in_err-show_next.field-0.0 (search rules) (c.in_err-show_next.ensures.shown _ _ _ c.by_read.invariant.so_far)
+pub returns-in_err-next-clause-shown : goal.returns-in_err-next-clause-shown
+returns-in_err-next-clause-shown g c = shown-fault _ _ _ _ _ _ c.in_err-next.field-0.0 (search rules) (c.in_err-next.ensures.shown _ _ _ c.by_read.invariant.live.so_far)
+
+pub returns-in_err-next-clause-live : goal.returns-in_err-next-clause-live
+returns-in_err-next-clause-live g c = c.in_err-next.ensures.live _ _ _ _ c.by_read.invariant.live
 
 pub returns-then-not-branch-clause-shown : goal.returns-then-not-branch-clause-shown
-returns-then-not-branch-clause-shown g c = rw c.if-not-branch.true at (c.in_ok-show_next.ensures.shown _ _ _ c.by_read.invariant.so_far)
+returns-then-not-branch-clause-shown g c = rw c.if-not-branch.true at (c.in_ok-next.ensures.shown _ _ _ c.by_read.invariant.live.so_far)
+
+pub returns-then-not-branch-clause-live : goal.returns-then-not-branch-clause-live
+returns-then-not-branch-clause-live g c = c.in_ok-next.ensures.live _ _ _ _ c.by_read.invariant.live
 
 pub by_read-preserved : goal.by_read-preserved
 by_read-preserved g c = record {
-  so_far = rw c.if-not-branch.false at (c.in_ok-show_next.ensures.shown _ _ _ c.by_read.invariant.so_far);
-  flushed = c.in_ok-show_next.ensures.flushed;
+  live = c.in_ok-next.ensures.goes_on c.if-not-branch.false _ _ _ _ c.by_read.invariant.live;
+  flushed = c.in_ok-next.ensures.flushed;
   chunk = c.by_read.invariant.chunk;
 }

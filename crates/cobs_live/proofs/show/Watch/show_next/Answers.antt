@@ -6,7 +6,7 @@ use Rattle.cobs.specs.Fields.Decoders.{phase_of}
 use Rattle.cobs.specs.Sentinel.{xor_each}
 use Rattle.cobs.specs.Stream.{unended}
 use Rattle.cobs_live.specs.Watched.{begun, skips_on, stream_of}
-use Rattle.cobs_live.proofs.RunLemmas.{flushed-Appends, more-ended, more-left, more-read, more-skips, more-tallied, more-timed, newly, same-tallied, shown-all}
+use Rattle.cobs_live.proofs.RunLemmas.{flushed-Appends, more-ended, more-left, more-read, more-skips, more-tallied, more-timed, given-next, live-next, newly, same-tallied, shown-all}
 use Rattle.cobs_live.proofs.show.Watch.show_next.Goals as goal
 
 pub returns-then-count-eq0-clause-shown : goal.returns-then-count-eq0-clause-shown
@@ -41,3 +41,32 @@ returns-clause-shown g c = λ settings from before s.
       same = s.same;
       skips = c.behind_first-bytes.ensures.skips ∙ ap (skips_on c.args.self.now.skipping) changed ∙ more-skips (assumption c.law_9.ensures) s more;
     }
+
+pub returns-clause-goes_on : goal.returns-clause-goes_on
+unfolding returns-clause-shown
+returns-clause-goes_on g c = λ yes settings start from before s. record {
+  so_far = returns-clause-shown g c settings from before s.so_far;
+  live = live-next s c.in_ok-count.ensures.once;
+  given = given-next s c.in_ok-count.ensures.once;
+}
+
+pub returns-clause-live : goal.returns-clause-live
+returns-clause-live g c = λ settings start from before s. live-next s c.in_ok-count.ensures.once
+
+pub returns-then-count-eq0-clause-live : goal.returns-then-count-eq0-clause-live
+returns-then-count-eq0-clause-live g c = λ settings start from before s. live-next s c.in_ok-count.ensures.once
+
+pub returns-in_err-count-clause-live : goal.returns-in_err-count-clause-live
+returns-in_err-count-clause-live g c = λ settings start from before s. live-next s c.in_err-count.ensures.once
+
+pub returns-in_err-show_end-clause-live : goal.returns-in_err-show_end-clause-live
+returns-in_err-show_end-clause-live g c = λ settings start from before s. live-next s c.in_ok-count.ensures.once
+
+pub returns-in_err-flush-clause-live : goal.returns-in_err-flush-clause-live
+returns-in_err-flush-clause-live g c = λ settings start from before s. live-next s c.in_ok-count.ensures.once
+
+pub returns-in_err-show_bytes-clause-live : goal.returns-in_err-show_bytes-clause-live
+returns-in_err-show_bytes-clause-live g c = λ settings start from before s. live-next s c.in_ok-count.ensures.once
+
+pub returns-in_err-flush-2-clause-live : goal.returns-in_err-flush-2-clause-live
+returns-in_err-flush-2-clause-live g c = λ settings start from before s. live-next s c.in_ok-count.ensures.once

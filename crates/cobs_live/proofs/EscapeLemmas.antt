@@ -1,0 +1,64 @@
+-- Lemmas on text as a string of JSON has it.
+use Rattle.std.proofs.Common.{◌≡◌, ◌<◌, ◌==◌, ◌||◌, nat_lt, true, false, ℕ, List, [], ◌∷◌, ◌++◌, All, IsTrue, Option, length, take, drop, refl, sym, ap, subst, ◌∙◌, arith, chars, IsUtf8, rules, append_assoc, append-nil}
+use Rattle.std.specs.Io.KnownBytes.{Appends}
+use Rattle.std.proofs.KnownBytes.{Appends-trans}
+use Rattle.std.proofs.lemmas.List.{nil_from_length, take-append-drop}
+use Rattle.std.specs.Char.{encode_utf8}
+use Rattle.std.specs.List.{flat_map}
+use Rattle.std.proofs.lemmas.List.Concat.{flat_map-cons}
+use Rattle.std.proofs.lemmas.List.Elements.{All-head, All-tail}
+use Rattle.std.proofs.lemmas.Str.{IsUtf8-past_char, chars-nil, chars_past_char, encode_ascii}
+use Rattle.cobs_live.specs.Escaped.{WritesFront, escaped, is_hidden, is_plain_byte, text_escaped}
+
+pub char_escaped : (text rest : List ℕ) (c : ℕ) → IsUtf8 text → text ≡ encode_utf8 c ++ rest → text_escaped text ≡ escaped c ++ text_escaped rest
+char_escaped text rest c u e = ap (λ (cs : List ℕ). flat_map escaped cs) (chars_past_char text rest c u e) ∙ flat_map-cons escaped c (chars rest)
+
+pub plain_below : (b : ℕ) → IsTrue (is_plain_byte b) → b < 128
+plain_below b h = grind arith
+
+plain_unseen : (b : ℕ) → IsTrue (is_plain_byte b) → is_hidden b ≡ false
+plain_unseen b h =
+    let below : nat_lt b 127 ≡ true = grind arith in
+    let above : nat_lt b 32 ≡ false = grind arith in
+    rw below above
+
+plain_unquoted : (b : ℕ) → IsTrue (is_plain_byte b) → ((b == 34) || (b == 92)) ≡ false
+plain_unquoted b h = grind arith
+
+plain_escaped : (b : ℕ) → IsTrue (is_plain_byte b) → escaped b ≡ b ∷ []
+plain_escaped b h = rw (plain_unseen b h, plain_unquoted b h) (encode_ascii b (plain_below b h))
+
+-- a run of bytes that need no escape is written as it is
+pub run_escaped : (run rest : List ℕ) → IsUtf8 (run ++ rest) → All (λ byte. IsTrue (is_plain_byte byte)) run → text_escaped (run ++ rest) ≡ run ++ text_escaped rest
+run_escaped [] rest u all = refl
+run_escaped (b ∷ run) rest u all =
+    let plain : IsTrue (is_plain_byte b) = All-head (λ byte. IsTrue (is_plain_byte byte)) b run all in
+    let first : (b ∷ (run ++ rest)) ≡ encode_utf8 b ++ (run ++ rest) = ap (λ (l : List ℕ). l ++ (run ++ rest)) (sym (encode_ascii b (plain_below b plain))) in
+    let later = IsUtf8-past_char (b ∷ (run ++ rest)) (run ++ rest) b u first in
+    char_escaped (b ∷ (run ++ rest)) (run ++ rest) b u first ∙ ap (λ (l : List ℕ). l ++ text_escaped (run ++ rest)) (plain_escaped b plain) ∙ ap (λ (l : List ℕ). b ∷ l) (run_escaped run rest later (All-tail (λ byte. IsTrue (is_plain_byte byte)) b run all))
+
+-- a text without its front
+front_run : (text : List ℕ) (run : ℕ) → IsUtf8 text → All (λ byte. IsTrue (is_plain_byte byte)) (take run text) → text_escaped text ≡ take run text ++ text_escaped (drop run text)
+front_run text run u all =
+    let whole : take run text ++ drop run text ≡ text = take-append-drop run text in
+    ap text_escaped (sym whole) ∙ run_escaped (take run text) (drop run text) (subst IsUtf8 (sym whole) u) all
+
+pub front_escaped : (text rest : List ℕ) (run c : ℕ) → IsUtf8 text → IsUtf8 (drop run text) → All (λ byte. IsTrue (is_plain_byte byte)) (take run text) → drop run text ≡ encode_utf8 c ++ rest → text_escaped text ≡ (take run text ++ escaped c) ++ text_escaped rest
+front_escaped text rest run c u v all split =
+    front_run text run u all ∙ ap (λ (l : List ℕ). take run text ++ l) (char_escaped (drop run text) rest c v split) ∙ sym (append_assoc (take run text) (escaped c) (text_escaped rest))
+
+pub front_ended : (text : List ℕ) (run : ℕ) → IsUtf8 text → All (λ byte. IsTrue (is_plain_byte byte)) (take run text) → length (drop run text) ≡ 0 → text_escaped text ≡ take run text ++ text_escaped []
+front_ended text run u all none = front_run text run u all ∙ ap (λ (l : List ℕ). take run text ++ text_escaped l) (nil_from_length (drop run text) none)
+
+pub front-more : {a b c : Option (List ℕ)} {text rest left : List ℕ} → WritesFront a b text rest → WritesFront b c rest left → WritesFront a c text left
+front-more {a} {b} {c} {text} {rest} {left} s t = record {
+  done = s.done ++ t.done;
+  written = Appends-trans _ _ _ _ _ s.written t.written;
+  is = s.is ∙ ap (λ (l : List ℕ). s.done ++ l) t.is ∙ sym (append_assoc s.done t.done (text_escaped left));
+}
+
+pub front-end : {a b : Option (List ℕ)} {text rest : List ℕ} → WritesFront a b text rest → length rest ≡ 0 → Appends a b (text_escaped text)
+front-end {a} {b} {text} {rest} s none =
+    let empty : text_escaped rest ≡ [] = ap text_escaped (nil_from_length rest none) ∙ ap (λ (cs : List ℕ). flat_map escaped cs) chars-nil in
+    let is : text_escaped text ≡ s.done = s.is ∙ ap (λ (l : List ℕ). s.done ++ l) empty ∙ append-nil s.done in
+    subst (λ (l : List ℕ). Appends a b l) (sym is) s.written

@@ -1,0 +1,20 @@
+use Rattle.std.proofs.Common.{refl, arith}
+use Rattle.std.proofs.KnownBytes.{Keeps-refl, Keeps-trans}
+use Rattle.cobs_live.proofs.ReadLemmas.{once-more, once-none}
+use Rattle.cobs_live.proofs.show.read_chunk.Goals as goal
+
+pub by_try-init : goal.by_try-init
+by_try-init g c = record { once = once-none _ _ _; kept = Keeps-refl _; len = refl }
+
+pub by_try-preserved : goal.by_try-preserved
+by_try-preserved g c = record {
+  once = once-more _ c.by_try.invariant.once c.in-Err.ensures.step c.requires.flushed refl;
+  kept = Keeps-trans _ _ _ c.by_try.invariant.kept c.in-Err.ensures.bytes;
+  len = omega arith;
+}
+
+pub returns-in-Ok-clause-once : goal.returns-in-Ok-clause-once
+returns-in-Ok-clause-once g c = once-more _ c.by_try.invariant.once c.in-Ok.ensures.step c.requires.flushed refl
+
+pub returns-then-ne-clause-once : goal.returns-then-ne-clause-once
+returns-then-ne-clause-once g c = once-more _ c.by_try.invariant.once c.in-Err.ensures.step c.requires.flushed refl

@@ -1,0 +1,35 @@
+//! A capture of messages, in the format of libpcap, which Wireshark reads.
+ghost use Rattle.std.specs.Prelude.{◌≡◌, OnOk};
+ghost use Rattle.std.specs.Io.KnownBytes.{Appends};
+ghost use Rattle.cobs_live.specs.Capture.{capture_head, record_head, word};
+
+use std::io::{self, Write};
+
+/// Writes what a capture begins with.
+pub fn write_capture_head<W: Write>(output: &mut W) -> io::Result<()>
+    ensures written { OnOk result
+        (Appends (W.contents output.old) (W.contents output.new) capture_head) }
+{
+    output.write_all(&[
+        0xD4, 0xC3, 0xB2, 0xA1, 2, 0, 4, 0, 0, 0, 0, 0, 0, 0, 0, 0, 0, 0, 0, 1, 147, 0, 0, 0,
+    ])
+}
+
+/// Writes what a record begins with, by the time in milliseconds since 1970 and the number of bytes.
+pub fn write_record_head<W: Write>(output: &mut W, time: u64, len: usize) -> io::Result<()>
+    ensures written { OnOk result
+        (Appends (W.contents output.old) (W.contents output.new) (record_head time len)) }
+{
+    write_word(output, time / 1000)?;
+    write_word(output, time % 1000 * 1000)?;
+    write_word(output, len as u64)?;
+    write_word(output, len as u64)
+}
+
+/// Writes the lowest 32 bits of a number, the lowest byte first.
+fn write_word<W: Write>(output: &mut W, number: u64) -> io::Result<()>
+    ensures written { OnOk result
+        (Appends (W.contents output.old) (W.contents output.new) (word number)) }
+{
+    output.write_all(&((number % 0x1_0000_0000) as u32).to_le_bytes())
+}

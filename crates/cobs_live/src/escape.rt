@@ -1,0 +1,109 @@
+//! Text as a string of JSON has it, without characters that a terminal acts on.
+ghost use Rattle.std.specs.Prelude.{◌≡◌, ◌<◌, All, IfOk, IsTrue, OnOk, length, take};
+ghost use Rattle.std.specs.Io.KnownBytes.{Appends};
+ghost use Rattle.std.specs.Str.{IsCharBoundary};
+ghost use Rattle.cobs_live.specs.Escaped.{WritesFront, char_escape, escaped, is_hidden, is_plain_byte, text_escaped, unit_escape};
+
+use cobs_lines::write_digits;
+use std::io::{self, Write};
+use unicode::properties::GeneralCategory;
+
+/// Whether a character is a control character, or formats text or separates lines unseen.
+pub fn is_hidden(c: char) -> bool
+    ensures hidden { result ≡ is_hidden c }
+{
+    let code = u32::from(c);
+    if code < 127 {
+        return code < 32;
+    }
+    let category = GeneralCategory::for_char(c);
+    category == GeneralCategory::Control
+        || category == GeneralCategory::Format
+        || category == GeneralCategory::LineSeparator
+        || category == GeneralCategory::ParagraphSeparator
+}
+
+/// Writes a text as a string of JSON has it.
+pub fn write_escaped<W: Write>(output: &mut W, text: &str) -> io::Result<()>
+    ensures written { OnOk result (Appends (W.contents output.old) (W.contents output.new)
+        (text_escaped text.now)) }
+{
+    let mut rest = text;
+    'by_run: while !rest.is_empty() {
+        rest = write_run(output, rest)?;
+    }
+    Ok(())
+}
+
+/// Writes as much at once as needs no escape, and the character behind it, and returns the rest.
+fn write_run<'a, W: Write>(output: &mut W, text: &'a str) -> io::Result<&'a str>
+    ensures written { IfOk result (λ rest. WritesFront (W.contents output.old) (W.contents output.new) text.now rest.now) }
+    ensures shorter { IfOk result (λ rest. 0 < length text.now → length rest.now < length text.now) }
+{
+    let run = plain_run(text);
+    output.write_all(&text.as_bytes()[..run])?;
+    let mut chars = text[run..].chars();
+    match chars.next() {
+        Some(c) => {
+            write_char(output, c)?;
+            Ok(chars.as_str())
+        }
+        None => Ok(""),
+    }
+}
+
+/// How many bytes at the front are characters of ASCII that need no escape.
+fn plain_run(text: &str) -> usize
+    ensures boundary { IsCharBoundary text.now result }
+    ensures plain { All (λ byte. IsTrue (is_plain_byte byte)) (take result text.now) }
+{
+    let bytes = text.as_bytes();
+    for (i, byte) in bytes.iter().enumerate() {
+        if !is_plain_byte(*byte) {
+            return i;
+        }
+    }
+    bytes.len()
+}
+
+/// Whether a byte is a character of ASCII that needs no escape.
+fn is_plain_byte(byte: u8) -> bool
+    ensures plain { result ≡ is_plain_byte byte }
+{
+    32 <= byte && byte < 127 && byte != b'"' && byte != b'\\'
+}
+
+/// Writes a character as a string of JSON has it.
+fn write_char<W: Write>(output: &mut W, c: char) -> io::Result<()>
+    ensures written { OnOk result
+        (Appends (W.contents output.old) (W.contents output.new) (escaped c)) }
+{
+    if is_hidden(c) {
+        return write_escape(output, u32::from(c));
+    }
+    if c == '"' || c == '\\' {
+        output.write_all(b"\\")?;
+    }
+    output.write_all(c.encode_utf8(&mut [0; 4]).as_bytes())
+}
+
+/// Writes the escape of a character: its code, or those of two surrogates.
+fn write_escape<W: Write>(output: &mut W, code: u32) -> io::Result<()>
+    ensures written { OnOk result
+        (Appends (W.contents output.old) (W.contents output.new) (char_escape code)) }
+{
+    if code < 65_536 {
+        return write_unit(output, code as u16);
+    }
+    write_unit(output, (0xD800 + (code - 65_536) / 1024 % 1024) as u16)?;
+    write_unit(output, (0xDC00 + code % 1024) as u16)
+}
+
+/// Writes the escape of a code of sixteen bits.
+fn write_unit<W: Write>(output: &mut W, unit: u16) -> io::Result<()>
+    ensures written { OnOk result
+        (Appends (W.contents output.old) (W.contents output.new) (unit_escape unit)) }
+{
+    output.write_all(b"\\u")?;
+    write_digits(output, &[(unit / 256) as u8, (unit % 256) as u8])
+}

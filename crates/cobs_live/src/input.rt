@@ -1,0 +1,104 @@
+//! Inputs that are read beside an output.
+ghost use Rattle.std.specs.Prelude.{◌≡◌, ◌+◌, ◌++◌, List, Option, ℕ, IfOk, OnOk, IfSome, vec_len};
+ghost use Rattle.std.specs.Io.{ReadsAtMost, StopsAt, appended_bytes};
+ghost use Rattle.std.specs.Io.BufRead.{take_through, DropsThrough};
+ghost use Rattle.std.specs.Io.Buffered.{writer_buffer, writer_inner};
+ghost use Rattle.std.specs.Io.KnownBytes.{Consumes, IsAtEnd, ReadConsumes};
+ghost use Rattle.cobs_live.specs.Reads.{Read as ReadEvent, given};
+
+use std::io::{self, BufRead, BufWriter, Read, Write};
+
+/// An input that is read while an output waits.
+///
+/// Contracts see it by its own relation of steps: a read, with what the output held when it was made, takes it from one
+/// state to the next. So a theorem over any such input says what had left the program at each read.
+pub trait LiveInput<W: Write + Drop> {
+    /// The bytes that reads will give from here on, where they are known.
+    ghost remaining: { Self → Option (List ℕ) };
+
+    /// Whether this read may take the input from the one state to the other.
+    ghost step: { Self → ReadEvent → Self → Type 0 };
+
+    /// Reads once, as `Read::read` does.
+    fn read_beside(&mut self, output: &BufWriter<W>, chunk: &mut [u8]) -> io::Result<usize>
+        ensures bound { ReadsAtMost result chunk.new }
+        ensures bytes { ReadConsumes (remaining self.old) (remaining self.new) result chunk.new }
+        ensures step { step self.old (record {
+          back = writer_buffer output.now;
+          written = W.contents (writer_inner output.now);
+          came = given result chunk.new;
+        }) self.new };
+}
+
+/// An input that is read line by line while an output waits, seen as `LiveInput` is: a read is that of one line.
+pub trait LiveLines<W: Write + Drop> {
+    /// The bytes that reads will give from here on, where they are known.
+    ghost remaining: { Self → Option (List ℕ) };
+
+    /// Whether this read may take the input from the one state to the other.
+    ghost step: { Self → ReadEvent → Self → Type 0 };
+
+    /// Reads through the next newline, or to the end, and puts the bytes behind those of `line`, as `BufRead::read_until` does.
+    fn read_line_beside(&mut self, output: &BufWriter<W>, line: &mut Vec<u8>) -> io::Result<usize>
+        ensures ok { IfOk result (λ n. vec_len line.new ≡ vec_len line.old + n) }
+        ensures stops { StopsAt (appended_bytes line.old.items line.new.items) 10 }
+        ensures bytes { OnOk result (IfSome (remaining self.old)
+            (λ xs. line.new.items ≡ line.old.items ++ take_through 10 xs)) }
+        ensures rest { OnOk result (DropsThrough (remaining self.old) (remaining self.new) 10) }
+        ensures end { IfOk result (λ n. n ≡ 0 → IsAtEnd (remaining self.old)) }
+        ensures none_lost { Consumes (remaining self.old) (remaining self.new)
+            (appended_bytes line.old.items line.new.items) }
+        ensures step { step self.old (record {
+          back = writer_buffer output.now;
+          written = W.contents (writer_inner output.now);
+          came = appended_bytes line.old.items line.new.items;
+        }) self.new };
+}
+
+/// Any reader as an input: a read is one of the reader's own, whatever the output holds.
+#[derive(Drop)]
+pub struct AnyInput<R> {
+    reader: R,
+}
+
+impl<R> AnyInput<R> {
+    ghost use Rattle.std.specs.Prelude.{◌≡◌};
+    ghost use Rattle.cobs_live.specs.Reads.{reader_of};
+
+    /// Makes an input of this reader.
+    pub fn new(reader: R) -> Self
+        ensures reader { reader_of result ≡ reader }
+    {
+        AnyInput { reader }
+    }
+}
+
+impl<R: Read, W: Write + Drop> LiveInput<W> for AnyInput<R> {
+    ghost use Rattle.std.specs.Io.KnownBytes.{Consumes};
+    ghost use Rattle.cobs_live.specs.Reads.{reader_of};
+
+    ghost remaining = { λ input. R.remaining (reader_of input) };
+
+    ghost step = { λ from read to. Consumes (R.remaining (reader_of from)) (R.remaining (reader_of to)) read.came };
+
+    fn read_beside(&mut self, _output: &BufWriter<W>, chunk: &mut [u8]) -> io::Result<usize> {
+        self.reader.read(chunk)
+    }
+}
+
+impl<B: BufRead, W: Write + Drop> LiveLines<W> for AnyInput<B> {
+    ghost use Rattle.std.specs.Io.KnownBytes.{Consumes};
+    ghost use Rattle.cobs_live.specs.Reads.{reader_of};
+
+    ghost remaining = { λ input. B.remaining (reader_of input) };
+
+    ghost step = { λ from read to. Consumes (B.remaining (reader_of from)) (B.remaining (reader_of to)) read.came };
+
+    fn read_line_beside(
+        &mut self,
+        _output: &BufWriter<W>,
+        line: &mut Vec<u8>,
+    ) -> io::Result<usize> {
+        self.reader.read_until(b'\n', line)
+    }
+}

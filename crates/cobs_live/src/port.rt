@@ -1,0 +1,162 @@
+//! Readers and writers that wait, that note why they fail, and that are written twice.
+
+use std::cell::Cell;
+use std::io::{self, ErrorKind, Read, Write};
+use std::rt::Clock;
+use std::thread;
+use std::time::Duration;
+
+/// For how many milliseconds a reader or a writer that has nothing to give or no room is left alone.
+const PAUSE: u64 = 5;
+
+/// A reader or a writer that may be non-blocking: where it would block, it is tried again after a pause.
+#[derive(Drop)]
+pub struct Port<'a, C, F> {
+    clock: C,
+    inner: F,
+
+    /// The system's number for why it failed last, if there is one.
+    reason: &'a Cell<Option<i32>>,
+}
+
+impl<'a, C: Clock + Drop, F: Drop> Port<'a, C, F> {
+    ghost use Rattle.std.specs.Prelude.{◌≡◌};
+    ghost use Rattle.cobs_live.specs.Ports.{inner_of};
+
+    /// This reader or writer, which waits by this clock.
+    pub fn new(clock: C, inner: F, reason: &'a Cell<Option<i32>>) -> Self
+        ensures inner { inner_of result ≡ inner }
+    {
+        Port {
+            clock,
+            inner,
+            reason,
+        }
+    }
+
+    /// Whether it is tried again after this error: it would have blocked, and a pause is over. Else the reason is noted.
+    fn is_over(&self, error: &io::Error) -> bool {
+        if error.kind() == ErrorKind::WouldBlock {
+            thread::sleep(&self.clock, Duration::from_millis(PAUSE));
+            return true;
+        }
+        self.reason.set(error.raw_os_error());
+        false
+    }
+}
+
+impl<C: Clock + Drop, R: Read + Drop> Read for Port<'_, C, R> {
+    ghost use Rattle.cobs_live.specs.Ports.{inner_of};
+
+    ghost remaining = { λ port. R.remaining (inner_of port) };
+
+    fn read(&mut self, buf: &mut [u8]) -> io::Result<usize> {
+        'by_try: for _again in 0..usize::MAX {
+            match self.inner.read(buf) {
+                Ok(count) => return Ok(count),
+                Err(error) => {
+                    if !self.is_over(&error) {
+                        return Err(error);
+                    }
+                }
+            }
+        }
+        Err(ErrorKind::WouldBlock.into())
+    }
+}
+
+impl<C: Clock + Drop, W: Write + Drop> Write for Port<'_, C, W> {
+    ghost use Rattle.cobs_live.specs.Ports.{inner_of};
+
+    ghost contents = { λ port. W.contents (inner_of port) };
+
+    fn write(&mut self, buf: &[u8]) -> io::Result<usize> {
+        'by_try: for _again in 0..usize::MAX {
+            match self.inner.write(buf) {
+                Ok(count) => return Ok(count),
+                Err(error) => {
+                    if !self.is_over(&error) {
+                        return Err(error);
+                    }
+                }
+            }
+        }
+        Err(ErrorKind::WouldBlock.into())
+    }
+
+    fn flush(&mut self) -> io::Result<()> {
+        self.inner.flush()
+    }
+}
+
+/// A writer, and a log that gets what it has taken.
+#[derive(Drop)]
+pub struct Logged<W, L> {
+    inner: W,
+    log: Option<L>,
+
+    /// Why the log failed; the next flush fails so.
+    failed: Option<io::Error>,
+}
+
+impl<W: Write + Drop, L: Write + Drop> Logged<W, L> {
+    ghost use Rattle.std.specs.Prelude.{◌≡◌, None};
+    ghost use Rattle.std.specs.Io.KnownBytes.{Appends};
+    ghost use Rattle.cobs_live.specs.Ports.{log_contents, logged_inner};
+
+    /// This writer, with a log if there is one.
+    pub fn new(inner: W, log: Option<L>) -> Self
+        ensures inner { logged_inner result ≡ inner }
+        ensures log { (result.log ≡ log) × (result.failed ≡ None) }
+    {
+        Logged {
+            inner,
+            log,
+            failed: None,
+        }
+    }
+
+    /// Writes to the log, if there is one and it hasn't failed.
+    fn write_log(&mut self, bytes: &[u8])
+        ensures inner { self.new.inner ≡ self.old.inner }
+        ensures logged { self.new.failed ≡ None
+            → Appends (log_contents L.contents self.old.log) (log_contents L.contents self.new.log) bytes.now }
+    {
+        if self.failed.is_some() {
+            return;
+        }
+        if let Some(log) = &mut self.log {
+            if let Err(error) = log.write_all(bytes) {
+                self.failed = Some(error);
+            }
+        }
+    }
+}
+
+impl<W: Write + Drop, L: Write + Drop> Write for Logged<W, L> {
+    ghost use Rattle.std.specs.Prelude.{◌≡◌, IfOk, None, take};
+    ghost use Rattle.std.specs.Io.{WritesAtMost};
+    ghost use Rattle.std.specs.Io.KnownBytes.{Appends, WriteAppends};
+    ghost use Rattle.cobs_live.specs.Ports.{log_contents, logged_inner};
+
+    ghost contents = { λ logged. W.contents (logged_inner logged) };
+
+    /// Writes, and what is taken to the log too.
+    fn write(&mut self, buf: &[u8]) -> io::Result<usize>
+        ensures bound { WritesAtMost result buf.now }
+        ensures bytes { WriteAppends (W.contents self.old.inner) (W.contents self.new.inner) result buf.now }
+        ensures logged { IfOk result (λ count. self.new.failed ≡ None → Appends
+            (log_contents L.contents self.old.log) (log_contents L.contents self.new.log) (take count buf.now)) }
+    {
+        let count = self.inner.write(buf)?;
+        self.write_log(&buf[..count]);
+        Ok(count)
+    }
+
+    fn flush(&mut self) -> io::Result<()> {
+        if let Some(error) = self.failed.take() {
+            return Err(error);
+        }
+        self.inner.flush()
+    }
+}

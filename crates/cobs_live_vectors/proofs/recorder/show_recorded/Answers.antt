@@ -1,0 +1,5 @@
+use Rattle.cobs_live_vectors.proofs.Last.{right_at_last}
+use Rattle.cobs_live_vectors.proofs.recorder.show_recorded.Goals as goal
+
+pub returns : goal.returns
+returns g c = right_at_last _ (λ recorder. recorder.written) (λ from to read s. s) _ _ _ c.run_show.ensures.live

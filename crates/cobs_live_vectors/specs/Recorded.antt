@@ -1,0 +1,11 @@
+-- What a `Recorder` keeps of the reads that are made of it.
+use Rattle.std.specs.Prelude.{ℕ, ◌≡◌, ◌⊎◌, List, length, Option, Some, None}
+
+-- how many bytes had been written to an output in memory
+abbrev pub len_of : Option (List ℕ) → ℕ
+len_of (Some bytes) = length bytes
+len_of None = 0
+
+-- nothing was read, or at the last read what was written was right for the bytes that the earlier ones gave, and this long
+abbrev pub IsRightAtLast : {S : Type 0} → S → S → ℕ → (List (List ℕ) → Option (List ℕ) → Type 0) → Type 0
+IsRightAtLast from to len IsRight = (to ≡ from) ⊎ ((gone : List (List ℕ)) × (held : Option (List ℕ)) × IsRight gone held × (len ≡ len_of held))
