@@ -12,21 +12,6 @@ use cobs::{
 use std::test::Fail;
 
 #[test]
-fn decode_example(rt: HostRuntime) -> Result<(), Fail> {
-    let mut dest = [170; 12];
-    let report = decode(b"\0\x0chello world\0\x02a", &mut dest)?;
-    assert_eq!(rt; report.parsed_size(), 14);
-    assert_eq!(rt; report.frame_size(), 11);
-    assert_eq!(rt; &dest, b"hello world\xaa");
-
-    let mut dest = [170; 3];
-    let broken = DecodeError::InvalidFrame { decoded_bytes: 2 };
-    assert_eq!(rt; decode(&[4, 1, 2, 0], &mut dest), Err(broken));
-    assert_eq!(rt; dest, [1, 2, 170]);
-    Ok(())
-}
-
-#[test]
 fn decode_error_example(rt: HostRuntime) {
     assert_eq!(rt; decode(&[], &mut [0; 4]), Err(DecodeError::EmptyFrame));
     assert_eq!(rt;
@@ -178,4 +163,19 @@ fn decoder_state_feed_example(rt: HostRuntime) {
     let mut state = DecoderState::GrabChain(1);
     assert!(rt; matches!(state.feed(7), Ok(DecodeResult::DataContinue(7))));
     assert!(rt; matches!(state.feed(9), Ok(DecodeResult::NoData)));
+}
+
+#[test]
+fn decode_example(rt: HostRuntime) -> Result<(), Fail> {
+    let mut dest = [170; 12];
+    let report = decode(b"\0\x0chello world\0\x02a", &mut dest)?;
+    assert_eq!(rt; report.parsed_size(), 14);
+    assert_eq!(rt; report.frame_size(), 11);
+    assert_eq!(rt; &dest, b"hello world\xaa");
+
+    let mut dest = [170; 3];
+    let broken = DecodeError::InvalidFrame { decoded_bytes: 2 };
+    assert_eq!(rt; decode(&[4, 1, 2, 0], &mut dest), Err(broken));
+    assert_eq!(rt; dest, [1, 2, 170]);
+    Ok(())
 }

@@ -5,7 +5,7 @@
 
 use cobs::{
     CobsDecoder, CobsEncoder, DestBufTooSmallError, EncoderProgress, EncoderState, PushResult,
-    UnbufferedEncoder, decode, encode, encode_including_sentinels, encode_vec,
+    UnbufferedEncoder, decode, encode, encode_in_place, encode_including_sentinels, encode_vec,
     encode_vec_including_sentinels, encode_vec_with_sentinel, encode_with_sentinel,
     max_encoding_length, max_encoding_overhead, try_encode, try_encode_including_sentinels,
     try_encode_with_sentinel,
@@ -117,6 +117,27 @@ fn dest_buf_too_small_error_example(rt: HostRuntime) -> Result<(), Fail> {
 }
 
 #[test]
+fn encode_in_place_example(rt: HostRuntime) {
+    let mut buffer = *b"\0hello..";
+    assert_eq!(rt; encode_in_place(&mut buffer, 5), 6);
+    assert_eq!(rt; &buffer, b"\x06hello..");
+}
+
+#[test]
+fn encoder_progress_example(rt: HostRuntime) -> Result<(), Fail> {
+    let mut buffer = [0; 64];
+    let mut encoder = UnbufferedEncoder::new();
+    encoder.push(&mut buffer, b"hello")?;
+    let progress = EncoderProgress {
+        index: 0,
+        code: 6,
+        is_full: false,
+    };
+    assert_eq!(rt; encoder.progress(), progress);
+    Ok(())
+}
+
+#[test]
 fn encode_with_sentinel_example(rt: HostRuntime) {
     let mut dest = [170; 6];
     let len = encode_with_sentinel(&[10, 11, 0, 12], &mut dest, 255);
@@ -203,20 +224,6 @@ fn encoder_state_push_example(rt: HostRuntime) {
 #[test]
 fn encoder_state_finalize_example(rt: HostRuntime) {
     assert_eq!(rt; EncoderState::default().finalize(), (0, 1));
-}
-
-#[test]
-fn encoder_progress_example(rt: HostRuntime) -> Result<(), Fail> {
-    let mut buffer = [0; 64];
-    let mut encoder = UnbufferedEncoder::new();
-    encoder.push(&mut buffer, b"hello")?;
-    let progress = EncoderProgress {
-        index: 0,
-        code: 6,
-        is_full: false,
-    };
-    assert_eq!(rt; encoder.progress(), progress);
-    Ok(())
 }
 
 #[test]

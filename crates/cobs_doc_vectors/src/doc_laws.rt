@@ -3,7 +3,7 @@
 //! Below the imports all is written by `tests/docs.py --write` from the doc comments of `crates/cobs/src/laws.rt` and
 //! `laws/`. An example is changed there.
 ghost use Rattle.std.specs.Prelude.{◌≡◌, ◌≤◌, ◌<◌, ◌^◌, ◌++◌, ◌∷◌, ◌≢◌, ◌+◌, [], ℕ, Bool, false, List, IfOk, IsTrue, None, Ok, Some, length, take};
-ghost use Rattle.cobs.specs.Feed.{DecoderAfter};
+ghost use Rattle.cobs.specs.Feed.{DecoderAfter, Idle};
 ghost use Rattle.cobs.specs.FeedPiece.{TakesPiece};
 ghost use Rattle.cobs.specs.Fields.Decoders.{owned_buffer, owned_phase, phase_of};
 ghost use Rattle.cobs.specs.Fields.Reader.{kept_of};
@@ -19,7 +19,7 @@ ghost use Rattle.cobs.specs.Messages.{outcomes_in};
 
 use cobs::laws::{
     law_1, law_2, law_3, law_4, law_5, law_6, law_7, law_8, law_9, law_10, law_11, law_12, law_13,
-    law_14, law_15, law_16, law_17, law_18, law_19, law_20,
+    law_14, law_15, law_16, law_17, law_18, law_19, law_20, law_21,
 };
 use cobs::{
     CobsDecoderOwned, DecodeError, FrameDecoder, FrameKind, FrameOutcome, FrameReader,
@@ -248,4 +248,14 @@ pub fn end_frame(decoder: &mut CobsDecoderOwned) -> Result<Option<usize>, Decode
 {
     law_18();
     decoder.feed(0)
+}
+
+/// The example of `law_21`.
+pub fn first_outcome<D: FrameDecoder>(decoder: &mut D, stream: &[u8]) -> bool
+    requires { D.phase decoder.old ≡ Idle }
+    ensures { (result ≡ false)
+        → stream_outcomes stream.now (length (D.bytes decoder.old)) ≡ [] }
+{
+    law_21();
+    decoder.feed_piece(stream).is_some()
 }

@@ -2,8 +2,8 @@
 use crate::doc_laws::{
     are_equal, as_encoded, as_received, begins_with_piece, decode_block, decode_in_two,
     encode_again, encode_by_longest, encode_for_stream, encode_nonzero, encode_short, end_frame,
-    feed_one, is_begun, is_canonical_behind, is_frame_for, is_output, join, one_outcome,
-    reader_after_zero, take_nonzero,
+    feed_one, first_outcome, is_begun, is_canonical_behind, is_frame_for, is_output, join,
+    one_outcome, reader_after_zero, take_nonzero,
 };
 use crate::doc_streams::next_or_more;
 use cobs::{
@@ -101,5 +101,8 @@ fn laws_of_streams(rt: HostRuntime) -> Result<(), Fail> {
     let mut decoder = CobsDecoderOwned::new(alloc, 4)?;
     assert_eq!(rt; decoder.push(&[3, 7, 8]), Ok(None));
     assert_eq!(rt; end_frame(&mut decoder), Ok(Some(2)));
+
+    let mut decoder = CobsDecoderOwned::new(alloc, 4)?;
+    assert!(rt; !first_outcome(&mut decoder, &[2, 7]));
     Ok(())
 }

@@ -2,8 +2,8 @@
 //!
 //! There is no test here: each function has a contract, and the prover derives it from the clauses of the calls that it
 //! makes. So a clause that said too little for its users would be noticed here.
-ghost use Rattle.std.specs.Prelude.{◌≡◌, ◌≢◌, ◌≤◌, ◌<◌, ◌+◌, ◌^◌, ◌↔◌, ◌∷◌, ◌++◌, [], All, length, take, slice_index, slice_set, List, ℕ, Ok, Some, option_to_list, IfOk, IfSome, IsSomeAnd, IsTrue};
-ghost use Rattle.cobs.specs.Overwritten.{written_at};
+ghost use Rattle.std.specs.Prelude.{◌≡◌, ◌≢◌, ◌≤◌, ◌<◌, ◌+◌, ◌^◌, ◌↔◌, ◌∷◌, ◌++◌, [], All, length, take, drop, slice_index, slice_set, List, ℕ, Ok, Some, option_to_list, IfOk, IfSome, IsSomeAnd, IsTrue};
+ghost use Rattle.cobs.specs.Overwritten.{message_in, written_at};
 ghost use Rattle.cobs.specs.Fields.Decoders.{borrowed_buffer, borrowed_phase, borrowed_slice, heapless_buffer, heapless_phase, owned_buffer, owned_phase};
 ghost use Rattle.cobs.specs.Feed.{state_in, Idle, Over, PhaseAfter};
 ghost use Rattle.cobs.specs.Grammar.{HasNoZero, IsEncodedFrame, Reads};
@@ -17,7 +17,7 @@ use cobs::laws::{law_2, law_4};
 use cobs::{
     CobsDecoder, CobsDecoderHeapless, CobsDecoderOwned, DecodeError, DecodeReport, DecodeResult,
     DecoderState, DestBufTooSmallError, PushError, WriteBuffer, decode, decode_with_sentinel,
-    encode_frames, encode_frames_room, encode_including_sentinels, encode_vec,
+    encode_frames, encode_frames_room, encode_in_place, encode_including_sentinels, encode_vec,
     encode_vec_including_sentinels, encode_vec_with_sentinel, encode_with_sentinel,
     try_encode_including_sentinels,
 };
@@ -55,6 +55,22 @@ pub fn write_ended(message: &[u8], dest: &mut [u8], sentinel: u8) -> usize
 {
     let len = encode_with_sentinel(message, dest, sentinel);
     dest[len] = sentinel;
+    len
+}
+
+/// Encodes the message that lies in the buffer in its own place, with a zero after the frame, where nothing else is
+/// changed: the last byte of the buffer is a place of its own.
+pub fn end_in_place(buffer: &mut [u8], message_len: usize) -> usize
+    requires { max_encoded_len message_len < length buffer.old }
+    ensures frame { IsEncodedFrame (take result buffer.new) (message_in message_len buffer.old) }
+    ensures none_before { HasNoZero (take result buffer.new) }
+    ensures ended { slice_index buffer.new result ≡ 0 }
+    ensures len { result ≡ encoded_len (message_in message_len buffer.old) }
+    ensures rest { drop (result + 1) buffer.new ≡ drop (result + 1) buffer.old }
+{
+    law_4();
+    let len = encode_in_place(buffer, message_len);
+    buffer[len] = 0;
     len
 }
 

@@ -1,17 +1,22 @@
 //! Callers as a user's own crate has them: a handler of one byte, a loop over a stream, a reader of frames, a round
 //! trip, a log. What each promises is proved only from the public clauses of `cobs`.
-ghost use Rattle.std.specs.Prelude.{◌≡◌, ◌≤◌, ◌<◌, ◌^◌, ◌↔◌, ◌∷◌, ◌++◌, [], length, take, drop, List, ℕ, IfOk, IsOk, OnOk, IsSomeAnd, IsTrue};
+ghost use Rattle.std.specs.Prelude.{◌≡◌, ◌≤◌, ◌<◌, ◌^◌, ◌↔◌, ◌∷◌, ◌++◌, [], length, take, drop, List, ℕ, IfOk, IfSome, IsOk, OnOk, IsSomeAnd, IsTrue};
 ghost use Rattle.cobs.specs.Feed.{DecoderAfter, Idle};
+ghost use Rattle.cobs.specs.FeedPiece.{IsWithin, outcome_at};
 ghost use Rattle.cobs.specs.Fields.Encoders.{reached_by};
+ghost use Rattle.cobs.specs.Fields.Reader.{kept_of, reader_state};
 ghost use Rattle.cobs.specs.Grammar.{HasNoZero, IsEncodedFrame, Reads};
 ghost use Rattle.cobs.specs.Headline.{BeginsWith, IsPiece};
 ghost use Rattle.cobs.specs.Laws.{IsAtSentinel};
 ghost use Rattle.cobs.specs.Length.{encoded_len, max_encoded_len};
 ghost use Rattle.cobs.specs.Messages.{messages_in};
+ghost use Rattle.cobs.specs.NextFrame.{Read, ReaderAfter, Runs, all_given};
 ghost use Rattle.cobs.specs.OpenBlock.{CobsEncoderAfter};
+ghost use Rattle.cobs.specs.Piece.{output};
 ghost use Rattle.cobs.specs.Stream.{Message, ended_pieces, stream_outcomes, unended};
+ghost use Rattle.cobs_vectors.specs.Relayed.{messages_of};
 
-use cobs::laws::{law_2, law_4, law_5, law_9, law_10, law_11, law_18};
+use cobs::laws::{law_2, law_4, law_5, law_9, law_10, law_11, law_18, law_21};
 use cobs::{
     CobsDecoder, CobsDecoderHeapless, CobsDecoderOwned, CobsEncoder, DestBufTooSmallError,
     FrameDecoder, FrameReader, FrameSource, Next, PieceEnd, UnbufferedDecoder, UnbufferedEncoder,
@@ -125,6 +130,24 @@ pub fn total<D: FrameDecoder, S: FrameSource>(
         }
     }
     total
+}
+
+/// Reads through the end of the next piece, and returns a copy of what was decoded of it if it is broken.
+pub fn next_broken<D: FrameDecoder, S: FrameSource>(
+    alloc: Global,
+    reader: &mut FrameReader<D>,
+    source: &mut S,
+) -> Result<Option<Vec<u8>>, AllocError>
+    requires { ReaderAfter (reader_state D.bytes D.phase reader.old) [] }
+    ensures { IfOk result (λ found. IfSome found (λ part. (reads : List Read) × (front : List ℕ)
+        × Runs S.step source.old reads source.new
+        × (kept_of reader.old ++ all_given reads ≡ front ++ 0 ∷ kept_of reader.new)
+        × (part.items ≡ output (unended front)))) }
+{
+    match reader.next_frame(source) {
+        Ok(Next::Broken(n)) => Ok(Some(Vec::from_slice(alloc, &reader.decoder().buffer()[..n])?)),
+        _ => Ok(None),
+    }
 }
 
 /// A serial port that keeps a decoder's state beside its buffer.
@@ -262,6 +285,46 @@ pub fn append_to_log(alloc: Global, log: &[u8], message: &[u8]) -> Result<Vec<u8
     longer.extend_from_slice(&frame)?;
     longer.push(0)?;
     Ok(longer)
+}
+
+/// Appends the frame of the message that a decoder over this buffer came to; nothing for another end.
+fn relayed(alloc: Global, log: Vec<u8>, end: PieceEnd, buffer: &[u8]) -> Result<Vec<u8>, AllocError>
+    requires at_sentinel { IsAtSentinel log.items }
+    requires within { IsWithin (length buffer.now) end }
+    requires fits { max_encoded_len (length buffer.now) < 2 ^ 64 }
+    ensures told { IfOk result (λ longer. stream_outcomes longer.items (length buffer.now)
+        ≡ stream_outcomes log.items (length buffer.now) ++ messages_of (outcome_at end buffer.now ∷ [])) }
+    ensures at_sentinel { IfOk result (λ longer. IsAtSentinel longer.items) }
+{
+    law_4();
+    match end {
+        PieceEnd::Message(n) => append_to_log(alloc, &log, &buffer[..n]),
+        PieceEnd::Broken(_) => Ok(log),
+        PieceEnd::TooLong => Ok(log),
+    }
+}
+
+/// Decodes each piece of a stream and encodes its message again; other pieces are dropped.
+pub fn relay<D: FrameDecoder>(
+    alloc: Global,
+    decoder: &mut D,
+    stream: &[u8],
+) -> Result<Vec<u8>, AllocError>
+    requires idle { D.phase decoder.old ≡ Idle }
+    requires fits { max_encoded_len (length (D.bytes decoder.old)) < 2 ^ 64 }
+    ensures messages { IfOk result (λ out. let n = length (D.bytes decoder.old) in
+        stream_outcomes out.items n ≡ messages_of (stream_outcomes stream.now n)) }
+    ensures at_sentinel { IfOk result (λ out. IsAtSentinel out.items) }
+{
+    law_9();
+    law_21();
+    let mut out = Vec::new(alloc);
+    let mut at = 0;
+    'by_piece: while let Some((end, count)) = decoder.feed_piece(&stream[at..]) {
+        out = relayed(alloc, out, end, decoder.buffer())?;
+        at += count;
+    }
+    Ok(out)
 }
 
 /// A log of two messages.

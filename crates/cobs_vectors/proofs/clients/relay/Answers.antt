@@ -1,0 +1,31 @@
+use Rattle.std.proofs.Common.{◌≡◌, ◌+◌, ◌-◌, ℕ, List, [], ◌∷◌, ◌++◌, length, take, drop, refl, ap, sym, ◌∙◌, arith, append_assoc, length-take, length-drop}
+use Rattle.std.proofs.lemmas.List.{drop-drop, take_rest}
+use Rattle.cobs.specs.Stream.{Outcome, Message, Broken, TooLong}
+use Rattle.cobs_vectors.specs.Relayed.{messages_of}
+use Rattle.cobs_vectors.proofs.clients.relay.Goals as goal
+
+first : (o : Outcome) (more : List Outcome) → messages_of (o ∷ []) ++ messages_of more ≡ messages_of (o ∷ more)
+first (Message message) more = refl
+first (Broken count) more = refl
+first TooLong more = refl
+
+relayed : (out out' found more all : List Outcome) (o : Outcome) → out ++ messages_of found ≡ all → found ≡ o ∷ more → out' ≡ out ++ messages_of (o ∷ []) → out' ++ messages_of more ≡ all
+relayed out out' found more all o so_far one told =
+    ap (λ (x : List Outcome). x ++ messages_of more) told ∙ append_assoc out (messages_of (o ∷ [])) (messages_of more)
+    ∙ ap (λ (x : List Outcome). out ++ x) (first o more ∙ ap messages_of (sym one)) ∙ so_far
+
+pub by_piece-preserved : goal.by_piece-preserved
+by_piece-preserved g c =
+    let inv = c.by_piece.invariant in
+    let t = c.in-Some.ensures.takes in
+    let at : ℕ = c.by_piece.at in
+    let stream : List ℕ = c.args.stream.now in
+    let len = t.takes.len ∙ inv.len in
+    let one = rw (take_rest stream at, inv.len, drop-drop) at (c.law_21.ensures.outcomes _ _ _ _ _ _ _ t inv.idle) in
+    record {
+      within = omega (arith, t.within.0, length-take (length stream - at) (drop at stream), length-drop at stream, inv.within);
+      told = relayed _ _ _ _ _ _ inv.told one (rw (c.buffer.ensures.value, len) at c.in_ok-out.ensures.told);
+      at_sentinel = c.in_ok-out.ensures.at_sentinel;
+      idle = t.idle;
+      len = len;
+    }
