@@ -1,102 +1,139 @@
 #!/bin/sh
-# Builds the library for the benchmark and the driver, compares every answer with the state machine's, and measures.
+# Measures what ships, as a program links it: libjcobs.a, and the Rust crate of bindings/rust, beside what someone would take
+# instead.
 #
-#     bench/run.sh [--crate FOLDER] [--docs]      prints the tables
-#     bench/run.sh [--crate FOLDER] check         compares, and measures nothing
-#     bench/run.sh --old FOLDER [--docs]          counts instructions alone, beside those of another version
+#     bench/run.sh [--crate FOLDER] [--quick] [--docs]   prints the tables
+#     bench/run.sh [--crate FOLDER] check                compares what each makes of 6,000 messages, and measures nothing
+#     bench/run.sh --old FOLDER [--docs]                 times and instructions of libjcobs, beside those of another version
 #
-# --crate FOLDER: the sources of the crate `cobs` 0.5.1, as cargo downloads them. They are built and measured in the same
-#                 run, and the ratios are to them; without them the ratios are to the state machine in bench/src/machine.rs.
-# --old FOLDER:   a checkout of another version of this repository. It is proved too, which takes some minutes.
-# --docs:         writes the tables and the chart into docs/PERFORMANCE.md and docs/images/performance.svg too.
+# --crate FOLDER: the sources of the crate `cobs` 0.5.1, as cargo downloads them; without them the Rust tables are left out.
+# --old FOLDER:   a checkout of another version of this repository, whose prebuilt library is taken.
+# --quick:        one place in memory, one round, no link-time optimization: for a look, not for the document.
+# --docs:         writes into docs/PERFORMANCE.md, README.md and docs/images/performance.svg.
 #
-# It needs `rt` (in the PATH or in /opt/rattle/bin), rustc and cc; --old needs valgrind. A first run proves the library,
-# which takes some minutes; measuring takes five, and counting instructions six, which no load on the machine moves.
-#
-# All that is measured is built for x86-64-v2, for which the library is. The driver is built at four places in memory: on
-# some processors a loop is half as fast where one of its jumps crosses a multiple of 32 bytes. The best place counts, for
-# each implementation, in two rounds, since other work on the same hardware slows down some minutes.
+# It needs rustc, cc, and the crate `memchr` (Debian's librust-memchr-dev); --old needs valgrind. It takes ten minutes, with
+# --quick two, on a machine with no other load. C is built with -O3 for x86-64-v2, for which libjcobs is, and Rust as
+# `cargo build --release` does it. The driver is built at four places in memory: on some processors a loop is half as fast where
+# one of its jumps crosses a multiple of 32 bytes. The best place counts, for each implementation, in two rounds.
 set -eu
 here=$(cd "$(dirname "$0")" && pwd)
 top=$(dirname "$here")
 out=$here/out
-PATH=$PATH:/opt/rattle/bin
 crate=
 old=
 docs=
 check=
+places="0 16 32 48"
+rounds="1 2"
+quick=
 while [ $# -gt 0 ]; do
     case $1 in
     --crate) crate=$(cd "$2" && pwd); shift ;;
     --old) old=$(cd "$2" && pwd); shift ;;
     --docs) docs=yes ;;
+    --quick) quick=yes; places=0; rounds=1 ;;
     check) check=yes ;;
     *) sed -n '2,/^set/{/^#/p;}' "$0" >&2; exit 2 ;;
     esac
     shift
 done
 mkdir -p "$out"
-for tree in "$top" ${old:+"$old"}; do
-    for step in check lib; do
-        (cd "$tree/crates/cobs_bench" && rt $step >"$out/$step.log" 2>&1) || { tail -20 "$out/$step.log"; exit 1; }
-    done
-done
-flags="-O -C target-cpu=x86-64-v2 -C codegen-units=1"
-for file in checked shipped/plain; do
-    cc -O2 -march=x86-64-v2 -c "$here/$file.c" -o "$out/$(basename $file).o"
-done
-ar rcs "$out/librivals.a" "$out/checked.o" "$out/plain.o"
+flags="-C opt-level=3 -C codegen-units=1"
+cc -O3 -march=x86-64-v2 -Wall -Wextra -c "$here/rivals.c" -o "$out/rivals.o"
+ar rcs "$out/librivals.a" "$out/rivals.o"
+memchr=$(ls -d /usr/share/cargo/registry/memchr-2.* 2>/dev/null | tail -1)
+[ -n "$memchr" ] || { echo "bench/run.sh needs the crate memchr: apt-get install librust-memchr-dev" >&2; exit 1; }
+# shellcheck disable=SC2086 # the flags are words
+{
+    rustc --edition 2021 $flags --crate-type rlib --crate-name memchr --out-dir "$out" --cap-lints allow \
+        --cfg 'feature="std"' --cfg 'feature="alloc"' "$memchr/src/lib.rs"
+    rustc --edition 2021 $flags --crate-type rlib --crate-name jcobs --out-dir "$out" --cap-lints allow \
+        --cfg 'feature="alloc"' --cfg 'feature="std"' --extern "memchr=$out/libmemchr.rlib" "$top/bindings/rust/src/lib.rs"
+}
 with=
 if [ -n "$crate" ]; then
-    rustc --edition 2021 --crate-type proc-macro --out-dir "$out" "$here/stand_in/thiserror.rs"
-    # shellcheck disable=SC2086 # the flags are words
-    rustc --edition 2021 $flags --crate-type rlib --out-dir "$out" "$here/stand_in/heapless.rs"
     # shellcheck disable=SC2086
-    rustc --edition 2021 $flags --crate-type rlib --crate-name cobs --out-dir "$out" --cap-lints allow \
-        --cfg 'feature="alloc"' --cfg 'feature="std"' \
-        --extern "thiserror=$out/libthiserror.so" --extern "heapless=$out/libheapless.rlib" "$crate/src/lib.rs"
-    with="--cfg with_crate --extern cobs=$out/libcobs.rlib -L $out"
+    {
+        rustc --edition 2021 --crate-type proc-macro --out-dir "$out" "$here/stand_in/thiserror.rs"
+        rustc --edition 2021 $flags --crate-type rlib --out-dir "$out" "$here/stand_in/heapless.rs"
+        rustc --edition 2021 $flags --crate-type rlib --crate-name cobs --out-dir "$out" --cap-lints allow \
+            --cfg 'feature="alloc"' --cfg 'feature="std"' \
+            --extern "thiserror=$out/libthiserror.so" --extern "heapless=$out/libheapless.rlib" "$crate/src/lib.rs"
+    }
+    with="--cfg with_crate --extern cobs=$out/libcobs.rlib"
 fi
-build() { # PLACE LIBRARY NAME
+build() { # PLACE TREE NAME [FLAG..]
+    place=$1 library=$2/bindings/c/prebuilt/x86_64-linux name=$3
+    shift 3
     # shellcheck disable=SC2086
-    PLACE=$1 rustc --edition 2024 $flags --check-cfg 'cfg(with_crate)' $with -L "native=$out" -l static=rivals \
-        -L "native=$2/crates/cobs_bench/out" -l static=cobs_bench -o "$out/$3" "$here/src/main.rs"
+    PLACE=$place rustc --edition 2024 $flags "$@" --check-cfg 'cfg(with_crate)' $with -L "$out" --extern "jcobs=$out/libjcobs.rlib" \
+        -L "native=$out" -l static=rivals -L "native=$library" -l static=jcobs -o "$out/$name" "$here/src/main.rs"
 }
-put() { # NAME..: the files of these names take the place of what docs/PERFORMANCE.md has between their marks
+put() { # FILE NAME..: the parts of these names take the place of what the file has between their marks
+    file=$1
+    shift
     for part in "$@"; do
-        sed -i -e "/<!-- $part -->/,/<!-- end of $part -->/{//!d;}" -e "/<!-- $part -->/r $out/$part.md" "$top/docs/PERFORMANCE.md"
+        sed -i -e "/<!-- $part -->/,/<!-- end of $part -->/{//!d;}" -e "/<!-- $part -->/r $out/$part.md" "$top/$file"
     done
 }
-places="0 16 32 48"
+if [ -n "$old" ]; then
+    for tree in "$top" "$old"; do
+        build 0 "$tree" "driver-$([ "$tree" = "$top" ] && echo new || echo old)"
+    done
+    for round in 1 2 3; do
+        for which in old new; do
+            "$out/driver-$which" run libjcobs >>"$out/$which.csv.part"
+        done
+    done
+    mv "$out/old.csv.part" "$out/old.csv"
+    mv "$out/new.csv.part" "$out/new.csv"
+    {
+        "$out/driver-new" before "$out/old.csv" "$out/new.csv"
+        "$here/instructions.sh" "$out/driver-old" "$out/driver-new"
+    } >"$out/before.md"
+    cat "$out/before.md"
+    [ -z "$docs" ] || put docs/PERFORMANCE.md before
+    exit 0
+fi
 for place in $places; do
     build "$place" "$top" "driver-$place"
 done
 "$out/driver-0" check
 [ -z "$check" ] || exit 0
-if [ -n "$old" ]; then
-    build 0 "$old" driver-old
-    "$here/instructions.sh" "$out/driver-old" "$out/driver-0" >"$out/instructions.md"
-    cat "$out/instructions.md"
-    [ -z "$docs" ] || put instructions
-    exit 0
-fi
 rm -f "$out"/*.csv
-for round in 1 2; do
+for round in $rounds; do
     for place in $places; do
-        "$out/driver-$place" run >"$out/$place-$round.csv"
+        "$out/driver-$place" run >"$out/at-$place-$round.csv"
     done
 done
-"$out/driver-0" summary "$out"/*.csv >"$out/summary.md"
-"$out/driver-0" report "$out"/*.csv >"$out/tables.md"
-"$out/driver-0" chart "$out"/*.csv >"$out/performance.svg"
-cat "$out/summary.md" "$out/tables.md"
+"$out/driver-0" summary "$out"/at-*.csv >"$out/summary.md"
+"$out/driver-0" c "$out"/at-*.csv >"$out/c.md"
+"$out/driver-0" rust "$out"/at-*.csv >"$out/rust.md"
+"$out/driver-0" readme "$out"/at-*.csv >"$out/speed.md"
+"$out/driver-0" chart "$out"/at-*.csv >"$out/performance.svg"
+: >"$out/lto.md"
+if [ -n "$crate" ] && [ -z "$quick" ]; then
+    for place in $places; do
+        build "$place" "$top" "lto-$place" -C lto=fat
+        "$out/lto-$place" run jcobs cobs >"$out/lto-$place.csv"
+    done
+    "$out/driver-0" rust "$out"/lto-*.csv >"$out/lto.md"
+fi
+if [ -s "$out/lto.md" ]; then
+    python3 "$top/bindings/rust/speed.py" "$out"/at-*.csv -- "$out"/lto-*.csv >"$out/crate.md"
+fi
+cat "$out/summary.md" "$out/c.md" "$out/rust.md" "$out/lto.md"
 if [ -n "$docs" ]; then
     cp "$out/performance.svg" "$top/docs/images/performance.svg"
     {
         date -u '+- Date: %Y-%m-%d'
+        git -C "$top" rev-parse --short HEAD | sed 's/^/- Commit: /'
         lscpu | sed -n 's/^Model name: */- Processor: /p; s/^CPU(s): */- Processors: /p; s/^CPU family: */- Family: /p; s/^Model: */- Model: /p'
-        rustc --version | sed 's/^/- Driver and crate: /'
+        rustc --version | sed 's/^/- Rust: /'
+        cc --version | sed 's/^/- C: /; q'
         sed 's/^\([0-9.]*\).*/- Load of the machine by all that ran on it, as the run ended: \1/' /proc/loadavg
     } >"$out/machine.md"
-    put machine summary tables
+    put docs/PERFORMANCE.md machine summary c rust lto
+    put README.md speed
+    [ ! -s "$out/lto.md" ] || put bindings/rust/README.md crate
 fi

@@ -1,23 +1,18 @@
-//! Measures the library against the crate `cobs`, a byte-at-a-time state machine, plain C-style code, C with every check by
-//! bytes and by memchr, hand-written SIMD code and memcpy.
+//! Measures libjcobs and the Rust crate as a program links them, beside the crate `cobs` 0.5.1, C code that one would write
+//! instead, SIMD by hand and memcpy. `run.sh` builds and runs it.
 //!
-//!     driver check            compares every answer on thousands of messages
-//!     driver run              prints a line of figures for each call, workload and size
-//!     driver one CALL WHO WORKLOAD SIZE TIMES      one thing alone, for counting its instructions
-//!     driver summary FILE..   a paragraph, and the rows that fall short, of what `run` printed at several places in memory
-//!     driver report FILE..    the tables of it
-//!     driver chart FILE..     the chart of these
+//!     driver check             compares what each made of thousands of messages
+//!     driver run [WHO..]       prints a line of figures for each call and workload
+//!     driver one CALL WORKLOAD TIMES       one call of libjcobs alone, for counting its instructions
+//!     driver c|rust|summary|readme|chart FILE..    tables of what `run` printed at several places in memory
+//!     driver before OLD NEW    a table of the times of two libraries
 
+mod c;
 mod calls;
 mod check;
-mod checked;
-mod machine;
-mod ours;
-mod plain;
+mod crates;
 mod report;
 mod simd;
-#[cfg(with_crate)]
-mod theirs;
 mod workload;
 
 use calls::{CALLS, WHO, Work, once};
@@ -31,13 +26,11 @@ global_asm!(".pushsection .text.place, \"axR\"", concat!(".skip ", env!("PLACE")
 
 /// Seconds a call, over so many calls. In place, each call has fresh frames, which are laid out before the clock runs.
 fn seconds(call: &str, who: &str, work: &mut Work, times: usize) -> Option<f64> {
-    let in_place = call.starts_with("in place");
+    let in_place = call == "in place";
     let (rounds, times_a_round) = if in_place { (times, 1) } else { (1, times) };
     let mut sum = 0.0;
     for _ in 0..rounds {
-        if in_place {
-            work.lay_out(call);
-        }
+        work.lay_out(call);
         let start = Instant::now();
         for _ in 0..times_a_round {
             black_box(once(call, who, work)?);
@@ -47,27 +40,37 @@ fn seconds(call: &str, who: &str, work: &mut Work, times: usize) -> Option<f64> 
     Some(sum / times as f64)
 }
 
+/// What an empty measurement in place takes: reading the clock.
+fn clock() -> f64 {
+    let times = (0..1000).map(|_| {
+        let start = Instant::now();
+        start.elapsed().as_secs_f64()
+    });
+    times.fold(f64::INFINITY, f64::min)
+}
+
 /// All implementations of each call take turns within each repetition; the least time of each counts.
-fn run() {
-    for (call, sizes) in CALLS {
+fn run(chosen: &[&str]) {
+    let clock = clock();
+    for call in CALLS {
         for workload in WORKLOADS {
-            for &size in *sizes {
-                let mut work = Work::new(workload, size);
-                let times = (131072 / size).max(1);
-                let mut least = [f64::INFINITY; WHO.len()];
-                for _ in 0..if size > 100_000 { 8 } else { 24 } {
-                    for (who, least) in WHO.iter().zip(&mut least) {
-                        if let Some(time) = seconds(call, who, &mut work, times) {
-                            *least = least.min(time);
-                        }
+            let mut work = Work::of(workload);
+            let times = (65536 / work.bytes).clamp(1, 200);
+            let mut least = [f64::INFINITY; WHO.len()];
+            for _ in 0..24 {
+                for (who, least) in WHO.iter().zip(&mut least) {
+                    if (chosen.is_empty() || chosen.contains(who))
+                        && let Some(time) = seconds(call, who, &mut work, times)
+                    {
+                        *least = least.min(if call == "in place" { time - clock } else { time });
                     }
                 }
-                let rates: Vec<String> = least
-                    .iter()
-                    .map(|t| if t.is_finite() { format!("{:.0}", work.bytes as f64 / t / 1e6) } else { "-".into() })
-                    .collect();
-                println!("{call};{workload};{size};{}", rates.join(";"));
             }
+            let rates: Vec<String> = least
+                .iter()
+                .map(|t| if t.is_finite() { format!("{:.0}", work.bytes as f64 / t / 1e6) } else { "-".into() })
+                .collect();
+            println!("{call};{workload};{}", rates.join(";"));
         }
     }
 }
@@ -75,30 +78,31 @@ fn run() {
 /// The call, under a name by which valgrind counts nothing else.
 #[unsafe(no_mangle)]
 #[inline(never)]
-fn measured(call: &str, who: &str, work: &mut Work) {
-    black_box(once(call, who, work));
+fn measured(call: &str, work: &mut Work) {
+    black_box(once(call, "libjcobs", work));
 }
 
 fn main() {
     let words: Vec<String> = std::env::args().skip(1).collect();
     match words.iter().map(|w| w.as_str()).collect::<Vec<_>>().as_slice() {
         ["check"] => check::check(),
-        ["run"] => run(),
-        ["one", call, who, workload, size, times] => {
-            let mut work = Work::new(workload, size.parse().unwrap());
+        ["run", chosen @ ..] => run(chosen),
+        ["one", call, workload, times] => {
+            let mut work = Work::of(workload);
             for _ in 0..times.parse::<usize>().unwrap() {
-                if call.starts_with("in place") {
-                    work.lay_out(call);
-                }
-                measured(call, who, &mut work);
+                work.lay_out(call);
+                measured(call, &mut work);
             }
             println!("{}", work.bytes);
         }
+        ["c", files @ ..] => report::of("libjcobs", files),
+        ["rust", files @ ..] => report::of("jcobs", files),
         ["summary", files @ ..] => report::summary(files),
-        ["report", files @ ..] => report::tables(files),
+        ["readme", files @ ..] => report::readme(files),
         ["chart", files @ ..] => report::chart(files),
+        ["before", old, new] => report::before(old, new),
         _ => {
-            eprintln!("usage: driver check | run | one CALL WHO WORKLOAD SIZE TIMES | summary FILE.. | report FILE.. | chart FILE..");
+            eprintln!("usage: see the top of main.rs");
             std::process::exit(2);
         }
     }

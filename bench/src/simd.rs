@@ -1,6 +1,7 @@
 //! What a user would otherwise write by hand: an encoder and decoders by SSE2, 16 bytes at a time, with unchecked pointers.
 //!
 //! The decoders search for the end of the frame and know the length of their room; they trust the codes.
+use crate::calls::{Work, chunk_of, through};
 use std::arch::x86_64::*;
 
 type Vector = __m128i;
@@ -21,7 +22,7 @@ unsafe fn mask_of(bytes: Vector, value: i8) -> u32 {
     unsafe { _mm_movemask_epi8(_mm_cmpeq_epi8(bytes, _mm_set1_epi8(value))) as u32 }
 }
 
-/// Copies up to 31 bytes, as two parts that may overlap, and answers which of them are zeros.
+/// Copies up to 31 bytes, as two parts that may overlap, and returns which of them are zeros.
 #[inline(always)]
 unsafe fn copy_tail(from: *const u8, to: *mut u8, len: usize) -> u32 {
     unsafe {
@@ -73,7 +74,7 @@ impl Encoder {
 
     /// # Safety
     /// The destination has room for the frame and 32 bytes.
-    #[inline(always)]
+    #[inline(never)]
     pub unsafe fn push(&mut self, source: &[u8], dest: *mut u8) {
         unsafe {
             let from = source.as_ptr();
@@ -84,12 +85,12 @@ impl Encoder {
                 store(dest.add(self.end), front);
                 store(dest.add(self.end + 16), back);
                 let zeros = mask_of(front, 0) | mask_of(back, 0) << 16;
-                let lacking = self.code_at + 255 - self.end;
-                if lacking < 32 && zeros & ((1 << lacking) - 1) == 0 {
+                let missing = self.code_at + 255 - self.end;
+                if missing < 32 && zeros & ((1 << missing) - 1) == 0 {
                     *dest.add(self.code_at) = 255;
                     self.code_at += 255;
                     self.end = self.code_at + 1;
-                    read += lacking;
+                    read += missing;
                     continue;
                 }
                 if zeros == u32::MAX {
@@ -104,14 +105,14 @@ impl Encoder {
                 self.end += 32;
             }
             while read < len {
-                let lacking = self.code_at + 255 - self.end;
-                if lacking == 0 {
+                let missing = self.code_at + 255 - self.end;
+                if missing == 0 {
                     *dest.add(self.code_at) = 255;
                     self.code_at = self.end;
                     self.end += 1;
                     continue;
                 }
-                let part = lacking.min(len - read);
+                let part = missing.min(len - read);
                 let zeros = copy_tail(from.add(read), dest.add(self.end), part);
                 self.mark(dest, zeros);
                 read += part;
@@ -182,63 +183,65 @@ fn find_zero(bytes: &[u8]) -> usize {
     at
 }
 
-/// Decodes up to the first zero or the end. `None` where the frame breaks off or the room is too short.
+/// From this code on a block is copied alone: one copy of more would do most of it again behind a full block.
+const LONG: usize = 64;
+
+/// So many bytes are copied before their codes are known.
+const STRETCH: usize = 512;
+
+/// Decodes up to the first zero or the end: one copy, then a zero at each code, up to a long block. `None` where the frame
+/// breaks off or the room is too short.
 #[inline(never)]
 pub fn decode(source: &[u8], dest: &mut [u8]) -> Option<usize> {
-    let end = find_zero(source);
-    let room = dest.len();
-    let (from, to) = (source.as_ptr(), dest.as_mut_ptr());
+    let source = &source[..find_zero(source)];
     let (mut read, mut written) = (0, 0);
-    unsafe {
-        // A whole block and a copy that runs over its end by up to 15 bytes fit both sides.
-        while end - read > 300 && room - written > 300 {
-            let code = *from.add(read) as usize;
-            if code == 1 {
-                if mask_of(load(from.add(read)), 1) == 0xffff {
-                    store(to.add(written), _mm_setzero_si128());
-                    read += 16;
-                    written += 16;
-                } else {
-                    *to.add(written) = 0;
-                    read += 1;
-                    written += 1;
-                }
-                continue;
-            }
-            let mut at = 0;
-            while at < code - 1 {
-                store(to.add(written + at), load(from.add(read + 1 + at)));
-                at += 16;
-            }
-            read += code;
-            written += code - 1;
-            if code != 255 {
-                *to.add(written) = 0;
-                written += 1;
-            }
-        }
-    }
-    decode_rest(&source[read..end], dest, written)
-}
-
-/// The blocks that are left, with no byte written after what they give.
-#[inline(always)]
-fn decode_rest(rest: &[u8], dest: &mut [u8], written: usize) -> Option<usize> {
-    let (mut rest, mut written) = (rest, written);
-    while let Some(&code) = rest.first() {
-        let code = code as usize;
-        if rest.len() < code || dest.len() - written < code - 1 {
-            return None;
-        }
-        unsafe { copy_tail_or_long(rest.as_ptr().add(1), dest.as_mut_ptr().add(written), code - 1) };
-        written += code - 1;
-        rest = &rest[code..];
-        if code != 255 && !rest.is_empty() {
+    let mut joins = false;
+    while read < source.len() {
+        if joins {
             *dest.get_mut(written)? = 0;
             written += 1;
         }
+        let code = source[read] as usize;
+        let rest = &source[read + 1..];
+        let room = &mut dest[written..];
+        let (taken, last) = if code >= LONG {
+            unsafe { copy_tail_or_long(rest.get(..code - 1)?.as_ptr(), room.get_mut(..code - 1)?.as_mut_ptr(), code - 1) };
+            (code - 1, code)
+        } else {
+            unsafe { decode_stretch(code, rest, room)? }
+        };
+        read += 1 + taken;
+        written += taken;
+        joins = last != 255;
     }
     Some(written)
+}
+
+/// How many bytes behind the first code were decoded, and the last code among them.
+#[inline(always)]
+unsafe fn decode_stretch(code: usize, rest: &[u8], room: &mut [u8]) -> Option<(usize, usize)> {
+    let len = rest.len().min(room.len()).min(STRETCH);
+    let (from, to) = (rest.as_ptr(), room.as_mut_ptr());
+    let (mut at, mut last) = (code - 1, code);
+    unsafe {
+        copy_tail_or_long(from, to, len);
+        while at < len && last < LONG {
+            last = *from.add(at) as usize;
+            if last == 1 && len - at >= 16 && mask_of(load(from.add(at)), 1) == 0xffff {
+                store(to.add(at), _mm_setzero_si128());
+                at += 16;
+            } else {
+                *to.add(at) = 0;
+                at += last;
+            }
+        }
+        if at > len {
+            // The last block goes on behind what was copied.
+            let more = at - len;
+            copy_tail_or_long(rest.get(len..at)?.as_ptr(), room.get_mut(len..at)?.as_mut_ptr(), more);
+        }
+    }
+    Some((at, last))
 }
 
 #[inline(always)]
@@ -313,7 +316,7 @@ impl Decoder {
     }
 
     /// How many bytes were taken, and the message's length where one has ended. `None` for a broken or too long frame.
-    #[inline(always)]
+    #[inline(never)]
     pub fn push(&mut self, bytes: &[u8], dest: &mut [u8]) -> Option<(usize, Option<usize>)> {
         let mut at = 0;
         loop {
@@ -376,7 +379,7 @@ impl Decoder {
         }
     }
 
-    #[inline(always)]
+    #[inline(never)]
     pub fn feed(&mut self, byte: u8, dest: &mut [u8]) -> Option<Option<usize>> {
         if byte == 0 {
             let (ended, left) = (self.open, self.left);
@@ -409,29 +412,23 @@ impl Decoder {
     }
 }
 
-/// The sum of the messages' lengths.
-#[inline(never)]
-pub fn push_in_chunks(stream: &[u8], chunk: usize, dest: &mut [u8]) -> Option<usize> {
-    let mut decoder = Decoder::new();
-    let mut sum = 0;
-    for piece in stream.chunks(chunk) {
-        let mut rest = piece;
-        while !rest.is_empty() {
-            let (taken, ended) = decoder.push(rest, dest)?;
-            sum += ended.unwrap_or(0);
-            rest = &rest[taken..];
+pub fn once(call: &str, work: &mut Work) -> Option<usize> {
+    let chunk = chunk_of(call, work);
+    let Work { messages, frames, stream, room, copies, .. } = work;
+    let dest = room.as_mut_ptr();
+    Some(match call {
+        "encode" => messages.iter().map(|m| unsafe { encode(m, dest) }).sum(),
+        "encoder 8" | "encoder 64" => messages.iter().map(|m| unsafe { encode_in_chunks(m, chunk, dest) }).sum(),
+        "decode" => frames.iter().map(|f| decode(f, room).unwrap()).sum(),
+        "in place" => copies.iter_mut().map(|f| decode_in_place(f).unwrap()).sum(),
+        "push 8" | "push 64" | "push whole" => {
+            let mut decoder = Decoder::new();
+            through(stream, chunk, |piece| decoder.push(piece, room).unwrap())
         }
-    }
-    Some(sum)
-}
-
-/// The same, one byte a step.
-#[inline(never)]
-pub fn feed_each(stream: &[u8], dest: &mut [u8]) -> Option<usize> {
-    let mut decoder = Decoder::new();
-    let mut sum = 0;
-    for &byte in stream {
-        sum += decoder.feed(byte, dest)?.unwrap_or(0);
-    }
-    Some(sum)
+        "feed" => {
+            let mut decoder = Decoder::new();
+            through(stream, 1, |piece| (1, decoder.feed(piece[0], room).unwrap()))
+        }
+        _ => return None,
+    })
 }

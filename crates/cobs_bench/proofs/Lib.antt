@@ -1,3 +1,0 @@
-pub mod ChunkLemmas
-pub mod TallyLemmas
-pub mod StreamFacts
