@@ -1,11 +1,10 @@
 #!/bin/sh
 # Proves crates/cobs_c and builds the library from it, for each processor: prebuilt.sh [/FOLDER]
 #
-# It needs the toolchain's `rt`, in the PATH or in /opt/rattle/bin. The libraries are put into this folder, or into prebuilt/
-# here and in ../rust, with the headers and their sums.
+# It needs the toolchain's `rt` in the PATH. The libraries are put into this folder, or into prebuilt/ with the headers and
+# their sums.
 set -eu
 cd "$(dirname "$0")"
-PATH=$PATH:/opt/rattle/bin
 command -v rt >/dev/null || { echo "prebuilt.sh: it needs the toolchain's rt" >&2; exit 1; }
 crate=../../crates/cobs_c
 folder=${1:-prebuilt}
@@ -15,9 +14,6 @@ for arch in x86_64 aarch64; do
     install -D -m 644 "$crate/out/libcobs_c.a" "$folder/$arch-linux/libjcobs.a"
 done
 [ $# -eq 0 ] || exit 0
-for arch in x86_64 aarch64; do
-    install -D -m 644 -t "../rust/prebuilt/$arch-linux" "prebuilt/$arch-linux/libjcobs.a"
-done
 install -D -m 644 -t prebuilt/include include/jcobs.h include/jcobs.hpp
 (cd prebuilt && sha256sum include/* ./*-linux/libjcobs.a | sed 's|\./||') >prebuilt.new
 mv prebuilt.new prebuilt/SHA256SUMS

@@ -1,4 +1,5 @@
-# find_package(jcobs) defines the target jcobs::jcobs: the static library, and where its headers are.
+# find_package(jcobs) defines the target jcobs::jcobs: the static library, and where its headers are. If the shared library
+# is installed too, it is the target jcobs::shared.
 #
 # This file is installed to lib/cmake/jcobs of a prefix, and finds the library there. In the repository, with
 # CMAKE_PREFIX_PATH naming bindings/c, it takes the one of prebuilt/ for the target's processor.
@@ -25,6 +26,14 @@ if(NOT TARGET jcobs::jcobs)
     set_target_properties(jcobs::jcobs PROPERTIES
         IMPORTED_LOCATION "${_jcobs_library}"
         IMPORTED_LINK_INTERFACE_LANGUAGES C
+        INTERFACE_INCLUDE_DIRECTORIES "${_jcobs_include}")
+endif()
+get_filename_component(_jcobs_library "${CMAKE_CURRENT_LIST_DIR}/../../libjcobs.so" ABSOLUTE)
+if(NOT TARGET jcobs::shared AND EXISTS "${_jcobs_library}")
+    add_library(jcobs::shared SHARED IMPORTED)
+    set_target_properties(jcobs::shared PROPERTIES
+        IMPORTED_LOCATION "${_jcobs_library}"
+        IMPORTED_SONAME libjcobs.so.1
         INTERFACE_INCLUDE_DIRECTORIES "${_jcobs_include}")
 endif()
 unset(_jcobs_include)

@@ -1,16 +1,19 @@
 #!/bin/sh
-# Builds build/TARGET/libjcobs.a for each 32-bit target: build.sh [TARGET..]
+# Builds build/TARGET/libjcobs.a for each 32-bit target, and jcobs.c: build.sh [TARGET..]
 #
 # Rattle names no 32-bit target. So `rt` proves and builds crates/cobs_small for x86-64, in a folder of links to the kit
 # in which `clang` is a script that keeps the module that it is given. The kit's own clang then compiles that module,
-# with each file of calls/, for a device. It needs the kit's `rt`, in the PATH or in /opt/rattle/bin. The archives have to
-# be those of src/, where they are kept for those who have no kit, with the bytes of stack that each function takes; with
-# PREBUILT=1 they are put there.
+# with each file of calls/, for a device. It needs the kit's `rt` in the PATH. The archives have to be those of src/, where
+# they are kept for those who have no kit, with the bytes of stack that each function takes, and jcobs.c and cobs_small.ll
+# those of ../source; with PREBUILT=1 all are put there.
 set -eu
 here=$(cd "$(dirname "$0")" && pwd)
 crate=$here/../../../crates/cobs_small
 build=$here/build
-PATH=$PATH:/opt/rattle/bin
+command -v rt >/dev/null || {
+    echo "build.sh: it needs the toolchain's rt; the archives that it builds are in src/, and jcobs.c in ../source" >&2
+    exit 1
+}
 kit=$(dirname "$(dirname "$(readlink -f "$(command -v rt)")")")
 clang=$kit/toolchain/bin/clang
 if [ "${PREBUILT:-}" = 1 ] && [ $# -gt 0 ]; then
@@ -50,6 +53,17 @@ rm -rf "$build/kit"
     sed -e 's/@jcobs_/@proved_jcobs_/g' -e '/^target /d' \
         -e 's/ *"target-cpu"="[^"]*"//; s/ *"probe-stack"="[^"]*"//; s/ *"stack-probe-size"="[^"]*"//' >"$build/module.ll"
 
+# The same module as C.
+source=$here/../source
+"$source/simplify.py" "$build/module.ll" "$clang" "$build/cobs_small.ll"
+if [ "${PREBUILT:-}" = 1 ]; then
+    cp "$build/cobs_small.ll" "$source/"
+    "$source/translate.py"
+elif ! cmp "$build/cobs_small.ll" "$source/cobs_small.ll" || ! "$source/translate.py" --check; then
+    echo 'build.sh: jcobs.c is another one: PREBUILT=1 build.sh' >&2
+    exit 1
+fi
+
 # Nothing but size_t is taken of a C library.
 mkdir -p "$build/include"
 printf 'typedef __SIZE_TYPE__ size_t;\n#define NULL ((void *)0)\n' >"$build/include/stddef.h"
@@ -86,4 +100,7 @@ for target; do
     done
     echo "$out/libjcobs.a"
 done
-[ "${PREBUILT:-}" != 1 ] || "$here/../../../tests/prebuilt.py" --write device
+[ "${PREBUILT:-}" != 1 ] || {
+    "$here/tests/sizes.py" --write || true
+    "$here/../../../tests/prebuilt.py" --write device
+}

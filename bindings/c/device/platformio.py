@@ -1,4 +1,5 @@
-"""Adds the library that is built for the board's processor to a PlatformIO project."""
+"""Takes the archive that is built for the board's processor in a PlatformIO project, and jcobs.c for any other."""
+
 from os.path import join
 
 Import("env")  # noqa: F821 - SCons gives it
@@ -6,15 +7,18 @@ Import("env")  # noqa: F821 - SCons gives it
 CORES = {
     "cortex-m0": "cortex-m0plus",
     "cortex-m0plus": "cortex-m0plus",
+    "cortex-m1": "cortex-m0plus",
     "cortex-m3": "cortex-m0plus",
+    "cortex-m23": "cortex-m0plus",
     "cortex-m4": "cortex-m4",
     "cortex-m7": "cortex-m4",
     "cortex-m33": "cortex-m4",
+    "cortex-m55": "cortex-m4",
     "rv32imac": "riscv32imac",
 }
 board = env.BoardConfig()  # noqa: F821
-processor = board.get("build.cpu", board.get("build.march", ""))
-if processor not in CORES:
-    raise SystemExit(f"jcobs: no library is built for {processor or 'this board'}")
-folder = Dir(".").srcnode().abspath  # noqa: F821
-env.Append(LIBPATH=[join(folder, "src", CORES[processor])], LIBS=["jcobs"])  # noqa: F821
+core = CORES.get(board.get("build.cpu", board.get("build.march", "")))
+if core:
+    folder = Dir(".").srcnode().abspath  # noqa: F821
+    env.Append(LIBPATH=[join(folder, "src", core)], LIBS=["jcobs"])  # noqa: F821
+    env.Replace(SRC_FILTER=["-<*>"])  # noqa: F821

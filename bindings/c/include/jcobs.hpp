@@ -1,4 +1,4 @@
-// jcobs.hpp: jcobs.h for C++17. It has only inline functions, throws nothing and allocates nothing.
+// jcobs.hpp: jcobs.h for C++17. It has only inline functions, allocates nothing, and throws only what a callback throws.
 //
 // To receive, in reads of any size:
 //
@@ -64,6 +64,15 @@ struct is_bytes<
                                                                 std::is_same_v<std::remove_const_t<element>, char>);
 };
 
+// Whether a range is a temporary that has bytes of its own, which end with it, unlike a view's: a view that is const still
+// gives bytes that aren't.
+template <class Range, class = void> struct is_temporary : std::false_type {
+};
+template <class Range>
+struct is_temporary<Range, std::enable_if_t<!std::is_lvalue_reference_v<Range> && is_bytes<Range, const char>::value>>
+    : std::is_const<std::remove_pointer_t<decltype(std::data(std::declval<const Range &>()))>> {
+};
+
 } // namespace detail
 
 // Bytes that are elsewhere, by a pointer and a length, as std::span of C++20. A view is made of any container or view
@@ -116,51 +125,65 @@ using view = basic_view<const unsigned char>; // bytes that are read
 using buffer = basic_view<unsigned char>;     // bytes that are written
 
 // Returns the length of the longest frame of a message of this length, without a terminator.
-constexpr std::size_t max_length(std::size_t message_len) noexcept
+[[nodiscard]] constexpr std::size_t max_length(std::size_t message_len) noexcept
 {
     return JCOBS_MAX_LENGTH(message_len);
 }
 
+// Returns how many bytes longer that frame is than its message.
+constexpr std::size_t max_overhead(std::size_t message_len) noexcept
+{
+    return JCOBS_MAX_OVERHEAD(message_len);
+}
+
 // Encode a message to the front of a buffer, without a terminator or with one.
-inline jcobs_answer encode(view message, buffer frame) noexcept
+[[nodiscard]] inline jcobs_answer encode(view message, buffer frame) noexcept
 {
     return jcobs_encode(message.data(), message.size(), frame.data(), frame.size());
 }
-inline jcobs_answer encode(view message, buffer frame, unsigned char sentinel) noexcept
+[[nodiscard]] inline jcobs_answer encode(view message, buffer frame, unsigned char sentinel) noexcept
 {
     return jcobs_encode_with_sentinel(message.data(), message.size(), frame.data(), frame.size(), sentinel);
 }
-inline jcobs_answer encode_terminated(view message, buffer frame) noexcept
+[[nodiscard]] inline jcobs_answer encode_terminated(view message, buffer frame) noexcept
 {
     return jcobs_encode_terminated(message.data(), message.size(), frame.data(), frame.size());
 }
-inline jcobs_answer encode_terminated(view message, buffer frame, unsigned char sentinel) noexcept
+[[nodiscard]] inline jcobs_answer encode_terminated(view message, buffer frame, unsigned char sentinel) noexcept
 {
     return jcobs_encode_terminated_with_sentinel(message.data(), message.size(), frame.data(), frame.size(), sentinel);
 }
 
-// Decode a frame of the source to the front of a buffer. Without a sentinel, zeros in front of it are skipped.
-inline jcobs_answer decode(view source, buffer message) noexcept
+// Encodes the message that lies in the buffer from max_overhead(message_len) on, to the front of the buffer.
+[[nodiscard]] inline jcobs_answer encode_in_place(buffer bytes, std::size_t message_len) noexcept
+{
+    return jcobs_encode_in_place(bytes.data(), bytes.size(), message_len);
+}
+
+// Decodes the first frame of the source to the front of a buffer. Zeros in front of it are skipped.
+[[nodiscard]] inline jcobs_answer decode(view source, buffer message) noexcept
 {
     return jcobs_decode(source.data(), source.size(), message.data(), message.size());
 }
-inline jcobs_answer decode(view source, buffer message, unsigned char sentinel) noexcept
+
+// Decodes the frame at the front of the source, for this sentinel. No sentinel is skipped: one in front is an empty message.
+[[nodiscard]] inline jcobs_answer decode_with_sentinel(view source, buffer message, unsigned char sentinel) noexcept
 {
     return jcobs_decode_with_sentinel(source.data(), source.size(), message.data(), message.size(), sentinel);
 }
 
 // Decode the frame at the front of a buffer in place.
-inline jcobs_answer decode_in_place(buffer bytes) noexcept
+[[nodiscard]] inline jcobs_answer decode_in_place(buffer bytes) noexcept
 {
     return jcobs_decode_in_place(bytes.data(), bytes.size());
 }
-inline jcobs_answer decode_in_place(buffer bytes, unsigned char sentinel) noexcept
+[[nodiscard]] inline jcobs_answer decode_in_place(buffer bytes, unsigned char sentinel) noexcept
 {
     return jcobs_decode_in_place_with_sentinel(bytes.data(), bytes.size(), sentinel);
 }
 
 // Returns what bytes without sentinels around them are.
-inline jcobs_kind frame_kind(view bytes) noexcept
+[[nodiscard]] inline jcobs_kind frame_kind(view bytes) noexcept
 {
     return static_cast<jcobs_kind>(jcobs_frame_kind(bytes.data(), bytes.size()));
 }
@@ -173,11 +196,14 @@ class receiver
     explicit receiver(buffer messages, unsigned char sentinel = 0) noexcept : buffer_(messages), sentinel_(sentinel)
     {
     }
+    template <class Range, std::enable_if_t<detail::is_temporary<Range>::value, int> = 0>
+    explicit receiver(Range &&messages, unsigned char sentinel = 0) = delete;
     receiver(const receiver &) = delete;
     receiver &operator=(const receiver &) = delete;
 
     // Calls on_message(view) for each message that ends in these bytes, and on_error(jcobs_answer) for each frame that
-    // is broken or too long. The message is in the buffer until the next push.
+    // is broken or too long. The message is in the buffer until the next push. If one of the two throws, the bytes through
+    // that frame are taken, and those after it are not; the receiver is idle, and a next push begins a new frame.
     template <class OnMessage, class OnError> void push(view bytes, OnMessage &&on_message, OnError &&on_error)
     {
         for (std::size_t at = 0; at < bytes.size();) {
@@ -196,15 +222,15 @@ class receiver
         push(bytes, std::forward<OnMessage>(on_message), [](jcobs_answer) {});
     }
 
-    // Takes one byte, faster than a push. The message, if the status is JCOBS_OK, is the first bytes of the buffer.
-    jcobs_answer feed(unsigned char byte) noexcept
+    // Takes one byte. The message, if the status is JCOBS_OK, is the first bytes of the buffer.
+    [[nodiscard]] jcobs_answer feed(unsigned char byte) noexcept
     {
         const auto fed = static_cast<unsigned char>(byte ^ sentinel_);
         return jcobs_decoder_feed(&decoder_, buffer_.data(), buffer_.size(), fed);
     }
 
     // Returns whether no frame is open.
-    bool is_idle() const noexcept
+    [[nodiscard]] bool is_idle() const noexcept
     {
         return jcobs_decoder_is_idle(&decoder_) == 1;
     }
@@ -235,6 +261,8 @@ class sender
     explicit sender(buffer frame) noexcept : buffer_(frame)
     {
     }
+    template <class Range, std::enable_if_t<detail::is_temporary<Range>::value, int> = 0>
+    explicit sender(Range &&frame) = delete;
     sender(const sender &) = delete;
     sender &operator=(const sender &) = delete;
 

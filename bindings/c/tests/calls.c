@@ -34,8 +34,11 @@ static void test_constants(void)
 
     expect(sizeof at_compile_time == 257, "JCOBS_MAX_LENGTH(255) is 257");
     expect(JCOBS_MAX_LENGTH(0) == 1 && JCOBS_MAX_LENGTH(254) == 255, "JCOBS_MAX_LENGTH of 0 and of 254");
-    expect(JCOBS_MAX_LENGTH(byte) == 257 && JCOBS_MAX_LENGTH(word) == jcobs_max_length(word) &&
-               JCOBS_MAX_LENGTH(4294967295u) == 4311876616ul && JCOBS_MAX_LENGTH(2147483647) == 2155938308ul,
+    expect(JCOBS_MAX_LENGTH(byte) == 257 && JCOBS_MAX_LENGTH(2147483647) == 2155938308ul,
+           "JCOBS_MAX_LENGTH of each type");
+    expect(sizeof(size_t) < 8
+               ? jcobs_max_length(word) == 0
+               : JCOBS_MAX_LENGTH(word) == jcobs_max_length(word) && JCOBS_MAX_LENGTH(4294967295u) == 4311876616ul,
            "JCOBS_MAX_LENGTH of each type");
     expect(jcobs_max_length((size_t)-1) == 0, "no length that doesn't fit");
     expect(jcobs_version() == JCOBS_VERSION, "the version is the header's");
@@ -90,6 +93,38 @@ static void test_null(void)
            "an empty message needs no buffer");
     expect(is_answer(jcobs_encoder_push(&encoder, NULL, 0, NULL, 0), JCOBS_TOO_SMALL, 0, 0), "encoder");
     expect(is_answer(jcobs_encoder_push(&encoder, room, 2, NULL, 0), JCOBS_OK, 0, 1), "encoder, no bytes");
+}
+
+/* A message in its own buffer gives the frame that encoding it to another one gives, and what is behind stays. */
+static void test_encode_in_place(void)
+{
+    static unsigned char message[3 * 254 + 2];
+    unsigned int zeros;
+    size_t length;
+
+    for (zeros = 1; zeros < 1024; zeros *= 4)
+        for (length = 0; length <= sizeof message; length++) {
+            static unsigned char frame[JCOBS_MAX_LENGTH(sizeof message) + 8];
+            static unsigned char bytes[sizeof frame];
+            size_t room = jcobs_max_length(length);
+            size_t overhead = JCOBS_MAX_OVERHEAD(length);
+            jcobs_answer answer;
+            size_t i;
+
+            for (i = 0; i < length; i++)
+                message[i] = (unsigned char)((i + length) % zeros == 0 ? 0 : i % 255 + 1);
+            memset(frame, 0xaa, sizeof frame);
+            memcpy(frame + overhead, message, length);
+            memcpy(bytes, frame, sizeof bytes);
+            answer = jcobs_encode_in_place(bytes, room - 1, length);
+            expect(is_answer(answer, JCOBS_TOO_SMALL, 0, 0) && memcmp(bytes, frame, sizeof bytes) == 0, "too short");
+            answer = jcobs_encode(message, length, frame, room);
+            expect(is_answer(jcobs_encode_in_place(bytes, room, length), JCOBS_OK, length, answer.length), "in place");
+            expect(memcmp(bytes, frame, sizeof bytes) == 0, "the frame, and what was behind it");
+        }
+    expect(is_answer(jcobs_encode_in_place(NULL, 0, 0), JCOBS_TOO_SMALL, 0, 0), "no room for the empty message");
+    expect(is_answer(jcobs_encode_in_place(message, sizeof message, (size_t)-1), JCOBS_TOO_SMALL, 0, 0),
+           "no such length");
 }
 
 /* A message in pieces, ended in each of the four ways, is what encoding it at once is; a byte is a push of one. */
@@ -241,6 +276,7 @@ int main(void)
     test_constants();
     test_texts();
     test_null();
+    test_encode_in_place();
     test_finish();
     test_streams();
     test_in_place();

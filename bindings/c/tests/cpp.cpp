@@ -9,6 +9,9 @@
 #include <string_view>
 #include <type_traits>
 #include <vector>
+#if __cplusplus >= 202002L
+#include <span>
+#endif
 
 using namespace std::string_view_literals;
 
@@ -23,6 +26,18 @@ static_assert(!is_written<std::string_view> && !is_written<const std::array<std:
 static_assert(!is_written<jcobs::view> && !is_written<char (&)[6]>);
 static_assert(jcobs::max_length(0) == 1 && jcobs::max_length(254) == 255 && jcobs::max_length(255) == 257);
 static_assert(!std::is_copy_constructible_v<jcobs::receiver> && !std::is_copy_constructible_v<jcobs::sender>);
+
+// Buffers that end with the expression aren't taken; views of buffers that don't are.
+template <class Range> constexpr bool is_kept = std::is_constructible_v<jcobs::receiver, Range>;
+template <class Range> constexpr bool is_sent = std::is_constructible_v<jcobs::sender, Range>;
+static_assert(is_kept<std::vector<unsigned char> &> && is_kept<std::array<char, 4> &> && is_kept<unsigned char (&)[4]>);
+static_assert(!is_kept<std::vector<unsigned char>> && !is_kept<std::array<char, 4>> && !is_kept<std::string>);
+static_assert(is_sent<std::vector<unsigned char> &> && is_sent<jcobs::buffer> && is_kept<jcobs::buffer>);
+static_assert(!is_sent<std::vector<unsigned char>> && !is_sent<std::array<std::byte, 4>>);
+static_assert(!std::is_constructible_v<jcobs::receiver, std::vector<unsigned char>, unsigned char>);
+#if __cplusplus >= 202002L
+static_assert(is_kept<std::span<unsigned char>> && is_sent<std::span<std::byte, 4>> && !is_kept<std::span<const char>>);
+#endif
 
 static int failures = 0;
 
@@ -47,8 +62,12 @@ static void test_calls()
 
     expect(jcobs::encode("a\0b"sv, room).length == 4 && equal({room.data(), 4}, "\2a\2b"sv), "encode");
     expect(jcobs::decode({room.data(), 4}, message).length == 3 && equal({message.data(), 3}, "a\0b"sv), "decode");
+    std::memcpy(room.data() + jcobs::max_overhead(3), "a\0b", 3);
+    expect(jcobs::encode_in_place(room, 3).length == 4 && equal({room.data(), 4}, "\2a\2b"sv), "encode in place");
     expect(jcobs::encode_terminated("hi"sv, room, 7).length == 4 && room[3] == std::byte{7}, "for a sentinel");
-    expect(jcobs::decode({room.data(), 4}, message, 7).consumed == 4, "decode for a sentinel");
+    expect(jcobs::decode_with_sentinel({room.data(), 4}, message, 7).consumed == 4, "decode for a sentinel");
+    expect(jcobs::decode("\0\2\7\0"sv, message).consumed == 4, "decode skips zeros");
+    expect(jcobs::decode_with_sentinel("\0\2\7\0"sv, message, 0).consumed == 1, "and this doesn't");
     expect(jcobs::decode_in_place({room.data(), 4}, 7).length == 2 && equal({room.data(), 2}, "hi"sv), "in place");
     expect(jcobs::encode("hi"sv, none).status == JCOBS_TOO_SMALL, "no room");
     expect(jcobs::decode(none, message).status == JCOBS_EMPTY, "no bytes");
@@ -83,7 +102,7 @@ static void test_streams()
     expect(receiver.is_idle(), "reset");
     for (const char byte : "\4he"sv)
         expect(receiver.feed(static_cast<unsigned char>(byte)).status == JCOBS_MORE, "more");
-    receiver.feed('y');
+    expect(receiver.feed('y').status == JCOBS_MORE, "and more");
     expect(receiver.feed(0).length == 3 && equal({messages, 3}, "hey"sv), "byte by byte");
 
     jcobs::receiver lines(messages, '\n');

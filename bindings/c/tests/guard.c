@@ -180,7 +180,7 @@ int main(int argc, char **argv)
         fill(in.data, in.len);
         if ((random_word() & 3) == 0)
             fill(out.data, out.len);
-        switch (random_word() % 16) {
+        switch (random_word() % 17) {
         case 0:
             answer = jcobs_encode(in.data, in.len, out.data, out.len);
             break;
@@ -239,6 +239,10 @@ int main(int argc, char **argv)
             answer = jcobs_encoder_feed((jcobs_encoder *)(void *)state_bytes, out.data, out.len, sentinel);
             taken = 1;
             memcpy(&encoder, state_bytes, sizeof encoder);
+            break;
+        case 12:
+            taken = some_length();
+            answer = jcobs_encode_in_place(out.data, out.len, taken);
             break;
         default:
             if (garbage)

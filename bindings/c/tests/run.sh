@@ -109,7 +109,7 @@ over() { # PREFIX
     cflags=$(pkg-config --cflags jcobs)
     source=$1/share/doc/jcobs/examples/send_lines.c
     "${CC:-cc}" "$source" $cflags $(pkg-config --variable=archive jcobs) -o "$work/static" &&
-        "${CC:-cc}" "$source" $cflags $(pkg-config --libs jcobs) -o "$work/shared" || return 1
+        "${CC:-cc}" "$source" $cflags $(pkg-config --libs jcobs) $(pkg-config --variable=runpath jcobs) -o "$work/shared" || return 1
     for program in static shared; do
         prints ' 03 68 69 00' sh -c "echo hi | env -u LD_LIBRARY_PATH '$work/$program' | od -An -tx1" || return 1
     done
@@ -126,7 +126,7 @@ usr_local() (
     unshare -rm sh -c 'mount -t tmpfs none /usr/local && make -o "$at/libjcobs.a" install &&
         cd "$work" && PKG_CONFIG_LIBDIR=/usr/local/lib/pkgconfig &&
         export PKG_CONFIG_LIBDIR && cc /usr/local/share/doc/jcobs/examples/send_lines.c \
-        $(pkg-config --cflags --libs jcobs) -o shared && echo hi | env -u LD_LIBRARY_PATH ./shared >sent' &&
+        $(pkg-config --cflags --libs jcobs) $(pkg-config --variable=runpath jcobs) -o shared && echo hi | env -u LD_LIBRARY_PATH ./shared >sent' &&
         prints ' 03 68 69 00' od -An -tx1 "$work/sent"
 )
 
@@ -134,6 +134,10 @@ usr_local() (
 no_allocator() {
     "${CXX:-c++}" -std=c++17 -fno-exceptions -fno-rtti -O2 -Iinclude -c tests/cpp.cpp -o "$work/cpp.o" &&
         ! nm -uC "$work/cpp.o" | grep -E 'operator (new|delete)|malloc|throw|__cxa'
+}
+
+throws() {
+    "${CXX:-c++}" -std=c++17 $flags -Iinclude tests/throws.cpp "$at/libjcobs.a" -o "$work/throws" && "$work/throws"
 }
 
 # A switch that leaves a status out is a warning, and one that has all is none.
@@ -149,18 +153,29 @@ switches() {
 }
 
 # The examples by find_package, over a folder that CMAKE_PREFIX_PATH names; version 2 isn't found.
-found_by_cmake() { # PREFIX
+found_by_cmake() { # PREFIX TARGET
     rm -rf "$work/cmake"
-    cmake -S examples -B "$work/cmake" -DCMAKE_PREFIX_PATH="$1" && cmake --build "$work/cmake" || return 1
+    mkdir -p "$work/example" && cp examples/*.c* "$work/example" && sed "s/jcobs::jcobs/$2/" examples/CMakeLists.txt >"$work/example/CMakeLists.txt" &&
+        cmake -S "$work/example" -B "$work/cmake" -DCMAKE_PREFIX_PATH="$1" && cmake --build "$work/cmake" || return 1
     echo hi | "$work/cmake/send_lines" | prints 'message 2 6869' "$work/cmake/read_frames" || return 1
     mkdir -p "$work/second" && sed 's/jcobs 1.0/jcobs 2.0/; /^add_executable/,$d' examples/CMakeLists.txt >"$work/second/CMakeLists.txt"
     ! cmake -S "$work/second" -B "$work/second/build" -DCMAKE_PREFIX_PATH="$1" >"$work/cmaked" 2>&1 &&
         grep -q 'not compatible\|considered but not accepted' "$work/cmaked"
 }
 
-# Packed for /usr, where no run path is needed.
+# A project that fetches the folder: over the built library, or jcobs.c.
+fetched() { # FLAG..
+    rm -rf "$work/fetching" && mkdir -p "$work/fetching" && cp examples/messages.cpp "$work/fetching" || return 1
+    printf 'cmake_minimum_required(VERSION 3.16)\nproject(fetching LANGUAGES C CXX)\nset(CMAKE_CXX_STANDARD 17)\ninclude(FetchContent)\nFetchContent_Declare(jcobs SOURCE_DIR "%s")\nFetchContent_MakeAvailable(jcobs)\nadd_executable(messages messages.cpp)\ntarget_link_libraries(messages jcobs::jcobs)\n' \
+        "$c" >"$work/fetching/CMakeLists.txt"
+    cmake -S "$work/fetching" -B "$work/fetching/build" "$@" && cmake --build "$work/fetching/build" && "$work/fetching/build/messages"
+}
+
+# Packed for /usr: nothing in the package has a run path, and each link of the README leads to a file.
 packed() (
-    make install "DESTDIR=$work/root" PREFIX=/usr && ! grep rpath "$work/root/usr/lib/pkgconfig/jcobs.pc"
+    make install "DESTDIR=$work/root" PREFIX=/usr && ! grep '^Libs.*rpath' "$work/root/usr/lib/pkgconfig/jcobs.pc" || return 1
+    cd "$work/root/usr/share/doc/jcobs" && sed -n 's/.*](\([^) ]*\)).*/\1/p' README.md >"$work/links" && test -s "$work/links" &&
+        while read -r link; do test -e "$link" || { echo "$link"; return 1; }; done <"$work/links"
 )
 
 # The tarball has the same bytes twice, and unpacked elsewhere its own pkg-config file finds the rest.
@@ -183,9 +198,6 @@ sums() (
     for header in jcobs.h jcobs.hpp; do
         cmp "include/$header" "prebuilt/include/$header" || return 1
     done
-    for arch in x86_64 aarch64; do
-        cmp "prebuilt/$arch-linux/libjcobs.a" "../rust/prebuilt/$arch-linux/libjcobs.a" || return 1
-    done
     cd prebuilt && sha256sum -c SHA256SUMS
 )
 
@@ -198,6 +210,64 @@ manual() (
         grep -q "${call%_with_sentinel}" "$work/page" || { echo "no page for $call"; return 1; }
     done
 )
+
+# jcobs.c, alone, by each compiler and in each language that it is for.
+source_compiles() {
+    strict='-Wall -Wextra -Wpedantic -Wconversion -Wsign-conversion -Wshadow -Wcast-qual -Wstrict-prototypes -Werror'
+    for compiler in gcc clang; do
+        command -v $compiler >/dev/null || continue
+        for standard in c99 c11 c17 c2x gnu99; do
+            $compiler -std=$standard -O2 $strict -Iinclude -c source/jcobs.c -o "$work/source.o" || return 1
+        done
+    done
+    for compiler in g++ clang++; do
+        command -v $compiler >/dev/null || continue
+        for standard in c++98 c++11 c++17 c++20; do
+            $compiler -std=$standard -O2 ${strict% -Wstrict-prototypes*} -Werror -Iinclude -x c++ -c source/jcobs.c -o "$work/source.o" || return 1
+        done
+    done
+    # It calls nothing, and has no variables.
+    gcc -std=c99 -O2 -fno-tree-loop-distribute-patterns -Iinclude -c source/jcobs.c -o "$work/source.o" &&
+        ! nm "$work/source.o" | grep -v ' [TtrR] '
+}
+
+# What cppcheck finds, with the mandatory rules of MISRA C.
+source_checked() {
+    cppcheck --quiet --std=c99 --enable=warning,portability,performance --error-exitcode=1 -Iinclude --suppress=missingIncludeSystem source/jcobs.c &&
+        cppcheck --quiet --std=c99 --addon=misra -Iinclude --suppress=missingIncludeSystem source/jcobs.c 2>&1 |
+        grep -E 'misra-c2012-(9\.1|9\.7|12\.5|13\.6|17\.[3469]|18\.10|19\.1|21\.(13|17|18|19|20|22)|22\.[24567])\]' >"$work/misra"
+    ! cat "$work/misra" | grep .
+}
+
+# The tests over jcobs.c: the vectors, the calls, random calls between guarded pages, and beside plain C.
+source_builds() { # COMPILER FLAG..
+    for test in tests/vectors.c tests/calls.c tests/guard.c 'device/tests/random.c device/tests/plain.c'; do
+        built=${test##*tests/}
+        "$@" -std=c99 $flags -DWITH_SENTINELS -Iinclude -Idevice/tests source/jcobs.c $test -o "$work/source.${built%.c}" || return 1
+    done
+}
+
+source_tests() { # PROCESSOR CALLS
+    part "jcobs.c on $1: vectors" $run "$work/source.vectors" ../../conformance/*.txt
+    part "jcobs.c on $1: constants, texts, NULL, loops" $run "$work/source.calls"
+    part "jcobs.c on $1: $2 random calls between pages without access" $run "$work/source.guard" "$2"
+    part "jcobs.c on $1: $2 random calls beside plain C" $run "$work/source.plain" "$2"
+}
+
+# The library by make for a processor that has none in prebuilt/, linked to a program and shared.
+made_of_source() { # ARCH: its program is run by $run
+    make TARGET="$1-unknown-linux-gnu" "build/$1-unknown-linux-gnu/send_lines" "build/$1-unknown-linux-gnu/libjcobs.so" &&
+        prints ' 03 68 69 00' sh -c "echo hi | $run build/$1-unknown-linux-gnu/send_lines | od -An -tx1"
+}
+
+source_on() { # PROCESSOR PREFIX PACKAGE CALLS
+    if has "$2-gcc" "gcc-$2" "jcobs.c on $1" && links "$2-gcc" "$3" "jcobs.c on $1" && has "qemu-${1%% *}" qemu-user "jcobs.c on $1"; then
+        run="qemu-${1%% *} -L /usr/$2"
+        part "jcobs.c on $1: build" source_builds "$2-gcc" -O2 && source_tests "$1" "$4"
+        [ "${1%% *}" != s390x ] || part "make for $1, which has no built library" made_of_source s390x
+        run=
+    fi
+}
 
 run=
 at=$here
@@ -226,6 +296,7 @@ part 'vectors' "$at/vectors" ../../conformance/*.txt
 part 'calls: constants, texts, NULL, loops' "$at/calls"
 part 'calls by the shared library' shared
 part 'jcobs.hpp' "$at/cpp"
+part 'jcobs.hpp, if a callback throws' throws
 part 'jcobs.hpp without an allocator' no_allocator
 part 'a switch over the status' switches
 part '1,000,000 random calls between pages without access' "$at/guard" 1000000
@@ -247,8 +318,13 @@ if has pkg-config pkg-config 'install and dist'; then
     fi
 fi
 if has cmake cmake 'find_package'; then
-    part 'find_package in the repository' found_by_cmake "$c"
-    part 'find_package in a prefix' found_by_cmake "$work/prefix"
+    part 'find_package in the repository' found_by_cmake "$c" jcobs::jcobs
+    part 'find_package in a prefix' found_by_cmake "$work/prefix" jcobs::jcobs
+    part 'find_package in a prefix, shared' found_by_cmake "$work/prefix" jcobs::shared
+fi
+if has cmake cmake FetchContent; then
+    part 'FetchContent: the built library' fetched
+    part 'FetchContent: jcobs.c' fetched -DJCOBS_FROM_SOURCE=ON
 fi
 if has musl-gcc musl-tools 'over musl'; then
     part 'over musl' over_musl
@@ -260,6 +336,18 @@ fi
 if has clang-format clang-format 'layout'; then
     part 'layout' clang-format --dry-run -Werror include/jcobs.h include/jcobs.hpp examples/*.c examples/*.cpp tests/*.c tests/*.cpp
 fi
+if has python3 python3 'jcobs.c is made of cobs_small.ll'; then
+    part 'jcobs.c is what translate.py makes of cobs_small.ll' python3 source/translate.py --check
+fi
+part 'jcobs.c by gcc and clang, C99 to C23, C++98 to C++20' source_compiles
+if has cppcheck cppcheck 'jcobs.c by cppcheck'; then
+    part 'jcobs.c by cppcheck, with the mandatory rules of MISRA C' source_checked
+fi
+part 'jcobs.c with sanitizers: build' source_builds "${CC:-cc}" -O1 -g -fsanitize=address,undefined -fno-sanitize-recover=all &&
+    source_tests "$machine with sanitizers" 100000
+source_on aarch64 aarch64-linux-gnu libc6-dev-arm64-cross 20000
+source_on 's390x (big-endian)' s390x-linux-gnu libc6-dev-s390x-cross 20000
+source_on 'ppc (32 bits, big-endian)' powerpc-linux-gnu libc6-dev-powerpc-cross 20000
 if [ "$machine" != aarch64 ] && has aarch64-linux-gnu-gcc gcc-aarch64-linux-gnu aarch64 &&
     links aarch64-linux-gnu-gcc libc6-dev-arm64-cross aarch64 && has qemu-aarch64 qemu-user aarch64; then
     at=build/aarch64-unknown-linux-gnu

@@ -219,6 +219,15 @@ static void run_encode_vec(int with_sentinel)
                 : jcobs_encode_terminated(message.data, message.len, exact, answer.length);
     expect("no room for a terminator", again.status == JCOBS_TOO_SMALL && again.consumed == 0 && again.length == 0 &&
                                            exact[0] == 0xaa && exact[answer.length - 1] == 0xaa);
+    if (!with_sentinel) {
+        again = jcobs_encode(message.data, message.len, exact, answer.length);
+        expect("exactly its room", again.status == JCOBS_OK && again.length == answer.length);
+        if (message.len > 0)
+            memcpy(frame + JCOBS_MAX_OVERHEAD(message.len), message.data, message.len);
+        again = jcobs_encode_in_place(frame, room - 1, message.len);
+        expect("in place", again.status == JCOBS_OK && again.length == answer.length && again.consumed == message.len &&
+                               memcmp(frame, exact, answer.length) == 0);
+    }
     free(exact);
     free(frame);
     free(message.data);

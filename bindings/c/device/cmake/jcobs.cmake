@@ -1,6 +1,19 @@
 # The library as a target: include(.../bindings/c/device/cmake/jcobs.cmake), then target_link_libraries(program jcobs::jcobs).
-# JCOBS_CORE names a folder of src/; a toolchain file can set it.
-add_library(jcobs::jcobs STATIC IMPORTED)
-set_target_properties(jcobs::jcobs PROPERTIES
-    IMPORTED_LOCATION "${CMAKE_CURRENT_LIST_DIR}/../src/${JCOBS_CORE}/libjcobs.a"
-    INTERFACE_INCLUDE_DIRECTORIES "${CMAKE_CURRENT_LIST_DIR}/../../include")
+#
+# JCOBS_CORE names a folder of src/, whose archive is taken; a toolchain file can set it. Without it jcobs.c is compiled.
+if(NOT TARGET jcobs::jcobs)
+    get_filename_component(_jcobs_src "${CMAKE_CURRENT_LIST_DIR}/../src" ABSOLUTE)
+    if(NOT JCOBS_CORE)
+        add_library(jcobs STATIC "${_jcobs_src}/jcobs.c")
+        target_include_directories(jcobs PUBLIC "${_jcobs_src}")
+        add_library(jcobs::jcobs ALIAS jcobs)
+    elseif(EXISTS "${_jcobs_src}/${JCOBS_CORE}/libjcobs.a")
+        add_library(jcobs::jcobs STATIC IMPORTED GLOBAL)
+        set_target_properties(jcobs::jcobs PROPERTIES
+            IMPORTED_LOCATION "${_jcobs_src}/${JCOBS_CORE}/libjcobs.a"
+            INTERFACE_INCLUDE_DIRECTORIES "${_jcobs_src}")
+    else()
+        message(FATAL_ERROR "jcobs: ${_jcobs_src} has no folder ${JCOBS_CORE}: without JCOBS_CORE, jcobs.c is compiled")
+    endif()
+    unset(_jcobs_src)
+endif()

@@ -61,8 +61,8 @@
  *
  * A pointer that comes with a length must be valid for reads of that many bytes, and for writes unless it is
  * const. If the length is 0, the pointer isn't used and may be NULL. Lengths count bytes and are at most
- * PTRDIFF_MAX. The buffers of a call must not overlap each other or the state: to decode in place, use
- * jcobs_decode_in_place.
+ * PTRDIFF_MAX. The buffers of a call must not overlap each other or the state: to work in place, use
+ * jcobs_encode_in_place and jcobs_decode_in_place.
  *
  * A pointer to a state must be valid. The state's contents may be anything: even if they are corrupt, no call
  * accesses memory outside the buffers, each call returns, and consumed and length are within the buffers.
@@ -200,6 +200,20 @@ typedef struct jcobs_encoder {
 #define JCOBS_ENCODER_INIT {0, 0, 0}
 /* clang-format on */
 
+/* What GCC and Clang check of a call: that its result is used, and GCC also that the pointers have room for the lengths. */
+#ifdef __GNUC__
+#define JCOBS_CHECKED __attribute__((warn_unused_result))
+#define JCOBS_STATE __attribute__((nonnull(1)))
+#else
+#define JCOBS_CHECKED
+#define JCOBS_STATE
+#endif
+#if defined(__GNUC__) && __GNUC__ >= 11 && !defined(__clang__)
+#define JCOBS_ACCESS(mode, pointer, length) __attribute__((access(mode, pointer, length)))
+#else
+#define JCOBS_ACCESS(mode, pointer, length)
+#endif
+
 /* Returns the length of the longest frame of a message of this length, without a terminator: the length, and 1 for
  * each 254 bytes begun, and 1 for the empty message. If that doesn't fit a size_t, the function returns 0.
  *
@@ -208,43 +222,57 @@ typedef struct jcobs_encoder {
 #define JCOBS_MAX_LENGTH(message_len)                                                                                  \
     (sizeof(char) * (message_len) + sizeof(char) * (message_len) / 254 +                                               \
      (sizeof(char) * (message_len) % 254 != 0 || (message_len) == 0 ? 1 : 0))
-size_t jcobs_max_length(size_t message_len);
+size_t jcobs_max_length(size_t message_len) JCOBS_CHECKED;
 
 /* Writes the frame of the message to the front of `frame`. Room for jcobs_max_length(message_len) bytes always
  * suffices; the status is TOO_SMALL exactly if the frame itself doesn't fit. */
-jcobs_answer jcobs_encode(const void *message, size_t message_len, void *frame, size_t frame_len);
+jcobs_answer jcobs_encode(const void *message, size_t message_len, void *frame, size_t frame_len)
+    JCOBS_ACCESS(read_only, 1, 2) JCOBS_ACCESS(write_only, 3, 4) JCOBS_CHECKED;
 
 /* Does the same, with a zero after the frame, which needs one byte more. */
-jcobs_answer jcobs_encode_terminated(const void *message, size_t message_len, void *frame, size_t frame_len);
+jcobs_answer jcobs_encode_terminated(const void *message, size_t message_len, void *frame, size_t frame_len)
+    JCOBS_ACCESS(read_only, 1, 2) JCOBS_ACCESS(write_only, 3, 4) JCOBS_CHECKED;
 
 /* Do the same for another sentinel: each byte of the frame is XORed with it. The terminator is the sentinel. */
 jcobs_answer jcobs_encode_with_sentinel(const void *message, size_t message_len, void *frame, size_t frame_len,
-                                        unsigned char sentinel);
+                                        unsigned char sentinel) JCOBS_ACCESS(read_only, 1, 2)
+    JCOBS_ACCESS(write_only, 3, 4) JCOBS_CHECKED;
 jcobs_answer jcobs_encode_terminated_with_sentinel(const void *message, size_t message_len, void *frame,
-                                                   size_t frame_len, unsigned char sentinel);
+                                                   size_t frame_len, unsigned char sentinel)
+    JCOBS_ACCESS(read_only, 1, 2) JCOBS_ACCESS(write_only, 3, 4) JCOBS_CHECKED;
+
+/* Encodes a message in its own buffer, where there is no second one. Its message_len bytes lie in the buffer from
+ * JCOBS_MAX_OVERHEAD(message_len) on; what is before them doesn't matter. Then the buffer begins with the frame that
+ * jcobs_encode writes. The status is TOO_SMALL exactly if the buffer is shorter than jcobs_max_length(message_len). */
+#define JCOBS_MAX_OVERHEAD(message_len) (JCOBS_MAX_LENGTH(message_len) - sizeof(char) * (message_len))
+jcobs_answer jcobs_encode_in_place(void *buffer, size_t buffer_len, size_t message_len)
+    JCOBS_ACCESS(read_write, 1, 2) JCOBS_CHECKED;
 
 /* Decodes the first frame of the source to the front of `message`. Zeros in front of the frame are skipped, and it
  * ends at the next zero or with the source. A buffer as long as the source always suffices. */
-jcobs_answer jcobs_decode(const void *source, size_t source_len, void *message, size_t message_len);
+jcobs_answer jcobs_decode(const void *source, size_t source_len, void *message, size_t message_len)
+    JCOBS_ACCESS(read_only, 1, 2) JCOBS_ACCESS(write_only, 3, 4) JCOBS_CHECKED;
 
 /* Decodes the frame at the front of the source, for this sentinel, to the front of `message`. The frame ends at the
  * first sentinel or with the source. No sentinel is skipped: one in front is an empty message. */
 jcobs_answer jcobs_decode_with_sentinel(const void *source, size_t source_len, void *message, size_t message_len,
-                                        unsigned char sentinel);
+                                        unsigned char sentinel) JCOBS_ACCESS(read_only, 1, 2)
+    JCOBS_ACCESS(write_only, 3, 4) JCOBS_CHECKED;
 
 /* Decodes the frame at the front of the buffer in place. It ends at the first zero or with the buffer. No zero is
  * skipped: one in front is an empty message. There is always room. */
-jcobs_answer jcobs_decode_in_place(void *buffer, size_t buffer_len);
+jcobs_answer jcobs_decode_in_place(void *buffer, size_t buffer_len) JCOBS_ACCESS(read_write, 1, 2) JCOBS_CHECKED;
 
 /* Does the same for this sentinel. In the rest of the frame after the message, each byte is XORed with the sentinel;
  * the sentinel and what follows it aren't changed, so that the next frame begins at buffer + consumed. */
-jcobs_answer jcobs_decode_in_place_with_sentinel(void *buffer, size_t buffer_len, unsigned char sentinel);
+jcobs_answer jcobs_decode_in_place_with_sentinel(void *buffer, size_t buffer_len, unsigned char sentinel)
+    JCOBS_ACCESS(read_write, 1, 2) JCOBS_CHECKED;
 
 /* Returns whether the bytes are a frame for the sentinel 0, and which one of its message: one of enum jcobs_kind. */
-unsigned int jcobs_frame_kind(const void *bytes, size_t len);
+unsigned int jcobs_frame_kind(const void *bytes, size_t len) JCOBS_ACCESS(read_only, 1, 2) JCOBS_CHECKED;
 
 /* Resets the decoder to the start, whatever the state was. */
-void jcobs_decoder_reset(jcobs_decoder *decoder);
+void jcobs_decoder_reset(jcobs_decoder *decoder) JCOBS_STATE;
 
 /* Takes bytes of a stream of frames, each followed by a zero, through the zero that ends the first one. The message
  * is then at the front of the buffer until the next call; bytes after that zero aren't read: push them next. Every
@@ -253,53 +281,63 @@ void jcobs_decoder_reset(jcobs_decoder *decoder);
  *
  * While a frame is open, pass the same buffer with the same length, as the last call left it. Otherwise the status
  * of that frame and the contents of the buffer are unspecified. */
-jcobs_answer jcobs_decoder_push(jcobs_decoder *decoder, void *buffer, size_t buffer_len, const void *bytes, size_t len);
+jcobs_answer jcobs_decoder_push(jcobs_decoder *decoder, void *buffer, size_t buffer_len, const void *bytes,
+                                size_t len) JCOBS_STATE JCOBS_ACCESS(write_only, 2, 3)
+    JCOBS_ACCESS(read_only, 4, 5) JCOBS_CHECKED;
 
-/* Takes one byte: as jcobs_decoder_push of that byte, but faster. */
-jcobs_answer jcobs_decoder_feed(jcobs_decoder *decoder, void *buffer, size_t buffer_len, unsigned char byte);
+/* Takes one byte, as jcobs_decoder_push of that byte does. In the library for hosts it is faster than a push. */
+jcobs_answer jcobs_decoder_feed(jcobs_decoder *decoder, void *buffer, size_t buffer_len, unsigned char byte) JCOBS_STATE
+    JCOBS_ACCESS(write_only, 2, 3) JCOBS_CHECKED;
 
 /* Takes bytes of a stream of frames for this sentinel, each followed by one, as jcobs_decoder_push does for 0, but slower,
  * byte by byte. */
 jcobs_answer jcobs_decoder_push_with_sentinel(jcobs_decoder *decoder, void *buffer, size_t buffer_len,
-                                              const void *bytes, size_t len, unsigned char sentinel);
+                                              const void *bytes, size_t len, unsigned char sentinel) JCOBS_STATE
+    JCOBS_ACCESS(write_only, 2, 3) JCOBS_ACCESS(read_only, 4, 5) JCOBS_CHECKED;
 
 /* Returns 1 if no frame is open, that is if all that was pushed is reported, and 0 if a frame has begun. At the end of
  * a stream, 0 says that the last frame has no sentinel. */
-unsigned int jcobs_decoder_is_idle(const jcobs_decoder *decoder);
+unsigned int jcobs_decoder_is_idle(const jcobs_decoder *decoder) JCOBS_STATE JCOBS_CHECKED;
 
 /* Resets the encoder to the start, whatever the state was. */
-void jcobs_encoder_reset(jcobs_encoder *encoder);
+void jcobs_encoder_reset(jcobs_encoder *encoder) JCOBS_STATE;
 
 /* Takes the next bytes of a message, whose frame is made in the buffer. The status is TOO_SMALL exactly if the frame
  * of all that was taken and these bytes doesn't fit; then finish the frame, or push fewer bytes.
  *
  * From the first push to the finish, pass the same buffer with the same length, as the last call left it.
  * Otherwise the contents of the buffer are unspecified. */
-jcobs_answer jcobs_encoder_push(jcobs_encoder *encoder, void *buffer, size_t buffer_len, const void *bytes, size_t len);
+jcobs_answer jcobs_encoder_push(jcobs_encoder *encoder, void *buffer, size_t buffer_len, const void *bytes,
+                                size_t len) JCOBS_STATE JCOBS_ACCESS(write_only, 2, 3) JCOBS_ACCESS(read_only, 4, 5);
 
 /* Takes one byte, as jcobs_encoder_push of that byte does. */
-jcobs_answer jcobs_encoder_feed(jcobs_encoder *encoder, void *buffer, size_t buffer_len, unsigned char byte);
+jcobs_answer jcobs_encoder_feed(jcobs_encoder *encoder, void *buffer, size_t buffer_len, unsigned char byte) JCOBS_STATE
+    JCOBS_ACCESS(write_only, 2, 3);
 
 /* Ends the message: the buffer then begins with its frame, the one that jcobs_encode writes, and the encoder is at
  * the start. The status is TOO_SMALL only if not even that frame fits: if the buffer is empty, or isn't the one that
  * was pushed to. */
-jcobs_answer jcobs_encoder_finish(jcobs_encoder *encoder, void *buffer, size_t buffer_len);
+jcobs_answer jcobs_encoder_finish(jcobs_encoder *encoder, void *buffer, size_t buffer_len) JCOBS_STATE
+    JCOBS_ACCESS(write_only, 2, 3) JCOBS_CHECKED;
 
 /* Does the same, with a zero after the frame, which needs one byte more. If only that byte doesn't fit, nothing has
  * changed. */
-jcobs_answer jcobs_encoder_finish_terminated(jcobs_encoder *encoder, void *buffer, size_t buffer_len);
+jcobs_answer jcobs_encoder_finish_terminated(jcobs_encoder *encoder, void *buffer, size_t buffer_len) JCOBS_STATE
+    JCOBS_ACCESS(write_only, 2, 3) JCOBS_CHECKED;
 
 /* Do the same for another sentinel: each byte of the frame is XORed with it. The pushes are those for 0. */
 jcobs_answer jcobs_encoder_finish_with_sentinel(jcobs_encoder *encoder, void *buffer, size_t buffer_len,
-                                                unsigned char sentinel);
+                                                unsigned char sentinel) JCOBS_STATE
+    JCOBS_ACCESS(write_only, 2, 3) JCOBS_CHECKED;
 jcobs_answer jcobs_encoder_finish_terminated_with_sentinel(jcobs_encoder *encoder, void *buffer, size_t buffer_len,
-                                                           unsigned char sentinel);
+                                                           unsigned char sentinel) JCOBS_STATE
+    JCOBS_ACCESS(write_only, 2, 3) JCOBS_CHECKED;
 
 /* Writes a short English description of a status to `text`, with a '\0' after it, cut to fit, and returns the length
  * of the whole description; JCOBS_TEXT_LENGTH bytes are room for it. If text_len is 0, nothing is written. A number
  * that is no status is "unknown status". */
 #define JCOBS_TEXT_LENGTH 48
-size_t jcobs_strerror(unsigned int status, char *text, size_t text_len);
+size_t jcobs_strerror(unsigned int status, char *text, size_t text_len) JCOBS_ACCESS(write_only, 2, 3);
 
 /* Returns the version of the library, as JCOBS_VERSION. */
 unsigned int jcobs_version(void);

@@ -1,5 +1,4 @@
-/* How many instructions a byte each call takes on a Cortex-M4 in QEMU, beside plain.c. QEMU runs one instruction in each
- * nanosecond (-icount shift=0), and the timer counts 40 of them. */
+/* How many instructions a byte each call takes in QEMU, beside plain.c; on an AVR in simavr, how many cycles. */
 #include "plain.h"
 
 #include <stdio.h>
@@ -7,31 +6,72 @@
 
 #define LONG 4000
 
+#if defined(__riscv)
+#define EACH 1
+#define COUNTED 0xffffff
+static void begin(void)
+{
+}
+static unsigned long now(void)
+{
+    unsigned long instructions;
+
+    __asm__ volatile("rdinstret %0" : "=r"(instructions));
+    return instructions;
+}
+#elif defined(__AVR__)
+#include <avr/io.h>
+#define EACH 64
+#define COUNTED 0xffff
+static void begin(void)
+{
+    TCCR1B = 1 << CS11 | 1 << CS10;
+}
+static unsigned long now(void)
+{
+    return TCNT1;
+}
+#else /* Cortex-M: QEMU runs one instruction in each nanosecond (-icount shift=0), and the timer counts down 40 of them. */
+#define EACH 40
+#define COUNTED 0xffffff
 static volatile unsigned int *const timer = (volatile unsigned int *)0xe000e010; /* control, reload, value */
+static void begin(void)
+{
+    timer[1] = COUNTED;
+    timer[2] = 0;
+    timer[0] = 5;
+}
+static unsigned long now(void)
+{
+    return COUNTED - timer[2];
+}
+#endif
+
 static unsigned char message[LONG];
 static unsigned char frame[LONG + LONG / 254 + 2];
 static unsigned char decoded[LONG];
 static size_t frame_len;
+static jcobs_answer answer;
 static jcobs_decoder decoder;
 static jcobs_encoder encoder;
 
 static void decode(void)
 {
-    jcobs_decoder_push(&decoder, decoded, sizeof decoded, frame, frame_len);
+    answer = jcobs_decoder_push(&decoder, decoded, sizeof decoded, frame, frame_len);
 }
 static void plain_decode(void)
 {
-    plain_decoder_push(&decoder, decoded, sizeof decoded, frame, frame_len);
+    answer = plain_decoder_push(&decoder, decoded, sizeof decoded, frame, frame_len);
 }
 static void push(void)
 {
-    jcobs_encoder_push(&encoder, frame, sizeof frame, message, sizeof message);
-    jcobs_encoder_finish(&encoder, frame, sizeof frame);
+    answer = jcobs_encoder_push(&encoder, frame, sizeof frame, message, sizeof message);
+    answer = jcobs_encoder_finish(&encoder, frame, sizeof frame);
 }
 static void plain_push(void)
 {
-    plain_encoder_push(&encoder, frame, sizeof frame, message, sizeof message);
-    plain_encoder_finish(&encoder, frame, sizeof frame);
+    answer = plain_encoder_push(&encoder, frame, sizeof frame, message, sizeof message);
+    answer = plain_encoder_finish(&encoder, frame, sizeof frame);
 }
 static void terminated(void)
 {
@@ -42,20 +82,20 @@ static void plain_terminated(void)
     frame_len = plain_encode_terminated(message, sizeof message, frame, sizeof frame).length;
 }
 
-static unsigned int ticks(void (*call)(void))
+static unsigned long ticks(void (*call)(void))
 {
-    unsigned int before = timer[2];
+    unsigned long before = now();
 
     call();
-    return (before - timer[2]) & 0xffffff;
+    return (now() - before) & COUNTED;
 }
 
 static void compare(const char *name, void (*call)(void), void (*plain)(void))
 {
-    unsigned int mine = ticks(call) * 40 * 100 / LONG;
-    unsigned int theirs = ticks(plain) * 40 * 100 / LONG;
+    unsigned long mine = ticks(call) * EACH * 100 / LONG;
+    unsigned long theirs = ticks(plain) * EACH * 100 / LONG;
 
-    printf("instructions %s %u.%02u plain %u.%02u percent %u\n", name, mine / 100, mine % 100, theirs / 100,
+    printf("instructions %s %lu.%02lu plain %lu.%02lu percent %lu\n", name, mine / 100, mine % 100, theirs / 100,
            theirs % 100, mine * 100 / theirs);
 }
 
@@ -65,9 +105,7 @@ int main(void)
     unsigned int kind;
     size_t i;
 
-    timer[1] = 0xffffff;
-    timer[2] = 0;
-    timer[0] = 5;
+    begin();
     for (kind = 0; kind < 3; kind++) {
         char name[40];
 

@@ -1,7 +1,7 @@
-/* QEMU's mps2-an385 and mps2-an386: code from address 0, memory from 0x20000000. */
+/* QEMU's mps2-an385 and mps2-an386: code from address 0, memory from 0x20000000. For mps2-an505 __flash and __ram say where. */
 MEMORY {
-  FLASH (rx) : ORIGIN = 0, LENGTH = 4M
-  RAM (rwx) : ORIGIN = 0x20000000, LENGTH = 4M
+  FLASH (rx) : ORIGIN = DEFINED(__flash) ? __flash : 0, LENGTH = 4M
+  RAM (rwx) : ORIGIN = DEFINED(__ram) ? __ram : 0x20000000, LENGTH = 4M
 }
 ENTRY(_start)
 SECTIONS {

@@ -1,12 +1,38 @@
 #!/usr/bin/env python3
-"""Checks what PlatformIO and Arduino read of the folder: the files that it names are there."""
+"""Checks what package managers read of the folder, and builds what they would: packages.py
+
+PlatformIO and Arduino take the archive for the processors that have one, and compile src/jcobs.c for all others. ESP-IDF and
+Zephyr compile it. None of these tools is run: the scripts and the CMake file are, with as much of each tool as they use.
+"""
 
 import json
 import pathlib
+import shutil
+import subprocess
 import sys
+import tempfile
 
 HERE = pathlib.Path(__file__).resolve().parent.parent
-NEEDED = "name version author maintainer sentence paragraph category url architectures includes precompiled ldflags".split()
+NEEDED = "name version author maintainer sentence paragraph category architectures includes precompiled ldflags".split()
+# What ESP-IDF and Zephyr define for a CMake file of a component or a module.
+ESP_IDF = """function(idf_component_register)
+    cmake_parse_arguments(it "" "" "SRCS;INCLUDE_DIRS" ${ARGN})
+    add_library(component STATIC ${it_SRCS})
+    target_include_directories(component PUBLIC ${it_INCLUDE_DIRS})
+endfunction()
+set(ESP_PLATFORM 1)
+"""
+ZEPHYR = """macro(zephyr_library)
+    add_library(component STATIC)
+endmacro()
+macro(zephyr_library_sources)
+    target_sources(component PRIVATE ${CMAKE_CURRENT_LIST_DIR}/${ARGN})
+endmacro()
+macro(zephyr_include_directories)
+    target_include_directories(component PUBLIC ${CMAKE_CURRENT_LIST_DIR}/${ARGN})
+endmacro()
+set(CONFIG_JCOBS y)
+"""
 
 
 class Environment:
@@ -21,6 +47,8 @@ class Environment:
 
     def Append(self, **words):
         self.added.update(words)
+
+    Replace = Append
 
 
 class Folder:
@@ -40,28 +68,55 @@ def run_script(path, processor):
     return env.added, names["CORES"]
 
 
-def main():
+def check_manifests():
+    """library.json and library.properties, and the archive or the source for each processor."""
     library = json.loads((HERE / "library.json").read_text())
     lines = (HERE / "library.properties").read_text().splitlines()
     properties = dict(line.split("=", 1) for line in lines)
     build = library["build"]
     assert list(properties) == NEEDED, sorted(properties)
     assert properties["name"] == library["name"] and properties["version"] == library["version"]
+    assert f'version: "{library["version"]}"' in (HERE / "idf_component.yml").read_text()
     assert properties["precompiled"] == "full" and properties["ldflags"] == "-ljcobs"
-    assert (HERE / "src" / properties["includes"]).is_file()
+    assert properties["architectures"] == library["platforms"] == "*" and "srcFilter" not in build
+    assert (HERE / "src" / properties["includes"]).is_file() and (HERE / "src/jcobs.c").is_file()
     assert (HERE / build["includeDir"] / library["headers"]).is_file()
+    module = (HERE / "zephyr/module.yml").read_text()
+    assert "kconfig: zephyr/Kconfig" in module and "config JCOBS" in (HERE / "zephyr/Kconfig").read_text()
     script = HERE / build["extraScript"]
     _, cores = run_script(script, "cortex-m4")
     for processor in cores:
         added, _ = run_script(script, processor)
-        assert added["LIBS"] == ["jcobs"]
+        assert added["LIBS"] == ["jcobs"] and added["SRC_FILTER"] == ["-<*>"]
         assert all((pathlib.Path(path) / "libjcobs.a").is_file() for path in added["LIBPATH"])
-    try:
-        run_script(script, "avr")
-    except SystemExit:
-        print(f"= {len(cores)} processors")
-        return 0
-    return 1
+    for processor in ("avr", "esp32", ""):
+        assert run_script(script, processor)[0] == {}
+    return len(cores)
+
+
+def built_by_cmake(words):
+    """A program over the folder's CMakeLists.txt, with these words for the tool."""
+    with tempfile.TemporaryDirectory() as work:
+        project = f"cmake_minimum_required(VERSION 3.16)\nproject(program C)\n{words}add_subdirectory({HERE} jcobs)\n"
+        project += "add_executable(program main.c)\ntarget_link_libraries(program component)\n"
+        (pathlib.Path(work) / "CMakeLists.txt").write_text(project)
+        (pathlib.Path(work) / "main.c").write_text(
+            "#include <jcobs.h>\nint main(void) { return jcobs_version() != JCOBS_VERSION; }\n"
+        )
+        for command in (
+            ["cmake", "-S", work, "-B", f"{work}/build"],
+            ["cmake", "--build", f"{work}/build"],
+            [f"{work}/build/program"],
+        ):
+            subprocess.run(command, check=True, stdout=subprocess.DEVNULL)
+
+
+def main():
+    cores = check_manifests()
+    if shutil.which("cmake"):
+        built_by_cmake(ESP_IDF)
+        built_by_cmake(ZEPHYR)
+    print(f"= archives for {cores} processors, jcobs.c for the others{'' if shutil.which('cmake') else '; no cmake'}")
 
 
 if __name__ == "__main__":

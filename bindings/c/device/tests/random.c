@@ -1,5 +1,7 @@
 /* Random calls of the library on a device, each compared with the same call of plain.c: random CALLS
  *
+ * With WITH_SENTINELS also the calls for other sentinels, which the archives don't have.
+ *
  * The buffers have bytes around them that no call may change. Half of the states are those that calls before made, with
  * the buffer as it was; the others are random bytes. */
 #include "plain.h"
@@ -91,6 +93,25 @@ static int encodes_whole(size_t room, size_t len)
     return memcmp(mine, theirs, sizeof mine) == 0;
 }
 
+/* A message in its own buffer: the frame of plain C at the front, and behind it what was there. */
+static int encodes_in_place(size_t room, size_t len)
+{
+    static unsigned char frame[ROOM + ROOM / 254 + 2];
+    jcobs_answer answer;
+    jcobs_answer plain = {JCOBS_TOO_SMALL, 0, 0};
+
+    if (jcobs_max_length(len) <= room) {
+        if (len > 0)
+            memcpy(mine + AROUND + JCOBS_MAX_OVERHEAD(len), bytes, len);
+        memcpy(theirs, mine, sizeof mine);
+        plain = plain_encode_terminated(bytes, len, frame, sizeof frame);
+        plain.length--;
+        memcpy(theirs + AROUND, frame, plain.length);
+    }
+    answer = jcobs_encode_in_place(room > 0 ? mine + AROUND : NULL, room, len);
+    return same(answer, plain);
+}
+
 /* A frame that the library has written is canonical, and any bytes are what plain C says. */
 static int is_canonical(size_t len)
 {
@@ -113,13 +134,110 @@ static int decodes_in_place(size_t room, size_t len)
 {
     if (len > room)
         len = room;
-    if (len > 2 && any(2))
-        jcobs_encode_terminated(bytes, len - 2, mine + AROUND, room);
-    else
+    if (len <= 2 || any(2) == 0 || jcobs_encode_terminated(bytes, len - 2, mine + AROUND, room).status != JCOBS_OK)
         memcpy(mine + AROUND, bytes, len);
     memcpy(theirs, mine, sizeof mine);
     return same(jcobs_decode_in_place(len ? mine + AROUND : NULL, len), plain_decode_in_place(theirs + AROUND, len));
 }
+
+#ifdef WITH_SENTINELS
+#define KINDS 11
+
+static void xor_bytes(unsigned char *at, size_t len, unsigned char sentinel)
+{
+    size_t i;
+
+    for (i = 0; i < len; i++)
+        at[i] = (unsigned char)(at[i] ^ sentinel);
+}
+
+static int encodes_for(size_t room, size_t len, unsigned char sentinel)
+{
+    int terminated = any(2) != 0;
+    jcobs_answer answer = terminated
+                              ? jcobs_encode_terminated_with_sentinel(bytes, len, mine + AROUND, room, sentinel)
+                              : jcobs_encode_with_sentinel(bytes, len, mine + AROUND, room ? room - 1 : 0, sentinel);
+    jcobs_answer plain = plain_encode_terminated(bytes, len, theirs + AROUND, room);
+
+    xor_bytes(theirs + AROUND, plain.length, sentinel);
+    if (!terminated && plain.status == JCOBS_OK) {
+        plain.length--;
+        theirs[AROUND + plain.length] = mine[AROUND + plain.length];
+    }
+    return same(answer, plain);
+}
+
+static int finishes_for(jcobs_encoder *encoder, size_t room, unsigned char sentinel)
+{
+    jcobs_encoder other = *encoder;
+    int terminated = any(2) != 0;
+    jcobs_answer answer = terminated
+                              ? jcobs_encoder_finish_terminated_with_sentinel(encoder, mine + AROUND, room, sentinel)
+                              : jcobs_encoder_finish_with_sentinel(encoder, mine + AROUND, room, sentinel);
+    jcobs_answer plain = terminated ? plain_encoder_finish_terminated(&other, theirs + AROUND, room)
+                                    : plain_encoder_finish(&other, theirs + AROUND, room);
+
+    xor_bytes(theirs + AROUND, plain.length, sentinel);
+    return same(answer, plain) && encoder->index == other.index;
+}
+
+static int decodes_for(jcobs_decoder *decoder, size_t room, size_t len, unsigned char sentinel)
+{
+    jcobs_decoder other = *decoder;
+    jcobs_answer plain = plain_decoder_push(&other, theirs + AROUND, room, bytes, len);
+
+    xor_bytes(bytes, len, sentinel);
+    return same(jcobs_decoder_push_with_sentinel(decoder, mine + AROUND, room, len ? bytes : NULL, len, sentinel),
+                plain) &&
+           decoder->written == other.written && decoder->lacking == other.lacking;
+}
+
+/* In place or not, by what plain C makes of the same bytes for 0 in place. */
+static int decodes_whole_for(size_t room, size_t len, unsigned char sentinel, int in_place)
+{
+    static unsigned char decoded[ROOM + 1];
+    jcobs_answer plain;
+    jcobs_answer answer;
+    size_t end;
+
+    if (in_place && len > room)
+        len = room;
+    memcpy(decoded, bytes, len);
+    plain = plain_decode_in_place(decoded, len);
+    end = plain.consumed - (plain.consumed > 0 && bytes[plain.consumed - 1] == 0);
+    xor_bytes(bytes, len, sentinel);
+    if (in_place) {
+        memcpy(mine + AROUND, bytes, len);
+        memcpy(theirs + AROUND, bytes, len);
+        memcpy(theirs + AROUND, decoded, end);
+        return same(jcobs_decode_in_place_with_sentinel(len ? mine + AROUND : NULL, len, sentinel), plain);
+    }
+    if (plain.length > room) {
+        plain.status = JCOBS_TOO_SMALL;
+        plain.length = room;
+    }
+    memcpy(theirs + AROUND, decoded, plain.length);
+    answer = jcobs_decode_with_sentinel(len ? bytes : NULL, len, mine + AROUND, room, sentinel);
+    return same(answer, plain);
+}
+
+static int for_sentinel(unsigned int kind, jcobs_decoder *decoder, jcobs_encoder *encoder, size_t room, size_t len)
+{
+    unsigned char sentinel = (unsigned char)any(256);
+
+    return kind == 7   ? encodes_for(room, len, sentinel)
+           : kind == 8 ? finishes_for(encoder, room, sentinel)
+           : kind == 9 ? decodes_for(decoder, room, len, sentinel)
+                       : decodes_whole_for(room, len, sentinel, any(2) != 0);
+}
+#else
+#define KINDS 7
+
+static int for_sentinel(unsigned int kind, jcobs_decoder *decoder, jcobs_encoder *encoder, size_t room, size_t len)
+{
+    return kind > 6 && decoder && encoder && room && len;
+}
+#endif
 
 static int run(unsigned long calls)
 {
@@ -130,7 +248,7 @@ static int run(unsigned long calls)
 
     for (i = 0; i < calls; i++) {
         size_t len = any(4) ? any(40) : any(ROOM + 1);
-        unsigned int kind = any(6);
+        unsigned int kind = any(KINDS);
         int holds;
 
         if (any(8) == 0) {
@@ -156,7 +274,9 @@ static int run(unsigned long calls)
                 : kind == 2 ? encodes_whole(room, len)
                 : kind == 3 ? decodes_whole(room, len)
                 : kind == 4 ? decodes_in_place(room, len)
-                            : is_canonical(len);
+                : kind == 5 ? encodes_in_place(room, len)
+                : kind == 6 ? is_canonical(len)
+                            : for_sentinel(kind, &decoder, &encoder, room, len);
         if (!holds) {
             printf("call %lu of kind %u differs: room %u, %u bytes\n", i, kind, (unsigned)room, (unsigned)len);
             return 1;

@@ -2,11 +2,17 @@
  * machine by semihosting where its memory is. */
 extern void _start(void);
 
+#ifdef __ARM_ARCH_8M_MAIN__
+#define STACK 0x38100000 /* of mps2-an505 */
+#else
+#define STACK 0x20100000
+#endif
+
 static void stop(void)
 {
     for (;;)
         ;
 }
 
-__attribute__((section(".vectors"), used)) void *const vectors[16] = {
-    (void *)0x20100000, _start, stop, stop, stop, stop, stop};
+__attribute__((section(".vectors"), used)) void *const vectors[16] = {(void *)STACK, _start, stop, stop,
+                                                                      stop,          stop,   stop};

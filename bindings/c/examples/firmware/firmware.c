@@ -35,8 +35,7 @@ static void complain(unsigned int status);
 static void receive(void) /* called by the main loop */
 {
     while (ring_tail != ring_head) {
-        unsigned char byte = ring[ring_tail++];
-        jcobs_answer answer = jcobs_decoder_push(&decoder, command, sizeof command, &byte, 1);
+        jcobs_answer answer = jcobs_decoder_feed(&decoder, command, sizeof command, ring[ring_tail++]);
 
         if (answer.status == JCOBS_OK)
             handle(command, answer.length);

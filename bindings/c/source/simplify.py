@@ -1,0 +1,57 @@
+#!/usr/bin/env python3
+"""Writes cobs_small.ll, which translate.py reads, of the module that rt makes: simplify.py MODULE CLANG cobs_small.ll
+
+MODULE is LLVM text. Of the exported functions, which only put some address in place of a null pointer and call the proved
+function of the same name, the latter are kept under the exported names. All others are put into their callers. CLANG,
+the toolchain's own, then simplifies each function, with neither vectors nor calls of a C library.
+"""
+
+import re
+import subprocess
+import sys
+from pathlib import Path
+
+FLAGS = """--no-default-config --target=x86_64-unknown-linux-gnu -S -emit-llvm -Oz -fno-discard-value-names -ffreestanding
+    -mno-sse -fno-vectorize -fno-slp-vectorize -Wno-override-module -x ir""".split()
+TARGET = re.compile(r'^target [^\n]*\n| *"(?:target-cpu|probe-stack|stack-probe-size)"="[^"]*"', re.M)
+EXPORT = re.compile(r"^(?:; Function Attrs:[^\n]*\n)?define (?!internal)[^\n]*\n.*?^\}\n", re.S | re.M)
+PROVED = re.compile(r'@"cobs_small::\w+::(jcobs_\w+)"')
+
+
+def prepared(text):
+    """The proved functions under the names of the exports, and everything else to be put into them."""
+    exports = set(re.findall(r"^define (?!internal)[^\n]*@(?:proved_)?(jcobs_\w+)\(", text, re.M))
+    text = EXPORT.sub("", TARGET.sub("", text))
+    if missing := exports ^ set(PROVED.findall(text)):
+        sys.exit(f"simplify.py: not both exported and proved: {', '.join(sorted(missing))}")
+    text = re.sub(
+        r"^(attributes #\d+ = \{) (?!.*immarg)(?=[^\n]*nounwind \}$)(?:alwaysinline |inlinehint |noinline )?",
+        r"\1 alwaysinline ",
+        text,
+        flags=re.M,
+    )
+    text = re.sub(
+        rf"^define internal ([^\n]*?){PROVED.pattern}(.*?) #\d+ \{{$", r"define \1@\2\3 #99 {", text, flags=re.M
+    )
+    return PROVED.sub(r"@\1", text) + "\nattributes #99 = { noinline nounwind }\n"
+
+
+def main():
+    module, clang, target = sys.argv[1:]
+    made = subprocess.run(
+        [clang, *FLAGS, "-", "-o", "-"], input=prepared(Path(module).read_text()), capture_output=True, text=True
+    )
+    if made.returncode:
+        sys.exit(made.stderr)
+    kept = [
+        it
+        for it in made.stdout.splitlines()
+        if not re.match(r"; ModuleID|; Function Attrs|source_filename|attributes|!|declare|target", it)
+    ]
+    text = re.sub(r", !(?:noundef|range) !\d+| #\d+(?= \{|$)| local_unnamed_addr", "", "\n".join(kept), flags=re.M)
+    text = re.sub(r"\n{3,}", "\n\n", text).strip()
+    Path(target).write_text(f"; written by simplify.py\n{text}\n")
+
+
+if __name__ == "__main__":
+    main()

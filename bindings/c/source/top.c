@@ -1,0 +1,23 @@
+/* jcobs.c: the calls of jcobs.h in one file of C, for any processor and compiler. Written by translate.py: don't edit it.
+ *
+ * Compile it with your program, by C99 or later or as C++, with jcobs.h beside it or in the include path. It has no
+ * variables, allocates nothing, and names no function of a C library; a compiler may call memset for some of its lines.
+ *
+ * What is proved: the functions of crates/cobs_small, for lengths of 64 bits, on any contents of the buffers and the
+ * states. Each meets the contract in its comment, accesses only the buffers that it is given, and returns. The words
+ * of the contracts are defined in crates/cobs_abi/specs and crates/cobs/specs.
+ *
+ * What is not proved, but tested: that this text does the same. The toolchain's clang simplified the proved module
+ * (cobs_small.ll), translate.py wrote its instructions as C, and your compiler compiles them. Lengths have the width of
+ * your size_t. tests/device.sh and bindings/c/tests/run.sh run this file on processors with 16, 32 and 64 bits and both byte
+ * orders: the vectors of conformance/ (but on the one with 16 bits), and random calls compared with plain C, with states of
+ * random bytes. The calls after the last contract are written by hand, and tested in the same way.
+ */
+#include "jcobs.h"
+
+#include <limits.h>
+
+/* These don't compile for a processor that this file isn't for: one whose bytes have more than 8 bits, or whose size_t is
+ * shorter than unsigned int. */
+typedef char jcobs_bytes_have_8_bits[CHAR_BIT == 8 ? 1 : -1];
+typedef char jcobs_size_t_is_no_shorter_than_int[sizeof(size_t) >= sizeof(unsigned int) ? 1 : -1];

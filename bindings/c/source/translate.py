@@ -1,0 +1,65 @@
+#!/usr/bin/env python3
+"""Writes jcobs.c from cobs_small.ll, the proved module as LLVM text: translate.py [--check]
+
+Each exported function of the module becomes one function of C, with the names that jcobs.h gives its arguments and the
+contract of crates/cobs_small in its comment. A number of 64 bits becomes a size_t; other constants than 0 to 255, and
+anything else that could differ for a shorter size_t, are errors, as is each instruction that isn't known. What comes
+before and after them is in top.c and rest.c. The file is written here and to ../device/src; with --check both are compared
+and not written.
+"""
+
+import sys
+import textwrap
+from pathlib import Path
+
+import header
+import llvm
+from function import Translation
+from llvm import Unknown
+
+HERE = Path(__file__).resolve().parent
+
+
+def comment(text, clauses, source):
+    """The comment over a function: what it does, and its contract."""
+    lines = textwrap.wrap(text, 112)
+    lines.append(f"Proved, in {source}:" if clauses else "")
+    for clause in clauses:
+        lines += textwrap.wrap(f"ensures {clause}", 108, initial_indent="    ", subsequent_indent="        ")
+    return "/* " + "\n * ".join(lines) + " */"
+
+
+def translated():
+    root = HERE.parents[2]
+    text = (HERE.parent / "include/jcobs.h").read_text()
+    calls, structs = header.calls(text), header.structs(text)
+    contracts = header.contracts(sorted((root / "crates/cobs_small/src").glob("*.rt")))
+    functions = llvm.functions((HERE / "cobs_small.ll").read_text())
+    parts = []
+    for name, function in functions.items():
+        if name not in contracts:
+            raise Unknown(f"function {name}")
+        first = Translation(function, calls, structs)
+        first.written()
+        lines = Translation(function, calls, structs, first.padding).written()
+        parts.append("\n".join([comment(*contracts[name]), *lines]))
+    if missing := set(contracts) - set(functions):
+        raise Unknown(f"the module has no {missing}")
+    parts = [(HERE / "top.c").read_text().rstrip(), *parts, (HERE / "rest.c").read_text().rstrip()]
+    return "\n\n".join(parts) + "\n"
+
+
+def main():
+    made = translated()
+    for target in (HERE / "jcobs.c", HERE.parent / "device/src/jcobs.c"):
+        if sys.argv[1:] != ["--check"]:
+            target.write_text(made)
+        elif target.read_text() != made:
+            sys.exit(f"{target} isn't what translate.py makes of cobs_small.ll: run translate.py")
+
+
+if __name__ == "__main__":
+    try:
+        main()
+    except Unknown as what:
+        sys.exit(f"translate.py: unknown: {what}")
