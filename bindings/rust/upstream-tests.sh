@@ -1,6 +1,8 @@
 #!/bin/sh
 # Runs the tests of the crate `cobs` 0.5.1 over this crate: upstream-tests.sh FOLDER
 #
+# It also compares each call with the crate's, if FOLDER has src/lib.rs (tests/beside_crate/compare.rs).
+#
 # FOLDER has them as the crate does, in the test modules at the ends of src/*.rs, or in files where a line
 #
 #     // ===== src/enc.rs (test module) =====
@@ -15,17 +17,17 @@ if [ $# -ne 1 ] || [ ! -d "$1" ]; then
 fi
 tests=$(cd "$1" && pwd)
 here=$(cd "$(dirname "$0")" && pwd)
-registry=/usr/share/cargo/registry
 for tool in cargo awk; do
     command -v "$tool" >/dev/null || { echo "skipped: lacks $tool"; exit 0; }
 done
-if ! ls -d "$registry"/quickcheck-1.* >/dev/null 2>&1; then
+if ! ls -d /usr/share/cargo/registry/quickcheck-1.* >/dev/null 2>&1; then
     echo "skipped: lacks quickcheck (Debian package librust-quickcheck-dev)"
     exit 0
 fi
 work=$(mktemp -d)
 trap 'rm -rf "$work"' EXIT
-mkdir "$work/src" "$work/.cargo"
+mkdir "$work/src"
+"$here/tests/offline.sh" "$work" || exit 0
 
 # Each module FILE of the crate: its names, then its tests.
 cut_modules() { # FILE..
@@ -74,14 +76,6 @@ cobs = { package = "jcobs", path = "$here" }
 [dev-dependencies]
 quickcheck = { version = "1", default-features = false }
 END
-cat >"$work/.cargo/config.toml" <<END
-[source.crates-io]
-replace-with = "debian"
-
-[source.debian]
-directory = "$registry"
-END
-
 cd "$work"
 cargo test --offline --lib --no-fail-fast >said 2>errors || true
 if ! grep -q '^test result: ' said; then
@@ -98,4 +92,54 @@ if ! diff told found >differ; then
     exit 1
 fi
 passed=$(grep -c '^test .* \.\.\. ok$' said || true)
-echo "$passed tests of the crate pass; $(wc -l <found) don't, as the table in README.md says"
+echo "= $passed tests of the crate pass; $(wc -l <found) don't, as the table in README.md says"
+
+# Every call beside the crate's, if its sources are there as cargo downloads them.
+if [ ! -f "$tests/src/lib.rs" ]; then
+    echo "not compared with the crate: $tests/src/lib.rs isn't there"
+    exit 0
+fi
+mkdir -p "$work/beside/src" "$work/crate" "$work/thiserror"
+cp -R "$tests/src" "$work/crate"
+cp "$here/tests/beside_crate/compare.rs" "$work/beside/src/main.rs"
+cat >"$work/thiserror/Cargo.toml" <<END
+[package]
+name = "thiserror"
+version = "2.0.0"
+edition = "2021"
+[lib]
+path = "$here/../../bench/stand_in/thiserror.rs"
+proc-macro = true
+END
+cat >"$work/crate/Cargo.toml" <<END
+[package]
+name = "cobs"
+version = "0.5.1"
+edition = "2021"
+[features]
+default = ["alloc", "std"]
+alloc = []
+std = []
+[dependencies]
+thiserror = { path = "../thiserror" }
+heapless = { path = "$here/tests/stand_in/heapless" }
+END
+cat >"$work/beside/Cargo.toml" <<END
+[package]
+name = "beside"
+version = "0.0.0"
+edition = "2024"
+[dependencies]
+cobs = { path = "../crate" }
+jcobs = { path = "$here" }
+[features]
+small = ["jcobs/small"]
+[profile.dev]
+opt-level = 2
+debug = false
+END
+cd "$work/beside"
+for feature in '' small; do
+    CARGO_TARGET_DIR=$work/target cargo run -q --features "$feature" -- "${ROUNDS:-5000}" 2>errors | sed "s/\$/${feature:+, with the feature $feature}/" >said || true
+    grep '^= ' said || { echo "FAILED: compared with the crate" >&2; head -c 4000 errors >&2; exit 1; }
+done

@@ -1,32 +1,23 @@
-//! Frames to messages.
+//! Frames to messages: the calls of the crate `cobs`, over the proved ones.
 
 mod decoder;
-mod kind;
-mod report;
-mod state;
 
-use crate::sys::{self, Answer, Status};
+#[cfg(not(feature = "small"))]
+use crate::proved as engine;
+#[cfg(feature = "small")]
+use crate::small as engine;
 
+pub use crate::proved::{
+    DecodeError, DecodeReport, DecodeResult, DecoderPhase, DecoderState, FrameDecoder, FrameKind,
+    PieceEnd, PushError, UnbufferedDecoder,
+};
 #[cfg(feature = "alloc")]
 pub use decoder::CobsDecoderOwned;
 pub use decoder::{CobsDecoder, CobsDecoderHeapless};
-pub use kind::{frame_kind, FrameKind};
-#[allow(deprecated)]
-pub use report::DecodingResult;
-pub use report::{DecodeError, DecodeReport};
-pub use state::{DecodeResult, DecoderState};
 
-/// The message's length that a decoding call returns, or its error.
-fn length_of(answer: Answer) -> Result<usize, DecodeError> {
-    match answer.status {
-        Status::Ok => Ok(answer.length),
-        Status::Broken => Err(DecodeError::InvalidFrame {
-            decoded_bytes: answer.length,
-        }),
-        Status::TooSmall => Err(DecodeError::TargetBufTooSmall),
-        Status::Empty | Status::More => Err(DecodeError::EmptyFrame),
-    }
-}
+/// The former name of [`DecodeReport`].
+#[deprecated(since = "0.5.0", note = "use DecodeReport instead")]
+pub type DecodingResult = DecodeReport;
 
 /// Decodes the first frame of `source` to the front of `dest`. Zeros in front of the frame are skipped, and it ends at
 /// the next zero, or with the source. The bytes of `dest` after the message stay as they are.
@@ -51,12 +42,9 @@ fn length_of(answer: Answer) -> Result<usize, DecodeError> {
 ///   the front of `dest`; or `source` has zeros alone.
 /// - [`DecodeError::TargetBufTooSmall`]: the output of the frame, broken or not, is longer than `dest`, which holds as
 ///   much of it as fits.
+#[inline]
 pub fn decode(source: &[u8], dest: &mut [u8]) -> Result<DecodeReport, DecodeError> {
-    let answer = sys::decode(source, dest);
-    if answer.status == Status::Empty && !source.is_empty() {
-        return Err(DecodeError::InvalidFrame { decoded_bytes: 0 });
-    }
-    length_of(answer).map(|frame_size| DecodeReport::new(answer.consumed, frame_size))
+    engine::decode(source, dest)
 }
 
 /// Decodes the frame at the front of `buff` in its own place, and returns the message's length. It ends at the first
@@ -74,8 +62,9 @@ pub fn decode(source: &[u8], dest: &mut [u8]) -> Result<DecodeReport, DecodeErro
 /// - [`DecodeError::EmptyFrame`]: `buff` is empty.
 /// - [`DecodeError::InvalidFrame`]: the frame breaks off inside a block. The count is that of the output of the whole
 ///   blocks, which is at the front of `buff`.
+#[inline]
 pub fn decode_in_place(buff: &mut [u8]) -> Result<usize, DecodeError> {
-    length_of(sys::decode_in_place(buff))
+    Ok(decode_in_place_report(buff)?.frame_size())
 }
 
 /// As [`decode_in_place`], with a report that also says how long the frame is. A zero after it isn't counted.
@@ -90,16 +79,9 @@ pub fn decode_in_place(buff: &mut [u8]) -> Result<usize, DecodeError> {
 /// # Errors
 ///
 /// Those of [`decode_in_place`].
+#[inline]
 pub fn decode_in_place_report(buf: &mut [u8]) -> Result<DecodeReport, DecodeError> {
-    let answer = sys::decode_in_place(buf);
-    let frame_size = length_of(answer)?;
-    // The library counts a zero after the frame. The last byte that it took is as it was: no frame's byte is 0, and a
-    // message is shorter than its frame.
-    let has_zero = buf[answer.consumed - 1] == 0;
-    Ok(DecodeReport::new(
-        answer.consumed - usize::from(has_zero),
-        frame_size,
-    ))
+    engine::decode_in_place_report(buf)
 }
 
 /// Decodes the frame at the front of `source`, for the given sentinel, to the front of `dest`, and returns the
@@ -121,12 +103,13 @@ pub fn decode_in_place_report(buf: &mut [u8]) -> Result<DecodeReport, DecodeErro
 ///   blocks, which is at the front of `dest`.
 /// - [`DecodeError::TargetBufTooSmall`]: that output, or the message, is longer than `dest`, which holds as much of it
 ///   as fits.
+#[inline]
 pub fn decode_with_sentinel(
     source: &[u8],
     dest: &mut [u8],
     sentinel: u8,
 ) -> Result<usize, DecodeError> {
-    length_of(sys::decode_with_sentinel(source, dest, sentinel))
+    crate::proved::decode_with_sentinel(source, dest, sentinel)
 }
 
 /// As [`decode_in_place`], for the given sentinel. Each byte of `buff`, those after the frame too, is first XORed with
@@ -142,15 +125,9 @@ pub fn decode_with_sentinel(
 /// # Errors
 ///
 /// Those of [`decode_in_place`].
+#[inline]
 pub fn decode_in_place_with_sentinel(buff: &mut [u8], sentinel: u8) -> Result<usize, DecodeError> {
-    let ends_with_sentinel = buff.last() == Some(&sentinel);
-    let answer = sys::decode_in_place_with_sentinel(buff, sentinel);
-    // The library leaves the sentinel after the frame, and what follows it, as they were.
-    let has_sentinel = answer.consumed < buff.len() || ends_with_sentinel;
-    for byte in &mut buff[answer.consumed - usize::from(has_sentinel)..] {
-        *byte ^= sentinel;
-    }
-    length_of(answer)
+    engine::decode_in_place_with_sentinel(buff, sentinel)
 }
 
 /// The message of the first frame of `source`, found as [`decode`] finds it.
@@ -189,4 +166,18 @@ pub fn decode_vec_with_sentinel(
     let length = decode_with_sentinel(source, &mut decoded, sentinel)?;
     decoded.truncate(length);
     Ok(decoded)
+}
+
+/// Returns whether the bytes are a frame, and which one of its message. The crate `cobs` doesn't have this call.
+///
+/// ```
+/// use jcobs::{FrameKind, frame_kind};
+///
+/// assert_eq!(frame_kind(b"\x03hi"), FrameKind::Canonical);
+/// assert_eq!(frame_kind(b"\x04hi"), FrameKind::NotAFrame);
+/// ```
+#[inline]
+#[must_use]
+pub fn frame_kind(bytes: &[u8]) -> FrameKind {
+    engine::frame_kind(bytes)
 }

@@ -1,37 +1,16 @@
-//! Messages to frames.
+//! Messages to frames: the calls of the crate `cobs`, over the proved ones.
 
 mod encoder;
-mod state;
 
-use core::error::Error;
-use core::fmt;
+#[cfg(not(feature = "small"))]
+use crate::proved as engine;
+#[cfg(feature = "small")]
+use crate::small as engine;
 
-use crate::sys::{self, Answer, Status};
-
+pub use crate::proved::{
+    DestBufTooSmallError, EncoderProgress, EncoderState, PushResult, UnbufferedEncoder,
+};
 pub use encoder::CobsEncoder;
-pub use state::{EncoderState, PushResult};
-
-/// The frame doesn't fit the buffer.
-///
-/// A call that returns it has written nothing.
-#[derive(Debug, Clone, Copy, PartialEq, Eq)]
-pub struct DestBufTooSmallError;
-
-impl fmt::Display for DestBufTooSmallError {
-    fn fmt(&self, f: &mut fmt::Formatter<'_>) -> fmt::Result {
-        f.write_str("out of bounds error during encoding")
-    }
-}
-
-impl Error for DestBufTooSmallError {}
-
-/// The length that an encoding call returns.
-fn length_of(answer: Answer) -> Result<usize, DestBufTooSmallError> {
-    match answer.status {
-        Status::Ok => Ok(answer.length),
-        _ => Err(DestBufTooSmallError),
-    }
-}
 
 /// Writes the frame of `source`, without sentinels, to the front of `dest`, and returns its length. The bytes after it
 /// stay as they are.
@@ -45,9 +24,10 @@ fn length_of(answer: Answer) -> Result<usize, DestBufTooSmallError> {
 /// # Panics
 ///
 /// Where the frame doesn't fit. Room for [`max_encoding_length`](crate::max_encoding_length) always suffices.
+#[inline]
 #[track_caller]
 pub fn encode(source: &[u8], dest: &mut [u8]) -> usize {
-    try_encode(source, dest).expect("room for the frame")
+    try_encode(source, dest).expect("the frame fits `dest`")
 }
 
 /// Writes the frame of `source`, without sentinels, to the front of `dest`, and returns its length. The bytes after it
@@ -65,8 +45,9 @@ pub fn encode(source: &[u8], dest: &mut [u8]) -> usize {
 /// # Errors
 ///
 /// Where the frame doesn't fit, and only there. Then `dest` is as it was.
+#[inline]
 pub fn try_encode(source: &[u8], dest: &mut [u8]) -> Result<usize, DestBufTooSmallError> {
-    length_of(sys::encode(source, dest))
+    engine::try_encode(source, dest)
 }
 
 /// Writes 0, the frame of `source`, and 0 to the front of `dest`, and returns the length of all three. The bytes after
@@ -81,9 +62,10 @@ pub fn try_encode(source: &[u8], dest: &mut [u8]) -> Result<usize, DestBufTooSma
 /// # Panics
 ///
 /// Where it doesn't fit. Room for [`max_encoding_length`](crate::max_encoding_length) and 2 always suffices.
+#[inline]
 #[track_caller]
 pub fn encode_including_sentinels(source: &[u8], dest: &mut [u8]) -> usize {
-    try_encode_including_sentinels(source, dest).expect("room for the frame and its sentinels")
+    try_encode_including_sentinels(source, dest).expect("the frame and its sentinels fit `dest`")
 }
 
 /// Writes 0, the frame of `source`, and 0 to the front of `dest`, and returns the length of all three. The bytes after
@@ -100,14 +82,12 @@ pub fn encode_including_sentinels(source: &[u8], dest: &mut [u8]) -> usize {
 /// # Errors
 ///
 /// Where it doesn't fit, and only there. Then `dest` is as it was.
+#[inline]
 pub fn try_encode_including_sentinels(
     source: &[u8],
     dest: &mut [u8],
 ) -> Result<usize, DestBufTooSmallError> {
-    let (first, rest) = dest.split_first_mut().ok_or(DestBufTooSmallError)?;
-    let length = length_of(sys::encode_terminated(source, rest))?;
-    *first = 0;
-    Ok(length + 1)
+    engine::try_encode_including_sentinels(source, dest)
 }
 
 /// Writes the frame of `source` for the given sentinel to the front of `dest`, and returns its length: the frame for 0,
@@ -122,9 +102,33 @@ pub fn try_encode_including_sentinels(
 /// # Panics
 ///
 /// Where the frame doesn't fit. Room for [`max_encoding_length`](crate::max_encoding_length) always suffices.
+#[inline]
 #[track_caller]
 pub fn encode_with_sentinel(source: &[u8], dest: &mut [u8], sentinel: u8) -> usize {
-    try_encode_with_sentinel(source, dest, sentinel).expect("room for the frame")
+    try_encode_with_sentinel(source, dest, sentinel).expect("the frame fits `dest`")
+}
+
+/// Encodes a message in its own buffer, and returns the frame's length. The message's `len` bytes are in `buffer` after
+/// the first [`max_encoding_overhead`](crate::max_encoding_overhead) of `len` bytes, and the frame is at its front. The
+/// bytes after the frame stay as they are. The crate `cobs` doesn't have this call.
+///
+/// ```
+/// let mut buffer = *b"\0hello..";
+/// assert_eq!(jcobs::encode_in_place(&mut buffer, 5), 6);
+/// assert_eq!(&buffer, b"\x06hello..");
+/// ```
+///
+/// # Panics
+///
+/// If `buffer` is shorter than [`max_encoding_length`](crate::max_encoding_length) of `len` bytes.
+#[track_caller]
+pub fn encode_in_place(buffer: &mut [u8], len: usize) -> usize {
+    let room = len.checked_add(crate::max_encoding_overhead(len));
+    assert!(
+        room.is_some_and(|room| room <= buffer.len()),
+        "`buffer` has room for the longest frame of `len` bytes"
+    );
+    crate::proved::encode_in_place(buffer, len)
 }
 
 /// As [`encode_with_sentinel`], with an error in place of the panic. The crate `cobs` doesn't have this call.
@@ -138,12 +142,13 @@ pub fn encode_with_sentinel(source: &[u8], dest: &mut [u8], sentinel: u8) -> usi
 /// # Errors
 ///
 /// Where the frame doesn't fit, and only there. Then `dest` is as it was.
+#[inline]
 pub fn try_encode_with_sentinel(
     source: &[u8],
     dest: &mut [u8],
     sentinel: u8,
 ) -> Result<usize, DestBufTooSmallError> {
-    length_of(sys::encode_with_sentinel(source, dest, sentinel))
+    engine::try_encode_with_sentinel(source, dest, sentinel)
 }
 
 /// Memory for the longest frame of the message, and this many bytes more.

@@ -1,5 +1,4 @@
-//! Consistent Overhead Byte Stuffing (COBS) with the names and signatures of the crate `cobs` 0.5.1, over the proved
-//! library jcobs.
+//! Consistent Overhead Byte Stuffing (COBS) with the names and signatures of the crate `cobs` 0.5.1, in proved code.
 //!
 //! COBS encodes a message, any bytes, as a frame that never contains one byte value, the sentinel. So the sentinel,
 //! mostly 0, can mark where frames end on a serial line, in a stream or in a file. A frame is 1 byte longer than a
@@ -15,15 +14,18 @@
 //! # Example
 //!
 //! ```
+//! # #[cfg(feature = "alloc")] {
 //! let frame = jcobs::encode_vec(b"hello");
 //! assert_eq!(frame, b"\x06hello");
 //! assert_eq!(jcobs::decode_vec(&frame)?, b"hello");
+//! # }
 //! # Ok::<(), jcobs::DecodeError>(())
 //! ```
 //!
 //! Frames that come from a line are decoded as they come, in pieces of any size:
 //!
 //! ```
+//! # #[cfg(feature = "alloc")] {
 //! let mut decoder = jcobs::CobsDecoderOwned::new(64);
 //! let mut messages = Vec::new();
 //! for piece in [&b"\x06hel"[..], b"lo\0\x03h", b"i\0"] {
@@ -36,31 +38,81 @@
 //!     }
 //! }
 //! assert_eq!(messages, [&b"hello"[..], b"hi"]);
+//! # }
+//! ```
+//!
+//! A reader over any [`std::io::Read`] gives one outcome a call:
+//!
+//! ```
+//! # #[cfg(feature = "std")] {
+//! use jcobs::{CobsDecoderHeapless, FrameReader, Next, Recorded};
+//!
+//! let mut port = Recorded::new(&b"\x06hello\0\x09h\0"[..]);
+//! let mut reader = FrameReader::new(CobsDecoderHeapless::<64>::new());
+//! assert_eq!(reader.next_frame(&mut port), Ok(Next::Message(5)));
+//! assert_eq!(reader.decoder().dest()[..5], *b"hello");
+//! assert_eq!(reader.next_frame(&mut port), Ok(Next::Broken(1)));
+//! # }
 //! ```
 //!
 //! # What is proved
 //!
-//! The static library is written in Rattle, Rust with contracts: each of its functions is proved to meet its contract,
-//! to be safe and to return. This crate is a thin layer of Rust round it, which is tested; its README says which calls
-//! are proved code alone, and which have a few lines of Rust.
+//! The functions of `src/proved/` are those of the Rattle crates `cobs`, `cobs_bytes`, `cobs_abi` and `cobs_small`
+//! without their contracts. There each one is proved to return the right result, not to panic, and to end, for a `usize`
+//! of 64 bits. The files beside that folder give them the crate's signatures, and are tested. Memory safety rests on the
+//! compiler: only the vectors of `src/simd.rs` have `unsafe` code.
 //!
 //! # Features
 //!
-//! - `std` (default): `alloc`, and nothing more.
+//! - `std` (default): `alloc`, and [`Recorded`], a source of bytes over any [`std::io::Read`].
 //! - `alloc`: the calls that make vectors, and [`CobsDecoderOwned`].
+//! - `small`: bodies that go byte by byte, for firmware, in place of those with vectors.
+//! - `serde`, `defmt`: derives for [`DecodeError`], [`DestBufTooSmallError`] and [`DecodeReport`].
+//! - `heapless`: [`CobsDecoderHeapless::new_with_vec`] takes a `heapless::Vec`.
 //!
-//! The crate is `no_std` without them. The static library needs `memcpy` and `memmove`.
+//! The crate is `no_std` without `std`.
 #![no_std]
 
 #[cfg(feature = "alloc")]
 extern crate alloc;
+#[cfg(feature = "std")]
+extern crate std;
 
+#[forbid(unsafe_code)]
+mod array_vec;
+#[forbid(unsafe_code)]
 mod dec;
+#[forbid(unsafe_code)]
 mod enc;
-mod sys;
+#[forbid(unsafe_code)]
+mod memory;
+// What is written there is the proved source, whose layout and loops aren't changed for a lint. Labels name its loops for
+// the proofs; and without some feature not every function is called.
+#[allow(
+    unused_labels,
+    dead_code,
+    unused_imports,
+    clippy::all,
+    clippy::pedantic
+)]
+#[doc(hidden)]
+#[forbid(unsafe_code)]
+pub mod proved;
+mod simd;
+// Without the feature only a push of one byte goes by it.
+#[cfg_attr(not(feature = "small"), allow(dead_code, unused_imports))]
+#[forbid(unsafe_code)]
+mod small;
 
+pub use crate::array_vec::ArrayVec;
 pub use crate::dec::*;
 pub use crate::enc::*;
+pub use crate::memory::AllocError;
+#[cfg(feature = "std")]
+pub use crate::proved::Recorded;
+#[cfg(feature = "alloc")]
+pub use crate::proved::{FrameOutcome, decode_stream, encode_frames, encode_frames_room};
+pub use crate::proved::{FrameReader, FrameSource, Next, ReadFault};
 
 /// The greatest number of bytes by which a frame is longer than its message of `source_len` bytes: 1 for each 254
 /// bytes, rounded up, and 1 for the empty message.
@@ -73,11 +125,7 @@ pub use crate::enc::*;
 #[inline]
 #[must_use]
 pub const fn max_encoding_overhead(source_len: usize) -> usize {
-    if source_len == 0 {
-        1
-    } else {
-        source_len.div_ceil(254)
-    }
+    proved::max_encoding_overhead(source_len)
 }
 
 /// The length of the longest frame of a message of `source_len` bytes. With that much room no encoding call fails;
@@ -90,35 +138,21 @@ pub const fn max_encoding_overhead(source_len: usize) -> usize {
 ///
 /// # Panics
 ///
-/// Where the length doesn't fit a `usize`. No slice is as long.
+/// If the length doesn't fit a `usize`. No slice is as long.
 #[inline]
 #[must_use]
 pub const fn max_encoding_length(source_len: usize) -> usize {
     match source_len.checked_add(max_encoding_overhead(source_len)) {
         Some(length) => length,
-        None => panic!("the length of the frame doesn't fit a usize"),
+        None => panic!("max_encoding_length: the length fits a usize"),
     }
 }
 
 #[cfg(test)]
 mod tests {
-    use super::*;
-
     #[test]
-    fn lengths_are_those_of_the_library() {
-        for source_len in (0..2000).chain([isize::MAX as usize]) {
-            assert_eq!(max_encoding_length(source_len), sys::max_length(source_len));
-        }
-    }
-
-    #[test]
-    #[should_panic = "doesn't fit"]
+    #[should_panic = "the length fits a usize"]
     fn greatest_length_that_does_not_fit() {
-        let _ = max_encoding_length(usize::MAX);
-    }
-
-    #[test]
-    fn version_is_that_of_the_header() {
-        assert_eq!(sys::version() / 10_000, 1);
+        let _ = crate::max_encoding_length(usize::MAX);
     }
 }

@@ -6,10 +6,11 @@ use std::error::Error;
 use std::panic;
 
 use jcobs::{
-    decode, decode_in_place, decode_in_place_report, decode_vec, decode_with_sentinel, encode,
-    encode_including_sentinels, encode_vec, encode_vec_including_sentinels, encode_with_sentinel,
-    max_encoding_length, try_encode, try_encode_including_sentinels, CobsDecoder,
-    CobsDecoderHeapless, CobsDecoderOwned, CobsEncoder, DecodeError, DestBufTooSmallError,
+    CobsDecoder, CobsDecoderHeapless, CobsDecoderOwned, CobsEncoder, DecodeError,
+    DestBufTooSmallError, decode, decode_in_place, decode_in_place_report, decode_vec,
+    decode_with_sentinel, encode, encode_in_place, encode_including_sentinels, encode_vec,
+    encode_vec_including_sentinels, encode_with_sentinel, max_encoding_length,
+    max_encoding_overhead, try_encode, try_encode_including_sentinels,
 };
 
 /// A message that is one full block.
@@ -57,6 +58,28 @@ fn calls_that_panic_where_room_lacks_write_nothing() {
         assert!(unwound.is_err());
         assert_eq!(dest, [0xAA; 5]);
     }
+}
+
+#[test]
+fn message_in_its_own_buffer() {
+    for length in [0, 1, 253, 254, 255, 600] {
+        for zero in [None, Some(0), Some(length / 2)] {
+            let mut message = vec![7; length];
+            if let Some(byte) = zero.and_then(|at| message.get_mut(at)) {
+                *byte = 0;
+            }
+            let start = max_encoding_overhead(length);
+            let mut buffer = vec![0xAA; start + length + 2];
+            buffer[start..start + length].copy_from_slice(&message);
+            let before = buffer.clone();
+            let end = encode_in_place(&mut buffer, length);
+            assert_eq!(buffer[..end], encode_vec(&message));
+            assert_eq!(buffer[end..], before[end..]);
+        }
+    }
+    let refused = panic::catch_unwind(|| encode_in_place(&mut [0; 6], 6));
+    assert!(refused.is_err());
+    assert!(panic::catch_unwind(|| encode_in_place(&mut [0; 6], usize::MAX)).is_err());
 }
 
 #[test]

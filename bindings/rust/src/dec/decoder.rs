@@ -2,54 +2,133 @@
 //!
 //! The three decoders differ in whose the buffer is.
 
-use crate::dec::{DecodeError, DecodeReport};
-use crate::sys::{self, Answer, Status};
+use crate::ArrayVec;
+use crate::dec::{DecodeError, DecodeReport, FrameDecoder, PieceEnd, UnbufferedDecoder};
+#[cfg(not(feature = "small"))]
+use crate::dec::{DecoderPhase, PushError};
+#[cfg(not(feature = "small"))]
+use crate::simd::Simd;
+
+#[cfg(feature = "small")]
+use crate::small::push_stream;
 
 /// What the three decoders share: all but the buffer.
 #[derive(Debug)]
 struct Progress {
-    decoder: sys::Decoder,
+    decoder: UnbufferedDecoder,
     /// How many bytes the last call took.
     parsed_size: usize,
 }
 
 impl Progress {
     const START: Self = Self {
-        decoder: sys::Decoder::START,
+        decoder: UnbufferedDecoder::new(),
         parsed_size: 0,
     };
 
+    #[inline]
     fn push(&mut self, dest: &mut [u8], data: &[u8]) -> Result<Option<DecodeReport>, DecodeError> {
-        let answer = sys::decoder_push(&mut self.decoder, dest, data);
-        let length = self.take(answer)?;
-        Ok(length.map(|length| DecodeReport::new(answer.consumed, length)))
+        if let [byte] = *data {
+            let length = self.feed(dest, byte)?;
+            return Ok(length.map(|frame_size| DecodeReport {
+                parsed_size: 1,
+                frame_size,
+            }));
+        }
+        let (taken, pushed) = push_stream(&mut self.decoder, dest, data);
+        self.parsed_size = taken;
+        pushed
     }
 
     #[inline]
     fn feed(&mut self, dest: &mut [u8], data: u8) -> Result<Option<usize>, DecodeError> {
-        if self.decoder.take_inside(dest, data) {
-            self.parsed_size = 1;
-            return Ok(None);
-        }
-        let answer = sys::decoder_feed(&mut self.decoder, dest, data);
-        self.take(answer)
+        self.parsed_size = 1;
+        self.decoder.feed(dest, data)
     }
+}
 
-    /// The length of the message that has ended, if one has.
-    #[inline]
-    fn take(&mut self, answer: Answer) -> Result<Option<usize>, DecodeError> {
-        self.parsed_size = answer.consumed;
-        match answer.status {
-            Status::Ok => Ok(Some(answer.length)),
-            Status::Broken => Err(DecodeError::InvalidFrame {
-                decoded_bytes: answer.length,
-            }),
-            Status::TooSmall => Err(DecodeError::TargetBufTooSmall),
-            // The library says so at the zero that ends the frame; here it is said at once, and until then.
-            _ if self.decoder.is_too_long() && answer.consumed > 0 => {
-                Err(DecodeError::TargetBufTooSmall)
+/// Up to this many bytes cost less one by one than a search among them does.
+#[cfg(not(feature = "small"))]
+const FEW: usize = 16;
+
+/// Pushes bytes one by one.
+#[cfg(not(feature = "small"))]
+#[inline(always)]
+fn feed_each(
+    decoder: &mut UnbufferedDecoder,
+    dest: &mut [u8],
+    data: &[u8],
+) -> Result<Option<DecodeReport>, PushError> {
+    for (i, &byte) in data.iter().enumerate() {
+        let parsed_size = i + 1;
+        match decoder.feed(dest, byte) {
+            Ok(None) => {}
+            Ok(Some(frame_size)) => {
+                return Ok(Some(DecodeReport {
+                    parsed_size,
+                    frame_size,
+                }));
             }
-            _ => Ok(None),
+            Err(error) => return Err(PushError { error, parsed_size }),
+        }
+    }
+    Ok(None)
+}
+
+/// Takes bytes of a stream, and returns how many; of a message that is too long, all through its zero.
+#[cfg(not(feature = "small"))]
+fn push_stream(
+    decoder: &mut UnbufferedDecoder,
+    dest: &mut [u8],
+    data: &[u8],
+) -> (usize, Result<Option<DecodeReport>, DecodeError>) {
+    let mut taken = 0;
+    if data.len() <= FEW || has_zero(data) {
+        let few = data.len().min(FEW);
+        let pushed = feed_each(decoder, dest, &data[..few]);
+        if pushed != Ok(None) || few == data.len() {
+            return after_push(decoder, dest, data, 0, pushed);
+        }
+        taken = few;
+    }
+    let pushed = decoder.push(dest, &data[taken..]);
+    after_push(decoder, dest, data, taken, pushed)
+}
+
+/// Whether a frame ends in the first bytes.
+#[cfg(not(feature = "small"))]
+#[inline(always)]
+fn has_zero(data: &[u8]) -> bool {
+    let first = Simd::<u8, FEW>::from_slice(data);
+    first.simd_eq(Simd::splat(0)).to_bitmask() != 0
+}
+
+/// Counts what a push took after the first `before` bytes, with the rest of a message that is too long.
+#[cfg(not(feature = "small"))]
+#[inline(always)]
+fn after_push(
+    decoder: &mut UnbufferedDecoder,
+    dest: &mut [u8],
+    data: &[u8],
+    before: usize,
+    pushed: Result<Option<DecodeReport>, PushError>,
+) -> (usize, Result<Option<DecodeReport>, DecodeError>) {
+    match pushed {
+        Ok(None) => (data.len(), Ok(None)),
+        Ok(Some(mut report)) => {
+            report.parsed_size += before;
+            (report.parsed_size, Ok(Some(report)))
+        }
+        Err(PushError { error, parsed_size }) => {
+            let taken = before + parsed_size;
+            let rest = &data[taken..];
+            let more = if decoder.phase() == DecoderPhase::TooLong {
+                let ended = decoder.feed_piece(dest, rest);
+                ended.map_or(rest.len(), |(_, taken)| taken)
+            } else {
+                0
+            };
+            (taken + more, Err(error))
         }
     }
 }
@@ -88,6 +167,7 @@ macro_rules! decoder_methods {
         ///
         /// After an error, go on with the bytes from [`parsed_size`](Self::parsed_size) on: then a broken frame
         /// never affects another.
+        #[inline]
         pub fn push(&mut self, data: &[u8]) -> Result<Option<DecodeReport>, DecodeError> {
             self.progress.push(&mut self.dest[..], data)
         }
@@ -129,6 +209,28 @@ macro_rules! decoder_reset {
     };
 }
 
+/// A decoder as the readers of streams take it.
+macro_rules! frame_decoder {
+    ($decoder:ty, $($generics:tt)*) => {
+        impl $($generics)* FrameDecoder for $decoder {
+            #[inline]
+            fn feed_byte(&mut self, byte: u8) -> Result<Option<usize>, DecodeError> {
+                self.feed(byte)
+            }
+
+            #[inline]
+            fn feed_piece(&mut self, stream: &[u8]) -> Option<(PieceEnd, usize)> {
+                self.progress.decoder.feed_piece(&mut self.dest[..], stream)
+            }
+
+            #[inline]
+            fn buffer(&self) -> &[u8] {
+                self.dest()
+            }
+        }
+    };
+}
+
 /// A streaming decoder over a slice.
 ///
 /// ```
@@ -159,9 +261,9 @@ impl<'a> CobsDecoder<'a> {
     decoder_methods!();
 }
 
+frame_decoder!(CobsDecoder<'_>,);
+
 /// A streaming decoder with a buffer of `N` bytes inside.
-///
-/// The crate's `new_with_vec`, which takes a vector of the crate `heapless`, isn't here.
 ///
 /// ```
 /// let mut decoder = jcobs::CobsDecoderHeapless::<8>::new();
@@ -188,9 +290,29 @@ impl<const N: usize> CobsDecoderHeapless<N> {
         }
     }
 
+    /// A decoder over the bytes of this vector, which is filled with zeros to its capacity: an array of `N` bytes, an
+    /// [`ArrayVec`], or with the feature `heapless` a vector of that crate.
+    ///
+    /// ```
+    /// let decoder = jcobs::CobsDecoderHeapless::new_with_vec([7; 3]);
+    /// assert_eq!(decoder.dest(), [7; 3]);
+    /// ```
+    #[must_use]
+    pub fn new_with_vec(vec: impl Into<ArrayVec<u8, N>>) -> Self {
+        let mut vec = vec.into();
+        for _ in 0..vec.remaining_capacity() {
+            vec.push(0);
+        }
+        let mut decoder = Self::new();
+        decoder.dest.copy_from_slice(vec.as_slice());
+        decoder
+    }
+
     decoder_methods!();
     decoder_reset!();
 }
+
+frame_decoder!(CobsDecoderHeapless<N>, <const N: usize>);
 
 impl<const N: usize> Default for CobsDecoderHeapless<N> {
     /// That of [`new`](Self::new).
@@ -230,3 +352,6 @@ impl CobsDecoderOwned {
     decoder_methods!();
     decoder_reset!();
 }
+
+#[cfg(feature = "alloc")]
+frame_decoder!(CobsDecoderOwned,);

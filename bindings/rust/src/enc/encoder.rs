@@ -1,7 +1,8 @@
 //! A message in pieces to a frame in a slice.
 
-use crate::enc::{length_of, DestBufTooSmallError};
-use crate::sys;
+use crate::enc::DestBufTooSmallError;
+use crate::proved::UnbufferedEncoder;
+use crate::small;
 
 /// Encodes a message that comes in pieces into a slice.
 ///
@@ -17,7 +18,7 @@ use crate::sys;
 #[derive(Debug)]
 pub struct CobsEncoder<'a> {
     dest: &'a mut [u8],
-    encoder: sys::Encoder,
+    encoder: UnbufferedEncoder,
 }
 
 impl<'a> CobsEncoder<'a> {
@@ -27,7 +28,7 @@ impl<'a> CobsEncoder<'a> {
     pub fn new(out_buf: &'a mut [u8]) -> CobsEncoder<'a> {
         CobsEncoder {
             dest: out_buf,
-            encoder: sys::Encoder::START,
+            encoder: UnbufferedEncoder::new(),
         }
     }
 
@@ -39,18 +40,22 @@ impl<'a> CobsEncoder<'a> {
     /// the frame of what was taken before can still be had, or fewer bytes be pushed.
     #[inline]
     pub fn push(&mut self, data: &[u8]) -> Result<(), DestBufTooSmallError> {
-        let answer = match *data {
-            [byte] if self.encoder.take_inside(self.dest, byte) => return Ok(()),
-            [byte] => sys::encoder_feed(&mut self.encoder, self.dest, byte),
-            _ => sys::encoder_push(&mut self.encoder, self.dest, data),
-        };
-        length_of(answer).map(|_| ())
+        match *data {
+            // Compiled for one byte.
+            #[cfg(not(feature = "small"))]
+            [byte] => small::push_message(&mut self.encoder, self.dest, &[byte]),
+            #[cfg(not(feature = "small"))]
+            _ => self.encoder.push(self.dest, data),
+            #[cfg(feature = "small")]
+            _ => small::push_message(&mut self.encoder, self.dest, data),
+        }
     }
 
     /// Ends the message: the slice begins with its frame, of the returned length, without a sentinel. It is the frame
     /// that [`encode`](crate::encode) writes, and the bytes after it are as they were at first. The length is 0 if the
     /// slice is empty, and only then.
+    #[inline]
     pub fn finalize(mut self) -> usize {
-        sys::encoder_finish(&mut self.encoder, self.dest).length
+        self.encoder.finalize(self.dest).unwrap_or(0)
     }
 }

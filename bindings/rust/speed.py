@@ -1,0 +1,47 @@
+#!/usr/bin/env python3
+"""Prints the table of speeds for README.md from what bench/run.sh has measured: speed.py CSV.. -- CSV..
+
+The files after the two dashes are of programs with link-time optimization. Of each measurement the best one counts.
+"""
+import statistics
+import sys
+from pathlib import Path
+
+NAMES = {
+    "encode": "`encode`", "encode sentinel": "`encode_with_sentinel`", "encoder feed": "`CobsEncoder::push` of 1 byte",
+    "encoder 8": "of 8 bytes", "encoder 64": "of 64 bytes", "decode": "`decode`", "decode sentinel": "`decode_with_sentinel`",
+    "in place": "`decode_in_place`", "feed": "`CobsDecoder::feed`", "push 1": "`CobsDecoder::push` of 1 byte",
+    "push 8": "of 8 bytes", "push 64": "of 64 bytes", "push whole": "of all frames",
+}  # fmt: skip
+
+
+def best(files):
+    """For each call and kind of messages the best speeds: of libjcobs, of this crate, and of the crate `cobs`."""
+    found = {}
+    for file in files:
+        for line in Path(file).read_text().splitlines():
+            call, kind, *speeds = line.split(";")
+            speeds = [float(speed) if speed != "-" else 0.0 for speed in speeds[:3]]
+            found[call, kind] = [max(pair) for pair in zip(speeds, found.get((call, kind), speeds))]
+    return found
+
+
+def ratios(found, call, other):
+    """A cell: how many times as fast as another this crate is, in the middle of all kinds, and where it is slowest."""
+    rows = [(speeds[1] / speeds[other], kind) for (name, kind), speeds in found.items() if name == call and speeds[other]]
+    if not rows:
+        return "-"
+    least, kind = min(rows)
+    return f"{statistics.median(row[0] for row in rows):.1f}; {least:.2f} ({kind})"
+
+
+def main():
+    dashes = sys.argv.index("--")
+    plain, linked = best(sys.argv[1:dashes]), best(sys.argv[dashes + 1 :])
+    print("| call | / `cobs` | / `cobs`, with LTO | / `libjcobs` |\n|---|---|---|---|")
+    for call, name in NAMES.items():
+        print(f"| {name} | {ratios(plain, call, 2)} | {ratios(linked, call, 2)} | {ratios(plain, call, 0)} |")
+
+
+if __name__ == "__main__":
+    main()

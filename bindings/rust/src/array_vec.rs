@@ -1,0 +1,99 @@
+//! A vector of at most `N` items in an array of its own.
+
+use core::ops::{Deref, DerefMut};
+
+/// A vector of up to `N` bytes that doesn't allocate, for [`CobsDecoderHeapless`](crate::CobsDecoderHeapless).
+///
+/// ```
+/// let mut vec = jcobs::ArrayVec::<u8, 3>::new();
+/// vec.push(7);
+/// assert_eq!(vec.as_slice(), [7]);
+/// assert_eq!(vec.remaining_capacity(), 2);
+/// ```
+#[derive(Debug, Clone)]
+pub struct ArrayVec<T, const N: usize> {
+    items: [T; N],
+    len: usize,
+}
+
+impl<const N: usize> ArrayVec<u8, N> {
+    /// Makes a vector without bytes.
+    #[inline]
+    #[must_use]
+    pub const fn new() -> Self {
+        Self {
+            items: [0; N],
+            len: 0,
+        }
+    }
+
+    /// Returns how many more bytes it can take.
+    #[inline]
+    #[must_use]
+    pub const fn remaining_capacity(&self) -> usize {
+        N - self.len
+    }
+
+    /// Adds a byte at the end.
+    ///
+    /// # Panics
+    ///
+    /// If the vector is full.
+    #[inline]
+    pub fn push(&mut self, byte: u8) {
+        assert!(self.len < N, "ArrayVec::push: the vector isn't full");
+        self.items[self.len] = byte;
+        self.len += 1;
+    }
+
+    /// Returns the bytes.
+    #[inline]
+    #[must_use]
+    pub fn as_slice(&self) -> &[u8] {
+        &self.items[..self.len]
+    }
+
+    /// Returns the bytes, to be written to.
+    #[inline]
+    pub fn as_mut_slice(&mut self) -> &mut [u8] {
+        &mut self.items[..self.len]
+    }
+}
+
+impl<const N: usize> Default for ArrayVec<u8, N> {
+    fn default() -> Self {
+        Self::new()
+    }
+}
+
+impl<const N: usize> Deref for ArrayVec<u8, N> {
+    type Target = [u8];
+
+    fn deref(&self) -> &[u8] {
+        self.as_slice()
+    }
+}
+
+impl<const N: usize> DerefMut for ArrayVec<u8, N> {
+    fn deref_mut(&mut self) -> &mut [u8] {
+        self.as_mut_slice()
+    }
+}
+
+/// The array, which is full.
+impl<const N: usize> From<[u8; N]> for ArrayVec<u8, N> {
+    fn from(items: [u8; N]) -> Self {
+        Self { items, len: N }
+    }
+}
+
+/// The bytes of the vector, as many as it has.
+#[cfg(feature = "heapless")]
+impl<const N: usize> From<heapless::Vec<u8, N>> for ArrayVec<u8, N> {
+    fn from(vec: heapless::Vec<u8, N>) -> Self {
+        let mut copy = Self::new();
+        copy.items[..vec.len()].copy_from_slice(&vec);
+        copy.len = vec.len();
+        copy
+    }
+}

@@ -1,0 +1,70 @@
+// Made by bindings/rust/translate.py from `crates/cobs_abi/src/block.rt`: change that file, and run it again.
+//! Blocks of a frame, one byte of the message at a time.
+
+use crate::proved::EncoderProgress;
+
+/// The code of a full block, which is how many bytes the block has with its code.
+const FULL: u8 = 255;
+
+/// Whether `room` bytes, from the code of an open block, are enough once the block has taken these bytes.
+#[inline]
+pub(crate) fn fits(code: u8, bytes: &[u8], room: usize) -> bool {
+    let mut left = room;
+    let mut code = code;
+    'by_byte: for i in 0..bytes.len() {
+        if code == FULL {
+            if left < FULL as usize {
+                return false;
+            }
+            left -= FULL as usize;
+            code = 1;
+        }
+        if bytes[i] != 0 {
+            code += 1;
+        } else {
+            if left < code as usize {
+                return false;
+            }
+            left -= code as usize;
+            code = 1;
+        }
+    }
+    code as usize <= left
+}
+
+/// Takes some bytes into the frame that the buffer holds as far as `start` says, and returns how far it has come then.
+/// The code of the open block is not written.
+#[inline]
+pub(crate) fn append(bytes: &[u8], buffer: &mut [u8], start: EncoderProgress) -> EncoderProgress {
+    let mut index = start.index;
+    let mut code = start.code;
+    'by_byte: for i in 0..bytes.len() {
+        if code == FULL {
+            buffer[index] = FULL;
+            index += FULL as usize;
+            code = 1;
+        }
+        let byte = bytes[i];
+        if byte != 0 {
+            buffer[index + code as usize] = byte;
+            code += 1;
+        } else {
+            buffer[index] = code;
+            index += code as usize;
+            code = 1;
+        }
+    }
+    if code != FULL {
+        return EncoderProgress {
+            index,
+            code,
+            is_full: false,
+        };
+    }
+    buffer[index] = FULL;
+    EncoderProgress {
+        index: index + FULL as usize,
+        code: 1,
+        is_full: true,
+    }
+}

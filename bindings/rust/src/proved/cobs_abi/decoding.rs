@@ -1,0 +1,113 @@
+// Made by bindings/rust/translate.py from `crates/cobs_abi/src/decoding.rt`: change that file, and run it again.
+//! The streaming decoder by a step for each byte.
+
+use crate::proved::PieceEnd;
+use crate::proved::cobs_abi::answer::{Answer, BROKEN, MORE, TOO_SMALL, done};
+use crate::proved::cobs_abi::decoder::{DECODER_START, Decoder};
+
+/// The code of a full block.
+const FULL: u8 = 255;
+
+/// Returns the result of a call that took these of `len` bytes, into a buffer of `room` bytes.
+#[inline(always)]
+pub fn answer_of(
+    decoder: &Decoder,
+    found: Option<(PieceEnd, usize)>,
+    len: usize,
+    room: usize,
+) -> Answer {
+    let Some((end, consumed)) = found else {
+        return Answer {
+            status: MORE,
+            consumed: len,
+            length: decoder.held(room),
+        };
+    };
+    match end {
+        PieceEnd::Message(length) => done(consumed, length),
+        // No more than the buffer has, unless the state is corrupt.
+        PieceEnd::Broken(count) => Answer {
+            status: BROKEN,
+            consumed,
+            length: count.min(room),
+        },
+        PieceEnd::TooLong => Answer {
+            status: TOO_SMALL,
+            consumed,
+            length: room,
+        },
+    }
+}
+
+/// Takes a byte of a piece, over this buffer.
+fn take_byte(decoder: &mut Decoder, buffer: &mut [u8], byte: u8) {
+    if decoder.too_long != 0 {
+        return;
+    }
+    if decoder.lacking != 0 {
+        if buffer.len() <= decoder.written {
+            decoder.too_long = 1;
+            return;
+        }
+        buffer[decoder.written] = byte;
+        decoder.written += 1;
+        decoder.lacking -= 1;
+        return;
+    }
+    if decoder.joint != 0 {
+        if buffer.len() <= decoder.written {
+            decoder.too_long = 1;
+            return;
+        }
+        buffer[decoder.written] = 0;
+        decoder.written += 1;
+    }
+    decoder.lacking = byte - 1;
+    decoder.joint = if byte == FULL { 0 } else { 1 };
+}
+
+/// Returns how a zero ends the open piece, or `None` if no piece has begun.
+#[inline(always)]
+pub fn piece_end(decoder: &Decoder, room: usize) -> Option<PieceEnd> {
+    if decoder.too_long != 0 {
+        return Some(PieceEnd::TooLong);
+    }
+    if decoder.lacking != 0 {
+        return Some(PieceEnd::Broken(decoder.written));
+    }
+    if room < decoder.written {
+        return Some(PieceEnd::TooLong);
+    }
+    if decoder.written == 0 && decoder.joint == 0 {
+        None
+    } else {
+        Some(PieceEnd::Message(decoder.written))
+    }
+}
+
+/// Takes bytes through the sentinel that ends the first piece, or all of them, one after another.
+#[inline(always)]
+fn take_each(
+    decoder: &mut Decoder,
+    buffer: &mut [u8],
+    bytes: &[u8],
+    sentinel: u8,
+) -> Option<(PieceEnd, usize)> {
+    'by_byte: for (i, coded) in bytes.iter().enumerate() {
+        let byte = *coded ^ sentinel;
+        if byte != 0 {
+            take_byte(decoder, buffer, byte);
+        } else if let Some(end) = piece_end(decoder, buffer.len()) {
+            *decoder = DECODER_START;
+            return Some((end, i + 1));
+        }
+    }
+    None
+}
+
+/// Takes bytes of a stream of frames for this sentinel through the one that ends the first piece, or all of them.
+#[inline(always)]
+pub fn decode_each(decoder: &mut Decoder, buffer: &mut [u8], bytes: &[u8], sentinel: u8) -> Answer {
+    let found = take_each(decoder, buffer, bytes, sentinel);
+    answer_of(decoder, found, bytes.len(), buffer.len())
+}

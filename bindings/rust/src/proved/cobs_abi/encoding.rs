@@ -1,0 +1,76 @@
+// Made by bindings/rust/translate.py from `crates/cobs_abi/src/encoding.rt`: change that file, and run it again.
+//! The streaming encoder by a step for each byte, and a message that is encoded in its own buffer.
+
+use crate::proved::cobs_abi::answer::{Answer, OK, done, too_small};
+use crate::proved::cobs_abi::block::{append, fits};
+use crate::proved::cobs_abi::encoder::{ENCODER_START, Encoder, end_of};
+use crate::proved::{encode_in_place, max_encoding_overhead};
+
+/// Whether a frame can have come so far in a buffer of `room` bytes.
+#[inline(always)]
+fn is_place(encoder: &Encoder, room: usize) -> bool {
+    if 253 < encoder.taken || room < encoder.index {
+        return false;
+    }
+    encoder.full != 0 || (encoder.taken as usize) < room - encoder.index
+}
+
+/// Takes the next bytes of a message, if the frame of all that was taken fits the buffer.
+#[inline]
+pub fn encode_each(encoder: &mut Encoder, buffer: &mut [u8], bytes: &[u8]) -> Answer {
+    let room = buffer.len();
+    if !is_place(encoder, room) {
+        return too_small();
+    }
+    let start = encoder.progress();
+    if bytes.is_empty() {
+        return done(0, end_of(start));
+    }
+    if !fits(start.code, bytes, room - start.index) {
+        return too_small();
+    }
+    let progress = append(bytes, buffer, start);
+    *encoder = Encoder::at(progress);
+    done(bytes.len(), end_of(progress))
+}
+
+/// Ends the message, if its frame fits the buffer.
+#[inline]
+pub fn finish(encoder: &mut Encoder, buffer: &mut [u8]) -> Answer {
+    if buffer.is_empty() || !is_place(encoder, buffer.len()) {
+        return too_small();
+    }
+    let progress = encoder.progress();
+    if !progress.is_full {
+        buffer[progress.index] = progress.code;
+    }
+    *encoder = ENCODER_START;
+    done(0, end_of(progress))
+}
+
+/// Ends the message, and writes a zero after its frame, if both fit the buffer.
+#[inline]
+pub fn finish_terminated(encoder: &mut Encoder, buffer: &mut [u8]) -> Answer {
+    if buffer.is_empty() {
+        return too_small();
+    }
+    let last = buffer.len() - 1;
+    let answer = finish(encoder, &mut buffer[..last]);
+    if answer.status != OK {
+        return answer;
+    }
+    buffer[answer.length] = 0;
+    done(answer.consumed, answer.length + 1)
+}
+
+/// Encodes the message of `message_len` bytes that lies in the buffer, in its own place, if the longest frame of such a
+/// message fits.
+#[inline]
+pub fn encode_within(buffer: &mut [u8], message_len: usize) -> Answer {
+    let room = buffer.len();
+    if room < message_len || room - message_len < max_encoding_overhead(message_len) {
+        return too_small();
+    }
+    let length = encode_in_place(buffer, message_len);
+    done(message_len, length)
+}

@@ -1,0 +1,11 @@
+// Made by bindings/rust/translate.py from `crates/cobs_abi/src/kind.rt`: change that file, and run it again.
+//! Which frame bytes are.
+
+/// The bytes are no frame.
+pub const NOT_A_FRAME: u32 = 0;
+
+/// The bytes are the frame that encoders write for its message.
+pub const CANONICAL: u32 = 1;
+
+/// The bytes are that frame with a 1 after it.
+pub const LONGER: u32 = 2;

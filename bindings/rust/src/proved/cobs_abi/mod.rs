@@ -1,0 +1,20 @@
+// Made by bindings/rust/translate.py from `crates/cobs_abi/src/lib.rt`: change that file, and run it again.
+//! What the libraries for C share: the structs and numbers that cross to C, and what each exported call ensures.
+//!
+//! `cobs_c` and `cobs_small` export the same calls, with other bodies. Each export cites one definition of `specs/`, named
+//! after what the call does, so that both state the same contract.
+
+pub(crate) mod answer;
+pub(crate) mod block;
+pub(crate) mod decoder;
+pub(crate) mod decoding;
+pub(crate) mod encoder;
+pub(crate) mod encoding;
+pub(crate) mod kind;
+
+pub use answer::{Answer, BROKEN, EMPTY, MORE, OK, TOO_SMALL, answer_by, done, too_small};
+pub use decoder::{DECODER_START, Decoder};
+pub use decoding::{answer_of, decode_each, piece_end};
+pub use encoder::{ENCODER_START, Encoder, end_of};
+pub use encoding::{encode_each, encode_within, finish, finish_terminated};
+pub use kind::{CANONICAL, LONGER, NOT_A_FRAME};

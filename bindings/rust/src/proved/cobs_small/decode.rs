@@ -1,0 +1,47 @@
+// Made by bindings/rust/translate.py from `crates/cobs_small/src/decode.rt`: change that file, and run it again.
+//! Whole frames to messages.
+
+use crate::proved::PieceEnd;
+use crate::proved::cobs_abi::{
+    Answer, BROKEN, DECODER_START, EMPTY, MORE, TOO_SMALL, done, piece_end,
+};
+use crate::proved::cobs_small::decoder::jcobs_decoder_push;
+
+/// Returns how many bytes are in front of the first zero.
+pub(crate) fn len_to_zero(bytes: &[u8]) -> usize {
+    'by_byte: for i in 0..bytes.len() {
+        if bytes[i] == 0 {
+            return i;
+        }
+    }
+    bytes.len()
+}
+
+/// Returns the result of a call that took these bytes, into a buffer of `room` bytes, by how the piece has ended.
+fn answer_for(consumed: usize, room: usize, end: Option<PieceEnd>) -> Answer {
+    let (status, length) = match end {
+        None => (EMPTY, 0),
+        Some(PieceEnd::Message(length)) => return done(consumed, length),
+        Some(PieceEnd::Broken(count)) => (BROKEN, count),
+        Some(PieceEnd::TooLong) => (TOO_SMALL, room),
+    };
+    Answer {
+        status,
+        consumed,
+        length,
+    }
+}
+
+/// Decodes the first frame of the source to the front of `message`.
+pub fn jcobs_decode(source: &[u8], message: &mut [u8]) -> Answer {
+    let mut decoder = DECODER_START;
+    let pushed = jcobs_decoder_push(&mut decoder, message, source);
+    if pushed.status != MORE {
+        return pushed;
+    }
+    answer_for(
+        source.len(),
+        message.len(),
+        piece_end(&decoder, message.len()),
+    )
+}

@@ -1,0 +1,49 @@
+// Made by bindings/rust/translate.py from `crates/cobs_small/src/in_place.rt`: change that file, and run it again.
+//! A frame that is decoded in its own place.
+
+use crate::proved::DecodeError;
+use crate::proved::cobs_abi::{Answer, answer_by};
+use crate::proved::cobs_small::decode::len_to_zero;
+
+/// The code of a full block.
+const FULL: usize = 255;
+
+/// Moves `len` bytes of the buffer, which begin at `from`, to its front.
+fn move_to_front(buffer: &mut [u8], from: usize, len: usize) {
+    'by_byte: for i in 0..len {
+        buffer[i] = buffer[from + i];
+    }
+}
+
+/// Decodes the blocks in the first `end` bytes of the buffer, and returns how many bytes they give.
+fn decode_blocks(buffer: &mut [u8], end: usize) -> Result<usize, DecodeError> {
+    let mut read = 0;
+    let mut written = 0;
+    'by_block: while read < end {
+        let code = buffer[read] as usize;
+        if end - read < code {
+            return Err(DecodeError::InvalidFrame {
+                decoded_bytes: written,
+            });
+        }
+        move_to_front(&mut buffer[written..], read + 1 - written, code - 1);
+        read += code;
+        written += code - 1;
+        if code != FULL && read < end {
+            buffer[written] = 0;
+            written += 1;
+        }
+    }
+    Ok(written)
+}
+
+/// Decodes the frame at the front of the buffer in its own place.
+pub fn jcobs_decode_in_place(buffer: &mut [u8]) -> Answer {
+    let room = buffer.len();
+    if buffer.is_empty() {
+        return answer_by(0, room, Err(DecodeError::EmptyFrame));
+    }
+    let end = len_to_zero(buffer);
+    let size = decode_blocks(buffer, end);
+    answer_by(room.min(end + 1), room, size)
+}

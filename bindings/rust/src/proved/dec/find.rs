@@ -1,0 +1,33 @@
+// Made by bindings/rust/translate.py from `crates/cobs/src/dec/find.rt`: change that file, and run it again.
+//! Where pieces begin and end.
+
+use crate::proved::cobs_bytes::window::{WIDE_WINDOW, first_zero_of_few};
+use memchr::memchr;
+
+/// Where the first such byte of a source is, or the source's length if there is none.
+pub(crate) fn first_of(source: &[u8], byte: u8) -> usize {
+    memchr(byte, source).unwrap_or(source.len())
+}
+
+/// The place of the first zero of the source, or the source's length if it has none.
+///
+/// The clause `bytes` is for a caller that writes the source afterwards, whose type says only what it holds at last.
+pub(crate) fn piece_len(source: &[u8]) -> usize {
+    if source.len() > WIDE_WINDOW {
+        return first_of(source, 0);
+    }
+    if source.is_empty() {
+        return 0;
+    }
+    first_zero_of_few(source)
+}
+
+/// How many zeros the source begins with.
+pub(crate) fn leading_zeros(source: &[u8]) -> usize {
+    'by_byte: for i in 0..source.len() {
+        if source[i] != 0 {
+            return i;
+        }
+    }
+    source.len()
+}

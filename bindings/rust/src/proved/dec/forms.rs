@@ -1,0 +1,187 @@
+// Made by bindings/rust/translate.py from `crates/cobs/src/dec/forms.rt`: change that file, and run it again.
+//! The other decode forms from a source that stays as it is: for any sentinel, and into a vector.
+
+use crate::proved::cobs_bytes::lanes::copy_xored_short;
+use crate::proved::cobs_bytes::window::WIDE_WINDOW;
+use crate::proved::dec::blocks::{flat_front, write_joints};
+use crate::proved::dec::find::first_of;
+use crate::proved::dec::piece::copy_few;
+use crate::proved::dec::{DecodeError, DecodeVecError, decode};
+#[cfg(feature = "alloc")]
+use alloc::vec::Vec;
+
+/// Writes the bytes of the source, each XORed with the sentinel, to the front of `dest`.
+#[inline(never)]
+fn copy_xored(source: &[u8], dest: &mut [u8], sentinel: u8) {
+    'by_byte: for i in 0..source.len() {
+        dest[i] = source[i] ^ sentinel;
+    }
+}
+
+/// Decodes the blocks of a source that has no sentinel, and returns how many bytes they give.
+///
+/// The whole blocks through each full one are decoded by one copy, and a zero at each code; if their bytes don't fit,
+/// those of them that do. Each byte after what they give stays.
+fn decode_fronts(source: &[u8], dest: &mut [u8], sentinel: u8) -> Result<usize, DecodeError> {
+    let mut read = 0;
+    let mut written = 0;
+    'by_front: while read < source.len() {
+        let (len, full) = flat_front(&source[read..], sentinel);
+        if len == 0 {
+            return Err(DecodeError::InvalidFrame {
+                decoded_bytes: written,
+            });
+        }
+        let fit = len.min(dest.len() - written + 1);
+        let place = &mut dest[written..];
+        copy_xored(&source[read + 1..read + fit], place, sentinel);
+        write_joints(place, (source[read] ^ sentinel) as usize, fit, true);
+        if fit < len {
+            return Err(DecodeError::TargetBufTooSmall);
+        }
+        read += len;
+        written += fit - 1;
+        if !full && read < source.len() {
+            if written == dest.len() {
+                return Err(DecodeError::TargetBufTooSmall);
+            }
+            dest[written] = 0;
+            written += 1;
+        }
+    }
+    Ok(written)
+}
+
+/// Decodes a source of 2 to 65 bytes, if these are whole blocks without a sentinel that fit; says whether it did. Each
+/// byte after what they give stays, or where it did not every byte.
+fn decode_xored_short(source: &[u8], dest: &mut [u8], sentinel: u8) -> bool {
+    let len = source.len();
+    if len < 2 || WIDE_WINDOW + 1 < len || dest.len() < len - 1 || source[0] == sentinel {
+        return false;
+    }
+    // One walk that writes, and bytes put back if the last block is broken, cost less than a walk before it that looks.
+    let mut old = [0; WIDE_WINDOW];
+    copy_few(&dest[..len - 1], &mut old);
+    if !copy_xored_short(&source[1..], dest, sentinel) {
+        return false;
+    }
+    let (_, left) = write_joints(dest, (source[0] ^ sentinel) as usize, len, true);
+    if left > 0 {
+        dest[..len - 1].copy_from_slice(&old[..len - 1]);
+        return false;
+    }
+    true
+}
+
+/// Decodes the frame at the front of the source, where the sentinel may be any byte, and returns the message's length.
+///
+/// Only the source is read, up to its first sentinel or its end; each byte is XORed with the sentinel.
+/// The message is then at the front of `dest`, and every byte after it is as it was. Unlike `decode`, this reads a
+/// leading sentinel as an empty message, and returns 0.
+///
+/// # Errors
+///
+/// - `EmptyFrame` if the source is empty; `dest` is as it was.
+/// - `TargetBufTooSmall` where the message, or what the whole blocks of a frame give that breaks off inside a block, is
+///   longer than `dest`, which then holds the first bytes of it.
+/// - `InvalidFrame` if the frame breaks off inside a block and that does fit: `dest` begins with what the whole
+///   blocks before it gave, `decoded_bytes` says how many bytes these are, and every byte after them is as it was.
+///
+/// Frames for another sentinel than 0 are Cheshire and Baker's; the results for broken ones are a choice of this
+/// library.
+///
+/// ```
+/// # use jcobs::proved::*;
+/// let mut dest = [170; 5];
+/// let len = decode_with_sentinel(&[252, 245, 244, 253, 243, 255], &mut dest, 255);
+/// assert_eq!(len, Ok(4));
+/// assert_eq!(dest, [10, 11, 0, 12, 170]);
+/// ```
+pub fn decode_with_sentinel(
+    source: &[u8],
+    dest: &mut [u8],
+    sentinel: u8,
+) -> Result<usize, DecodeError> {
+    if source.is_empty() {
+        return Err(DecodeError::EmptyFrame);
+    }
+    let last = source.len() - 1;
+    let len = if source[last] == sentinel {
+        last
+    } else {
+        source.len()
+    };
+    if decode_xored_short(&source[..len], dest, sentinel) {
+        return Ok(len - 1);
+    }
+    let end = first_of(source, sentinel);
+    decode_fronts(&source[..end], dest, sentinel)
+}
+
+/// Returns the message of the first frame of the source, in a vector of exactly its bytes.
+///
+/// The frame is found and read as by [`decode`]. Memory is allocated once, for as many bytes as the source has, so a
+/// message always fits and `TargetBufTooSmall` never comes.
+///
+/// # Errors
+///
+/// `Decode(EmptyFrame)` if the source is empty, and then nothing is allocated; else `Memory` if memory ran
+/// out; else `Decode` with the error of [`decode`].
+///
+/// ```
+/// # use jcobs::proved::*;
+/// # #[cfg(feature = "alloc")] {
+/// let message = decode_vec(b"\x06hello\0")?;
+/// assert_eq!(message.as_slice(), b"hello".as_slice());
+/// # }
+/// # Ok::<(), Box<dyn std::error::Error>>(())
+/// ```
+#[cfg(feature = "alloc")]
+pub fn decode_vec(source: &[u8]) -> Result<Vec<u8>, DecodeVecError> {
+    if source.is_empty() {
+        return Err(DecodeVecError::Decode(DecodeError::EmptyFrame));
+    }
+    let mut message = crate::memory::filled(0, source.len()).map_err(DecodeVecError::Memory)?;
+    match decode(source, &mut message) {
+        Ok(report) => {
+            message.truncate(report.frame_size());
+            Ok(message)
+        }
+        Err(error) => Err(DecodeVecError::Decode(error)),
+    }
+}
+
+/// Returns the message of the frame at the front of the source, where the sentinel may be any byte, in a vector of
+/// exactly its bytes.
+///
+/// The frame is read as by [`decode_with_sentinel`], up to the first sentinel or the source's end; a leading sentinel
+/// gives an empty vector. Memory is allocated once, for as many bytes as the source has, so a message always fits and
+/// `TargetBufTooSmall` never comes.
+///
+/// # Errors
+///
+/// `Decode(EmptyFrame)` if the source is empty, and then nothing is allocated; else `Memory` if memory ran
+/// out; else `Decode` with the error of [`decode_with_sentinel`].
+///
+/// ```
+/// # use jcobs::proved::*;
+/// # #[cfg(feature = "alloc")] {
+/// let message = decode_vec_with_sentinel(&[252, 245, 244, 253, 243], 255)?;
+/// assert_eq!(message.as_slice(), [10, 11, 0, 12].as_slice());
+/// # }
+/// # Ok::<(), Box<dyn std::error::Error>>(())
+/// ```
+#[cfg(feature = "alloc")]
+pub fn decode_vec_with_sentinel(source: &[u8], sentinel: u8) -> Result<Vec<u8>, DecodeVecError> {
+    if source.is_empty() {
+        return Err(DecodeVecError::Decode(DecodeError::EmptyFrame));
+    }
+    let mut message = crate::memory::filled(0, source.len()).map_err(DecodeVecError::Memory)?;
+    match decode_with_sentinel(source, &mut message, sentinel) {
+        Ok(len) => {
+            message.truncate(len);
+            Ok(message)
+        }
+        Err(error) => Err(DecodeVecError::Decode(error)),
+    }
+}

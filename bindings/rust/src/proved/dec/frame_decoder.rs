@@ -1,0 +1,148 @@
+// Made by bindings/rust/translate.py from `crates/cobs/src/dec/frame_decoder.rt`: change that file, and run it again.
+//! The traits of the streaming decoders: what `stream` and `framed` know of one, and writing to its buffer.
+
+use crate::proved::dec::DecodeError;
+
+/// How a piece of a stream ended. (The names are this library's own.)
+///
+/// ```
+/// # use jcobs::proved::*;
+/// let mut decoder = CobsDecoderHeapless::<1>::new();
+/// assert_eq!(
+///     decoder.feed_piece(&[2, 7, 0]),
+///     Some((PieceEnd::Message(1), 3))
+/// );
+/// ```
+#[derive(Debug, Clone, Copy, PartialEq, Eq)]
+pub enum PieceEnd {
+    /// The piece is a frame. Its message is this many bytes at the front of the decoder's buffer.
+    Message(usize),
+
+    /// The piece breaks off inside a block. It decodes to this many bytes, those of the broken block included.
+    Broken(usize),
+
+    /// The piece decodes to more bytes than the decoder's buffer holds.
+    TooLong,
+}
+
+/// What the result for a zero means: nothing if no piece has ended.
+pub(crate) fn piece_end(answer: Result<Option<usize>, DecodeError>) -> Option<PieceEnd> {
+    match answer {
+        Ok(None) | Err(DecodeError::EmptyFrame) => None,
+        Ok(Some(n)) => Some(PieceEnd::Message(n)),
+        Err(DecodeError::InvalidFrame { decoded_bytes }) => Some(PieceEnd::Broken(decoded_bytes)),
+        Err(DecodeError::TargetBufTooSmall) => Some(PieceEnd::TooLong),
+    }
+}
+
+/// A decoder that is fed one byte of a stream after another, and owns or borrows the buffer of its output.
+///
+/// Contracts see it as the bytes of its buffer and its phase. (The trait is this library's own.)
+///
+/// ```
+/// # use jcobs::proved::*;
+/// let mut decoder = CobsDecoderHeapless::<4>::new();
+/// let stream = [3, 7, 0, 2, 9, 0];
+/// assert_eq!(decoder.feed_piece(&stream), Some((PieceEnd::Broken(1), 3)));
+/// ```
+pub trait FrameDecoder {
+    /// Takes the next byte of the stream, as [`CobsDecoder::feed`](crate::CobsDecoder::feed) does.
+    ///
+    /// # Errors
+    /// `InvalidFrame` and `TargetBufTooSmall`, as there.
+    ///
+    /// ```
+    /// # use jcobs::proved::*;
+    /// let mut decoder = CobsDecoderHeapless::<1>::new();
+    /// assert_eq!(decoder.feed_byte(1), Ok(None));
+    /// assert_eq!(decoder.feed_byte(0), Ok(Some(0)));
+    /// ```
+    fn feed_byte(&mut self, byte: u8) -> Result<Option<usize>, DecodeError>;
+
+    /// Takes bytes of the stream through the first zero that ends a piece.
+    ///
+    /// `None` says that no piece ended in these bytes, and that all were taken. `Some((end, count))` says that a piece
+    /// ended with the byte at index `count - 1`, and how; the bytes after it were not looked at, and those of the
+    /// buffer after the output are as they were. A piece that is too long for the buffer ends at its zero, as every
+    /// other: so no byte has to be given one by one.
+    ///
+    /// An implementation has no need to write this method, which feeds one byte after another; the decoders of this
+    /// library copy whole blocks instead.
+    ///
+    /// ```
+    /// # use jcobs::proved::*;
+    /// let mut decoder = CobsDecoderHeapless::<1>::new();
+    /// assert_eq!(decoder.feed_piece(&[2]), None);
+    /// assert_eq!(
+    ///     decoder.feed_piece(&[7, 0, 1]),
+    ///     Some((PieceEnd::Message(1), 2))
+    /// );
+    /// ```
+    fn feed_piece(&mut self, stream: &[u8]) -> Option<(PieceEnd, usize)> {
+        'by_byte: for (i, byte) in stream.iter().enumerate() {
+            let answer = self.feed_byte(*byte);
+            if *byte == 0 {
+                if let Some(end) = piece_end(answer) {
+                    return Some((end, i + 1));
+                }
+            }
+        }
+        None
+    }
+
+    /// Returns the whole buffer.
+    ///
+    /// ```
+    /// # use jcobs::proved::*;
+    /// assert_eq!(CobsDecoderHeapless::<2>::new().buffer(), [0, 0].as_slice());
+    /// ```
+    fn buffer(&self) -> &[u8];
+}
+
+/// A decoder whose buffer can be borrowed to be written to.
+///
+/// Writing changes the buffer's bytes to those that were written, and neither where the decoder is nor which
+/// slice its buffer is. So a decoder that has taken the front of a piece (`PhaseAfter`) still has: each result that
+/// this piece gets is the same, and only the bytes of its message are then not known.
+///
+/// Each streaming decoder has a method `dest_mut` of its own too. Of a `CobsDecoder`, whose slice is itself borrowed, a
+/// caller's proof learns through that method only what is in the slice meanwhile. Such a caller writes by
+/// [`write_dest`](WriteBuffer::write_dest), or in code that is generic over this trait. (The trait is this library's
+/// own.)
+///
+/// ```
+/// # use jcobs::proved::*;
+/// let mut buffer = [0; 3];
+/// let mut decoder = CobsDecoder::new(&mut buffer);
+/// assert_eq!(decoder.push(&[3, 7]), Ok(None));
+/// decoder.write_dest(0, &[9]);
+/// assert_eq!(decoder.feed(8), Ok(None));
+/// assert_eq!(decoder.feed(0), Ok(Some(2)));
+/// assert_eq!(decoder.dest(), [9, 8, 0].as_slice());
+/// ```
+pub trait WriteBuffer: FrameDecoder {
+    /// Returns the whole buffer, to be written to: the decoder ends with the bytes that are left there.
+    ///
+    /// ```
+    /// # use jcobs::proved::*;
+    /// let mut decoder = CobsDecoderHeapless::<2>::new();
+    /// WriteBuffer::dest_mut(&mut decoder).fill(9);
+    /// assert_eq!(decoder.buffer(), [9, 9].as_slice());
+    /// ```
+    fn dest_mut(&mut self) -> &mut [u8];
+
+    /// Writes these bytes over those of the buffer, from index `at` on.
+    ///
+    /// Precondition: they fit, so `at` plus their number is at most the buffer's length.
+    ///
+    /// ```
+    /// # use jcobs::proved::*;
+    /// let mut decoder = CobsDecoderHeapless::<3>::new();
+    /// decoder.write_dest(1, &[8, 9]);
+    /// assert_eq!(decoder.buffer(), [0, 8, 9].as_slice());
+    /// ```
+    fn write_dest(&mut self, at: usize, source: &[u8]) {
+        let dest = self.dest_mut();
+        dest[at..at + source.len()].copy_from_slice(source);
+    }
+}

@@ -1,0 +1,133 @@
+// Made by bindings/rust/translate.py from `crates/cobs/src/dec/front.rt`: change that file, and run it again.
+//! The front of a source, decoded in one pass: each step looks for a zero in the bytes that it has loaded before it
+//! stores them.
+
+use crate::proved::cobs_bytes::window::{WIDE_WINDOW, WINDOW, copy_nonzero, is_all, write_row};
+use crate::proved::dec::find::piece_len;
+use crate::proved::enc::FULL_CODE;
+
+/// No step reads or writes more bytes than a full block and the code after it.
+const LONGEST_STEP: usize = FULL_CODE + 1;
+
+/// How many bytes are copied behind a code before the zeros are written.
+const STRETCH: usize = 3 * WIDE_WINDOW;
+
+/// How far a source is decoded: up to a code of it, and how many bytes of the output are written.
+#[derive(Clone, Copy)]
+pub(crate) struct Cursor {
+    /// How many bytes of the source are read.
+    pub(crate) read: usize,
+    /// How many bytes of the output are written.
+    pub(crate) written: usize,
+}
+
+/// Decodes the first whole blocks of a source, of which none is full, and returns how many bytes it has read and
+/// written: a row of blocks without bytes, or a stretch, whose bytes are copied up to a zero, 64 at a time, before a zero
+/// is written over each code but the first. It has read nothing where a zero is near.
+///
+/// Whether two codes take turns is asked once: the walk over such codes needn't wait for each to know where the next is.
+#[inline(always)]
+pub(crate) fn decode_stretch(source: &[u8], dest: &mut [u8]) -> usize {
+    let mut code = source[0] as usize;
+    if code == 1 && is_all(source, 1, 1) {
+        write_row(dest, 0, 0);
+        return WINDOW;
+    }
+    let copied = copy_nonzero(source, 1, STRETCH, dest, 0);
+    if copied < code {
+        return 0;
+    }
+    let next = source[code] as usize;
+    let both = code + next;
+    let mut read = 0;
+    'in_turn: while read + both + code <= copied
+        && source[read + code] as usize == next
+        && source[read + both] as usize == code
+    {
+        dest[read + (code - 1)] = 0;
+        dest[read + (both - 1)] = 0;
+        read += both;
+    }
+    'by_code: loop {
+        dest[read + (code - 1)] = 0;
+        read += code;
+        code = source[read] as usize;
+        if copied - read < code {
+            return read;
+        }
+    }
+}
+
+/// Decodes what is at the front of a source up to a code: a block, or those of a window. It has read nothing where
+/// a zero is near.
+#[inline(always)]
+fn decode_step(source: &[u8], dest: &mut [u8]) -> Cursor {
+    let code = source[0] as usize;
+    if code == FULL_CODE {
+        let copied = copy_nonzero(source, 1, FULL_CODE - 1, dest, 0);
+        if copied < FULL_CODE - 1 || source[FULL_CODE] == 0 {
+            return Cursor {
+                read: 0,
+                written: 0,
+            };
+        }
+        return Cursor {
+            read: FULL_CODE,
+            written: FULL_CODE - 1,
+        };
+    }
+    let step = if code <= WIDE_WINDOW {
+        decode_stretch(source, dest)
+    } else if copy_nonzero(source, 1, code, dest, 0) == code {
+        dest[code - 1] = 0;
+        code
+    } else {
+        0
+    };
+    Cursor {
+        read: step,
+        written: step,
+    }
+}
+
+/// Decodes the front of a source, as long as enough of the source and of the room is left for any block, and no zero is
+/// near.
+///
+/// One bound covers both, since no step writes more than it reads.
+#[inline(never)]
+fn decode_blocks(source: &[u8], dest: &mut [u8]) -> Cursor {
+    let mut read = 0;
+    let mut written = 0;
+    let mut end = 0;
+    'by_step: loop {
+        if end <= read {
+            let left = (source.len() - read).min(dest.len() - written);
+            if left < 2 * LONGEST_STEP {
+                return Cursor { read, written };
+            }
+            end = read + (left - LONGEST_STEP);
+        }
+        let step = decode_step(&source[read..], &mut dest[written..]);
+        read += step.read;
+        written += step.written;
+        if step.read == 0 {
+            return Cursor { read, written };
+        }
+    }
+}
+
+/// Decodes the front of a source, which begins with a code, to the last bytes of the source or of the room, or near to
+/// the first zero, and finds that zero. Returns how far it has come, and how many bytes are in front of the zero. A
+/// short source has no such front.
+#[inline(always)]
+pub(crate) fn decode_front(source: &[u8], dest: &mut [u8]) -> (Cursor, usize) {
+    if source.len() < 2 * LONGEST_STEP {
+        let none = Cursor {
+            read: 0,
+            written: 0,
+        };
+        return (none, piece_len(source));
+    }
+    let front = decode_blocks(source, dest);
+    (front, front.read + piece_len(&source[front.read..]))
+}

@@ -1,0 +1,170 @@
+// Made by bindings/rust/translate.py from `crates/cobs/src/dec/heapless.rt`: change that file, and run it again.
+//! The streaming decoder over a buffer that lies in the value itself.
+
+use crate::array_vec::ArrayVec;
+use crate::proved::dec::frame_decoder::{FrameDecoder, PieceEnd, WriteBuffer};
+use crate::proved::dec::unbuffered::UnbufferedDecoder;
+use crate::proved::dec::{DecodeError, DecodeReport, PushError};
+
+/// Decodes a stream of frames, each ended by a zero, into a buffer of `N` bytes that lies in the value itself.
+///
+/// It returns what [`CobsDecoder`](crate::CobsDecoder) does, and doesn't allocate. That a zero ends each frame is
+/// Cheshire and Baker's; the calls are those of the crate `cobs`.
+///
+/// ```
+/// # use jcobs::proved::*;
+/// let mut decoder = CobsDecoderHeapless::<2>::new();
+/// assert_eq!(decoder.feed(2), Ok(None));
+/// assert_eq!(decoder.feed(7), Ok(None));
+/// assert_eq!(decoder.feed(0), Ok(Some(1)));
+/// assert_eq!(decoder.dest(), [7, 0].as_slice());
+/// ```
+#[derive(Debug)]
+pub struct CobsDecoderHeapless<const N: usize> {
+    dest: ArrayVec<u8, N>,
+    inner: UnbufferedDecoder,
+}
+
+impl<const N: usize> CobsDecoderHeapless<N> {
+    /// Makes an idle decoder over `N` zeros.
+    ///
+    /// ```
+    /// # use jcobs::proved::*;
+    /// assert_eq!(CobsDecoderHeapless::<2>::new().dest(), [0, 0].as_slice());
+    /// ```
+    pub fn new() -> Self {
+        CobsDecoderHeapless::new_with_vec(ArrayVec::new())
+    }
+
+    /// Makes an idle decoder over the vector, which keeps what is in it and is filled with zeros to its capacity,
+    /// `N` bytes.
+    ///
+    /// ```
+    /// # use jcobs::proved::*;
+    /// # use jcobs::ArrayVec;
+    /// let mut vec = ArrayVec::<u8, 3>::new();
+    /// vec.push(7);
+    /// let decoder = CobsDecoderHeapless::new_with_vec(vec);
+    /// assert_eq!(decoder.dest(), [7, 0, 0].as_slice());
+    /// ```
+    pub fn new_with_vec(vec: ArrayVec<u8, N>) -> Self {
+        let mut dest = vec;
+        'fill: for _i in 0..dest.remaining_capacity() {
+            dest.push(0);
+        }
+        CobsDecoderHeapless {
+            dest,
+            inner: UnbufferedDecoder::new(),
+        }
+    }
+
+    /// Takes the next byte of the stream, as [`CobsDecoder::feed`](crate::CobsDecoder::feed) does.
+    ///
+    /// # Errors
+    /// `InvalidFrame` and `TargetBufTooSmall`, as there.
+    ///
+    /// ```
+    /// # use jcobs::proved::*;
+    /// let mut decoder = CobsDecoderHeapless::<4>::new();
+    /// assert_eq!(decoder.feed(3), Ok(None));
+    /// assert_eq!(decoder.feed(7), Ok(None));
+    /// let broken = DecodeError::InvalidFrame { decoded_bytes: 1 };
+    /// assert_eq!(decoder.feed(0), Err(broken));
+    /// ```
+    pub fn feed(&mut self, byte: u8) -> Result<Option<usize>, DecodeError> {
+        self.inner.feed(self.dest.as_mut_slice(), byte)
+    }
+
+    /// Takes bytes of the stream up to the first one whose result by `feed` isn't `Ok(None)`, as
+    /// [`CobsDecoder::push`](crate::CobsDecoder::push) does.
+    ///
+    /// # Errors
+    /// A `PushError` has the error of `feed` and how many bytes were taken, the one that raised it included.
+    ///
+    /// ```
+    /// # use jcobs::proved::*;
+    /// let mut decoder = CobsDecoderHeapless::<8>::new();
+    /// assert_eq!(decoder.push(b"\x06hel"), Ok(None));
+    /// assert_eq!(
+    ///     decoder.push(b"lo\0")?.map(|report| report.frame_size()),
+    ///     Some(5)
+    /// );
+    /// assert!(decoder.dest().starts_with(b"hello"));
+    /// # Ok::<(), Box<dyn std::error::Error>>(())
+    /// ```
+    pub fn push(&mut self, bytes: &[u8]) -> Result<Option<DecodeReport>, PushError> {
+        self.inner.push(self.dest.as_mut_slice(), bytes)
+    }
+
+    /// Makes the decoder idle, so that the next byte begins a new piece. The buffer is as it was.
+    ///
+    /// ```
+    /// # use jcobs::proved::*;
+    /// let mut decoder = CobsDecoderHeapless::<8>::new();
+    /// assert_eq!(decoder.push(&[9, 9]), Ok(None));
+    /// decoder.reset();
+    /// assert_eq!(
+    ///     decoder.push(&[1, 0])?.map(|report| report.frame_size()),
+    ///     Some(0)
+    /// );
+    /// # Ok::<(), Box<dyn std::error::Error>>(())
+    /// ```
+    pub fn reset(&mut self) {
+        self.inner = UnbufferedDecoder::new();
+    }
+
+    /// Returns the whole buffer, `N` bytes.
+    ///
+    /// ```
+    /// # use jcobs::proved::*;
+    /// assert_eq!(CobsDecoderHeapless::<3>::new().dest().len(), 3);
+    /// ```
+    pub fn dest(&self) -> &[u8] {
+        self.dest.as_slice()
+    }
+
+    /// Returns the whole buffer, to be written to, as [`CobsDecoder::dest_mut`](crate::CobsDecoder::dest_mut) does.
+    ///
+    /// ```
+    /// # use jcobs::proved::*;
+    /// let mut decoder = CobsDecoderHeapless::<2>::new();
+    /// decoder.dest_mut().fill(9);
+    /// assert_eq!(decoder.dest(), [9, 9].as_slice());
+    /// ```
+    pub fn dest_mut(&mut self) -> &mut [u8] {
+        self.dest.as_mut_slice()
+    }
+}
+
+impl<const N: usize> Default for CobsDecoderHeapless<N> {
+    /// Makes an idle decoder over `N` zeros, as `new` does.
+    ///
+    /// ```
+    /// # use jcobs::proved::*;
+    /// let decoder = CobsDecoderHeapless::<2>::default();
+    /// assert_eq!(decoder.dest(), [0, 0].as_slice());
+    /// ```
+    fn default() -> Self {
+        CobsDecoderHeapless::new()
+    }
+}
+
+impl<const N: usize> FrameDecoder for CobsDecoderHeapless<N> {
+    fn feed_byte(&mut self, byte: u8) -> Result<Option<usize>, DecodeError> {
+        self.feed(byte)
+    }
+
+    fn feed_piece(&mut self, stream: &[u8]) -> Option<(PieceEnd, usize)> {
+        self.inner.feed_piece(&mut self.dest, stream)
+    }
+
+    fn buffer(&self) -> &[u8] {
+        self.dest()
+    }
+}
+
+impl<const N: usize> WriteBuffer for CobsDecoderHeapless<N> {
+    fn dest_mut(&mut self) -> &mut [u8] {
+        CobsDecoderHeapless::dest_mut(self)
+    }
+}

@@ -1,0 +1,134 @@
+// Made by bindings/rust/translate.py from `crates/cobs/src/dec/state.rt`: change that file, and run it again.
+//! The state machine of a decoder, without a buffer.
+
+use crate::proved::dec::DecodeError;
+
+/// A decoder's state within a frame.
+///
+/// The state holds no output, so a caller can stream the decoded bytes into a container of its own.
+///
+/// ```
+/// # use jcobs::proved::*;
+/// let mut state = DecoderState::default();
+/// assert!(matches!(state.feed(2), Ok(DecodeResult::DataStart)));
+/// assert!(matches!(state.feed(7), Ok(DecodeResult::DataContinue(7))));
+/// assert!(matches!(state.feed(1), Ok(DecodeResult::DataContinue(0))));
+/// assert!(matches!(state.feed(0), Ok(DecodeResult::DataComplete)));
+/// ```
+#[derive(Debug, Clone, PartialEq, Eq)]
+pub enum DecoderState {
+    /// No nonzero byte has come since the last sentinel.
+    Idle,
+
+    /// In a block with a code from 1 to 254, with this many bytes missing.
+    Grab(u8),
+
+    /// In a full block, one with the code 255, with this many bytes missing.
+    GrabChain(u8),
+}
+
+/// What a byte brought that is no error.
+///
+/// ```
+/// # use jcobs::proved::*;
+/// let mut state = DecoderState::default();
+/// assert!(matches!(state.feed(0), Ok(DecodeResult::NoData)));
+/// assert!(matches!(state.feed(1), Ok(DecodeResult::DataStart)));
+/// assert!(matches!(state.feed(0), Ok(DecodeResult::DataComplete)));
+/// ```
+#[derive(Debug, Clone, Copy, PartialEq, Eq)]
+pub enum DecodeResult {
+    /// No byte of the message.
+    NoData,
+
+    /// The first code of a frame.
+    DataStart,
+
+    /// The end of a whole frame: the output so far is its message.
+    DataComplete,
+
+    /// This byte belongs to the message, at its end.
+    DataContinue(u8),
+}
+
+impl Default for DecoderState {
+    /// Makes the start: no byte has come.
+    ///
+    /// ```
+    /// # use jcobs::proved::*;
+    /// assert!(matches!(DecoderState::default(), DecoderState::Idle));
+    /// ```
+    fn default() -> Self {
+        DecoderState::Idle
+    }
+}
+
+impl DecoderState {
+    /// The state after a code: all the bytes that it counts are missing.
+    fn opened(code: u8) -> DecoderState {
+        if code == 255 {
+            DecoderState::GrabChain(254)
+        } else {
+            DecoderState::Grab(code - 1)
+        }
+    }
+
+    /// Returns what the table has for this state and this byte: the result, and the state after it.
+    fn row(&self, byte: u8) -> (Result<DecodeResult, DecodeError>, DecoderState) {
+        match (self, byte) {
+            (DecoderState::Idle, 0) => (Ok(DecodeResult::NoData), DecoderState::Idle),
+            (DecoderState::Idle, code) => (Ok(DecodeResult::DataStart), DecoderState::opened(code)),
+            (DecoderState::Grab(0) | DecoderState::GrabChain(0), 0) => {
+                (Ok(DecodeResult::DataComplete), DecoderState::Idle)
+            }
+            (DecoderState::Grab(0), code) => (
+                Ok(DecodeResult::DataContinue(0)),
+                DecoderState::opened(code),
+            ),
+            (DecoderState::GrabChain(0), code) => {
+                (Ok(DecodeResult::NoData), DecoderState::opened(code))
+            }
+            (_, 0) => (
+                Err(DecodeError::InvalidFrame { decoded_bytes: 0 }),
+                DecoderState::Idle,
+            ),
+            (DecoderState::Grab(left), byte) => (
+                Ok(DecodeResult::DataContinue(byte)),
+                DecoderState::Grab(*left - 1),
+            ),
+            (DecoderState::GrabChain(left), byte) => (
+                Ok(DecodeResult::DataContinue(byte)),
+                DecoderState::GrabChain(*left - 1),
+            ),
+        }
+    }
+
+    /// Takes the next byte of a frame, and returns what it brought.
+    ///
+    /// A sentinel, the byte 0, is `DataComplete` where the last block has all the bytes that its code counts,
+    /// and `NoData` where no frame has begun. After each sentinel the state is `Idle`.
+    ///
+    /// Any other byte is a code where no block is open: `DataStart` for the first one, `NoData` after a full
+    /// block, and after any other block `DataContinue(0)`, the zero that joins the two blocks. Inside a block it
+    /// is `DataContinue` of the byte itself.
+    ///
+    /// Every state has a result for every byte, also one that no frame leads to, such as `Grab(255)`. These are
+    /// the block rules of the paper by Cheshire and Baker; the names of the results are those of the crate `cobs`.
+    ///
+    /// # Errors
+    /// `InvalidFrame` for a sentinel inside a block. Its `decoded_bytes` is always 0 here, since the state counts no
+    /// output.
+    ///
+    /// ```
+    /// # use jcobs::proved::*;
+    /// let mut state = DecoderState::GrabChain(1);
+    /// assert!(matches!(state.feed(7), Ok(DecodeResult::DataContinue(7))));
+    /// assert!(matches!(state.feed(9), Ok(DecodeResult::NoData)));
+    /// ```
+    #[inline]
+    pub fn feed(&mut self, byte: u8) -> Result<DecodeResult, DecodeError> {
+        let (answer, next) = self.row(byte);
+        *self = next;
+        answer
+    }
+}

@@ -1,0 +1,320 @@
+// Made by bindings/rust/translate.py from `crates/cobs/src/dec/unbuffered.rt`: change that file, and run it again.
+//! The streaming decoder whose buffer is passed to each call. The three others are built on it.
+
+use crate::proved::dec::find::piece_len;
+use crate::proved::dec::frame_decoder::{PieceEnd, piece_end};
+use crate::proved::dec::{DecodeError, DecodeReport, PushError};
+use crate::proved::enc::FULL_CODE;
+use core::mem;
+
+/// The code of a full block, as a byte.
+pub(crate) const FULL: u8 = FULL_CODE as u8;
+
+/// The state of an [`UnbufferedDecoder`]. (A choice of this library.)
+///
+/// ```
+/// # use jcobs::proved::*;
+/// let mut buffer = [0; 8];
+/// let mut decoder = UnbufferedDecoder::new();
+/// assert_eq!(decoder.phase(), DecoderPhase::Idle);
+/// assert_eq!(decoder.push(&mut buffer, &[4, 7, 8]), Ok(None));
+/// let phase = DecoderPhase::Within {
+///     is_full: false,
+///     lacking: 1,
+///     written: 2,
+/// };
+/// assert_eq!(decoder.phase(), phase);
+/// ```
+#[derive(Debug, Clone, Copy, PartialEq, Eq)]
+pub enum DecoderPhase {
+    /// No piece has begun.
+    Idle,
+
+    /// Inside a piece.
+    Within {
+        /// Whether the open block is a full one, which no zero joins to the next.
+        is_full: bool,
+
+        /// How many bytes of the open block are missing.
+        lacking: u8,
+
+        /// How many bytes of the piece's output are written.
+        written: usize,
+    },
+
+    /// The output of this piece was too long for the buffer.
+    TooLong,
+}
+
+/// Decodes a stream of frames, each ended by a zero, into a buffer that the caller passes to each call.
+///
+/// It returns what [`CobsDecoder`](crate::CobsDecoder) does, and has no buffer of its own, only a few words of
+/// state. So one buffer can serve what else a program does between two calls, and a decoder can lie in a struct
+/// beside its buffer, or cross to another language.
+///
+/// As long as a piece is open, that is from its first byte to the zero that ends it, the caller passes one buffer, as
+/// the call before left it. Any other buffer is safe too, of whatever length: no call panics, or returns a message
+/// that is longer than the buffer. But the results for the piece then, and the bytes of the buffer, are not specified.
+///
+/// ```
+/// # use jcobs::proved::*;
+/// let mut decoder = UnbufferedDecoder::new();
+/// let mut buffer = [0; 64];
+/// let report = decoder.push(&mut buffer, b"\x06hello\0")?;
+/// assert_eq!(report.map(|report| report.frame_size()), Some(5));
+/// assert!(buffer.starts_with(b"hello"));
+/// # Ok::<(), Box<dyn std::error::Error>>(())
+/// ```
+// No field says whether a piece has begun: a code at its front is taken as one after a full block is, which no zero
+// joins to anything. So a nonzero byte asks how much of its block is missing and, if it is a code, whether the block
+// before it was full, and nothing else.
+#[derive(Debug)]
+pub struct UnbufferedDecoder {
+    /// How many bytes of this piece's output are written.
+    pub(crate) dest_idx: usize,
+    /// How many bytes of the block are missing.
+    pub(crate) left: u8,
+    /// The code of the block; before a piece begins, that of a full one.
+    pub(crate) code: u8,
+    /// Whether the output of this piece was too long for the buffer.
+    pub(crate) over: bool,
+}
+
+impl UnbufferedDecoder {
+    /// Makes an idle decoder, for a buffer of any length, also an empty one.
+    ///
+    /// ```
+    /// # use jcobs::proved::*;
+    /// let mut decoder = UnbufferedDecoder::new();
+    /// assert_eq!(
+    ///     decoder
+    ///         .push(&mut [], &[1, 0])?
+    ///         .map(|report| report.frame_size()),
+    ///     Some(0)
+    /// );
+    /// # Ok::<(), Box<dyn std::error::Error>>(())
+    /// ```
+    pub const fn new() -> Self {
+        UnbufferedDecoder {
+            dest_idx: 0,
+            left: 0,
+            code: FULL,
+            over: false,
+        }
+    }
+
+    /// Takes a zero, which ends a piece if one has begun, over a buffer of this length.
+    #[inline(always)]
+    fn end(&mut self, len: usize) -> Result<Option<usize>, DecodeError> {
+        let ended = mem::replace(self, UnbufferedDecoder::new());
+        if ended.over {
+            return Err(DecodeError::TargetBufTooSmall);
+        }
+        if ended.left != 0 {
+            return Err(DecodeError::InvalidFrame {
+                decoded_bytes: ended.dest_idx,
+            });
+        }
+        // Only so in another buffer than the one that the piece began in, since no more is counted than was written.
+        if len < ended.dest_idx {
+            return Err(DecodeError::TargetBufTooSmall);
+        }
+        if ended.dest_idx == 0 && ended.code == FULL {
+            Ok(None)
+        } else {
+            Ok(Some(ended.dest_idx))
+        }
+    }
+
+    /// Makes a decoder in this state, whatever the numbers are. A complete full block, with nothing
+    /// written, is the state of an idle decoder.
+    ///
+    /// ```
+    /// # use jcobs::proved::*;
+    /// let mut buffer = [0; 8];
+    /// let mut first = UnbufferedDecoder::new();
+    /// assert_eq!(first.push(&mut buffer, &[4, 7, 8]), Ok(None));
+    /// let mut second = UnbufferedDecoder::from_phase(first.phase());
+    /// assert_eq!(second.feed(&mut buffer, 9), Ok(None));
+    /// assert_eq!(second.feed(&mut buffer, 0), Ok(Some(3)));
+    /// assert!(buffer.starts_with(&[7, 8, 9]));
+    /// ```
+    pub fn from_phase(phase: DecoderPhase) -> Self {
+        match phase {
+            DecoderPhase::Idle => UnbufferedDecoder::new(),
+            DecoderPhase::Within {
+                is_full,
+                lacking,
+                written,
+            } => UnbufferedDecoder {
+                dest_idx: written,
+                left: lacking,
+                code: if is_full { FULL } else { 1 },
+                over: false,
+            },
+            DecoderPhase::TooLong => UnbufferedDecoder {
+                dest_idx: 0,
+                left: 0,
+                code: FULL,
+                over: true,
+            },
+        }
+    }
+
+    /// Returns the decoder's state.
+    ///
+    /// ```
+    /// # use jcobs::proved::*;
+    /// assert_eq!(UnbufferedDecoder::new().phase(), DecoderPhase::Idle);
+    /// ```
+    pub fn phase(&self) -> DecoderPhase {
+        if self.over {
+            return DecoderPhase::TooLong;
+        }
+        if self.dest_idx == 0 && self.left == 0 && self.code == FULL {
+            return DecoderPhase::Idle;
+        }
+        DecoderPhase::Within {
+            is_full: self.code == FULL,
+            lacking: self.left,
+            written: self.dest_idx,
+        }
+    }
+
+    /// Makes the decoder idle, so that the next byte begins a new piece.
+    ///
+    /// ```
+    /// # use jcobs::proved::*;
+    /// let mut decoder = UnbufferedDecoder::new();
+    /// assert_eq!(decoder.push(&mut [0; 4], &[9, 9]), Ok(None));
+    /// decoder.reset();
+    /// assert_eq!(decoder.phase(), DecoderPhase::Idle);
+    /// ```
+    pub fn reset(&mut self) {
+        *self = UnbufferedDecoder::new();
+    }
+
+    /// Takes the next byte of the stream, over this buffer, as [`CobsDecoder::feed`](crate::CobsDecoder::feed) does.
+    ///
+    /// # Errors
+    /// `InvalidFrame` and `TargetBufTooSmall`, as there.
+    ///
+    /// ```
+    /// # use jcobs::proved::*;
+    /// let mut buffer = [0; 2];
+    /// let mut decoder = UnbufferedDecoder::new();
+    /// assert_eq!(decoder.feed(&mut buffer, 2), Ok(None));
+    /// assert_eq!(decoder.feed(&mut buffer, 7), Ok(None));
+    /// assert_eq!(decoder.feed(&mut buffer, 0), Ok(Some(1)));
+    /// assert_eq!(buffer, [7, 0]);
+    /// ```
+    #[inline]
+    pub fn feed(&mut self, dest: &mut [u8], byte: u8) -> Result<Option<usize>, DecodeError> {
+        if byte == 0 {
+            return self.end(dest.len());
+        }
+        if self.over {
+            return Err(DecodeError::TargetBufTooSmall);
+        }
+        // Three branches, which a processor predicts, take a third less time than one write of a chosen byte.
+        if self.left != 0 {
+            if dest.len() <= self.dest_idx {
+                self.over = true;
+                return Err(DecodeError::TargetBufTooSmall);
+            }
+            dest[self.dest_idx] = byte;
+            self.dest_idx += 1;
+            self.left -= 1;
+            return Ok(None);
+        }
+        if self.code != FULL {
+            if dest.len() <= self.dest_idx {
+                self.over = true;
+                return Err(DecodeError::TargetBufTooSmall);
+            }
+            dest[self.dest_idx] = 0;
+            self.dest_idx += 1;
+        }
+        self.code = byte;
+        self.left = byte - 1;
+        Ok(None)
+    }
+
+    /// Takes bytes of the stream, over this buffer, up to the first one whose result by `feed` isn't `Ok(None)`, as
+    /// [`CobsDecoder::push`](crate::CobsDecoder::push) does.
+    ///
+    /// # Errors
+    /// A `PushError` has the error of `feed` and how many bytes were taken, the one that raised it included.
+    ///
+    /// ```
+    /// # use jcobs::proved::*;
+    /// let mut buffer = [0; 2];
+    /// let mut decoder = UnbufferedDecoder::new();
+    /// let refused = PushError {
+    ///     error: DecodeError::TargetBufTooSmall,
+    ///     parsed_size: 4,
+    /// };
+    /// assert_eq!(decoder.push(&mut buffer, &[4, 7, 8, 9, 0]), Err(refused));
+    /// assert_eq!(buffer, [7, 8]);
+    /// ```
+    pub fn push(
+        &mut self,
+        dest: &mut [u8],
+        bytes: &[u8],
+    ) -> Result<Option<DecodeReport>, PushError> {
+        let mut at = 0;
+        'by_run: while at < bytes.len() {
+            at += self.take_run(dest, &bytes[at..]);
+            if at < bytes.len() {
+                let parsed_size = at + 1;
+                match self.feed(dest, bytes[at]) {
+                    Ok(None) => at = parsed_size,
+                    Ok(Some(frame_size)) => {
+                        return Ok(Some(DecodeReport {
+                            parsed_size,
+                            frame_size,
+                        }));
+                    }
+                    Err(error) => return Err(PushError { error, parsed_size }),
+                }
+            }
+        }
+        Ok(None)
+    }
+
+    /// Takes bytes of the stream, over this buffer, through the first zero that ends a piece, as
+    /// [`FrameDecoder::feed_piece`](crate::FrameDecoder::feed_piece) does. (A choice of this library.)
+    ///
+    /// ```
+    /// # use jcobs::proved::*;
+    /// let mut decoder = UnbufferedDecoder::new();
+    /// let mut buffer = [0; 4];
+    /// let stream = b"\x06hello\0\x03hi\0";
+    /// assert_eq!(
+    ///     decoder.feed_piece(&mut buffer, stream),
+    ///     Some((PieceEnd::TooLong, 7))
+    /// );
+    /// ```
+    pub fn feed_piece(&mut self, dest: &mut [u8], bytes: &[u8]) -> Option<(PieceEnd, usize)> {
+        let mut taken = 0;
+        'by_run: while taken < bytes.len() {
+            // Of a piece that is too long for the buffer, all in front of its zero is taken.
+            taken += if self.over {
+                piece_len(&bytes[taken..])
+            } else {
+                self.take_run(dest, &bytes[taken..])
+            };
+            if taken < bytes.len() {
+                let byte = bytes[taken];
+                let answer = self.feed(dest, byte);
+                taken += 1;
+                if byte == 0 {
+                    if let Some(end) = piece_end(answer) {
+                        return Some((end, taken));
+                    }
+                }
+            }
+        }
+        None
+    }
+}

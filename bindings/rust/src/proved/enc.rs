@@ -1,0 +1,112 @@
+// Made by bindings/rust/translate.py from `crates/cobs/src/enc.rt`: change that file, and run it again.
+//! Encoding: from messages to frames.
+
+pub(crate) mod blocks;
+pub(crate) mod encoder;
+pub(crate) mod error;
+pub(crate) mod in_place;
+pub(crate) mod progress;
+pub(crate) mod room;
+pub(crate) mod sentinel;
+pub(crate) mod state;
+pub(crate) mod unbuffered;
+pub(crate) mod vector;
+
+use crate::proved::cobs_bytes::window::WINDOW;
+pub(crate) use blocks::FULL_CODE;
+use blocks::{append_short, append_windows, close, close_runs, is_short};
+pub use encoder::CobsEncoder;
+pub use error::DestBufTooSmallError;
+pub use in_place::encode_in_place;
+pub use progress::EncoderProgress;
+use progress::START;
+use room::try_append;
+pub(crate) use sentinel::xor_bytes;
+pub use sentinel::{
+    encode_including_sentinels, encode_with_sentinel, try_encode_including_sentinels,
+    try_encode_with_sentinel,
+};
+pub use state::{EncoderState, PushResult};
+pub use unbuffered::UnbufferedEncoder;
+#[cfg(feature = "alloc")]
+pub use vector::{encode_vec, encode_vec_including_sentinels, encode_vec_with_sentinel};
+
+/// Writes the encoded frame of `source` to the front of `dest`, and returns its length in bytes.
+///
+/// A frame is made of blocks, as Cheshire and Baker's paper has them. If the message's last run of nonzero bytes
+/// has a positive length divisible by 254, two frames stand for the message, one of them with a `1` more at its end:
+/// this writes the shorter one, which is a choice of ours. No byte of the frame is the sentinel 0, and no sentinel is
+/// written. The bytes of `dest` after the frame stay as they were.
+///
+/// Precondition: the frame fits `dest`. It always fits [`max_encoding_length`](crate::max_encoding_length) of the
+/// message's length. [`try_encode`] tests the room itself.
+///
+/// ```
+/// # use jcobs::proved::*;
+/// let mut dest = [170; 6];
+/// let len = encode(&[10, 11, 0, 12], &mut dest);
+/// assert_eq!(len, 5);
+/// assert_eq!(dest, [3, 10, 11, 2, 12, 170]);
+/// ```
+pub fn encode(source: &[u8], dest: &mut [u8]) -> usize {
+    if 0 < source.len() && source.len() <= WINDOW {
+        let progress = append_short(source, dest, START, false);
+        return close(dest, progress);
+    }
+    encode_long(source, dest)
+}
+
+/// Does what [`encode`] does, for messages of any length: a function of its own, so that a message of one window
+/// doesn't pay for the registers that the loop over windows takes.
+#[inline(never)]
+fn encode_long(source: &[u8], dest: &mut [u8]) -> usize {
+    if source.len() <= WINDOW {
+        return close_runs(source, dest, START);
+    }
+    let (read, progress) = append_windows(source, dest, START);
+    let left = &source[read..];
+    if !is_short(progress, left.len()) {
+        // Anew from its fields, so that the short way keeps them in registers.
+        let EncoderProgress {
+            index,
+            code,
+            is_full,
+        } = progress;
+        let behind = EncoderProgress {
+            index,
+            code,
+            is_full,
+        };
+        return close_runs(left, dest, behind);
+    }
+    let progress = append_short(left, dest, progress, false);
+    close(dest, progress)
+}
+
+/// Does what [`encode`] does, if the frame fits `dest`.
+///
+/// # Errors
+/// `DestBufTooSmallError` exactly if the frame is longer than `dest`. Then no byte of `dest` has changed, which is a
+/// choice of this library.
+///
+/// ```
+/// # use jcobs::proved::*;
+/// let mut dest = [170; 5];
+/// assert_eq!(try_encode(b"hello", &mut dest), Err(DestBufTooSmallError));
+/// assert_eq!(dest, [170; 5]);
+/// assert_eq!(try_encode(b"hell", &mut dest), Ok(5));
+/// assert_eq!(&dest, b"\x05hell");
+/// ```
+pub fn try_encode(source: &[u8], dest: &mut [u8]) -> Result<usize, DestBufTooSmallError> {
+    // A message that can't fill a block is seen to fit at once.
+    if source.len() < dest.len().min(FULL_CODE) {
+        return Ok(encode(source, dest));
+    }
+    if dest.is_empty() {
+        return Err(DestBufTooSmallError);
+    }
+    match try_append(source, dest, START) {
+        Some(progress) => Ok(close(dest, progress)),
+        None => Err(DestBufTooSmallError),
+    }
+}

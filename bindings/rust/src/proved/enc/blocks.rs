@@ -1,0 +1,272 @@
+// Made by bindings/rust/translate.py from `crates/cobs/src/enc/blocks.rt`: change that file, and run it again.
+//! How a message is cut into blocks: the core that every encoder into a slice is built on.
+
+use crate::proved::cobs_bytes::window::{
+    ONES, WINDOW, copy_at, copy_window, first_zero_of_few, is_all_zeros, write_row, zeros_at,
+};
+use crate::proved::enc::progress::EncoderProgress;
+use memchr::memchr;
+
+/// The code of a full block, which is how many bytes the block has with its code.
+pub(crate) const FULL_CODE: usize = 255;
+
+/// How many bytes a full block has after its code.
+pub(crate) const FULL_BLOCK_BYTES: usize = FULL_CODE - 1;
+
+/// The mask of a window that has no byte but zeros.
+const ALL_ZEROS: u64 = 0xffff_ffff;
+
+/// So far: an open block at `index`, and the next byte at `next`.
+#[inline(always)]
+fn progress_at(index: usize, next: usize, is_full: bool) -> EncoderProgress {
+    EncoderProgress {
+        index,
+        code: (next - index) as u8,
+        is_full,
+    }
+}
+
+/// Whether `len` bytes, one at least, are no more than a window and can't fill the open block.
+#[inline(always)]
+pub(crate) fn is_short(progress: EncoderProgress, len: usize) -> bool {
+    0 < len && len <= WINDOW && progress.code as usize + len < FULL_CODE
+}
+
+/// Writes the code of the open block, which the mask's first zero closes, and returns where the next code belongs,
+/// and the mask without that zero. No branch asks whether there is a zero: with none the block stays open, and what
+/// is in the place of its code then doesn't matter.
+#[inline(always)]
+fn mark_first(dest: &mut [u8], index: usize, next: usize, zeros: u64) -> (usize, u64) {
+    let place = next + zeros.trailing_zeros() as usize;
+    dest[index] = ((place - index) % 256) as u8;
+    let index = if zeros == 0 { index } else { place };
+    (index, zeros & zeros.wrapping_sub(1))
+}
+
+/// Marks all zeros of the mask, two a turn, which costs less where every other byte is a zero. Returns where the code
+/// of the block belongs that is open then.
+#[inline(always)]
+fn mark_zeros(dest: &mut [u8], index: usize, next: usize, zeros: u64) -> usize {
+    let mut index = index;
+    let mut zeros = zeros;
+    'by_zero: while zeros != 0 {
+        (index, zeros) = mark_first(dest, index, next, zeros);
+        if zeros != 0 {
+            (index, zeros) = mark_first(dest, index, next, zeros);
+        }
+    }
+    index
+}
+
+/// Takes a `source` of up to 32 bytes that can't fill the open block, by few branches that could be guessed wrong:
+/// two zeros are marked before the first question is how many there are. With `few_zeros` a source without zeros is
+/// asked for before that.
+#[inline(always)]
+pub(crate) fn append_short(
+    source: &[u8],
+    dest: &mut [u8],
+    progress: EncoderProgress,
+    few_zeros: bool,
+) -> EncoderProgress {
+    let len = source.len();
+    let start = progress.index;
+    let next = start + progress.code as usize;
+    let mask = copy_window(source, 0, len, dest, next);
+    if few_zeros && mask == 0 {
+        return progress_at(start, next + len, false);
+    }
+    let (first, left) = mark_first(dest, start, next, mask);
+    let (mut index, zeros) = mark_first(dest, first, next, left);
+    // A row of zeros gives way to ones at once.
+    if zeros != 0 && is_all_zeros(mask, len) {
+        copy_window(&ONES, 0, len, dest, next);
+        index = next + len - 1;
+    } else {
+        index = mark_zeros(dest, index, next, zeros);
+    }
+    progress_at(index, next + len, false)
+}
+
+/// Writes blocks with no bytes in the place of the 32 zeros from `read` on, and of those after them, 32 at a time,
+/// while more than 32 bytes are left. Returns how many zeros these are.
+#[inline(always)]
+fn write_rows(source: &[u8], read: usize, dest: &mut [u8], at: usize) -> usize {
+    write_row(dest, at, 1);
+    let last = source.len() - read - WINDOW;
+    let mut count = WINDOW;
+    'by_row: while count < last {
+        if zeros_at::<32>(source, read + count) != ALL_ZEROS {
+            return count;
+        }
+        write_row(dest, at + count, 1);
+        count += WINDOW;
+    }
+    count
+}
+
+/// Whether three full blocks end at `index`, by the bytes in the places of their codes. It only says which way is
+/// taken: one of these may be another byte that happens to be 255.
+#[inline(always)]
+fn is_behind_long_run(dest: &[u8], index: usize) -> bool {
+    index >= 3 * FULL_CODE
+        && dest[index - 2 * FULL_CODE] == FULL_CODE as u8
+        && dest[index - 3 * FULL_CODE] == FULL_CODE as u8
+}
+
+/// Takes whole windows of 32 bytes while more than one is left, up to where a run has filled three blocks. Returns how
+/// many bytes these are, and how far the frame has come.
+///
+/// Each window is copied to where the next byte goes. If no zero is near enough to keep the open block from being full,
+/// that block is closed, and what doesn't belong to it is copied anew. Else each zero of the window gives its place to
+/// the code of the block that it begins, and the last block stays open for the next window. Nothing is written after
+/// what the frame needs at the least, so a slice of exactly the frame's length is enough.
+///
+/// A full block that no window follows ends it where that block is closed. So after the loop the last block is full only
+/// if it was at the start, and there was no window.
+#[inline(always)]
+pub(crate) fn append_windows(
+    source: &[u8],
+    dest: &mut [u8],
+    start: EncoderProgress,
+) -> (usize, EncoderProgress) {
+    let mut index = start.index;
+    let mut next = index + start.code as usize;
+    let mut read = 0;
+    let last = source.len().saturating_sub(WINDOW);
+    'by_window: while read < last {
+        let window = copy_at::<32>(source, read, dest, next);
+        if window == 0 {
+            if next - index < FULL_CODE - WINDOW {
+                read += WINDOW;
+                next += WINDOW;
+                continue;
+            }
+        } else {
+            let place = next + window.trailing_zeros() as usize;
+            if place - index < FULL_CODE {
+                dest[index] = (place - index) as u8;
+                if window == ALL_ZEROS {
+                    let count = write_rows(source, read, dest, next);
+                    index = next + count - 1;
+                    read += count;
+                    next += count;
+                    continue;
+                }
+                index = mark_zeros(dest, place, next, window & (window - 1));
+                read += WINDOW;
+                next += WINDOW;
+                continue;
+            }
+        }
+        dest[index] = FULL_CODE as u8;
+        index += FULL_CODE;
+        read += index - next;
+        next = index + 1;
+        if read >= last || is_behind_long_run(dest, index) {
+            return (read, progress_at(index, next, true));
+        }
+    }
+    (read, progress_at(index, next, last == 0 && start.is_full))
+}
+
+/// How many nonzero bytes `source` begins with: those before its next zero, which `memchr` finds.
+pub(crate) fn run_len(source: &[u8]) -> usize {
+    if source.len() > WINDOW {
+        return memchr(0, source).unwrap_or(source.len());
+    }
+    first_zero_of_few(source)
+}
+
+/// Takes the first run of `source`, which has `run` bytes, and the zero after it. The run is cut into blocks of at most
+/// 254 bytes, and each stretch of it is copied as one slice. Returns how many bytes these are, and how far the frame has
+/// come.
+#[inline(always)]
+fn append_run(
+    source: &[u8],
+    run: usize,
+    dest: &mut [u8],
+    progress: EncoderProgress,
+) -> (usize, EncoderProgress) {
+    let mut index = progress.index;
+    let mut next = index + progress.code as usize;
+    let mut read = 0;
+    'by_block: while read < run {
+        let lacking = index + FULL_CODE - next;
+        if lacking == 0 {
+            dest[index] = FULL_CODE as u8;
+            index = next;
+            next += 1;
+            continue;
+        }
+        let len = lacking.min(run - read);
+        dest[next..next + len].copy_from_slice(&source[read..read + len]);
+        read += len;
+        next += len;
+    }
+    if next == index + FULL_CODE {
+        dest[index] = FULL_CODE as u8;
+        return (run, progress_at(next, next + 1, true));
+    }
+    if run == source.len() {
+        return (run, progress_at(index, next, false));
+    }
+    dest[index] = (next - index) as u8;
+    (run + 1, progress_at(next, next + 1, false))
+}
+
+/// Takes a `source` whose first run has `run` bytes: by that run, then by windows up to the next long one, in turn.
+#[inline(never)]
+pub(crate) fn append_runs(
+    source: &[u8],
+    run: usize,
+    dest: &mut [u8],
+    progress: EncoderProgress,
+) -> EncoderProgress {
+    let (mut read, mut progress) = append_run(source, run, dest, progress);
+    'by_run: while read < source.len() {
+        let (windows, behind) = append_windows(&source[read..], dest, progress);
+        read += windows;
+        let left = &source[read..];
+        let (next, behind) = append_run(left, run_len(left), dest, behind);
+        read += next;
+        progress = behind;
+    }
+    progress
+}
+
+/// Takes `source` into the frame that `dest` holds as far as `progress` says, and returns how far it has come then. The
+/// code of the open block is written only by [`close`]: what is in its place before that doesn't matter.
+///
+/// Most of a message goes by windows. What they leave is mostly short; a long run, and last bytes that may fill the
+/// open block, go by [`append_runs`].
+#[inline(always)]
+pub(crate) fn append(source: &[u8], dest: &mut [u8], progress: EncoderProgress) -> EncoderProgress {
+    let (read, progress) = append_windows(source, dest, progress);
+    let left = &source[read..];
+    if is_short(progress, left.len()) {
+        append_short(left, dest, progress, false)
+    } else {
+        append_runs(left, run_len(left), dest, progress)
+    }
+}
+
+/// Writes the code of the open block where that block is part of the frame, and returns where the frame ends.
+/// Only this writes that code: what is in its place before doesn't matter.
+pub(crate) fn close(dest: &mut [u8], progress: EncoderProgress) -> usize {
+    if progress.is_full {
+        return progress.index;
+    }
+    dest[progress.index] = progress.code;
+    progress.index + progress.code as usize
+}
+
+/// Takes a `source` as [`append_runs`] does, and ends the frame: one call at the end of `encode_long`, so that no value
+/// of that function has to outlive a call.
+#[inline(never)]
+pub(crate) fn close_runs(source: &[u8], dest: &mut [u8], progress: EncoderProgress) -> usize {
+    if source.is_empty() {
+        return close(dest, progress);
+    }
+    let behind = append_runs(source, run_len(source), dest, progress);
+    close(dest, behind)
+}

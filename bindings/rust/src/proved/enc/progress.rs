@@ -1,0 +1,37 @@
+// Made by bindings/rust/translate.py from `crates/cobs/src/enc/progress.rt`: change that file, and run it again.
+//! How far a frame that is being written has come.
+
+/// How far the frame in a buffer has come, in plain numbers: where an [`UnbufferedEncoder`](crate::proved::UnbufferedEncoder) is. (A choice of this
+/// library.)
+///
+/// ```
+/// # use jcobs::proved::*;
+/// let mut buffer = [0; 64];
+/// let mut encoder = UnbufferedEncoder::new();
+/// encoder.push(&mut buffer, b"hello")?;
+/// let progress = EncoderProgress {
+///     index: 0,
+///     code: 6,
+///     is_full: false,
+/// };
+/// assert_eq!(encoder.progress(), progress);
+/// # Ok::<(), Box<dyn std::error::Error>>(())
+/// ```
+#[derive(Debug, Clone, Copy, PartialEq, Eq)]
+pub struct EncoderProgress {
+    /// The index in the buffer at which the code of the open block belongs.
+    pub index: usize,
+
+    /// The code that the open block has so far, which is one more than it has bytes: from 1 to 254.
+    pub code: u8,
+
+    /// Whether the frame's last block is full, so that the open one is only the place after it.
+    pub is_full: bool,
+}
+
+/// The start: one open block without bytes at the front of the buffer.
+pub(crate) const START: EncoderProgress = EncoderProgress {
+    index: 0,
+    code: 1,
+    is_full: false,
+};

@@ -1,0 +1,74 @@
+// Made by bindings/rust/translate.py from `crates/cobs/src/enc/room.rt`: change that file, and run it again.
+//! Whether a frame fits, before a byte of it is written; and what is taken if it does.
+
+use crate::proved::enc::blocks::{FULL_BLOCK_BYTES, append, append_runs, run_len};
+use crate::proved::enc::progress::EncoderProgress;
+use crate::proved::max_encoding_overhead;
+use memchr::memrchr;
+
+/// Whether `room` bytes, counted from the index of an open block with this code, are enough for the frame once the
+/// block has taken `source`. Most of the time the lengths decide it: the frame is longest where no byte is a zero, and
+/// shortest where no block becomes full.
+///
+/// Else the full blocks are counted, but for a last one. A block can't be full if one of its next 254 bytes is a zero:
+/// the last such zero is as far as a search goes at once. A run that fills a block is searched for its end, as by the
+/// encoder, and has a full block for each 254 of its bytes. If that is the first run, its length is returned, so that the
+/// encoder doesn't search for its end again, else 0.
+#[inline(never)]
+fn fits(code: usize, source: &[u8], room: usize) -> Option<usize> {
+    if room < source.len() {
+        return None;
+    }
+    let spare = room - source.len();
+    if spare < code {
+        return None;
+    }
+    let mut run = code - 1;
+    if run + max_encoding_overhead(run + source.len()) <= spare {
+        return Some(0);
+    }
+    let mut counted = 0;
+    let mut read = 0;
+    let mut first = 0;
+    'by_run: while FULL_BLOCK_BYTES - run < source.len() - read {
+        let end = read + (FULL_BLOCK_BYTES - run);
+        if let Some(zero) = memrchr(0, &source[read..end]) {
+            read += zero + 1;
+        } else {
+            let more = run_len(&source[read..]);
+            if read == 0 {
+                first = more;
+            }
+            read += more;
+            if read == source.len() {
+                if spare < code + counted + (run + more - 1) / FULL_BLOCK_BYTES {
+                    return None;
+                }
+                return Some(first);
+            }
+            counted += (run + more) / FULL_BLOCK_BYTES;
+            read += 1;
+        }
+        run = 0;
+    }
+    if code + counted <= spare {
+        return Some(first);
+    }
+    None
+}
+
+/// Takes `source` as [`append`] does, if the frame fits `dest` then. A long run that [`fits`] has found isn't searched for
+/// again. A function of its own, so that a short push doesn't pay for the registers that this takes.
+#[inline(never)]
+pub(crate) fn try_append(
+    source: &[u8],
+    dest: &mut [u8],
+    progress: EncoderProgress,
+) -> Option<EncoderProgress> {
+    let room = dest.len() - progress.index;
+    let run = fits(progress.code as usize, source, room)?;
+    if run == 0 {
+        return Some(append(source, dest, progress));
+    }
+    Some(append_runs(source, run, dest, progress))
+}

@@ -1,0 +1,119 @@
+// Made by bindings/rust/translate.py from `crates/cobs/src/enc/state.rt`: change that file, and run it again.
+//! The state machine of an encoder, without a buffer.
+
+/// What a byte of the message changes in the encoded output. Indices count bytes from its start. The names are those of
+/// the crate `cobs`.
+///
+/// ```
+/// # use jcobs::proved::*;
+/// let mut state = EncoderState::default();
+/// assert!(matches!(state.push(7), PushResult::AddSingle(7)));
+/// assert!(matches!(state.push(0), PushResult::ModifyFromStartAndSkip((0, 2))));
+/// ```
+#[derive(Debug, Clone, Copy, PartialEq, Eq)]
+pub enum PushResult {
+    /// The byte goes to the end.
+    AddSingle(u8),
+
+    /// The byte at the index becomes the code, and a placeholder goes to the end.
+    ModifyFromStartAndSkip((usize, u8)),
+
+    /// The byte at the index becomes the code, and the last byte and then a placeholder go to the end.
+    ModifyFromStartAndPushAndSkip((usize, u8, u8)),
+}
+
+/// The place where the open block of an output begins, and the code that it has so far, from 1 to 254.
+///
+/// The state holds no output, so a caller can stream the encoded bytes into a container of its own. That output begins
+/// as one placeholder, a byte of any value. Each result of [`push`](EncoderState::push) says what a byte of the message
+/// changes in it, and [`finalize`](EncoderState::finalize) gives the last change. A caller who carries out all of them
+/// has the frame of the message whose last block isn't full. That is the frame that [`encode`](crate::encode) writes,
+/// but where the message's last run of nonzero bytes has a positive length divisible by 254: then it is the longer
+/// frame, the encoded one with a `1` after it.
+///
+/// ```
+/// # use jcobs::proved::*;
+/// let mut output = [0; 3];
+/// let mut state = EncoderState::default();
+/// if let PushResult::AddSingle(byte) = state.push(7) {
+///     output[1] = byte;
+/// }
+/// if let PushResult::ModifyFromStartAndSkip((0, code)) = state.push(0) {
+///     output[0] = code;
+/// }
+/// assert_eq!(state.finalize(), (2, 1));
+/// output[2] = 1;
+/// assert_eq!(output, [2, 7, 1]);
+/// ```
+#[derive(Debug, Clone)]
+pub struct EncoderState {
+    code_index: usize,
+    code: u8,
+}
+
+impl Default for EncoderState {
+    /// Makes the start: the open block is the placeholder at index 0, and has no bytes yet.
+    ///
+    /// ```
+    /// # use jcobs::proved::*;
+    /// let state = EncoderState::default();
+    /// assert_eq!(state.finalize(), (0, 1));
+    /// ```
+    fn default() -> Self {
+        EncoderState {
+            code_index: 0,
+            code: 1,
+        }
+    }
+}
+
+impl EncoderState {
+    /// Returns whether another byte can be pushed: whether the index of the next block fits a `usize`, whatever the
+    /// byte. (This call is this library's own.)
+    ///
+    /// ```
+    /// # use jcobs::proved::*;
+    /// assert!(EncoderState::default().can_push());
+    /// ```
+    pub fn can_push(&self) -> bool {
+        self.code_index < usize::MAX - self.code as usize
+    }
+
+    /// Takes the next byte of the message, and returns what it changes in the output.
+    ///
+    /// Precondition: [`can_push`](EncoderState::can_push) is true. Indices count bytes from the start of the output.
+    ///
+    /// ```
+    /// # use jcobs::proved::*;
+    /// let mut state = EncoderState::default();
+    /// assert!(matches!(state.push(0), PushResult::ModifyFromStartAndSkip((0, 1))));
+    /// assert!(matches!(state.push(9), PushResult::AddSingle(9)));
+    /// ```
+    #[inline]
+    pub fn push(&mut self, byte: u8) -> PushResult {
+        if byte == 0 {
+            let answer = PushResult::ModifyFromStartAndSkip((self.code_index, self.code));
+            self.code_index += self.code as usize;
+            self.code = 1;
+            answer
+        } else if self.code == 254 {
+            let answer = PushResult::ModifyFromStartAndPushAndSkip((self.code_index, 255, byte));
+            self.code_index += 255;
+            self.code = 1;
+            answer
+        } else {
+            self.code += 1;
+            PushResult::AddSingle(byte)
+        }
+    }
+
+    /// Ends the message: the index at which the last code belongs in the output, and that code.
+    ///
+    /// ```
+    /// # use jcobs::proved::*;
+    /// assert_eq!(EncoderState::default().finalize(), (0, 1));
+    /// ```
+    pub fn finalize(self) -> (usize, u8) {
+        (self.code_index, self.code)
+    }
+}

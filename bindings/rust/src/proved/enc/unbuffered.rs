@@ -1,0 +1,200 @@
+// Made by bindings/rust/translate.py from `crates/cobs/src/enc/unbuffered.rt`: change that file, and run it again.
+//! The encoder whose buffer is passed to each call, of a message that comes in pieces.
+
+use crate::proved::enc::DestBufTooSmallError;
+use crate::proved::enc::blocks::{FULL_CODE, append_short, close, is_short};
+use crate::proved::enc::progress::{EncoderProgress, START};
+use crate::proved::enc::room::try_append;
+
+/// Encodes a message that comes in pieces, straight into a buffer that the caller passes to each call.
+///
+/// It writes the frame that [`CobsEncoder`](crate::CobsEncoder) writes, and has no buffer of its own: a few words say
+/// how far the frame has come. So an encoder can lie in a struct beside its buffer, or cross to another language.
+///
+/// From the first push to the end of the message the caller passes one buffer, as the call before left it. Any other
+/// buffer is safe too, of whatever length, and so is any [`EncoderProgress`]: no call panics, or returns a length
+/// that is greater than the buffer's. But what the buffer holds then isn't said.
+///
+/// ```
+/// # use jcobs::proved::*;
+/// let mut encoder = UnbufferedEncoder::new();
+/// let mut buffer = [0; 64];
+/// encoder.push(&mut buffer, b"hel")?;
+/// encoder.push(&mut buffer, b"lo")?;
+/// assert_eq!(encoder.finalize(&mut buffer), Ok(6));
+/// assert!(buffer.starts_with(b"\x06hello"));
+/// # Ok::<(), Box<dyn std::error::Error>>(())
+/// ```
+#[derive(Debug)]
+pub struct UnbufferedEncoder {
+    progress: EncoderProgress,
+}
+
+impl UnbufferedEncoder {
+    /// Makes an encoder that has taken nothing yet, for a buffer of one byte at least: the frame of the empty message
+    /// has one.
+    ///
+    /// ```
+    /// # use jcobs::proved::*;
+    /// let mut buffer = [170; 2];
+    /// assert_eq!(UnbufferedEncoder::new().finalize(&mut buffer), Ok(1));
+    /// assert_eq!(buffer, [1, 170]);
+    /// ```
+    pub const fn new() -> Self {
+        UnbufferedEncoder { progress: START }
+    }
+
+    /// Makes an encoder in this state, whatever the numbers are.
+    ///
+    /// ```
+    /// # use jcobs::proved::*;
+    /// let mut buffer = [0; 64];
+    /// let mut first = UnbufferedEncoder::new();
+    /// first.push(&mut buffer, b"hel")?;
+    /// let mut second = UnbufferedEncoder::from_progress(first.progress());
+    /// second.push(&mut buffer, b"lo")?;
+    /// assert_eq!(second.finalize(&mut buffer), Ok(6));
+    /// assert!(buffer.starts_with(b"\x06hello"));
+    /// # Ok::<(), Box<dyn std::error::Error>>(())
+    /// ```
+    #[inline]
+    pub fn from_progress(progress: EncoderProgress) -> Self {
+        UnbufferedEncoder { progress }
+    }
+
+    /// Returns how far the encoder has come.
+    ///
+    /// ```
+    /// # use jcobs::proved::*;
+    /// let progress = UnbufferedEncoder::new().progress();
+    /// assert_eq!(
+    ///     (progress.index, progress.code, progress.is_full),
+    ///     (0, 1, false)
+    /// );
+    /// ```
+    #[inline]
+    pub fn progress(&self) -> EncoderProgress {
+        self.progress
+    }
+
+    /// Makes the encoder one that has taken nothing.
+    ///
+    /// ```
+    /// # use jcobs::proved::*;
+    /// let mut buffer = [170; 2];
+    /// let mut encoder = UnbufferedEncoder::new();
+    /// encoder.push(&mut buffer, &[7])?;
+    /// encoder.reset();
+    /// assert_eq!(encoder.finalize(&mut buffer), Ok(1));
+    /// assert_eq!(buffer, [1, 7]);
+    /// # Ok::<(), Box<dyn std::error::Error>>(())
+    /// ```
+    pub fn reset(&mut self) {
+        *self = UnbufferedEncoder::new();
+    }
+
+    /// Whether a frame that ends in a buffer of this length can have come so far.
+    fn is_within(&self, len: usize) -> bool {
+        let EncoderProgress {
+            index,
+            code,
+            is_full,
+        } = self.progress;
+        let code = code as usize;
+        if code == 0 || code == FULL_CODE || len < index {
+            return false;
+        }
+        if !is_full && len - index < code {
+            return false;
+        }
+        true
+    }
+
+    /// Takes the next bytes if the frame fits the buffer with them, and says whether it does: a few that can't fill the
+    /// open block at once.
+    #[inline(always)]
+    pub(crate) fn take(&mut self, dest: &mut [u8], bytes: &[u8]) -> bool {
+        let at = self.progress;
+        let room = dest.len() - at.index;
+        if is_short(at, bytes.len()) && at.code as usize + bytes.len() <= room {
+            // Field by field, so that no byte between the fields is copied.
+            let behind = append_short(bytes, dest, at, true);
+            self.progress.index = behind.index;
+            self.progress.code = behind.code;
+            self.progress.is_full = behind.is_full;
+            return true;
+        }
+        if bytes.is_empty() {
+            return true;
+        }
+        // Anew from its fields, so that the short way keeps them in registers.
+        let EncoderProgress {
+            index,
+            code,
+            is_full,
+        } = at;
+        let start = EncoderProgress {
+            index,
+            code,
+            is_full,
+        };
+        match try_append(bytes, dest, start) {
+            Some(behind) => self.progress = behind,
+            None => return false,
+        }
+        true
+    }
+
+    /// Takes the next bytes of the message.
+    ///
+    /// They don't fit exactly if the encoded frame of all the bytes that were taken so far, followed by these, is
+    /// longer than the buffer, or where no frame can have come so far in a buffer of this length. Then neither the
+    /// encoder nor the buffer has changed, so the caller may end the frame, or push fewer bytes. An empty push changes
+    /// nothing. The bytes of the buffer after the frame are never written.
+    ///
+    /// # Errors
+    /// `DestBufTooSmallError` if the bytes don't fit.
+    ///
+    /// ```
+    /// # use jcobs::proved::*;
+    /// let mut buffer = [170; 3];
+    /// let mut encoder = UnbufferedEncoder::new();
+    /// assert_eq!(
+    ///     encoder.push(&mut buffer, &[7, 8, 9]),
+    ///     Err(DestBufTooSmallError)
+    /// );
+    /// assert_eq!(encoder.push(&mut buffer, &[7, 8]), Ok(()));
+    /// assert_eq!(encoder.finalize(&mut buffer), Ok(3));
+    /// assert_eq!(buffer, [3, 7, 8]);
+    /// ```
+    pub fn push(&mut self, dest: &mut [u8], bytes: &[u8]) -> Result<(), DestBufTooSmallError> {
+        if !self.is_within(dest.len()) {
+            return Err(DestBufTooSmallError);
+        }
+        if !self.take(dest, bytes) {
+            return Err(DestBufTooSmallError);
+        }
+        Ok(())
+    }
+
+    /// Ends the message, and returns the length of its encoded frame in bytes. The buffer begins with that frame, and
+    /// the encoder has taken nothing. Every byte after the frame is as it was.
+    ///
+    /// # Errors
+    /// `DestBufTooSmallError` where no frame can have come so far in a buffer of this length. Then neither the
+    /// encoder nor the buffer has changed.
+    ///
+    /// ```
+    /// # use jcobs::proved::*;
+    /// let refused = UnbufferedEncoder::new().finalize(&mut []);
+    /// assert_eq!(refused, Err(DestBufTooSmallError));
+    /// ```
+    pub fn finalize(&mut self, dest: &mut [u8]) -> Result<usize, DestBufTooSmallError> {
+        if !self.is_within(dest.len()) {
+            return Err(DestBufTooSmallError);
+        }
+        let len = close(dest, self.progress);
+        self.reset();
+        Ok(len)
+    }
+}

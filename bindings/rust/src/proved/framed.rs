@@ -1,0 +1,301 @@
+// Made by bindings/rust/translate.py from `crates/cobs/src/framed.rt`: change that file, and run it again.
+//! A reader of frames over any source of bytes.
+//!
+//! `FrameReader` reads chunks of 64 bytes from a file, a socket, a serial port or anything else that is a
+//! `FrameSource`, and returns one outcome a call. It reads only if the bytes that it has kept end no piece, and
+//! no byte is lost: what it has read and not used yet is used first by the next call, after a fault too. No call
+//! here allocates. (That a zero ends each piece is Cheshire and Baker's; the rest of this module is our own.)
+
+use crate::proved::dec::{FrameDecoder, PieceEnd};
+#[cfg(feature = "std")]
+use std::io::Read;
+
+/// What a call of [`next_frame`](FrameReader::next_frame) found.
+///
+/// ```
+/// # use jcobs::proved::*;
+/// # #[cfg(feature = "std")] {
+/// let mut source = Recorded::new([3, 7, 0].as_slice());
+/// let mut reader = FrameReader::new(CobsDecoderHeapless::<8>::new());
+/// assert_eq!(reader.next_frame(&mut source), Ok(Next::Broken(1)));
+/// # }
+/// ```
+#[derive(Debug, PartialEq, Eq)]
+pub enum Next {
+    /// A piece ended that is a frame. Its message is this many bytes at the front of the decoder's buffer.
+    Message(usize),
+
+    /// A piece ended that breaks off inside a block. It decodes to this many bytes, those of the broken block
+    /// included, which are at the front of the decoder's buffer.
+    Broken(usize),
+
+    /// A piece ended that decodes to more bytes than the decoder's buffer holds.
+    TooLong,
+
+    /// The source gave no more bytes, and no piece ended.
+    End {
+        /// Whether a piece has begun that no zero has ended yet.
+        unfinished: bool,
+    },
+}
+
+/// Why a call of `next_frame` found nothing. No byte is lost by it: a later call goes on from there.
+///
+/// ```
+/// # use jcobs::proved::*;
+/// fn next_or_more<D: FrameDecoder, S: FrameSource>(
+///     reader: &mut FrameReader<D>,
+///     source: &mut S,
+/// ) -> Option<Next> {
+///     match reader.next_frame(source) {
+///         Ok(next) => Some(next),
+///         Err(ReadFault::TooManyReads) => reader.next_frame(source).ok(),
+///         Err(ReadFault::Io) => None,
+///     }
+/// }
+/// ```
+#[derive(Debug, PartialEq, Eq)]
+pub enum ReadFault {
+    /// A read failed; an interrupted read is a failed one.
+    Io,
+
+    /// The call made 65,536 reads that all gave bytes, and no piece ended.
+    TooManyReads,
+}
+
+/// A source of the bytes of a stream.
+///
+/// Contracts see a source by its own relation of steps: a read, that is a failure or the bytes that it gave, takes
+/// it from one state to the next.
+///
+/// ```
+/// # use jcobs::proved::*;
+/// # #[cfg(feature = "std")] {
+/// let mut source = Recorded::new([2, 7].as_slice());
+/// let mut chunk = [0; 64];
+/// assert_eq!(source.read_some(&mut chunk), Some(2));
+/// assert!(chunk.starts_with(&[2, 7]));
+/// assert_eq!(source.read_some(&mut chunk), Some(0));
+/// # }
+/// ```
+pub trait FrameSource {
+    /// Reads once.
+    ///
+    /// `Some(n)` says that the read gave the first n bytes of the chunk, none where the source has come to its end,
+    /// and `None` that it failed.
+    ///
+    /// ```
+    /// # use jcobs::proved::*;
+    /// # #[cfg(feature = "std")] {
+    /// let mut source = Recorded::new([7; 100].as_slice());
+    /// let mut chunk = [0; 64];
+    /// assert_eq!(source.read_some(&mut chunk), Some(64));
+    /// assert_eq!(source.read_some(&mut chunk), Some(36));
+    /// # }
+    /// ```
+    fn read_some(&mut self, chunk: &mut [u8; 64]) -> Option<usize>;
+}
+
+/// Any reader as a source of bytes: one `read` a call, and each error of it is a failed read.
+///
+/// ```
+/// # use jcobs::proved::*;
+/// # #[cfg(feature = "std")] {
+/// let mut source = Recorded::new([1, 0, 2].as_slice());
+/// let mut reader = FrameReader::new(CobsDecoderHeapless::<8>::new());
+/// assert_eq!(reader.next_frame(&mut source), Ok(Next::Message(0)));
+/// # }
+/// ```
+#[cfg(feature = "std")]
+#[derive(Debug)]
+pub struct Recorded<R> {
+    reader: R,
+}
+
+#[cfg(feature = "std")]
+impl<R: Read> Recorded<R> {
+    /// Makes a source that reads from this reader.
+    ///
+    /// ```
+    /// # use jcobs::proved::*;
+    /// # #[cfg(feature = "std")] {
+    /// let mut source = Recorded::new([2, 7, 0].as_slice());
+    /// let mut reader = FrameReader::new(CobsDecoderHeapless::<8>::new());
+    /// assert_eq!(reader.next_frame(&mut source), Ok(Next::Message(1)));
+    /// # }
+    /// ```
+    pub fn new(reader: R) -> Self {
+        Self { reader }
+    }
+
+    /// Returns the reader, as the reads so far have left it.
+    ///
+    /// ```
+    /// # use jcobs::proved::*;
+    /// # #[cfg(feature = "std")] {
+    /// let source = Recorded::new([1, 0].as_slice());
+    /// assert_eq!(source.into_inner(), [1, 0].as_slice());
+    /// # }
+    /// ```
+    pub fn into_inner(self) -> R {
+        let Recorded { reader } = self;
+        reader
+    }
+}
+
+#[cfg(feature = "std")]
+impl<R: Read> FrameSource for Recorded<R> {
+    fn read_some(&mut self, chunk: &mut [u8; 64]) -> Option<usize> {
+        match self.reader.read(chunk) {
+            Ok(n) => Some(n),
+            Err(_) => None,
+        }
+    }
+}
+
+/// What a piece that ended so comes to.
+fn next_at(end: PieceEnd) -> Next {
+    match end {
+        PieceEnd::Message(n) => Next::Message(n),
+        PieceEnd::Broken(count) => Next::Broken(count),
+        PieceEnd::TooLong => Next::TooLong,
+    }
+}
+
+/// Whether a piece is unfinished after these bytes, given whether one was before them.
+fn is_unfinished(before: bool, bytes: &[u8]) -> bool {
+    match bytes {
+        [] => before,
+        [.., last] => *last != 0,
+    }
+}
+
+/// How many reads a call makes at most.
+const MOST_READS: usize = 65536;
+
+/// Reads the frames of a stream, one a call, with a decoder of its own.
+///
+/// The source isn't part of it but given to each call, so a stream may go on in another source. Contracts see it as
+/// its decoder and the bytes that it has read and not yet fed to the decoder.
+///
+/// ```
+/// # use jcobs::proved::*;
+/// # #[cfg(feature = "std")] {
+/// let mut source = Recorded::new(b"\x06hello\0\x03h".as_slice());
+/// let mut reader = FrameReader::new(CobsDecoderHeapless::<8>::new());
+/// assert_eq!(reader.next_frame(&mut source), Ok(Next::Message(5)));
+/// assert!(reader.decoder().dest().starts_with(b"hello"));
+/// # }
+/// ```
+#[derive(Debug)]
+pub struct FrameReader<D: FrameDecoder> {
+    decoder: D,
+    chunk: [u8; 64],
+    start: usize,
+    end: usize,
+    unfinished: bool,
+}
+
+impl<D: FrameDecoder> FrameReader<D> {
+    /// Makes a reader with this decoder, which has read nothing yet.
+    ///
+    /// Precondition: the decoder is idle, as it is when new, after a reset, and after each zero.
+    ///
+    /// ```
+    /// # use jcobs::proved::*;
+    /// # #[cfg(feature = "std")] {
+    /// let mut source = Recorded::new(b"".as_slice());
+    /// let mut reader = FrameReader::new(CobsDecoderHeapless::<8>::new());
+    /// let end = Next::End { unfinished: false };
+    /// assert_eq!(reader.next_frame(&mut source), Ok(end));
+    /// # }
+    /// ```
+    pub fn new(decoder: D) -> Self {
+        FrameReader {
+            decoder,
+            chunk: [0; 64],
+            start: 0,
+            end: 0,
+            unfinished: false,
+        }
+    }
+
+    /// Returns the decoder. After a `Next::Message(n)` the message is the first n bytes of its buffer.
+    ///
+    /// ```
+    /// # use jcobs::proved::*;
+    /// let reader = FrameReader::new(CobsDecoderHeapless::<2>::new());
+    /// assert_eq!(reader.decoder().dest(), [0, 0].as_slice());
+    /// ```
+    pub fn decoder(&self) -> &D {
+        &self.decoder
+    }
+
+    /// Feeds bytes until a piece ends: what it comes to, and how many of the bytes were taken.
+    fn feed_through_end(&mut self, bytes: &[u8]) -> Option<(Next, usize)> {
+        match self.decoder.feed_piece(bytes) {
+            None => {
+                self.unfinished = is_unfinished(self.unfinished, bytes);
+                None
+            }
+            Some((end, count)) => {
+                self.unfinished = false;
+                Some((next_at(end), count))
+            }
+        }
+    }
+
+    /// Returns what the next piece of the stream comes to, once a zero has ended it, or that the source gives no more.
+    ///
+    /// The bytes that are kept from earlier calls are used first, and what is after the zero of the piece that
+    /// ends is kept for the next call. While no piece ends, the source is read, at most 65,536 times; nothing is read
+    /// after a piece's end, after a read that failed, or after one that gave no bytes. After `Next::End` the
+    /// stream may go on, in this source or in another one.
+    ///
+    /// # Errors
+    /// `Io` where the last read of this call failed, and `TooManyReads` where this call made 65,536 reads that all gave
+    /// bytes. In both no piece ended, the decoder has taken all bytes that were read, and the next call goes on after
+    /// them.
+    ///
+    /// ```
+    /// # use jcobs::proved::*;
+    /// # #[cfg(feature = "std")] {
+    /// let mut reader = FrameReader::new(CobsDecoderHeapless::<8>::new());
+    /// let mut first = Recorded::new([2].as_slice());
+    /// assert_eq!(
+    ///     reader.next_frame(&mut first),
+    ///     Ok(Next::End { unfinished: true })
+    /// );
+    /// let mut second = Recorded::new([7, 0].as_slice());
+    /// assert_eq!(reader.next_frame(&mut second), Ok(Next::Message(1)));
+    /// # }
+    /// ```
+    pub fn next_frame<S: FrameSource>(&mut self, source: &mut S) -> Result<Next, ReadFault> {
+        let kept = self.chunk;
+        if let Some((next, count)) = self.feed_through_end(&kept[self.start..self.end]) {
+            self.start += count;
+            return Ok(next);
+        }
+        self.start = self.end;
+        let mut chunk = [0; 64];
+        'by_read: for _read in 0..MOST_READS {
+            match source.read_some(&mut chunk) {
+                None => return Err(ReadFault::Io),
+                Some(0) => {
+                    return Ok(Next::End {
+                        unfinished: self.unfinished,
+                    });
+                }
+                Some(n) => {
+                    if let Some((next, count)) = self.feed_through_end(&chunk[..n]) {
+                        self.chunk = chunk;
+                        self.start = count;
+                        self.end = n;
+                        return Ok(next);
+                    }
+                }
+            }
+        }
+        Err(ReadFault::TooManyReads)
+    }
+}

@@ -1,0 +1,333 @@
+//! Vectors of bytes as `std::simd` has them, on stable Rust and for any target: what the proved source uses of it.
+//!
+//! The crate's only `unsafe` code is here: the loads of SSE2 and NEON. The tests compare every operation with the same
+//! on single bytes, for each width from 1 to 64.
+
+// Loops over indices, of which rustc makes vectors.
+#![allow(clippy::needless_range_loop)]
+
+use core::ops::{BitOr, BitXor};
+
+/// A vector of `N` bytes.
+#[derive(Clone, Copy)]
+#[repr(transparent)]
+pub struct Simd<T, const N: usize>([T; N]);
+
+/// A vector of 32 bytes.
+#[allow(non_camel_case_types)]
+pub type u8x32 = Simd<u8, 32>;
+
+/// A vector of 64 bytes.
+#[allow(non_camel_case_types)]
+pub type u8x64 = Simd<u8, 64>;
+
+/// Which of `N` bytes have a property: `0xFF` for those that have it, 0 for the others.
+#[derive(Clone, Copy)]
+#[repr(transparent)]
+pub struct Mask<const N: usize>([u8; N]);
+
+impl<const N: usize> Simd<u8, N> {
+    /// Makes the vector of these bytes.
+    #[inline(always)]
+    pub fn from_array(bytes: [u8; N]) -> Self {
+        Self(bytes)
+    }
+
+    /// Makes a vector of this byte alone.
+    #[inline(always)]
+    pub fn splat(byte: u8) -> Self {
+        Self([byte; N])
+    }
+
+    /// Loads the first `N` bytes.
+    #[inline(always)]
+    pub fn from_slice(bytes: &[u8]) -> Self {
+        Self(*bytes.first_chunk().expect("as many bytes as the vector"))
+    }
+
+    /// Stores the vector in the first `N` bytes.
+    #[inline(always)]
+    pub fn copy_to_slice(self, bytes: &mut [u8]) {
+        *bytes
+            .first_chunk_mut()
+            .expect("as many bytes as the vector") = self.0;
+    }
+
+    /// Which bytes are equal.
+    #[inline(always)]
+    pub fn simd_eq(self, other: Self) -> Mask<N> {
+        self.compare(other, |a, b| a == b)
+    }
+
+    /// Which bytes are different.
+    #[inline(always)]
+    pub fn simd_ne(self, other: Self) -> Mask<N> {
+        self.compare(other, |a, b| a != b)
+    }
+
+    /// Which bytes are less than those of the other.
+    #[inline(always)]
+    pub fn simd_lt(self, other: Self) -> Mask<N> {
+        self.compare(other, |a, b| a < b)
+    }
+
+    #[inline(always)]
+    fn compare(self, other: Self, has: impl Fn(u8, u8) -> bool) -> Mask<N> {
+        let mut mask = [0; N];
+        for i in 0..N {
+            mask[i] = if has(self.0[i], other.0[i]) { 0xFF } else { 0 };
+        }
+        Mask(mask)
+    }
+}
+
+impl<const N: usize> BitXor for Simd<u8, N> {
+    type Output = Self;
+
+    #[inline(always)]
+    fn bitxor(mut self, other: Self) -> Self {
+        for i in 0..N {
+            self.0[i] ^= other.0[i];
+        }
+        self
+    }
+}
+
+impl<const N: usize> BitOr for Mask<N> {
+    type Output = Self;
+
+    #[inline(always)]
+    fn bitor(mut self, other: Self) -> Self {
+        for i in 0..N {
+            self.0[i] |= other.0[i];
+        }
+        self
+    }
+}
+
+impl<const N: usize> Mask<N> {
+    /// The bytes of `yes` that have the property, and those of `no` for the others.
+    #[inline(always)]
+    pub fn select(self, yes: Simd<u8, N>, no: Simd<u8, N>) -> Simd<u8, N> {
+        let mut bytes = [0; N];
+        for i in 0..N {
+            bytes[i] = (yes.0[i] & self.0[i]) | (no.0[i] & !self.0[i]);
+        }
+        Simd(bytes)
+    }
+
+    /// The property of byte `i` as bit `i`.
+    #[inline(always)]
+    pub fn to_bitmask(self) -> u64 {
+        bits(&self.0)
+    }
+}
+
+/// One bit of each byte: of 16 at a time by `sixteen`, of 8 by `eight`, then of 4, and of single ones.
+#[inline(always)]
+fn bits_by(
+    mask: &[u8],
+    sixteen: impl Fn(&[u8; 16]) -> u64,
+    eight: impl Fn(&[u8; 8]) -> u64,
+) -> u64 {
+    let (mut bits, mut done) = (0, 0);
+    while let Some(bytes) = mask[done..].first_chunk() {
+        bits |= sixteen(bytes) << done;
+        done += 16;
+    }
+    if let Some(bytes) = mask[done..].first_chunk() {
+        bits |= eight(bytes) << done;
+        done += 8;
+    }
+    if let Some(bytes) = mask[done..].first_chunk() {
+        bits |= portable::of_word(u32::from_le_bytes(*bytes).into()) << done;
+        done += 4;
+    }
+    while done < mask.len() {
+        bits |= u64::from(mask[done] & 1) << done;
+        done += 1;
+    }
+    bits
+}
+
+/// One bit of each byte.
+#[inline(always)]
+fn bits(mask: &[u8]) -> u64 {
+    #[cfg(all(
+        target_feature = "neon",
+        target_arch = "aarch64",
+        target_endian = "little"
+    ))]
+    use neon as way;
+    #[cfg(not(any(
+        all(target_feature = "sse2", target_arch = "x86_64"),
+        all(
+            target_feature = "neon",
+            target_arch = "aarch64",
+            target_endian = "little"
+        )
+    )))]
+    use portable as way;
+    #[cfg(all(target_feature = "sse2", target_arch = "x86_64"))]
+    use sse2 as way;
+    bits_by(mask, way::of_sixteen, way::of_eight)
+}
+
+/// For any target: the product has one bit of each byte, side by side, in its highest byte.
+#[allow(dead_code)]
+mod portable {
+    #[inline(always)]
+    pub fn of_word(mask: u64) -> u64 {
+        (mask & 0x0101_0101_0101_0101).wrapping_mul(0x0102_0408_1020_4080) >> 56
+    }
+
+    #[inline(always)]
+    pub fn of_eight(mask: &[u8; 8]) -> u64 {
+        of_word(u64::from_le_bytes(*mask))
+    }
+
+    #[inline(always)]
+    pub fn of_sixteen(mask: &[u8; 16]) -> u64 {
+        let mask = u128::from_le_bytes(*mask);
+        of_word(mask as u64) | (of_word((mask >> 64) as u64) << 8)
+    }
+}
+
+#[cfg(all(target_feature = "sse2", target_arch = "x86_64"))]
+#[allow(unsafe_code)]
+mod sse2 {
+    use core::arch::x86_64::{_mm_loadl_epi64, _mm_loadu_si128, _mm_movemask_epi8};
+
+    #[inline(always)]
+    pub fn of_eight(mask: &[u8; 8]) -> u64 {
+        // SAFETY: the target has SSE2, and 8 bytes are loaded from any address.
+        let bits = unsafe { _mm_movemask_epi8(_mm_loadl_epi64(mask.as_ptr().cast())) };
+        u64::from(bits as u32)
+    }
+
+    #[inline(always)]
+    pub fn of_sixteen(mask: &[u8; 16]) -> u64 {
+        // SAFETY: the target has SSE2, and 16 bytes are loaded from any address.
+        let bits = unsafe { _mm_movemask_epi8(_mm_loadu_si128(mask.as_ptr().cast())) };
+        u64::from(bits as u32)
+    }
+}
+
+#[cfg(all(
+    target_feature = "neon",
+    target_arch = "aarch64",
+    target_endian = "little"
+))]
+#[allow(unsafe_code)]
+mod neon {
+    use core::arch::aarch64::{vaddv_u8, vand_u8, vld1_u8};
+
+    #[inline(always)]
+    pub fn of_eight(mask: &[u8; 8]) -> u64 {
+        const PLACES: [u8; 8] = [1, 2, 4, 8, 16, 32, 64, 128];
+        // SAFETY: the target has NEON, and both loads are of 8 bytes.
+        let bits = unsafe { vaddv_u8(vand_u8(vld1_u8(mask.as_ptr()), vld1_u8(PLACES.as_ptr()))) };
+        u64::from(bits)
+    }
+
+    #[inline(always)]
+    pub fn of_sixteen(mask: &[u8; 16]) -> u64 {
+        let (low, high) = mask.split_at(8);
+        let [low, high] = [low, high].map(|half| of_eight(half.first_chunk().expect("8 bytes")));
+        low | (high << 8)
+    }
+}
+
+#[cfg(test)]
+mod tests {
+    use super::*;
+
+    /// Bytes of which none is like its neighbour, and what is tested of them: this one at the place.
+    fn with(place: usize, byte: u8) -> [u8; 80] {
+        let mut bytes = [0; 80];
+        for (i, other) in bytes.iter_mut().enumerate() {
+            *other = (i as u8).wrapping_mul(37) | 1;
+        }
+        bytes[place] = byte;
+        bytes
+    }
+
+    /// The mask by single bytes.
+    fn plain(bytes: &[u8], has: impl Fn(u8) -> bool) -> u64 {
+        bytes
+            .iter()
+            .enumerate()
+            .fold(0, |mask, (i, byte)| mask | (u64::from(has(*byte)) << i))
+    }
+
+    fn width<const N: usize>() {
+        for place in 0..N {
+            for byte in [0, 1, 0x7F, 0x80, 0xFF] {
+                for start in [0, 1, 7, 15] {
+                    let all = with(start + place, byte);
+                    one_place::<N>(&all[start..start + N], byte);
+                }
+            }
+        }
+    }
+
+    fn one_place<const N: usize>(bytes: &[u8], byte: u8) {
+        let vector = Simd::<u8, N>::from_slice(bytes);
+        let splat = Simd::splat(byte);
+        let masks = [
+            (vector.simd_eq(splat), plain(bytes, |b| b == byte)),
+            (vector.simd_ne(splat), plain(bytes, |b| b != byte)),
+            (vector.simd_lt(splat), plain(bytes, |b| b < byte)),
+            (splat.simd_lt(vector), plain(bytes, |b| byte < b)),
+            (
+                vector.simd_eq(splat) | vector.simd_lt(splat),
+                plain(bytes, |b| b <= byte),
+            ),
+        ];
+        let mut stored = [0xAA; 81];
+        (vector ^ splat).copy_to_slice(&mut stored[1..]);
+        assert!(stored[1..=N].iter().zip(bytes).all(|(a, b)| *a == b ^ byte));
+        assert!(stored[0] == 0xAA && stored[N + 1..] == [0xAA; 80][N..]);
+        for (mask, expected) in masks {
+            assert_eq!(mask.to_bitmask(), expected, "{N}, {byte}");
+            let plain = bits_by(&mask.0, portable::of_sixteen, portable::of_eight);
+            assert_eq!(plain, expected, "{N}, {byte}");
+            let mut chosen = [0; N];
+            mask.select(vector, splat).copy_to_slice(&mut chosen);
+            for (i, (chosen, other)) in chosen.iter().zip(bytes).enumerate() {
+                let wanted = if expected >> i & 1 == 1 { *other } else { byte };
+                assert_eq!(*chosen, wanted);
+            }
+        }
+        assert_eq!(Simd::from_array(vector.0).0, bytes);
+    }
+
+    /// Each width from 1 to 64.
+    macro_rules! widths {
+        ($($tens:literal: $($n:literal)*;)*) => { $($(width::<{ $tens * 8 + $n }>();)*)* };
+    }
+
+    #[test]
+    fn every_width_and_place() {
+        widths! {
+            0: 1 2 3 4 5 6 7 8; 1: 1 2 3 4 5 6 7 8; 2: 1 2 3 4 5 6 7 8; 3: 1 2 3 4 5 6 7 8;
+            4: 1 2 3 4 5 6 7 8; 5: 1 2 3 4 5 6 7 8; 6: 1 2 3 4 5 6 7 8; 7: 1 2 3 4 5 6 7 8;
+        }
+    }
+
+    /// All 65,536 masks of 16 bytes, by each way that this target has.
+    #[test]
+    fn every_mask_of_sixteen() {
+        for expected in 0..=0xFFFF_u64 {
+            let mask = core::array::from_fn(|i| if expected >> i & 1 == 1 { 0xFF } else { 0 });
+            assert_eq!(portable::of_sixteen(&mask), expected);
+            assert_eq!(bits(&mask), expected);
+        }
+    }
+
+    #[test]
+    #[should_panic = "as many bytes as the vector"]
+    fn too_few_bytes() {
+        let _ = u8x32::from_slice(&[0; 31]);
+    }
+}

@@ -1,0 +1,138 @@
+#!/bin/sh
+# Builds the crate for targets without an operating system, runs it on a Cortex-M4 in QEMU, and measures it: device.sh [--docs]
+#
+# rustup's compiler comes with no library for these targets, so Debian's compiler builds `core` from Debian's source of it
+# (rustc-web and rust-web-src; RUST_SRC names the folder `library` elsewhere). On the Cortex-M4 run the cases of
+# tests/device.sh, in C, over the crate as `jcobs.h` (device/exports.rs), with the feature `small` and without.
+# --docs writes the sizes into README.md.
+#
+# Prints a line for each part; the last line counts them.
+#
+# Lists of flags are meant to be split.
+# shellcheck disable=SC2086,SC2317
+set -u
+rust=$(cd "$(dirname "$0")/.." && pwd)
+root=$(cd "$rust/../.." && pwd)
+here=$rust/tests/device
+# shellcheck source=SCRIPTDIR/../../../tests/count.sh
+. "$root/tests/count.sh"
+compiler=/usr/bin/rustc
+version=$("$compiler" --version 2>/dev/null | sed -n 's/^rustc \([0-9.]*\).*/\1/p')
+library=${RUST_SRC:-/usr/src/rustc-web-$version/library}
+memchr=$(find /usr/share/cargo/registry -maxdepth 1 -name 'memchr-2.*' 2>/dev/null | tail -1)
+if [ ! -f "$library/core/src/lib.rs" ] || [ -z "$memchr" ]; then
+    skip 'the crate on devices' "lacks Debian's rustc-web with rust-web-src of its version, or librust-memchr-dev"
+    finish
+fi
+
+crate() { # TARGET NAME SOURCE FLAG..: a library for this target
+    target=$1 called=$2 source=$3
+    shift 3
+    "$compiler" --sysroot "$work/sysroot" --target "$target" --crate-name "$called" --crate-type rlib -C panic=abort \
+        -C "opt-level=$level" -C embed-bitcode=yes --cap-lints allow --out-dir "$work/$target" "$@" "$source"
+}
+
+# `core`, and an empty library for the compiler's own calls, which newlib and libgcc have.
+core() { # TARGET
+    mkdir -p "$work/$1" "$work/sysroot/lib/rustlib/$1/lib"
+    printf '#![no_std]\n#![feature(compiler_builtins, staged_api)]\n#![compiler_builtins]\n#![unstable(feature = "x", issue = "none")]\n' \
+        >"$work/builtins.rs"
+    # Only one is run, and measured.
+    level=0
+    [ "$1" != thumbv7em-none-eabi ] || level=s
+    RUSTC_BOOTSTRAP=1 crate "$1" core "$library/core/src/lib.rs" --edition 2024 -Z force-unstable-if-unmarked &&
+        RUSTC_BOOTSTRAP=1 crate "$1" compiler_builtins "$work/builtins.rs" --edition 2021 -Z force-unstable-if-unmarked \
+            --extern "core=$work/$1/libcore.rlib" &&
+        mv "$work/$1"/lib*.rlib "$work/sysroot/lib/rustlib/$1/lib"
+}
+
+jcobs() { # TARGET FEATURE..: the crate
+    target=$1
+    shift
+    level=s
+    with=
+    for it; do with="$with --cfg feature=\"$it\""; done
+    crate "$target" memchr "$memchr/src/lib.rs" --edition 2018 &&
+        crate "$target" jcobs "$rust/src/lib.rs" --edition 2021 $with --extern "memchr=$work/$target/libmemchr.rlib"
+}
+
+builds() { # TARGET
+    core "$1" && jcobs "$1" && jcobs "$1" small
+}
+
+# The cases whose calls jcobs.h for devices has, as tests/device.sh chooses them.
+awk '$3 ~ /^(encode_vec|encode|try_encode|encoder|encode_frames|decode_vec|decode|decode_in_place|decode_in_place_report|frame_kind|decoder|decode_stream|max_encoding_length|max_encoding_overhead)$/' \
+    "$root"/conformance/*.txt >"$work/cases"
+c=$root/bindings/c
+tests=$c/device/tests
+
+program() { # PROGRAM SOURCE..: a C program over the crate
+    made=$1
+    shift
+    "$compiler" --sysroot "$work/sysroot" --target thumbv7em-none-eabi --edition 2021 --crate-type staticlib --crate-name exports \
+        -C panic=abort -C opt-level=s -C target-cpu=cortex-m4 --out-dir "$work" -L "$work/thumbv7em-none-eabi" \
+        --extern "jcobs=$work/thumbv7em-none-eabi/libjcobs.rlib" "$here/exports.rs" &&
+        arm-none-eabi-gcc -mcpu=cortex-m4 -mthumb -Os -std=c99 -I"$c/include" -I"$tests" --specs=rdimon.specs \
+            -T "$tests/mps2.ld" -Wl,--gc-sections "$tests/start_arm.c" "$@" "$work/libexports.a" -o "$work/$made"
+}
+
+on_arm() { # PROGRAM ARGUMENT..
+    program=$1
+    shift
+    arguments=arg=program
+    for it; do arguments=$arguments,arg=$it; done
+    timeout 900 qemu-system-arm -M mps2-an386 -nographic -monitor none -serial null \
+        -semihosting-config "enable=on,target=native,$arguments" -kernel "$program"
+}
+
+cases() {
+    jcobs thumbv7em-none-eabi "$@" && program vectors "$c/tests/vectors.c" "$tests/absent.c" "$tests/pushed.c" &&
+        on_arm "$work/vectors" "$work/cases" >"$work/ran"
+    sed 's/^/= /' "$work/ran"
+    grep -q "^$(wc -l <"$work/cases") cases run, 0 of .*, 0 failed" "$work/ran"
+}
+
+# What a call adds to the flash of a program for the Cortex-M4.
+size() { # CALL: the bytes of code and data of the program that makes it
+    "$compiler" --sysroot "$work/sysroot" --target thumbv7em-none-eabi --edition 2021 --crate-type staticlib --crate-name sizes \
+        -C panic=abort -C opt-level=s -C lto=fat -C codegen-units=1 -C target-cpu=cortex-m4 --cfg "call=\"$1\"" --cap-lints allow \
+        --out-dir "$work" -L "$work/thumbv7em-none-eabi" --extern "jcobs=$work/thumbv7em-none-eabi/libjcobs.rlib" "$here/sizes.rs" &&
+        arm-none-eabi-gcc -mcpu=cortex-m4 -mthumb -nostartfiles -Wl,--gc-sections -Wl,-estart -Wl,-u,start \
+            "$work/libsizes.a" -lc -o "$work/sized" 2>"$work/linked" &&
+        arm-none-eabi-size "$work/sized" | awk 'NR == 2 { print $1 + $2 }'
+}
+
+sizes() {
+    echo '| bytes of flash, Cortex-M4 | `feed` | `CobsDecoder::push` | `CobsEncoder` | `decode` | `try_encode` |' >"$work/table"
+    echo '|---|--:|--:|--:|--:|--:|' >>"$work/table"
+    for feature in '' small; do
+        jcobs thumbv7em-none-eabi $feature || return 1
+        none=$(size none) || { cat "$work/linked"; return 1; }
+        row="| ${feature:-without it} |"
+        [ -z "$feature" ] || row='| with `small` |'
+        for call in feed decoder encoder decode encode; do
+            bytes=$(size "$call") || { cat "$work/linked"; return 1; }
+            row="$row $((bytes - none)) |"
+            # The whole of a call byte by byte is about a kilobyte.
+            [ "$feature" != small ] || [ $((bytes - none)) -le 1400 ] || { echo "$call takes $((bytes - none)) bytes"; return 1; }
+        done
+        echo "$row" >>"$work/table"
+    done
+    echo "= with small $(sed -n '$s/^| with `small` | //p' "$work/table" | tr -d '|')bytes"
+    [ "${docs:-}" != --docs ] ||
+        sed -i -e '/<!-- sizes -->/,/<!-- end of sizes -->/{//!d;}' -e "/<!-- sizes -->/r $work/table" "$rust/README.md"
+}
+
+docs=${1:-}
+for target in thumbv7em-none-eabi thumbv6m-none-eabi riscv32imac-unknown-none-elf wasm32-unknown-unknown; do
+    part "the crate for $target" builds "$target"
+done
+if has arm-none-eabi-gcc gcc-arm-none-eabi 'on a Cortex-M4' &&
+    has /usr/lib/arm-none-eabi/include/stdio.h libnewlib-arm-none-eabi 'on a Cortex-M4'; then
+    part 'sizes' sizes
+    if has qemu-system-arm qemu-system-arm 'on a Cortex-M4'; then
+        part 'the cases on a Cortex-M4' cases
+        part 'the cases on a Cortex-M4, byte by byte' cases small
+    fi
+fi
+finish

@@ -1,0 +1,29 @@
+#!/bin/sh
+# Writes FOLDER/.cargo/config.toml: offline.sh FOLDER
+#
+# Below that folder cargo then needs no network: dependencies are Debian's packages, and stand-ins for the optional ones
+# that Debian doesn't have. Where a package is missing it says so, and the status is 1.
+set -eu
+here=$(cd "$(dirname "$0")" && pwd)
+registry=/usr/share/cargo/registry
+for package in memchr serde serde_derive; do
+    if ! ls -d "$registry/$package"-[0-9]* >/dev/null 2>&1; then
+        echo "lacks Debian's librust-$(echo "$package" | tr _ -)-dev"
+        exit 1
+    fi
+done
+mkdir -p "$1/.cargo"
+cat >"$1/.cargo/config.toml" <<END
+[source.crates-io]
+replace-with = "debian"
+
+[source.debian]
+directory = "$registry"
+
+[patch.crates-io]
+defmt = { path = "$here/stand_in/defmt" }
+heapless = { path = "$here/stand_in/heapless" }
+
+[net]
+offline = true
+END

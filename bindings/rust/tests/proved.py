@@ -1,0 +1,218 @@
+#!/usr/bin/env python3
+"""Checks that the functions of src/proved/ are the proved ones.
+
+usage: tests/proved.py [CRATES [PROVED]]
+
+1. translate.py writes the folder again, and the bytes are compared (skipped without rustfmt).
+2. By code that shares nothing with it: each source without its contracts and each file of src/proved/ are cut into tokens,
+   and compared one by one. What may differ is in PERMITTED, ATTRIBUTES, CONST and PATHS, and nowhere else.
+
+It prints what differs, and the status is then 1.
+"""
+import filecmp
+import re
+import shutil
+import subprocess
+import sys
+import tempfile
+from pathlib import Path
+
+RUST = Path(__file__).resolve().parent.parent
+CRATES = Path(sys.argv[1] if len(sys.argv) > 1 else RUST / "../../crates").resolve()
+PROVED = Path(sys.argv[2] if len(sys.argv) > 2 else RUST / "src/proved").resolve()
+
+TOKEN = re.compile(r"""//[^\n]*|/\*.*?\*/|(b?"(?:\\.|[^"\\])*"|b?'(?:\\.|[^'\\])'|'\w+|\w+|::|=>|->|[^\s])""", re.S)
+# Files that aren't here: the laws, which a proof cites, and two files for C.
+LEFT_OUT = re.compile(r"cobs/src/laws|cobs_abi/src/(text|source)\.rt")
+# What a source has, in tokens, and what is here instead: no allocator is passed, and nothing is exported to C.
+PERMITTED = [
+    (r' extern "C" fn ', " fn "),
+    (r" law_\d+ \( \) ;", ""),
+    (r" alloc : Global ,?", ""),
+    (r" vec ! \[ in alloc ; (\S+) ; ((?:[^][]|\[[^][]*\])*) \]", r" crate :: memory :: filled ( \1 , \2 )"),
+    (r" Vec :: from_slice \( alloc ,", " crate :: memory :: copied ("),
+    (r" \( alloc ([,)])", lambda found: " ( )" if found[1] == ")" else " ("),
+]
+# A vector of the function's own, and items that are added to it.
+VECTOR = r" let mut (\w+) = Vec :: new \( \) ;"
+# Functions that are `const` here.
+CONST = ["max_encoding_length", "max_encoding_overhead", "new", "new"]
+# The attributes that this folder has; those of the sources are about proofs, derives and texts of errors.
+ATTRIBUTES = re.compile(
+    r'# \[ (inline( \( (always|never) \))?|repr \( C \)|derive \( [\w ,]+ \)|cfg \( feature = "(alloc|std)" \)'
+    r'|cfg_attr \( feature = "(serde|defmt)" , derive \( [\w :,]+ \) \)) \]'
+)
+# Paths of the sources, and the same ones here.
+PATHS = [
+    ("std::simd::prelude", "crate::simd"),
+    ("std::alloc::AllocError", "crate::memory::AllocError"),
+    ("std::mem", "core::mem"),
+    ("arrayvec::ArrayVec", "crate::array_vec::ArrayVec"),
+    ("cobs_bytes", "crate::proved::cobs_bytes"),
+    ("cobs_abi", "crate::proved::cobs_abi"),
+    ("cobs", "crate::proved"),
+]
+# Names that only proofs and derives have use for; of others, those that the file doesn't use.
+NOT_IMPORTED = re.compile(r"std::alloc::Global|std::marker::Model|serde::|thiserror::|cobs::laws::|(text|source)::")
+
+
+def tokens(path):
+    return [found[1] for found in TOKEN.finditer(path.read_text()) if found[1]]
+
+
+def past(words, at, opened="{", closed="}"):
+    """The place after the first group from `at` on."""
+    depth = 0
+    while True:
+        depth += (words[at] == opened) - (words[at] == closed)
+        at += 1
+        if depth == 0 and words[at - 1] == closed:
+            return at
+
+
+def leaves(words, front=""):
+    """The paths of a `use`."""
+    text = "".join(word + " " if word == "as" else word for word in words)
+    group = re.match(r"(.*?)\{(.*)\}$", text)
+    return [front + group[1] + name for name in group[2].split(",") if name] if group else [text]
+
+
+def cut(path, is_source):
+    """A file's tokens without contracts, attributes and imports; its imports; its modules; its attributes."""
+    words, kept, imports, modules, attributes, at = tokens(path), [], [], [], [], 0
+    while at < len(words):
+        word = words[at]
+        if is_source and word == "ghost" and words[at + 1] == "use" or word == "use":
+            end = words.index(";", at)
+            if word == "use":
+                while kept and kept[-1] != ";" and kept[-1] != "}":
+                    kept.pop()
+                imports += leaves(words[at + 1 : end])
+            at = end + 1
+        elif is_source and word in ("ghost", "requires", "ensures"):
+            at = past(words, at)
+            if word == "ghost" and words[at] in ";,":
+                at += 1
+        elif word == "#":
+            end = past(words, at, "[", "]")
+            attributes.append(" ".join(words[at:end]))
+            at = end
+        elif word == "mod" and words[at + 2] == ";":
+            while kept and kept[-1] not in (";", "}"):
+                kept.pop()
+            modules.append(words[at + 1])
+            at += 3
+        elif word == "impl" and re.match(PROOFS if is_source else TEXTS, " ".join(words[at : words.index("{", at)])):
+            at = past(words, at)
+        else:
+            kept.append(word)
+            at += 1
+    return kept, imports, modules, attributes
+
+
+PROOFS = r"impl (< .* > )?(Model|Clone) for "
+TEXTS = r"impl core :: (fmt :: Display|error :: Error) for "
+
+
+def canonical(kept, is_source):
+    """Tokens in one form: what is permitted is done, and no comma is before a closing bracket."""
+    text = f" {' '.join(kept)} "
+    if is_source:
+        for pattern, instead in PERMITTED:
+            text = re.sub(pattern, instead, text)
+        for name in re.findall(VECTOR, text):
+            text = re.sub(rf" {name} \. push \( (.*?) \) \? ;", rf" crate :: memory :: push ( & mut {name} , \1 ) ? ;", text)
+    text = text.replace(" const fn ", " fn ") if not is_source else text
+    return re.sub(r" ,(?= [)\]}])", "", f" {' '.join(unwrapped(text.split()))} ").split()
+
+
+def unwrapped(words):
+    """The tokens without the braces round an arm that is one expression, which rustfmt drops."""
+    out, at = [], 0
+    while at < len(words):
+        out.append(words[at])
+        at += 1
+        if out[-1] == "=>" and words[at] == "{" and ";" not in words[at : past(words, at)]:
+            end = past(words, at)
+            out += [*unwrapped(words[at + 1 : end - 1]), ","]
+            at = end + (words[end] == ",")
+    return out
+
+
+def here(path, crate):
+    """The path here that a source's path becomes."""
+    own = "crate::proved" + ("" if crate == "cobs" else f"::{crate}")
+    if path.startswith("crate::"):
+        return own + path.removeprefix("crate")
+    for known, mapped in PATHS:
+        if path == known or path.startswith(known + "::"):
+            return mapped + path.removeprefix(known)
+    return path
+
+
+def differences(source, crate, made):
+    name = made.relative_to(PROVED)
+    if not made.exists():
+        yield f"{name} is missing"
+        return
+    kept, imports, modules, _ = cut(source, True)
+    found, imported, of_made, attributes = cut(made, False)
+    wanted, got = canonical(kept, True), canonical(found, False)
+    for at, pair in enumerate(zip([*wanted, "the end"], [*got, "the end"])):
+        if pair[0] != pair[1]:
+            near = " ".join(wanted[max(0, at - 12) : at])
+            yield f"{name}: after '{near}' the source has '{' '.join(wanted[at : at + 6])}', and here is '{' '.join(got[at : at + 6])}'"
+            break
+    yield from (f"{name}: {text} isn't permitted" for text in attributes if not ATTRIBUTES.fullmatch(text))
+    mapped = {here(path, crate) for path in imports if not NOT_IMPORTED.match(path)}
+    yield from (f"{name}: it imports {path}" for path in set(imported) - mapped - {"alloc::vec::Vec"})
+    lacking = {path for path in mapped - set(imported) if path.split("::")[-1] in found}
+    yield from (f"{name}: it doesn't import {path}" for path in lacking)
+    expected = {word for word in modules if not LEFT_OUT.search(f"{crate}/src/{word}.rt")}
+    if expected != {word for word in of_made if not word.startswith("cobs_")}:
+        yield f"{name}: its modules are {of_made}"
+
+
+def compared():
+    """What differs between the sources and the folder, by tokens."""
+    made, const = set(), []
+    for crate in ("cobs", "cobs_bytes", "cobs_abi", "cobs_small"):
+        for source in sorted((CRATES / crate / "src").rglob("*.rt")):
+            place = source.relative_to(CRATES / crate / "src").with_suffix(".rs")
+            place = place.with_name("mod.rs") if str(place) == "lib.rs" else place
+            if not LEFT_OUT.search(source.as_posix()):
+                made.add(PROVED / ("" if crate == "cobs" else crate) / place)
+                yield from differences(source, crate, PROVED / ("" if crate == "cobs" else crate) / place)
+    for path in sorted(PROVED.rglob("*.rs")):
+        const += re.findall(r"const fn (\w+)", path.read_text())
+        if path not in made:
+            yield f"{path.relative_to(PROVED)} has no source"
+    if sorted(const) != CONST:
+        yield f"const are {sorted(const)}, and not {CONST}"
+
+
+def again():
+    """What differs from a new translation."""
+    with tempfile.TemporaryDirectory() as folder:
+        run = subprocess.run([sys.executable, RUST / "translate.py", folder, CRATES], capture_output=True, text=True)
+        if run.returncode:
+            yield run.stderr.strip()
+            return
+        names = {path.relative_to(root) for root in (Path(folder), PROVED) for path in root.rglob("*.rs")}
+        _, differing, lacking = filecmp.cmpfiles(folder, PROVED, map(str, sorted(names)), shallow=False)
+        yield from (f"{name}: translate.py writes it otherwise" for name in [*differing, *lacking])
+
+
+def main():
+    found = list(compared())
+    if shutil.which("rustfmt"):
+        found += again()
+    else:
+        print("skipped: the translation again: lacks rustfmt")
+    for line in found:
+        print(line)
+    sys.exit(1 if found else 0)
+
+
+if __name__ == "__main__":
+    main()

@@ -1,0 +1,450 @@
+#!/usr/bin/env python3
+"""Writes the proved source as Rust: src/proved/, from the .rt files of the crates in SOURCES.
+
+usage: translate.py [TO [CRATES]]
+
+Drops what is for the prover, such as contracts, ghost fields and laws, and gives the names that Rust has: of modules, of
+the vectors and of memory, where Rust has no allocator to pass. Function bodies stay as they are otherwise. A form that it
+doesn't know is an error, with its file and line. Then rustfmt lays the files out. tests/proved.py says what may differ.
+"""
+import re
+import subprocess
+import sys
+from pathlib import Path
+
+HERE = Path(__file__).resolve().parent
+# The crates, their modules here, and the files of each that are left out: proofs for callers, and what only C sees.
+SOURCES = {
+    "cobs": ("crate::proved", ("laws.rt", "laws/")),
+    "cobs_bytes": ("crate::proved::cobs_bytes", ()),
+    "cobs_abi": ("crate::proved::cobs_abi", ("text.rt", "source.rt")),
+    "cobs_small": ("crate::proved::cobs_small", ()),
+}
+PATHS = {
+    "std::simd::prelude": "crate::simd",
+    "std::alloc::AllocError": "crate::memory::AllocError",
+    "std::mem": "core::mem",
+    "std::io::Read": "std::io::Read",
+    "arrayvec::ArrayVec": "crate::array_vec::ArrayVec",
+    "memchr": "memchr",
+}
+# Names that Rust has no use for.
+DROPPED = ("std::alloc::Global", "std::marker::Model", "serde::", "thiserror::", "cobs::laws", "text::", "source::")
+DERIVES = ("Debug", "Clone", "Copy", "PartialEq", "Eq")
+NOT_DERIVED = ("Drop", "Error", "Serialize", "Deserialize")
+# What Rust programs expect of a type beside what its source derives.
+MORE_DERIVES = {
+    "DecodeError": ("Clone", "Copy"),
+    "DestBufTooSmallError": ("Clone", "Copy"),
+    "PushError": ("Clone", "Copy"),
+    "FrameKind": ("Clone", "Copy"),
+    "PushResult": DERIVES,
+    "DecodeResult": DERIVES,
+    "DecoderState": ("Clone", "PartialEq", "Eq"),
+    "Recorded": ("Debug",),
+    "FrameReader": ("Debug",),
+}
+# Calls that are `const fn` in the crate `cobs`, or called by one.
+CONST = {"max_encoding_overhead", "max_encoding_length", "UnbufferedDecoder::new", "UnbufferedEncoder::new"}
+# Calls for one byte, which are to be compiled into the caller's loop.
+INLINE = set(
+    "UnbufferedDecoder::feed DecoderState::feed EncoderState::push UnbufferedEncoder::progress"
+    " UnbufferedEncoder::from_progress cobs_abi::done cobs_abi::too_small cobs_abi::end_of cobs_abi::fits cobs_abi::append"
+    " cobs_abi::Encoder::at cobs_abi::Encoder::progress".split()
+)
+# The feature that an item needs, if its code has this word.
+FEATURES = {"alloc": r"(?<!\w)(Vec\b|vec!)", "std": r"(?<!\w)std::|(?<![\w:])Read\b"}
+FUNCTION = r'(?:pub(?:\(crate\))? )?(?:const )?(?:extern "C" )?fn (\w+)'
+ITEM = rf"(?:pub(?:\(crate\))? )?(?:const|static|type|mod|struct|enum|trait|macro_rules!|fn|extern \"C\" fn) (\w+)"
+
+
+class Source:
+    """The lines of a file, and where the translation has come to."""
+
+    def __init__(self, path, name, crate):
+        self.name, self.crate, self.at, self.owner = name, crate, 0, ""
+        self.lines = path.read_text().splitlines()
+        self.prefix = SOURCES[crate][0]
+
+    def fail(self, why, at=None):
+        line = self.at if at is None else at
+        text = self.lines[line].strip() if line < len(self.lines) else ""
+        raise SystemExit(f"translate.py: {self.name}:{line + 1}: {why}: {text}")
+
+    def skip(self):
+        """Goes past what begins here and ends where its brackets do; returns the last character, which ends it."""
+        begun, depth, opened = self.at, 0, False
+        while self.at < len(self.lines):
+            text = bare(self.lines[self.at])
+            self.at += 1
+            for sign in text:
+                opened |= sign in "{(["
+                depth += (sign in "{([") - (sign in "})]")
+            if depth == 0 and (opened or text.endswith((";", ","))):
+                return text[-1]
+        self.fail("it has no end", begun)
+
+
+def bare(line):
+    """A line of code without its strings, characters and comment."""
+    line = re.sub(r'b?"(\\.|[^"\\])*"', '""', line)
+    line = re.sub(r"b?'(\\.|[^'\\])'", "''", line)
+    return line.split("//")[0].rstrip()
+
+
+def doc(source, lines):
+    """A doc comment, whose examples are tests of the Rust crate."""
+    indent, sign = re.match(r"(\s*)(//[/!])", lines[0]).groups()
+    text = [line.strip()[len(sign) :].removeprefix(" ") for line in lines]
+    out, example = [], None
+    for line in text:
+        if line == "```" and example is None:
+            example = []
+        elif line == "```":
+            out += ["```", *doctest(example), "```"]
+            example = None
+        elif example is not None:
+            example.append(line)
+        else:
+            out.append(line)
+    # A link to what another file has.
+    text = re.sub(r"\[`(\w+)`\](?![(\[])", lambda found: linked(source, found[1]), "\n".join(out))
+    # A paragraph, or an item of a list, about what isn't here.
+    parts = re.split(r"\n(?=\n|- )", text)
+    out = "\n".join(part for part in parts if "rt.alloc()" not in part and "[`laws`]" not in part).split("\n")
+    return [f"{indent}{sign} {line}".rstrip() for line in out]
+
+
+def linked(source, name):
+    """A link to a name; with its path, if the crate exports it and this file doesn't have it."""
+    known = name in source.words or name not in source.exported
+    return f"[`{name}`]" if known else f"[`{name}`](crate::proved::{name})"
+
+
+def doctest(example):
+    """An example, with the lines round it that aren't shown."""
+    text = "\n".join(example)
+    text = re.sub(r"(assert(?:_eq|_ne)?!\()rt; ?", r"\1", text)
+    text = re.sub(r"\.(to_vec|to_string)\(alloc\)\?", r".\1()", text)
+    text = re.sub(r"\.clone\(\)\?", ".clone()", text)
+    text = without_allocator(text).replace("cobs::", "jcobs::proved::")
+    lines = ["# use jcobs::proved::*;"] + ["# use jcobs::ArrayVec;"] * ("ArrayVec" in text)
+    feature = next((f for f in ("std", "alloc") if any(re.search(rf"\b{name}\b", text) for name in needing[f])), None)
+    lines += [f'# #[cfg(feature = "{feature}")] {{', *text.split("\n"), "# }"] if feature else text.split("\n")
+    if re.search(r"\)\?|\w\?", text):
+        lines.append("# Ok::<(), Box<dyn std::error::Error>>(())")
+    return lines
+
+
+def without_allocator(text):
+    """A text in which no allocator is passed."""
+    text = re.sub(r"\balloc: Global,?[ \n]*", "", text)
+    text = re.sub(r"vec!\[in alloc; (.+?); (.+)\]", r"crate::memory::filled(\1, \2)", text)
+    text = text.replace("Vec::from_slice(alloc, ", "crate::memory::copied(")
+    return re.sub(r"\(alloc(?:, |(?=\)))", "(", text)
+
+
+def paths(source, statement):
+    """A `use`, with the paths of Rust; nothing if Rust doesn't need it."""
+    flat = re.sub(r"\s+", " ", statement).strip()
+    head, path = re.match(r"((?:pub(?:\(crate\))? )?use )(.*);$", flat).groups()
+    if path.startswith(DROPPED):
+        return []
+    path = path.replace("std::alloc::{AllocError, Global}", "std::alloc::AllocError")
+    root = path.split("::")[0].rstrip(";")
+    if root == "crate":
+        path = source.prefix + path.removeprefix("crate")
+    elif root in SOURCES:
+        path = SOURCES[root][0] + path.removeprefix(root)
+    elif known := next((known for known in PATHS if path == known or path.startswith(known + "::")), None):
+        path = PATHS[known] + path.removeprefix(known)
+    elif root not in source.modules and root not in ("self", "super", "by_width"):
+        source.fail("no path of Rust is known for it", source.begun)
+    return [f"{head}{path};"]
+
+
+def derives(source, line, name):
+    """The derives of a type: those of Rust, of serde and of defmt, and which are dropped."""
+    listed = [word.strip() for word in re.match(r"#\[derive\((.*)\)\]$", line).group(1).split(",")] if line else []
+    if unknown := [word for word in listed if word not in DERIVES + NOT_DERIVED]:
+        source.fail(f"it derives {unknown[0]}")
+    more = MORE_DERIVES.get(name, ()) + (("Clone",) if name in source.cloned else ())
+    source.seen.add(name)
+    rust = ", ".join(word for word in DERIVES if word in listed or word in more)
+    out = [f"#[derive({rust})]"] if rust else []
+    if "Serialize" in listed:
+        out.append('#[cfg_attr(feature = "serde", derive(serde::Serialize, serde::Deserialize))]')
+        out.append('#[cfg_attr(feature = "defmt", derive(defmt::Format))]')
+    return out, "Error" in listed
+
+
+def display(source, name, item):
+    """The text of an error, by its `error` attributes, which are dropped."""
+    arms, kept, text = [], [], None
+    for line in item:
+        if found := re.match(r'\s*#\[error\((".*")\)\]$', line):
+            text = found[1]
+            continue
+        kept.append(line)
+        variant = re.match(r"\s*(?:pub )?(?:struct )?(\w+)( \{|\(|,|;)", line)
+        if text and variant:
+            fields = re.findall(r"\{(\w+)\}", text)
+            case = "Self" if variant[1] == name else f"Self::{variant[1]}"
+            if variant[2] == "(":
+                text = text.replace("{0}", "{field}")
+                case += "(field)" if fields else "(..)"
+            elif fields:
+                case += " { " + ", ".join(fields) + ", .. }"
+            write = f"write!(f, {text})" if fields else f"f.write_str({text})"
+            arms.append(f"            {case} => {write},")
+            text = None
+    if not arms:
+        source.fail(f"the error {name} has no text")
+    head = "fn fmt(&self, f: &mut core::fmt::Formatter<'_>) -> core::fmt::Result {"
+    formatted = [f"impl core::fmt::Display for {name} {{", head, "match self {", *arms, "} } }", ""]
+    return kept, [*formatted, f"impl core::error::Error for {name} {{}}"]
+
+
+def signature(source):
+    """A function's head, without its contract: its lines, up to the brace or the semicolon."""
+    head = []
+    while not head or sum(bare(line).count("(") - bare(line).count(")") for line in head):
+        head.append(source.lines[source.at])
+        source.at += 1
+    while not head[-1].endswith(("{", ";")):
+        line = source.lines[source.at].strip()
+        if line == "{":
+            head[-1] += " {"
+            source.at += 1
+        elif line == "" or line.startswith("//"):
+            source.at += 1
+        elif re.match(r"(requires|ensures\*?|ghost)\b", line):
+            if source.skip() == ";":
+                head[-1] += ";"
+        else:
+            source.fail("neither a clause nor a body")
+    indent, name = re.match(rf"(\s*){FUNCTION}", head[0]).groups()
+    call = f"{source.owner}::{name}" if indent else name
+    call = call if source.crate == "cobs" else f"{source.crate}::{call}"
+    head[0] = head[0].replace('extern "C" ', "")
+    if call in CONST:
+        head[0] = head[0].replace("fn ", "const fn ", 1)
+    source.seen.add(call)
+    marks = [indent + "#[inline]"] if call in INLINE else []
+    return marks + without_allocator("\n".join(head)).split("\n")
+
+
+def code(source, line):
+    """A line of a body."""
+    if unknown := re.search(r"\.\w+\(alloc\b|\bVec::(?!new\(alloc\)|from_slice\(alloc, )\w+", bare(line)):
+        source.fail(f"{unknown[0]} isn't known", source.at - 1)
+    line = without_allocator(line)
+    if found := re.match(r"\s*let mut (\w+) = Vec::new\(\);", line):
+        source.vectors.add(found[1])
+    if (found := re.match(r"(\s*)(\w+)\.push\((.*)\)\?;$", line)) and found[2] in source.vectors:
+        line = f"{found[1]}crate::memory::push(&mut {found[2]}, {found[3]})?;"
+    if found := re.search(r"[^\x00-\x7f]|\b(ghost|requires|ensures|decreases|invariant|tactic|alloc|rt|law_\d+|std|cobs_bytes|cobs)\b", bare(line)):
+        source.fail(f"{found[0]} isn't Rust", source.at - 1)
+    return line
+
+
+def attribute(source, out, text):
+    """An attribute: those about proofs and for C go, and a derive waits for its type."""
+    if text.startswith(("#[tactic", "#![tactic", "#[unsafe(no_mangle)]")):
+        source.skip()
+    elif text.startswith("#[derive("):
+        source.at, source.derive = source.at + 1, (text, len(out))
+    elif re.match(r"#\[(error\(|inline|repr\(C\))", text):
+        out.append(source.lines[source.at])
+        source.at += 1
+    else:
+        source.fail("an attribute that isn't known")
+
+
+def step(source, out):
+    """Translates what begins on this line."""
+    line = source.lines[source.at]
+    text = line.strip()
+    if text.startswith(("///", "//!")):
+        begun = source.at
+        while source.at < len(source.lines) and source.lines[source.at].strip().startswith(text[:3]):
+            source.at += 1
+        out += doc(source, source.lines[begun : source.at])
+    elif text.startswith("//") or not text:
+        source.at += 1
+        out.append(line)
+    elif text.startswith("ghost "):
+        # Its comment goes with it.
+        while out and out[-1].strip().startswith("///"):
+            out.pop()
+        source.skip()
+    elif text.startswith("#"):
+        attribute(source, out, text)
+    elif re.match(r"(pub(\(crate\))? )?use ", text):
+        source.begun = source.at
+        source.skip()
+        out += paths(source, " ".join(source.lines[source.begun : source.at]))
+    elif re.match(r"impl(<.*>)? (Model|Clone) for ", text):
+        source.skip()
+    elif module := re.match(r"(pub )?mod (\w+);$", text):
+        source.at += 1
+        if f"{module[2]}.rt" not in SOURCES[source.crate][1]:
+            out.append(f"pub(crate) mod {module[2]};")
+    elif re.match(FUNCTION, text):
+        out += signature(source)
+    elif re.match(r"law_\d+\(\);$", text):
+        source.at += 1
+    else:
+        if block := re.match(r"(?:pub )?(?:impl|trait)\b(?:<[^{]*?>)? *(?:[\w:]+(?:<.*>)? for )?(\w+)", line):
+            source.owner = block[1]
+        source.at += 1
+        out.append(code(source, line))
+        if kind := re.match(r"(?:pub(?:\(crate\))? )?(?:struct|enum) (\w+)", line):
+            typed(source, out, kind[1])
+
+
+def typed(source, out, name):
+    """The rest of a type whose head is the last line of `out`."""
+    (derive, place), source.derive = source.derive or ("", len(out) - 1), None
+    while source.lines[source.at - 1] != "}" and not out[-1].endswith(";"):
+        step(source, out)
+    marks, is_error = derives(source, derive, name)
+    if is_error:
+        item, formatted = display(source, name, out[place:])
+        out[place:] = [*marks, *item, "", *formatted]
+    else:
+        out[place:place] = marks
+
+
+def items(lines):
+    """The items of a file, each with the comments and attributes before it."""
+    begun, depth = 0, 0
+    for at, line in enumerate(lines):
+        text = bare(line)
+        depth += sum((sign in "{([") - (sign in "})]") for sign in text)
+        if depth == 0 and text.endswith(("}", ";")) or line.startswith("//!"):
+            yield lines[begun : at + 1]
+            begun = at + 1
+    yield lines[begun:]
+
+
+def head_of(item):
+    """An item's first line of code."""
+    return next((line for line in item if line and not re.match(r"\s*(//|#)", line)), "")
+
+
+def feature_of(item):
+    """The feature that an item needs."""
+    text = "\n".join(bare(line) for line in item if not line.strip().startswith("//"))
+    for feature in ("std", "alloc"):
+        words = "|".join([FEATURES[feature], *(rf"\b{name}\b" for name in needing[feature])])
+        if re.search(words, text):
+            return feature
+    return None
+
+
+def find_needing(files):
+    """Fills `needing`: the names of the items that need a feature, by what they or the items that they name have."""
+    count = -1
+    while count != (count := sum(map(len, needing.values()))):
+        for lines in files:
+            for item in items(lines):
+                named = re.match(rf"{ITEM}|impl(?:<.*?>)? (\w+)(?!.* for )", head_of(item))
+                if named and (feature := feature_of(item)):
+                    needing[feature].add(named[1] or named[2])
+
+
+def guarded(item, code):
+    """An item under the feature that it needs; of a `use`, the names that need one apart, and only those in `code`."""
+    head = head_of(item)
+    if re.match(r"(pub(\(crate\))? )?use ", head):
+        at = item.index(head)
+        front, names = re.match(r"(.*?)(?:::\{(.*)\})?;$", head).groups()
+        names = [name.strip() for name in names.split(",")] if names else [front.split("::")[-1]]
+        front = front if "{" in head else front.rsplit("::", 1)[0]
+        if head.startswith("use "):
+            names = [name for name in names if name == "*" or len(re.findall(rf"\b{name}\b", code)) > 1]
+        groups = {}
+        for name in names:
+            groups.setdefault(feature_of([name]) or ("std" if "std::" in front else None), []).append(name)
+        out = item[:at]
+        for feature, group in groups.items():
+            out += [f'#[cfg(feature = "{feature}")]'] if feature else []
+            out.append(f"{front}::{{{', '.join(group)}}};" if len(group) > 1 else f"{front}::{group[0]};" if "::" in head else head)
+        return out
+    feature = feature_of(item) if head and not re.match(r"pub\(crate\) mod ", head) else None
+    if not feature:
+        return item
+    at = item.index(head)
+    while at > 0 and re.match(r"\s*#\[", item[at - 1]):
+        at -= 1
+    return item[:at] + [f'#[cfg(feature = "{feature}")]'] + item[at:]
+
+
+def header(source, text):
+    """The lines above a file."""
+    made = f"// Made by bindings/rust/translate.py from `{source.name}`: change that file, and run it again.\n"
+    if source.name.endswith("cobs/src/lib.rt"):
+        children = [crate for crate in SOURCES if crate != "cobs"]
+        children = "".join(f"pub(crate) mod {crate};\n" for crate in children)
+        text = re.sub(r"^(?=pub\(crate\) mod )", children, text, count=1, flags=re.M)
+    if re.search(r"(?<!Array)\bVec[<:]", re.sub(r"^\s*//.*$", "", text, flags=re.M)):
+        use = '#[cfg(feature = "alloc")]\nuse alloc::vec::Vec;\n'
+        text = re.sub(r"^(?=(#\[cfg.*\n)?(pub(\(crate\))? )?(use|mod) )", use, text, count=1, flags=re.M)
+    return made + text
+
+
+def prepared(crates):
+    """A source for each file."""
+    exports = re.findall(r"^pub use (?:\w+::)+(?:\{([^}]*)\}|(\w+));", (crates / "cobs/src/lib.rt").read_text(), re.M)
+    exported = set(re.findall(r"\w+", " ".join(names + name for names, name in exports)))
+    for crate, (_, left_out) in SOURCES.items():
+        folder = crates / crate / "src"
+        for path in sorted(folder.rglob("*.rt")):
+            within = path.relative_to(folder).as_posix()
+            if left_out and within.startswith(left_out):
+                continue
+            source = Source(path, f"crates/{crate}/src/{within}", crate)
+            source.modules = re.findall(r"^(?:pub )?mod (\w+);", "\n".join(source.lines), re.M)
+            source.cloned = set(re.findall(r"^impl Clone for (\w+)", "\n".join(source.lines), re.M))
+            source.vectors, source.seen, source.derive = set(), set(), None
+            source.exported = exported
+            source.words = set(re.findall(r"\w+", "\n".join(bare(line) for line in source.lines if not line.startswith("ghost "))))
+            within = "mod.rs" if within == "lib.rt" else within.replace(".rt", ".rs")
+            yield source, within if crate == "cobs" else f"{crate}/{within}"
+
+
+needing = {"alloc": set(), "std": set()}
+
+
+def translated(source):
+    source.at, out = 0, []
+    while source.at < len(source.lines):
+        step(source, out)
+    return out
+
+
+def main():
+    to, crates = map(Path, [*sys.argv[1:], *[HERE / "src/proved", HERE / "../../crates"][len(sys.argv) - 1 :]])
+    sources, written, seen = list(prepared(crates)), [], set()
+    find_needing([translated(source) for source, _ in sources])
+    for source, place in sources:
+        out = translated(source)
+        code = "\n".join(line for line in out if not line.strip().startswith("//"))
+        out = [line for item in items(out) for line in guarded(item, code)]
+        text = header(source, re.sub(r"\n{3,}", "\n\n", "\n".join(out)).strip() + "\n")
+        seen |= source.seen
+        (to / place).parent.mkdir(parents=True, exist_ok=True)
+        (to / place).write_text(text)
+        written.append(to / place)
+    if missing := (set(MORE_DERIVES) | CONST | INLINE) - seen:
+        raise SystemExit(f"translate.py: no source has {sorted(missing)[0]}")
+    for path in set(to.rglob("*.rs")) - set(written):
+        path.unlink()
+    layout = ["rustfmt", "--edition", "2021", "--config", "style_edition=2024,skip_children=true"]
+    if subprocess.run([*layout, *map(str, written)]).returncode:
+        raise SystemExit("translate.py: rustfmt can't lay out what it wrote")
+
+
+if __name__ == "__main__":
+    main()
