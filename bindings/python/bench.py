@@ -1,10 +1,10 @@
-"""Measures the package beside plain Python code and the C library that it calls.
+"""Measures the package beside its plain Python and the C library that it calls.
 
 usage: python bench.py [--random] [LENGTH ..]
 
-The messages are like records: one byte in 16 is zero, at random places. With --random all bytes are random.
-The C library is measured by a loop in C, which this script compiles over the same libjcobs.a. All times are of the
-processor, the least of several runs, which take turns.
+The messages are like records: one byte in 16 is zero, at random places. With --random all bytes are random. A frame is
+also fed to a decoder, 32 of them in a chunk. The C library is measured by a loop in C, which this script compiles over
+the same libjcobs.a. All times are of the processor, the least of several runs, which take turns.
 """
 
 import random
@@ -15,12 +15,12 @@ import time
 from pathlib import Path
 
 HERE = Path(__file__).resolve().parent
-sys.path[:0] = [str(HERE), str(HERE / "tests")]
+sys.path[:0] = [str(HERE)]
 
-import plain  # noqa: E402
 import setup  # noqa: E402
 
 import jcobs  # noqa: E402
+from jcobs import _plain  # noqa: E402
 
 LENGTHS = [16, 64, 256, 1024, 4096, 16384, 65536, 262144, 1048576]
 ROUNDS = 15
@@ -42,9 +42,10 @@ int main(int argc, char **argv)
 {
     size_t len = strtoul(argv[1], NULL, 10), room = jcobs_max_length(len);
     long i, count = strtol(argv[2], NULL, 10);
-    unsigned char *message = malloc(len), *frame = malloc(room), *back = malloc(room);
-    jcobs_answer answer = {0, 0, 0};
-    double begin, middle;
+    unsigned char *message = malloc(len), *frame = malloc(room + 1), *back = malloc(room);
+    jcobs_decoder decoder = JCOBS_DECODER_INIT;
+    jcobs_answer answer = {0, 0, 0}, done = {0, 0, 0};
+    double begin, middle, late;
 
     if (argc != 3 || fread(message, 1, len, stdin) != len)
         return 1;
@@ -53,9 +54,14 @@ int main(int argc, char **argv)
         answer = jcobs_encode(message, len, frame, room);
     middle = now();
     for (i = 0; i < count; i++)
-        jcobs_decode(frame, answer.length, back, room);
-    printf("%.12f %.12f\n", (middle - begin) / (double)count, (now() - middle) / (double)count);
-    return 0;
+        done = jcobs_decode(frame, answer.length, back, room);
+    late = now();
+    frame[answer.length] = 0;
+    for (i = 0; i < count; i++)
+        done = jcobs_decoder_push(&decoder, back, room, frame, answer.length + 1);
+    printf("%.12f %.12f %.12f\n", (middle - begin) / (double)count, (late - middle) / (double)count,
+           (now() - late) / (double)count);
+    return done.length != len;
 }
 """
 
@@ -83,23 +89,29 @@ def made(length, at_random):
     return bytes(source.randrange(1, 256) * (source.randrange(16) > 0) for _ in range(length))
 
 
+def fed(decode):
+    """What decodes a chunk of 32 frames."""
+    return lambda chunk: decode(chunk, (jcobs.Message, jcobs.Broken, jcobs.TooLong))
+
+
 def measured(program, length, at_random):
-    """Seconds a call, in two lists, encode and decode: of the package, the C library, plain code."""
+    """Seconds a call, for encode, decode and a frame in feed: of the package, the C library, plain Python."""
     message = made(length, at_random)
     frame = jcobs.encode(message)
+    chunk = (frame + b"\0") * 32
     count = max(10, 4_000_000 // (length + 400))
-    best = [[9e9] * 3, [9e9] * 3]
+    rows = (
+        (jcobs.encode, lambda data: _plain.encode(data, 0, False), message, 1),
+        (jcobs.decode, lambda data: _plain.decode(data, 0, jcobs.DecodeError), frame, 1),
+        (jcobs.Decoder(length).feed, fed(_plain.Decoder(length, 0).feed), chunk, 32),
+    )
+    best = [[9e9] * 3 for _ in rows]
     for _ in range(ROUNDS):
         ran = subprocess.run([program, str(length), str(count)], input=message, stdout=subprocess.PIPE, check=True)
-        in_c = [float(word) for word in ran.stdout.split()]
-        for row, call, argument, c in (
-            (best[0], jcobs.encode, message, in_c[0]),
-            (best[1], jcobs.decode, frame, in_c[1]),
-        ):
-            row[0] = min(row[0], timed(call, argument, count))
+        for row, (call, plain, argument, frames), c in zip(best, rows, map(float, ran.stdout.split())):
+            row[0] = min(row[0], timed(call, argument, max(1, count // frames)) / frames)
             row[1] = min(row[1], c)
-    for row, call, argument in ((best[0], plain.encode, message), (best[1], plain.decode, frame)):
-        row[2] = min(timed(call, argument, max(1, 20_000 // length)) for _ in range(5))
+            row[2] = min(row[2], timed(plain, argument, max(1, count // frames // 100)) / frames)
     return best
 
 
@@ -115,7 +127,9 @@ def main(words):
         print("| bytes | call | jcobs | C library | plain Python | times C | times as fast as plain |")
         print("|---:|---|---:|---:|---:|---:|---:|")
         for length in lengths:
-            for name, (ours, c, slow) in zip(("encode", "decode"), measured(program, length, "--random" in words)):
+            for name, (ours, c, slow) in zip(
+                ("encode", "decode", "feed, a frame"), measured(program, length, "--random" in words)
+            ):
                 print(
                     f"| {length:,} | {name} | {shown(ours)} | {shown(c)} | {shown(slow)} |",
                     f"{ours / c:.2f} | {slow / ours:,.0f} |",

@@ -1,18 +1,26 @@
-"""Builds the extension over the static library libjcobs.a, which is never built here.
+"""Builds the extension over the C library, if this machine can; the package does without it, in plain Python.
 
-The library is looked for, in this order, in the folder that JCOBS_LIB_DIR names; where bindings/c of the repository
-builds it; where bindings/c keeps it built; and in libjcobs/, where a source distribution has it.
+The built library libjcobs.a is looked for, in this order, in the folder that JCOBS_LIB_DIR names; where bindings/c of the
+repository builds it; where bindings/c keeps it built; and in libjcobs/, where a source distribution has it. On a system
+that none of them fits, the C source that was made from the proved module, jcobs.c, is compiled in its place.
+
+JCOBS_BACKEND asks for one of these ways: prebuilt, compiled, or python, which compiles nothing.
 """
 
 import os
 import platform
 import shutil
 import sys
+import sysconfig
 from pathlib import Path
 
 from setuptools import Extension, setup
-from setuptools.command.build_ext import build_ext
 from setuptools.command.sdist import sdist
+
+try:
+    from setuptools.command.bdist_wheel import bdist_wheel
+except ImportError:  # before setuptools 70.1
+    from wheel.bdist_wheel import bdist_wheel
 
 HERE = Path(__file__).resolve().parent
 C = HERE.parent / "c"
@@ -30,37 +38,70 @@ def places(machine):
         yield folder / f"{machine}-linux" / "libjcobs.a"
 
 
+def first(paths):
+    return next((path for path in paths if path.is_file()), None)
+
+
 def library(machine):
-    return next((place for place in places(machine) if place.is_file()), None)
+    return first(places(machine))
+
+
+def source():
+    """The library as C."""
+    return first((C / "source/jcobs.c", CARRIED / "jcobs.c"))
 
 
 def include():
     """The folder of jcobs.h."""
-    folders = [C / "include", CARRIED / "include"]
-    return next((folder for folder in folders if (folder / "jcobs.h").is_file()), folders[0])
+    return (first((C / "include/jcobs.h", CARRIED / "include/jcobs.h")) or C / "include/jcobs.h").parent
 
 
-class BuildOverLibrary(build_ext):
-    def build_extension(self, ext):
-        found = library(MACHINE)
-        if not sys.platform.startswith("linux") or found is None:
-            sys.exit(
-                f"jcobs: no libjcobs.a for {sys.platform} on {MACHINE}: run `make` in bindings/c, "
-                "or set JCOBS_LIB_DIR to the folder that has it"
-            )
-        ext.extra_objects = [str(found)]
-        ext.depends = [*ext.depends, str(found)]
-        super().build_extension(ext)
+def extensions():
+    """The extension over the library or over its source, or nothing: then the package is plain Python."""
+    linux = sys.platform.startswith("linux")
+    asked = os.environ.get("JCOBS_BACKEND")
+    found = library(MACHINE) if linux and asked != "compiled" else None
+    stable_abi = sys.implementation.name == "cpython" and not sysconfig.get_config_var("Py_GIL_DISABLED")
+    if asked in ("prebuilt", "compiled") and not (found if asked == "prebuilt" else source()):
+        sys.exit(f"jcobs: there is no library that is {asked} for {sys.platform} on {MACHINE}")
+    if not stable_abi or asked == "python" or not (found or source()):
+        return []
+    sources = sorted(str(path.relative_to(HERE)) for path in (HERE / "src/_core").glob("*.c"))
+    return [
+        Extension(
+            "jcobs._core",
+            sources=sources if found else [*sources, os.path.relpath(source(), HERE)],
+            depends=["src/_core/core.h", *([str(found)] if found else [])],
+            include_dirs=[str(include())],
+            define_macros=[("Py_LIMITED_API", "0x03090000"), *([] if found else [("JCOBS_COMPILED", "1")])],
+            extra_objects=[str(found)] if found else [],
+            extra_compile_args=["-std=c99", "-fvisibility=hidden"] if linux else [],
+            extra_link_args=["-Wl,--exclude-libs,ALL"] if linux else [],
+            py_limited_api=True,
+            optional=not asked,
+        )
+    ]
+
+
+class WheelForWhatWasBuilt(bdist_wheel):
+    """A wheel for every Python and system if nothing was compiled."""
+
+    def get_tag(self):
+        built = self.get_finalized_command("build_ext")
+        compiled = any(Path(built.get_ext_fullpath(ext.name)).is_file() for ext in built.extensions or [])
+        return super().get_tag() if compiled else ("py3", "none", "any")
 
 
 class SdistWithLibrary(sdist):
-    """A source distribution that carries the header, the libraries and the licences."""
+    """A source distribution that carries the header, the libraries, the source and the licences."""
 
     def make_release_tree(self, base_dir, files):
         super().make_release_tree(base_dir, files)
         carried = Path(base_dir) / CARRIED.name
         (carried / "include").mkdir(parents=True, exist_ok=True)
         shutil.copy(include() / "jcobs.h", carried / "include")
+        if source():
+            shutil.copy(source(), carried)
         for machine in MACHINES:
             found = library(machine)
             if found is not None:
@@ -72,19 +113,10 @@ class SdistWithLibrary(sdist):
 
 
 if __name__ == "__main__":
+    modules = extensions()
     setup(
-        cmdclass={"build_ext": BuildOverLibrary, "sdist": SdistWithLibrary},
-        options={"bdist_wheel": {"py_limited_api": "cp39"}},
-        ext_modules=[
-            Extension(
-                "jcobs._core",
-                sources=sorted(str(path.relative_to(HERE)) for path in (HERE / "src/_core").glob("*.c")),
-                depends=["src/_core/core.h"],
-                include_dirs=[str(include())],
-                define_macros=[("Py_LIMITED_API", "0x03090000")],
-                extra_compile_args=["-std=c99", "-fvisibility=hidden"],
-                extra_link_args=["-Wl,--exclude-libs,ALL"],
-                py_limited_api=True,
-            )
-        ],
+        cmdclass={"sdist": SdistWithLibrary, "bdist_wheel": WheelForWhatWasBuilt},
+        # built anew each time, as what was built before may be over another library
+        options={"build_ext": {"force": True}, "bdist_wheel": {"py_limited_api": "cp39"}} if modules else {},
+        ext_modules=modules,
     )

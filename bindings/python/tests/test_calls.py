@@ -13,7 +13,7 @@ from hypothesis import strategies as st
 import jcobs
 
 MESSAGES = st.one_of(
-    st.binary(max_size=600),
+    st.binary(max_size=100),
     # long runs without zeros, as full blocks need them
     st.lists(st.tuples(st.integers(0, 600), st.integers(0, 3)), max_size=4).map(
         lambda runs: b"".join(b"\x01" * ones + b"\0" * zeros for ones, zeros in runs)
@@ -90,6 +90,24 @@ def test_wider_items_and_mapped_memory():
         assert jcobs.encode(mapped) == jcobs.encode(b"hello" + bytes(4091))
     grid = memoryview(bytes(range(12))).cast("B", (3, 4))
     assert jcobs.encode(grid) == jcobs.encode(bytes(range(12)))
+
+
+@pytest.mark.parametrize("size", [0, 5, 100_000])
+def test_a_buffer_can_be_resized_after_a_call(size):
+    data = bytearray(b"a" * size)
+    frame = jcobs.encode(data)
+    data.extend(b"\0b")
+    assert jcobs.decode(frame) == b"a" * size
+    assert jcobs.decode(jcobs.encode(data)) == data
+    stream = bytearray(frame + b"\0")
+    decoder = jcobs.Decoder(max_length=size)
+    assert decoder.feed(stream) == [jcobs.Message(b"a" * size)]
+    del stream[len(stream) // 2 :]
+    broken = bytearray(b"\x05a")
+    with pytest.raises(jcobs.DecodeError):
+        jcobs.decode(broken)
+    broken.clear()
+    assert decoder.feed(stream) == [] and broken == b""
 
 
 def test_a_buffer_is_free_after_the_call():

@@ -74,7 +74,7 @@ def test_no_pyserial(tmp_path):
         [sys.executable, "-m", "jcobs", "--port", "/dev/null"],
         capture_output=True,
         text=True,
-        env={**os.environ, "PYTHONPATH": str(tmp_path)},
+        env={**os.environ, "PYTHONPATH": os.pathsep.join([str(tmp_path), os.environ.get("PYTHONPATH", "")])},
     )
     assert (ran.returncode, ran.stderr) == (1, "jcobs: --port needs pyserial: pip install pyserial\n")
 
@@ -87,16 +87,11 @@ def test_output_that_no_one_reads():
 
 
 @pytest.fixture
-def port():
+def port(terminals):
     """The name of a pseudo-terminal, and its other end."""
     pytest.importorskip("serial")
-    tty = pytest.importorskip("tty")
-    other, device = os.openpty()
-    tty.setraw(other)
-    tty.setraw(device)
-    with os.fdopen(other, "r+b", buffering=0) as end:
-        yield os.ttyname(device), end
-    os.close(device)
+    device, end = terminals
+    return os.ttyname(device), end
 
 
 def test_show_a_port(port):

@@ -2,12 +2,11 @@
 
 import doctest
 import importlib
-import io
 import os
 import re
 import subprocess
 import sys
-import types
+import threading
 from pathlib import Path
 
 import pytest
@@ -19,7 +18,7 @@ README = Path(__file__).resolve().parent.parent / "README.md"
 
 @pytest.mark.parametrize(
     "name, least",
-    [("jcobs", 4), ("jcobs._frames", 8), ("jcobs._streams", 13), ("jcobs._readers", 6), ("jcobs.compat", 5)],
+    [("jcobs", 4), ("jcobs._frames", 8), ("jcobs._streams", 13), ("jcobs._readers", 14), ("jcobs.compat", 5)],
 )
 def test_docstrings(name, least):
     module = importlib.import_module(name)
@@ -42,21 +41,39 @@ def readme_blocks(language):
 
 
 def test_readme_examples():
-    block = readme_blocks("python")[0]
+    block = readme_blocks("python")[2]
     runner = doctest.DocTestRunner()
     runner.run(doctest.DocTestParser().get_doctest(block, {}, "README.md", str(README), 0))
     assert runner.summarize(verbose=False) == (0, 5)
 
 
-def test_readme_port(monkeypatch, capsys):
-    class Port(io.BytesIO):
-        def write(self, data):
-            assert data == b"\x08status?\0"
+def test_readme_request_and_reply(terminals, monkeypatch, capsys):
+    """The first two blocks, with a device at a pseudo-terminal that is asked for its state and replies."""
+    serial = pytest.importorskip("serial")
+    descriptor, end = terminals
+    port = serial.Serial(os.ttyname(descriptor), timeout=2)  # which ends the loop
+    monkeypatch.setattr(serial, "Serial", lambda name, baud: port)
+    device = jcobs.FrameReader(end)
+    names = {}
 
-    serial = types.SimpleNamespace(Serial=lambda name, baud: Port(b"\x03ok\0\x05a\0"))
-    monkeypatch.setitem(sys.modules, "serial", serial)
-    exec(readme_blocks("python")[1], {})
-    assert capsys.readouterr().out == "b'ok'\ndamaged: Broken(b'a')\n"
+    def reply():
+        assert device.read(timeout=60) == jcobs.Message(b"status?")
+        for part in (b"\x03o", b"k\0", b"\x05a\0"):
+            end.write(part)
+
+    thread = threading.Thread(target=reply)
+    exec(readme_blocks("python")[0].replace("0.5", "60"), names)
+    thread.start()
+    with port:
+        exec(readme_blocks("python")[1], names)
+        thread.join()
+        assert capsys.readouterr().out == "b'ok'\nBroken(b'a')\n"
+        end.write(b"\x05a\0")
+        with pytest.raises(ValueError, match=r"damaged: Broken\(b'a'\)"):
+            names["ask"](names["device"], b"status?")
+        exec(readme_blocks("python")[0].replace("0.5", "0.01"), names)
+        with pytest.raises(TimeoutError, match="no reply"):
+            names["ask"](names["device"], b"status?")
 
 
 def test_readme_commands():

@@ -1,9 +1,13 @@
-"""FrameReader and AsyncFrameReader: files, pipes, serial ports, asyncio streams."""
+"""FrameReader: files, pipes, sockets, serial ports."""
 
-import asyncio
+import contextlib
+import errno
 import io
+import itertools
 import os
+import socket
 import threading
+import time
 
 import pytest
 
@@ -56,6 +60,23 @@ def test_nothing_is_lost_between_iterations():
     assert list(reader) == []
 
 
+def test_read_gives_one_outcome_and_the_end_is_no_timeout():
+    reader = jcobs.FrameReader(io.BytesIO(STREAM), max_length=5)
+    assert [reader.read(), next(reader), reader.read(timeout=1)] == OUTCOMES
+    for timeout in (None, 0, 1):
+        with pytest.raises(EOFError, match="the stream ended inside a frame"):
+            reader.read(timeout)
+    with pytest.raises(StopIteration):
+        next(reader)
+    with pytest.raises(EOFError, match="the stream ended$"):
+        jcobs.FrameReader(io.BytesIO(b"")).read()
+
+
+def test_messages_alone():
+    reader = jcobs.FrameReader(io.BytesIO(STREAM[:4] + STREAM), max_length=5)
+    assert list(reader.messages()) == [b"hi", b"hi"]
+
+
 class Failing:
     def __init__(self):
         self.reads = [b"\x03h", KeyboardInterrupt(), b"i\0", b""]
@@ -74,17 +95,158 @@ def test_nothing_is_lost_by_a_read_that_fails():
     assert list(reader) == [jcobs.Message(b"hi")]
 
 
-@pytest.fixture
-def pair():
-    """A serial port, and a file to write to its other end."""
-    serial = pytest.importorskip("serial")
-    tty = pytest.importorskip("tty")
-    other, device = os.openpty()
-    tty.setraw(other)
-    tty.setraw(device)
-    with serial.Serial(os.ttyname(device)) as port, os.fdopen(other, "r+b", buffering=0) as end:
-        os.close(device)
-        yield port, end
+def test_messages_go_on_after_a_read_that_fails():
+    messages = jcobs.FrameReader(Failing()).messages()
+    with pytest.raises(KeyboardInterrupt):
+        next(messages)
+    assert list(messages) == [b"hi"]
+
+
+@contextlib.contextmanager
+def ends(kind):
+    """What a reader reads from, and a raw file that writes to it."""
+    if kind.startswith("socket"):
+        here, there = socket.socketpair()
+        with here, there, there.makefile("wb", buffering=0) as end:
+            yield (here if kind == "socket" else here.makefile("rb", buffering=-1)), end
+            return
+    source, sink = os.pipe()
+    with os.fdopen(source, "rb", buffering=-1 if "buffered" in kind else 0) as file, os.fdopen(sink, "wb", 0) as end:
+        yield file, end
+
+
+KINDS = ["pipe", "buffered pipe", "socket", "socket as a file"]
+
+
+@pytest.mark.parametrize("kind", KINDS)
+def test_a_timeout_is_not_the_end(kind):
+    with ends(kind) as (file, end):
+        reader = jcobs.FrameReader(file)
+        for _ in range(2):
+            assert reader.read(timeout=0) is reader.read(timeout=0.01) is None
+        end.write(b"\x03h")
+        assert reader.read(timeout=0.01) is None and reader.unfinished
+        end.write(b"i\0\x03ho\0")
+        assert [reader.read(timeout=9), reader.read(timeout=0)] == [jcobs.Message(b"hi"), jcobs.Message(b"ho")]
+        assert reader.read(timeout=0.01) is None
+        end.write(jcobs.encode(b"last", terminated=True))
+        end.close()
+        if kind == "socket":
+            file.shutdown(socket.SHUT_RDWR)
+        assert reader.read() == jcobs.Message(b"last")
+        if kind != "socket as a file":
+            with pytest.raises(EOFError):
+                reader.read(timeout=9)
+
+
+@pytest.mark.parametrize("kind", ["pipe", "socket"])
+def test_a_reader_that_does_not_wait(kind):
+    with ends(kind) as (file, end):
+        (file.setblocking if kind == "socket" else lambda no: os.set_blocking(file.fileno(), no))(False)
+        reader = jcobs.FrameReader(file)
+        assert reader.read() is None and list(reader) == []
+        end.write(b"\x03hi\0")
+        assert reader.read() == jcobs.Message(b"hi") and reader.read() is None
+        assert reader.read(timeout=0.01) is None
+
+
+def test_the_timeout_of_a_socket():
+    with ends("socket") as (sock, end):
+        sock.settimeout(0.02)
+        reader = jcobs.FrameReader(sock)
+        assert reader.read() is None and list(reader) == []
+        end.write(b"\x03hi\0")
+        assert list(reader) == [jcobs.Message(b"hi")]
+        assert sock.gettimeout() == 0.02
+
+
+def test_a_connection_that_is_lost_is_no_timeout():
+    class Lost:
+        def recv(self, size):
+            raise OSError(errno.ETIMEDOUT, "Connection timed out")
+
+    with pytest.raises(TimeoutError):
+        jcobs.FrameReader(Lost()).read()
+
+
+@pytest.mark.parametrize("kind", ["pipe", "socket"])
+def test_a_timeout_is_for_the_whole_frame(kind):
+    stop = threading.Event()
+    with ends(kind) as (file, end):
+
+        def trickle():
+            while not stop.wait(0.01):
+                end.write(b"\x01")
+
+        writer = threading.Thread(target=trickle)
+        writer.start()
+        try:
+            begin = time.monotonic()
+            assert jcobs.FrameReader(file).read(timeout=0.1) is None
+            assert 0.09 < time.monotonic() - begin < 60
+        finally:
+            stop.set()
+            writer.join()
+
+
+def test_wrong_timeouts():
+    for timeout in (-1, float("nan")):
+        with pytest.raises(ValueError, match="timeout must not be negative"):
+            jcobs.FrameReader(io.BytesIO()).read(timeout)
+    with pytest.raises(TypeError, match="Failing has no fileno"):
+        jcobs.FrameReader(Failing()).read(timeout=1)
+
+
+def test_a_socket_in_full():
+    messages = [os.urandom(length % 300) for length in range(0, 40_000, 7)]
+    with ends("socket") as (sock, end):
+        sender = jcobs.FrameReader(end, sentinel=9)
+
+        def send():
+            for message in messages:
+                sender.write(message)
+            end.close()
+
+        writer = threading.Thread(target=send)
+        writer.start()
+        assert list(itertools.islice(jcobs.FrameReader(sock, sentinel=9).messages(), len(messages))) == messages
+        writer.join()
+
+
+def test_write(tmp_path):
+    frame = b"\x06hello\0"
+    for make in (io.BytesIO, lambda: io.BufferedRandom(io.FileIO(tmp_path / "frames", "w+"))):
+        file = make()
+        jcobs.FrameReader(file).write(bytearray(b"hello"))
+        if isinstance(file, io.BufferedRandom):
+            assert (tmp_path / "frames").read_bytes() == frame  # it is flushed
+        else:
+            assert file.getvalue() == frame
+    with pytest.raises(io.UnsupportedOperation):
+        jcobs.FrameReader((tmp_path / "frames").open("rb")).write(b"hello")
+
+
+class Slow(io.RawIOBase):
+    """A raw file that takes 3 bytes at a time, and no more than it has room for."""
+
+    def __init__(self, room):
+        self.room, self.written = room, b""
+
+    def writable(self):
+        return True
+
+    def write(self, data):
+        count = min(3, self.room - len(self.written))
+        self.written += bytes(data[:count])
+        return count or None
+
+
+def test_write_to_a_file_that_takes_some_bytes():
+    slow = Slow(100)
+    jcobs.FrameReader(slow).write(b"hello")
+    assert slow.written == b"\x06hello\0"
+    with pytest.raises(BlockingIOError, match="with 2 bytes of the frame left"):
+        jcobs.FrameReader(Slow(5)).write(b"hello")
 
 
 def test_serial_port(pair):
@@ -98,6 +260,21 @@ def test_serial_port(pair):
     assert next(outcomes) == jcobs.Message(b"\x01")
     port.write(jcobs.encode(b"back", terminated=True))
     assert next(iter(jcobs.FrameReader(end))) == jcobs.Message(b"back")
+
+
+def test_request_and_reply_over_a_serial_port(pair):
+    port, end = pair
+    port.timeout = 30
+    reader, device = jcobs.FrameReader(port), jcobs.FrameReader(end)
+    assert reader.read(timeout=0) is reader.read(timeout=0.05) is None
+    for number in range(50):
+        reader.write(b"%d" % number)
+        request = device.read(timeout=30)
+        end.write(b"\x05a\0")
+        device.write(request.data + b"\0")
+        assert reader.read(timeout=30) == jcobs.Broken(b"a")
+        assert reader.read(timeout=30) == jcobs.Message(b"%d\0" % number)
+    assert port.timeout == 30
 
 
 def test_the_timeout_of_a_serial_port_ends_the_iteration(pair):
@@ -123,61 +300,3 @@ def test_serial_port_in_full(pair):
     outcomes = iter(jcobs.FrameReader(port))
     assert [next(outcomes).data for _ in messages] == messages
     writer.join()
-
-
-def test_asyncio():
-    async def run():
-        stream = asyncio.StreamReader()
-        reader = jcobs.AsyncFrameReader(stream, max_length=5)
-        found = []
-
-        async def collect():
-            async for outcome in reader:
-                found.append(outcome)
-
-        task = asyncio.ensure_future(collect())
-        for at in range(len(STREAM)):
-            stream.feed_data(STREAM[at : at + 1])
-            await asyncio.sleep(0)
-            await asyncio.sleep(0)
-            if at == 3:
-                assert found == OUTCOMES[:1]
-        stream.feed_eof()
-        await task
-        return found, reader.unfinished
-
-    assert asyncio.run(run()) == (OUTCOMES, True)
-
-
-def test_asyncio_cancelled():
-    async def run():
-        stream = asyncio.StreamReader()
-        reader = jcobs.AsyncFrameReader(stream)
-        stream.feed_data(b"\x03h")
-        with pytest.raises(asyncio.TimeoutError):
-            await asyncio.wait_for(reader.__aiter__().__anext__(), 0.05)
-        stream.feed_data(b"i\0\x03ho\0")
-        stream.feed_eof()
-        return [await reader.__aiter__().__anext__(), [outcome async for outcome in reader]]
-
-    assert asyncio.run(run()) == [jcobs.Message(b"hi"), [jcobs.Message(b"ho")]]
-
-
-def test_asyncio_over_a_socket():
-    async def run():
-        async def serve(reader, writer):
-            async for outcome in jcobs.AsyncFrameReader(reader):
-                writer.write(jcobs.encode(outcome.data.upper(), terminated=True))
-            writer.close()
-
-        server = await asyncio.start_server(serve, "127.0.0.1", 0)
-        reader, writer = await asyncio.open_connection(*server.sockets[0].getsockname()[:2])
-        for message in (b"one", b"two"):
-            writer.write(jcobs.encode(message, terminated=True))
-        writer.write_eof()
-        found = [outcome.data async for outcome in jcobs.AsyncFrameReader(reader)]
-        writer.close()
-        server.close()
-        return found
-
-    assert asyncio.run(run()) == [b"ONE", b"TWO"]

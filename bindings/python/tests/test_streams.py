@@ -1,6 +1,7 @@
 """Decoder, Encoder and the outcomes."""
 
 import copy
+import io
 import pickle
 import random
 
@@ -11,7 +12,11 @@ from hypothesis import strategies as st
 
 import jcobs
 
-PIECES = st.one_of(st.binary(max_size=8), st.binary(max_size=300).map(jcobs.encode), st.just(jcobs.encode(b"\1" * 509)))
+PIECES = st.one_of(
+    st.binary(max_size=8),
+    st.binary(max_size=40).map(jcobs.encode),
+    st.integers(250, 510).map(lambda ones: jcobs.encode(b"\1" * ones)),
+)
 STREAMS = st.lists(PIECES, max_size=6).map(b"\0".join)
 
 
@@ -34,7 +39,11 @@ def test_decoder_gives_the_outcome_of_each_piece(stream, places, max_length, sen
     assert decoder.feed(jcobs.encode(b"", sentinel=sentinel, terminated=True)) == [jcobs.Message(b"")]
 
 
-@given(st.lists(st.binary(max_size=300), max_size=5), st.integers(0, 255), st.booleans())
+@given(
+    st.lists(st.one_of(st.binary(max_size=40), st.integers(1, 300).map(bytes), st.integers(1, 300).map(b"\1".__mul__))),
+    st.integers(0, 255),
+    st.booleans(),
+)
 def test_encoder_gives_the_frame_of_the_pieces(pieces, sentinel, terminated):
     message = b"".join(pieces)
     encoder = jcobs.Encoder(len(message), sentinel)
@@ -86,7 +95,9 @@ def test_outcomes(kind):
     assert outcome == kind(data=b"hi") and outcome != kind(b"ho") and hash(outcome) == hash(kind(b"hi"))
     assert all(outcome != other(b"hi") for other in {jcobs.Message, jcobs.Broken, jcobs.TooLong} - {kind})
     assert outcome != b"hi" and kind.__match_args__ == ("data",)
-    assert pickle.loads(pickle.dumps(outcome)) == outcome == copy.deepcopy(outcome)
+    assert outcome == copy.copy(outcome) == copy.deepcopy(outcome)
+    for protocol in range(pickle.HIGHEST_PROTOCOL + 1):
+        assert pickle.loads(pickle.dumps(outcome, protocol)) == outcome
     with pytest.raises(AttributeError):
         outcome.data = b""
     with pytest.raises(AttributeError):
@@ -96,3 +107,21 @@ def test_outcomes(kind):
             kind(*arguments)
     with pytest.raises(TypeError):
         outcome < outcome
+
+
+@pytest.mark.parametrize("make", [jcobs.Decoder, jcobs.Encoder, lambda: jcobs.FrameReader(io.BytesIO())])
+def test_what_cannot_be_copied(make):
+    for copied in (copy.copy, copy.deepcopy, pickle.dumps):
+        with pytest.raises(TypeError, match="objects cannot be copied or pickled"):
+            copied(make())
+
+
+class Named(jcobs.Message):
+    """A class of a user, whose objects have more to them."""
+
+
+def test_a_class_of_a_user_is_copied_whole():
+    named = Named(b"hi")
+    named.name = "greeting"
+    for again in (copy.copy(named), *(pickle.loads(pickle.dumps(named, protocol)) for protocol in range(3))):
+        assert (type(again), again.data, again.name) == (Named, b"hi", "greeting")

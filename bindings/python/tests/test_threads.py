@@ -1,16 +1,28 @@
 """Threads, interruptions and subinterpreters."""
 
+import gc
 import signal
 import subprocess
 import sys
 import textwrap
 import threading
+import time
 
 import pytest
 
 import jcobs
 
-LONG = b"\x01" * 40_000_000
+PLAIN = jcobs.backend == "python"
+LONG = b"\x01" * (400_000 if PLAIN else 40_000_000)
+only_extension = pytest.mark.skipif(PLAIN, reason="Python code has the GIL, and lets others run")
+
+
+@pytest.fixture
+def fast_switches():
+    interval = sys.getswitchinterval()
+    sys.setswitchinterval(0.0005)
+    yield
+    sys.setswitchinterval(interval)
 
 
 def lets_others_run(call):
@@ -28,6 +40,7 @@ def lets_others_run(call):
     return released
 
 
+@only_extension
 @pytest.mark.parametrize("make", [bytes, bytearray])
 @pytest.mark.parametrize(
     "call",
@@ -51,11 +64,60 @@ def test_short_calls_keep_the_gil():
     assert not lets_others_run(lambda: [jcobs.encode(b"hello") for _ in range(1000)])
 
 
+SMALL = b"a small frame"
+MANY = jcobs.encode(SMALL, terminated=True) * (20_000 if PLAIN and sys.implementation.name == "cpython" else 500_000)
+
+
+def fed(seen):
+    """Feeds many small frames, and returns for each one how many times `seen` had SMALL when its outcome was made.
+
+    The call that counts is no Python code: so it lets no other thread and no signal handler run.
+    """
+    return jcobs._backend.core.Decoder(16, 0).feed(MANY, (seen.count,) * 3)
+
+
+def test_feed_of_many_small_frames_lets_others_run(fast_switches):
+    for _ in range(20):
+        seen, found = [], []
+        worker = threading.Thread(target=lambda: found.extend(fed(seen)))
+        worker.start()
+        while worker.is_alive():
+            seen.append(SMALL)
+            time.sleep(0.001)
+        if len(set(found)) > 2:
+            return
+    pytest.fail("no other thread ran while feed was at work")
+
+
+def test_feed_of_many_small_frames_hears_signals():
+    seen = []
+    before = signal.signal(signal.SIGUSR1, lambda number, frame: seen.append(SMALL))
+    try:
+        for _ in range(20):
+            timer = threading.Timer(0.01, signal.pthread_kill, (threading.main_thread().ident, signal.SIGUSR1))
+            timer.start()
+            found = fed(seen)
+            timer.join()
+            if len(set(found)) > 1:
+                return
+    finally:
+        signal.signal(signal.SIGUSR1, before)
+    pytest.fail("feed heard no signal before it was done")
+
+
+def use(coder):
+    """Has the coder at work for long."""
+    coder.feed(LONG)
+    if PLAIN and isinstance(coder, jcobs.Encoder):
+        coder.finish()
+    coder.reset()
+
+
 @pytest.mark.parametrize(
     "coder, calls",
     [
         (jcobs.Decoder(len(LONG)), ["feed", "reset", "unfinished"]),
-        (jcobs.Encoder(1 << 34 if sys.maxsize > 1 << 40 else len(LONG)), ["feed", "finish", "reset"]),
+        (jcobs.Encoder(2 * len(LONG)), ["feed", "finish", "reset"]),
     ],
     ids=["Decoder", "Encoder"],
 )
@@ -67,8 +129,7 @@ def test_a_coder_in_use_raises(coder, calls):
         def work():
             while not stop.is_set():
                 try:
-                    coder.feed(LONG)
-                    coder.reset()
+                    use(coder)
                 except RuntimeError:  # the other thread was faster
                     pass
 
@@ -106,7 +167,7 @@ def test_threads_with_coders_of_their_own():
 
 
 def test_data_that_another_thread_changes():
-    data = bytearray(b"\x01" * 3_000_000)
+    data = bytearray(b"\x01" * (30_000 if PLAIN else 3_000_000))
     stop = threading.Event()
 
     def change():
@@ -138,6 +199,8 @@ def test_interrupted_feed_leaves_a_decoder_that_works():
         raise Interruption
 
     decoder = jcobs.Decoder(16)
+    gc.collect()  # an exception in what garbage calls back would be dropped
+    gc.disable()
     before = signal.signal(signal.SIGALRM, interrupt)
     interrupted = 0
     try:
@@ -153,14 +216,13 @@ def test_interrupted_feed_leaves_a_decoder_that_works():
     finally:
         signal.setitimer(signal.ITIMER_REAL, 0)
         signal.signal(signal.SIGALRM, before)
+        gc.enable()
     assert interrupted == 59
 
 
 def test_a_decoder_that_is_fed_while_it_makes_outcomes():
     """A class that calls back into the decoder finds it in use; the error leaves it as new."""
-    from jcobs import _core
-
-    core = _core.Decoder(16, 0)
+    core = jcobs._backend.core.Decoder(16, 0)
 
     class Back:
         def __init__(self, data):

@@ -2,8 +2,11 @@
 
 import asyncio
 import io
+import pathlib
+import socket
+import subprocess
 from array import array
-from typing import List, Union
+from typing import List, Optional, Union
 
 import jcobs
 from jcobs import compat
@@ -42,12 +45,26 @@ def coders() -> int:
 
 
 def readers() -> List[bytes]:
-    return [outcome.data for outcome in jcobs.FrameReader(io.BytesIO(b"\x03hi\0"))]
+    reader = jcobs.FrameReader(io.BytesIO(b"\x03hi\0"))
+    one: Optional[jcobs.Outcome] = reader.read(timeout=0.5)
+    reader.write(next(reader).data if one is None else one.data)
+    return [*(outcome.data for outcome in reader), *reader.messages()]
 
 
-async def stream_reader(stream: asyncio.StreamReader) -> List[bytes]:
-    return [outcome.data async for outcome in jcobs.AsyncFrameReader(stream)]
+def ends(sock: socket.socket, path: pathlib.Path) -> List[jcobs.FrameReader]:
+    pipe = subprocess.Popen(["true"], stdout=subprocess.PIPE).stdout
+    assert pipe is not None
+    return [jcobs.FrameReader(sock), jcobs.FrameReader(path.open("rb")), jcobs.FrameReader(pipe)]
+
+
+async def stream_reader(stream: asyncio.StreamReader, writer: asyncio.StreamWriter) -> List[bytes]:
+    reader = jcobs.AsyncFrameReader(stream, writer=writer)
+    await reader.write(b"hi")
+    one: Optional[jcobs.Outcome] = await reader.read(timeout=0.5)
+    found = [outcome.data async for outcome in reader] + [message async for message in reader.messages()]
+    return found if one is None else [one.data, *found]
 
 
 if jcobs.frame_kind(b"") == "no such kind":  # type: ignore[comparison-overlap]
     raise AssertionError
+backend: str = jcobs.backend

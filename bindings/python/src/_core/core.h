@@ -16,18 +16,33 @@
 /* From this length on a call releases the GIL. A shorter one takes a few microseconds. */
 #define LONG 32768
 
-/* Returns `data` as a bytes object. Bytes are taken as they are; anything else with a buffer is copied, so that no
- * other thread or process can change the bytes while a call reads them. */
-PyObject *bytes_of(PyObject *data);
+/* How many bytes of a chunk a decoder takes before other threads and signal handlers have their turn. */
+#define TURN 65536
+
+/* A call that is passed its arguments as an array. The stable ABI names it from 3.10 on; 3.9 has it too. */
+#ifndef METH_FASTCALL
+#define METH_FASTCALL 0x0080
+#endif
+#define FAST(function) ((PyCFunction)(void (*)(void))(function))
+
+/* Returns an argument as a bytes object. Bytes are taken as they are; anything else with a buffer is copied, so that
+ * no other thread or process can change the bytes while a call reads them. */
+PyObject *bytes_of(PyObject *data, const char *name);
+
+/* Raises TypeError unless a call has this many arguments. */
+int has_count(Py_ssize_t count, Py_ssize_t wanted);
 
 /* Returns the bytes of a bytes object, for libjcobs. */
 unsigned char *start_of(PyObject *bytes);
 
-/* Converts an argument to a sentinel, for PyArg_ParseTuple. */
-int sentinel_of(PyObject *number, void *result);
+/* Converts an argument to a sentinel, or returns 0 with an error. */
+int sentinel_of(PyObject *number, unsigned char *result);
 
-/* Converts an argument to a length, for PyArg_ParseTuple. */
-int length_of(PyObject *number, void *result);
+/* Converts an argument to a length, or returns 0 with an error. */
+int length_of(PyObject *number, const char *name, size_t *result);
+
+/* Converts the arguments of a coder, max_length and sentinel, or returns 0 with an error. */
+int coder_arguments(PyObject *args, size_t *max_length, unsigned char *sentinel);
 
 /* Releases the GIL if the input is long. */
 PyThreadState *release(size_t len);
@@ -38,7 +53,8 @@ void restore(PyThreadState *thread);
 /* Returns a new bytes object of this length, to be written to, or NULL with MemoryError. */
 PyObject *room_of(size_t len);
 
-/* Cuts a bytes object that room_of returned to a length, and returns it, or NULL with MemoryError. */
+/* Shortens a bytes object that room_of returned, and returns it. The stable ABI has no call for that, but it has the
+ * size of an object. The rest of the memory stays unused: here at most 1 byte in 254. */
 PyObject *cut(PyObject *bytes, size_t len);
 
 /* Pushes bytes of a stream of frames for any sentinel. */
@@ -63,6 +79,9 @@ int buffer_make(Buffer *buffer, size_t len);
 
 /* Takes the buffer for a call, or returns 0 with RuntimeError if another one is at work. The GIL is held. */
 int buffer_take(Buffer *buffer, const char *coder);
+
+/* Returns a new object of a class for data, or NULL with an error. */
+PyObject *outcome_of(PyObject *class, PyObject *data);
 
 extern PyType_Spec outcome_spec;
 extern PyType_Spec decoder_spec;

@@ -16,7 +16,7 @@ static PyObject *decoder_new(PyTypeObject *type, PyObject *args, PyObject *kwarg
     Decoder *self;
 
     (void)kwargs;
-    if (!PyArg_ParseTuple(args, "O&O&:Decoder", length_of, &max_length, sentinel_of, &sentinel))
+    if (!coder_arguments(args, &max_length, &sentinel))
         return NULL;
     self = new_object(type);
     if (self == NULL)
@@ -55,7 +55,7 @@ static int decoder_append(Decoder *self, PyObject *list, PyObject *classes, jcob
     PyObject *data = PyBytes_FromStringAndSize((char *)self->buffer.start, (Py_ssize_t)answer.length);
 
     if (class != NULL && data != NULL)
-        outcome = PyObject_CallFunctionObjArgs(class, data, NULL);
+        outcome = outcome_of(class, data);
     if (outcome != NULL)
         done = PyList_Append(list, outcome);
     Py_XDECREF(outcome);
@@ -63,36 +63,50 @@ static int decoder_append(Decoder *self, PyObject *list, PyObject *classes, jcob
     return done;
 }
 
-/* feed(chunk, classes): a list of objects of the three classes. An error comes at the end of a frame, so the decoder
- * is then as new; the rest of the chunk is dropped. */
-static PyObject *decoder_feed(PyObject *object, PyObject *args)
+/* Lets other threads run, and the handlers of signals, or returns -1 with the error that one raised. */
+static int have_turn(void)
 {
-    Decoder *self = (Decoder *)object;
-    PyObject *data, *classes, *chunk, *list;
-    size_t at = 0, len;
-    const unsigned char *bytes;
+    PyEval_RestoreThread(PyEval_SaveThread());
+    return PyErr_CheckSignals();
+}
 
-    if (!PyArg_UnpackTuple(args, "feed", 2, 2, &data, &classes))
-        return NULL;
-    chunk = bytes_of(data);
-    if (chunk == NULL)
-        return NULL;
-    list = PyList_New(0);
-    if (list == NULL || !buffer_take(&self->buffer, "decoder")) {
-        Py_XDECREF(list);
-        Py_DECREF(chunk);
-        return NULL;
-    }
-    len = (size_t)PyBytes_Size(chunk);
-    bytes = start_of(chunk);
+/* Decodes a chunk, and returns the list of outcomes. */
+static PyObject *decoder_outcomes(Decoder *self, PyObject *chunk, PyObject *classes)
+{
+    size_t at = 0, turn = TURN, len = (size_t)PyBytes_Size(chunk);
+    const unsigned char *bytes = start_of(chunk);
+    PyObject *list = PyList_New(0);
+
     while (at < len && list != NULL) {
         jcobs_answer answer = decoder_step(self, bytes + at, len - at);
+        int done = answer.status == JCOBS_MORE ? 0 : decoder_append(self, list, classes, answer);
+
         at += answer.consumed;
-        if (answer.status != JCOBS_MORE && decoder_append(self, list, classes, answer) < 0)
+        if (done == 0 && at >= turn && at < len) {
+            turn = at + TURN;
+            done = have_turn();
+        }
+        if (done < 0)
             Py_CLEAR(list);
     }
-    self->buffer.busy = 0;
-    Py_DECREF(chunk);
+    return list;
+}
+
+/* feed(chunk, classes): a list of objects of the three classes. An error comes at the end of a frame, so the decoder
+ * is then as new; the rest of the chunk is dropped. */
+static PyObject *decoder_feed(PyObject *object, PyObject *const *args, Py_ssize_t count)
+{
+    Decoder *self = (Decoder *)object;
+    PyObject *chunk, *list = NULL;
+
+    if (!has_count(count, 2))
+        return NULL;
+    chunk = bytes_of(args[0], "chunk");
+    if (chunk != NULL && buffer_take(&self->buffer, "decoder")) {
+        list = decoder_outcomes(self, chunk, args[1]);
+        self->buffer.busy = 0;
+    }
+    Py_XDECREF(chunk);
     return list;
 }
 
@@ -122,7 +136,7 @@ static PyObject *decoder_unfinished(PyObject *object, void *closure)
 }
 
 static PyMethodDef decoder_methods[] = {
-    {"feed", decoder_feed, METH_VARARGS, NULL},
+    {"feed", FAST(decoder_feed), METH_FASTCALL, NULL},
     {"reset", decoder_reset, METH_NOARGS, NULL},
     {NULL, NULL, 0, NULL},
 };

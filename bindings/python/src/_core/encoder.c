@@ -22,7 +22,7 @@ static PyObject *encoder_new(PyTypeObject *type, PyObject *args, PyObject *kwarg
     Encoder *self;
 
     (void)kwargs;
-    if (!PyArg_ParseTuple(args, "O&O&:Encoder", length_of, &max_length, sentinel_of, &sentinel))
+    if (!coder_arguments(args, &max_length, &sentinel))
         return NULL;
     self = new_object(type);
     if (self == NULL)
@@ -47,7 +47,7 @@ static void encoder_dealloc(PyObject *self)
 static PyObject *encoder_feed(PyObject *object, PyObject *data)
 {
     Encoder *self = (Encoder *)object;
-    PyObject *piece = bytes_of(data);
+    PyObject *piece = bytes_of(data, "data");
     size_t len;
     int fits;
 

@@ -1,23 +1,22 @@
 /* The module: its functions, and how it is made. */
 #include <stdlib.h>
+#include <string.h>
+#if defined(__x86_64__) && !defined(JCOBS_COMPILED)
+#include <cpuid.h>
+#endif
 
 #include "core.h"
 
-/* Decodes the first frame of the source for any sentinel, as jcobs_decode does for 0. */
-static jcobs_answer decode_first(const unsigned char *source, size_t len, unsigned char *message,
+/* Decodes a frame for any sentinel, without sentinels in it. The room always suffices. */
+static jcobs_answer decode_frame(const unsigned char *frame, size_t len, unsigned char *message, size_t room,
                                  unsigned char sentinel)
 {
     jcobs_decoder decoder = JCOBS_DECODER_INIT;
-    jcobs_answer answer;
 
-    if (sentinel == 0)
-        return jcobs_decode(source, len, message, len);
-    answer = push(&decoder, message, len, source, len, sentinel);
-    if (answer.status == JCOBS_MORE && jcobs_decoder_is_idle(&decoder))
-        answer.status = JCOBS_EMPTY;
-    else if (answer.status == JCOBS_MORE)
-        answer = push(&decoder, message, len, &sentinel, 1, sentinel);
-    return answer;
+    if (sentinel == 0 || len == 0)
+        return jcobs_decode(frame, len, message, room);
+    (void)push(&decoder, message, room, frame, len, sentinel);
+    return push(&decoder, message, room, &sentinel, 1, sentinel);
 }
 
 /* Encodes the message to a new bytes object, or returns NULL with MemoryError. */
@@ -41,19 +40,19 @@ static PyObject *encoded(PyObject *message, unsigned char sentinel, int terminat
 }
 
 /* encode(data, sentinel, terminated) */
-static PyObject *core_encode(PyObject *module, PyObject *args)
+static PyObject *core_encode(PyObject *module, PyObject *const *args, Py_ssize_t count)
 {
-    PyObject *data, *number, *truth, *message, *frame;
+    PyObject *message, *frame;
     unsigned char sentinel;
     int terminated;
 
     (void)module;
-    if (!PyArg_UnpackTuple(args, "encode", 3, 3, &data, &number, &truth) || !sentinel_of(number, &sentinel))
+    if (!has_count(count, 3) || !sentinel_of(args[1], &sentinel))
         return NULL;
-    terminated = PyObject_IsTrue(truth);
+    terminated = PyObject_IsTrue(args[2]);
     if (terminated < 0)
         return NULL;
-    message = bytes_of(data);
+    message = bytes_of(args[0], "data");
     if (message == NULL)
         return NULL;
     frame = encoded(message, sentinel, terminated);
@@ -61,44 +60,50 @@ static PyObject *core_encode(PyObject *module, PyObject *args)
     return frame;
 }
 
-/* Decodes the frame to a new bytes object, or returns NULL with MemoryError. */
-static PyObject *decoded(PyObject *frame, unsigned char sentinel, unsigned int *status)
+/* Decodes the first frame of the source to a new bytes object, or returns NULL with MemoryError. */
+static PyObject *decoded(PyObject *source, unsigned char sentinel, unsigned int *status)
 {
-    size_t len = (size_t)PyBytes_Size(frame);
-    const unsigned char *from = start_of(frame);
+    size_t len = (size_t)PyBytes_Size(source), room;
+    const unsigned char *from = start_of(source), *end;
     PyThreadState *thread;
-    PyObject *message = room_of(len);
+    PyObject *message;
     jcobs_answer answer;
     unsigned char *to;
 
+    for (; len > 0 && *from == sentinel; len--)
+        from++;
+    end = memchr(from, sentinel, len);
+    len = end == NULL ? len : (size_t)(end - from);
+    room = len == 0 ? 0 : len - 1; /* a frame has at least one code */
+    message = room_of(room);
     if (message == NULL)
         return NULL;
     to = start_of(message);
     thread = release(len);
-    answer = decode_first(from, len, to, sentinel);
+    answer = decode_frame(from, len, to, room, sentinel);
     restore(thread);
     *status = answer.status;
     return cut(message, answer.length);
 }
 
 /* decode(frame, sentinel, error): raises error(kind, data) if there is no message. */
-static PyObject *core_decode(PyObject *module, PyObject *args)
+static PyObject *core_decode(PyObject *module, PyObject *const *args, Py_ssize_t count)
 {
-    PyObject *data, *number, *error, *frame, *message, *raised;
+    PyObject *frame, *message, *raised;
     unsigned int status = JCOBS_OK;
     unsigned char sentinel;
 
     (void)module;
-    if (!PyArg_UnpackTuple(args, "decode", 3, 3, &data, &number, &error) || !sentinel_of(number, &sentinel))
+    if (!has_count(count, 3) || !sentinel_of(args[1], &sentinel))
         return NULL;
-    frame = bytes_of(data);
+    frame = bytes_of(args[0], "frame");
     if (frame == NULL)
         return NULL;
     message = decoded(frame, sentinel, &status);
     Py_DECREF(frame);
     if (message == NULL || status == JCOBS_OK)
         return message;
-    raised = PyObject_CallFunction(error, "sO", status == JCOBS_EMPTY ? "empty" : "broken", message);
+    raised = PyObject_CallFunction(args[2], "sO", status == JCOBS_EMPTY ? "empty" : "broken", message);
     if (raised != NULL)
         PyErr_SetObject((PyObject *)Py_TYPE(raised), raised);
     Py_XDECREF(raised);
@@ -128,17 +133,17 @@ static PyObject *xored(PyObject *bytes, unsigned char sentinel)
 }
 
 /* frame_kind(frame, sentinel): one of enum jcobs_kind. */
-static PyObject *core_frame_kind(PyObject *module, PyObject *args)
+static PyObject *core_frame_kind(PyObject *module, PyObject *const *args, Py_ssize_t count)
 {
-    PyObject *data, *number, *frame, *zero_frame;
+    PyObject *frame, *zero_frame;
     unsigned char sentinel;
     unsigned int kind;
     size_t len;
 
     (void)module;
-    if (!PyArg_UnpackTuple(args, "frame_kind", 2, 2, &data, &number) || !sentinel_of(number, &sentinel))
+    if (!has_count(count, 2) || !sentinel_of(args[1], &sentinel))
         return NULL;
-    frame = bytes_of(data);
+    frame = bytes_of(args[0], "frame");
     if (frame == NULL)
         return NULL;
     zero_frame = xored(frame, sentinel);
@@ -162,13 +167,13 @@ static PyObject *core_max_length(PyObject *module, PyObject *number)
     size_t len;
 
     (void)module;
-    return length_of(number, &len) ? PyLong_FromSize_t(jcobs_max_length(len)) : NULL;
+    return length_of(number, "length", &len) ? PyLong_FromSize_t(jcobs_max_length(len)) : NULL;
 }
 
 static PyMethodDef functions[] = {
-    {"encode", core_encode, METH_VARARGS, NULL},
-    {"decode", core_decode, METH_VARARGS, NULL},
-    {"frame_kind", core_frame_kind, METH_VARARGS, NULL},
+    {"encode", FAST(core_encode), METH_FASTCALL, NULL},
+    {"decode", FAST(core_decode), METH_FASTCALL, NULL},
+    {"frame_kind", FAST(core_frame_kind), METH_FASTCALL, NULL},
     {"max_length", core_max_length, METH_O, NULL},
     {NULL, NULL, 0, NULL},
 };
@@ -185,9 +190,17 @@ static int add_type(PyObject *module, const char *name, PyType_Spec *spec)
     return 0;
 }
 
-static int add_types(PyObject *module)
+/* What is behind the calls: the library of proved machine code, or C that was made from it and compiled here. */
+#ifdef JCOBS_COMPILED
+#define BACKEND "compiled"
+#else
+#define BACKEND "prebuilt"
+#endif
+
+static int fill(PyObject *module)
 {
-    return add_type(module, "Outcome", &outcome_spec) < 0 || add_type(module, "Decoder", &decoder_spec) < 0 ||
+    return PyModule_AddStringConstant(module, "backend", BACKEND) < 0 ||
+                   add_type(module, "Outcome", &outcome_spec) < 0 || add_type(module, "Decoder", &decoder_spec) < 0 ||
                    add_type(module, "Encoder", &encoder_spec) < 0
                ? -1
                : 0;
@@ -198,9 +211,9 @@ static int add_types(PyObject *module)
 #define MULTIPLE_INTERPRETERS 3
 #define PER_INTERPRETER_GIL_SUPPORTED ((void *)2)
 
-static PyModuleDef_Slot slots[] = {{Py_mod_exec, add_types}, {0, NULL}};
+static PyModuleDef_Slot slots[] = {{Py_mod_exec, fill}, {0, NULL}};
 static PyModuleDef_Slot slots_of_312[] = {
-    {Py_mod_exec, add_types}, {MULTIPLE_INTERPRETERS, PER_INTERPRETER_GIL_SUPPORTED}, {0, NULL}};
+    {Py_mod_exec, fill}, {MULTIPLE_INTERPRETERS, PER_INTERPRETER_GIL_SUPPORTED}, {0, NULL}};
 
 static PyModuleDef definition = {
     PyModuleDef_HEAD_INIT, "jcobs._core", NULL, 0, functions, slots, NULL, NULL, NULL,
@@ -209,10 +222,26 @@ static PyModuleDef definition_of_312 = {
     PyModuleDef_HEAD_INIT, "jcobs._core", NULL, 0, functions, slots_of_312, NULL, NULL, NULL,
 };
 
+/* Whether the processor has what the library was built for. */
+static int has_processor(void)
+{
+#if defined(__x86_64__) && !defined(JCOBS_COMPILED)
+    unsigned int a, b, c = 0, d;
+
+    return __get_cpuid(1, &a, &b, &c, &d) && (c & bit_SSE4_2) && (c & bit_POPCNT);
+#else
+    return 1;
+#endif
+}
+
 PyMODINIT_FUNC PyInit__core(void)
 {
     /* The version's text begins with "3.". */
     long minor = strtol(Py_GetVersion() + 2, NULL, 10);
 
+    if (!has_processor()) {
+        PyErr_SetString(PyExc_ImportError, "the processor has no SSE4.2 and POPCNT");
+        return NULL;
+    }
     return PyModuleDef_Init(minor >= 12 ? &definition_of_312 : &definition);
 }

@@ -6,20 +6,50 @@ typedef struct {
     PyObject_HEAD PyObject *data;
 } Outcome;
 
-static PyObject *outcome_new(PyTypeObject *type, PyObject *args, PyObject *kwargs)
+static PyObject *outcome_make(PyTypeObject *type, PyObject *data)
 {
-    static char *names[] = {"data", NULL};
-    PyObject *data;
-    Outcome *self;
+    Outcome *self = (Outcome *)PyType_GenericAlloc(type, 0);
 
-    if (!PyArg_ParseTupleAndKeywords(args, kwargs, "S", names, &data))
-        return NULL;
-    self = new_object(type);
     if (self != NULL) {
         Py_INCREF(data);
         self->data = data;
     }
     return (PyObject *)self;
+}
+
+/* Raises TypeError for the argument, or for want of it, with the names of the classes. */
+static PyObject *outcome_wrong(PyTypeObject *type, PyObject *data)
+{
+    PyObject *name = PyObject_GetAttrString((PyObject *)type, "__name__"), *given = NULL;
+
+    if (name != NULL && data == NULL)
+        PyErr_Format(PyExc_TypeError, "%U() takes one argument, 'data'", name);
+    else if (name != NULL)
+        given = PyObject_GetAttrString((PyObject *)Py_TYPE(data), "__name__");
+    if (given != NULL)
+        PyErr_Format(PyExc_TypeError, "%U() argument 'data' must be bytes, not %U", name, given);
+    Py_XDECREF(given);
+    Py_XDECREF(name);
+    return NULL;
+}
+
+static PyObject *outcome_new(PyTypeObject *type, PyObject *args, PyObject *kwargs)
+{
+    Py_ssize_t named = kwargs == NULL ? 0 : PyDict_Size(kwargs);
+    PyObject *data = NULL;
+
+    if (PyTuple_Size(args) + named == 1)
+        data = named == 0 ? PyTuple_GetItem(args, 0) : PyDict_GetItemString(kwargs, "data");
+    return data != NULL && PyBytes_Check(data) ? outcome_make(type, data) : outcome_wrong(type, data);
+}
+
+PyObject *outcome_of(PyObject *class, PyObject *data)
+{
+    /* A class with this way to make objects and no other has no other way to begin them: see _streams.py. */
+    if (PyType_Check(class) && (PyType_GetFlags((PyTypeObject *)class) & Py_TPFLAGS_HEAPTYPE) &&
+        PyType_GetSlot((PyTypeObject *)class, Py_tp_new) == (void *)outcome_new)
+        return outcome_make((PyTypeObject *)class, data);
+    return PyObject_CallFunctionObjArgs(class, data, NULL);
 }
 
 static void outcome_dealloc(PyObject *self)
@@ -52,15 +82,22 @@ static PyObject *outcome_compare(PyObject *self, PyObject *other, int operation)
     return PyObject_RichCompare(((Outcome *)self)->data, ((Outcome *)other)->data, operation);
 }
 
-/* The arguments of a copy, for copy and pickle. */
-static PyObject *outcome_getnewargs(PyObject *self, PyObject *none)
+/* What makes a copy, for copy and pickle: the class, its argument, and what a subclass may have added. */
+static PyObject *outcome_reduce(PyObject *self, PyObject *none)
 {
+    PyObject *added = PyObject_GetAttrString(self, "__dict__");
+
     (void)none;
-    return PyTuple_Pack(1, ((Outcome *)self)->data);
+    if (added == NULL) {
+        PyErr_Clear();
+        added = Py_None;
+        Py_INCREF(added);
+    }
+    return Py_BuildValue("O(O)N", Py_TYPE(self), ((Outcome *)self)->data, added);
 }
 
 static PyMethodDef outcome_methods[] = {
-    {"__getnewargs__", outcome_getnewargs, METH_NOARGS, NULL},
+    {"__reduce__", outcome_reduce, METH_NOARGS, NULL},
     {NULL, NULL, 0, NULL},
 };
 
@@ -70,6 +107,7 @@ static PyMemberDef outcome_members[] = {
 };
 
 static PyType_Slot outcome_slots[] = {
+    {Py_tp_doc, "Outcome(data)\n--\n\nWhat a piece of a stream came to."},
     {Py_tp_new, outcome_new},
     {Py_tp_dealloc, outcome_dealloc},
     {Py_tp_repr, outcome_repr},

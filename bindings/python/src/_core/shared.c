@@ -1,7 +1,21 @@
 /* What the functions and the types share. */
 #include "core.h"
 
-PyObject *bytes_of(PyObject *data)
+/* Says of a TypeError which argument was wrong. */
+static void wrong_type(const char *name, const char *wanted, PyObject *given)
+{
+    PyObject *type;
+
+    if (!PyErr_ExceptionMatches(PyExc_TypeError))
+        return;
+    PyErr_Clear();
+    type = PyObject_GetAttrString((PyObject *)Py_TYPE(given), "__name__");
+    if (type != NULL)
+        PyErr_Format(PyExc_TypeError, "%s must be %s, not %U", name, wanted, type);
+    Py_XDECREF(type);
+}
+
+PyObject *bytes_of(PyObject *data, const char *name)
 {
     PyObject *view, *contiguous, *bytes = NULL;
 
@@ -12,13 +26,15 @@ PyObject *bytes_of(PyObject *data)
     if (PyByteArray_Check(data))
         return PyBytes_FromStringAndSize(PyByteArray_AsString(data), PyByteArray_Size(data));
     view = PyMemoryView_FromObject(data);
-    if (view == NULL)
+    if (view == NULL) {
+        wrong_type(name, "a bytes-like object", data);
         return NULL;
+    }
     contiguous = PyObject_GetAttrString(view, "c_contiguous");
     if (contiguous == Py_True)
         bytes = PyBytes_FromObject(view);
     else if (contiguous != NULL)
-        PyErr_SetString(PyExc_BufferError, "the bytes are not contiguous; pass a copy, bytes(data)");
+        PyErr_Format(PyExc_BufferError, "%s is not contiguous; pass a copy, bytes(%s)", name, name);
     Py_XDECREF(contiguous);
     Py_DECREF(view);
     return bytes;
@@ -29,38 +45,60 @@ unsigned char *start_of(PyObject *bytes)
     return (unsigned char *)PyBytes_AsString(bytes);
 }
 
-int sentinel_of(PyObject *number, void *result)
+int has_count(Py_ssize_t count, Py_ssize_t wanted)
 {
-    int overflow;
-    long value;
-    PyObject *index = PyNumber_Index(number);
+    if (count != wanted)
+        PyErr_Format(PyExc_TypeError, "expected %zd arguments, got %zd", wanted, count);
+    return count == wanted;
+}
 
-    if (index == NULL)
-        return 0;
-    value = PyLong_AsLongAndOverflow(index, &overflow);
-    Py_DECREF(index);
-    if (value == -1 && PyErr_Occurred())
-        return 0;
+int sentinel_of(PyObject *number, unsigned char *result)
+{
+    int overflow = 0;
+    long value = PyLong_Check(number) ? PyLong_AsLongAndOverflow(number, &overflow) : -1;
+
+    if (!PyLong_Check(number)) {
+        PyObject *index = PyNumber_Index(number);
+        if (index == NULL) {
+            wrong_type("sentinel", "an integer", number);
+            return 0;
+        }
+        value = PyLong_AsLongAndOverflow(index, &overflow);
+        Py_DECREF(index);
+    }
     if (overflow != 0 || value < 0 || value > 255) {
         PyErr_SetString(PyExc_ValueError, "sentinel must be in range(0, 256)");
         return 0;
     }
-    *(unsigned char *)result = (unsigned char)value;
+    *result = (unsigned char)value;
     return 1;
 }
 
-int length_of(PyObject *number, void *result)
+int length_of(PyObject *number, const char *name, size_t *result)
 {
-    Py_ssize_t value = PyNumber_AsSsize_t(number, PyExc_OverflowError);
+    PyObject *index = PyNumber_Index(number);
+    Py_ssize_t value;
 
-    if (value == -1 && PyErr_Occurred())
-        return 0;
-    if (value < 0) {
-        PyErr_SetString(PyExc_ValueError, "a length must not be negative");
+    if (index == NULL) {
+        wrong_type(name, "an integer", number);
         return 0;
     }
-    *(size_t *)result = (size_t)value;
-    return 1;
+    value = PyNumber_AsSsize_t(index, NULL); /* the nearest one */
+    if (value < 0)
+        PyErr_Format(PyExc_ValueError, "%s must not be negative", name);
+    else if (value == PY_SSIZE_T_MAX && PyNumber_AsSsize_t(index, PyExc_OverflowError) < 0)
+        PyErr_Format(PyExc_OverflowError, "%s must not be more than %zd", name, value);
+    Py_DECREF(index);
+    *result = (size_t)value;
+    return !PyErr_Occurred();
+}
+
+int coder_arguments(PyObject *args, size_t *max_length, unsigned char *sentinel)
+{
+    PyObject *length, *number;
+
+    return PyArg_UnpackTuple(args, "coder", 2, 2, &length, &number) && length_of(length, "max_length", max_length) &&
+           sentinel_of(number, sentinel);
 }
 
 PyThreadState *release(size_t len)
@@ -81,20 +119,9 @@ PyObject *room_of(size_t len)
 
 PyObject *cut(PyObject *bytes, size_t len)
 {
-    size_t room = (size_t)PyBytes_Size(bytes);
-    PyObject *copy;
-
-    if (len == room)
-        return bytes;
-    /* The stable ABI has no call that shrinks bytes, but it has their size: the rest of the memory stays unused. */
-    if (len > room / 2) {
-        Py_SET_SIZE((PyVarObject *)bytes, (Py_ssize_t)len);
-        start_of(bytes)[len] = '\0';
-        return bytes;
-    }
-    copy = PyBytes_FromStringAndSize(PyBytes_AsString(bytes), (Py_ssize_t)len);
-    Py_DECREF(bytes);
-    return copy;
+    Py_SET_SIZE((PyVarObject *)bytes, (Py_ssize_t)len);
+    start_of(bytes)[len] = '\0';
+    return bytes;
 }
 
 jcobs_answer push(jcobs_decoder *decoder, unsigned char *buffer, size_t room, const unsigned char *bytes, size_t len,

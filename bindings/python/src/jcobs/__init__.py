@@ -16,6 +16,7 @@ b'\\x06hello\\x06world\\x00'
 mmap. Each function and method raises TypeError for other objects, and BufferError if the bytes aren't contiguous.
 """
 
+from jcobs._backend import backend
 from jcobs._frames import DecodeError, decode, encode, frame_kind, max_length
 from jcobs._readers import AsyncFrameReader, FrameReader
 from jcobs._streams import Broken, Decoder, Encoder, Message, Outcome, TooLong
@@ -30,6 +31,7 @@ __all__ = [
     "Message",
     "Outcome",
     "TooLong",
+    "backend",
     "decode",
     "encode",
     "frame_kind",

@@ -1,10 +1,12 @@
-from typing import List, Tuple, Type, TypeVar, Union
+from typing import List, Literal, Tuple, Type, TypeVar, Union
 
 from _typeshed import ReadableBuffer
 
 _M = TypeVar("_M", bound=Outcome)
 _B = TypeVar("_B", bound=Outcome)
 _T = TypeVar("_T", bound=Outcome)
+
+backend: Literal["prebuilt", "compiled"]
 
 def encode(data: ReadableBuffer, sentinel: int, terminated: bool, /) -> bytes: ...
 def decode(frame: ReadableBuffer, sentinel: int, error: Type[Exception], /) -> bytes: ...

@@ -4,7 +4,7 @@ from __future__ import annotations
 
 from typing import TYPE_CHECKING, Literal, Tuple
 
-from jcobs import _core
+from jcobs._backend import core
 
 if TYPE_CHECKING:
     from _typeshed import ReadableBuffer
@@ -12,6 +12,7 @@ if TYPE_CHECKING:
 ErrorKind = Literal["broken", "empty"]
 FrameKind = Literal["not_a_frame", "canonical", "longer"]
 _KINDS: Tuple[FrameKind, ...] = ("not_a_frame", "canonical", "longer")
+_encode, _decode = core.encode, core.decode
 
 
 class DecodeError(ValueError):
@@ -49,7 +50,7 @@ def encode(data: ReadableBuffer, *, sentinel: int = 0, terminated: bool = False)
     >>> jcobs.encode(b"hello", sentinel=10, terminated=True)
     b'\\x0cboffe\\n'
     """
-    return _core.encode(data, sentinel, terminated)
+    return _encode(data, sentinel, terminated)
 
 
 def decode(frame: ReadableBuffer, *, sentinel: int = 0) -> bytes:
@@ -65,7 +66,7 @@ def decode(frame: ReadableBuffer, *, sentinel: int = 0) -> bytes:
     >>> jcobs.decode(b"\\x06hello\\x00")
     b'hello'
     """
-    return _core.decode(frame, sentinel, DecodeError)
+    return _decode(frame, sentinel, DecodeError)
 
 
 def max_length(length: int) -> int:
@@ -74,7 +75,7 @@ def max_length(length: int) -> int:
     >>> jcobs.max_length(254), jcobs.max_length(255)
     (255, 257)
     """
-    return _core.max_length(length)
+    return core.max_length(length)
 
 
 def frame_kind(frame: ReadableBuffer, *, sentinel: int = 0) -> FrameKind:
@@ -88,4 +89,4 @@ def frame_kind(frame: ReadableBuffer, *, sentinel: int = 0) -> FrameKind:
     >>> jcobs.frame_kind(b"\\x06hel")
     'not_a_frame'
     """
-    return _KINDS[_core.frame_kind(frame, sentinel)]
+    return _KINDS[core.frame_kind(frame, sentinel)]

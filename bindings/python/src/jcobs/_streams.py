@@ -2,15 +2,15 @@
 
 from __future__ import annotations
 
-from typing import TYPE_CHECKING, List, Union
+from typing import TYPE_CHECKING, Any, List, Tuple, Union
 
-from jcobs import _core
+from jcobs._backend import core
 
 if TYPE_CHECKING:
     from _typeshed import ReadableBuffer
 
 
-class Message(_core.Outcome):
+class Message(core.Outcome):
     """A message, `data`.
 
     >>> jcobs.Message(b"hi").data
@@ -21,14 +21,14 @@ class Message(_core.Outcome):
     __match_args__ = ("data",)
 
 
-class Broken(_core.Outcome):
+class Broken(core.Outcome):
     """A frame that breaks off inside a block. `data` is what it decodes to, up to where it ends."""
 
     __slots__ = ()
     __match_args__ = ("data",)
 
 
-class TooLong(_core.Outcome):
+class TooLong(core.Outcome):
     """A frame that decodes to more than `max_length` bytes. `data` is the first `max_length` of these."""
 
     __slots__ = ()
@@ -39,7 +39,16 @@ _CLASSES = (Message, Broken, TooLong)
 Outcome = Union[Message, Broken, TooLong]
 
 
-class Decoder:
+class Coder:
+    """An object with a state of its own, which can't be copied."""
+
+    __slots__ = ()
+
+    def __reduce__(self) -> Tuple[Any, ...]:
+        raise TypeError(f"{type(self).__name__} objects cannot be copied or pickled")
+
+
+class Decoder(Coder):
     """Decodes a stream of frames that comes in chunks of any size.
 
     `max_length` is the length of the longest message; the decoder allocates so much memory at once. A broken or too
@@ -51,13 +60,13 @@ class Decoder:
     __slots__ = ("_core",)
 
     def __init__(self, max_length: int = 65536, sentinel: int = 0) -> None:
-        self._core = _core.Decoder(max_length, sentinel)
+        self._core = core.Decoder(max_length, sentinel)
 
     def feed(self, chunk: ReadableBuffer) -> List[Outcome]:
         """Decodes the next bytes of the stream, and returns the outcome of each frame that ends in them, in order.
 
         Raises MemoryError if there isn't enough memory for them; these outcomes are then lost, and the decoder is
-        reset.
+        reset. So they are if a signal handler raises an exception, as for Ctrl-C.
 
         >>> decoder = jcobs.Decoder(max_length=5)
         >>> for outcome in decoder.feed(b"\\x03hi\\x00\\x06hel\\x00\\x07hello!\\x00"):
@@ -93,7 +102,7 @@ class Decoder:
         self._core.reset()
 
 
-class Encoder:
+class Encoder(Coder):
     """Encodes messages that arise in pieces.
 
     `max_length` is the length of the longest message; the encoder allocates so much memory at once. It is for one
@@ -109,7 +118,7 @@ class Encoder:
     __slots__ = ("_core",)
 
     def __init__(self, max_length: int = 65536, sentinel: int = 0) -> None:
-        self._core = _core.Encoder(max_length, sentinel)
+        self._core = core.Encoder(max_length, sentinel)
 
     def feed(self, data: ReadableBuffer) -> None:
         """Takes the next bytes of the message.

@@ -1,0 +1,21 @@
+"""Frames by an asyncio.Protocol, over any transport: a socket, a pipe, or a serial port by pyserial-asyncio.
+
+Send by `transport.write(jcobs.encode(message, terminated=True))`.
+"""
+
+import asyncio
+from typing import Callable
+
+import jcobs
+
+
+class Frames(asyncio.Protocol):
+    """Passes the outcome of each frame on."""
+
+    def __init__(self, received: Callable[[jcobs.Outcome], None]) -> None:
+        self._decoder = jcobs.Decoder()
+        self._received = received
+
+    def data_received(self, data: bytes) -> None:
+        for outcome in self._decoder.feed(data):
+            self._received(outcome)

@@ -1,0 +1,25 @@
+"""Frames in the background by pyserial's threads: serial.threaded.ReaderThread(port, lambda: Frames(received))."""
+
+from typing import Callable
+
+import serial.threaded
+
+import jcobs
+
+
+class Frames(serial.threaded.Protocol):
+    """Passes the outcome of each frame on, in the thread that reads, and sends messages."""
+
+    def __init__(self, received: Callable[[jcobs.Outcome], None]) -> None:
+        self._decoder = jcobs.Decoder()
+        self._received = received
+
+    def connection_made(self, transport: serial.threaded.ReaderThread) -> None:
+        self._transport = transport
+
+    def data_received(self, data: bytes) -> None:
+        for outcome in self._decoder.feed(data):
+            self._received(outcome)
+
+    def send(self, message: bytes) -> None:
+        self._transport.write(jcobs.encode(message, terminated=True))
