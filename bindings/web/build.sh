@@ -5,9 +5,9 @@
 #     build.sh to FILE         cobs.wasm alone, written to FILE
 #     build.sh dist [FOLDER]   the files with the module inside, from cobs.wasm as it is (Node)
 #     build.sh site FOLDER     the page as static files for any host; with REPOSITORY=URL, the address of this repository's files
-#                              there, it links to the proofs of what it shows
+#                              there, it links to the proofs of what it shows; with ADDRESS=URL, its own, links to it have a picture
 #     build.sh pictures        the pictures of docs/FORMAT.md (Node)
-#     build.sh screenshots     the screenshots in docs/images/ (Node and Chromium)
+#     build.sh screenshots     preview.png and the screenshots in docs/images/ (Node and Chromium)
 #     build.sh serve [PORT [HOST]]    the page, at http://localhost:8000/ or another port (Node); with the host 0.0.0.0, other
 #                              devices of the network see it too
 #
@@ -42,15 +42,15 @@ build() { # FILE
     python3 -B "$here/lower.py" "$1"
 }
 
-# Writes the repository's address into the page.
-link() { # FILE URL
-    case $2 in
+# Writes an address into a line of the page, if there is one.
+link() { # FILE NAME URL BEFORE AFTER: the line has BEFORE, and then the address and AFTER in its place
+    case $3 in
         '') return ;;
-        *[!A-Za-z0-9:/?=@%._~+-]*) echo "build.sh: REPOSITORY is no address: $2" >&2; exit 2 ;;
+        *[!A-Za-z0-9:/?=@%._~+-]*) echo "build.sh: $2 is no address: $3" >&2; exit 2 ;;
         http://* | https://*) ;;
-        *) echo "build.sh: REPOSITORY begins with http:// or https://, not $2" >&2; exit 2 ;;
+        *) echo "build.sh: $2 begins with http:// or https://, not $3" >&2; exit 2 ;;
     esac
-    sed "s|<meta name=\"repository\" content=\"\">|<meta name=\"repository\" content=\"$2\">|" "$1" >"$1.new"
+    sed "s|$4\"[^\"]*\"|$4\"$3$5\"|" "$1" >"$1.new"
     mv "$1.new" "$1"
 }
 
@@ -66,15 +66,16 @@ case ${1:-} in
     dist) need "$node" nodejs; "$node" "$here/pack.mjs" "${2:-$here/dist}" ;;
     site)
         mkdir -p "$2/page"
-        cp "$here/index.html" "$here/draw.js" "$here/jcobs.js" "$here/machine.js" "$here/cobs.wasm" "$2"
+        cp "$here/index.html" "$here/icon.svg" "$here/preview.png" "$here/draw.js" "$here/jcobs.js" "$here/machine.js" "$here/cobs.wasm" "$2"
         cp "$here"/page/*.js "$here"/page/*.css "$2/page"
-        link "$2/index.html" "${REPOSITORY:-}"
+        link "$2/index.html" REPOSITORY "${REPOSITORY:-}" '<meta name="repository" content=' ''
+        link "$2/index.html" ADDRESS "${ADDRESS:-}" '<meta property="og:image" content=' /preview.png
         ;;
     pictures) need "$node" nodejs; "$node" "$here/figures.mjs" "$root/docs/images" ;;
     screenshots)
         need "$node" nodejs
         need "${CHROMIUM:-chromium}" chromium
-        "$node" "$here/test/screenshots.mjs" "$root/docs/images"
+        "$node" "$here/test/screenshots.mjs"
         ;;
     serve) need "$node" nodejs; exec "$node" "$here/serve.mjs" "${2:-8000}" "${3:-127.0.0.1}" ;;
     *) sed -n '2,14s/^# \{0,1\}//p' "$0" >&2; exit 2 ;;

@@ -12,7 +12,7 @@ const DEPTH = 17;                // how far an arc hangs below the cells
 
 /** The style of the pictures; `root` is the selector that holds the colours. */
 export function style(root) {
-  return `${root}{--paper:#ffffff;--ink:#1b2330;--quiet:#5b6675;--line:#8d99a8;--data:#eef2f7;--code:#1f5fbf;--on-code:#ffffff;--full:#7a3bc9;--zero:#b04a00;--bad:#b3261e}
+  return `${root}{--paper:#ffffff;--ink:#1b2330;--quiet:#5b6675;--line:#7d8997;--data:#eef2f7;--code:#1f5fbf;--on-code:#ffffff;--full:#7a3bc9;--zero:#b04a00;--bad:#b3261e}
 @media (prefers-color-scheme:dark){${root}{--paper:#12161c;--ink:#e6eaf0;--quiet:#a3afbf;--line:#6b7888;--data:#1f2833;--code:#7fb1ff;--on-code:#0d1117;--full:#c7a4ff;--zero:#ffb070;--bad:#ff938a}}
 ${root} text{font:14px ui-monospace,"DejaVu Sans Mono",Menlo,Consolas,monospace;fill:var(--ink);text-anchor:middle}
 ${root} .paper{fill:var(--paper)}
@@ -30,6 +30,7 @@ ${root} .ring{fill:none;stroke:var(--zero)}${root} .stem{stroke:var(--zero)}
 ${root} .arc{fill:none;stroke:var(--code);stroke-width:1.5}${root} .arc.full{stroke:var(--full);stroke-width:2}
 ${root} .arc.bad{stroke:var(--bad);stroke-dasharray:4 3}
 ${root} .tip{fill:var(--code)}${root} .tip.full{fill:var(--full)}
+${root} .axis{stroke:var(--line);fill:none}${root} .most{stroke:var(--code);stroke-width:2;fill:none}${root} .here{fill:var(--zero)}
 ${root} .end{fill:none;stroke:var(--line);stroke-dasharray:2 3}`;
 }
 
@@ -182,16 +183,38 @@ function cellText(cell, x) {
 
 /**
  * A row of a stream as a whole SVG: `lead` sentinels, the bytes `from` up to `to` of a piece, `trail` sentinels. `label` is
- * written in front of it, in a margin of so many pixels.
+ * written in front of it, in a margin of so many pixels. `zoom` is how much larger all of it is.
  */
-export function rowPicture(piece, places, from, to, { sentinel = 0, margin = 58, label = from, lead = 0, trail = 0 } = {}) {
+export function rowPicture(piece, places, from, to, { sentinel = 0, margin = 58, label = from, lead = 0, trail = 0, zoom = 1 } = {}) {
   const part = from < to ? cellsOf(piece, places, from, to, { sentinel }) : { cells: [], arcs: [] };
   const idle = (number) => new Array(number).fill(sentinelCell(hex(sentinel)));
   const arcs = part.arcs.map((arc) => ({ ...arc, from: arc.from === null ? null : arc.from + lead, to: arc.to === null ? null : arc.to + lead }));
   const cells = [...idle(lead), ...part.cells, ...idle(trail)];
   const width = margin + (cells.length + 1) * CELL;
-  return `<svg width="${width}" height="${ROW_HEIGHT - 4}" viewBox="0 0 ${width} ${ROW_HEIGHT - 4}" aria-hidden="true">`
+  return `<svg width="${width * zoom}" height="${(ROW_HEIGHT - 4) * zoom}" viewBox="0 0 ${width} ${ROW_HEIGHT - 4}" aria-hidden="true">`
     + `<text class="at" x="${margin / 2}" y="${TOP + 19}">${label}</text>${row(cells, arcs, margin)}</svg>`;
+}
+
+/**
+ * The overhead of frames by the length of the message: the most that `most(length)` gives, as steps, and a dot for one message
+ * of `length` bytes whose frame has `overhead` more.
+ */
+export function curve({ most, length, overhead }) {
+  const [width, height, left, base] = [560, 150, 34, 118];
+  const range = Math.max(1016, Math.ceil((length + 1) / 254) * 254);
+  const top = most(range);
+  const x = (bytes) => Math.round((left + (bytes / range) * (width - left - 30)) * 10) / 10;
+  const y = (bytes) => Math.round((base - (bytes / (top + 1)) * (base - 12)) * 10) / 10;
+  let path = `M${x(0)} ${y(most(0))}`;
+  const apart = Math.ceil(range / 254 / 200) * 254; // steps that are too many to be seen are drawn as fewer
+  for (let at = apart; at <= range; at += apart) path += `H${x(at)}${at < range ? `V${y(most(at + 1))}` : ""}`;
+  const every = Math.ceil(range / 254 / 4) * 254;
+  let marks = "";
+  for (let at = every; at <= range; at += every) marks += `<path class="axis" d="M${x(at)} ${base}v4"/><text class="at" x="${x(at)}" y="${base + 18}">${at.toLocaleString("en")}</text>`;
+  for (const bytes of [1, top]) marks += `<text class="at" x="${left - 14}" y="${y(bytes) + 4}">${bytes.toLocaleString("en")}</text>`;
+  return `<svg width="${width}" height="${height}" viewBox="0 0 ${width} ${height}" role="img" aria-label="A message of ${length} bytes has ${overhead} bytes of overhead, of at most ${most(length)}">`
+    + `<path class="axis" d="M${left} 8V${base}H${width - 20}"/>${marks}<path class="most" d="${path}"/><circle class="here" cx="${x(length)}" cy="${y(overhead)}" r="5"/>`
+    + `<text class="at" x="${width / 2}" y="${height - 2}">bytes of the message; up, bytes that the frame has more</text></svg>`;
 }
 
 /** The place of the sentinel after a frame. */

@@ -1,5 +1,23 @@
 /** Consistent Overhead Byte Stuffing, by the proved code in cobs.wasm. */
 
+// What isn't in every `lib`: these declarations add nothing to those of `dom`, of @types/node and of newer compilers.
+declare global {
+  interface SymbolConstructor {
+    readonly dispose: unique symbol;
+  }
+  interface URL {
+    href: string;
+  }
+  interface Response {
+    readonly ok: boolean;
+  }
+  interface ReadableStream<R = any> {}
+  interface WritableStream<W = any> {}
+  namespace WebAssembly {
+    interface Module {}
+  }
+}
+
 /** Bytes as the calls take them: an ArrayBuffer, a shared one, or any view of one. */
 export type Bytes = ArrayBuffer | SharedArrayBuffer | ArrayBufferView;
 
@@ -41,7 +59,7 @@ export type Outcome =
  * Why a call failed:
  * - "empty": `decode` was given no bytes, or sentinels alone;
  * - "broken": the frame breaks off inside a block;
- * - "unsupported": this engine is too old to run the module.
+ * - "unsupported": this engine is too old to run the module, or a content security policy forbids it.
  */
 export class CobsError extends Error {
   readonly kind: "empty" | "broken" | "unsupported";
@@ -50,7 +68,7 @@ export class CobsError extends Error {
   constructor(kind: CobsError["kind"], message: string, decodedBytes?: number);
 }
 
-/** Returns whether this engine runs the module. */
+/** Returns whether the module runs here: in this engine, under this content security policy. */
 export function isSupported(): boolean;
 
 /**
@@ -101,8 +119,10 @@ export class FrameDecoder {
   get unfinished(): boolean;
   /** How many bytes `skipFirst` has left out, the first sentinel among them. */
   get skipped(): number;
-  /** Gives the decoder's memory back. Without it that happens at some garbage collection. Also `[Symbol.dispose]`. */
+  /** Gives the decoder's memory back. Without it that happens at some garbage collection. */
   close(): void;
+  /** The same, for `using`. */
+  [Symbol.dispose](): void;
 }
 
 /** Encodes a message that comes in pieces. */
@@ -117,12 +137,14 @@ export class FrameEncoder {
   get length(): number;
   /** Returns the frame of all that was taken, and begins the next message. */
   finish(options?: { terminated?: boolean }): Uint8Array;
-  /** Gives the encoder's memory back. Also `[Symbol.dispose]`. */
+  /** Gives the encoder's memory back. */
   close(): void;
+  /** The same, for `using`. */
+  [Symbol.dispose](): void;
 }
 
 /** Bytes in, outcomes out. What no sentinel has ended when the stream ends gives no outcome. */
-export class FrameDecoderStream implements ReadableWritablePair<Outcome, Bytes> {
+export class FrameDecoderStream {
   constructor(options?: DecoderOptions);
   readonly readable: ReadableStream<Outcome>;
   readonly writable: WritableStream<Bytes>;
@@ -132,7 +154,9 @@ export class FrameDecoderStream implements ReadableWritablePair<Outcome, Bytes> 
   get skipped(): number;
 }
 
-/** Messages in, their frames out, each with a sentinel after it. */
-export class FrameEncoderStream extends TransformStream<Bytes, Uint8Array> {
+/** Messages in, their frames out, each with a sentinel after it. It is a `TransformStream`. */
+export class FrameEncoderStream {
   constructor(options?: SentinelOptions);
+  readonly readable: ReadableStream<Uint8Array>;
+  readonly writable: WritableStream<Bytes>;
 }

@@ -7,13 +7,13 @@
 //
 // This file copies bytes into the module's memory and results out of it. Which bytes a frame has and what a stream
 // decodes to is decided only by the module.
-import { BROKEN, CHUNK_SIZE, CobsError, KINDS, OK, STATE_SIZE, TOO_SMALL, bytesOf, loaded, machineFor } from "./machine.js";
+import { BROKEN, CHUNK_SIZE, CobsError, KINDS, NEAR, OK, STATE_SIZE, TOO_SMALL, bytesOf, loaded, machineFor } from "./machine.js";
 
 export { CobsError, isSupported, load } from "./machine.js";
 
 /** The options of a call, each its default if left out. One that the call doesn't have is an error. */
 function optionsOf(given, defaults) {
-  if (given === undefined) return checked(defaults);
+  if (given === undefined) return defaults;
   if (typeof given !== "object" || given === null) throw new TypeError(`options are wanted, as { ${Object.keys(defaults).join(", ")} }`);
   for (const name of Object.keys(given)) {
     if (!(name in defaults)) throw new TypeError(`there is no option “${name}” here, but ${Object.keys(defaults).join(", ")}`);
@@ -46,11 +46,12 @@ export function maxEncodedLength(length) {
 /** Encodes a message within a machine, over as much room as `limit` allows. */
 function encoded(message, limit, { sentinel, terminated }) {
   const bytes = bytesOf(message);
-  const room = Math.min(limit, maxEncodedLength(bytes.length) + 1);
-  const machine = machineFor(bytes.length + room);
-  const at = machine.scratchAt + bytes.length;
+  const room = Math.min(limit, bytes.length + Math.floor(bytes.length / 128) + 2); // one byte for each 254, a code and a sentinel fit
+  const machine = machineFor(bytes.length + room + NEAR);
+  const at = machine.placeAfter(bytes.length);
   machine.write(bytes, machine.scratchAt);
-  return { machine, at, ...machine.encode(machine.scratchAt, bytes.length, at, room, sentinel, terminated) };
+  const { status, length } = machine.encode(bytes.length, at, room, sentinel, terminated);
+  return { machine, at, status, length };
 }
 
 /** Returns the frame of a message, with a sentinel after it if `terminated` is true. */
@@ -72,10 +73,10 @@ export function encodeInto(message, dest, options) {
 export function decode(frame, options) {
   const bytes = bytesOf(frame);
   const { sentinel } = optionsOf(options, DECODING);
-  const machine = machineFor(2 * bytes.length);
-  const dest = machine.scratchAt + bytes.length;
+  const machine = machineFor(2 * bytes.length + NEAR);
+  const dest = machine.placeAfter(bytes.length);
   machine.write(bytes, machine.scratchAt, sentinel);
-  const { status, length } = machine.decode(machine.scratchAt, bytes.length, dest, bytes.length);
+  const { status, length } = machine.decode(bytes.length, dest, bytes.length);
   if (status === OK) return machine.read(dest, length);
   if (status === BROKEN) throw new CobsError("broken", `the frame breaks off inside a block; it decodes to ${length} bytes up to there`, length);
   throw new CobsError("empty", "there is no frame to decode: no bytes, or sentinels alone");
@@ -87,7 +88,7 @@ export function frameKind(frame, options) {
   const { sentinel } = optionsOf(options, DECODING);
   const machine = machineFor(bytes.length);
   machine.write(bytes, machine.scratchAt, sentinel);
-  return KINDS[machine.frameKind(machine.scratchAt, bytes.length)];
+  return KINDS[machine.frameKind(bytes.length)];
 }
 
 const abandoned = typeof FinalizationRegistry === "function" ? new FinalizationRegistry(({ arena, place }) => arena.give(place)) : null;
@@ -300,53 +301,61 @@ export class FrameEncoder {
  * called once, however it ends: engines don't notify a TransformStream of every way.
  */
 function ends(take, close) {
-  let out;
-  let into;
-  let wake = () => {};
-  let isWanted = false;
-  let isOver = false;
-  const fail = (end, reason) => {
-    isOver = true;
-    close();
-    end.error(reason);
-    wake();
-  };
-  const readable = new ReadableStream(
-    {
-      start: (controller) => void (out = controller),
-      pull() {
-        isWanted = true;
-        wake();
-      },
-      cancel: (reason) => fail(into, reason),
+  const link = { take, close, out: null, into: null, wake: () => {}, isWanted: false, isOver: false };
+  return { readable: readableOf(link), writable: writableOf(link) };
+}
+
+/** Ends both, with a reason for `end`, the controller of one of them. */
+function fail(link, end, reason) {
+  if (link.isOver) return;
+  link.isOver = true;
+  link.close();
+  end.error(reason);
+  link.wake();
+}
+
+function readableOf(link) {
+  const source = {
+    start: (controller) => void (link.out = controller),
+    pull() {
+      link.isWanted = true;
+      link.wake();
     },
-    { highWaterMark: 0 },
-  );
-  const writable = new WritableStream({
-    start: (controller) => void (into = controller),
+    cancel: (reason) => fail(link, link.into, reason),
+  };
+  return new ReadableStream(source, { highWaterMark: 0 });
+}
+
+function writableOf(link) {
+  return new WritableStream({
+    start(controller) {
+      link.into = controller;
+      // `abort` below waits for the write under way, which may wait for a reader
+      const { signal } = controller;
+      signal?.addEventListener("abort", () => fail(link, link.out, signal.reason));
+    },
     async write(chunk) {
-      while (!isWanted && !isOver) await new Promise((done) => (wake = done));
-      if (isOver) return;
+      while (!link.isWanted && !link.isOver) await new Promise((done) => (link.wake = done));
+      if (link.isOver) return;
       let count = 0;
-      isWanted = false;
+      link.isWanted = false;
       try {
-        take(chunk, (value) => {
+        link.take(chunk, (value) => {
           count++;
-          out.enqueue(value);
+          link.out.enqueue(value);
         });
       } catch (error) {
-        fail(out, error);
+        fail(link, link.out, error);
         throw error;
       }
-      if (count === 0) isWanted = true;
+      if (count === 0) link.isWanted = true;
     },
     close() {
-      close();
-      out.close();
+      link.close();
+      link.out.close();
     },
-    abort: (reason) => fail(out, reason),
+    abort: (reason) => fail(link, link.out, reason),
   });
-  return { readable, writable };
 }
 
 /** Bytes in, outcomes out: `{message}`, `{broken: n}` or `{tooLong: true}` for each piece that a sentinel ends. */

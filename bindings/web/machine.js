@@ -12,6 +12,7 @@ const ANSWER_SIZE = 64;              // room for a jcobs_answer, at the front of
 const SCRATCH_SIZE = 1 << 22;        // for the bytes of a call; a call that needs more has a memory of its own
 export const STATE_SIZE = 64;        // room for a jcobs_decoder or a jcobs_encoder
 export const CHUNK_SIZE = 1 << 14;          // how many bytes of a stream are copied into the module at a time
+export const NEAR = 1024;             // bytes of a short call, whose result has a place that doesn't depend on their number
 const MEMORY_LIMIT = 2 ** 32;        // no address from here on is given to the module: in 32 bits it would be another
 
 /** What a module must export to be cobs.wasm. */
@@ -41,18 +42,29 @@ export class CobsError extends Error {
   }
 }
 
+const SMALL = Array.from({ length: NEAR + 64 }, (_, number) => BigInt(number));
+
+/** A number as the module takes it. Making one costs more than a short call itself, so small ones are kept. */
+const word = (number) => (number < SMALL.length ? SMALL[number] : BigInt(number));
+
 /** An instance of the module: its calls over places in its memory. */
 class Machine {
   #calls;
   #memory;
   #bytes;
   #words;
+  #answerWord;
+  #scratchWord;
+  #nearWord;
 
   constructor(module) {
     this.#calls = new WebAssembly.Instance(module, {}).exports;
     this.#memory = this.#calls.memory;
     this.answerAt = Math.ceil(Number(this.#calls.__heap_base.value) / ANSWER_SIZE) * ANSWER_SIZE;
     this.scratchAt = this.answerAt + ANSWER_SIZE;
+    this.#answerWord = BigInt(this.answerAt);
+    this.#scratchWord = BigInt(this.scratchAt);
+    this.#nearWord = BigInt(this.scratchAt + NEAR);
     this.reach(this.scratchAt);
     this.#see();
   }
@@ -92,19 +104,30 @@ class Machine {
     return Number(this.#calls.jcobs_max_length(BigInt(length)));
   }
 
-  encode(source, sourceLength, dest, room, sentinel, terminated) {
+  /** The place for the result of a call whose bytes are at the scratch place. */
+  placeAfter(length) {
+    return this.scratchAt + Math.max(length, NEAR);
+  }
+
+  #destWord(dest) {
+    return dest === this.scratchAt + NEAR ? this.#nearWord : BigInt(dest);
+  }
+
+  /** Encodes the bytes at the scratch place. */
+  encode(sourceLength, dest, room, sentinel, terminated) {
     const call = terminated ? this.#calls.jcobs_encode_terminated_with_sentinel : this.#calls.jcobs_encode_with_sentinel;
-    call(BigInt(this.answerAt), BigInt(source), BigInt(sourceLength), BigInt(dest), BigInt(room), sentinel);
+    call(this.#answerWord, this.#scratchWord, word(sourceLength), this.#destWord(dest), word(room), sentinel);
     return this.#answer();
   }
 
-  decode(source, sourceLength, dest, room) {
-    this.#calls.jcobs_decode(BigInt(this.answerAt), BigInt(source), BigInt(sourceLength), BigInt(dest), BigInt(room));
+  /** Decodes the bytes at the scratch place. */
+  decode(sourceLength, dest, room) {
+    this.#calls.jcobs_decode(this.#answerWord, this.#scratchWord, word(sourceLength), this.#destWord(dest), word(room));
     return this.#answer();
   }
 
-  frameKind(at, length) {
-    return this.#calls.jcobs_frame_kind(BigInt(at), BigInt(length));
+  frameKind(length) {
+    return this.#calls.jcobs_frame_kind(this.#scratchWord, word(length));
   }
 
   /** A decoder that has taken nothing, with its state and buffer at these places. */
@@ -114,7 +137,7 @@ class Machine {
     calls.jcobs_decoder_reset(stateWord);
     return {
       push: (at, length) => {
-        calls.jcobs_decoder_push(answerWord, stateWord, bufferWord, roomWord, BigInt(at), BigInt(length));
+        calls.jcobs_decoder_push(answerWord, stateWord, bufferWord, roomWord, BigInt(at), word(length));
         return this.#answer();
       },
       isIdle: () => calls.jcobs_decoder_is_idle(stateWord) !== 0,
@@ -128,7 +151,7 @@ class Machine {
     calls.jcobs_encoder_reset(stateWord);
     return {
       push: (at, length) => {
-        calls.jcobs_encoder_push(answerWord, stateWord, bufferWord, roomWord, BigInt(at), BigInt(length));
+        calls.jcobs_encoder_push(answerWord, stateWord, bufferWord, roomWord, BigInt(at), word(length));
         return this.#answer();
       },
       finish: () => {
@@ -151,10 +174,20 @@ const PROBE = Uint8Array.of(
   ...[10, 14, 1, 12, 0, 0x41, 0, 0x41, 0, 0x41, 0, 0xfc, 10, 0, 0, 0x0b],
 );
 
-/** Whether this engine runs cobs.wasm. */
-export function isSupported() {
-  return typeof WebAssembly === "object" && typeof BigInt64Array === "function" && WebAssembly.validate(PROBE);
+/** Why cobs.wasm doesn't run here; "" if it does. */
+function obstacle() {
+  const hasAll = typeof WebAssembly === "object" && typeof BigInt64Array === "function" && WebAssembly.validate(PROBE);
+  if (!hasAll) return "this engine lacks the WebAssembly that cobs.wasm needs, which browsers have since 2021 and Node since 16";
+  try {
+    new WebAssembly.Module(PROBE);
+    return "";
+  } catch {
+    return "a content security policy forbids WebAssembly: its script-src needs 'wasm-unsafe-eval'";
+  }
 }
+
+/** Whether cobs.wasm runs here. */
+export const isSupported = () => obstacle() === "";
 
 let compiled;
 let shared;
@@ -175,10 +208,8 @@ export function load(source = moduleAddress()) {
 const moduleAddress = () => new URL("cobs.wasm", import.meta.url);
 
 async function loadFrom(source) {
-  if (!isSupported()) {
-    const needed = "this engine lacks the WebAssembly that cobs.wasm needs, which browsers have since 2021 and Node since 16";
-    throw new CobsError("unsupported", needed);
-  }
+  const why = obstacle();
+  if (why !== "") throw new CobsError("unsupported", why);
   const module = await moduleOf(source);
   const names = new Set(WebAssembly.Module.exports(module).map(({ name }) => name));
   if (!CALLS.every((name) => names.has(name))) throw new TypeError("the module isn't this version's cobs.wasm");

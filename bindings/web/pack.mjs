@@ -1,8 +1,12 @@
 // Writes jcobs.js, machine.js and cobs.wasm as one file each for `import` and for `require` or a <script>:
 //
-//     node pack.mjs FOLDER        # FOLDER/jcobs.js, FOLDER/jcobs.cjs, and the types of the second
+//     node pack.mjs FOLDER        # FOLDER/jcobs.js, FOLDER/jcobs.cjs, the types of the second, and the files below
+//
+// In Node `import` gets node.js, which is jcobs.cjs again, so that a program has one module however it gets it. auto.js and
+// auto.node.js load by themselves. integrity.json has the sums for a <script> from elsewhere.
 //
 // Only the lines that import, export or find cobs.wasm change, and each must be there as this file knows it.
+import { createHash } from "node:crypto";
 import { copyFile, mkdir, readFile, writeFile } from "node:fs/promises";
 import { join } from "node:path";
 
@@ -33,9 +37,15 @@ const list = names.sort().join(", ");
 
 const folder = process.argv[2];
 await mkdir(folder, { recursive: true });
-await writeFile(join(folder, "jcobs.js"), `${head}${body}\nexport { ${list} };\n`);
-await writeFile(
-  join(folder, "jcobs.cjs"),
-  `${head}var jcobs = (() => {\n"use strict";\n${body}\nreturn { ${list} };\n})();\nif (typeof module === "object") module.exports = jcobs;\n`,
-);
+const auto = (from) => `// Written by pack.mjs.\nimport { load } from "./${from}";\nexport * from "./${from}";\nawait load();\n`;
+const files = {
+  "jcobs.js": `${head}${body}\nexport { ${list} };\n`,
+  "jcobs.cjs": `${head}var jcobs = (() => {\n"use strict";\n${body}\nreturn { ${list} };\n})();\nif (typeof module === "object") module.exports = jcobs;\n`,
+  "node.js": `// Written by pack.mjs.\nimport jcobs from "./jcobs.cjs";\nexport const { ${list} } = jcobs;\n`,
+  "auto.js": auto("jcobs.js"),
+  "auto.node.js": auto("node.js"),
+};
+const sumOf = (text) => `sha384-${createHash("sha384").update(text).digest("base64")}`;
+files["integrity.json"] = `${JSON.stringify(Object.fromEntries(["jcobs.js", "jcobs.cjs"].map((name) => [name, sumOf(files[name])])), null, 2)}\n`;
+for (const [name, text] of Object.entries(files)) await writeFile(join(folder, name), text);
 await copyFile(new URL("jcobs.d.ts", import.meta.url), join(folder, "jcobs.d.cts"));

@@ -2,7 +2,11 @@
 
 export const VIEWS = ["message", "stream", "line"];
 const LONGEST = 4000; // signs of a value; browsers and those who pass links on take no link of any length
+const SETTLED = 300;  // milliseconds: the address is written after the last of some changes, since WebKit allows 100 in 10 s
+const AGAIN = 10_000; // and if it allowed no more
 const states = new Map();
+let timer = 0;
+let ours = null; // the hash that was set here, until the browser says that it changed
 
 /** The view that the address names, and its values. */
 export function readAddress() {
@@ -11,13 +15,52 @@ export function readAddress() {
   return { view: VIEWS.includes(named) ? named : VIEWS[0], values };
 }
 
-/** The address of a view with the values that it was last given. */
-export const hashOf = (view) => `#${[view, states.get(view)].filter((part) => part).join("&")}`;
+const hashOf = (view) => `#${[view, states.get(view)].filter((part) => part).join("&")}`;
 
-/** Gives a view its values, which are in the address while the view is shown. Returns whether all of them fit. */
+/** The address of a view with the values that it was last given and with others. */
+export function linkOf(view, others = {}) {
+  const more = new URLSearchParams(others).toString();
+  return new URL(more === "" ? hashOf(view) : `${hashOf(view)}&${more}`, location.href).href;
+}
+
+/** Gives a view its values, which are in the address soon while the view is shown. Returns whether all of them fit. */
 export function keepState(view, values) {
   const fits = Object.values(values).every((value) => String(value).length <= LONGEST);
   states.set(view, fits ? new URLSearchParams(values).toString() : "");
-  if (readAddress().view === view) history.replaceState(null, "", hashOf(view));
+  writeLater(SETTLED);
   return fits;
+}
+
+function writeLater(milliseconds) {
+  clearTimeout(timer);
+  timer = setTimeout(writeAddress, milliseconds);
+}
+
+/** Writes the values of the view that is shown into the address. */
+function writeAddress() {
+  clearTimeout(timer);
+  try {
+    history.replaceState(null, "", hashOf(readAddress().view));
+  } catch {
+    writeLater(AGAIN);
+  }
+}
+
+/** Names another view in the address, which setting the hash would do with a jump of the page. */
+export function nameView(view) {
+  if (view === readAddress().view) return;
+  writeAddress();
+  try {
+    history.pushState(null, "", hashOf(view));
+  } catch {
+    location.hash = hashOf(view);
+    ours = location.hash;
+  }
+}
+
+/** Returns whether the change of the hash was made here. */
+export function isOurChange() {
+  const isOurs = location.hash === ours;
+  ours = null;
+  return isOurs;
 }

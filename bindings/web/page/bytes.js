@@ -1,9 +1,10 @@
-// Bytes as a developer has them at hand: hex digits, C arrays, escapes, dumps, decimal numbers, base64.
+// Bytes as a developer has them at hand: hex digits, dumps, arrays and strings of programs, decimal numbers, base64. Each form
+// is that of the whole text: a part that doesn't belong to it is an error, never left out.
+import { parseCan, parseDump } from "./dumps.js";
 import { parseHex } from "./hex.js";
+import { parseBase64, parseLiteral } from "./literals.js";
 
 const INVISIBLE = /[\u200b-\u200d\u2060\ufeff]/g;
-const DUMP = /^\s*[0-9a-f]{4,16}(?::|\s)\s*((?:[0-9a-f]{2,4}[ -]{1,2}){0,31}[0-9a-f]{2,4})(?:\s*\|.*\||\s{2,}.*)?\s*$/i;
-const ESCAPES = { a: 7, b: 8, e: 27, f: 12, n: 10, r: 13, t: 9, v: 11, "\\": 92, "'": 39, '"': 34 };
 
 /** The bytes of several lists, one after another. */
 export function joined(parts) {
@@ -16,66 +17,62 @@ export function joined(parts) {
   return whole;
 }
 
-/**
- * `{bytes, as}` of a text in any of these forms, with `as` the name of the form; else `{error}`, which says what is wrong
- * with it as hex.
- */
+/** `{bytes, as}` of a text in any of these forms, with `as` the name of the form; else `{error}`, which says what is wrong. */
 export function parseBytes(text) {
-  const clean = text.replace(INVISIBLE, "");
-  return parseDump(clean) ?? parseEscapes(clean) ?? parseList(clean) ?? withName("hex", parseHex(clean)) ?? parseBase64(clean) ?? parseHex(clean);
-}
-
-const withName = (as, { bytes }) => (bytes ? { bytes, as } : undefined);
-
-/** The lines of `hexdump -C` or `xxd`, each an offset and the bytes from there. */
-function parseDump(text) {
-  const lines = text.split(/\r?\n/).filter((line) => line.trim() !== "");
-  if (lines.length === 0 || !/^\s*[0-9a-f]{4,16}(: |\s{2,}[0-9a-f]{2} )/i.test(lines[0])) return undefined;
-  const digits = [];
-  for (const line of lines) {
-    if (/^\s*[0-9a-f]{4,16}\s*$/i.test(line)) continue; // the last line of hexdump is the length alone
-    const [, pairs] = line.match(DUMP) ?? [];
-    if (pairs === undefined) return undefined;
-    digits.push(pairs);
+  const clean = text.replace(INVISIBLE, "").replace(/\r\n?/g, "\n");
+  for (const parse of [parseBuffer, parseDump, parseCan, parseLiteral, parseWords, parsePlainHex, parseBase64]) {
+    const found = parse(clean);
+    if (found) return found;
   }
-  return withName("a dump", parseHex(digits.join(" ")));
+  return parseHex(clean);
 }
 
-/** A string of C, Python or Rust with escapes such as `\x03`. */
-function parseEscapes(text) {
-  if (!/\\x[0-9a-f]{2}|\\[0-7]/i.test(text)) return undefined;
-  const inner = text.trim().replace(/^b?(["'])([\s\S]*)\1;?$/, "$2");
-  const found = [];
-  for (const [, pair, octal, escape, plain] of inner.matchAll(/\\x([0-9a-f]{2})|\\([0-7]{1,3})|\\(.)|([\s\S])/giu)) {
-    if (pair) found.push(parseInt(pair, 16));
-    else if (octal) found.push(parseInt(octal, 8) & 255);
-    else if (escape && !(escape in ESCAPES)) return undefined;
-    else if (escape) found.push(ESCAPES[escape]);
-    else found.push(...new TextEncoder().encode(plain));
+function parsePlainHex(text) {
+  const { bytes } = parseHex(text);
+  return bytes && { bytes, as: "hex" };
+}
+
+/** A Buffer or an array as Node prints it or JSON has it: `<Buffer 03 0a>`, `{"type":"Buffer","data":[3,10]}`, `{"0":3,"1":10}`. */
+function parseBuffer(text) {
+  const [, inside] = text.trim().match(/^<(?:Buffer\b)?([^<>]*)>$/) ?? [];
+  if (inside !== undefined) {
+    if (/\.\.\.|…/.test(inside)) return { error: "Bytes are left out at the “...”." };
+    const { bytes } = parseHex(inside);
+    return bytes && { bytes, as: "a buffer" };
   }
-  return { bytes: Uint8Array.from(found), as: "a string with escapes" };
-}
-
-/** A list of numbers with commas, as in C, Rust, Python or JSON; decimal unless each has `0x`. */
-function parseList(text) {
-  const bare = text.replace(/\/\*[\s\S]*?\*\/|(?:\/\/|#).*$/gm, "");
-  const inner = (bare.match(/\{([^{}]*)\}/) ?? bare.match(/[[(]([^[\]()]*)[\])]/))?.[1] ?? (/,/.test(bare) ? bare : undefined);
-  if (inner === undefined) return undefined;
-  const words = inner.split(",").map((word) => word.trim());
-  if (words.at(-1) === "") words.pop();
-  const isHex = words.every((word) => /^0x[0-9a-f]{1,2}(u8)?$/i.test(word));
-  const isDecimal = words.every((word) => /^\d{1,3}(u8)?$/.test(word) && parseInt(word, 10) < 256);
-  // without brackets `10, 11` is hex; a number that is no pair of digits decides
-  if (!isHex && !(isDecimal && (inner !== bare || words.some((word) => word.length !== 2)))) return undefined;
-  return { bytes: Uint8Array.from(words, (word) => parseInt(word, isHex ? 16 : 10)), as: isHex ? "a list" : "decimal numbers" };
-}
-
-function parseBase64(text) {
-  const bare = text.trim().replace(/\r?\n/g, "");
-  if (bare.length < 4 || bare.length % 4 !== 0 || !/^[a-z0-9+/]+={0,2}$/i.test(bare) || !/[G-Z+/=]/.test(bare)) return undefined;
+  if (!/^\s*\{\s*"/.test(text)) return undefined;
+  let value;
   try {
-    return { bytes: Uint8Array.from(atob(bare), (sign) => sign.charCodeAt(0)), as: "base64" };
+    value = JSON.parse(text);
   } catch {
     return undefined;
   }
+  const data = value.type === "Buffer" ? value.data : Object.keys(value).every((key, at) => key === String(at)) && Object.values(value);
+  if (!Array.isArray(data) || !data.every((each) => Number.isInteger(each) && each >= 0 && each < 256)) return { error: "This JSON is no buffer: its numbers aren't bytes." };
+  return { bytes: Uint8Array.from(data), as: "a buffer" };
+}
+
+/** Numbers without brackets: `$03`, `03h`, `0x3 0xA`, and `3, 10, 11`, which are decimal if one of them is no pair of digits. */
+function parseWords(text) {
+  const words = text.trim().split(/[\s,;:]+/).filter((word) => word !== "");
+  const all = (pattern) => words.length > 0 && words.every((word) => pattern.test(word));
+  if (all(/^\$[0-9a-f]{1,2}$/i) || all(/^0?[0-9a-f]{2}h$/i)) return { bytes: Uint8Array.from(words, (word) => parseInt(word.replace("$", ""), 16)), as: "hex of an assembler" };
+  if (all(/^0b[01]{8}$/i)) return { error: `“${words[0]}” is a binary number or five bytes: write 0b and then a space for bytes, brackets around it for a number.` };
+  const prefixed = words.filter((word) => /^0x/i.test(word));
+  if (prefixed.length > 0) return parsePrefixed(words, prefixed);
+  const numbers = text.split(",").map((word) => word.trim());
+  if (numbers.at(-1) === "") numbers.pop();
+  const isDecimal = numbers.length > 1 && numbers.every((word) => /^(0|[1-9]\d{0,2})$/.test(word) && Number(word) < 256);
+  if (!isDecimal || numbers.every((word) => word.length === 2)) return undefined;
+  return { bytes: Uint8Array.from(numbers, Number), as: "decimal numbers" };
+}
+
+/** Words of which some begin with `0x`. */
+function parsePrefixed(words, prefixed) {
+  const long = prefixed.find((word) => /^0x[0-9a-f]{3,}$/i.test(word));
+  if (words.length > 1 && long) return { error: `“${long}” has several bytes, whose order isn't known: write each byte by itself.` };
+  const others = words.filter((word) => !prefixed.includes(word));
+  if (others.length > 0 && others.every((word) => /^(0|[1-9]\d*)$/.test(word))) return { error: `“${others[0]}” has no 0x, as others have: it is decimal or hexadecimal.` };
+  if (others.length > 0 || !words.every((word) => /^0x[0-9a-f]{1,2}$/i.test(word))) return undefined;
+  return { bytes: Uint8Array.from(words, (word) => parseInt(word, 16)), as: "hex" };
 }

@@ -9,7 +9,8 @@ import { lastAtOrBefore } from "./search.js";
 
 const LINE_HEIGHT = 93;   // pixels of a line of bytes
 const OUTCOME_HEIGHT = 36;
-const WIDTHS = [32, 28, 24, 20, 16, 12, 8, 6, 4];
+const WIDTHS = [32, 28, 24, 20, 16, 14, 12, 10, 9, 8, 7, 6, 5, 4];
+const ZOOM = 1.5;        // how much larger a frame is drawn that has room for it in one line
 const FAR = 4096; // bytes that the cursor skips at most on the way to the next byte of a message
 const FRAME = "frame";
 const OVER = "over"; // the lane of the messages
@@ -22,6 +23,7 @@ export class Canvas {
   #hasOutcomes = true;
   #columns = 8;
   #margin = 60;
+  #zoom = 1;
   #rowStarts = new Float64Array(1);
   #tops = new Float64Array(1);
   #active = 0;
@@ -74,6 +76,13 @@ export class Canvas {
     this.#mark();
   }
 
+  /** Puts the cursor on a byte and brings it into sight, as a link does. */
+  open(i) {
+    if (!(i < this.#pieces.stream.length)) return;
+    [this.#active, this.#lane] = [i, FRAME];
+    this.#reveal();
+  }
+
   get active() {
     return this.#active;
   }
@@ -84,15 +93,19 @@ export class Canvas {
     this.#margin = Math.max(30, String(pieces.stream.length).length * 7 + 10);
     const fitting = Math.floor((this.#box.clientWidth - this.#margin) / CELL) - 1; // and the sentinel
     this.#columns = WIDTHS.find((width) => width <= fitting) ?? 4;
+    const needed = this.#margin + (pieces.stream.length + 1) * CELL;
+    this.#zoom = this.#hasOutcomes ? 1 : Math.max(1, Math.min(ZOOM, this.#box.clientWidth / needed));
+    this.#box.style.setProperty("--zoom", this.#zoom);
     this.#rowStarts = new Float64Array(pieces.count + 1);
     this.#tops = new Float64Array(pieces.count + 1);
     const [extra, head] = this.#hasOutcomes ? [1, OUTCOME_HEIGHT] : [0, 0];
+    const lineHeight = LINE_HEIGHT * this.#zoom;
     for (let at = 0; at < pieces.count; at++) {
       const lines = this.#lines(at);
       this.#rowStarts[at + 1] = this.#rowStarts[at] + extra + lines;
-      this.#tops[at + 1] = this.#tops[at] + head + lines * LINE_HEIGHT;
+      this.#tops[at + 1] = this.#tops[at] + head + lines * lineHeight;
     }
-    this.#box.style.height = `${Math.max(LINE_HEIGHT, Math.min(this.#tops[pieces.count], 8.5 * LINE_HEIGHT)) + 2}px`;
+    this.#box.style.height = `${Math.ceil(Math.max(lineHeight, Math.min(this.#tops[pieces.count], 8.5 * LINE_HEIGHT))) + 2}px`;
     this.#rows.reset(this.#rowStarts[pieces.count]);
     this.#mark();
   }
@@ -118,7 +131,7 @@ export class Canvas {
     const at = this.#pieceOfRow(index);
     const inside = index - this.#rowStarts[at];
     const isBelow = this.#hasOutcomes && inside > 0;
-    return this.#tops[at] + (isBelow ? OUTCOME_HEIGHT - LINE_HEIGHT : 0) + inside * LINE_HEIGHT;
+    return this.#tops[at] + (isBelow ? OUTCOME_HEIGHT - LINE_HEIGHT : 0) + inside * LINE_HEIGHT * this.#zoom;
   }
 
   /** The piece and the line that a byte is in. */
@@ -143,9 +156,9 @@ export class Canvas {
     const last = Math.min(Math.max(first, back), to);
     element.className = "row";
     element.innerHTML = rowPicture(pieces.piece(at), pieces.codes(at).places, first - front, last - front, {
-      sentinel: pieces.sentinel, margin: this.#margin, label: from, lead: first - from, trail: to - last,
+      sentinel: pieces.sentinel, margin: this.#margin, label: from, lead: first - from, trail: to - last, zoom: this.#zoom,
     }) + `<span class="lane over" role="presentation">${this.#spots(from, to, OVER)}</span><span class="lane frame" role="presentation">${this.#spots(from, to, FRAME)}</span>`;
-    for (const lane of element.querySelectorAll(".lane")) lane.style.left = `${this.#margin}px`; // a style attribute would be against the policy
+    for (const lane of element.querySelectorAll(".lane")) lane.style.left = `${this.#margin * this.#zoom}px`; // a style attribute would be against the policy
   }
 
   #spots(from, to, lane) {

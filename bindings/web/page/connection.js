@@ -103,7 +103,7 @@ export class Connection {
     this.#isClosing = true;
     await this.#reader?.cancel().catch(() => {});
     await this.#reading;
-    await this.#writer?.abort().catch(() => {});
+    await this.#writer?.abort(new Error("the line was closed")).catch(() => {}); // the reason why messages that wait aren't sent
     this.#releaseWriter();
     await this.#port.close();
   }

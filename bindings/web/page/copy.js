@@ -16,7 +16,7 @@ export const FORMS = {
     const length = pieces.reduce((sum, piece) => sum + piece.length, 0);
     return figure({ title: `A frame of ${length} bytes`, sentinel, show: (byte) => printHex([byte]), lines: [{ label: "frame", pieces }] });
   },
-  link: () => location.href,
+  link: (bytes, { link }) => link,
 };
 
 /** Puts text on the clipboard, and says whether the browser lets it. */

@@ -10,6 +10,8 @@ const OF = {
   unfinished: "of what has come of the message",
 };
 
+const PAST = { broken: "the end of the piece, which is broken", unfinished: "what has come of the piece so far" };
+
 const pair = (byte) => printHex([byte]);
 
 /** What byte `i` of a stream is for. */
@@ -20,7 +22,7 @@ export function explainFrame(pieces, i) {
   if (role === "sentinel") return `${name}: the sentinel. ${i >= pieces.fronts[at] ? `It ends ${pieces.name(at)}.` : "Nothing is before it."}`;
   if (role === "data") return `${name}: byte ${count(index)} of the message${sentinel === 0 ? ", as it is" : ""}.`;
   const here = isFirst ? "the first code" : isAfterFull ? "a code after a full block, for no zero of the message" : "a code, in place of a zero of the message";
-  if (isPast) return `${name}: ${here}. It leads past the end of the piece, which is broken.`;
+  if (isPast) return `${name}: ${here}. It leads past ${PAST[BADGES[pieces.kinds[at]]] ?? "the end of the piece"}.`;
   return `${name}: ${here}. ${value === 255 ? "It marks a full block: the" : "The"} next code, or the end, is ${counted(value, "byte")} on.`;
 }
 

@@ -11,7 +11,10 @@ export class Field {
   #changed;
   #pasted;
 
-  /** `changed()` is called after each change, `pasted(text)` before one with what is pasted, whose line ends the field changes. */
+  /**
+   * `changed(isTyped)` is called after each change, by a key or otherwise; `pasted(text, isWhole)` before one with what is pasted,
+   * whose line ends the field changes, and whether nothing else will be in the field.
+   */
   constructor(area, changed, pasted) {
     this.#area = area;
     this.#changed = changed;
@@ -22,7 +25,7 @@ export class Field {
     this.#noteText = document.createElement("span");
     this.#note.append(this.#noteText, this.#button("Clear", () => (this.text = "")), this.#button("Edit in the field", () => this.#release()));
     area.after(this.#note);
-    area.addEventListener("input", () => changed());
+    area.addEventListener("input", ({ inputType }) => changed(inputType === "insertText" || inputType?.startsWith("deleteContent")));
     area.addEventListener("paste", (event) => this.#paste(event));
   }
 
@@ -35,15 +38,15 @@ export class Field {
     const text = given.replace(/\r\n?/g, "\n");
     this.#hold(text.length > LIMIT ? text : null);
     this.#area.value = this.#held === null ? text : "";
-    this.#changed();
+    this.#changed(false);
   }
 
   #paste(event) {
     const pasted = event.clipboardData?.getData("text/plain") ?? "";
-    this.#pasted?.(pasted);
+    const { value, selectionStart, selectionEnd } = this.#area;
+    this.#pasted?.(pasted, selectionEnd - selectionStart === value.length);
     if (pasted.length <= LIMIT) return;
     event.preventDefault();
-    const { value, selectionStart, selectionEnd } = this.#area;
     this.text = value.slice(0, selectionStart) + pasted + value.slice(selectionEnd);
     this.#note.querySelector("button").focus();
   }

@@ -49,13 +49,20 @@ export function once(act) {
 
 /**
  * A view's status: `show(text)` sets it in sight at once, and `speak(text)` says it, or another text, to those who hear the page.
- * Of texts that follow each other faster than `milliseconds` the last is spoken, since a live region would speak at each key.
+ * Of texts that follow each other faster than `milliseconds` the last is spoken, or one after five times as long, since a live
+ * region would speak at each key.
  */
 export function statusOf(view, milliseconds) {
   let timer = 0;
+  let since = 0; // when the first text came that waits
   const speak = (text) => {
     clearTimeout(timer);
-    timer = setTimeout(() => (byId(`${view}-spoken`).textContent = text), milliseconds);
+    since ||= Date.now();
+    const wait = Math.max(0, Math.min(milliseconds, since + 5 * milliseconds - Date.now()));
+    timer = setTimeout(() => {
+      since = 0;
+      byId(`${view}-spoken`).textContent = text;
+    }, wait);
   };
   const show = (text) => {
     byId(`${view}-status`).textContent = text;

@@ -1,6 +1,8 @@
 // The view of a line: a device by Web Serial, or the loop; what comes in, and what is sent.
+import { keepState } from "./address.js";
+import { parseBytes } from "./bytes.js";
 import { Connection } from "./connection.js";
-import { parseHex, printHex, printText } from "./hex.js";
+import { printHex, printText } from "./hex.js";
 import { byId, complain, count, counted, once, readRoom, readSentinel, save, statusOf } from "./inputs.js";
 import { Log, readLog, writeLog } from "./log.js";
 import { LoopPort } from "./loop.js";
@@ -13,11 +15,14 @@ const ROW_HEIGHT = 30;
 const PORT_BUFFER = 65_536; // of Web Serial, whose own 255 bytes are few at high rates
 const SETTINGS = ["line-baud", "line-data", "line-parity", "line-stop", "line-flow", "line-room", "line-sentinel", "line-known"];
 
+const NAMES = { baud: "line-baud", data: "line-data", parity: "line-parity", stop: "line-stop", flow: "line-flow", room: "line-room", sentinel: "line-sentinel" }; // in the address
+
 const totals = { messages: 0, broken: 0, tooLong: 0, bytes: 0, sent: 0 };
 const log = new Log();
 let rows;
 let connection = null;
 let connectedPort = null;
+let lostPort = null; // that of a device which went away, not by Disconnect
 let isBusy = false;
 let isPaused = false;
 let chosen = -1; // the number of the row that the keyboard is at
@@ -36,7 +41,9 @@ function counters() {
 
 const paint = once(() => {
   counters();
-  if (isPaused) return;
+  byId("line-empty").hidden = log.entries.length > 0;
+  byId("line-log").hidden = log.entries.length === 0;
+  if (isPaused && log.entries.length > 0) return;
   const box = byId("line-log");
   const isAtEnd = box.scrollTop + box.clientHeight >= box.scrollHeight - ROW_HEIGHT;
   box.style.height = `${Math.max(4, Math.min(log.entries.length, 10)) * ROW_HEIGHT + 2}px`;
@@ -138,6 +145,7 @@ async function connect(choose, name, skipFirst) {
   setConnected(false);
   try {
     connectedPort = await choose();
+    lostPort = null;
     await connectedPort.open(settings());
     connection = new Connection(connectedPort, { maxLength, sentinel, skipFirst }, {
       outcome: receive,
@@ -154,7 +162,10 @@ async function connect(choose, name, skipFirst) {
   status.show(`Connected to ${name}.`);
   const own = connection;
   await own.receive();
-  if (connection === own) await disconnect();
+  if (connection !== own || isBusy) return;
+  const lost = connectedPort;
+  await disconnect();
+  lostPort = lost;
 }
 
 async function disconnect() {
@@ -177,7 +188,8 @@ async function disconnect() {
 async function send() {
   const input = byId("line-text");
   const isHex = document.querySelector('input[name="line-kind"]:checked').value === "hex";
-  const { bytes, error } = isHex ? parseHex(input.value) : { bytes: new TextEncoder().encode(input.value) };
+  const text = input.value;
+  const { bytes, error } = isHex ? parseBytes(text) : { bytes: new TextEncoder().encode(text) };
   complain(input, error ?? null, byId("line-text-error"));
   if (error || !connection) return;
   input.select();
@@ -186,7 +198,7 @@ async function send() {
     totals.sent++;
     add({ way: "out", kind: "message", message: bytes });
   } catch (refused) {
-    complain(input, `“${input.value.slice(0, 40)}” was not sent: ${refused.message}`, byId("line-text-error"));
+    complain(input, `“${text.slice(0, 40)}” was not sent: ${refused.message}`, byId("line-text-error"));
   }
 }
 
@@ -232,12 +244,33 @@ async function listKnown() {
   byId("line-known").closest("label").hidden = known.length === 0;
 }
 
+/** Whether a port is that of the same device: browsers may make another one for a device that comes back. */
+function isSamePort(port, other) {
+  if (!other || port === other) return port === other;
+  const [a, b] = [port.getInfo(), other.getInfo()];
+  return a.usbVendorId !== undefined && a.usbVendorId === b.usbVendorId && a.usbProductId === b.usbProductId;
+}
+
 function choosePort() {
   const port = known[byId("line-known").value === "" ? -1 : Number(byId("line-known").value)];
   return port ?? navigator.serial.requestPort();
 }
 
 const setSignal = (name, isOn) => connectedPort?.setSignals?.({ [name]: isOn }).catch((error) => fault(`The signal could not be set: ${error.message}`));
+
+const keepSettings = () => keepState("line", Object.fromEntries(Object.entries(NAMES).map(([name, id]) => [name, byId(id).value])));
+
+/** Sets what a link says of the port and the frames; a value that a setting can't have leaves it as it is. */
+export function setLine(values) {
+  if (connection || isBusy) return;
+  for (const [name, id] of Object.entries(NAMES)) {
+    const field = byId(id);
+    const before = field.value;
+    if (values.has(name)) field.value = values.get(name);
+    if (field.value === "" || !field.checkValidity()) field.value = before;
+  }
+  keepSettings();
+}
 
 export function startLine() {
   rows = new Rows(byId("line-log"), { topOf: (index) => index * ROW_HEIGHT, fill: fillRow });
@@ -263,14 +296,16 @@ export function startLine() {
   byId("line-log").addEventListener("keydown", onKey);
   navigator.serial?.addEventListener?.("connect", (event) => {
     listKnown();
-    if (byId("line-again").checked) connect(async () => event.target, "the device", true);
+    if (byId("line-again").checked && isSamePort(event.target, lostPort)) connect(async () => event.target, "the device", true);
   });
   byId("line-port").addEventListener("submit", (event) => event.preventDefault());
+  byId("line-port").addEventListener("input", keepSettings);
   byId("line-send").addEventListener("submit", (event) => {
     event.preventDefault();
     send();
   });
   setConnected(false);
+  keepSettings();
   listKnown();
   paint();
 }

@@ -1,22 +1,25 @@
 // The view of one message and its frame.
 import { decode, encode, frameKind, frames, maxEncodedLength } from "../jcobs.js";
-import { codePlaces } from "../draw.js";
-import { keepState } from "./address.js";
+import { codePlaces, curve } from "../draw.js";
+import { keepState, linkOf } from "./address.js";
 import { joined, parseBytes } from "./bytes.js";
 import { Canvas } from "./canvas.js";
 import { FORMS, toClipboard } from "./copy.js";
+import { KINDS, crcOf } from "./crc.js";
 import { Field } from "./field.js";
-import { printHex } from "./hex.js";
+import { parseHex, printHex } from "./hex.js";
 import { byId, complain, count, counted, once, readSentinel, statusOf } from "./inputs.js";
 import { BADGES, MESSAGE, Pieces } from "./pieces.js";
-import { LONGEST, setSteps, startSteps } from "./steps.js";
+import { setSteps, startSteps } from "./steps.js";
 import { setStream } from "./stream.js";
+import { ZERO, bytesOfText, endsOf, isBytes, textOf } from "./text.js";
+import { Undo } from "./undo.js";
 
 const HEX_SHOWN = 2048;
-const EDITED = 600;       // bytes of a frame in its field
+const EDITED = 4096;      // bytes of a frame in its field
 const LINKED = 2000;      // bytes of a message in a link
 const OFFERED = 1 << 20;  // bytes that are looked at for a frame or a stream
-const ENDS = { LF: "\n", CRLF: "\r\n", CR: "\r" };
+const SUMMED = 1 << 20;   // bytes whose CRC is shown
 
 let frame = new Uint8Array();
 let typed = null; // what was written in place of the frame: no frame, several pieces, or the message's longer frame
@@ -28,6 +31,8 @@ let endsNote = "";
 let asKind = "text"; // the kind that the field's text is of
 let field;
 let canvas;
+let undo;
+let isTyped = false; // whether the change under way is by a key in the field
 
 const kind = () => document.querySelector('input[name="message-kind"]:checked').value;
 
@@ -38,70 +43,106 @@ function readMessage() {
   if (isText) {
     readAs = endsNote + (/\p{Surrogate}/u.test(field.text) ? " A lone surrogate has no bytes in UTF-8; it became ef bf bd." : "");
     field.complain(null, byId("message-error"));
-    return new TextEncoder().encode(field.text.replaceAll("\n", ENDS[byId("message-ends").value]));
+    byId("message-read").textContent = `Read as text (UTF-8)${field.text.includes(ZERO) ? `; each ${ZERO} is a byte 00` : ""}.`;
+    return bytesOfText(field.text, byId("message-ends").value);
   }
   const { bytes, error, as } = parseBytes(field.text);
-  readAs = as && as !== "hex" ? ` Read as ${as}.` : "";
+  readAs = "";
+  byId("message-read").textContent = error ? "" : `Read as ${as}.`;
   field.complain(error ? `${error} The drawing below is of the last good input.` : null, byId("message-error"));
   return bytes ?? null;
 }
 
-/** Notes which line ends a pasted text has, since the field has line feeds alone. */
-function notePasted(text) {
-  const found = new Set(text.match(/\r\n|\r|\n/g));
-  if (kind() !== "text" || found.size === 0) return;
-  byId("message-ends").value = found.size > 1 ? "LF" : Object.keys(ENDS).find((name) => found.has(ENDS[name]));
-  endsNote = found.size > 1 ? " The line ends that were pasted were of several kinds; each is LF now." : "";
+/** Finds out what is pasted: bytes in some form, if nothing else is in the field; else text, whose line ends the field changes. */
+function notePasted(text, isWhole) {
+  if (kind() === "text" && isWhole && isBytes(text, parseBytes(text).as)) choose("hex");
+  const ends = endsOf(text);
+  if (kind() !== "text" || ends === "") return;
+  byId("message-ends").value = ends ?? "LF";
+  endsNote = ends === null ? " The line ends that were pasted were of several kinds; each is LF now." : "";
 }
 
-const isFull = (at) => (frame[at] ^ sentinel) === 255;
+function choose(wanted) {
+  document.querySelector(`input[name="message-kind"][value="${wanted}"]`).checked = true;
+  asKind = wanted;
+}
 
 const status = statusOf("message", 400);
 
 function say() {
   const blocks = byId("message-blocks").dataset.count;
-  status.show(`${counted(message.length, "byte")} in a frame of ${counted(frame.length, "byte")}: ${blocks === "1" ? "one block" : `${count(Number(blocks))} blocks`}.${readAs}`
-    + (sentinel === 0 ? "" : ` Each byte of the frame is XORed with ${printHex([sentinel])}, so that ${printHex([sentinel])} is in no frame.`));
+  const fault = typed && faultOf(typed);
+  const what = fault
+    ? `${counted(typed.length, "byte")} that are no frame`
+    : `${counted(message.length, "byte")} in a frame of ${counted((typed ?? frame).length, "byte")}: ${blocks === "1" ? "one block" : `${count(Number(blocks))} blocks`}`;
+  const more = `${readAs}${sentinel === 0 ? "" : ` Each byte of the frame is XORed with ${printHex([sentinel])}, so that ${printHex([sentinel])} is in no frame.`}`;
+  status.show(`${what}.${more}`);
+  byId("message-status").classList.toggle("spoken", more === "" && !fault); // the line above the drawing says the same
 }
 
-const steps = () => setSteps(message, message.length <= LONGEST ? encode(message) : null);
+/** The numbers of the frame that is shown. Bytes that are no frame have none. */
+function showFacts(shown, isFrame) {
+  byId("message-length").dataset.bytes = message.length;
+  byId("message-length").textContent = isFrame ? counted(message.length, "byte") : "–";
+  byId("message-frame-length").textContent = counted(shown.length, "byte");
+  byId("message-greatest").textContent = isFrame ? counted(maxEncodedLength(message.length), "byte") : "–";
+  const places = codePlaces(shown, sentinel);
+  byId("message-blocks").dataset.count = places.length;
+  byId("message-blocks").textContent = isFrame ? count(places.length) : "–";
+  byId("message-full").textContent = isFrame ? count(places.reduce((full, at) => full + ((shown[at] ^ sentinel) === 255), 0)) : "–";
+}
+
+const steps = () => setSteps(message, frame, sentinel);
 
 /** Reads the fields. `wanted` is shown in place of the frame; null is the frame itself. */
 function update(wanted) {
   const read = readMessage();
   const byte = readSentinel(byId("message-sentinel"), byId("message-sentinel-error"));
+  if (read === null) offer(null);
   if (read === null || byte === null) return;
   const isSame = byte === sentinel && read.length === message.length && read.every((each, at) => each === message[at]);
   if (wanted !== undefined || !isSame) typed = wanted ?? null;
   message = read;
   sentinel = byte;
   frame = encode(message, { sentinel });
-  byId("message-length").dataset.bytes = message.length;
-  byId("message-length").textContent = counted(message.length, "byte");
-  byId("message-frame-length").textContent = counted(frame.length, "byte");
-  byId("message-greatest").textContent = counted(maxEncodedLength(message.length), "byte");
-  const places = codePlaces(frame, sentinel);
-  byId("message-blocks").dataset.count = places.length;
-  byId("message-blocks").textContent = count(places.length);
-  byId("message-full").textContent = count(places.reduce((full, at) => full + isFull(at), 0));
-  offer();
+  offer(message);
   steps();
-  keepState("message", { hex: printHex(message.subarray(0, LINKED + 1)).replaceAll(" ", ""), as: kind(), sentinel: printHex([sentinel]) });
+  showExtras();
   showFrame();
-  say();
 }
+
+/** The overhead on its curve, and the CRC. */
+function showExtras() {
+  byId("message-curve").innerHTML = curve({ most: (length) => maxEncodedLength(length) - length, length: message.length, overhead: frame.length - message.length });
+  const isShort = message.length <= SUMMED;
+  for (const id of ["message-crc-high", "message-crc-low"]) byId(id).disabled = !isShort;
+  byId("message-crc-value").textContent = isShort ? printHex(crcOf(message, byId("message-crc").value)) : "–";
+}
+
+function appendCrc(isHighFirst) {
+  const sum = crcOf(message, byId("message-crc").value);
+  setBytes(joined([message, isHighFirst ? sum : sum.reverse()]));
+}
+
+const digitsOf = (bytes) => printHex(bytes.subarray(0, LINKED + 1)).replaceAll(" ", "");
 
 /** Shows the frame, or what was written in its place. */
 function showFrame() {
   const shown = typed ?? frame;
+  undo.note({ kind: asKind, text: field.text, ends: byId("message-ends").value, sentinel, frame: typed ? printHex(typed) : "" }, isTyped);
+  isTyped = false;
+  keepState("message", { hex: digitsOf(message), as: kind(), sentinel: printHex([sentinel]), ...(typed && { frame: digitsOf(typed) }) });
   pieces = new Pieces(joined([shown, [sentinel]]), { maxLength: shown.length, sentinel });
   const left = shown.length - HEX_SHOWN;
   byId("message-frame").textContent = printHex(shown, 0, Math.min(shown.length, HEX_SHOWN)) + (left > 0 ? ` … and ${counted(left, "more byte")}, which Copy takes too` : "");
   byId("message-frame").hidden = shown.length <= EDITED;
-  byId("message-frame-box").hidden = shown.length > EDITED;
   const input = byId("message-frame-edit");
+  input.hidden = shown.length > EDITED;
   if (document.activeElement !== input) input.value = shown.length > EDITED ? "" : printHex(shown);
-  complainFrame(typed && faultOf(typed));
+  const fault = typed && faultOf(typed);
+  complainFrame(fault);
+  showFacts(shown, fault === null);
+  say();
   canvas.show(pieces, pieces.ended !== 1 || pieces.kinds[0] !== MESSAGE);
 }
 
@@ -154,14 +195,15 @@ function splice(at, index, removed, bytes) {
   return undefined;
 }
 
-/** Offers to read bytes that are a frame, or a stream of frames, as such. */
-function offer() {
-  const isBytes = kind() === "hex" && message.length > 1 && message.length <= OFFERED;
-  const isFrame = isBytes && frameKind(message, { sentinel }) !== "notAFrame";
-  const isStream = isBytes && message.at(-1) === sentinel && isAllMessages();
-  byId("message-offer").hidden = !isFrame && !isStream;
+/** Offers to read bytes that are a frame, or a stream of frames, as such, and as text what is no bytes (null). */
+function offer(bytes) {
+  const isOffered = kind() === "hex" && bytes?.length > 1 && bytes.length <= OFFERED;
+  const isFrame = isOffered && frameKind(bytes, { sentinel }) !== "notAFrame";
+  const isStream = isOffered && bytes.at(-1) === sentinel && isAllMessages();
+  byId("message-offer").hidden = !isFrame && !isStream && bytes !== null;
   byId("message-decode").hidden = !isFrame;
   byId("message-stream").hidden = !isStream;
+  byId("message-as-text").hidden = bytes !== null;
   byId("message-offer-text").textContent = isFrame ? "These bytes are a frame themselves." : isStream ? "These bytes are a stream of frames." : "";
 }
 
@@ -177,21 +219,20 @@ function isAllMessages() {
 /** Shows what a link holds: bytes, how they are shown, and the sentinel. */
 export function setMessage(values) {
   byId("message-sentinel").value = values.get("sentinel") ?? "00";
-  const { bytes } = parseBytes(values.get("hex"));
+  const { bytes } = parseHex(values.get("hex"));
   if (!bytes) setInput("hex", values.get("hex"));
   else if (values.get("as") !== "text" || !setText(bytes)) setInput("hex", printHex(bytes));
+  const { bytes: written } = parseHex(values.get("frame") ?? "?");
+  update(written ?? null);
+  if (values.has("at")) canvas.open(Number(values.get("at")));
 }
 
-/** Bytes as `{text, ends}`, which give these bytes again, or null. */
-function textOf(bytes) {
-  try {
-    const text = new TextDecoder("utf-8", { fatal: true, ignoreBOM: true }).decode(bytes);
-    const found = new Set(text.match(/\r\n|\r|\n/g));
-    if (found.size > 1 || /[^\P{C}\n\r\t]/u.test(text)) return null;
-    return { text: text.replace(/\r\n?/g, "\n"), ends: Object.keys(ENDS).find((name) => found.has(ENDS[name])) ?? "LF" };
-  } catch {
-    return null;
-  }
+/** Shows what the view held before. */
+function restore({ kind: wanted, text, ends, sentinel: byte, frame: written }) {
+  byId("message-sentinel").value = printHex([byte]);
+  byId("message-ends").value = ends;
+  setInput(wanted, text);
+  update(written === "" ? null : parseHex(written).bytes);
 }
 
 /** Puts bytes into the field as text, and says whether that can be done. */
@@ -212,8 +253,7 @@ function setBytes(bytes) {
 function changeKind() {
   if (kind() === asKind) return;
   if (kind() === "hex") {
-    const text = field.text.replaceAll("\n", ENDS[byId("message-ends").value]);
-    field.text = printHex(new TextEncoder().encode(text));
+    field.text = printHex(bytesOfText(field.text, byId("message-ends").value));
   } else {
     const { bytes } = parseBytes(field.text);
     if (bytes) setText(bytes);
@@ -225,21 +265,21 @@ async function copy() {
   const form = byId("message-form").value;
   const shown = typed ?? frame;
   const bytes = byId("message-ended").checked ? joined([shown, [sentinel]]) : shown;
-  const text = FORMS[form](bytes, { sentinel, pieces: Array.from({ length: pieces.ended }, (_, at) => pieces.piece(at)) });
+  const text = bytes.length === 0 && form !== "link" ? "" : FORMS[form](bytes, { sentinel, link: linkOf("message", canvas.active > 0 ? { at: canvas.active } : {}), pieces: Array.from({ length: pieces.ended }, (_, at) => pieces.piece(at)) });
   const said = byId("message-copied");
-  if (text === null) said.textContent = "The frame is too long for a picture.";
-  else if (form === "link" && message.length > LINKED) said.textContent = "The message is too long for a link.";
+  if (text === "") said.textContent = "There is nothing to copy.";
+  else if (text === null) said.textContent = "The frame is too long for a picture.";
+  else if (form === "link" && Math.max(message.length, typed?.length ?? 0) > LINKED) said.textContent = "The message is too long for a link.";
   else if (await toClipboard(text)) said.textContent = form === "link" ? "The link is copied." : `${counted(bytes.length, "byte")} copied.`;
   else {
-    if (byId("message-frame").hidden) byId("message-frame-edit").select();
+    if (!byId("message-frame-edit").hidden) byId("message-frame-edit").select();
     else getSelection().selectAllChildren(byId("message-frame"));
     said.textContent = "The browser refused the clipboard: what is shown is selected, copy it by the keyboard.";
   }
 }
 
 function setInput(wanted, text) {
-  document.querySelector(`input[name="message-kind"][value="${wanted}"]`).checked = true;
-  asKind = wanted;
+  choose(wanted);
   endsNote = "";
   field.text = text;
 }
@@ -247,7 +287,7 @@ function setInput(wanted, text) {
 function sample({ hex, text, run, zeros }) {
   if (text) setInput("text", text);
   else if (hex) setInput("hex", hex);
-  else if (run) setInput("hex", printHex(Uint8Array.from({ length: Number(run) }, (_, i) => i + 1)));
+  else if (run) setInput("text", Array.from({ length: Number(run) }, (_, i) => String.fromCharCode(97 + (i % 26))).join(""));
   else setInput("hex", printHex(new Uint8Array(Number(zeros))));
 }
 
@@ -260,12 +300,19 @@ function fillOutcome(element, at) {
 
 export function startMessage() {
   const soon = once(() => update());
-  const asked = () => {
+  const asked = (isByKey = false) => {
+    isTyped = isByKey === true;
     byId("message-copied").textContent = "";
     soon();
   };
   field = new Field(byId("message-input"), asked, notePasted);
   startSteps(steps);
+  undo = new Undo(byId("message"), byId("message-undo"), restore);
+  byId("message-crc").append(...Object.keys(KINDS).map((name) => new Option(name)));
+  byId("message-crc").addEventListener("input", showExtras);
+  byId("message-crc-high").addEventListener("click", () => appendCrc(true));
+  byId("message-crc-low").addEventListener("click", () => appendCrc(false));
+  byId("message-as-text").addEventListener("click", () => setInput("text", field.text));
   canvas = new Canvas(byId("message-drawing"), { name: "message", outcome: fillOutcome, write, splice });
   for (const radio of document.querySelectorAll('input[name="message-kind"]')) radio.addEventListener("change", () => {
     changeKind();
@@ -286,7 +333,7 @@ export function startMessage() {
     dispatchEvent(new CustomEvent("jcobs-open", { detail: "stream" }));
     setStream(values);
   });
-  for (const button of document.querySelectorAll("#message .samples button")) button.addEventListener("click", () => sample(button.dataset));
+  for (const button of document.querySelectorAll("#message > .samples button")) button.addEventListener("click", () => sample(button.dataset));
   byId("message").querySelector("form").addEventListener("submit", (event) => event.preventDefault());
-  sample({ hex: "0a 0b 00 0c" });
+  sample({ text: `Hello${ZERO}World` });
 }

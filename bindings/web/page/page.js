@@ -1,8 +1,8 @@
 // The page: it loads the module, and then shows one of three views at a time.
 import { load } from "../jcobs.js";
 import { style } from "../draw.js";
-import { VIEWS, hashOf, readAddress } from "./address.js";
-import { startLine } from "./line.js";
+import { VIEWS, isOurChange, nameView, readAddress } from "./address.js";
+import { setLine, startLine } from "./line.js";
 import { setMessage, startMessage } from "./message.js";
 import { setStream, startStream } from "./stream.js";
 
@@ -17,9 +17,9 @@ function show(view) {
   }
 }
 
-/** Shows a view and names it in the address, which setting the hash would do with a jump of the page. */
+/** Shows a view and names it in the address. */
 function goTo(view) {
-  if (view !== readAddress().view) history.pushState(null, "", hashOf(view));
+  nameView(view);
   show(view);
 }
 
@@ -38,15 +38,26 @@ function startTabs() {
   const take = () => {
     const { view, values } = readAddress();
     show(view);
-    if (values.has("hex")) ({ message: setMessage, stream: setStream })[view]?.(values);
+    if (view === "line") setLine(values);
+    else if (values.has("hex")) ({ message: setMessage, stream: setStream })[view](values);
   };
-  addEventListener("hashchange", take);
+  addEventListener("hashchange", () => isOurChange() || take());
   addEventListener("popstate", () => show(readAddress().view));
   addEventListener("jcobs-open", ({ detail: view }) => {
     goTo(view);
     tab(view).focus();
   });
   take();
+}
+
+/** With `?embed` in its address the page is a drawing for another page, with a link to the whole of it. */
+function startEmbedded() {
+  if (!new URLSearchParams(location.search).has("embed")) return;
+  document.documentElement.classList.add("embed");
+  const link = document.getElementById("embed-open");
+  const follow = () => (link.href = location.pathname + location.hash);
+  for (const event of ["pointerdown", "focus"]) link.addEventListener(event, follow);
+  follow();
 }
 
 /** Links to the repository's files, if the site was built with its address. */
@@ -62,18 +73,31 @@ const pictureStyle = new CSSStyleSheet();
 pictureStyle.replaceSync(style(".picture svg"));
 document.adoptedStyleSheets = [...document.adoptedStyleSheets, pictureStyle];
 
-document.getElementById("loading").hidden = true;
-try {
-  await load();
-  document.getElementById("views").hidden = false;
-  startMessage();
-  startStream();
-  startLine();
-  startLinks();
-  startTabs();
-  document.documentElement.dataset.ready = "yes";
-} catch (error) {
+function complain(text) {
   const place = document.getElementById("unsupported");
-  place.textContent = error.kind === "unsupported" ? `This page can't run here: ${error.message}.` : `The proved code could not be loaded: ${error.message}`;
+  place.textContent = text;
   place.hidden = false;
+}
+
+/** Loads the module, and returns whether that went well. */
+async function isLoaded() {
+  try {
+    await load();
+    return true;
+  } catch (error) {
+    complain(error.kind === "unsupported" ? `This page can't run here: ${error.message}.` : `The proved code could not be loaded: ${error.message}`);
+    return false;
+  }
+}
+
+document.getElementById("loading").hidden = true;
+if (await isLoaded()) {
+  document.getElementById("views").hidden = false;
+  try {
+    for (const start of [startMessage, startStream, startLine, startLinks, startEmbedded, startTabs]) start();
+    document.documentElement.dataset.ready = "yes";
+  } catch (error) {
+    complain(`This page has a fault: ${error.message}`);
+    throw error;
+  }
 }

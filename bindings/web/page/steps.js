@@ -3,9 +3,9 @@
 import { printHex } from "./hex.js";
 import { byId, count } from "./inputs.js";
 
-export const LONGEST = 300;
+const LONGEST = 300;
 
-export const ENCODER = [
+const ENCODER = [
   "out = [0]; at = 0; code = 1",
   "for each byte of the message:",
   "  if byte != 0:",
@@ -16,7 +16,7 @@ export const ENCODER = [
   "out[at] = code",
 ];
 
-export const DECODER = [
+const DECODER = [
   "out = []; at = 0",
   "while at < frame.length:",
   "  code = frame[at]",
@@ -26,8 +26,12 @@ export const DECODER = [
   "    out.push(0)",
 ];
 
+/** The lines of both, with one more for another sentinel than 0. */
+export const encoderLines = (sentinel) => (sentinel === 0 ? ENCODER : [...ENCODER, "out = each byte of out XOR the sentinel"]);
+export const decoderLines = (sentinel) => (sentinel === 0 ? DECODER : ["frame = each byte of frame XOR the sentinel", ...DECODER]);
+
 /** Each step of the encoder: its line, the byte that is read, what is out so far, and where the open block's code belongs. */
-export function encoderSteps(message) {
+export function encoderSteps(message, sentinel = 0) {
   const steps = [];
   const out = [0];
   let at = 0;
@@ -51,15 +55,18 @@ export function encoderSteps(message) {
   }
   out[at] = code;
   step(7, -1, `The end: the last code becomes ${code}.`);
+  if (sentinel !== 0) steps.push({ line: 8, read: -1, out: out.map((byte) => byte ^ sentinel), at: -1, said: `Each byte is XORed with ${printHex([sentinel])}: since none was 00, none is ${printHex([sentinel])} now.` });
   return steps;
 }
 
-/** Each step of the decoder of a whole frame. */
-export function decoderSteps(frame) {
+/** Each step of the decoder of a whole frame. `input` is what is read, once it is XORed with the sentinel. */
+export function decoderSteps(given, sentinel = 0) {
   const steps = [];
   const out = [];
+  const frame = given.map((byte) => byte ^ sentinel);
   let at = 0;
-  const step = (line, read, said) => steps.push({ line, read, out: out.slice(), at: -1, said });
+  const step = (line, read, said) => steps.push({ line: sentinel === 0 ? line : line + 1, read, out: out.slice(), at: -1, input: line < 0 ? given : frame, said });
+  if (sentinel !== 0) step(-1, -1, `Each byte is XORed with ${printHex([sentinel])}.`);
   step(0, -1, "Nothing is out yet.");
   while (at < frame.length) {
     const code = frame[at];
@@ -85,9 +92,9 @@ function cells(place, bytes, marked) {
 }
 
 function show() {
-  const { line, read, out, at, said } = steps[now];
+  const { line, read, out, at, said, input: changed } = steps[now];
   for (const [i, element] of [...byId("steps-code").children].entries()) element.className = i === line ? "on" : "";
-  cells(byId("steps-in"), input, read);
+  cells(byId("steps-in"), changed ?? input, read);
   cells(byId("steps-out"), out, at);
   byId("steps-said").textContent = `Step ${count(now + 1)} of ${count(steps.length)}: ${said}`;
   byId("steps-back").disabled = now === 0;
@@ -96,17 +103,17 @@ function show() {
   byId("steps-at").value = now;
 }
 
-/** Begins with a message and its frame for the sentinel 0. */
-export function setSteps(message, frame) {
+/** Begins with a message and its frame. */
+export function setSteps(message, frame, sentinel) {
   const isDecoder = byId("steps-which").value === "decoder";
   const isShown = message.length <= LONGEST;
   byId("steps-long").hidden = isShown;
   byId("steps-all").hidden = !isShown;
   if (!isShown) return;
   input = isDecoder ? frame : message;
-  steps = isDecoder ? decoderSteps(frame) : encoderSteps(message);
+  steps = isDecoder ? decoderSteps(frame, sentinel) : encoderSteps(message, sentinel);
   now = 0;
-  byId("steps-code").replaceChildren(...(isDecoder ? DECODER : ENCODER).map((text) => Object.assign(document.createElement("li"), { textContent: text })));
+  byId("steps-code").replaceChildren(...(isDecoder ? decoderLines : encoderLines)(sentinel).map((text) => Object.assign(document.createElement("li"), { textContent: text })));
   show();
 }
 

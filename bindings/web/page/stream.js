@@ -1,6 +1,6 @@
 // The view of a stream: its pieces, what each decodes to, and what damage does to them.
 import { encode } from "../jcobs.js";
-import { keepState } from "./address.js";
+import { keepState, linkOf } from "./address.js";
 import { joined, parseBytes } from "./bytes.js";
 import { Canvas } from "./canvas.js";
 import { FORMS, toClipboard } from "./copy.js";
@@ -9,6 +9,7 @@ import { printHex, printText } from "./hex.js";
 import { byId, complain, count, counted, once, readRoom, readSentinel, statusOf } from "./inputs.js";
 import { isLog, readLog, streamOf } from "./log.js";
 import { BADGES, BROKEN, MESSAGE, Pieces, TOO_LONG } from "./pieces.js";
+import { Undo } from "./undo.js";
 
 const SHOWN_BYTES = 24;
 const LINKED = 1900; // bytes of a stream in a link
@@ -23,23 +24,27 @@ let before;
 let pieces;
 let canvas;
 let field;
+let undo;
+let placeholder; // of the field while no file is shown
+let isTyped = false; // whether the change under way is by a key in the field
 let fromFile = null; // `{bytes}`, or `{entries}` of a log
 let readAs = "";
 
 /** The bytes of the field or the file, or null with a complaint. A log of Line stands for the frames of its rows. */
 function readStream(sentinel) {
   const log = fromFile ? fromFile.entries && fromFile : isLog(field.text) && readLog(field.text);
-  const { bytes, error, said } = log ? (log.error ? log : streamOf(log.entries, sentinel)) : (fromFile ?? parseBytes(field.text));
-  readAs = said ? ` ${said}` : "";
+  const { bytes, error, said, as } = log ? (log.error ? log : streamOf(log.entries, sentinel)) : (fromFile ?? parseBytes(field.text));
+  readAs = said ? ` ${said}` : as && as !== "hex" ? ` Read as ${as}.` : "";
   field.complain(error ? `${error} The pieces below are of the last good input.` : null, byId("stream-error"));
   return bytes ?? null;
 }
 
+/** Reads the fields, and returns whether all of them are good. */
 function update() {
   const maxLength = readRoom(byId("stream-room"), byId("stream-room-error"));
   const sentinel = readSentinel(byId("stream-sentinel"), byId("stream-sentinel-error"));
   const bytes = readStream(sentinel ?? 0);
-  if (bytes === null || maxLength === null || sentinel === null) return;
+  if (bytes === null || maxLength === null || sentinel === null) return false;
   const isSame = bytes.length === original.length && bytes.every((byte, at) => byte === original[at]);
   if (!isSame) {
     damage = new Map();
@@ -48,6 +53,25 @@ function update() {
   }
   before = new Pieces(original, { maxLength, sentinel });
   applyDamage();
+  return true;
+}
+
+/** The places of at most `most` damaged bytes, each with what is there. */
+const damageText = (most) => hurt.slice(0, most).map((at) => `${at}:${printHex(stream, at, at + 1)}`).join();
+
+function setDamage(text) {
+  damage = new Map();
+  for (const [, at, byte] of text.matchAll(/(\d+):([0-9a-f]{2})/g)) if (Number(at) < original.length) damage.set(Number(at), parseInt(byte, 16));
+  applyDamage();
+}
+
+/** Shows what the view held before. */
+function restore({ text, file, sentinel, room, damage: changes }) {
+  byId("stream-sentinel").value = printHex([sentinel]);
+  byId("stream-room").value = room;
+  field.text = text;
+  fromFile = file;
+  if (update()) setDamage(changes);
 }
 
 function applyDamage() {
@@ -59,13 +83,17 @@ function applyDamage() {
   hurt = [...damage.keys()].sort((a, b) => a - b);
   pieces = damage.size > 0 ? new Pieces(stream, before) : before;
   byId("stream-mend").disabled = damage.size === 0;
+  undo?.note({ text: field.text, file: fromFile, sentinel: before.sentinel, room: before.maxLength, damage: damageText(hurt.length) }, isTyped);
+  isTyped = false;
   keepState("stream", {
     hex: printHex(original.subarray(0, LINKED + 1)).replaceAll(" ", ""),
     sentinel: printHex([before.sentinel]),
     room: before.maxLength,
-    ...(hurt.length > 0 ? { damage: hurt.slice(0, LINKED).map((at) => `${at}:${printHex(stream, at, at + 1)}`).join() } : {}),
+    ...(hurt.length > 0 ? { damage: damageText(LINKED) } : {}),
   });
   byId("stream-copied").textContent = "";
+  byId("stream-empty").hidden = stream.length > 0;
+  byId("stream-pieces").closest(".canvas").hidden = stream.length === 0;
   canvas.show(pieces);
   say();
 }
@@ -76,11 +104,9 @@ export function setStream(values) {
   byId("stream-room").value = values.get("room") ?? "64";
   forgetFile();
   field.text = values.get("hex").replaceAll(" ", "").replace(/..(?=.)/g, "$& ");
-  update();
-  for (const [, at, byte] of (values.get("damage") ?? "").matchAll(/(\d+):([0-9a-f]{2})/g)) {
-    if (Number(at) < original.length) damage.set(Number(at), parseInt(byte, 16));
-  }
-  applyDamage();
+  if (!update()) return;
+  setDamage(values.get("damage") ?? "");
+  if (values.has("at")) canvas.open(Number(values.get("at")));
 }
 
 /** Shows the rows of a log of Line. */
@@ -94,13 +120,14 @@ function setFile(held, name) {
   field.text = "";
   fromFile = held;
   field.complain(null, byId("stream-error"));
+  placeholder ??= byId("stream-input").placeholder;
   byId("stream-input").placeholder = `${name}. Type or paste to replace it.`;
   update();
 }
 
 function forgetFile() {
   fromFile = null;
-  byId("stream-input").placeholder = "";
+  byId("stream-input").placeholder = placeholder ?? byId("stream-input").placeholder;
 }
 
 /** Copies the stream as it is shown, with its damage. */
@@ -108,9 +135,10 @@ async function copy() {
   const form = byId("stream-form").value;
   const isLink = form === "link";
   const isLong = isLink && original.length > LINKED;
-  const isCopied = !isLong && (await toClipboard(FORMS[form](stream, { name: "stream" })));
+  const isEmpty = !isLink && stream.length === 0;
+  const isCopied = !isLong && !isEmpty && (await toClipboard(FORMS[form](stream, { name: "stream", link: linkOf("stream", canvas.active > 0 ? { at: canvas.active } : {}) })));
   const refused = `The browser refused the clipboard${isLink ? "; the address holds the link" : ""}.`;
-  byId("stream-copied").textContent = isLong ? "The stream is too long for a link." : !isCopied ? refused : isLink ? "The link is copied." : `${counted(stream.length, "byte")} copied.`;
+  byId("stream-copied").textContent = isEmpty ? "There is nothing to copy." : isLong ? "The stream is too long for a link." : !isCopied ? refused : isLink ? "The link is copied." : `${counted(stream.length, "byte")} copied.`;
 }
 
 const status = statusOf("stream", 250);
@@ -227,7 +255,8 @@ function startDrop() {
 
 export function startStream() {
   const asked = once(update);
-  field = new Field(byId("stream-input"), () => {
+  field = new Field(byId("stream-input"), (isByKey) => {
+    isTyped = isByKey;
     forgetFile();
     asked();
   });
@@ -245,5 +274,8 @@ export function startStream() {
   });
   byId("stream").querySelector("form").addEventListener("submit", (event) => event.preventDefault());
   startDrop();
+  before = new Pieces(original, { maxLength: 64, sentinel: 0 });
+  applyDamage();
+  undo = new Undo(byId("stream"), byId("stream-undo"), restore);
   field.text = example(0);
 }

@@ -41,6 +41,28 @@ await check("a stream that isn't read to its end gives its memory back at once",
   }
   holds(pages() <= before + 3 * 17, `memory had ${before} pages and has ${pages()}`);
 }));
+if (globalThis.gc) {
+  await check("what a closed decoder had is freed once: its next owner keeps it", async () => {
+    const own = await fresh();
+    await own.load(wasm);
+    let isCollected = false;
+    const collector = new FinalizationRegistry(() => (isCollected = true));
+    (() => {
+      const first = new own.FrameDecoder({ maxLength: 100 });
+      collector.register(first);
+      first.close();
+    })();
+    const second = new own.FrameDecoder({ maxLength: 100 }); // at the place of the first
+    const seen = [];
+    second.push(bytes(5, 1, 2), () => {});
+    await until(() => (globalThis.gc(), isCollected), "the first is collected");
+    await new Promise((done) => setImmediate(done));
+    const third = new own.FrameDecoder({ maxLength: 100 });
+    third.push(bytes(5, 9, 9), () => {});
+    second.push(bytes(3, 4, 0), ({ message }) => seen.push([...message]));
+    equal(seen, [[1, 2, 3, 4]], "what the second gives");
+  });
+}
 await check("memory doesn't grow with a stream, nor with the number of streams", async () => {
   const frame = cobs.encode(randomBytes(900, 0.05, 5), { terminated: true });
   await memoryOf(async (pages) => {

@@ -1,48 +1,35 @@
 // What the page does by itself, without a browser.
+import { curve } from "../draw.js";
 import * as cobs from "../jcobs.js";
-import { parseBytes } from "../page/bytes.js";
 import { FORMS } from "../page/copy.js";
 import { readLog, streamOf, writeLog } from "../page/log.js";
-import { DECODER, ENCODER, decoderSteps, encoderSteps } from "../page/steps.js";
+import { decoderLines, decoderSteps, encoderLines, encoderSteps } from "../page/steps.js";
 import { FRAME, MESSAGE, bytes, randomBytes } from "./module-setup.mjs";
 import { check, equal, holds } from "./tally.mjs";
 
-await check("the page reads bytes in any form", () => {
-  const dump = "00000000  03 0a 0b 02 0c 00 48 65  6c 6c 6f 00 01 02 03 04  |......Hello.....|\n00000010  05                                                |.|\n00000011\n";
-  const xxd = "00000000: 030a 0b02 0c00 4865 6c6c 6f00 0102 0304  ......Hello.....\n00000010: 05                                       .\n";
-  const dumped = bytes(3, 10, 11, 2, 12, 0, 0x48, 0x65, 0x6c, 0x6c, 0x6f, 0, 1, 2, 3, 4, 5);
-  for (const [text, as, wanted] of [
-    ["03 0a 0b 02 0c", "hex", FRAME],
-    ["0A,0b 0x00:0c", "hex", MESSAGE],
-    ["\ufeff0a 0b\u200b 00 0c", "hex", MESSAGE],
-    ["{0x0a, 0x0b, 0x0, 0x0c}", "a list", MESSAGE],
-    ["const unsigned char frame[4] = {\n  0x0a, 0x0b, // first\n  0x00, 0x0c, /* last */\n};", "a list", MESSAGE],
-    ["[10, 11, 0, 12]", "decimal numbers", MESSAGE],
-    ["10, 11, 0, 12", "decimal numbers", MESSAGE],
-    ["[10u8, 11u8]", "decimal numbers", bytes(10, 11)],
-    ["10, 11", "hex", bytes(0x10, 0x11)],
-    ["\\x03\\x0a\\x0b", "a string with escapes", bytes(3, 10, 11)],
-    ["b'\\x03\\nA\\0'", "a string with escapes", bytes(3, 10, 65, 0)],
-    ['"\\x03\\"é"', "a string with escapes", bytes(3, 34, 0xc3, 0xa9)],
-    [dump, "a dump", dumped],
-    [xxd, "a dump", dumped],
-    ["AwoLAgw=", "base64", FRAME],
-  ]) {
-    const { bytes: found, as: name } = parseBytes(text);
-    equal([found, name], [wanted, as], JSON.stringify(text));
-  }
-  for (const text of ["0a 0b\n00 0g", "[256]", "{1.5}", "b'\\x0'", "0a 1"]) holds(parseBytes(text).error, `${text} is an error`);
-});
-await check("the steps of encoder and decoder end in what the module gives", () => {
+await check("the steps of encoder and decoder end in what the module gives, for any sentinel", () => {
   for (const length of [0, 1, 5, 253, 254, 255, 300]) {
-    for (const zeros of [0, 0.1, 1]) {
+    for (const [zeros, sentinel] of [[0, 0], [0.1, 0], [1, 0], [0, 0xaa], [0.1, 1]]) {
       const message = randomBytes(length, zeros, length + 1);
-      const frame = cobs.encode(message);
-      for (const [made, lines, wanted] of [[encoderSteps(message), ENCODER, frame], [decoderSteps(frame), DECODER, message]]) {
+      const frame = cobs.encode(message, { sentinel });
+      const ways = [[encoderSteps(message, sentinel), encoderLines(sentinel), frame], [decoderSteps(frame, sentinel), decoderLines(sentinel), message]];
+      for (const [made, lines, wanted] of ways) {
         equal(Uint8Array.from(made.at(-1).out), wanted, `of ${length} bytes`);
         holds(made.every(({ line }) => line in lines), "each step has a line");
       }
     }
+  }
+});
+await check("the curve of overhead has its steps where the greatest length has them", () => {
+  const most = (length) => cobs.maxEncodedLength(length) - length;
+  for (const length of [0, 254, 255, 5000]) {
+    const svg = curve({ most, length, overhead: most(length) });
+    const range = Math.max(1016, Math.ceil((length + 1) / 254) * 254);
+    const [, path] = svg.match(/class="most" d="([^"]+)"/);
+    const steps = [...path.matchAll(/H([\d.]+)V/g)].map(([, x]) => Math.round(((Number(x) - 34) / (560 - 34 - 30)) * range));
+    const wanted = Array.from({ length: range }, (_, at) => at).filter((at) => at > 0 && most(at + 1) > most(at));
+    equal(steps.map((at, i) => Math.abs(at - wanted[i]) <= range / 1000), wanted.map(() => true), `the steps ${steps} of ${range} bytes`);
+    holds(svg.includes(`A message of ${length} bytes has ${most(length)} bytes of overhead, of at most ${most(length)}`), "what it is called");
   }
 });
 await check("a frame is copied for a program", () => {

@@ -162,6 +162,15 @@ await check("a stream waits until what it gave out is read", async () => {
   await writer.close();
   equal((await last).done, true, "the end");
 });
+await check("abort ends a write that waits for a reader, and what it would have given is the error", async () => {
+  const stream = new cobs.FrameDecoderStream();
+  const writer = stream.writable.getWriter();
+  const written = writer.write(bytes(2, 7, 0)).catch(() => {});
+  for (let turn = 0; turn < 10; turn++) await new Promise((done) => setImmediate(done));
+  await writer.abort(new Error("enough"));
+  await written;
+  await throws(() => stream.readable.getReader().read(), (error) => error.message === "enough", "a read after it");
+});
 if (Symbol.dispose) {
   await check("a decoder is disposed of", () => {
     const decoder = new cobs.FrameDecoder();

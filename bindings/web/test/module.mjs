@@ -1,5 +1,5 @@
 // What jcobs.js adds to the module's calls: node --expose-gc module.mjs COBS.WASM
 import { report } from "./tally.mjs";
 
-for (const part of ["calls", "streams", "memory", "page"]) await import(`./module-${part}.mjs`);
+for (const part of ["calls", "streams", "memory", "page", "forms"]) await import(`./module-${part}.mjs`);
 report("module");

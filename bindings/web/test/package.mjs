@@ -1,6 +1,9 @@
 // The package as its users get it: installed, imported, required, bundled, and its examples: node package.mjs
-import { execFileSync } from "node:child_process";
+import { execFileSync, spawn } from "node:child_process";
+import { createHash } from "node:crypto";
+import { createReadStream, createWriteStream, existsSync } from "node:fs";
 import { copyFile, cp, mkdir, mkdtemp, readFile, rm, writeFile } from "node:fs/promises";
+import { createRequire } from "node:module";
 import { tmpdir } from "node:os";
 import { join } from "node:path";
 import { fileURLToPath, pathToFileURL } from "node:url";
@@ -18,7 +21,42 @@ const has = (command) => {
   }
 };
 const skip = (part, why) => console.log(`skipped: ${part}: ${why}`);
+const DIST = ["auto.js", "auto.node.js", "integrity.json", "jcobs.cjs", "jcobs.d.cts", "jcobs.js", "node.js"];
+const TOP = ["LICENSE-APACHE", "LICENSE-MIT", "README.md", "cobs.wasm", "examples/first.js", "examples/serial.js", "jcobs.d.ts", "jcobs.js", "machine.js", "package.json", "serialport.cjs", "serialport.d.cts"];
+const PACKED = [...TOP, ...DIST.map((name) => `dist/${name}`)].sort();
 const SAID = "3 10 11 2 12\n10 11 0 12\n3 10 11 2 12 0\n9 0 1 8 6\n";
+
+/** Messages through the transforms of jcobs/serialport, written to one end of a pseudo-terminal and read at the other. */
+async function overTerminal(there) {
+  const { FrameDecoderTransform, FrameEncoderTransform } = createRequire(join(there, "program.cjs"))("jcobs/serialport");
+  const [left, right] = ["left", "right"].map((name) => join(there, name));
+  const socat = spawn("socat", [`pty,raw,echo=0,link=${left}`, `pty,raw,echo=0,link=${right}`], { stdio: "ignore" });
+  try {
+    await until(() => existsSync(left) && existsSync(right), "the terminal is there");
+    const reader = createReadStream(right).on("error", () => {}); // of the terminal's end
+    const outcomes = reader.pipe(new FrameDecoderTransform({ maxLength: 2000, skipFirst: true }));
+    const seen = [];
+    outcomes.on("data", (outcome) => seen.push(outcome));
+    const writer = createWriteStream(left).on("error", () => {});
+    writer.write(Uint8Array.of(9, 9, 0, 5, 1, 0)); // the end of a frame, and a broken one
+    const encoder = new FrameEncoderTransform();
+    encoder.pipe(writer);
+    const messages = [Uint8Array.of(10, 0, 11), new Uint8Array(), Uint8Array.from({ length: 1500 }, (_, i) => i)];
+    for (const message of messages) encoder.write(message);
+    await until(() => seen.length === 4, "four outcomes");
+    equal([outcomes.skipped, seen[0], seen.slice(1).map(({ message }) => message)], [3, { broken: 1 }, messages], "what came");
+    encoder.end();
+    reader.destroy();
+    outcomes.destroy();
+    let fault;
+    const bad = new FrameEncoderTransform().on("error", (error) => (fault = error));
+    bad.write("text");
+    await until(() => fault, "a message that is no bytes");
+    holds(fault instanceof TypeError, "its error");
+  } finally {
+    socat.kill();
+  }
+}
 
 try {
   await writeFile(join(folder, "package.json"), '{ "type": "module" }');
@@ -27,22 +65,25 @@ try {
     await check("npm packs what is needed", async () => {
       const [{ files, version }] = JSON.parse(run("npm", "pack", "--dry-run", "--json", "--offline", web));
       const names = files.map(({ path }) => path).sort();
-      equal(names, ["README.md", "cobs.wasm", "dist/jcobs.cjs", "dist/jcobs.d.cts", "dist/jcobs.js", "jcobs.d.ts", "jcobs.js", "machine.js", "package.json"], "the files");
+      equal(names, PACKED, "the files");
       const header = await readFile(join(web, "../c/include/jcobs.h"), "utf8");
       const part = (name) => header.match(new RegExp(`#define JCOBS_VERSION_${name} (\\d+)`))[1];
       equal(version, `${part("MAJOR")}.${part("MINOR")}.${part("PATCH")}`, "the version, as jcobs.h has it");
     });
   } else {
     skip("npm install", "npm is not there: install Debian's npm");
-    await mkdir(join(folder, "node_modules/jcobs"), { recursive: true });
-    for (const name of ["package.json", "jcobs.js", "jcobs.d.ts", "machine.js", "cobs.wasm"]) await copyFile(join(web, name), join(folder, "node_modules/jcobs", name));
+    await mkdir(join(folder, "node_modules/jcobs/examples"), { recursive: true });
+    for (const name of TOP) await copyFile(join(web, name), join(folder, "node_modules/jcobs", name));
     await cp(join(web, "dist"), join(folder, "node_modules/jcobs/dist"), { recursive: true });
   }
+  await check("the licences are those of the repository", async () => {
+    for (const name of ["LICENSE-MIT", "LICENSE-APACHE"]) equal(await readFile(join(web, name), "utf8"), await readFile(join(web, "../..", name), "utf8"), name);
+  });
   for (const name of ["first.js", "serial.js"]) {
     await copyFile(join(web, "examples", name), join(folder, name));
     await check(`README.md has ${name}`, async () => {
       const [readme, example] = await Promise.all([join(web, "README.md"), join(web, "examples", name)].map((path) => readFile(path, "utf8")));
-      holds(readme.includes(`\`\`\`js\n${example}\`\`\``), `its text is in the README`);
+      holds(readme.includes(`\`\`\`js\n${example}\`\`\``) || readme.includes(`(examples/${name})`), "its text, or a link to it");
     });
   }
   await check("the first example runs", () => equal(run("node", "first.js"), SAID, "what it prints"));
@@ -51,6 +92,28 @@ try {
   await check("require gives the same", async () => {
     await writeFile(join(folder, "required.cjs"), first.replace(/^import (.*) from "jcobs";/, 'const $1 = require("jcobs");'));
     equal(run("node", "required.cjs"), SAID, "what it prints");
+  });
+  await check("import and require are one module", async () => {
+    await writeFile(join(folder, "both.mjs"), `import { createRequire } from "node:module";
+      import * as imported from "jcobs";
+      const required = createRequire(import.meta.url)("jcobs");
+      await imported.load();
+      console.log(imported.CobsError === required.CobsError, required.encode(Uint8Array.of(0)).join());`);
+    equal(run("node", "both.mjs"), "true 1,1\n", "what it prints");
+  });
+  await check("jcobs/auto needs no load, and jcobs/external has its file beside it", async () => {
+    await writeFile(join(folder, "auto.mjs"), 'import { encode } from "jcobs/auto";\nconsole.log(encode(Uint8Array.of(7, 0)).join());\n');
+    equal(run("node", "auto.mjs"), "2,7,1\n", "what it prints");
+    await writeFile(join(folder, "external.mjs"), first.replace('"jcobs"', '"jcobs/external"'));
+    equal(run("node", "external.mjs"), SAID, "what it prints");
+  });
+  await check("the sums of integrity.json are those of the files", async () => {
+    const sums = JSON.parse(await readFile(join(web, "dist/integrity.json"), "utf8"));
+    for (const [name, sum] of Object.entries(sums)) equal(`sha384-${createHash("sha384").update(await readFile(join(web, "dist", name))).digest("base64")}`, sum, name);
+  });
+  await check("the README has at most 700 words", async () => {
+    const words = (await readFile(join(web, "README.md"), "utf8")).trim().split(/\s+/).length;
+    holds(words <= 700, `it has ${words}`);
   });
   await check("the serial example talks and closes", async () => {
     const { talk } = await import(pathToFileURL(join(folder, "serial.js")));
@@ -74,18 +137,19 @@ try {
     await again.ended.catch((error) => (fault = error.name));
     equal(fault, "BreakError", "a fault of the line");
   });
+  if (has("socat")) await check("Node's streams over a pseudo-terminal", () => overTerminal(folder));
+  else skip("the pseudo-terminal", "socat is not there: install Debian's socat");
   if (has("tsc")) {
     await check("the examples compile in strict TypeScript", () =>
       run("tsc", "--noEmit", "--strict", "--allowJs", "--checkJs", "--target", "es2022", "--module", "node16", "--moduleResolution", "node16", "--lib", "es2022,dom", "first.js", "serial.js"));
   } else skip("the examples' types", "tsc is not there: install Debian's node-typescript");
   if (has("esbuild")) {
-    for (const [platform, format, name] of [["browser", "esm", "out.mjs"], ["browser", "iife", "out.cjs"], ["node", "cjs", "node.cjs"]]) {
-      await check(`esbuild bundles it: ${platform}, ${format}`, async () => {
-        const said = run("esbuild", "--bundle", `--platform=${platform}`, `--format=${format}`, "--log-level=warning", `--outfile=${name}`, ...(platform === "node" ? ["--conditions=require"] : []), platform === "node" ? "required.cjs" : "later.js");
-        equal(said, "", "warnings");
-        await mkdir(join(folder, format), { recursive: true });
-        await copyFile(join(folder, name), join(folder, format, name)); // alone, with nothing beside it
-        equal(run("node", join(format, name)), SAID, "what it prints");
+    const required = "required.cjs";
+    for (const [platform, format, source] of [["browser", "esm", "later.js"], ["browser", "iife", "later.js"], ["neutral", "esm", "later.js"], ["node", "esm", "later.js"], ["node", "cjs", "later.js"], ["node", "cjs", required], ["browser", "iife", required], ["node", "esm", "auto.mjs"], ["browser", "esm", "auto.mjs"]]) {
+      await check(`esbuild bundles it: ${platform}, ${format}, ${source}`, async () => {
+        const name = `bundle-${platform}-${format}-${source}`.replace(/\.\w+$/, format === "esm" ? ".mjs" : ".cjs");
+        equal(run("esbuild", "--bundle", `--platform=${platform}`, `--format=${format}`, "--log-level=warning", `--outfile=bundled/${name}`, source), "", "warnings");
+        equal(execFileSync("node", [name], { cwd: join(folder, "bundled"), encoding: "utf8" }), source === "auto.mjs" ? "2,7,1\n" : SAID, "what it prints");
       });
     }
   } else skip("esbuild", "it is not there: install Debian's esbuild");

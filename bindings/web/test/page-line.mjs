@@ -111,8 +111,14 @@ await check("line: a device that was chosen before is connected without a questi
   await page.value("serial_connect({ target: port })");
   equal(await page.value(isConnected), false, "it isn't asked to connect again");
   await page.value('document.getElementById("line-again").checked = true');
+  await page.value("serial_connect({ target: Object.assign(new FakePort(), { getInfo: () => ({ usbVendorId: 1, usbProductId: 2 }) }) })");
+  equal(await page.value("[document.getElementById('line-connect').disabled, port.opened]"), [false, null], "another device isn't connected");
   await page.value("serial_connect({ target: port })");
   await page.until(isConnected);
+  await page.click("#line-close");
+  await page.until(isNotConnected);
+  await page.value("serial_connect({ target: port })");
+  equal(await page.value("[document.getElementById('line-connect').disabled, port.opened]"), [false, null], "after Disconnect it isn't connected either");
 }, withDevice));
 
 await check("line: Disconnect closes the device, and Connect opens it again", () => on("line", async (page) => {
@@ -148,6 +154,32 @@ await check("line: messages that are sent while one is under way go out too, and
   equal(await page.value("port.opened"), null, "the port");
   equal(await said(page), "", "what is wrong");
 }, withDevice));
+
+await check("line: a message that waits when Disconnect is pressed is named, and not counted as sent", () => on("line", async (page) => {
+  await page.click("#line-connect");
+  await page.until(isConnected);
+  await page.value("port.hold = (signal) => (globalThis.isWriting = true, new Promise((done) => signal.addEventListener('abort', done)))");
+  for (const text of ["one", "two"]) {
+    await page.fill("#line-text", text);
+    await page.press("Enter");
+  }
+  await page.until("globalThis.isWriting");
+  await page.click("#line-close");
+  await page.until(isNotConnected);
+  await page.until('document.getElementById("line-text-error").textContent === "“two” was not sent: the line was closed"');
+  await counter(page, "sent", 1);
+  equal(await page.value("port.sent.join()"), "4,111,110,101,0", "what went out");
+}, withDevice));
+
+await check("line: hex takes bytes in any form", () => on("line", async (page) => {
+  await page.click("#line-loop");
+  await page.until(isConnected);
+  await page.click('input[name="line-kind"][value="hex"]');
+  await page.fill("#line-text", "{0x0a, 0x0b}");
+  await page.press("Enter");
+  await counter(page, "messages", 1);
+  equal((await cameIn(page)), [["··", "0a 0b"]], "what came in");
+}));
 
 await check("line: after a fault of the line the rest of the frame isn't taken for a message", () => on("line", async (page) => {
   await page.click("#line-connect");

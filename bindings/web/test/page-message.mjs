@@ -22,7 +22,7 @@ const BY_HAND = `{
   let number = 0;
   globalThis.setTimeout = (act) => (later.set(++number, act), number);
   globalThis.clearTimeout = (timer) => void later.delete(timer);
-  globalThis.doLater = () => later.forEach((act, timer) => (later.delete(timer), act()));
+  globalThis.doLater = () => [...later].forEach(([timer, act]) => (later.delete(timer), act()));
 }`;
 
 await check("message: the status is in sight at once, and spoken when it has settled", () => on("message", async (page) => {
@@ -162,7 +162,7 @@ await check("message: bytes that are a frame, or a stream, are offered to be rea
   await chooseHex(page);
   await page.fill("#message-input", "{0x03, 0x0a, 0x0b, 0x02, 0x0c}");
   await page.until('document.getElementById("message-offer-text").textContent.includes("are a frame")');
-  await page.until('document.getElementById("message-status").textContent.includes("Read as a list.")');
+  await page.until('document.getElementById("message-read").textContent === "Read as a list."');
   await page.click("#message-decode");
   await page.until('document.getElementById("message-frame").textContent === "03 0a 0b 02 0c"');
   await page.fill("#message-input", "03 0a 0b 00 02 07 00");
@@ -223,6 +223,49 @@ await check("message: a frame that is edited changes its message", () => on("mes
   }
 }));
 
+await check("message: the link of a frame that was written by hand leads to it", () => on("message", async (page) => {
+  const link = async () => {
+    await page.value('document.getElementById("message-copied").textContent = "", document.getElementById("message-form").value = "link"');
+    await page.click("#message-copy");
+    await page.until('document.getElementById("message-copied").textContent === "The link is copied."');
+    return page.value("navigator.clipboard.readText()");
+  };
+  await page.fill("#message-frame-edit", "05 0a 0b");
+  await page.until('document.getElementById("message-frame-error").textContent.includes("breaks off")');
+  holds(!/[0-9]/.test(await page.text("#message-blocks")), "no number of blocks is given of a broken frame");
+  holds((await page.text("#message-status")).startsWith("3 bytes that are no frame"), "the status");
+  const other = await browser.open(await link());
+  await other.until(READY);
+  await other.until('document.getElementById("message-frame").textContent === "05 0a 0b"');
+  equal([await other.value('document.getElementById("message-input").value'), await other.text("#message-drawing .badge")], ["0a 0b 00 0c", "broken"], "the message, and what the frame is");
+  await other.close();
+  const full = `ff ${"01 ".repeat(254)}01`;
+  await page.fill("#message-frame-edit", full);
+  await page.until('document.getElementById("message-copied").textContent.includes("the longer of two frames")');
+  const longer = await browser.open(await link());
+  await longer.until(READY);
+  await longer.until(`document.getElementById("message-frame").textContent === "${full}"`);
+  await longer.close();
+}));
+
+await check("message: a browser that takes no more changes of the address shows the right frame all the same", () => on("message", async (page) => {
+  await page.value("history.replaceState = () => { throw new DOMException('more than 100 times per 10 seconds', 'SecurityError'); }, doLater()");
+  await chooseText(page);
+  await page.fill("#message-input", "twenty letters or so");
+  await page.until('document.getElementById("message-length").dataset.bytes === "20"');
+  await page.value("doLater()");
+  const frame = hex(plainEncode(Buffer.from("twenty letters or so")));
+  equal([await page.text("#message-frame"), await page.text("#message-frame-length")], [frame, "21 bytes"], "the frame and its length");
+}, { before: BY_HAND }));
+
+await check("message: the address is written once for changes that follow each other", () => on("message", async (page) => {
+  await page.value("doLater(), globalThis.written = 0, history.replaceState = () => void written++");
+  await chooseText(page);
+  await page.fill("#message-input", "twenty letters or so");
+  await page.until('document.getElementById("message-length").dataset.bytes === "20"');
+  equal(await page.value("[written, (doLater(), written)]"), [0, 1], "how often it was written, before and after the page is still");
+}, { before: BY_HAND }));
+
 await check("message: step by step", () => on("message", async (page) => {
   await page.click("#message-steps summary");
   const bytes = (name) => page.value(`document.getElementById("steps-${name}").textContent`);
@@ -240,6 +283,15 @@ await check("message: step by step", () => on("message", async (page) => {
   equal(await bytes("out"), "0a0b000c", "the message");
   await page.click('[data-run="255"]');
   await page.until('document.getElementById("steps-in").textContent.length === 2 * 257');
+  await chooseHex(page);
+  await page.fill("#message-input", "0a 0b 00 0c");
+  await page.fill("#message-sentinel", "aa");
+  await page.until('document.getElementById("steps-in").textContent === "a9a0a1a8a6"');
+  await last();
+  equal(await bytes("out"), "0a0b000c", "the message, of a frame for another sentinel");
+  await page.value('(() => { const which = document.getElementById("steps-which"); which.value = "encoder"; which.dispatchEvent(new Event("change")); })()');
+  for (let i = 0; i < 12; i++) await last();
+  equal([await bytes("out"), await page.text("#steps-code .on")], ["a9a0a1a8a6", "out = each byte of out XOR the sentinel"], "the frame for it");
 }));
 
 await check("message: the line ends of pasted text are kept, whatever its length", () => on("message", async (page) => {

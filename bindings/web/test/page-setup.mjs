@@ -18,12 +18,15 @@ export const READY = "document.documentElement.dataset.ready === 'yes'";
 export const hex = (bytes) => Buffer.from(bytes).toString("hex").replace(/..(?=.)/g, "$& ");
 export const number = (text) => Number(text.replace(/[^0-9]/g, ""));
 
+/** What most tests of Message begin with. */
+const SAMPLE = "&hex=0a0b000c&as=hex&sentinel=00";
+
 /** A page on a view, closed when `act` is done; it must have said nothing on its console. */
 export async function on(view, act, options = {}) {
-  const page = await browser.open(`${address}#${view}`, options);
+  const page = await browser.open(`${address}#${view}${view === "message" ? SAMPLE : ""}`, options);
   try {
     await page.until(READY);
-    await page.until(`!document.getElementById("${view}").hidden`);
+    await page.until(`!document.getElementById("${view.split("&")[0]}").hidden`);
     await page.drawn();
     await act(page);
     equal(page.faults, [], "what the page complained of on its console");

@@ -4,7 +4,7 @@ import { tmpdir } from "node:os";
 import { join } from "node:path";
 import { encode as plainEncode } from "./plain.js";
 import { equal, holds } from "./tally.mjs";
-import { READY, STREAM, badges, browser, check, fillStream, hex, on, outcomes, summary, timed } from "./page-setup.mjs";
+import { READY, STREAM, address, badges, browser, check, fillStream, hex, on, outcomes, summary, timed } from "./page-setup.mjs";
 
 const TALL = { height: 1600 }; // so that all pieces are in sight
 const isByte = (page, at, digits) => page.until(`document.getElementById("stream-byte-${at}").getAttribute("aria-label").startsWith("Byte ${at}: ${digits},")`);
@@ -163,6 +163,45 @@ await check("stream: a link gives the same stream with its damage", () => on("st
   }
 }));
 
+await check("stream: a link that was cut or changed has its complaint, and the page works", () => on("stream", async (page) => {
+  for (const [link, words] of [
+    ["hex=030a0b020", "“0” is one digit"],
+    ["hex=<img src=x onerror=alert(1)>", "list of bytes"],
+    ["hex=030a0b00&sentinel=zz", "“zz” is no sentinel"],
+    ["hex=030a0b00&sentinel=0", "“0” is no sentinel"],
+    ["hex=030a0b00&room=abc", "whole number"],
+    ["hex=030a0b00&room=-1", "whole number"],
+    ["hex=030a0b00&room=99999999&damage=1:ff,9:00,x", "whole number"],
+  ]) {
+    const other = await browser.open(`${address}#stream&${link}`);
+    await other.until(READY);
+    await other.until(`[...document.querySelectorAll("#stream .error")].some((each) => !each.hidden && each.textContent.includes(${JSON.stringify(words)}))`);
+    equal(await other.value('document.getElementById("unsupported").hidden'), true, "nothing else is wrong");
+    for (const [name, value] of [["sentinel", "00"], ["room", "64"]]) await other.fill(`#stream-${name}`, value);
+    await other.click("#stream-example");
+    await summary(other, "142 bytes, 7 pieces");
+    equal(other.faults, [], "what the page complained of on its console");
+    await other.close();
+  }
+  equal(await page.value("location.hash.startsWith('#stream')"), true, "the address");
+}));
+
+await check("stream: damage of a piece's first byte leaves the piece before it alone", () => on("stream", async (page) => {
+  await fillStream(page, STREAM);
+  await summary(page, "5 pieces");
+  await page.click("#stream-byte-6"); // the first byte of the second piece
+  await summary(page, "1 byte damaged: 4 of the 5 pieces came through as before");
+  equal((await badges(page)).slice(0, 2), ["message", "broken"], "the badges");
+}));
+
+await check("stream: nothing is copied of no bytes", () => on("stream", async (page) => {
+  await page.fill("#stream-input", "");
+  await summary(page, "0 bytes, 0 pieces.");
+  await page.value('document.getElementById("stream-form").value = "c"');
+  await page.click("#stream-copy");
+  await page.until('document.getElementById("stream-copied").textContent === "There is nothing to copy."');
+}));
+
 await check("stream: arcs lead from code to code, and each byte is explained", () => on("stream", async (page) => {
   for (const sentinel of [0, 0x55]) {
     await page.fill("#stream-sentinel", sentinel.toString(16).padStart(2, "0"));
@@ -178,7 +217,9 @@ await check("stream: arcs lead from code to code, and each byte is explained", (
       await page.press("ArrowRight");
     }
     await page.press("End");
-    await page.until('document.getElementById("stream-explained").textContent.includes("It leads past the end of the piece")');
+    await page.until('document.getElementById("stream-explained").textContent.includes("It leads past what has come of the piece so far.")');
+    for (let i = 0; i < 11; i++) await page.press("ArrowLeft");
+    await page.until('document.getElementById("stream-explained").textContent.includes("It leads past the end of the piece, which is broken.")');
   }
 }, TALL));
 

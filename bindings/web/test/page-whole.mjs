@@ -1,9 +1,9 @@
 // The page as a whole, in Chromium.
 import { execFileSync, spawnSync } from "node:child_process";
 import { existsSync } from "node:fs";
-import { mkdtemp, readFile, readdir, rm, writeFile } from "node:fs/promises";
+import { mkdtemp, readFile, readdir, rm, stat, writeFile } from "node:fs/promises";
 import { tmpdir } from "node:os";
-import { join } from "node:path";
+import { dirname, join, relative } from "node:path";
 import { fileURLToPath, pathToFileURL } from "node:url";
 import { serve } from "../serve.mjs";
 import { Browser } from "./chromium.mjs";
@@ -66,9 +66,16 @@ for (const view of ["message", "stream", "line"]) {
           const contrast = (a + 0.05) / (b + 0.05);
           if (contrast < 4.5) faint.push(element.outerHTML.slice(0, 80) + " " + contrast.toFixed(2));
         }
+        for (const element of document.querySelectorAll("main :is(button, input, select, textarea, .button, .rows, .hex)")) {
+          const style = getComputedStyle(element);
+          const isBare = element.matches(".spoken, [type=radio], [type=checkbox], [type=range]") || style.borderTopWidth === "0px" || parse(style.borderTopColor)[3] === 0;
+          if (isBare || element.getClientRects().length === 0) continue;
+          const [a, b] = [shine(parse(style.borderTopColor)), shine(ground(element.parentElement))].sort((x, y) => y - x);
+          if ((a + 0.05) / (b + 0.05) < 3) faint.push("the border of " + element.outerHTML.slice(0, 80));
+        }
         return faint;
       })()`);
-      equal(faint, [], "text whose contrast is under 4.5");
+      equal(faint, [], "text whose contrast is under 4.5, and borders whose is under 3");
     }, { width, height: 800, isDark, isPhone: width < 500 }));
   }
 }
@@ -79,6 +86,35 @@ await check("page: an engine that is too old is told so", async () => {
   holds((await page.text("#unsupported")).includes("lacks the WebAssembly"), "it says why");
   equal(await page.value('document.getElementById("views").hidden'), true, "no view is shown");
   await page.close();
+});
+
+await check("page: a fault of the page isn't called one of loading", async () => {
+  const page = await browser.open(address, { before: "ResizeObserver = class { constructor() { throw new Error('planted'); } }" });
+  await page.until('!document.getElementById("unsupported").hidden');
+  equal(await page.text("#unsupported"), "This page has a fault: planted", "what it says");
+  await page.close();
+});
+
+await check("page: a content security policy that forbids the module is named, and one that allows it is enough; in a worker too", async () => {
+  const folder = await mkdtemp(join(tmpdir(), "jcobs-policy-"));
+  const site = await serve(0, { policy: folder });
+  try {
+    await writeFile(join(folder, "jcobs.js"), await readFile(new URL("../dist/jcobs.js", import.meta.url)));
+    await writeFile(join(folder, "said.js"), `import { encode, isSupported, load } from "./jcobs.js";
+      export const said = load().then(() => encode(Uint8Array.of(7)).join(), ({ name, kind, message }) => [name, kind, message].join()).then((text) => [isSupported(), text].join());`);
+    await writeFile(join(folder, "worker.js"), 'import { said } from "./said.js"; said.then(postMessage);');
+    await writeFile(join(folder, "page.js"), `import { said } from "./said.js";
+      new Worker("worker.js", { type: "module" }).onmessage = async ({ data }) => { document.title = [await said, data].join(" | "); };`);
+    for (const [policy, wanted] of [["'self' 'wasm-unsafe-eval'", "true,2,7 | true,2,7"], ["'self'", "false,CobsError,unsupported,a content security policy forbids WebAssembly: its script-src needs 'wasm-unsafe-eval'"]]) {
+      await writeFile(join(folder, "page.html"), `<!doctype html><meta http-equiv="Content-Security-Policy" content="script-src ${policy}"><script type="module" src="page.js"></script>`);
+      const page = await browser.open(`${site.address}policy/page.html`);
+      await page.until(`document.title.startsWith(${JSON.stringify(wanted)})`);
+      await page.close();
+    }
+  } finally {
+    site.server.close();
+    await rm(folder, { recursive: true });
+  }
 });
 
 await check("page: every vector", () => on("message", async (page) => {
@@ -98,6 +134,17 @@ await check("page: the folder that build.sh makes serves it, under its content s
     await page.until('document.getElementById("message-frame").textContent === "02 0a 01"');
     await page.until('getComputedStyle(document.querySelector("#message-drawing text.on")).fontWeight === "700"');
     equal(await page.value('performance.getEntriesByType("resource").filter(({ name }) => !name.includes("/site/")).map(({ name }) => name)'), [], "requests beside the folder");
+    const files = (await readdir(folder, { recursive: true, withFileTypes: true })).filter((each) => each.isFile()).map((each) => relative(folder, join(each.path, each.name)));
+    const named = new Set();
+    for (const file of files.filter((name) => /\.(html|js|css)$/.test(name))) {
+      const text = await readFile(join(folder, file), "utf8");
+      const links = [...text.matchAll(/(?:href|src)="([^"#:]+)"|^import [^"]*"(\.[^"]+)"|^export [^"]* from "(\.[^"]+)"|new URL\("([\w.]+)", import\.meta\.url\)|property="og:image" content="([^"]+)"/gm)];
+      for (const found of links) named.add(join(dirname(file), found.slice(1).find((each) => each)));
+    }
+    equal([...named].filter((name) => !files.includes(name)), [], "links to files that aren't there");
+    equal(files.filter((name) => !named.has(name) && name !== "index.html"), [], "files that nothing links to");
+    const size = (await Promise.all(files.map(async (name) => (await stat(join(folder, name))).size))).reduce((sum, each) => sum + each, 0);
+    holds(size < 400_000, `the site has ${size} bytes`);
     const policy = await page.value(`document.querySelector("meta[http-equiv]").content`);
     holds(!policy.includes("unsafe-inline") && policy.startsWith("default-src 'none'"), "the policy is strict");
     equal(page.faults, [], "what the page complained of on its console");
@@ -110,21 +157,23 @@ await check("page: the folder that build.sh makes serves it, under its content s
 
 await check("page: the site links to the repository's files if it is told their address, and runs at any address", async () => {
   const folder = await mkdtemp(join(tmpdir(), "jcobs-linked-"));
-  const build = (repository) => execFileSync(fileURLToPath(new URL("../build.sh", import.meta.url)), ["site", folder], { env: { ...process.env, REPOSITORY: repository }, stdio: "pipe" });
+  const build = (repository, own = "") => execFileSync(fileURLToPath(new URL("../build.sh", import.meta.url)), ["site", folder], { env: { ...process.env, REPOSITORY: repository, ADDRESS: own }, stdio: "pipe" });
   const links = (page) => page.value('[...document.querySelectorAll("a[data-file]")].map((link) => [link.getClientRects().length > 0 || !link.closest("[role=tabpanel]:not([hidden]), footer"), link.href])');
   const other = await Browser.start(process.env.CHROMIUM ?? "chromium", ["--host-resolver-rules=MAP cobs.test 127.0.0.1"]);
   const site = await serve(0, { deep: folder });
   try {
     await throws(() => build("javascript:alert(1)"), (error) => String(error.stderr).includes("REPOSITORY"), "an address that is none");
-    build("https://example.org/cobs/blob/main");
+    await throws(() => build("", 'https://x"y'), (error) => String(error.stderr).includes("ADDRESS"), "an address of its own that is none");
+    build("https://example.org/cobs/blob/main", "https://example.org/cobs");
     // by plain HTTP from elsewhere, which is no secure context: there is no clipboard and no Web Serial
     const page = await other.open(`${site.address.replace("localhost", "cobs.test")}deep/index.html`);
     await page.until(READY);
     const found = await links(page);
     equal(found.every(([isSeen]) => isSeen), true, "the links are seen");
+    equal(await page.value('document.querySelector("[property=\'og:image\']").content'), "https://example.org/cobs/preview.png", "the picture of a link");
     const files = found.map(([, href]) => href.replace("https://example.org/cobs/blob/main/", ""));
     holds(files.length >= 12 && files.every((file) => existsSync(new URL(`../../../${file}`, import.meta.url))), `each is a file of the repository: ${files}`);
-    equal(await page.text("#message-frame"), "03 0a 0b 02 0c", "the frame");
+    equal(await page.text("#message-frame"), "06 48 65 6c 6c 6f 06 57 6f 72 6c 64", "the frame");
     await page.click("#message-copy");
     await page.until('document.getElementById("message-copied").textContent.includes("refused the clipboard")');
     await page.click("#tab-line");

@@ -2,7 +2,7 @@
 import { browser, server } from "./page-setup.mjs";
 import { report } from "./tally.mjs";
 
-for (const part of ["message", "canvas", "stream", "line", "whole"]) await import(`./page-${part}.mjs`);
+for (const part of ["first", "message", "canvas", "stream", "line", "whole", "pictures"]) await import(`./page-${part}.mjs`);
 await browser.close();
 server.close();
 report("page");

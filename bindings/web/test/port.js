@@ -7,6 +7,7 @@ export class FakePort {
   sent = [];
   cancelMilliseconds = 20;
   writeMilliseconds = 0;
+  hold = () => {}; // what each write waits for, with the signal of its abort
   #readable = null;
   #writable = null;
   #controller = null;
@@ -35,8 +36,9 @@ export class FakePort {
   get writable() {
     if (!this.opened) return null;
     this.#writable ??= new WritableStream({
-      write: async (bytes) => {
+      write: async (bytes, controller) => {
         await pause(this.writeMilliseconds);
+        await this.hold(controller.signal);
         this.sent.push(...bytes);
       },
       abort: () => void (this.#writable = null),

@@ -1,37 +1,18 @@
-// The screenshots of the README: node screenshots.mjs FOLDER
+// The pictures of the page: node screenshots.mjs
+//
+// preview.png is what a link to the page shows; the others are in docs/images.
 import { join } from "node:path";
+import { fileURLToPath, pathToFileURL } from "node:url";
 import { serve } from "../serve.mjs";
 import { Browser } from "./chromium.mjs";
-
-const folder = process.argv[2];
-const { server, address } = await serve();
-const browser = await Browser.start(process.env.CHROMIUM ?? "chromium");
 
 /** A clock that goes on by 37 ms each time it is read, so that the pictures are the same at each run. */
 const CLOCK = "{ let now = Date.UTC(2026, 10, 23, 10); const Clock = Date; Date = class extends Clock { constructor(...given) { super(...(given.length > 0 ? given : [(now += 37)])); } }; }";
 
-async function shot(name, view, options, act) {
-  const page = await browser.open(`${address}#${view}`, { ...options, before: CLOCK });
-  await page.send("Emulation.setTimezoneOverride", { timezoneId: "UTC" });
-  await page.until("document.documentElement.dataset.ready === 'yes'");
-  await act(page);
-  await page.value("document.activeElement.matches('.rows') || document.activeElement.blur(), scrollTo({ top: 0, behavior: 'instant' })");
-  await page.screenshot(join(folder, name));
-  await page.close();
-}
-
-async function message(page) {
-  await page.click('input[name="message-kind"][value="hex"]');
-  await page.fill("#message-input", "48 65 6c 6c 6f 00 00 77 6f 72 6c 64");
-  await page.until('document.getElementById("message-byte-13") !== null');
-  await page.click("#message-byte-6");
-}
-
 async function stream(page) {
-  await page.click("#stream-byte-3");
-  await page.click("#stream-byte-11");
+  for (const at of [3, 11]) await page.click(`#stream-byte-${at}`);
   await page.until('document.querySelectorAll("#stream-pieces [aria-selected=true]").length === 2');
-  await page.value('document.getElementById("stream-pieces").scrollTop = 0, document.activeElement.blur()');
+  await page.value('document.getElementById("stream-pieces").scrollTop = 0');
 }
 
 async function line(page) {
@@ -45,22 +26,36 @@ async function line(page) {
     rows += 2; // what is sent, and what comes of it
     await page.until(`document.querySelectorAll("#line-log .row").length === ${rows}`);
   }
-  await page.click("#line-row-6 .badge");
 }
 
-const VIEWS = { message, stream, line };
-const DEVICES = {
-  "": { width: 900, height: 1000 },
-  "-dark": { width: 900, height: 1000, isDark: true },
-  "-phone": { width: 390, height: 1000, isPhone: true, scale: 1 },
-  "-phone-dark": { width: 390, height: 1000, isPhone: true, isDark: true, scale: 1 },
+/** Each picture: its view, the window, and what is done before it is taken. */
+export const PICTURES = {
+  "preview.png": ["message", { width: 1200, height: 630 }, (page) => page.click("#message-byte-6")],
+  "page-stream-dark.png": ["stream", { width: 1000, height: 700, isDark: true }, stream],
+  "page-line-phone.png": ["line", { width: 390, height: 844, isPhone: true, scale: 1 }, line],
 };
 
-try {
-  for (const [view, act] of Object.entries(VIEWS)) {
-    for (const [name, device] of Object.entries(DEVICES)) await shot(`page-${view}${name}.png`, view, device, act);
-  }
-} finally {
+/** Takes a picture of the page at an address. */
+export async function take(browser, address, name, folder) {
+  const [view, options, act] = PICTURES[name];
+  const page = await browser.open(`${address}#${view}`, { ...options, before: CLOCK });
+  await page.send("Emulation.setTimezoneOverride", { timezoneId: "UTC" });
+  await page.until("document.documentElement.dataset.ready === 'yes'");
+  await act(page);
+  await page.value("document.activeElement.blur(), scrollTo({ top: 0, behavior: 'instant' })");
+  await page.send("Input.dispatchMouseEvent", { type: "mouseMoved", x: 1, y: 1 });
+  await page.drawn();
+  await page.screenshot(join(folder, name));
+  await page.close();
+}
+
+/** The folder that a picture is kept in. */
+export const folderOf = (name) => fileURLToPath(new URL(name === "preview.png" ? ".." : "../../../docs/images", import.meta.url));
+
+if (process.argv[1] && import.meta.url === pathToFileURL(process.argv[1]).href) {
+  const { server, address } = await serve();
+  const browser = await Browser.start(process.env.CHROMIUM ?? "chromium");
+  for (const name of Object.keys(PICTURES)) await take(browser, address, name, folderOf(name));
   await browser.close();
   server.close();
 }

@@ -5,7 +5,7 @@ import * as plain from "./plain.js";
 
 const MIB = 1 << 20;
 const STREAM = 16 * MIB;
-const TIMES = 16;
+const CALL = 200; // what a call costs, in bytes: how often short ones are made
 const MAX_LENGTH = 65536;
 
 /** The same bytes at each run: `zeros` of a thousand are zero. */
@@ -82,10 +82,10 @@ const ways = {
   plainStream: (kind, size) => throughStream(new plain.PlainDecoderStream({ maxLength: MAX_LENGTH }), frames[kind], size),
   push: async (kind, size) => throughDecoder(new FrameDecoder({ maxLength: MAX_LENGTH }), frames[kind], size),
   plainPush: async (kind, size) => throughDecoder(new plain.PlainDecoder(MAX_LENGTH), frames[kind], size),
-  encode: async (kind) => repeated(() => encode(messages[kind])),
-  plainEncode: async (kind) => repeated(() => plain.encode(messages[kind])),
-  decode: async (kind) => repeated(() => decode(encodedOnce(kind))),
-  plainDecode: async (kind) => repeated(() => plain.decode(encodedOnce(kind))),
+  encode: async (kind) => repeated(kind, () => encode(messages[kind])),
+  plainEncode: async (kind) => repeated(kind, () => plain.encode(messages[kind])),
+  decode: async (kind) => repeated(kind, () => decode(encodedOnce(kind))),
+  plainDecode: async (kind) => repeated(kind, () => plain.decode(encodedOnce(kind))),
 };
 
 const frames = {};
@@ -93,10 +93,12 @@ const messages = {};
 const encoded = {};
 const encodedOnce = (kind) => (encoded[kind] ??= encode(messages[kind]));
 
-function repeated(act) {
-  let length = 0;
-  for (let i = 0; i < TIMES; i++) length = act().length;
-  return { length };
+/** Makes a call about as often as takes as long as that of 16 MiB, and gives what it returned and how many bytes that was of. */
+function repeated(kind, act) {
+  const times = Math.round(STREAM / (messages[kind].length + CALL));
+  let sum = 0;
+  for (let i = 0; i < times; i++) sum += act().length;
+  return { sum, times, bytes: times * messages[kind].length };
 }
 
 let pages;
@@ -115,9 +117,9 @@ memoryOf(async (pagesNow) => {
   frames["1,000 bytes, 2 % zeros"] = framesOf(1000, 20);
   frames["1,000 bytes, 30 % zeros"] = framesOf(1000, 300);
   frames["60 bytes, 10 % zeros"] = framesOf(60, 100);
-  messages["no zeros"] = bytes(MIB, 0, 1);
-  messages["2 % zeros"] = bytes(MIB, 20, 2);
-  messages["30 % zeros"] = bytes(MIB, 300, 3);
-  messages["zeros alone"] = new Uint8Array(MIB);
+  for (const [name, length] of [["8 bytes", 8], ["64 bytes", 64], ["1 KiB", 1024], ["1 MiB", MIB]]) {
+    for (const [kind, zeros] of [["no zeros", 0], ["2 % zeros", 20], ["30 % zeros", 300]]) messages[`${name}, ${kind}`] = bytes(length, zeros, 3);
+  }
+  messages["1 MiB, zeros alone"] = new Uint8Array(MIB);
   globalThis.kinds = { frames: Object.keys(frames), messages: Object.keys(messages) };
 }).catch((error) => (globalThis.kinds = { error: error.stack }));

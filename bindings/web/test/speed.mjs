@@ -1,4 +1,4 @@
-// The figures of the README, measured in Chromium: node speed.mjs
+// The figures of PAGE.md, measured in Chromium: node speed.mjs [messages]
 //
 // A figure is megabytes for each second of the page's processor time, so that other work on the machine counts little;
 // the best of some rounds, in which the ways take turns. Ways that are compared must have seen the same.
@@ -26,13 +26,17 @@ async function compare(page, ways, kind, size) {
   for (let round = 0; round < ROUNDS; round++) {
     for (const [i, way] of ways.entries()) {
       const begun = await processorTime();
-      seen.add(JSON.stringify(await page.value(`run(${JSON.stringify(way)}, ${JSON.stringify(kind)}, ${JSON.stringify(size)})`)));
-      best[i] = Math.max(best[i], SIZE / 1e6 / ((await processorTime()) - begun));
+      const found = await page.value(`run(${JSON.stringify(way)}, ${JSON.stringify(kind)}, ${JSON.stringify(size)})`);
+      seen.add(JSON.stringify(found));
+      best[i] = Math.max(best[i], (found.bytes ?? SIZE) / 1e6 / ((await processorTime()) - begun));
     }
   }
   if (ways.length > 1 && seen.size !== 1) throw new Error(`they differ: ${[...seen].join(" and ")}`);
-  return best.map(Math.round);
+  return best;
 }
+
+const printed = (figures) => figures.map((figure) => (figure < 10 ? figure.toFixed(1) : String(Math.round(figure)))).join(" | ");
+const isAll = process.argv[2] !== "messages";
 
 try {
   const page = await browser.open(`${address}test/speed.html`);
@@ -41,25 +45,26 @@ try {
   if (error) throw new Error(error);
   console.log(`${await browser.version()}, ${cpus()[0].model}\n`);
 
-  console.log("| after | module | JavaScript |\n|---|---|---|");
-  for (let i = 1; i <= 5; i++) {
+  if (isAll) console.log("| after | module | JavaScript |\n|---|---|---|");
+  for (let i = 1; isAll && i <= 5; i++) {
     await page.value(`run("stream", ${JSON.stringify(frames[0])}, "mixed")`);
     const { module, heap } = await page.value("memory()");
     console.log(`| ${i * 16} MiB | ${module.toLocaleString("en")} | ${heap.toLocaleString("en")} |`);
   }
 
-  console.log("\n| messages | chunks | `FrameDecoderStream` | plain stream | `FrameDecoder` | plain loop |\n|---|---|---|---|---|---|");
-  for (const kind of frames) {
+  if (isAll) console.log("\n| messages | chunks | `FrameDecoderStream` | plain stream | `FrameDecoder` | plain loop |\n|---|---|---|---|---|---|");
+  for (const kind of isAll ? frames : []) {
     for (const size of CHUNKS) {
       const figures = await compare(page, ["stream", "plainStream", "push", "plainPush"], kind, size);
-      console.log(`| ${kind} | ${size === "mixed" ? "64 to 4,096" : size.toLocaleString("en")} | ${figures.join(" | ")} |`);
+      console.log(`| ${kind} | ${size === "mixed" ? "64 to 4,096" : size.toLocaleString("en")} | ${printed(figures)} |`);
     }
   }
 
-  console.log("\n| message | `encode` | plain | `decode` | plain |\n|---|---|---|---|---|");
+  console.log("\n| message | `encode` | plain | times | `decode` | plain | times |\n|---|---|---|---|---|---|---|");
   for (const kind of messages) {
-    const figures = [...(await compare(page, ["encode", "plainEncode"], kind)), ...(await compare(page, ["decode", "plainDecode"], kind))];
-    console.log(`| ${kind} | ${figures.join(" | ")} |`);
+    const [encoding, decoding] = [await compare(page, ["encode", "plainEncode"], kind), await compare(page, ["decode", "plainDecode"], kind)];
+    const times = ([module, plain]) => (module / plain).toFixed(2);
+    console.log(`| ${kind} | ${printed(encoding)} | ${times(encoding)} | ${printed(decoding)} | ${times(decoding)} |`);
   }
 } finally {
   await browser.close();

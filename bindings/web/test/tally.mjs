@@ -41,9 +41,11 @@ export async function throws(act, matches, what) {
   throw new Error(`${what}: nothing was thrown`);
 }
 
+const PATIENCE = Number(process.env.PATIENCE ?? 120) * 1000; // a loaded machine is slow
+
 /** Waits until `act` gives something true, which it may promise, and returns it. An error of its own is the end only when time is up. */
 export async function until(act, what = act) {
-  for (const end = Date.now() + 120_000; ; await new Promise((done) => setTimeout(done, 25))) {
+  for (const end = Date.now() + PATIENCE; ; await new Promise((done) => setTimeout(done, 25))) {
     const found = await Promise.resolve().then(act).catch((error) => {
       if (Date.now() > end) throw error;
     });

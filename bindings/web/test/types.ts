@@ -26,7 +26,7 @@ export async function use(port: { readable: ReadableStream<Uint8Array>; writable
   encoder.close();
   const decoder = new FrameDecoder({ maxLength: 100 });
   decoder.push(frame, (outcome, end) => count(end > 0 ? outcome : { tooLong: true }));
-  decoder.close();
+  decoder[Symbol.dispose]();
   const stream = new FrameDecoderStream({ maxLength: 4096 });
   const reader = port.readable.pipeThrough<Outcome>(stream).getReader();
   const { value } = await reader.read();

@@ -70,12 +70,23 @@ try {
   await check("webkit: the page is drawn", async () => {
     await go("#message");
     await until(() => value("document.documentElement.dataset.ready === 'yes'"));
-    await until(() => value("document.getElementById('message-frame').textContent === '03 0a 0b 02 0c'"));
+    await until(() => value("document.getElementById('message-frame').textContent === '06 48 65 6c 6c 6f 06 57 6f 72 6c 64'"));
     await until(() => value("document.querySelectorAll('#message-drawing .arc').length === 2"));
     await value("document.getElementById('tab-stream').click()");
     await until(() => value("document.getElementById('stream-status').textContent.includes('7 pieces: 5 messages')"));
     await value("document.getElementById('stream-byte-1').click()");
     await until(() => value("document.querySelector('#stream-pieces .badge').textContent === 'altered message'"));
+  });
+  await check("webkit: after 100 changes of the address within 10 s the page shows the right frame", async () => {
+    await go("#message&hex=0a0b000c&as=text&sentinel=00");
+    await until(() => value("document.documentElement.dataset.ready === 'yes'"));
+    await value("document.querySelector('input[name=message-kind][value=text]').click()");
+    const spent = await value("(() => { for (let i = 0; i < 200; i++) try { history.replaceState(null, '', location.href); } catch { return i; } return -1; })()");
+    holds(spent >= 0 && spent <= 100, `the engine allowed ${spent} changes`);
+    for (let i = 1; i <= 20; i++) await value(`(document.getElementById('message-input').value = 'x'.repeat(${i}), document.getElementById('message-input').dispatchEvent(new Event('input')))`);
+    await until(() => value("document.getElementById('message-length').textContent === '20 bytes'"));
+    equal(await value("document.getElementById('message-frame').textContent"), `15${" 78".repeat(20)}`, "the frame");
+    equal(await value("document.getElementById('message-frame-length').textContent"), "21 bytes", "its length");
   });
   await check("webkit: bytes of the canvas are explained and written", async () => {
     await go("#message&hex=0a0b000c&as=hex&sentinel=00");

@@ -1,0 +1,33 @@
+// A message as text in a field: UTF-8, with line ends of one kind, and the sign ∅ for a byte 00, which no keyboard writes.
+
+export const ZERO = "∅";
+const ENDS = { LF: "\n", CRLF: "\r\n", CR: "\r" };
+
+/** Which line ends a text has: a name, "" if there are none, null if they are of several kinds. */
+export function endsOf(text) {
+  const found = new Set(text.match(/\r\n|\r|\n/g));
+  if (found.size > 1) return null;
+  return Object.keys(ENDS).find((name) => found.has(ENDS[name])) ?? "";
+}
+
+/** The bytes of a field's text. */
+export const bytesOfText = (text, ends) => new TextEncoder().encode(text.replaceAll("\n", ENDS[ends]).replaceAll(ZERO, "\0"));
+
+/** Bytes as `{text, ends}`, which give these bytes again, or null. */
+export function textOf(bytes) {
+  try {
+    const given = new TextDecoder("utf-8", { fatal: true, ignoreBOM: true }).decode(bytes);
+    const ends = endsOf(given);
+    if (ends === null || given.includes(ZERO)) return null;
+    const text = given.replaceAll("\0", ZERO).replace(/\r\n?/g, "\n");
+    return /[^\P{C}\n\t]/u.test(text) ? null : { text, ends: ends || "LF" };
+  } catch {
+    return null;
+  }
+}
+
+/** Whether a text is surely bytes in some form, and no text to be sent as such. */
+export function isBytes(text, as) {
+  if (as === "hex") return /^\s*(0x)?[0-9a-f]{2}([\s,:-]+(0x)?[0-9a-f]{2}){2,}\s*,?\s*$/i.test(text) || /0x|fromhex/i.test(text);
+  return as !== undefined && !["base64", "a string", "decimal numbers"].includes(as) || (as === "decimal numbers" && /[[{(]/.test(text));
+}

@@ -1,0 +1,160 @@
+// The forms of bytes that the page takes: each is read right and said how, or is an error.
+import { parseBytes } from "../page/bytes.js";
+import { isBytes } from "../page/text.js";
+import { check, equal, holds } from "./tally.mjs";
+
+const LIST = "a list";
+const DECIMAL = "decimal numbers";
+const MIXED = "a list of numbers";
+const ESCAPES = "a string with escapes";
+const STRING = "a string";
+const DUMP = "a dump";
+const WORDS = "a dump of words of 16 bits, the low byte first";
+const CAN = "data of candump";
+const ROW = "00 00 00 00 00 00 00 00 00 00 00 00 00 00 00 00";
+const ZEROS = "00".repeat(32);
+
+const READ = [
+  // hex digits
+  ["03 0a 0b 02 0c", "hex", "030a0b020c"],
+  ["030a0b020c", "hex", "030a0b020c"],
+  ["0A,0b 0x00:0c", "hex", "0a0b000c"],
+  ["03-0a-0b", "hex", "030a0b"],
+  ["\ufeff0a 0b\u200b 00 0c", "hex", "0a0b000c"],
+  ["0x030a0b", "hex", "030a0b"],
+  ["0x3 0xA", "hex", "030a"],
+  ["0x03, 0x0a,", "hex", "030a"],
+  ["10, 11", "hex", "1011"],
+  ["[03 0a 0b]", "hex", "030a0b"],
+  ["030a  0b02", "hex", "030a0b02"],
+  ["030a  0b02\n0c00  0102", "hex", "030a0b020c000102"],
+  ["$03 $0A", "hex of an assembler", "030a"],
+  ["03h, 0Ah, 0FFh", "hex of an assembler", "030aff"],
+  // C and C++
+  ["{0x0a, 0x0b, 0x0, 0x0c}", LIST, "0a0b000c"],
+  ["{0x0a, 11, 0}", MIXED, "0a0b00"],
+  ["{{0x01,0x02},{0x03}}", LIST, "010203"],
+  ["{(uint8_t)0x0a}", LIST, "0a"],
+  ["{'a', 0}", MIXED, "6100"],
+  ["const unsigned char frame[4] = {\n  0x0a, 0x0b, // first\n  0x00, 0x0c, /* last */\n};", LIST, "0a0b000c"],
+  ["uint8_t f[2][2] = {{1, 2}, {3, 4}};", DECIMAL, "01020304"],
+  ["std::array<uint8_t, 2> f{3, 10};", DECIMAL, "030a"],
+  ['"\\x03\\x0a" "\\x0b"', ESCAPES, "030a0b"],
+  ['static const char f[] = "\\003\\n"\n    "A";', ESCAPES, "030a41"],
+  ['"\\x03\\"\u00e9"', ESCAPES, "0322c3a9"],
+  ["\\x03\\x0a\\x0b", ESCAPES, "030a0b"],
+  ["[0b00000011]", LIST, "03"],
+  // Python
+  ["bytearray(b'\\x03\\n\\x0b')", ESCAPES, "030a0b"],
+  ["b'\\x03\\nA\\0'", ESCAPES, "030a4100"],
+  ["b'hello'", STRING, "68656c6c6f"],
+  ["b'a\\nb'", ESCAPES, "610a62"],
+  ["data = bytes([3, 10, 11])  # a frame", DECIMAL, "030a0b"],
+  ['bytes.fromhex("03 0a")', "hex", "030a"],
+  ["base64.b64decode('AwoLAgw=')", "base64", "030a0b020c"],
+  // JavaScript and Node
+  ["Uint8Array(5) [ 3, 10, 11, 2, 12 ]", DECIMAL, "030a0b020c"],
+  ["new Uint8Array([3, 10])", DECIMAL, "030a"],
+  ["Uint8Array.of(3, 10)", DECIMAL, "030a"],
+  ["<Buffer 03 0a 0b>", "a buffer", "030a0b"],
+  ["Buffer.from('030a', 'hex')", "hex", "030a"],
+  ["Buffer.from('AwoLAgw=', 'base64');", "base64", "030a0b020c"],
+  ['{"type":"Buffer","data":[3,10]}', "a buffer", "030a"],
+  ['{"0":3,"1":10}', "a buffer", "030a"],
+  ['"\\u00e9\\u{21}"', ESCAPES, "c3a921"],
+  // Rust, Go, Java, JSON
+  ["[10u8, 11u8]", DECIMAL, "0a0b"],
+  ["[0x03u8, 0x0a_u8]", LIST, "030a"],
+  ["const A: &'static [u8] = &[1, 2];", DECIMAL, "0102"],
+  ["let a: [u8; 3] = [1, 2, 3];", DECIMAL, "010203"],
+  ["vec![0x41; 5]", LIST, "4141414141"],
+  ["[]byte{0x03, 0x0a}", LIST, "030a"],
+  ["new byte[]{3, (byte) 0xab}", MIXED, "03ab"],
+  ["[3, 10, -85]", "numbers with a sign", "030aab"],
+  ["[10, 11, 0, 12]", DECIMAL, "0a0b000c"],
+  ["10, 11, 0, 12", DECIMAL, "0a0b000c"],
+  // base64
+  ["AwoLAgw=", "base64", "030a0b020c"],
+  ["_-8=", "base64", "ffef"],
+  // hexdump, xxd, od, Wireshark, gdb, candump
+  ["00000000  03 0a 0b 02 0c 00 48 65  6c 6c 6f 00 01 02 03 04  |......Hello.....|\n00000010  05                                                |.|\n00000011\n", DUMP, "030a0b020c0048656c6c6f000102030405"],
+  [`00000000  ${ROW}  |................|\n*\n00000020  41  |A|\n00000021`, DUMP, `${ZEROS}41`],
+  ["00000000: 030a 0b02 0c00 4865 6c6c 6f00 0102 0304  ......Hello.....\n00000010: 05                                       .\n", DUMP, "030a0b020c0048656c6c6f000102030405"],
+  ["00000000: 41 42 43 44 45 46 47 48  AB CD EF", DUMP, "4142434445464748"],
+  ["0000000 03 0a 0b 02 0c\n0000005", DUMP, "030a0b020c"],
+  [`0000000 ${ROW}\n*\n0000040 01\n0000041`, DUMP, `${ZEROS}01`],
+  ["000000 03 0a 0b 02 0c\n000005", DUMP, "030a0b020c"],
+  ["0000000 0a03 020b 000c\n0000005", WORDS, "030a0b020c"],
+  ["0000   03 0a 0b 02 0c 00 48 65 6c 6c 6f 00 01 02 03 04   ......Hello.....\n0010   05   .", DUMP, "030a0b020c0048656c6c6f000102030405"],
+  ["0x20000000:\t0x03\t0x0a", DUMP, "030a"],
+  ["0x7ffe0010 <buf>:\t0x03\t0x0a\n0x7ffe0012 <buf+2>:\t0x0b", DUMP, "030a0b"],
+  ["  can0  123   [4]  03 0A 0B 02\n  can0  124   [0]\n  can0  124   [1]  00", CAN, "030a0b0200"],
+  ["(1436509052.249713) can0 123#030A0B02", CAN, "030a0b02"],
+];
+
+/** What is no form, or more than one, and a word of the complaint. */
+const WRONG = [
+  ["0a 0b\n00 0g", "line 2, column 5"],
+  ["0a 1", "01"],
+  ["3 10 11", "one digit"],
+  ["0x0a, 11", "no 0x"],
+  ["0x030a 0x0b02", "order"],
+  ["0b00000011", "binary"],
+  ["010, 3", "odd"],
+  ["[010]", "octal"],
+  ["[256]", "more than 255"],
+  ["[-129]", "less than -128"],
+  ["{1.5}", "no number"],
+  ["{0a, 0b}", "0x"],
+  ["[1,, 2]", "nothing"],
+  ["[1] [2]", "before"],
+  ["[1, 2", "no list"],
+  ["uint8_t f[8] = {1, 2};", "8 bytes"],
+  ["Uint8Array(3) [1, 2]", "3 bytes"],
+  ["[3, 10, ... 98 more items]", "left out"],
+  ["<Buffer 03 0a ... 5 more bytes>", "left out"],
+  ["bytes(5)", "written here"],
+  ["memcpy(a, b, 3)", "arguments"],
+  ["f({0x01})(2)", "before"],
+  ["[0x03, 0x0a].to_vec()", "no list"],
+  ["b'\\x0'", "escape"],
+  ["b'\\u00e9'", "escape"],
+  ['"03 0a"', "quotes"],
+  ['"AwoLAgw="', "quotes"],
+  ['{"type":"Buffer","data":[300]}', "bytes"],
+  ["<img src=x onerror=alert(1)>", ""],
+  ["0x20000000:\t0x03040506", "order"],
+  ["00000000: 0b0a0302 0c", "order"],
+  ["00000010  03 0a", "offset"],
+  ["0a0b  0c 0d", "offset"],
+  ["00000000  03 0a 0b 02 0c 00 48 65  6c 6c 6f", "Line 1"],
+  [`00000000: ${ROW}\n00000020: 41`, "offsets"],
+  [`00000000: ${ROW}\nwhat`, "Line 2"],
+  [`0000000 ${"0000 ".repeat(8).trim()}\n*\n0000040`, "two bases"],
+  ["can0  123   [4]  03 0A 0B", "candump"],
+];
+
+await check("the page reads bytes in any form, and says which", () => {
+  for (const [text, as, wanted] of READ) {
+    const { bytes, as: found, error } = parseBytes(text);
+    equal([bytes && Buffer.from(bytes).toString("hex"), found, error], [wanted, as, undefined], JSON.stringify(text));
+  }
+});
+await check("long and hostile texts are read or rejected in time", () => {
+  const many = 1 << 16;
+  for (const text of ["00 ff 01 02 ".repeat(many), "0x00, 0xff, ".repeat(many), `[${"1,".repeat(many)}]`, `b'${"\\x01".repeat(many)}'`, `r"${"x".repeat(many)}"`, "[".repeat(many), "[".repeat(many) + "]".repeat(many), "(1)".repeat(many), '"a" '.repeat(many),
+    "0000000: 00\n".repeat(many), "abcdefghij".repeat(many), "\\x00".repeat(many), "/*".repeat(many), "'".repeat(many), "{'a',".repeat(many), "<".repeat(many), "0".repeat(many), " ".repeat(many), "can0 123 [1] 00\n".repeat(many >> 3)]) {
+    const begun = process.cpuUsage();
+    const { bytes, error, as } = parseBytes(text);
+    isBytes(text, as);
+    const { user } = process.cpuUsage(begun);
+    holds(bytes || error, `${text.slice(0, 12)} gives neither`);
+    holds(user < 2_000_000, `${text.slice(0, 12)} took ${Math.round(user / 1000)} ms of processor time`);
+  }
+});
+await check("what has no form, or more than one, is an error that says why", () => {
+  for (const [text, words] of WRONG) {
+    const { bytes, error } = parseBytes(text);
+    holds(!bytes && error?.includes(words), `${JSON.stringify(text)} gives ${bytes ?? error}`);
+  }
+});
