@@ -28,6 +28,6 @@ counted() { # NAME COMMAND..
 for run in "$root"/bindings/*/tests/run.sh; do
     counted "bindings/$(basename "$(dirname "$(dirname "$run")")")" "$run"
 done
-counted 'the commands of the READMEs' "$root/tests/readme.sh" bindings/c/README.md bindings/rust/README.md \
+counted 'the commands of the READMEs' "$root/tests/readme.sh" bindings/c/README.md bindings/c/examples/firmware/README.md bindings/rust/README.md \
     bindings/python/README.md bindings/web/README.md README.md
 finish

@@ -13,6 +13,7 @@ usage: tests/docs.py [--write]
 - No file outside crates/cobs names its proofs: what a caller cites are its specs and its laws.
 - docs/MAP.md names each file of the repository, or a folder that it is in.
 - Each block of tests/wrong_code.txt can be applied. `tests/REFUSED.md` counts and names these and the edits of must-fail/.
+- No imports of the libraries go in a ring; files have at most 450 lines and functions 40 (layout.py).
 - Each document is in plain words and short enough; its links, the paths and commands that it shows, and the clauses
   that it names are there; all versions are that of the file VERSION (prose.py).
 
@@ -26,6 +27,7 @@ sys.dont_write_bytecode = True
 from pathlib import Path, PurePosixPath
 
 import examples
+import layout
 import prose
 import wrong_code
 
@@ -183,7 +185,7 @@ def main():
         CALLING.write_text(wanted)
     elif CALLING.read_text() != wanted:
         said.append(f"{CALLING.relative_to(TOP)}: its contracts are not those of src; tests/docs.py --write writes them")
-    said += prose.complaints()
+    said += [*layout.complaints(), *prose.complaints()]
     print("\n".join(said) if said else "each public item has an example that is run; the documents name and quote what is there")
     return 1 if said else 0
 

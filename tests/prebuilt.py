@@ -1,5 +1,5 @@
 #!/usr/bin/env python3
-"""Checks that the built libraries and the module are made from the sources as they are, without building them.
+"""Checks that the built libraries, programs and the module are made from the sources as they are, without building them.
 
 usage: tests/prebuilt.py [--write NAME..]
 
@@ -17,25 +17,31 @@ from pathlib import Path
 
 TOP = Path(__file__).resolve().parent.parent
 SUMS = TOP / "tests/prebuilt.sums"
-# For each build: its crate, the command, the files that build it, and what is built.
+# For each build: its crates, the command, the files that build it, and what is built.
 BUILDS = {
     "c": (
         "cobs_c",
         "make -C bindings/c prebuilt",
         ["bindings/c/prebuilt.sh"],
-        ["bindings/c/prebuilt/*-linux/libjcobs.a", "bindings/rust/prebuilt/*-linux/libjcobs.a"],
+        ["bindings/c/prebuilt/*-linux/libjcobs.a"],
     ),
     "device": (
         "cobs_small",
         "PREBUILT=1 bindings/c/device/build.sh",
-        ["bindings/c/device/build.sh", "bindings/c/device/calls/*", "bindings/c/include/jcobs.h"],
-        ["bindings/c/device/src/*/*"],
+        ["bindings/c/device/build.sh", "bindings/c/device/calls/*", "bindings/c/include/jcobs.h", "bindings/c/source/simplify.py"],
+        ["bindings/c/device/src/*/*", "bindings/c/source/cobs_small.ll"],
     ),
     "web": (
         "cobs_c",
         "bindings/web/build.sh",
         ["bindings/web/build.sh", "bindings/web/*.py"],
         ["bindings/web/cobs.wasm"],
+    ),
+    "programs": (
+        "cobs_tool cobs_watch",
+        "bindings/programs/build.sh",
+        ["bindings/programs/build.sh"],
+        ["bindings/programs/x86_64-linux/cobs_*"],
     ),
 }
 
@@ -46,10 +52,13 @@ def crate_lines():
     return {re.match(r"\w+", line)[0]: line for line in lines if re.match(r"\w", line)}
 
 
-def with_those_below(crate, lines):
-    """The crate and those of this repository that it depends on, the lowest first."""
-    below = [name for name in lines[crate].partition(":")[2].split() if name in lines]
-    return list(dict.fromkeys([*(lower for name in below for lower in with_those_below(name, lines)), crate]))
+def with_those_below(crates, lines):
+    """The crates and those of this repository that they depend on, the lowest first."""
+    found = {}
+    for crate in crates:
+        below = [name for name in lines[crate].partition(":")[2].split() if name in lines]
+        found |= dict.fromkeys([*with_those_below(below, lines), crate])
+    return list(found)
 
 
 def sum_of_crate(crate, line):
@@ -67,9 +76,9 @@ def sums_of_files(patterns):
 
 def sums(name, toolchain):
     """What is recorded of a build: a value for each thing by its name."""
-    crate, _, scripts, built = BUILDS[name]
+    of, _, scripts, built = BUILDS[name]
     lines = crate_lines()
-    crates = {f"crates/{each}": sum_of_crate(each, lines[each]) for each in with_those_below(crate, lines)}
+    crates = {f"crates/{each}": sum_of_crate(each, lines[each]) for each in with_those_below(of.split(), lines)}
     return {"toolchain": toolchain, **crates, **sums_of_files(scripts), **sums_of_files(built)}
 
 
@@ -88,7 +97,9 @@ def write(names):
 
 
 def complaints(name, recorded, toolchain):
-    """A line for each thing that isn't as it was when this was built."""
+    """A line for each thing that isn't as it was when this was built; none of what was never built here."""
+    if not recorded and not sums_of_files(BUILDS[name][3]):
+        return
     found = sums(name, toolchain)
     for thing in {**recorded, **found}:
         if thing not in recorded:
@@ -110,7 +121,7 @@ def main():
         if lines:
             print(f"since `{BUILDS[name][1]}`:", *lines, "    Run it again, and commit what it wrote.", sep="\n")
     if not any(said.values()):
-        print(f"the libraries and the module are built from these sources, by {toolchain}")
+        print(f"the libraries, the programs and the module are built from these sources, by {toolchain}")
     return any(said.values())
 
 

@@ -1,10 +1,12 @@
 #!/bin/sh
-# Tests the binding for Python (bindings/python), in an environment of its own and without a network:
-#   - pip installs it, and the first example of its README runs;
-#   - its tests by pytest, the examples of its documentation and README among them;
+# Tests the binding for Python (bindings/python), in environments of its own and without a network:
+#   - pip installs it, with a C compiler and without one, and the first example of its README runs;
+#   - its tests by pytest, with the extension and with the plain Python that is there without one, and on PyPy; with C
+#     compiled from source; on a processor that the library isn't for;
 #   - its types, by mypy in strict mode; the layout of its files, by black and clang-format;
 #   - a wheel and a source distribution are built; the latter is built and tested elsewhere;
 #   - the wheel runs on each other CPython from 3.9 on that is there.
+# Hypothesis has 2,000 examples of each property, or as many as JCOBS_EXAMPLES says.
 # PYTHON names the interpreter; else it is the first one that has what is needed. A part whose tool is missing is
 # skipped, and the tool named. The last line counts; the status is 0 only if nothing failed.
 set -u
@@ -42,13 +44,14 @@ fi
 tree=$work/tree
 mkdir -p "$tree/bindings"
 cp -R "$root/bindings/python" "$tree/bindings"
-(cd "$tree/bindings/python" && rm -rf build dist src/*.egg-info)
+(cd "$tree/bindings/python" && rm -rf build dist src/*.egg-info src/jcobs/*.so)
 mkdir "$tree/bindings/c"
-ln -s "$root/bindings/c/include" "$root/bindings/c/prebuilt" "$tree/bindings/c"
+ln -s "$root/bindings/c/include" "$root/bindings/c/prebuilt" "$root/bindings/c/source" "$tree/bindings/c"
 ln -s "$root/conformance" "$root"/LICENSE-* "$tree"
 package=$tree/bindings/python
 export PYTHONDONTWRITEBYTECODE=1 PIP_DISABLE_PIP_VERSION_CHECK=1 PIP_NO_INDEX=1
-unset PYTHONPATH PYTHONHOME
+export JCOBS_EXAMPLES="${JCOBS_EXAMPLES:-2000}"
+unset PYTHONPATH PYTHONHOME JCOBS_BACKEND JCOBS_LIB_DIR
 
 environment() { # FOLDER
     "$python" -m venv --system-site-packages "$1"
@@ -61,10 +64,20 @@ first_example() { # PYTHON
 assert jcobs.encode(b"hello\0world", terminated=True) == b"\x06hello\x06world\x00"
 decoder = jcobs.Decoder()
 assert decoder.feed(b"\x06hello\x06wor") == []
-assert repr(decoder.feed(b"ld\x00\x03hi\x00")) == repr([jcobs.Message(b"hello\x00world"), jcobs.Message(b"hi")])'
+assert repr(decoder.feed(b"ld\x00\x03hi\x00")) == repr([jcobs.Message(b"hello\x00world"), jcobs.Message(b"hi")])
+print("=", jcobs.backend)'
 }
-tests() { # PYTHON FOLDER
-    in_work timeout 1800 "$1" -m pytest -q -rs "$2"
+installs() { # PYTHON ARTIFACT
+    "$1" -m pip install -q --no-build-isolation "$2"
+}
+tests() { # BACKEND PYTHON FILE-OR-FOLDER..
+    backend=$1
+    interpreter=$2
+    shift 2
+    JCOBS_INSTALLED=$backend in_work timeout 1800 "$interpreter" -m pytest -q -rs "$@"
+}
+counts() { # FILE: the tests that were skipped, and how many passed
+    { grep '^SKIPPED' "$1"; tail -n 1 "$1"; } | sed 's/^/    /'
 }
 strict() { # PYTHON FILES..
     interpreter=$1
@@ -75,11 +88,56 @@ strict() { # PYTHON FILES..
 echo "$("$python" --version), $python"
 part "an empty environment" environment "$work/first"
 here=$work/first/bin/python
-part "pip install" "$here" -m pip install -q --no-build-isolation "$package"
+part "pip install" installs "$here" "$package"
 part "the first example" first_example "$here"
-part "pytest" tests "$here" "$package/tests"
-grep -h '^SKIPPED' "$work/said" | sed 's/^/    /'
-tail -n 1 "$work/said" | sed 's/^/    /'
+
+# Nothing but Python is in the PATH, so there is no compiler; and nothing that was built before.
+rm -rf "$package/build"
+part "an environment without a compiler" environment "$work/second"
+plain=$work/second/bin/python
+part "pip install without a compiler" env "PATH=$work/second/bin" "$plain" -m pip install -q --no-build-isolation "$package"
+part "the first example in plain Python" first_example "$plain"
+(tests python "$plain" "$package/tests" >"$work/plain" 2>&1; echo $? >"$work/plain.status") &
+part "pytest with the extension" tests prebuilt "$here" "$package/tests"
+counts "$work/said"
+wait
+of_plain() {
+    cat "$work/plain"
+    return "$(cat "$work/plain.status")"
+}
+part "pytest in plain Python" of_plain
+counts "$work/plain"
+
+pypy() {
+    PYTHONPATH=$package/src:/usr/lib/python3/dist-packages JCOBS_EXAMPLES=50 tests python pypy3 "$package/tests"
+}
+if ! command -v pypy3 >/dev/null; then
+    skip "pytest on PyPy" "pypy3 is not there: install Debian's pypy3"
+elif PYTHONPATH=/usr/lib/python3/dist-packages pypy3 -c 'import pytest, hypothesis' >/dev/null 2>&1; then
+    part "pytest on PyPy" pypy && counts "$work/said"
+else
+    skip "pytest on PyPy" "it has no pytest and hypothesis"
+fi
+
+if [ -f "$root/bindings/c/source/jcobs.c" ]; then
+    part "an environment for C that is compiled" environment "$work/third"
+    rm -rf "$package/build"
+    part "pip install of the C source" env JCOBS_BACKEND=compiled "$work/third/bin/python" -m pip install -q --no-build-isolation "$package"
+    JCOBS_EXAMPLES=100
+    part "pytest over the C source" tests compiled "$work/third/bin/python" "$package/tests"
+fi
+
+backend_on() { # CPU BACKEND
+    in_work qemu-x86_64 -cpu "$1" "$here" -c 'import sys, jcobs; sys.exit([jcobs.backend, jcobs.encode(b"hi" * 99)[:3]] != [sys.argv[1], b"\xc7hi"])' "$2"
+}
+if [ "$(uname -m)" != x86_64 ]; then
+    skip "a processor without SSE4.2" "this machine is no x86-64"
+elif command -v qemu-x86_64 >/dev/null; then
+    part "a processor with SSE4.2" backend_on Nehalem prebuilt
+    part "a processor without SSE4.2" backend_on core2duo python
+else
+    skip "a processor without SSE4.2" "qemu-x86_64 is not there: install Debian's qemu-user"
+fi
 
 if command -v black >/dev/null; then
     part "layout of the Python files" black -q --check "$package"
@@ -93,7 +151,9 @@ else
 fi
 if command -v mypy >/dev/null; then
     part "mypy --strict, the package" strict "$here" src/jcobs
-    part "mypy --strict, a user of the installed package" strict "$here" tests/typed.py
+    part "mypy --strict, a user of the installed package" strict "$here" tests/typed.py examples/protocol.py
+    sed -n '/^```python$/,/^```$/{/^```$/q;/^```/!p}' "$package/README.md" >"$work/readme.py"
+    part "mypy --strict, the first example of the README" strict "$here" "$work/readme.py"
 else
     skip "types" "mypy is not there: install Debian's mypy"
 fi
@@ -102,15 +162,17 @@ if has_module "$python" build; then
     part "python -m build" in_work "$here" -m build --no-isolation --outdir "$work/dist" "$package"
     wheel=$(echo "$work"/dist/jcobs-*-cp39-abi3-linux_*.whl)
     part "one wheel for CPython 3.9 and later" test -f "$wheel"
-    part "an empty environment elsewhere" environment "$work/second"
-    there=$work/second/bin/python
+    part "an empty environment elsewhere" environment "$work/fourth"
+    there=$work/fourth/bin/python
     mkdir "$work/elsewhere"
     archive=$(echo "$work"/dist/jcobs-*.tar.gz)
     part "the source distribution is unpacked" tar -xzf "$archive" -C "$work/elsewhere" --strip-components 1
-    part "pip install of the source distribution" \
-        env -u JCOBS_LIB_DIR "$there" -m pip install -q --no-build-isolation "$archive"
+    part "pip install of the source distribution" installs "$there" "$archive"
     part "the first example, elsewhere" first_example "$there"
-    part "pytest, elsewhere" tests "$there" "$work/elsewhere/tests/test_calls.py"
+    JCOBS_EXAMPLES=100
+    part "pip install of the C source that it carries" \
+        env JCOBS_BACKEND=compiled "$there" -m pip install -q --no-build-isolation --force-reinstall "$archive"
+    part "pytest, elsewhere" tests compiled "$there" "$work/elsewhere/tests/test_streams.py"
 
     mkdir "$work/wheel"
     part "the wheel is unpacked" "$python" -m zipfile -e "$wheel" "$work/wheel"
@@ -118,7 +180,10 @@ if has_module "$python" build; then
     for minor in 9 10 11 12 13 14 15; do
         other=$(command -v "python3.$minor") && "$other" -c '' 2>/dev/null || continue
         others=$((others + 1))
-        part "the wheel on $("$other" --version)" env PYTHONPATH="$work/wheel" "$other" "$package/tests/smoke.py"
+        for backend in prebuilt python; do
+            part "the wheel on $("$other" --version), $backend" \
+                env PYTHONPATH="$work/wheel" JCOBS_BACKEND=$backend "$other" "$package/tests/smoke.py"
+        done
     done
     [ $others -gt 0 ] || skip "other versions" "there is no python3.9 to python3.15"
 else

@@ -2,8 +2,8 @@
 # Tests in two minutes, without the Rattle toolchain, what comes built: the library for C, the packages for Rust, Python and
 # Node over it, and the documents.
 #
-# Each language builds and runs a first frame and all cases of conformance/. It takes Debian's gcc, cargo (Rust 1.83),
-# nodejs, and python3-dev, -setuptools, -pytest and -hypothesis; what is missing is skipped and named. Nothing is written
+# Each language builds and runs a first frame and all cases of conformance/. It takes Debian's gcc, cargo (Rust 1.83)
+# with librust-memchr-dev and librust-serde-derive-dev, nodejs, and python3-dev, -setuptools, -pytest and -hypothesis; what is missing is skipped and named. Nothing is written
 # into the repository.
 #
 # The functions are called by 'part'.
@@ -26,7 +26,14 @@ first_in_c() {
     compiled examples/send_lines.c send && prints ' 06 68 65 6c 6c 6f 00' sh -c "echo hello | '$work/send' | od -An -tx1"
 }
 
+first_by_program() { printf hello | prints '06 68 65 6c 6c 6f 00' "$root/bindings/programs/$(uname -m)-linux/cobs_tool"; }
+
 cases_in_c() { compiled tests/vectors.c vectors && "$work/vectors" "$root"/conformance/*.txt; }
+
+cases_of_source() {
+    cc -std=c99 -O2 -Wall -Wextra -Werror -I"$c/include" "$c/tests/vectors.c" "$c/source/jcobs.c" -o "$work/source" &&
+        "$work/source" "$root"/conformance/*.txt
+}
 
 first_in_rust() (
     mkdir -p "$work/app/src" && cd "$work/app" &&
@@ -43,7 +50,7 @@ copy() {
 }
 
 tests_in_rust() (
-    cd "$work/tree/bindings/rust" && cargo test
+    cd "$work/tree/bindings/rust" && cargo test --lib --tests
 )
 
 extension() (
@@ -69,9 +76,17 @@ copy || exit
 if has cc gcc 'C'; then
     part 'C: the first frame' first_in_c
     part 'C: all cases' cases_in_c
+    part 'C: all cases by jcobs.c' cases_of_source
+fi
+if [ -x "$root/bindings/programs/$(uname -m)-linux/cobs_tool" ]; then
+    part 'programs: the first frame' first_by_program
+else
+    skip 'programs' "not built for $(uname -m)"
 fi
 if has cargo cargo 'Rust'; then
-    if [ "$(rustc --version | sed -n 's/^rustc 1\.\([0-9]*\)\..*/\1/p')" -ge 83 ]; then
+    if ! lacking=$("$root/bindings/rust/tests/offline.sh" "$work"); then
+        skip 'Rust' "$lacking"
+    elif [ "$(rustc --version | sed -n 's/^rustc 1\.\([0-9]*\)\..*/\1/p')" -ge 83 ]; then
         part 'Rust: the first frame' first_in_rust
         part 'Rust: the tests of the crate, with all cases' tests_in_rust
     else

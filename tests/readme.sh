@@ -14,6 +14,10 @@ root=$(cd "$(dirname "$0")/.." && pwd)
 # shellcheck source=SCRIPTDIR/count.sh
 . "$root/tests/count.sh"
 
+# Cargo asks no network.
+has_crates=
+"$root/bindings/rust/tests/offline.sh" "$work" >/dev/null && has_crates=yes
+
 # The PATH without the folders that have rt.
 path=
 IFS=:
@@ -63,7 +67,13 @@ why_not() { # LINE
     *build.sh*) command -v node >/dev/null || echo "lacks Debian's nodejs" ;;
     'npm '* | 'node '*) command -v node >/dev/null && command -v npm >/dev/null || echo "lacks Debian's nodejs and npm" ;;
     'pip '* | python*) environment || echo "lacks Debian's python3-dev, python3-venv, python3-setuptools or python3-wheel" ;;
-    cargo' '* | *'# in Cargo.toml'* | *'// in src/main.rs') command -v cargo >/dev/null || echo 'lacks cargo' ;;
+    ./test.py*)
+        command -v arm-none-eabi-gcc >/dev/null && command -v qemu-system-arm >/dev/null ||
+            echo "lacks Debian's gcc-arm-none-eabi or qemu-system-arm"
+        ;;
+    cargo' '* | *'# in Cargo.toml'* | *'// in src/main.rs')
+        command -v cargo >/dev/null && [ -n "$has_crates" ] || echo "lacks cargo, or Debian's librust-memchr-dev or librust-serde-derive-dev"
+        ;;
     esac
 }
 

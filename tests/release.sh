@@ -5,6 +5,7 @@
 #   jcobs-VERSION-source.tar.gz            the repository
 #   jcobs-VERSION-{x86_64,aarch64}-linux.tar.gz     the library for C, as `make dist` packs it
 #   jcobs-VERSION-device.tar.gz            the library for microcontrollers
+#   jcobs-VERSION-programs-x86_64-linux.tar.gz      cobs_tool and cobs_watch, with their manual pages
 #   jcobs-VERSION.tar.gz, jcobs-VERSION-*.whl       the package for Python: source distribution, wheel
 #   jcobs-VERSION.tgz                      the package for Node and browsers, by npm
 #   jcobs-VERSION.crate                    the crate for Rust
@@ -75,9 +76,21 @@ c_archive() { # ARCH
 device_archive() {
     there=$work/device/$name_of-device
     mkdir -p "$there" &&
-        (cd "$tree/bindings/c/device" && cp -R README.md src cmake library.json library.properties platformio.py "$there") &&
+        (cd "$tree/bindings/c/device" && cp -R README.md src cmake zephyr library.json library.properties platformio.py CMakeLists.txt idf_component.yml \
+            "$there") &&
         cp "$tree"/LICENSE-* "$there" && cp "$tree/bindings/c/include/jcobs.h" "$there/src/jcobs.h" &&
         packed "$folder/$name_of-device.tar.gz" "$work/device" "$name_of-device"
+}
+
+programs_archive() {
+    there=$work/programs/$name_of-programs-x86_64-linux
+    (cd "$tree/bindings/programs/x86_64-linux" && sha256sum -c SHA256SUMS) || return 1
+    mkdir -p "$there/bin" "$there/share/man/man1" && cp "$tree"/LICENSE-* "$there" &&
+        for program in cobs_tool cobs_watch; do
+            cp "$tree/bindings/programs/x86_64-linux/$program" "$there/bin" &&
+                cp "$tree/crates/$program/$program.1" "$there/share/man/man1" || return 1
+        done &&
+        packed "$folder/$name_of-programs-x86_64-linux.tar.gz" "$work/programs" "$name_of-programs-x86_64-linux"
 }
 
 python_packages() {
@@ -98,10 +111,19 @@ write_sums() { (cd "$folder" && sha256sum -- jcobs-* >SHA256SUMS.new && mv SHA25
 # The checks.
 
 libraries_again() {
-    "$root/bindings/c/prebuilt.sh" "$work/again" && diff -r "$work/again" "$root/bindings/rust/prebuilt"
+    "$root/bindings/c/prebuilt.sh" "$work/again" && for arch in x86_64 aarch64; do
+        cmp "$work/again/$arch-linux/libjcobs.a" "$root/bindings/c/prebuilt/$arch-linux/libjcobs.a" || return 1
+    done
 }
 
 module_again() { "$root/bindings/web/build.sh" to "$work/cobs.wasm" && cmp "$work/cobs.wasm" "$root/bindings/web/cobs.wasm"; }
+
+programs_again() { # the same bytes, where gcc and glibc are those that linked them
+    there=$root/bindings/programs/x86_64-linux
+    "$root/bindings/programs/build.sh" "$work/programs-again" || return 1
+    cmp "$there/LINKED" "$work/programs-again/LINKED" || { echo '= not compared: other gcc or glibc' && return 0; }
+    cmp "$there/cobs_tool" "$work/programs-again/cobs_tool" && cmp "$there/cobs_watch" "$work/programs-again/cobs_watch"
+}
 
 source_runs() { # the README's command for C, in what the archive has
     unpacked "$folder/$name_of-source.tar.gz" "$work/source" && (cd "$work/source" &&
@@ -126,6 +148,18 @@ c_runs() { # ARCH COMPILER [RUNNER..]
         writes 'message 5 68656c6c6f\n' "$@" "./read_frames-$arch" <frames)
 }
 
+programs_run() {
+    there=$work/programs-unpacked
+    unpacked "$folder/$name_of-programs-x86_64-linux.tar.gz" "$there" &&
+        printf hello | writes '06 68 65 6c 6c 6f 00\n' "$there/bin/cobs_tool" &&
+        printf 'hello\n' | "$there/bin/cobs_watch" send >"$work/frames" &&
+        writes 'message 5 68656c6c6f\n' "$there/bin/cobs_watch" <"$work/frames" &&
+        for program in cobs_tool cobs_watch; do
+            if ldd "$there/bin/$program"; then return 1; fi
+            grep -q "^\.TH [A-Z_]* 1 [0-9-]* \"jcobs $version\"" "$there/share/man/man1/$program.1" || return 1
+        done
+}
+
 device_runs() {
     there=$work/device-unpacked
     unpacked "$folder/$name_of-device.tar.gz" "$there" && cat >"$work/device.c" <<'PROGRAM' &&
@@ -145,11 +179,13 @@ int main(void)
     exit(0);
 }
 PROGRAM
-        arm-none-eabi-gcc -mcpu=cortex-m4 -mthumb -Os -std=c99 -I"$there/src" --specs=rdimon.specs \
-            -T "$tree/bindings/c/device/tests/mps2.ld" "$tree/bindings/c/device/tests/start_arm.c" "$work/device.c" \
-            "$there/src/cortex-m4/libjcobs.a" -o "$work/device.elf" &&
-        writes '0 hello\n' timeout 900 qemu-system-arm -M mps2-an386 -nographic -monitor none -serial null \
-            -semihosting-config enable=on,target=native,arg=program -kernel "$work/device.elf"
+        for library in cortex-m4/libjcobs.a jcobs.c; do
+            arm-none-eabi-gcc -mcpu=cortex-m4 -mthumb -Os -std=c99 -I"$there/src" --specs=rdimon.specs \
+                -T "$tree/bindings/c/device/tests/mps2.ld" "$tree/bindings/c/device/tests/start_arm.c" "$work/device.c" \
+                "$there/src/$library" -o "$work/device.elf" &&
+                writes '0 hello\n' timeout 900 qemu-system-arm -M mps2-an386 -nographic -monitor none -serial null \
+                    -semihosting-config enable=on,target=native,arg=program -kernel "$work/device.elf" || return 1
+        done
 }
 
 python_runs() { # ARTIFACT
@@ -178,15 +214,16 @@ folder=$(cd "$folder" && pwd)
 rm -f "$folder"/jcobs-* "$folder/SHA256SUMS"
 part 'a copy of the repository' copy || finish
 part 'the sums of the libraries' sums
-part 'the libraries and the module are of these sources' "$root/tests/prebuilt.py"
+part 'the libraries, the programs and the module are of these sources' "$root/tests/prebuilt.py"
 if [ "$again" = no ]; then
-    skip 'the libraries and the module, built again' '--as-built'
+    skip 'the libraries, the programs and the module, built again' '--as-built'
 elif command -v rt >/dev/null || [ -x /opt/rattle/bin/rt ]; then
     part 'the libraries, built again' libraries_again
     part 'the module, built again' module_again
     part 'the libraries for microcontrollers, built again' "$root/bindings/c/device/build.sh"
+    [ ! -e "$tree/bindings/programs/x86_64-linux" ] || part 'the programs, built again' programs_again
 else
-    skip 'the libraries and the module, built again' "lacks Rattle's toolchain"
+    skip 'the libraries, the programs and the module, built again' "lacks Rattle's toolchain"
 fi
 
 part 'source archive' source_archive && has cc gcc 'the source archive runs' && part 'the source archive runs' source_runs
@@ -205,6 +242,15 @@ for arch in x86_64 aarch64; do
         part "the C archive runs, $arch" c_runs "$arch" "$compiler" "qemu-$arch" -L "/usr/$arch-linux-gnu"
     fi
 done
+if [ ! -e "$tree/bindings/programs/x86_64-linux" ]; then
+    skip 'archive of the programs' 'bindings/programs/build.sh builds them'
+elif part 'archive of the programs' programs_archive; then
+    if [ "$(uname -m)" = x86_64 ]; then
+        part 'the archive of the programs runs' programs_run
+    else
+        skip 'the archive of the programs runs' 'they are for x86-64'
+    fi
+fi
 part 'device archive' device_archive && has arm-none-eabi-gcc gcc-arm-none-eabi 'the device archive runs' &&
     has /usr/lib/arm-none-eabi/include/stdio.h libnewlib-arm-none-eabi 'the device archive runs' &&
     has qemu-system-arm qemu-system-arm 'the device archive runs' && part 'the device archive runs, Cortex-M4' device_runs
@@ -222,13 +268,17 @@ else
     skip 'Python packages' "lacks Debian's python3-build, python3-setuptools, python3-wheel or python3-venv"
 fi
 has npm npm 'Node package' && part 'Node package' node_package && part 'the Node package runs' node_runs
-has cargo cargo 'crate' && part 'crate' rust_crate && {
+if ! has cargo cargo 'crate'; then
+    :
+elif ! lacking=$("$root/bindings/rust/tests/offline.sh" "$work"); then
+    skip 'crate' "$lacking"
+elif part 'crate' rust_crate; then
     if [ "$(rustc --version | sed -n 's/^rustc 1\.\([0-9]*\)\..*/\1/p')" -ge 83 ]; then
         part 'the crate runs' crate_runs
     else
         has 'rustc 1.83' rustc 'the crate runs'
     fi
-}
+fi
 
 part 'SHA256SUMS' write_sums
 [ -z "${1:-}" ] || (cd "$folder" && cat SHA256SUMS)

@@ -15,7 +15,14 @@ if [ -z "$watch" ]; then
     watch=$PWD/crates/cobs_watch/out/cobs_watch
 fi
 
-python3 tests/watch/drive.py "$watch"
+# Over what is prebuilt too, if that is another program.
+prebuilt=bindings/programs/$(uname -m)-linux/cobs_watch
+for each in "$watch" "$prebuilt"; do
+    if [ "$each" = "$prebuilt" ] && { [ ! -e "$prebuilt" ] || cmp -s "$watch" "$prebuilt"; }; then continue; fi
+    python3 tests/watch/drive.py "$each"
+    python3 tests/watch/line.py "$each"
+    python3 tests/watch/recipes.py "$each"
+done
 
 cc -O2 -Wall -Wextra -Werror -o "$room/plain" tests/watch/plain.c
 python3 tests/watch/speed.py "$watch" "$room/plain" "${WATCH_MIB:-32}"

@@ -13,24 +13,33 @@ node=${NODE:-node}
 chromium=${CHROMIUM:-chromium}
 # shellcheck source=SCRIPTDIR/count.sh
 . "$root/tests/count.sh"
+begun=
 
-# Runs a file that prints how many of its checks passed and failed on its last line, and adds them up.
-counted() { # NAME COMMAND..
+# Begins a file that prints how many of its checks passed and failed on its last line; they run beside each other.
+begin() { # NAME COMMAND..
     name=$1
     shift
-    "$@" >"$work/said" 2>&1
-    status=$?
-    good=$(sed -n '$s/^.*: \([0-9]*\) passed, \([0-9]*\) failed$/\1/p' "$work/said")
-    bad=$(sed -n '$s/^.*: \([0-9]*\) passed, \([0-9]*\) failed$/\2/p' "$work/said")
-    if [ -z "$good" ] || { [ $status -ne 0 ] && [ "$bad" = 0 ]; }; then
-        echo "FAILED: $name ended with status $status"
-        sed 's/^/    /' "$work/said"
-        failed=$((failed + 1))
-        return
-    fi
-    passed=$((passed + good))
-    failed=$((failed + bad))
-    sed 's/^/    /' "$work/said"
+    begun="$begun $name"
+    { "$@" </dev/null >"$work/$name.said" 2>&1; echo $? >"$work/$name.status"; } &
+}
+
+# Waits for the files that were begun, prints what each said, and adds its checks up.
+count_begun() {
+    wait
+    for name in $begun; do
+        said=$work/$name.said
+        status=$(cat "$work/$name.status")
+        good=$(sed -n '$s/^.*: \([0-9]*\) passed, \([0-9]*\) failed$/\1/p' "$said")
+        bad=$(sed -n '$s/^.*: \([0-9]*\) passed, \([0-9]*\) failed$/\2/p' "$said")
+        if [ -z "$good" ] || { [ "$status" -ne 0 ] && [ "$bad" = 0 ]; }; then
+            echo "FAILED: $name ended with status $status"
+            failed=$((failed + 1))
+        else
+            passed=$((passed + good))
+            failed=$((failed + bad))
+        fi
+        sed 's/^/    /' "$said"
+    done
 }
 
 is_small() { # FILE BYTES
@@ -40,20 +49,26 @@ is_small() { # FILE BYTES
 }
 
 echo "The module"
-part "cobs.wasm is at most 65,536 bytes" is_small "$web/cobs.wasm" 65536
+part "cobs.wasm is at most 71,680 bytes" is_small "$web/cobs.wasm" 71680
 
 if has "$node" nodejs "Node"; then
     if ! "$node" --input-type=module -e "import { isSupported } from '$web/jcobs.js'; process.exit(isSupported() ? 0 : 1)" 2>"$work/said"; then
         skip "Node" "$("$node" --version) is too old: version 20 or later is needed"
     else
         echo "Node $("$node" --version), without a flag"
-        counted "vectors" "$node" "$web/test/vectors.mjs" "$web/cobs.wasm" "$root/conformance"
-        counted "module" "$node" --expose-gc "$web/test/module.mjs" "$web/cobs.wasm"
-        counted "package" "$node" "$web/test/package.mjs"
+        begin module "$node" --expose-gc "$web/test/module.mjs" "$web/cobs.wasm"
+        begin package "$node" "$web/test/package.mjs"
+        begin vectors "$node" "$web/test/vectors.mjs" "$web/cobs.wasm" "$root/conformance"
+        if has "$chromium" chromium "the page"; then
+            begin page "$node" "$web/test/page.mjs"
+        fi
+        webkit=${WEBKIT:-$(ls /usr/lib/*/webkit2gtk-4*/MiniBrowser 2>/dev/null | head -n 1)}
+        if has "${webkit:-MiniBrowser}" webkit2gtk-driver "WebKit" && has WebKitWebDriver webkit2gtk-driver "WebKit" &&
+            has xvfb-run xvfb "WebKit"; then
+            begin webkit xvfb-run -a "$node" "$web/test/webkit.mjs" "$webkit" "$root/conformance"
+        fi
         part "the files with the module inside are built" "$node" "$web/pack.mjs" "$work/dist"
-        for file in jcobs.js jcobs.cjs jcobs.d.cts; do
-            part "dist/$file is what pack.mjs writes" cmp "$work/dist/$file" "$web/dist/$file"
-        done
+        part "dist/ is what pack.mjs writes" diff -r "$work/dist" "$web/dist"
         mkdir "$work/docs"
         part "the pictures are drawn" "$node" "$web/figures.mjs" "$work/docs"
         for picture in frame run-of-255 damaged-stream two-frames; do
@@ -61,15 +76,9 @@ if has "$node" nodejs "Node"; then
         done
         if has tsc node-typescript "the types"; then
             part "jcobs.d.ts serves its users" tsc --noEmit --strict --target es2022 --module es2022 --moduleResolution node --lib es2022,dom "$web/test/types.ts"
+            part "jcobs.d.ts needs no other types" tsc --noEmit --strict --target es2022 --module es2022 --moduleResolution node --lib es2022 --typeRoots "$work/docs" "$web/test/types-plain.ts"
         fi
-        if has "$chromium" chromium "the page"; then
-            counted "page" "$node" "$web/test/page.mjs"
-        fi
-        webkit=${WEBKIT:-$(ls /usr/lib/*/webkit2gtk-4*/MiniBrowser 2>/dev/null | head -n 1)}
-        if has "${webkit:-MiniBrowser}" webkit2gtk-driver "WebKit" && has WebKitWebDriver webkit2gtk-driver "WebKit" &&
-            has xvfb-run xvfb "WebKit"; then
-            counted "webkit" xvfb-run -a "$node" "$web/test/webkit.mjs" "$webkit" "$root/conformance"
-        fi
+        count_begun
     fi
 fi
 

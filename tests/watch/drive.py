@@ -13,11 +13,13 @@ import re
 import select
 import shutil
 import signal
+import struct
 import subprocess
 import sys
 import tempfile
 import time
 import tty
+import unicodedata
 import zlib
 from pathlib import Path
 
@@ -80,9 +82,14 @@ def text_of(data):
         return None
 
 
+def is_hidden(c):
+    """Whether a terminal acts on a character, or nobody sees it: controls, formats, line and paragraph separators."""
+    return unicodedata.category(c) in ("Cc", "Cf", "Zl", "Zp")
+
+
 def is_plain(data):
     text = text_of(data)
-    return text is not None and not any(ord(c) < 32 or 127 <= ord(c) < 160 for c in text)
+    return text is not None and not any(map(is_hidden, text))
 
 
 def dump(data):
@@ -151,6 +158,7 @@ def messages(count):
         b"tab\there",
         b"\xff\xfe",
         "grüße €".encode(),
+        "left \u202eright \u2028 line \x7f \x9b31m \U000e0001 \U0001f600".encode(),
         bytes(range(256)),
         b"x" * 254,
         b"y" * 255 + b"\0",
@@ -197,6 +205,9 @@ def every_view():
         words = [style] if style else []
         wanted = b"".join(line(style, *piece) for piece in seen) + (b"" if style == "--raw" else b"unfinished\n")
         same(run(words, STREAM), wanted)
+    same(run(["-x"], STREAM), run(["--hexdump"], STREAM))
+    same(run(["-j"], STREAM), run(["--json"], STREAM))
+    same(run(["-n"], STREAM), run(["--number"], STREAM))
     numbered = b"".join(str(i + 1).encode() + b" " + line(None, *piece) for i, piece in enumerate(seen))
     same(run(["--number"], STREAM), numbered + b"unfinished\n")
 
@@ -235,7 +246,7 @@ def partial():
             same(run(words + ([style] if style else []), stream), wanted)
         found = [json.loads(text) for text in run([*words, "--json"], stream).decode().splitlines()]
         for number, (item, (kind, length, data)) in enumerate(zip(found, seen, strict=False), 1):
-            fields = {"frame": number, "kind": kind}
+            fields = {"frame": number, "kind": kind.replace(" ", "-")}
             if length is not None:
                 fields["length"] = length
             if kind == "message" or data:
@@ -246,7 +257,7 @@ def partial():
         assert len(found) == len(seen) + 1
         begin = b"ab".hex()
         wanted = b"".join(partial_line(None, *piece) for piece in seen if piece[2].startswith(b"ab"))
-        same(run([*words, "--prefix", begin], stream), wanted + b"unfinished\n")
+        same(run([*words, "--prefix", begin], stream), wanted)
 
 
 @part
@@ -306,12 +317,42 @@ def colors_on_a_terminal():
 
 
 @part
+def exact_bytes_and_captures():
+    seen, _ = pieces_of(STREAM)
+    whole = [data for kind, _, data in seen if kind == "message"]
+    same(run(["--bytes"], STREAM), b"".join(whole))
+    for message in whole:
+        same(run(["--bytes"], encode(message) + b"\0"), message)
+    begin = time.time()
+    shown = run(["--pcap"], STREAM)
+    end = time.time()
+    same(shown[:24], struct.pack("<IHHiIII", 0xA1B2C3D4, 2, 4, 0, 0, 1 << 24, 147))
+    found, at = [], 24
+    while at < len(shown):
+        seconds, micros, length, size = struct.unpack_from("<IIII", shown, at)
+        assert length == size and begin - 0.001 <= seconds + micros / 1e6 <= end + 0.001, (begin, seconds, micros, end)
+        found.append(shown[at + 16 : at + 16 + length])
+        at += 16 + length
+    assert found == whole
+    same(run(["--pcap"], b""), shown[:24])
+    if shutil.which("tshark"):
+        with tempfile.NamedTemporaryFile(suffix=".pcap") as held:
+            held.write(run(["--pcap"], STREAM))
+            held.flush()
+            words = ["tshark", "-r", held.name, "-T", "fields", "-e", "frame.len"]
+            read = subprocess.run(words, stdout=subprocess.PIPE, stderr=subprocess.DEVNULL, check=True).stdout
+        same([int(text) for text in read.split()], [len(message) for message in whole])
+
+
+@part
 def json_lines():
     seen, _ = pieces_of(STREAM)
-    found = [json.loads(text) for text in run(["--json"], STREAM).decode().splitlines()]
+    shown = run(["--json"], STREAM).decode()
+    assert not any(is_hidden(c) for c in shown.replace("\n", "")), shown
+    found = [json.loads(text) for text in shown.splitlines()]
     wanted = []
     for number, (kind, length, data) in enumerate(seen):
-        item = {"frame": number + 1, "kind": kind}
+        item = {"frame": number + 1, "kind": kind.replace(" ", "-")}
         if length is not None:
             item["length"] = length
         if kind == "message":
@@ -383,6 +424,8 @@ def every_filter():
         (["--only", "broken"], lambda p: p[0] == "broken"),
         (["--only", "too-long"], lambda p: p[0] == "too long"),
         (["--only", "broken", "--only", "too-long"], lambda p: p[0] != "message"),
+        (["-o", "broken,too-long"], lambda p: p[0] != "message"),
+        (["--min", "0x11"], lambda p: size[p[0]](p) >= 17),
         (["--min", "17"], lambda p: size[p[0]](p) >= 17),
         (["--max", "17"], lambda p: size[p[0]](p) <= 17),
         (["--min", "5", "--max", "5"], lambda p: size[p[0]](p) == 5),
@@ -391,7 +434,9 @@ def every_filter():
     ]
     for words, keeps in filters:
         wanted = b"".join(str(i + 1).encode() + b" " + line(None, *p) for i, p in enumerate(seen) if keeps(p))
-        same(run(["--number", *words], STREAM), wanted + b"unfinished\n")
+        same(run(["--number", *words], STREAM), wanted)
+    same(run(["--only", "unfinished"], STREAM), b"unfinished\n")
+    same(run(["--json", "--only", "unfinished,broken", "--min", "9"], STREAM), b'{"kind":"unfinished"}\n')
 
 
 def crc(data, width, poly, start, reflected, end):
@@ -412,6 +457,10 @@ CHECKSUMS = {
     "crc-16-ccitt-false": (2, lambda data: binascii.crc_hqx(data, 0xFFFF), "big"),
     "crc-16-modbus": (2, lambda data: crc(data, 16, 0x8005, 0xFFFF, True, 0), "little"),
     "crc-32": (4, zlib.crc32, "little"),
+    "crc-16-xmodem": (2, lambda data: binascii.crc_hqx(data, 0), "big"),
+    "crc-16-kermit": (2, lambda data: crc(data, 16, 0x1021, 0, True, 0), "little"),
+    "crc-16-arc": (2, lambda data: crc(data, 16, 0x8005, 0, True, 0), "little"),
+    "crc-32c": (4, lambda data: crc(data, 32, 0x1EDC6F41, 0xFFFFFFFF, True, 0xFFFFFFFF), "little"),
 }
 
 
@@ -534,16 +583,24 @@ def wrong_words():
         ["--prefix", "gg"],
         ["--text", "--raw"],
         ["--min", "-1"],
+        ["--min", "0xg"],
+        ["--min", "5", "--max", "4"],
+        ["--only", "message,all"],
+        ["--length", "16777217"],
+        ["--sentinel", "256"],
+        ["--count-every", "4294967296"],
         ["--number", "--json"],
         ["--time", "start", "--raw"],
         ["--partial", "--raw"],
+        ["--pcap", "--raw"],
+        ["--pcap", "--time", "utc"],
+        ["--bytes", "--json"],
         ["--time", "then"],
         ["--color", "sometimes"],
         ["--crc", "crc-7"],
         ["--crc-order", "big"],
         ["send", "--crc", "crc-7"],
         ["send", "--crc-order", "big"],
-        ["nothing"],
     ):
         done = subprocess.run(
             [WATCH, *words], input=b"\x02a\0", stdout=subprocess.PIPE, stderr=subprocess.PIPE, timeout=120, check=False
@@ -551,7 +608,7 @@ def wrong_words():
         assert (done.returncode, done.stdout) == (2, b"") and done.stderr, (words, done)
     done = subprocess.run(
         [WATCH, "send", "--hex"],
-        input=b"00ff\nzz\n",
+        input=b"00 ff\r\nzz\n",
         stdout=subprocess.PIPE,
         stderr=subprocess.PIPE,
         timeout=120,
@@ -562,10 +619,10 @@ def wrong_words():
 
 TOPICS = {
     "Options": ["--help", "--version"],
-    "Styles": ["--text", "--raw", "--hexdump", "--json", "--partial", "--number", "--time", "--color"],
+    "Styles": ["--text", "--raw", "--hexdump", "--json", "--bytes", "--pcap", "--partial", "--number", "--time", "--color"],
     "Filters": ["--only", "--min", "--max", "--prefix"],
     "Checksums": ["--crc", "--crc-order"],
-    "The stream": ["--length", "--sentinel", "--skip-first", "--count", "--count-every"],
+    "The stream": ["--length", "--sentinel", "--skip-first", "--count", "--count-every", "--log"],
 }
 SEND_TOPICS = {"Options": ["--hex", "--sentinel", "--help"], "Checksums": ["--crc", "--crc-order"]}
 
@@ -573,7 +630,7 @@ SEND_TOPICS = {"Options": ["--hex", "--sentinel", "--help"], "Checksums": ["--cr
 def topics_of(text):
     """The options that a help text has below each heading, and its examples."""
     parts = dict(re.findall(r"^(\w[\w ]*):\n((?: .*\n|\n(?= ))+)", text, re.MULTILINE))
-    examples = [line_.strip() for line_ in parts.pop("Examples").splitlines()]
+    examples = [line_.strip() for line_ in parts.pop("Examples").splitlines() if line_.strip()]
     parts.pop("Commands", None)
     return {
         topic: re.findall(r"^ +(?:-\w, )?(--[\w-]+)", part_, re.MULTILINE) for topic, part_ in parts.items()
@@ -782,7 +839,8 @@ def pseudo_terminals():
     def hang_up():
         out, errors, status = over_a_line([], b"\x02a\0", 3)
         # A line that hangs up is at its end, or its read fails; either ends the program with a clear status.
-        assert (out, errors, status) in ((b"", b"", 0), (b"", b"cobs_watch: read failed\n", 1)), (out, errors, status)
+        failed_so = b"cobs_watch: read failed: Input/output error (os error 5)\n"
+        assert (out, status) == (b"", 1 if errors else 0) and errors in (b"", failed_so), (out, errors, status)
 
     @part
     def each_line_before_the_next_frame():

@@ -1,13 +1,20 @@
-/* The lines of `cobs_watch show`, by a plain program: what the throughput of cobs_watch is compared with. */
+/*
+ * The output of `cobs_watch show`, as lines, with --raw or with --json, by a plain program that copies runs of bytes at
+ * once and writes digits by a table: what the speed of cobs_watch is compared with. It leaves hidden characters that
+ * aren't ASCII as they are.
+ */
 #include <stdio.h>
 #include <stdlib.h>
 #include <string.h>
 #include <unistd.h>
 
-enum { ROOM = 65536 };
+enum { ROOM = 65536, OUT = 1 << 20 };
+enum style { HEX, RAW, JSON };
 
-static unsigned char in[ROOM], out[ROOM], message[ROOM];
+static unsigned char in[ROOM], out[OUT], message[ROOM];
 static size_t out_len;
+static unsigned long long frames;
+static char digits[256][2];
 
 static void flush_out(void)
 {
@@ -20,87 +27,170 @@ static void flush_out(void)
     out_len = 0;
 }
 
-static void put(unsigned char byte)
+static void reserve(size_t room)
 {
-    if (out_len == ROOM)
+    if (OUT - out_len < room)
         flush_out();
-    out[out_len++] = byte;
 }
 
-static void put_text(const char *text)
+static void put(const void *bytes, size_t len)
 {
-    while (*text)
-        put((unsigned char)*text++);
+    memcpy(out + out_len, bytes, len);
+    out_len += len;
 }
 
-/* The piece that ended: `left` bytes of its last block are lacking. */
-static void show(int raw, size_t len, unsigned left, int too_long)
+static void put_number(unsigned long long number)
 {
-    static const char digits[] = "0123456789abcdef";
-    char text[40];
+    char text[20];
+    size_t at = sizeof text;
 
-    if (too_long || left > 0) {
-        if (raw)
+    do
+        text[--at] = (char)('0' + number % 10);
+    while (number /= 10);
+    put(text + at, sizeof text - at);
+}
+
+static void put_digits(const unsigned char *bytes, size_t len)
+{
+    for (size_t i = 0; i < len; i++)
+        memcpy(out + out_len + 2 * i, digits[bytes[i]], 2);
+    out_len += 2 * len;
+}
+
+static int is_utf8(const unsigned char *p, size_t len)
+{
+    for (const unsigned char *end = p + len; p < end;) {
+        unsigned char lead = *p++;
+        size_t more = lead < 0x80 ? 0 : lead < 0xc2 ? 9 : lead < 0xe0 ? 1 : lead < 0xf0 ? 2 : lead < 0xf5 ? 3 : 9;
+        if (more > (size_t)(end - p))
+            return 0;
+        if (more > 1 && ((lead == 0xe0 && *p < 0xa0) || (lead == 0xed && *p > 0x9f) || (lead == 0xf0 && *p < 0x90) ||
+                         (lead == 0xf4 && *p > 0x8f)))
+            return 0;
+        for (; more > 0; more--)
+            if ((*p++ & 0xc0) != 0x80)
+                return 0;
+    }
+    return 1;
+}
+
+static void put_escaped(const unsigned char *p, size_t len)
+{
+    for (const unsigned char *end = p + len; p < end;) {
+        const unsigned char *run = p;
+        while (p < end && *p >= 32 && *p != 127 && *p != '"' && *p != '\\')
+            p++;
+        put(run, (size_t)(p - run));
+        if (p == end)
             return;
-        snprintf(text, sizeof text, too_long ? "too long\n" : "broken %zu\n", len);
-        put_text(text);
-        return;
-    }
-    if (raw) {
-        for (size_t i = 0; i < len; i++)
-            put(message[i]);
-    } else {
-        snprintf(text, sizeof text, len ? "message %zu " : "message %zu", len);
-        put_text(text);
-        for (size_t i = 0; i < len; i++) {
-            put((unsigned char)digits[message[i] >> 4]);
-            put((unsigned char)digits[message[i] & 15]);
+        if (*p == '"' || *p == '\\') {
+            put("\\", 1);
+            put(p, 1);
+        } else {
+            put("\\u00", 4);
+            put_digits(p, 1);
         }
+        p++;
     }
-    put('\n');
+}
+
+/* A piece ended; `is_broken` says whether inside a block. */
+static void show(enum style style, size_t len, int is_broken, int too_long)
+{
+    reserve(8 * ROOM + 128);
+    frames++;
+    if (style == RAW) {
+        if (!is_broken && !too_long) {
+            put(message, len);
+            put("\n", 1);
+        }
+    } else if (style == HEX) {
+        if (too_long) {
+            put("too long\n", 9);
+            return;
+        }
+        put(is_broken ? "broken " : "message ", is_broken ? 7 : 8);
+        put_number(len);
+        if (!is_broken && len > 0) {
+            put(" ", 1);
+            put_digits(message, len);
+        }
+        put("\n", 1);
+    } else {
+        put("{\"frame\":", 9);
+        put_number(frames);
+        if (too_long) {
+            put(",\"kind\":\"too-long\"}\n", 20);
+            return;
+        }
+        put(is_broken ? ",\"kind\":\"broken\",\"length\":" : ",\"kind\":\"message\",\"length\":", is_broken ? 26 : 27);
+        put_number(len);
+        if (!is_broken) {
+            put(",\"hex\":\"", 8);
+            put_digits(message, len);
+            put("\"", 1);
+            if (is_utf8(message, len)) {
+                put(",\"text\":\"", 9);
+                put_escaped(message, len);
+                put("\"", 1);
+            }
+        }
+        put("}\n", 2);
+    }
 }
 
 int main(int argc, char **argv)
 {
-    int raw = argc > 1 && strcmp(argv[1], "--raw") == 0;
+    enum style style = argc < 2 ? HEX : strcmp(argv[1], "--raw") == 0 ? RAW : JSON;
     int begun = 0, too_long = 0, zero_due = 0;
-    unsigned left = 0;
-    size_t len = 0;
+    size_t left = 0, len = 0;
     ssize_t count;
 
+    for (int i = 0; i < 256; i++) {
+        digits[i][0] = "0123456789abcdef"[i >> 4];
+        digits[i][1] = "0123456789abcdef"[i & 15];
+    }
     while ((count = read(0, in, ROOM)) > 0) {
-        for (ssize_t i = 0; i < count; i++) {
-            unsigned char byte = in[i];
-            if (byte == 0) {
-                if (begun)
-                    show(raw, len, left, too_long);
-                begun = too_long = zero_due = 0;
-                left = 0;
-                len = 0;
-                continue;
-            }
-            begun = 1;
+        for (const unsigned char *p = in, *end = in + count; p < end;) {
             if (left > 0) {
-                if (len == ROOM)
+                size_t run = left < (size_t)(end - p) ? left : (size_t)(end - p);
+                const unsigned char *zero = memchr(p, 0, run);
+                if (zero)
+                    run = (size_t)(zero - p);
+                if (run > ROOM - len)
                     too_long = 1;
-                else
-                    message[len++] = byte;
-                left--;
-                continue;
+                else {
+                    memcpy(message + len, p, run);
+                    len += run;
+                }
+                left -= run;
+                p += run;
+                if (!zero)
+                    continue;
             }
-            if (zero_due) {
-                if (len == ROOM)
-                    too_long = 1;
-                else
-                    message[len++] = 0;
+            if (*p == 0) {
+                if (begun)
+                    show(style, len, left > 0, too_long);
+                begun = too_long = zero_due = 0;
+                left = len = 0;
+            } else {
+                if (zero_due) {
+                    if (len == ROOM)
+                        too_long = 1;
+                    else
+                        message[len++] = 0;
+                }
+                begun = 1;
+                left = *p - 1u;
+                zero_due = *p != 255;
             }
-            left = byte - 1u;
-            zero_due = byte != 255;
+            p++;
         }
         flush_out();
     }
-    if (begun && !raw) {
-        put_text("unfinished\n");
+    if (begun && style != RAW) {
+        const char *text = style == HEX ? "unfinished\n" : "{\"kind\":\"unfinished\"}\n";
+        put(text, strlen(text));
         flush_out();
     }
     return count < 0;

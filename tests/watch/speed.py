@@ -1,7 +1,7 @@
 #!/usr/bin/env python3
-"""Measures cobs_watch over much data: its speed beside a plain program's, and its memory.
+"""Measures cobs_watch over much data: its speed, beside a plain program's where that has the style, and its memory.
 
-    speed.py WATCH PLAIN [MIB]     PLAIN is the built plain.c. MIB of each of three streams are read, 128 if not given.
+    speed.py WATCH PLAIN [MIB]     PLAIN is the built plain.c. MIB of each of four streams are read, 128 if not given.
 """
 
 import os
@@ -32,6 +32,11 @@ def dense():
 def noise():
     """A message of 200 to 250 random bytes."""
     return random.randbytes(random.randrange(200, 251))
+
+
+def text():
+    """A message of text: an object of JSON of 40 to 80 letters and digits, with a newline."""
+    return b'{"id":%d,"value":"%s"}\n' % (random.randrange(10**6), random.randbytes(random.randrange(12, 32)).hex().encode())
 
 
 def stream_of(message):
@@ -66,7 +71,9 @@ def memory_of(words, block):
     return int(most.split()[1]) / 1024
 
 
-STYLES = (("hexadecimal", []), ("--raw", ["--raw"]))
+STYLES = (("hexadecimal", []), ("--raw", ["--raw"]), ("--json", ["--json"]))
+# What plain.c doesn't have.
+OTHERS = ("--text", "--hexdump", "--bytes", "--pcap", "--crc crc-16-modbus", "--crc crc-32", "--time utc --number")
 
 
 def same_output(held, words):
@@ -92,12 +99,15 @@ def measure(name, block):
         for style, words in STYLES:
             runs = [[timed([program, *words], held) for program in (WATCH, PLAIN)] for _ in range(3)]
             watch, plain = (size / min(times) for times in zip(*runs))
-            print(f"{name}, {style}: cobs_watch {watch:.0f} MB/s, plain C {plain:.0f} MB/s of processor time")
+            print(f"{name}, {style}: cobs_watch {watch:.0f} MB/s, plain C {plain:.0f} MB/s of processor time", flush=True)
+        for words in OTHERS:
+            best = min(timed([WATCH, *words.split()], held) for _ in range(2))
+            print(f"{name}, {words}: cobs_watch {size / best:.0f} MB/s", flush=True)
 
 
 def main():
-    """Measures streams of three kinds, and the memory over the first one."""
-    for name, message in (("telemetry", telemetry), ("dense", dense), ("random", noise)):
+    """Measures streams of four kinds, and the memory over the first one."""
+    for name, message in (("telemetry", telemetry), ("text", text), ("dense", dense), ("random", noise)):
         measure(name, stream_of(message))
     block = stream_of(telemetry)
     memory = max(memory_of([WATCH, *words], block) for words in ([], ["--hexdump"], ["--json"]))
