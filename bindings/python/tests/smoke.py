@@ -16,6 +16,9 @@ def check(sentinel):
         frame = jcobs.encode(message, sentinel=sentinel, terminated=True)
         assert frame == bytes(byte ^ sentinel for byte in plain.encode(message) + b"\0")
         assert jcobs.decode(memoryview(frame), sentinel=sentinel) == message
+        for make in (bytearray, memoryview):
+            buffer = make(bytearray(jcobs.max_length(len(message)) - len(message)) + message)
+            assert frame[:-1] == buffer[: jcobs.encode_in_place(buffer, len(message), sentinel=sentinel)]
         encoder.feed(array("B", message))
         assert encoder.finish(terminated=True) == frame
         assert decoder.feed(bytearray(frame)) == [jcobs.Message(message)]

@@ -4,6 +4,7 @@ import inspect
 import os
 import subprocess
 import sys
+from array import array
 
 import pytest
 
@@ -46,6 +47,9 @@ WRONG = [
     *(("decode", data, 0, jcobs.DecodeError) for data in ("text", [1], NOT_CONTIGUOUS, b"\x05a", b"\0", b"")),
     *(("frame_kind", data, 0) for data in ("text", NOT_CONTIGUOUS)),
     *(("encode", b"", sentinel, False) for sentinel in (-1, 256, 2**70, -(2**70), "0", None, 1.0)),
+    *(("encode_in_place", data, 1, 0) for data in ("text", 5, b"\0a", NOT_CONTIGUOUS, bytearray(1), array("I"))),
+    *(("encode_in_place", bytearray(9), length, 0) for length in (-1, 9, 2**63 - 1, 2**63, 1.5)),
+    *(("encode_in_place", bytearray(9), 1, sentinel) for sentinel in (-1, 256, "0")),
     *(("max_length", length) for length in (-1, 2**63, -(2**70), 1.5, "1")),
     *((coder, *words) for coder in ("Decoder", "Encoder") for words in ((-1, 0), (2**70, 0), ("1", 0), (1, "1"))),
 ]

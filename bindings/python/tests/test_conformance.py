@@ -44,8 +44,12 @@ def max_encoding_overhead(length):
     return [jcobs.max_length(int(length)) - int(length)]
 
 
-def encode_vec(message):
-    return [word_of(jcobs.encode(of_word(message)))]
+def encode_vec(word):
+    message = of_word(word)
+    frame = jcobs.encode(message)
+    buffer = bytearray(jcobs.max_length(len(message)) - len(message)) + message
+    assert buffer[: jcobs.encode_in_place(buffer, len(message))] == frame
+    return [word_of(frame)]
 
 
 def encode_vec_including_sentinels(message):

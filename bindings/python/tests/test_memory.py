@@ -29,6 +29,8 @@ CALLS = {
     "encode": lambda: jcobs.encode(b"a" * 5000),
     "encode a bytearray": lambda: jcobs.encode(bytearray(b"a" * 500)),
     "encode a memoryview": lambda: jcobs.encode(memoryview(b"a" * 500), sentinel=5),
+    "encode_in_place": lambda: jcobs.encode_in_place(bytearray(1000), 500),
+    "encode_in_place in a memoryview": lambda: jcobs.encode_in_place(memoryview(bytearray(1000)), 500, sentinel=5),
     "decode": lambda: jcobs.decode(b"\x06hello\0" + b"a" * 5000),
     "decode for a sentinel": lambda: jcobs.decode(b"\x07idmmn", sentinel=1),
     "decode a broken frame": broken,
@@ -125,6 +127,7 @@ def test_a_million_calls_without_growth():
         decoder, encoder = jcobs.Decoder(100), jcobs.Encoder(100)
         for _ in range(count):
             jcobs.encode(view)
+            jcobs.encode_in_place(view, 5)
             jcobs.decode(frame)
             jcobs.frame_kind(frame, sentinel=3)
             decoder.feed(b"\x03hi\0\x05a\0")
@@ -136,6 +139,11 @@ def test_a_million_calls_without_growth():
                     call(wrong)
                 except Exception:
                     pass
+            for words in (("text", 1), (view, 200)):
+                try:
+                    jcobs.encode_in_place(*words)
+                except (TypeError, ValueError):
+                    pass
             try:
                 jcobs.encode("text")
             except TypeError:
@@ -144,7 +152,7 @@ def test_a_million_calls_without_growth():
 
     some(5_000)
     before = resident()
-    some(8_000 if jcobs.backend == "python" else 80_000)  # thirteen calls each
+    some(8_000 if jcobs.backend == "python" else 80_000)  # sixteen calls each
     assert resident() - before < 1_000_000
 
 

@@ -64,6 +64,12 @@ def test_short_calls_keep_the_gil():
     assert not lets_others_run(lambda: [jcobs.encode(b"hello") for _ in range(1000)])
 
 
+@only_extension
+def test_encoding_in_place_keeps_the_gil():
+    buffer = bytearray(LONG)
+    assert not lets_others_run(lambda: jcobs.encode_in_place(buffer, len(buffer) // 2))
+
+
 SMALL = b"a small frame"
 MANY = jcobs.encode(SMALL, terminated=True) * (20_000 if PLAIN and sys.implementation.name == "cpython" else 500_000)
 

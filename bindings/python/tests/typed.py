@@ -34,6 +34,11 @@ def whole(data: Union[bytes, bytearray, memoryview]) -> bytes:
         return error.data + kind.encode()
 
 
+def in_place(buffer: bytearray) -> int:
+    length: int = jcobs.encode_in_place(array("B", bytes(9)), 4, sentinel=1)
+    return length + jcobs.encode_in_place(memoryview(buffer), 4)
+
+
 def coders() -> int:
     encoder = jcobs.Encoder(max_length=100)
     encoder.feed(b"a")

@@ -25,9 +25,16 @@
 #endif
 #define FAST(function) ((PyCFunction)(void (*)(void))(function))
 
+/* Of the old interface to buffers, which the stable ABI of 3.9 has alone. Headers from 3.13 on don't declare it. */
+PyAPI_FUNC(int) PyObject_AsWriteBuffer(PyObject *view, void **start, Py_ssize_t *len);
+
 /* Returns an argument as a bytes object. Bytes are taken as they are; anything else with a buffer is copied, so that
  * no other thread or process can change the bytes while a call reads them. */
 PyObject *bytes_of(PyObject *data, const char *name);
+
+/* Says where the bytes of a writable object are, and returns an object that keeps them there while no Python code runs,
+ * or NULL with an error. */
+PyObject *writable_of(PyObject *data, const char *name, void **start, Py_ssize_t *len);
 
 /* Raises TypeError unless a call has this many arguments. */
 int has_count(Py_ssize_t count, Py_ssize_t wanted);

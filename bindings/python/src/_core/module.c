@@ -60,6 +60,35 @@ static PyObject *core_encode(PyObject *module, PyObject *const *args, Py_ssize_t
     return frame;
 }
 
+/* encode_in_place(buffer, length, sentinel): the frame's length. No other thread runs while the bytes change. */
+static PyObject *core_encode_in_place(PyObject *module, PyObject *const *args, Py_ssize_t count)
+{
+    PyObject *held, *frame_len = NULL;
+    unsigned char sentinel;
+    jcobs_answer answer;
+    Py_ssize_t room;
+    size_t len, i;
+    void *start;
+
+    (void)module;
+    if (!has_count(count, 3) || !length_of(args[1], "length", &len) || !sentinel_of(args[2], &sentinel))
+        return NULL;
+    held = writable_of(args[0], "buffer", &start, &room);
+    if (held == NULL)
+        return NULL;
+    answer = jcobs_encode_in_place(start, (size_t)room, len);
+    if (answer.status == JCOBS_OK) {
+        for (i = 0; i < answer.length; i++)
+            ((unsigned char *)start)[i] ^= sentinel;
+        frame_len = PyLong_FromSize_t(answer.length);
+    } else {
+        PyErr_Format(PyExc_ValueError, "buffer must have max_length(%zu) = %zu bytes at least, not %zd", len,
+                     jcobs_max_length(len), room);
+    }
+    Py_DECREF(held);
+    return frame_len;
+}
+
 /* Decodes the first frame of the source to a new bytes object, or returns NULL with MemoryError. */
 static PyObject *decoded(PyObject *source, unsigned char sentinel, unsigned int *status)
 {
@@ -172,6 +201,7 @@ static PyObject *core_max_length(PyObject *module, PyObject *number)
 
 static PyMethodDef functions[] = {
     {"encode", FAST(core_encode), METH_FASTCALL, NULL},
+    {"encode_in_place", FAST(core_encode_in_place), METH_FASTCALL, NULL},
     {"decode", FAST(core_decode), METH_FASTCALL, NULL},
     {"frame_kind", FAST(core_frame_kind), METH_FASTCALL, NULL},
     {"max_length", core_max_length, METH_O, NULL},

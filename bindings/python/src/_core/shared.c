@@ -1,18 +1,23 @@
 /* What the functions and the types share. */
 #include "core.h"
 
-/* Says of a TypeError which argument was wrong. */
-static void wrong_type(const char *name, const char *wanted, PyObject *given)
+/* Raises TypeError for an argument. */
+static void raise_type(const char *name, const char *wanted, PyObject *given)
 {
-    PyObject *type;
+    PyObject *type = PyObject_GetAttrString((PyObject *)Py_TYPE(given), "__name__");
 
-    if (!PyErr_ExceptionMatches(PyExc_TypeError))
-        return;
-    PyErr_Clear();
-    type = PyObject_GetAttrString((PyObject *)Py_TYPE(given), "__name__");
     if (type != NULL)
         PyErr_Format(PyExc_TypeError, "%s must be %s, not %U", name, wanted, type);
     Py_XDECREF(type);
+}
+
+/* Says of a TypeError which argument was wrong. */
+static void wrong_type(const char *name, const char *wanted, PyObject *given)
+{
+    if (!PyErr_ExceptionMatches(PyExc_TypeError))
+        return;
+    PyErr_Clear();
+    raise_type(name, wanted, given);
 }
 
 PyObject *bytes_of(PyObject *data, const char *name)
@@ -38,6 +43,43 @@ PyObject *bytes_of(PyObject *data, const char *name)
     Py_XDECREF(contiguous);
     Py_DECREF(view);
     return bytes;
+}
+
+#ifdef __GNUC__
+#pragma GCC diagnostic ignored "-Wdeprecated-declarations" /* PyObject_AsWriteBuffer: the view holds what it returns */
+#endif
+
+PyObject *writable_of(PyObject *data, const char *name, void **start, Py_ssize_t *len)
+{
+    static const char wanted[] = "a read-write bytes-like object";
+    PyObject *view, *contiguous, *readonly = NULL;
+    int done = 0;
+
+    if (PyByteArray_Check(data)) {
+        *start = PyByteArray_AsString(data);
+        *len = PyByteArray_Size(data);
+        Py_INCREF(data);
+        return data;
+    }
+    view = PyMemoryView_FromObject(data);
+    if (view == NULL) {
+        wrong_type(name, wanted, data);
+        return NULL;
+    }
+    contiguous = PyObject_GetAttrString(view, "c_contiguous");
+    if (contiguous != NULL)
+        readonly = PyObject_GetAttrString(view, "readonly");
+    if (contiguous == Py_False)
+        PyErr_Format(PyExc_BufferError, "%s is not contiguous", name);
+    else if (readonly == Py_True)
+        raise_type(name, wanted, data);
+    else if (readonly != NULL)
+        done = PyObject_AsWriteBuffer(view, start, len) == 0;
+    Py_XDECREF(readonly);
+    Py_XDECREF(contiguous);
+    if (!done)
+        Py_CLEAR(view);
+    return view;
 }
 
 unsigned char *start_of(PyObject *bytes)

@@ -17,7 +17,7 @@ mmap. Each function and method raises TypeError for other objects, and BufferErr
 """
 
 from jcobs._backend import backend
-from jcobs._frames import DecodeError, decode, encode, frame_kind, max_length
+from jcobs._frames import DecodeError, decode, encode, encode_in_place, frame_kind, max_length
 from jcobs._readers import AsyncFrameReader, FrameReader
 from jcobs._streams import Broken, Decoder, Encoder, Message, Outcome, TooLong
 
@@ -34,6 +34,7 @@ __all__ = [
     "backend",
     "decode",
     "encode",
+    "encode_in_place",
     "frame_kind",
     "max_length",
 ]

@@ -7,7 +7,7 @@ from typing import TYPE_CHECKING, Literal, Tuple
 from jcobs._backend import core
 
 if TYPE_CHECKING:
-    from _typeshed import ReadableBuffer
+    from _typeshed import ReadableBuffer, WriteableBuffer
 
 ErrorKind = Literal["broken", "empty"]
 FrameKind = Literal["not_a_frame", "canonical", "longer"]
@@ -51,6 +51,25 @@ def encode(data: ReadableBuffer, *, sentinel: int = 0, terminated: bool = False)
     b'\\x0cboffe\\n'
     """
     return _encode(data, sentinel, terminated)
+
+
+def encode_in_place(buffer: WriteableBuffer, length: int, *, sentinel: int = 0) -> int:
+    """Encodes a message in its own buffer, and returns the length of its frame.
+
+    The message's `length` bytes are in `buffer` after the first `max_length(length) - length`, whose contents don't
+    matter. Then `buffer` begins with the frame, and its bytes after that stay as they were. Nothing else may change
+    them during the call, which keeps the GIL.
+
+    `buffer` is a contiguous bytes-like object that can be written to. Raises ValueError if it has less than
+    `max_length(length)` bytes, and is then as it was.
+
+    >>> buffer = bytearray(b"\\0hello..")
+    >>> jcobs.encode_in_place(buffer, 5)
+    6
+    >>> buffer
+    bytearray(b'\\x06hello..')
+    """
+    return core.encode_in_place(buffer, length, sentinel)
 
 
 def decode(frame: ReadableBuffer, *, sentinel: int = 0) -> bytes:

@@ -5,12 +5,13 @@ Frames for another sentinel are XORed with it, so all loops are about the sentin
 
 from __future__ import annotations
 
+import io
 import operator
 import sys
 from typing import TYPE_CHECKING, Any, Callable, List, Tuple, TypeVar
 
 if TYPE_CHECKING:
-    from _typeshed import ReadableBuffer
+    from _typeshed import ReadableBuffer, WriteableBuffer
 
 _T = TypeVar("_T")
 
@@ -80,6 +81,26 @@ def frame_of(message: bytes) -> bytes:
 def encode(data: ReadableBuffer, sentinel: int, terminated: bool) -> bytes:
     message, sentinel = bytes_of(data, "data"), sentinel_of(sentinel)
     return xored(frame_of(message) + b"\0" * bool(terminated), sentinel)
+
+
+def encode_in_place(buffer: WriteableBuffer, length: int, sentinel: int) -> int:
+    """Copies the message, and writes its frame back."""
+    length, sentinel = length_of(length, "length"), sentinel_of(sentinel)
+    wrong = f"buffer must be a read-write bytes-like object, not {type(buffer).__name__}"
+    try:
+        view = memoryview(buffer)
+    except TypeError:
+        raise TypeError(wrong) from None
+    with view:
+        if not view.c_contiguous:
+            raise BufferError("buffer is not contiguous")
+        if view.readonly:
+            raise TypeError(wrong)
+        room, needed = view.nbytes, max_length(length)
+        if room < needed:
+            raise ValueError(f"buffer must have max_length({length}) = {needed} bytes at least, not {room}")
+        frame = encode(view.tobytes()[needed - length : needed], sentinel, False)
+        return io.BytesIO(frame).readinto(view)
 
 
 def decode(frame: ReadableBuffer, sentinel: int, error: Callable[[str, bytes], Exception]) -> bytes:
