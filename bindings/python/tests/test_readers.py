@@ -139,7 +139,7 @@ def test_a_timeout_is_not_the_end(kind):
                 reader.read(timeout=9)
 
 
-@pytest.mark.parametrize("kind", ["pipe", "socket"])
+@pytest.mark.parametrize("kind", ["pipe", "buffered pipe", "socket", "socket as a file"])
 def test_a_reader_that_does_not_wait(kind):
     with ends(kind) as (file, end):
         (file.setblocking if kind == "socket" else lambda no: os.set_blocking(file.fileno(), no))(False)
@@ -148,6 +148,17 @@ def test_a_reader_that_does_not_wait(kind):
         end.write(b"\x03hi\0")
         assert reader.read() == jcobs.Message(b"hi") and reader.read() is None
         assert reader.read(timeout=0.01) is None
+        end.write(b"\x03h")
+        assert reader.read() is None and reader.unfinished
+        end.write(b"i\0" + b"\x02a\0" * 20_000)
+        assert [reader.read().data for _ in range(20_001)] == [b"hi"] + [b"a"] * 20_000
+        assert reader.read() is None and list(reader) == []
+        end.close()
+        if kind == "socket":
+            file.shutdown(socket.SHUT_RDWR)
+        for timeout in (None, 0, 9) if kind != "socket as a file" else ():
+            with pytest.raises(EOFError, match="the stream ended$"):
+                reader.read(timeout)
 
 
 def test_the_timeout_of_a_socket():

@@ -5,6 +5,7 @@ from __future__ import annotations
 import errno
 import io
 import operator
+import os
 import select
 import socket
 import time
@@ -111,11 +112,22 @@ def _read_socket(sock: Any, timeout: Optional[float]) -> Optional[bytes]:
         return None
 
 
+def _waits(file: Any) -> bool:
+    """Whether a read of a file waits for bytes."""
+    try:
+        return os.get_blocking(file.fileno())
+    except (AttributeError, io.UnsupportedOperation):
+        return True  # no descriptor, or Windows
+
+
 def _read_file(file: Any, timeout: Optional[float]) -> Optional[bytes]:
     """Reads what a file has, or waits for it; None at the timeout, or if it has none now and doesn't wait."""
     if timeout is not None and not _ready(file, timeout):
         return None
     chunk: Optional[bytes] = getattr(file, "read1", file.read)(CHUNK)
+    if not chunk and hasattr(file, "raw") and not _waits(file):
+        # no bytes from `read1` are the end, or up to Python 3.13 none now; then the buffer is empty
+        chunk = file.raw.read(CHUNK)
     return chunk
 
 
