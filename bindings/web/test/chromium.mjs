@@ -202,12 +202,12 @@ export class Page {
     await this.send("Input.dispatchKeyEvent", { type: "keyUp", key: "v", code: "KeyV", modifiers: CONTROL });
   }
 
-  /** Clicks into a field and puts text in the place of what it holds. */
+  /** Clicks into a field and puts text in the place of what it holds: at once, as an input method does. */
   async fill(selector, text) {
     await this.click(selector);
     await this.selectAll();
     if (text === "") await this.press("Backspace");
-    else await this.type(text);
+    else await this.send("Input.insertText", { text });
   }
 
   async screenshot(path) {
