@@ -222,10 +222,11 @@ part 'state: at most 16 bytes' state
 firmware=$root/bindings/c/examples/firmware/test.py
 part 'firmware on a serial line' "$firmware"
 watch=$root/crates/cobs_watch/out/cobs_watch
+[ -x "$watch" ] || watch=$root/bindings/programs/$(uname -m)-linux/cobs_watch
 if [ -x "$watch" ]; then
     part 'firmware on a serial line, shown by cobs_watch' "$firmware" "$watch"
 else
-    skip 'firmware shown by cobs_watch' "it isn't built (rt run in crates/cobs_watch)"
+    skip 'firmware shown by cobs_watch' "it isn't built for $(uname -m)"
 fi
 part 'an Arduino sketch' sketch
 if has cmake cmake 'the CMake examples'; then
