@@ -76,8 +76,11 @@ def test_readme_request_and_reply(terminals, monkeypatch, capsys):
             names["ask"](names["device"], b"status?")
 
 
-def test_readme_commands():
-    path = os.pathsep.join([str(Path(sys.executable).parent), os.environ["PATH"]])
+def test_readme_commands(tmp_path):
+    python = tmp_path / "python"  # Debian has no command of this name
+    python.write_text(f'#!/bin/sh\nexec "{sys.executable}" "$@"\n')
+    python.chmod(0o755)
+    path = os.pathsep.join([str(tmp_path), os.environ["PATH"]])
     ran = 0
     for block in readme_blocks("console"):
         for command, output in re.findall(r"\$ (.*)\n((?:(?!\$ ).*\n)*)", block):
