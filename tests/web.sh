@@ -60,7 +60,9 @@ if has "$node" nodejs "Node"; then
         begin package "$node" "$web/test/package.mjs"
         begin vectors "$node" "$web/test/vectors.mjs" "$web/cobs.wasm" "$root/conformance"
         if has "$chromium" chromium "the page"; then
-            begin page "$node" "$web/test/page.mjs"
+            for files in first,message canvas,stream line,whole,pictures; do
+                begin "page-$files" "$node" "$web/test/page.mjs" "$files"
+            done
         fi
         webkit=${WEBKIT:-$(ls /usr/lib/*/webkit2gtk-4*/MiniBrowser 2>/dev/null | head -n 1)}
         if has "${webkit:-MiniBrowser}" webkit2gtk-driver "WebKit" && has WebKitWebDriver webkit2gtk-driver "WebKit" &&

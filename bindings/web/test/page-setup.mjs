@@ -10,7 +10,7 @@ await load(await readFile(new URL("../cobs.wasm", import.meta.url)));
 export const conformance = fileURLToPath(new URL("../../../conformance", import.meta.url));
 export const { server, address } = await serve(0, { conformance });
 export const browser = await Browser.start(process.env.CHROMIUM ?? "chromium");
-const wanted = process.argv[2] ?? ""; // a part of the names of the checks to run
+const wanted = process.argv[3] ?? ""; // a part of the names of the checks to run
 export const check = (name, act) => (name.includes(wanted) ? checkAny(name, act) : undefined);
 console.log(`page: in ${await browser.version()}`);
 

@@ -1,8 +1,9 @@
-// The page in Chromium, driven by keys, clicks and pastes: node page.mjs [PART OF A NAME]
+// The page in Chromium, driven by keys, clicks and pastes: node page.mjs [FILE,.. [PART OF A NAME]]
 import { browser, server } from "./page-setup.mjs";
 import { report } from "./tally.mjs";
 
-for (const part of ["first", "message", "canvas", "stream", "line", "whole", "pictures"]) await import(`./page-${part}.mjs`);
+const files = process.argv[2] ?? "first,message,canvas,stream,line,whole,pictures";
+for (const file of files.split(",")) await import(`./page-${file}.mjs`);
 await browser.close();
 server.close();
-report("page");
+report(`page, ${files}`);
