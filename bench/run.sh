@@ -2,14 +2,15 @@
 # Measures what ships, as a program links it: libjcobs.a, and the Rust crate of bindings/rust, beside what someone would take
 # instead.
 #
-#     bench/run.sh [--crate FOLDER] [--quick] [--docs]   prints the tables
+#     bench/run.sh [--crate FOLDER] [--quick] [--docs]   prints the tables of the documents
 #     bench/run.sh [--crate FOLDER] check                compares what each makes of 6,000 messages, and measures nothing
 #     bench/run.sh --old FOLDER [--docs]                 times and instructions of libjcobs, beside those of another version
 #
 # --crate FOLDER: the sources of the crate `cobs` 0.5.1, as cargo downloads them; without them the Rust tables are left out.
 # --old FOLDER:   a checkout of another version of this repository, whose prebuilt library is taken.
 # --quick:        one place in memory, one round, no link-time optimization: for a look, not for the document.
-# --docs:         writes into docs/PERFORMANCE.md, README.md and docs/images/performance.svg.
+# --docs:         writes them into docs/PERFORMANCE.md, README.md and bindings/rust/README.md, and writes every figure into
+#                 bench/results/ and docs/images/performance.svg.
 #
 # It needs rustc, cc, and the crate `memchr` (Debian's librust-memchr-dev); --old needs valgrind. It takes ten minutes, with
 # --quick two, on a machine with no other load. C is built with -O3 for x86-64-v2, for which libjcobs is, and Rust as
@@ -88,11 +89,15 @@ if [ -n "$old" ]; then
     mv "$out/old.csv.part" "$out/old.csv"
     mv "$out/new.csv.part" "$out/new.csv"
     {
-        "$out/driver-new" before "$out/old.csv" "$out/new.csv"
+        "$out/driver-new" beside "$out/old.csv" "$out/new.csv"
         "$here/instructions.sh" "$out/driver-old" "$out/driver-new"
-    } >"$out/before.md"
-    cat "$out/before.md"
-    [ -z "$docs" ] || put docs/PERFORMANCE.md before
+    } >"$out/before.txt"
+    "$out/driver-new" before "$out/old.csv" "$out/new.csv" >"$out/before.md"
+    cat "$out/before.txt" "$out/before.md"
+    if [ -n "$docs" ]; then
+        cp "$out/before.txt" "$here/results"
+        put docs/PERFORMANCE.md before
+    fi
     exit 0
 fi
 for place in $places; do
@@ -106,25 +111,30 @@ for round in $rounds; do
         "$out/driver-$place" run >"$out/at-$place-$round.csv"
     done
 done
-"$out/driver-0" summary "$out"/at-*.csv >"$out/summary.md"
-"$out/driver-0" c "$out"/at-*.csv >"$out/c.md"
-"$out/driver-0" rust "$out"/at-*.csv >"$out/rust.md"
+"$out/driver-0" c "$out"/at-*.csv >"$out/c.txt"
+"$out/driver-0" rust "$out"/at-*.csv >"$out/rust.txt"
+"$out/driver-0" shipped "$out"/at-*.csv >"$out/shipped.md"
 "$out/driver-0" readme "$out"/at-*.csv >"$out/speed.md"
 "$out/driver-0" chart "$out"/at-*.csv >"$out/performance.svg"
-: >"$out/lto.md"
+linked=
 if [ -n "$crate" ] && [ -z "$quick" ]; then
     for place in $places; do
         build "$place" "$top" "lto-$place" -C lto=fat
         "$out/lto-$place" run jcobs cobs >"$out/lto-$place.csv"
     done
-    "$out/driver-0" rust "$out"/lto-*.csv >"$out/lto.md"
+    linked="$out/lto-*.csv"
+    # shellcheck disable=SC2086 # the files are words
+    "$out/driver-0" rust $linked >"$out/rust-lto.txt"
+    # shellcheck disable=SC2086
+    python3 "$top/bindings/rust/speed.py" "$out"/at-*.csv -- $linked >"$out/crate.md"
 fi
-if [ -s "$out/lto.md" ]; then
-    python3 "$top/bindings/rust/speed.py" "$out"/at-*.csv -- "$out"/lto-*.csv >"$out/crate.md"
-fi
-cat "$out/summary.md" "$out/c.md" "$out/rust.md" "$out/lto.md"
+# shellcheck disable=SC2086
+"$out/driver-0" pairs "$out"/at-*.csv -- $linked >"$out/pairs.md"
+cat "$out/pairs.md" "$out/shipped.md" "$out/speed.md"
 if [ -n "$docs" ]; then
+    mkdir -p "$here/results"
     cp "$out/performance.svg" "$top/docs/images/performance.svg"
+    cp "$out/c.txt" "$out/rust.txt" "$here/results"
     {
         date -u '+- Date: %Y-%m-%d'
         git -C "$top" rev-parse --short HEAD | sed 's/^/- Commit: /'
@@ -133,7 +143,10 @@ if [ -n "$docs" ]; then
         cc --version | sed 's/^/- C: /; q'
         sed 's/^\([0-9.]*\).*/- Load of the machine by all that ran on it, as the run ended: \1/' /proc/loadavg
     } >"$out/machine.md"
-    put docs/PERFORMANCE.md machine summary c rust lto
+    put docs/PERFORMANCE.md machine pairs shipped
     put README.md speed
-    [ ! -s "$out/lto.md" ] || put bindings/rust/README.md crate
+    if [ -n "$linked" ]; then
+        cp "$out/rust-lto.txt" "$here/results"
+        put bindings/rust/README.md crate
+    fi
 fi

@@ -4,8 +4,9 @@
 //!     driver check             compares what each made of thousands of messages
 //!     driver run [WHO..]       prints a line of figures for each call and workload
 //!     driver one CALL WORKLOAD TIMES       one call of libjcobs alone, for counting its instructions
-//!     driver c|rust|summary|readme|chart FILE..    tables of what `run` printed at several places in memory
-//!     driver before OLD NEW    a table of the times of two libraries
+//!     driver c|rust FILE..     every figure that `run` printed, the best of several places in memory
+//!     driver pairs|shipped|readme|chart FILE..    what the documents have of them
+//!     driver before|beside OLD NEW    the times of two libraries: in few words, each row
 
 mod c;
 mod calls;
@@ -97,10 +98,12 @@ fn main() {
         }
         ["c", files @ ..] => report::of("libjcobs", files),
         ["rust", files @ ..] => report::of("jcobs", files),
-        ["summary", files @ ..] => report::summary(files),
+        ["pairs", files @ ..] => report::pairs(files),
+        ["shipped", files @ ..] => report::shipped(files),
         ["readme", files @ ..] => report::readme(files),
         ["chart", files @ ..] => report::chart(files),
-        ["before", old, new] => report::before(old, new),
+        ["before", old, new] => report::before(old, new, false),
+        ["beside", old, new] => report::before(old, new, true),
         _ => {
             eprintln!("usage: see the top of main.rs");
             std::process::exit(2);

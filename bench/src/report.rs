@@ -58,59 +58,97 @@ fn rivals(who: &str) -> &'static [&'static str] {
     if who == "jcobs" { &["cobs"] } else { &["unchecked", "bytes", "memchr", "simd", "limit"] }
 }
 
-/// A table with a row for each workload and a column for each call that has a value.
-fn table(title: &str, value: impl Fn(&str, &str) -> String) {
+/// A table with a row for each of these workloads and a column for each call that has a value.
+fn table(title: &str, workloads: &[&str], value: impl Fn(&str, &str) -> String) {
     let calls: Vec<&str> = CALLS.into_iter().filter(|call| value(call, "zeros") != "-").collect();
     println!("| {title} | {} |", calls.join(" | "));
     println!("|---|{}", "--:|".repeat(calls.len()));
-    for workload in WORKLOADS {
+    for workload in workloads {
         let cells: Vec<String> = calls.iter().map(|call| value(call, workload)).collect();
         println!("| {workload} | {} |", cells.join(" | "));
     }
     println!();
 }
 
-/// The tables of one of the two: its rates, and its ratio to each rival.
+fn rates(figures: &Figures, title: &str, who: &str, workloads: &[&str]) {
+    let rate = |call: &str, workload: &str| figures.best(call, workload, who).map_or("-".into(), |v| format!("{v:.0}"));
+    table(title, workloads, rate);
+}
+
+/// Every figure of one of the two: its rates, and its ratio to each rival.
 pub fn of(who: &str, files: &[&str]) {
     let figures = Figures::read(files);
-    table("MB/s", |call, workload| figures.best(call, workload, who).map_or("-".into(), |v| format!("{v:.0}")));
+    rates(&figures, "MB/s", who, &WORKLOADS);
     for rival in rivals(who) {
-        table(&format!("/ {}", name_of(rival)), |call, workload| shown(figures.ratio(call, workload, who, rival)));
+        let ratio = |call: &str, workload: &str| shown(figures.ratio(call, workload, who, rival));
+        table(&format!("/ {}", name_of(rival)), &WORKLOADS, ratio);
     }
 }
 
-/// What a reader is to know first: the range of ratios to each rival, and every row below 1.0.
-pub fn summary(files: &[&str]) {
+/// What a reader may have to send, with the easiest and the hardest rows among them.
+const CHOSEN: [&str; 10] =
+    ["none", "random", "every 16", "text", "telemetry", "i32, 16 bits", "f32", "below 20", "8 bytes", "64 bytes"];
+
+/// The rates of what ships, for the chosen rows.
+pub fn shipped(files: &[&str]) {
     let figures = Figures::read(files);
     for who in ["libjcobs", "jcobs"] {
-        for rival in rivals(who).iter().filter(|rival| **rival != "limit") {
-            let mut rows = Vec::new();
-            for call in CALLS {
-                for workload in WORKLOADS {
-                    rows.extend(figures.ratio(call, workload, who, rival).map(|ratio| (ratio, call, workload)));
-                }
-            }
-            if rows.is_empty() {
-                continue;
-            }
-            let slower: Vec<String> = CALLS
-                .iter()
-                .filter_map(|call| {
-                    let below = rows.iter().filter(|(ratio, of, _)| of == call && *ratio < 1.0);
-                    let below: Vec<String> = below.map(|(ratio, _, on)| format!("{on} {ratio:.2}")).collect();
-                    (!below.is_empty()).then(|| format!("{call}: {}", below.join(", ")))
-                })
-                .collect();
-            let below = rows.iter().filter(|(ratio, ..)| *ratio < 1.0).count();
-            rows.sort_by(|a, b| a.0.total_cmp(&b.0));
-            println!(
-                "- `{who}` beside {}: {} rows, median {}, {below} below 1.0.{}",
-                name_of(rival),
-                rows.len(),
-                shown(Some(rows[rows.len() / 2].0)),
-                if below == 0 { String::new() } else { format!(" {}.", slower.join("; ")) }
-            );
+        if figures.best("encode", "none", who).is_some() {
+            rates(&figures, &format!("`{who}`, MB/s"), who, &CHOSEN);
         }
+    }
+}
+
+/// These rows in few words: lengths together, and the others by name.
+fn listed(rows: &[&str]) -> String {
+    let length = |row: &str| row.strip_suffix(" bytes").or(row.strip_suffix(" byte")).map(String::from);
+    let lengths: Vec<String> = rows.iter().filter_map(|row| length(row)).collect();
+    let mut parts: Vec<String> = rows.iter().filter(|row| length(row).is_none()).map(|row| row.to_string()).collect();
+    if !lengths.is_empty() {
+        parts.push(format!("{} byte{}", lengths.join(", "), if lengths == ["1"] { "" } else { "s" }));
+    }
+    parts.join("; ")
+}
+
+/// A table with a row for each call: the median of a ratio, the least one, and every row in which it is below a limit.
+fn spread(title: &str, limit: f64, ratio: impl Fn(&str, &str) -> Option<f64>) {
+    println!("| {title} | median | least | below {limit:.1}, of {} |", WORKLOADS.len());
+    println!("|---|--:|---|---|");
+    for call in CALLS {
+        let mut rows: Vec<(f64, &str)> = WORKLOADS.iter().filter_map(|row| Some((ratio(call, row)?, *row))).collect();
+        if rows.is_empty() {
+            continue;
+        }
+        let (below, others): (Vec<_>, Vec<_>) = rows.iter().partition(|(ratio, _)| *ratio < limit);
+        let names = |rows: &[&(f64, &str)]| listed(&rows.iter().map(|row| row.1).collect::<Vec<_>>());
+        let slower = match (below.len(), others.len()) {
+            (0, _) => "-".into(),
+            (_, 0) => "all".into(),
+            (slower, faster) if slower > 2 * faster => format!("all but {}", names(&others)),
+            _ => names(&below),
+        };
+        rows.sort_by(|a, b| a.0.total_cmp(&b.0));
+        let (least, median) = (rows[0], rows[rows.len() / 2].0);
+        println!("| {call} | {} | {} ({}) | {slower} |", shown(Some(median)), shown(Some(least.0)), least.1);
+    }
+    println!();
+}
+
+/// Each of the two beside each rival, and the Rust crates again by the files with link-time optimization, behind `--`.
+pub fn pairs(files: &[&str]) {
+    let (plain, linked) = files.split_at(files.iter().position(|file| *file == "--").unwrap_or(files.len()));
+    let figures = Figures::read(plain);
+    for who in ["libjcobs", "jcobs"] {
+        for rival in rivals(who).iter().filter(|rival| **rival != "limit") {
+            if figures.ratio("encode", "none", who, rival).is_some() {
+                let title = format!("`{who}` / {}", name_of(rival));
+                spread(&title, 1.0, |call, row| figures.ratio(call, row, who, rival));
+            }
+        }
+    }
+    if linked.len() > 1 {
+        let figures = Figures::read(&linked[1..]);
+        spread("the same, both with LTO", 1.0, |call, row| figures.ratio(call, row, "jcobs", "cobs"));
     }
 }
 
@@ -118,7 +156,7 @@ pub fn summary(files: &[&str]) {
 pub fn readme(files: &[&str]) {
     let figures = Figures::read(files);
     let rows = ["random", "telemetry", "8 bytes"];
-    let calls = ["encode", "decode", "in place", "push 64", "feed"];
+    let calls = ["encode", "decode", "in place", "push 64", "push 8", "feed"];
     println!("| | {} |", calls.join(" | "));
     println!("|---|{}", "--:|".repeat(calls.len()));
     for (who, rival, name) in [("libjcobs", "bytes", "C"), ("jcobs", "cobs", "Rust")] {
@@ -129,13 +167,16 @@ pub fn readme(files: &[&str]) {
     }
 }
 
-/// Times of two libraries: how many times as fast the new one is.
-pub fn before(old: &str, new: &str) {
+/// Times of two libraries: how many times as fast the new one is, each row or in few words.
+pub fn before(old: &str, new: &str, every: bool) {
     let (old, new) = (Figures::read(&[old]), Figures::read(&[new]));
-    table("now / before", |call, workload| {
-        let of = |figures: &Figures| figures.best(call, workload, "libjcobs");
-        shown(of(&new).zip(of(&old)).map(|(new, old)| new / old))
-    });
+    let of = |figures: &Figures, call: &str, row: &str| figures.best(call, row, "libjcobs");
+    let ratio = |call: &str, row: &str| of(&new, call, row).zip(of(&old, call, row)).map(|(new, old)| new / old);
+    if every {
+        table("now / before", &WORKLOADS, |call, row| shown(ratio(call, row)));
+    } else {
+        spread("now / before", 0.9, ratio);
+    }
 }
 
 const PANEL: (f64, f64) = (340.0, 412.0);
