@@ -16,6 +16,7 @@ usage: tests/docs.py [--write]
 - No imports of the libraries go in a ring; files have at most 450 lines and functions 40 (layout.py).
 - Each document is in plain words and short enough; its links, the paths and commands that it shows, and the clauses
   that it names are there; all versions are that of the file VERSION (prose.py).
+- Counts, sizes and the toolchain in documents are those of the tree, and addresses can exist (facts.py).
 
 It prints what differs, and the status is then 1.
 """
@@ -27,6 +28,7 @@ sys.dont_write_bytecode = True
 from pathlib import Path, PurePosixPath
 
 import examples
+import facts
 import layout
 import prose
 import wrong_code
@@ -185,7 +187,7 @@ def main():
         CALLING.write_text(wanted)
     elif CALLING.read_text() != wanted:
         said.append(f"{CALLING.relative_to(TOP)}: its contracts are not those of src; tests/docs.py --write writes them")
-    said += [*layout.complaints(), *prose.complaints()]
+    said += [*layout.complaints(), *prose.complaints(), *facts.complaints()]
     print("\n".join(said) if said else "each public item has an example that is run; the documents name and quote what is there")
     return 1 if said else 0
 

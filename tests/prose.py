@@ -35,6 +35,7 @@ EXCEPTIONS = {
 }
 LIMITS = {"README.md": 900}
 ALL_DOCUMENTS = 18_000
+DOCS = 16_000
 CALLING_LINES = 120
 RT_COMMANDS = set("all check ci doc expand fmt lemma lib must-fail new plant run selftest test tidy try verdict version".split())
 
@@ -123,6 +124,9 @@ def lengths():
         words = len((TOP / name).read_text().split())
         if words > limit:
             yield f"{name}: {words} words, of at most {limit}"
+    docs = sum(len((TOP / name).read_text().split()) for name in documents() if name.startswith("docs/"))
+    if docs > DOCS:
+        yield f"docs/: {docs} words with its tables, of at most {DOCS}"
     total = sum(count((TOP / name).read_text()) for name in documents())
     if total > ALL_DOCUMENTS:
         yield f"all documents have {total} words, of at most {ALL_DOCUMENTS}"

@@ -1,0 +1,81 @@
+"""What tests/docs.py checks in the documents as facts: counts, sizes, the toolchain, addresses, and what a decoder reads."""
+import re
+from pathlib import Path
+
+import prose
+
+TOP = Path(__file__).resolve().parent.parent
+# Hosts that can't exist (RFC 2606), or have no domain.
+NO_HOST = re.compile(r"(^|\.)(example|invalid|test)$|^[^.]*$")
+# Windows of up to 64 bytes load bytes behind the zero that ends a frame, so these have no effect, but they are read.
+UNREAD = re.compile(r"\b(isn't|aren't|is not|are not|never|not) (read|looked at)\b", re.I)
+
+
+def cases():
+    """How many cases the files of conformance/ have."""
+    lines = [line for path in (TOP / "conformance").glob("*.txt") for line in path.read_text().splitlines()]
+    return sum(1 for line in lines if line.strip() and not line.startswith("#"))
+
+
+def lines_of(kind, suffix):
+    """The lines of a folder of crates/cobs."""
+    paths = (TOP / "crates/cobs" / kind).rglob(f"*{suffix}")
+    return sum(len(path.read_text().splitlines()) for path in paths)
+
+
+def number(text):
+    return int(text.replace(",", ""))
+
+
+def wrong_counts():
+    """A line for each count that isn't that of the tree: cases, the module's size, the lines of the library."""
+    exact = [(r"([\d,]+) (?:conformance )?cases\b", cases()), (r"([\d,]+) calls with their results", cases())]
+    exact.append((r"module of (\d+) KB", round((TOP / "bindings/web/cobs.wasm").stat().st_size / 1000)))
+    about = [(r"([\d,]+) lines of source", lines_of("src", ".rt")), (r"([\d,]+) of proofs", lines_of("proofs", ".antt"))]
+    for name in prose.documents():
+        text = prose.prose((TOP / name).read_text())
+        for pattern, count in exact:
+            for found in re.findall(pattern, text):
+                if number(found) != count:
+                    yield f"{name}: it says {found}, and there are {count} ({pattern})"
+        for pattern, count in about:
+            for found in re.findall(pattern, text):
+                if abs(number(found) - count) > count / 20:
+                    yield f"{name}: it says {found}, and there are {count} ({pattern})"
+
+
+def other_toolchains():
+    """A line for each document that names another toolchain than the one that built what is prebuilt."""
+    built = set(re.findall(r"^\w+ toolchain (.*)$", (TOP / "tests/prebuilt.sums").read_text(), re.M))
+    if len(built) != 1:
+        yield f"tests/prebuilt.sums: it names {len(built)} toolchains"
+    for name in prose.documents():
+        for found in re.findall(r"rattle-kit-\w+(?: logic \w+)?", (TOP / name).read_text()):
+            if not any(toolchain.startswith(found) for toolchain in built):
+                yield f"{name}: it names {found}, and what is prebuilt is from {' and '.join(sorted(built))}"
+    for name in ("README.md", "docs/PROMISES.md"):
+        if "rattle-kit-" not in (TOP / name).read_text():
+            yield f"{name}: it doesn't name the toolchain"
+
+
+def dead_addresses():
+    """A line for each address of the web, or of mail, whose host can't exist."""
+    for name in prose.documents():
+        for line_number, line in enumerate((TOP / name).read_text().splitlines(), 1):
+            hosts = re.findall(r"https?://([\w-][\w.-]*)", line) + re.findall(r"[\w.+-]+@([\w-]+(?:\.[\w-]+)+)", line)
+            for host in hosts:
+                if host not in ("localhost", "127.0.0.1") and NO_HOST.search(host.rstrip(".")):
+                    yield f"{name}:{line_number}: {host} can't exist"
+
+
+def unread_bytes():
+    """A line for each place that says of bytes that they aren't read: windows load them, and they have no effect."""
+    for name in prose.documents():
+        for line_number, line in enumerate(prose.prose((TOP / name).read_text()).splitlines(), 1):
+            if (found := UNREAD.search(line)) and re.search(r"\bbytes?\b|\bzero\b", line):
+                yield f"{name}:{line_number}: '{found[0]}': write that they have no effect"
+
+
+def complaints():
+    """Every fact that a document has wrong."""
+    return [line for check in (wrong_counts, other_toolchains, dead_addresses, unread_bytes) for line in check()]
