@@ -29,9 +29,9 @@ def number(text):
 
 def wrong_counts():
     """A line for each count that isn't that of the tree: cases, the module's size, the lines of the library."""
-    exact = [(r"([\d,]+) (?:conformance )?cases\b", cases()), (r"([\d,]+) calls with their results", cases())]
+    exact = [(r"(\d[\d,]*) (?:conformance )?cases\b", cases()), (r"(\d[\d,]*) calls with their results", cases())]
     exact.append((r"module of (\d+) KB", round((TOP / "bindings/web/cobs.wasm").stat().st_size / 1000)))
-    about = [(r"([\d,]+) lines of source", lines_of("src", ".rt")), (r"([\d,]+) of proofs", lines_of("proofs", ".antt"))]
+    about = [(r"(\d[\d,]*) lines of source", lines_of("src", ".rt")), (r"(\d[\d,]*) of proofs", lines_of("proofs", ".antt"))]
     for name in prose.documents():
         text = prose.prose((TOP / name).read_text())
         for pattern, count in exact:
