@@ -4,11 +4,13 @@
 # In FOLDER, which a second run fills again with the same bytes, or in a folder that goes away:
 #   jcobs-VERSION-source.tar.gz            the repository
 #   jcobs-VERSION-{x86_64,aarch64}-linux.tar.gz     the library for C, as `make dist` packs it
+#   jcobs-VERSION-c-source.tar.gz          jcobs.c, for every other system
 #   jcobs-VERSION-device.tar.gz            the library for microcontrollers
 #   jcobs-VERSION-programs-x86_64-linux.tar.gz      cobs_tool and cobs_watch, with their manual pages
 #   jcobs-VERSION.tar.gz, jcobs-VERSION-*.whl       the package for Python: source distribution, wheel
 #   jcobs-VERSION.tgz                      the package for Node and browsers, by npm
 #   jcobs-VERSION.crate                    the crate for Rust
+#   jcobs-VERSION-page.tar.gz              the page, as static files for any server
 #   SHA256SUMS
 # The libraries in them are those of the folders prebuilt/, whose sums are compared first. Then the toolchain proves and
 # builds them again, and the module, in some minutes, and the bytes are compared; not with --as-built. Each artifact is
@@ -73,6 +75,13 @@ c_archive() { # ARCH
         cp "$tree/bindings/c/build/$1-unknown-linux-gnu/$name_of-$1-linux.tar.gz" "$folder"
 }
 
+c_source_archive() {
+    there=$work/c-source/$name_of-c-source
+    mkdir -p "$there" && (cd "$tree/bindings/c" && cp -R source/jcobs.c include/jcobs.h include/jcobs.hpp man/jcobs.3 README.md examples "$there") &&
+        rm -rf "$there/examples/firmware" && cp "$tree"/LICENSE-* "$there" &&
+        packed "$folder/$name_of-c-source.tar.gz" "$work/c-source" "$name_of-c-source"
+}
+
 device_archive() {
     there=$work/device/$name_of-device
     mkdir -p "$there" &&
@@ -97,6 +106,12 @@ python_packages() {
     (cd "$tree/bindings/python" && CFLAGS="-g0 -ffile-prefix-map=$tree=." "$python" -m build --no-isolation --outdir "$work/python") &&
         mkdir -p "$work/sdist" && tar -xzf "$work/python/$name_of.tar.gz" -C "$work/sdist" &&
         packed "$folder/$name_of.tar.gz" "$work/sdist" "$name_of" && cp "$work/python"/*.whl "$folder"
+}
+
+page_archive() {
+    there=$work/page/$name_of-page
+    "$tree/bindings/web/build.sh" site "$there" && cp "$tree"/LICENSE-* "$there" &&
+        packed "$folder/$name_of-page.tar.gz" "$work/page" "$name_of-page"
 }
 
 node_package() { (cd "$tree/bindings/web" && npm pack --offline --pack-destination "$folder"); }
@@ -146,6 +161,13 @@ c_runs() { # ARCH COMPILER [RUNNER..]
         done
         echo hello | "$@" "./send_lines-$arch" >frames &&
         writes 'message 5 68656c6c6f\n' "$@" "./read_frames-$arch" <frames)
+}
+
+c_source_runs() {
+    there=$work/c-source-unpacked
+    unpacked "$folder/$name_of-c-source.tar.gz" "$there" && for example in send_lines read_frames; do
+        cc -std=c99 -O2 -Wall -Wextra -Werror -I"$there" "$there/examples/$example.c" "$there/jcobs.c" -o "$work/$example" || return 1
+    done && echo hello | "$work/send_lines" >"$work/frames" && writes 'message 5 68656c6c6f\n' "$work/read_frames" <"$work/frames"
 }
 
 programs_run() {
@@ -200,6 +222,21 @@ node_runs() {
         writes '3 10 11 2 12\n10 11 0 12\n3 10 11 2 12 0\n9 0 1 8 6\n' node first.js)
 }
 
+page_runs() { # served to a browser, which draws the frame of a message that is in the address
+    unpacked "$folder/$name_of-page.tar.gz" "$work/page-unpacked" && cat >"$work/page.mjs" <<'SCRIPT' &&
+import { execFile } from "node:child_process";
+import { promisify } from "node:util";
+const [, , module, page] = process.argv;
+const { serve } = await import(module);
+const { server, address } = await serve(0, { page });
+const options = ["--headless", "--no-sandbox", "--disable-gpu", "--virtual-time-budget=10000", "--dump-dom"];
+const shown = await promisify(execFile)("chromium", [...options, `${address}page/index.html#message&hex=0a0b000c&sentinel=00`]);
+console.log(shown.stdout.match(/id="message-frame"[^>]*>([^<]*)</)[1]);
+server.close();
+SCRIPT
+        writes '03 0a 0b 02 0c\n' timeout 300 env HOME="$work" node "$work/page.mjs" "$tree/bindings/web/serve.mjs" "$work/page-unpacked"
+}
+
 crate_runs() {
     unpacked "$folder/$name_of.crate" "$work/crate" && mkdir -p "$work/program/src" && (cd "$work/program" &&
         printf '[package]\nname = "program"\nversion = "0.1.0"\nedition = "2021"\n\n[dependencies]\ncobs = { package = "jcobs", path = "../crate" }\n' >Cargo.toml &&
@@ -251,6 +288,7 @@ elif part 'archive of the programs' programs_archive; then
         skip 'the archive of the programs runs' 'they are for x86-64'
     fi
 fi
+part 'C source archive' c_source_archive && has cc gcc 'the C source archive runs' && part 'the C source archive runs' c_source_runs
 part 'device archive' device_archive && has arm-none-eabi-gcc gcc-arm-none-eabi 'the device archive runs' &&
     has /usr/lib/arm-none-eabi/include/stdio.h libnewlib-arm-none-eabi 'the device archive runs' &&
     has qemu-system-arm qemu-system-arm 'the device archive runs' && part 'the device archive runs, Cortex-M4' device_runs
@@ -268,6 +306,7 @@ else
     skip 'Python packages' "lacks Debian's python3-build, python3-setuptools, python3-wheel or python3-venv"
 fi
 has npm npm 'Node package' && part 'Node package' node_package && part 'the Node package runs' node_runs
+part 'page' page_archive && has node nodejs 'the page runs' && has chromium chromium 'the page runs' && part 'the page runs' page_runs
 if ! has cargo cargo 'crate'; then
     :
 elif ! lacking=$("$root/bindings/rust/tests/offline.sh" "$work"); then
