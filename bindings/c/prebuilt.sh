@@ -1,8 +1,8 @@
 #!/bin/sh
 # Proves crates/cobs_c and builds the library from it, for each processor: prebuilt.sh [/FOLDER]
 #
-# It needs the toolchain's `rt` in the PATH. The libraries are put into this folder, or into prebuilt/ with the headers and
-# their sums.
+# It needs the toolchain's `rt` in the PATH. The libraries are put into this folder, or into prebuilt/ with their
+# sums.
 set -eu
 cd "$(dirname "$0")"
 command -v rt >/dev/null || { echo "prebuilt.sh: it needs the toolchain's rt" >&2; exit 1; }
@@ -14,7 +14,6 @@ for arch in x86_64 aarch64; do
     install -D -m 644 "$crate/out/libcobs_c.a" "$folder/$arch-linux/libjcobs.a"
 done
 [ $# -eq 0 ] || exit 0
-install -D -m 644 -t prebuilt/include include/jcobs.h include/jcobs.hpp
-(cd prebuilt && sha256sum include/* ./*-linux/libjcobs.a | sed 's|\./||') >prebuilt.new
+(cd prebuilt && sha256sum ./*-linux/libjcobs.a | sed 's|\./||') >prebuilt.new
 mv prebuilt.new prebuilt/SHA256SUMS
 ../../tests/prebuilt.py --write c

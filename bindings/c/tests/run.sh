@@ -195,9 +195,6 @@ over_musl() {
 
 sums() (
     cmp include/jcobs.h device/src/jcobs.h || return 1
-    for header in jcobs.h jcobs.hpp; do
-        cmp "include/$header" "prebuilt/include/$header" || return 1
-    done
     cd prebuilt && sha256sum -c SHA256SUMS
 )
 
