@@ -1,4 +1,4 @@
-"""What tests/docs.py checks in the documents as facts: counts, sizes, the toolchain, addresses, and what a decoder reads."""
+"""What tests/docs.py checks in the documents as facts: counts, limits, laws, the toolchain, addresses, what is read."""
 import re
 from pathlib import Path
 
@@ -44,6 +44,25 @@ def wrong_counts():
                     yield f"{name}: it says {found}, and there are {count} ({pattern})"
 
 
+def wrong_edits():
+    """A line for each crate that has more edits than CONTRIBUTING.md allows."""
+    of_cobs, of_others = re.search(
+        r"at most (\d+) of `cobs`, (\d+) of another crate", (TOP / "CONTRIBUTING.md").read_text()
+    ).groups()
+    for folder in sorted((TOP / "crates").glob("*/must-fail")):
+        edits, most = len(list(folder.glob("*.edit"))), int(of_cobs if folder.parent.name == "cobs" else of_others)
+        if edits > most:
+            yield f"{folder.relative_to(TOP)}: {edits} edits, and CONTRIBUTING.md says at most {most}"
+
+
+def laws_left_out():
+    """A line for each clause of a law that docs/PROMISES.md doesn't name."""
+    text, known = (TOP / "docs/PROMISES.md").read_text(), prose.clauses()
+    for law in sorted(name for name in known if re.fullmatch(r"law_\d+", name)):
+        named = {clause for found in re.findall(rf"`{law}: ([a-z_0-9, ]+)`", text) for clause in found.split(", ")}
+        yield from (f"docs/PROMISES.md: it doesn't name {law}: {clause}" for clause in sorted(known[law] - named))
+
+
 def other_toolchains():
     """A line for each document that names another toolchain than the one that built what is prebuilt."""
     built = set(re.findall(r"^\w+ toolchain (.*)$", (TOP / "tests/prebuilt.sums").read_text(), re.M))
@@ -76,6 +95,9 @@ def unread_bytes():
                 yield f"{name}:{line_number}: '{found[0]}': write that they have no effect"
 
 
+CHECKS = (wrong_counts, wrong_edits, laws_left_out, other_toolchains, dead_addresses, unread_bytes)
+
+
 def complaints():
     """Every fact that a document has wrong."""
-    return [line for check in (wrong_counts, other_toolchains, dead_addresses, unread_bytes) for line in check()]
+    return [line for check in CHECKS for line in check()]
