@@ -1,4 +1,4 @@
-"""What tests/docs.py checks in the documents as facts: counts, limits, laws, the toolchain, addresses, what is read."""
+"""What tests/docs.py checks in the documents as facts: counts, limits, laws, copies, the toolchain, addresses, and what is read."""
 import re
 from pathlib import Path
 
@@ -95,7 +95,16 @@ def unread_bytes():
                 yield f"{name}:{line_number}: '{found[0]}': write that they have no effect"
 
 
-CHECKS = (wrong_counts, wrong_edits, laws_left_out, other_toolchains, dead_addresses, unread_bytes)
+def other_copies():
+    """A line for each copy that a package carries and that isn't its original."""
+    licences = [(name, f"bindings/{folder}/{name}") for name in ("LICENSE-MIT", "LICENSE-APACHE") for folder in ("rust", "web")]
+    sources = [("include/jcobs.h", "device/src/jcobs.h"), ("source/jcobs.c", "device/src/jcobs.c")]
+    for original, copy in licences + [(f"bindings/c/{original}", f"bindings/c/{copy}") for original, copy in sources]:
+        if (TOP / original).read_bytes() != (TOP / copy).read_bytes():
+            yield f"{copy}: it isn't {original}"
+
+
+CHECKS = (other_copies, wrong_counts, wrong_edits, laws_left_out, other_toolchains, dead_addresses, unread_bytes)
 
 
 def complaints():

@@ -3,8 +3,8 @@
 # Node over it, and the documents.
 #
 # Each language builds and runs a first frame and all cases of conformance/. It takes Debian's gcc, cargo (Rust 1.83)
-# with librust-memchr-dev and librust-serde-derive-dev, nodejs, and python3-dev, -setuptools, -pytest and -hypothesis; what is missing is skipped and named. Nothing is written
-# into the repository.
+# with librust-memchr-dev and librust-serde-derive-dev, nodejs, and python3-dev, -setuptools, -pytest and -hypothesis;
+# what is missing is skipped and named. Nothing is written into the repository.
 #
 # The functions are called by 'part'.
 # shellcheck disable=SC2317
