@@ -1,4 +1,4 @@
-"""What tests/docs.py checks in the documents as facts: counts, limits, laws, copies, the toolchain, addresses, and what is read."""
+"""The facts that tests/docs.py checks in documents: counts, limits, laws, copies, the toolchain, addresses, bytes read."""
 import re
 from pathlib import Path
 
