@@ -1,10 +1,10 @@
 #!/usr/bin/env python3
-"""Changes one digit of an answer in each file of vectors, and sees that the run then fails.
+"""Changes one digit of a result in each file of vectors, and sees that the run then fails.
 
 usage: conformance/change_digit.py COMMAND..
 
 The command is a runner that reads vectors from standard input, as crates/cobs_conformance/out/cobs_conformance. In each file
-every tenth case that has a digit in its answer is changed in turn (a letter, where the file's answers have no digits), and
+every tenth case that has a digit in its result is changed in turn (a letter, where the file's results have no digits), and
 run with the nine lines behind it: the runner has to name that case alone, say that one differs, and end with status 1. With
 no change to the file it has to end with 0."""
 
@@ -17,7 +17,7 @@ HERE = os.path.dirname(os.path.abspath(__file__))
 
 
 def changed(line, digits):
-    """The line with the last digit of its answer changed, or None where it has none."""
+    """The line with the last digit of its result changed, or None where it has none."""
     arrow = line.index("->")
     for at in range(len(line) - 1, arrow + 1, -1):
         if line[at] in digits:

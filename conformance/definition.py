@@ -31,7 +31,7 @@ def parts(piece):
 
 
 def is_whole(piece):
-    """Whether the last part lacks nothing: then the piece is a frame."""
+    """Whether no byte of the last part is missing: then the piece is a frame."""
     return piece != b"" and b"\0" not in piece and len(parts(piece)[-1]) == parts(piece)[-1][0]
 
 

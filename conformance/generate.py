@@ -158,7 +158,7 @@ def rooms():
 
 
 def sentinels():
-    group = Group("sentinel", "Other sentinels: each once, and what the forms for them answer.")
+    group = Group("sentinel", "Other sentinels: each once, and what the forms for them return.")
     for sentinel in map(lambda it: bytes([it]), range(256)):
         frame = masked(FRAME, sentinel[0])
         group.owed("encode", "encode_vec_with_sentinel", sentinel, MESSAGE)
@@ -297,7 +297,7 @@ def cut_twice(stream):
 
 
 def decoder():
-    group = Group("decoder", "A streaming decoder over a buffer, given a stream in pieces: each answer with its place.")
+    group = Group("decoder", "A streaming decoder over a buffer, given a stream in pieces: each result with its place.")
     for cut in range(len(STREAM) + 1):
         group.choice("cut", "decoder", filled(4), STREAM[:cut], STREAM[cut:])
     for cut in range(len(STREAM_OF_OVERFLOW) + 1):
@@ -383,7 +383,7 @@ def kinds():
 
 
 def states():
-    group = Group("state", "The state machines: what one more byte is answered, and the state that follows.")
+    group = Group("state", "The state machines: the result of one more byte, and the state that follows.")
     for message in [*lists([0, 1], 3), filled(252, 1), filled(253, 1), filled(254, 1), filled(255, 1), b"\0" + filled(253, 9)]:
         for byte in [b"\0", b"\1", b"\xff"]:
             group.choice("encoder", "encoder_state", message, byte)

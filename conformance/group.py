@@ -16,17 +16,17 @@ class Group:
         self.name, self.lines, self.seen, self.count = name, [f"# {line}" for line in about], set(), {}
         self.word = word
 
-    def line(self, label, level, call, arguments, answers):
-        said = " ".join(map(self.word, [level, call, *arguments, "->", *answers]))
+    def line(self, label, level, call, arguments, results):
+        said = " ".join(map(self.word, [level, call, *arguments, "->", *results]))
         if said in self.seen:
             return
         self.seen.add(said)
         self.count[label] = self.count.get(label, 0) + 1
         self.lines.append(f"{self.name}-{label}-{self.count[label]} {said}")
 
-    def has(self, call, arguments, answers):
+    def has(self, call, arguments, results):
         """Whether there is such a case, of either level."""
-        said = " ".join(map(self.word, [call, *arguments, "->", *answers]))
+        said = " ".join(map(self.word, [call, *arguments, "->", *results]))
         return f"owed {said}" in self.seen or f"choice {said}" in self.seen
 
     def choice(self, label, call, *arguments):
@@ -36,7 +36,7 @@ class Group:
         self.line(label, "owed", call, arguments, getattr(model, call)(*arguments))
 
     def owed_decoding(self, label, call, *arguments):
-        """A decoding whose refusal is owed, but not how it is named or counted."""
+        """A decoding whose error is owed, but not how it is named or counted."""
         status, length, after = getattr(model, call)(*arguments)
-        answers = [status, length, after] if status == "ok" else ["refused", "?", "?"]
-        self.line(label, "owed", call, arguments, answers)
+        results = [status, length, after] if status == "ok" else ["refused", "?", "?"]
+        self.line(label, "owed", call, arguments, results)

@@ -25,7 +25,7 @@ def repeated(value, at):
 
 
 def in_parts(value):
-    """A word whose bytes are in parts: what stands there several times is written once, with how often."""
+    """A word whose bytes are in parts: what is there several times is written once, with how often."""
     if not isinstance(value, bytes):
         return str(value)
     text, at = "", 0

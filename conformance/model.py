@@ -1,7 +1,7 @@
-"""What each call answers, by the definition of blocks and pieces, and what is in the buffer after it.
+"""What each call returns, by the definition of blocks and pieces, and what is in the buffer after it.
 
 A function here takes the words of a line before '->' as values, and gives those behind it. Where COBS itself leaves
-an answer open, docs/PROMISES.md says what this library answers; the lines for such answers are marked `choice`.
+an result open, docs/PROMISES.md says what this library returns; the lines for such results are marked `choice`.
 """
 
 from definition import encoded_frame, is_longer, is_whole, kept_output, masked, output
@@ -68,13 +68,13 @@ def encode_with_sentinel(sentinel, message, before):
 
 
 def encoder(before, *pieces):
-    """A streaming encoder: a piece is refused where the frame of all bytes so far and its own doesn't fit."""
-    taken, answers = b"", []
+    """A streaming encoder: a piece is rejected if the frame of all bytes so far and its own doesn't fit."""
+    taken, results = b"", []
     for piece in pieces:
         fits = len(encoded_frame(taken + piece)) <= len(before)
-        answers.append("ok" if fits else "too_small")
+        results.append("ok" if fits else "too_small")
         taken += piece if fits else b""
-    return [len(encoded_frame(taken)), laid_over(before, encoded_frame(taken)), *answers]
+    return [len(encoded_frame(taken)), laid_over(before, encoded_frame(taken)), *results]
 
 
 def encode_frames(*messages):
@@ -171,7 +171,7 @@ def bytes_that_fit(piece, room):
 
 
 def decoder(before, *pieces):
-    """A streaming decoder: every answer but 'nothing yet', as the bytes taken, a kind and the buffer's front."""
+    """A streaming decoder: every result but 'nothing yet', as the bytes taken, a kind and the buffer's front."""
     room, buffer, piece, taken, events = len(before), before, b"", 0, []
     for given in pieces:
         if given == "reset":
@@ -201,9 +201,9 @@ def decode_stream(room, *pieces):
 
 
 def next_frame(room, *reads):
-    """A reader of frames over a source that gives these reads, and 0 bytes from then on: the answer of each call,
+    """A reader of frames over a source that gives these reads, and 0 bytes from then on: the result of each call,
     until one says that the source has ended after all reads were made."""
-    left, bytes_left, answers = list(reads), b"", []
+    left, bytes_left, results = list(reads), b"", []
     while True:
         made = 0
         while b"\0" not in bytes_left.lstrip(b"\0"):
@@ -214,21 +214,21 @@ def next_frame(room, *reads):
             bytes_left += read
         piece, ended, behind = bytes_left.lstrip(b"\0").partition(b"\0")
         if ended:
-            answers += [made, *outcome(piece, room)]
+            results += [made, *outcome(piece, room)]
             bytes_left = behind
         elif read == "fail":
-            answers += [made, "failed", NONE]
+            results += [made, "failed", NONE]
         else:
-            answers += [made, "unfinished" if piece else "end", NONE]
+            results += [made, "unfinished" if piece else "end", NONE]
             if not left:
-                return answers
+                return results
 
 
 # State machines
 
 
 def encoder_state(message, byte):
-    """The state machine after the bytes of `message`: its answer to one more byte, where it then stands, and the frame
+    """The state machine after the bytes of `message`: its result for one more byte, its place then, and the frame
     that its caller has, who inserts each placeholder. That frame's last block is never full."""
 
     def opened(given):
@@ -242,21 +242,21 @@ def encoder_state(message, byte):
     index, code, _ = opened(message)
     after_index, after_code, frame = opened(message + byte)
     if byte == b"\0":
-        answer = ["modify_and_skip", index, code, NONE]
+        result = ["modify_and_skip", index, code, NONE]
     elif code < 254:
-        answer = ["add_single", NONE, NONE, byte]
+        result = ["add_single", NONE, NONE, byte]
     else:
-        answer = ["modify_push_and_skip", index, 255, byte]
-    return [*answer, after_index, after_code, frame]
+        result = ["modify_push_and_skip", index, 255, byte]
+    return [*result, after_index, after_code, frame]
 
 
 def decoder_state(state, left, byte):
-    """The decoding state machine, by its table: the answer to a byte in a state, and the state that follows."""
+    """The decoding state machine, by its table: the result for a byte in a state, and the state that follows."""
     byte = byte[0]
     begun = ("grab_chain", 254) if byte == 255 else ("grab", byte - 1)
     if state != "idle" and left > 0:
         return ["invalid", NONE, "idle", NONE] if byte == 0 else ["data_continue", byte, state, left - 1]
     if byte == 0:
         return ["no_data" if state == "idle" else "data_complete", NONE, "idle", NONE]
-    answer = {"idle": ["data_start", NONE], "grab": ["data_continue", 0], "grab_chain": ["no_data", NONE]}[state]
-    return [*answer, *begun]
+    result = {"idle": ["data_start", NONE], "grab": ["data_continue", 0], "grab_chain": ["no_data", NONE]}[state]
+    return [*result, *begun]

@@ -64,7 +64,7 @@ class Measure(Encoder):
 
 
 class Decoder:
-    """Takes a stream byte by byte. An answer is None, or a kind and what begins the buffer."""
+    """Takes a stream byte by byte. A result is None, or a kind and what begins the buffer."""
 
     def __init__(self, buffer):
         self.buffer = buffer
@@ -82,9 +82,9 @@ class Decoder:
 
     def feed(self, byte):
         if byte == 0:
-            answer = self.ended()
+            result = self.ended()
             self.reset()
-            return answer
+            return result
         if self.over:
             return "too_small", len(self.buffer)
         if self.left > 0:
@@ -107,11 +107,11 @@ class Decoder:
         return ("message" if self.left == 0 else "broken"), self.count
 
     def push(self, piece):
-        """The first answer that isn't None, and how many bytes were taken."""
+        """The first result that isn't None, and how many bytes were taken."""
         for at, byte in enumerate(piece):
-            answer = self.feed(byte)
-            if answer:
-                return answer, at + 1
+            result = self.feed(byte)
+            if result:
+                return result, at + 1
         return None, len(piece)
 
 
@@ -135,11 +135,11 @@ class Reader:
     def next(self, source):
         while True:
             for at, byte in enumerate(self.kept):
-                answer = self.decoder.feed(byte)
+                result = self.decoder.feed(byte)
                 self.unfinished = byte != 0
-                if answer and byte == 0:
+                if result and byte == 0:
                     self.keep(at + 1)
-                    return answer
+                    return result
             self.kept = b""
             read = source.read()
             if read == "fail":
@@ -214,8 +214,8 @@ class Library:
     def encoder(self, buffer, *pieces):
         buffer = bytearray(buffer)
         encoder = self.Encoder(buffer)
-        answers = ["ok" if encoder.push(piece) else "too_small" for piece in pieces]
-        return [encoder.finalize(), buffer, *answers]
+        results = ["ok" if encoder.push(piece) else "too_small" for piece in pieces]
+        return [encoder.finalize(), buffer, *results]
 
     def encode_frames(self, *messages):
         return [b"".join(self.encode_vec(message)[0] + b"\0" for message in messages)]
@@ -228,13 +228,13 @@ class Library:
             return ["empty", None, None, buffer]
         decoder = self.Decoder(buffer)
         for at, byte in enumerate(source):
-            answer = decoder.feed(byte)
-            if answer:
-                return self.decoded(decoder, answer, at + 1)
+            result = decoder.feed(byte)
+            if result:
+                return self.decoded(decoder, result, at + 1)
         return self.decoded(decoder, decoder.ended() or ("broken", 0), len(source))
 
-    def decoded(self, decoder, answer, taken):
-        kind, count = answer
+    def decoded(self, decoder, result, taken):
+        kind, count = result
         if kind == "message":
             return ["ok", taken, count, decoder.buffer]
         return ["invalid" if kind == "broken" else kind, None, count if kind == "broken" else None, decoder.buffer]
@@ -300,14 +300,14 @@ class Library:
             if piece == "reset":
                 decoder.reset()
             while piece and piece != "reset":
-                answer, consumed = decoder.push(piece)
+                result, consumed = decoder.push(piece)
                 taken, piece = taken + consumed, piece[consumed:]
-                if answer:
-                    events += [taken, answer[0], bytes(decoder.buffer[: answer[1]])]
+                if result:
+                    events += [taken, result[0], bytes(decoder.buffer[: result[1]])]
         return [decoder.buffer, *events]
 
-    def outcome(self, decoder, answer):
-        kind, count = answer
+    def outcome(self, decoder, result):
+        kind, count = result
         if kind == "message":
             return [kind, bytes(decoder.buffer[:count])]
         return ["too_long", None] if kind == "too_small" else [kind, count if kind == "broken" else None]
@@ -317,24 +317,24 @@ class Library:
         for piece in pieces:
             self.begin_call(decoder)
             for byte in piece:
-                answer = decoder.feed(byte)
-                if answer and byte == 0:
-                    outcomes += self.outcome(decoder, answer)
+                result = decoder.feed(byte)
+                if result and byte == 0:
+                    outcomes += self.outcome(decoder, result)
         return outcomes
 
     def begin_call(self, decoder):
         pass
 
     def next_frame(self, room, *reads):
-        source, answers = Source(reads), []
+        source, results = Source(reads), []
         reader = self.Reader(self.StreamDecoder(bytearray(room)))
         for _ in range(1000):
             before = source.made
-            answer = reader.next(source)
-            answers += [source.made - before, *self.outcome(reader.decoder, answer)]
-            if answer[0] in ("end", "unfinished") and source.made >= len(reads):
+            result = reader.next(source)
+            results += [source.made - before, *self.outcome(reader.decoder, result)]
+            if result[0] in ("end", "unfinished") and source.made >= len(reads):
                 break
-        return answers
+        return results
 
     # State machines
 
@@ -342,21 +342,21 @@ class Library:
         frame, index, code = bytearray(1), 0, 1
         for at, one in enumerate(message + byte):
             if one == 0:
-                answer = ["modify_and_skip", index, code, None]
+                result = ["modify_and_skip", index, code, None]
                 frame[index] = code
                 frame.append(0)
                 index, code = index + code, 1
             elif code < 254:
-                answer = ["add_single", None, None, bytes([one])]
+                result = ["add_single", None, None, bytes([one])]
                 frame.append(one)
                 code += 1
             else:
-                answer = ["modify_push_and_skip", index, 255, bytes([one])]
+                result = ["modify_push_and_skip", index, 255, bytes([one])]
                 frame[index] = 255
                 frame += bytes([one, 0])
                 index, code = index + 255, 1
         frame[index] = code
-        return [*answer, index, code, frame]
+        return [*result, index, code, frame]
 
     def decoder_state(self, state, left, byte):
         byte = byte[0]
@@ -404,7 +404,7 @@ def agrees(wanted, came):
 
 
 def run(library, line):
-    """Whether the library answers a case as its line wants it, the case's name, what is wanted and what came."""
+    """Whether the library returns what a case's line wants, the case's name, what is wanted and what came."""
     words = line.split(" ")
     name, _, call = words[:3]
     arrow = words.index("->")

@@ -107,8 +107,8 @@ class AddsZeroInPlace(Library):
 
 class AcceptsShortLastBlock(Decoder):
     def ended(self):
-        answer = super().ended()
-        return ("message", answer[1]) if answer and answer[0] == "broken" else answer
+        result = super().ended()
+        return ("message", result[1]) if result and result[0] == "broken" else result
 
 
 class RefusesLoneBlockAfterFull(Decoder):
@@ -118,14 +118,14 @@ class RefusesLoneBlockAfterFull(Decoder):
 
     def feed(self, byte):
         at_code, full = self.left == 0 and byte != 0, self.full
-        answer = super().feed(byte)
+        result = super().feed(byte)
         if byte != 0:
             self.lone = at_code and full and byte == 1
-        return answer
+        return result
 
     def ended(self):
-        answer = super().ended()
-        return ("broken", answer[1]) if answer and answer[0] == "message" and self.lone else answer
+        result = super().ended()
+        return ("broken", result[1]) if result and result[0] == "message" and self.lone else result
 
 
 class SkipsPieceAfterBroken(Decoder):
@@ -135,9 +135,9 @@ class SkipsPieceAfterBroken(Decoder):
         if self.skipping:
             self.skipping = byte != 0
             return None
-        answer = super().feed(byte)
-        self.skipping = bool(answer) and answer[0] == "broken"
-        return answer
+        result = super().feed(byte)
+        self.skipping = bool(result) and result[0] == "broken"
+        return result
 
 
 class ReportsCutMessage(Decoder):
@@ -157,14 +157,14 @@ class WritesWrongByteLate(Decoder):
 
 class PushesStretch(Decoder):
     def push(self, piece):
-        answer, taken = super().push(piece[:8192])
-        return answer, taken if answer else len(piece)
+        result, taken = super().push(piece[:8192])
+        return result, taken if result else len(piece)
 
 
 class OmitsLastByte(Decoder):
     def push(self, piece):
-        answer, taken = super().push(piece)
-        return answer, taken - (bool(answer) and answer[0] != "message" and taken > 1)
+        result, taken = super().push(piece)
+        return result, taken - (bool(result) and result[0] != "message" and taken > 1)
 
 
 class ReadsDestination(Library):
@@ -269,7 +269,7 @@ LONG_BODIES = {
 
 
 def noticed(library, lines):
-    return (answer for answer in (run(library(), line) for line in lines) if not answer[0])
+    return (result for result in (run(library(), line) for line in lines) if not result[0])
 
 
 def cases_of(path):
@@ -284,15 +284,15 @@ def main():
     print(f"the plain library: {len(lines)} cases, {failed} differ")
     for name, library in BODIES.items():
         found = list(noticed(library, lines))
-        count = f"{len(found)} cases, {sum(answer[1] in owed for answer in found)} of them owed"
-        failed += not told(name, count, found)
+        count = f"{len(found)} cases, {sum(result[1] in owed for result in found)} of them owed"
+        failed += not reported(name, count, found)
     for name, library in LONG_BODIES.items():
         failed += any(noticed(library, lines))
-        failed += not told(name, "long cases alone", list(itertools.islice(noticed(library, cases_of(long_file)), 1)))
+        failed += not reported(name, "long cases alone", list(itertools.islice(noticed(library, cases_of(long_file)), 1)))
     return 1 if failed else 0
 
 
-def told(name, count, found):
+def reported(name, count, found):
     """Says which case notices a body first, and whether one does."""
     if not found:
         print(f"{name}: NOTICED BY NO CASE")
@@ -304,7 +304,7 @@ def told(name, count, found):
 
 
 def shortened(words, other):
-    """A long answer from a little before the place where it differs from the other one."""
+    """A long result from a little before the place where it differs from the other one."""
     first = next((at for at, pair in enumerate(zip(words, other)) if pair[0] != pair[1]), min(len(words), len(other)))
     start = max(0, first - 20)
     return ".." * (start > 0) + words[start : first + 20] + ".." * (first + 20 < len(words))

@@ -1,5 +1,5 @@
 /* Holds a COBS library with the two usual calls against the vectors that every library owes, which it reads from standard
- * input. For another library, change the include and the two calls in `answer`. */
+ * input. For another library, change the include and the two calls in `result_of`. */
 #include "plain.h"
 
 #include <stdio.h>
@@ -40,7 +40,7 @@ static int is_made(const char *word, size_t length)
 
 /* Makes the call, and holds what it made against the words behind `->`: 1 where it is the same, 0 where not, -1 for a call
  * that this library lacks. */
-static int answer(const char *call, char **words)
+static int result_of(const char *call, char **words)
 {
     size_t length = bytes_of(words[0], given);
 
@@ -67,7 +67,7 @@ int main(void)
             words[count++] = word;
         if (count < 5 || words[0][0] == '#' || strcmp(words[1], "owed") != 0)
             continue;
-        int same = answer(words[2], words + 3);
+        int same = result_of(words[2], words + 3);
         cases += same >= 0;
         lacking += same < 0;
         if (same == 0) {
@@ -75,6 +75,6 @@ int main(void)
             printf("%s differs\n", words[0]);
         }
     }
-    printf("%u cases, %u differ, %u of calls that it lacks\n", cases, differ, lacking);
+    printf("%u cases, %u differ, %u of calls that it has not\n", cases, differ, lacking);
     return differ != 0;
 }
