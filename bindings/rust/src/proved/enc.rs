@@ -102,11 +102,9 @@ pub fn try_encode(source: &[u8], dest: &mut [u8]) -> Result<usize, DestBufTooSma
     if source.len() < dest.len().min(FULL_CODE) {
         return Ok(encode(source, dest));
     }
-    if dest.is_empty() {
+    let mut progress = START;
+    if dest.is_empty() || !try_append(source, dest, &mut progress) {
         return Err(DestBufTooSmallError);
     }
-    match try_append(source, dest, START) {
-        Some(progress) => Ok(close(dest, progress)),
-        None => Err(DestBufTooSmallError),
-    }
+    Ok(close(dest, progress))
 }

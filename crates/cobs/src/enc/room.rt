@@ -1,5 +1,5 @@
 //! Whether a frame fits, before a byte of it is written; and what is taken if it does.
-ghost use Rattle.std.specs.Prelude.{◌≡◌, ◌<◌, ◌≤◌, ◌↔◌, IfSome, IsSome, None, length};
+ghost use Rattle.std.specs.Prelude.{◌≡◌, ◌<◌, ◌≤◌, ◌↔◌, IfSome, IsSome, IsTrue, false, length};
 ghost use Rattle.cobs.specs.Length.{open_len};
 ghost use Rattle.cobs.specs.OpenBlock.{IsPlaceIn, end_after};
 ghost use Rattle.cobs.specs.Fields.Progress.{reached_at};
@@ -7,14 +7,12 @@ ghost use Rattle.cobs.specs.Internal.Taking.{IsFirstRun, TakesFront};
 
 use crate::enc::blocks::{FULL_BLOCK_BYTES, append, append_runs, run_len};
 use crate::enc::progress::EncoderProgress;
-use crate::max_encoding_overhead;
 use memchr::memrchr;
 
 /// Whether `room` bytes, counted from the index of an open block with this code, are enough for the frame once the
-/// block has taken `source`. Most of the time the lengths decide it: the frame is longest where no byte is a zero, and
-/// shortest where no block becomes full.
+/// block has taken `source`.
 ///
-/// Else the full blocks are counted, but for a last one. A block can't be full if one of its next 254 bytes is a zero:
+/// The full blocks are counted, but for a last one. A block can't be full if one of its next 254 bytes is a zero:
 /// the last such zero is as far as a search goes at once. A run that fills a block is searched for its end, as by the
 /// encoder, and has a full block for each 254 of its bytes. If that is the first run, its length is returned, so that the
 /// encoder doesn't search for its end again, else 0.
@@ -30,13 +28,7 @@ fn fits(code: usize, source: &[u8], room: usize) -> Option<usize>
         return None;
     }
     let spare = room - source.len();
-    if spare < code {
-        return None;
-    }
     let mut run = code - 1;
-    if run + max_encoding_overhead(run + source.len()) <= spare {
-        return Some(0);
-    }
     let mut counted = 0;
     let mut read = 0;
     let mut first = 0;
@@ -67,26 +59,45 @@ fn fits(code: usize, source: &[u8], room: usize) -> Option<usize>
     None
 }
 
-/// Takes `source` as [`append`] does, if the frame fits `dest` then. A long run that [`fits`] has found isn't searched for
-/// again. A function of its own, so that a short push doesn't pay for the registers that this takes.
+/// Takes `source` as [`append`] does, if the frame fits `dest` then, and says whether it does. Most of the time the lengths
+/// decide it, since the frame is longest where no byte is a zero; for pushes of 64 bytes a call of [`fits`] would take a
+/// tenth longer. A long run that it has found isn't searched for again. A function of its own, so that a short push doesn't
+/// pay for the registers that this takes.
 #[inline(never)]
 #[tactic(auto, using(crate::proofs::encoding::TakingLemmas::short_room))]
-pub(crate) fn try_append(
-    source: &[u8],
-    dest: &mut [u8],
-    progress: EncoderProgress,
-) -> Option<EncoderProgress>
+pub(crate) fn try_append(source: &[u8], dest: &mut [u8], progress: &mut EncoderProgress) -> bool
     requires some { 0 < length source.now }
-    requires place { IsPlaceIn (length dest.old) (reached_at progress) }
-    ensures fits { IsSome result ↔ (end_after (reached_at progress) source.now ≤ length dest.old) }
-    ensures taken { IfSome result (λ behind. TakesFront dest.old (reached_at progress) source.now
-        (length source.now) dest.new (reached_at behind)) }
-    ensures refused { result ≡ None → dest.new ≡ dest.old }
+    requires place { IsPlaceIn (length dest.old) (reached_at progress.old) }
+    ensures fits { IsTrue result
+        ↔ (end_after (reached_at progress.old) source.now ≤ length dest.old) }
+    ensures taken { IsTrue result → TakesFront dest.old (reached_at progress.old) source.now
+        (length source.now) dest.new (reached_at progress.new) }
+    ensures refused { result ≡ false
+        → (dest.new ≡ dest.old) × (reached_at progress.new ≡ reached_at progress.old) }
 {
-    let room = dest.len() - progress.index;
-    let run = fits(progress.code as usize, source, room)?;
-    if run == 0 {
-        return Some(append(source, dest, progress));
+    // Field by field, here and below: fields that were stored one by one can't be loaded at once without waiting.
+    let start = EncoderProgress {
+        index: progress.index,
+        code: progress.code,
+        is_full: progress.is_full,
+    };
+    let room = dest.len() - start.index;
+    let code = start.code as usize;
+    let most = code + source.len();
+    let mut run = 0;
+    if room < most + (most - 2) / FULL_BLOCK_BYTES {
+        match fits(code, source, room) {
+            Some(first) => run = first,
+            None => return false,
+        }
     }
-    Some(append_runs(source, run, dest, progress))
+    let behind = if run == 0 {
+        append(source, dest, start)
+    } else {
+        append_runs(source, run, dest, start)
+    };
+    progress.index = behind.index;
+    progress.code = behind.code;
+    progress.is_full = behind.is_full;
+    true
 }

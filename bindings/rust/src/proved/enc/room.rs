@@ -3,14 +3,12 @@
 
 use crate::proved::enc::blocks::{FULL_BLOCK_BYTES, append, append_runs, run_len};
 use crate::proved::enc::progress::EncoderProgress;
-use crate::proved::max_encoding_overhead;
 use memchr::memrchr;
 
 /// Whether `room` bytes, counted from the index of an open block with this code, are enough for the frame once the
-/// block has taken `source`. Most of the time the lengths decide it: the frame is longest where no byte is a zero, and
-/// shortest where no block becomes full.
+/// block has taken `source`.
 ///
-/// Else the full blocks are counted, but for a last one. A block can't be full if one of its next 254 bytes is a zero:
+/// The full blocks are counted, but for a last one. A block can't be full if one of its next 254 bytes is a zero:
 /// the last such zero is as far as a search goes at once. A run that fills a block is searched for its end, as by the
 /// encoder, and has a full block for each 254 of its bytes. If that is the first run, its length is returned, so that the
 /// encoder doesn't search for its end again, else 0.
@@ -20,13 +18,7 @@ fn fits(code: usize, source: &[u8], room: usize) -> Option<usize> {
         return None;
     }
     let spare = room - source.len();
-    if spare < code {
-        return None;
-    }
     let mut run = code - 1;
-    if run + max_encoding_overhead(run + source.len()) <= spare {
-        return Some(0);
-    }
     let mut counted = 0;
     let mut read = 0;
     let mut first = 0;
@@ -57,18 +49,35 @@ fn fits(code: usize, source: &[u8], room: usize) -> Option<usize> {
     None
 }
 
-/// Takes `source` as [`append`] does, if the frame fits `dest` then. A long run that [`fits`] has found isn't searched for
-/// again. A function of its own, so that a short push doesn't pay for the registers that this takes.
+/// Takes `source` as [`append`] does, if the frame fits `dest` then, and says whether it does. Most of the time the lengths
+/// decide it, since the frame is longest where no byte is a zero; for pushes of 64 bytes a call of [`fits`] would take a
+/// tenth longer. A long run that it has found isn't searched for again. A function of its own, so that a short push doesn't
+/// pay for the registers that this takes.
 #[inline(never)]
-pub(crate) fn try_append(
-    source: &[u8],
-    dest: &mut [u8],
-    progress: EncoderProgress,
-) -> Option<EncoderProgress> {
-    let room = dest.len() - progress.index;
-    let run = fits(progress.code as usize, source, room)?;
-    if run == 0 {
-        return Some(append(source, dest, progress));
+pub(crate) fn try_append(source: &[u8], dest: &mut [u8], progress: &mut EncoderProgress) -> bool {
+    // Field by field, here and below: fields that were stored one by one can't be loaded at once without waiting.
+    let start = EncoderProgress {
+        index: progress.index,
+        code: progress.code,
+        is_full: progress.is_full,
+    };
+    let room = dest.len() - start.index;
+    let code = start.code as usize;
+    let most = code + source.len();
+    let mut run = 0;
+    if room < most + (most - 2) / FULL_BLOCK_BYTES {
+        match fits(code, source, room) {
+            Some(first) => run = first,
+            None => return false,
+        }
     }
-    Some(append_runs(source, run, dest, progress))
+    let behind = if run == 0 {
+        append(source, dest, start)
+    } else {
+        append_runs(source, run, dest, start)
+    };
+    progress.index = behind.index;
+    progress.code = behind.code;
+    progress.is_full = behind.is_full;
+    true
 }

@@ -124,25 +124,7 @@ impl UnbufferedEncoder {
             self.progress.is_full = behind.is_full;
             return true;
         }
-        if bytes.is_empty() {
-            return true;
-        }
-        // Anew from its fields, so that the short way keeps them in registers.
-        let EncoderProgress {
-            index,
-            code,
-            is_full,
-        } = at;
-        let start = EncoderProgress {
-            index,
-            code,
-            is_full,
-        };
-        match try_append(bytes, dest, start) {
-            Some(behind) => self.progress = behind,
-            None => return false,
-        }
-        true
+        bytes.is_empty() || try_append(bytes, dest, &mut self.progress)
     }
 
     /// Takes the next bytes of the message.

@@ -14,8 +14,8 @@ ended c =
     let all = run-more source _ c.by_run.run _ (omega arith) nonzero in
     grind (arith, drop_all, blocks_in, behind, blocks-end)
 
-pub returns-then-spare-code-2-clause-fits : goal.returns-then-spare-code-2-clause-fits
-returns-then-spare-code-2-clause-fits c = let e = ended (goal.at.returns-then-spare-code-2-clause-fits c).Then-read-source in grind (arith, open_len-is)
+pub returns-then-spare-code-clause-fits : goal.returns-then-spare-code-clause-fits
+returns-then-spare-code-clause-fits c = let e = ended (goal.at.returns-then-spare-code-clause-fits c).Then-read-source in grind (arith, open_len-is)
 
 pub returns-then-read-source-clause-fits : goal.returns-then-read-source-clause-fits
 returns-then-read-source-clause-fits c = let e = ended (goal.at.returns-then-read-source-clause-fits c).Then-read-source in grind (arith, open_len-is)
