@@ -1,15 +1,17 @@
 -- What a streaming decoder returns, and where it is, after the front of a piece.
-use Rattle.std.specs.Prelude.{ℕ, ◌≡◌, ◌≢◌, ◌≤◌, ◌==◌, nat_le, Bool, true, false, List, [], ◌∷◌, ◌++◌, length, take, drop, Option, Some, None, Result, Ok, Err, IfOk, IfSome, if◌then◌else◌}
+use Rattle.std.specs.Prelude.{ℕ, ◌≡◌, ◌≢◌, ◌≤◌, ◌<◌, ◌+◌, ◌⊎◌, ◌==◌, nat_le, Bool, true, false, List, [], ◌∷◌, ◌++◌, length, take, drop, Option, Some, None, Result, Ok, Err, IfOk, IfSome, if◌then◌else◌}
 use Rattle.std.specs.Result.{result_map_both}
 use Rattle.cobs.specs.Grammar.{HasNoZero, is_full}
 use Rattle.cobs.specs.Piece.{output, last_part, lacks}
-use Rattle.cobs.specs.Table.{table_state}
+use Rattle.cobs.specs.Table.{data_of, table_answer, table_state}
 use Rattle.cobs.specs.Stream.{Outcome, outcome_of}
 use Rattle.cobs.specs.Decode.{sized}
 use Rattle.cobs.specs.declared.dec.DecodeError.{DecodeError}
 use Rattle.cobs.specs.declared.dec.state.DecoderState.{DecoderState}
 use Rattle.cobs.specs.declared.dec.state.DecoderState.TheVariants as states
-use Rattle.cobs.specs.declared.dec.DecodeError.TheVariants.{TargetBufTooSmall}
+use Rattle.cobs.specs.declared.dec.state.DecodeResult.{DecodeResult}
+use Rattle.cobs.specs.declared.dec.state.DecodeResult.TheVariants.{NoData, DataStart, DataComplete, DataContinue}
+use Rattle.cobs.specs.declared.dec.DecodeError.TheVariants.{InvalidFrame, TargetBufTooSmall}
 
 -- how a streaming decoder reports an outcome: as the free decoders do, in an option
 abbrev pub told : Outcome → Result (Option ℕ) DecodeError
@@ -44,6 +46,20 @@ state_in (Within false left count) = Some (states.Grab left)
 state_in (Within true left count) = Some (states.GrabChain left)
 state_in Over = None
 
+-- how many bytes of the piece's output are written
+abbrev pub written_in : Phase → ℕ
+written_in Idle = 0
+written_in (Within full left count) = count
+written_in Over = 0
+
+-- what a result of that table is for a decoder that has written n bytes
+abbrev pub counted : ℕ → Result DecodeResult DecodeError → Result (Option ℕ) DecodeError
+counted n (Ok NoData) = Ok None
+counted n (Ok DataStart) = Ok None
+counted n (Ok (DataContinue byte)) = Ok None
+counted n (Ok DataComplete) = Ok (Some n)
+counted n (Err error) = Err (InvalidFrame n)
+
 -- the phase after the front p of a piece, over a buffer of n bytes
 unfoldable pub phase_after : List ℕ → ℕ → Phase
 phase_after [] n = Idle
@@ -73,5 +89,9 @@ pub record Feeds (buffer : List ℕ) (phase : Phase) (byte : ℕ) (result : Resu
   pub zero_unchanged : byte ≡ 0 → buffer' ≡ buffer
   -- its state moves as the table says, unless the output is now too long
   pub by_table : (state : DecoderState) → state_in phase ≡ Some state → phase' ≢ Over → state_in phase' ≡ Some (table_state state byte)
+  -- it returns what the table does, unless the byte of the message that the table gives has no room in the buffer
+  pub answered_by_table : (state : DecoderState) → state_in phase ≡ Some state
+      → (result ≡ counted (written_in phase) (table_answer state byte))
+      ⊎ ((result ≡ Err TargetBufTooSmall) × (length buffer < written_in phase + length (data_of (table_answer state byte))))
   pub bound : IfOk result (λ found. IfSome found (λ n. n ≤ length buffer))
   pub len : length buffer' ≡ length buffer

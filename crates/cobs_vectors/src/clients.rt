@@ -1,7 +1,7 @@
 //! Callers as a user's own crate has them: a handler of one byte, a loop over a stream, a reader of frames, a round
 //! trip, a log. What each promises is proved only from the public clauses of `cobs`.
-ghost use Rattle.std.specs.Prelude.{◌≡◌, ◌≤◌, ◌<◌, ◌^◌, ◌↔◌, ◌∷◌, ◌++◌, [], length, take, drop, List, ℕ, IfOk, IfSome, IsOk, OnOk, IsSomeAnd, IsTrue};
-ghost use Rattle.cobs.specs.Feed.{DecoderAfter, Idle};
+ghost use Rattle.std.specs.Prelude.{◌≡◌, ◌≢◌, ◌≤◌, ◌<◌, ◌^◌, ◌↔◌, ◌∷◌, ◌++◌, [], length, take, drop, List, ℕ, IfOk, IfSome, IsOk, OnOk, IsSomeAnd, IsTrue, Some};
+ghost use Rattle.cobs.specs.Feed.{DecoderAfter, Idle, Over, state_in};
 ghost use Rattle.cobs.specs.FeedPiece.{IsWithin, outcome_at};
 ghost use Rattle.cobs.specs.Fields.Encoders.{reached_by};
 ghost use Rattle.cobs.specs.Fields.Reader.{kept_of, reader_state};
@@ -18,9 +18,9 @@ ghost use Rattle.cobs_vectors.specs.Relayed.{messages_of};
 
 use cobs::laws::{law_2, law_4, law_5, law_9, law_10, law_11, law_18, law_21};
 use cobs::{
-    CobsDecoder, CobsDecoderHeapless, CobsDecoderOwned, CobsEncoder, DestBufTooSmallError,
-    FrameDecoder, FrameReader, FrameSource, Next, PieceEnd, UnbufferedDecoder, UnbufferedEncoder,
-    decode, encode, encode_vec,
+    CobsDecoder, CobsDecoderHeapless, CobsDecoderOwned, CobsEncoder, DecodeError, DecodeResult,
+    DecoderState, DestBufTooSmallError, FrameDecoder, FrameReader, FrameSource, Next, PieceEnd,
+    UnbufferedDecoder, UnbufferedEncoder, decode, encode, encode_vec,
 };
 use std::alloc::{AllocError, Global};
 use std::mem;
@@ -109,6 +109,21 @@ pub fn on_zero<D: FrameDecoder>(decoder: &mut D) -> usize
         Ok(Some(len)) => len,
         Ok(None) => 0,
         Err(_) => 0,
+    }
+}
+
+/// Feeds a byte to a decoder and to a `DecoderState` beside it: in every state either both end a message or neither does,
+/// unless the output is too long for the decoder's buffer.
+pub fn end_alike<D: FrameDecoder>(decoder: &mut D, state: &mut DecoderState, byte: u8) -> bool
+    requires { state_in (D.phase decoder.old) ≡ Some state.old }
+    ensures alike { IsTrue result }
+    ensures state { D.phase decoder.new ≢ Over → state_in (D.phase decoder.new) ≡ Some state.new }
+{
+    let completed = matches!(state.feed(byte), Ok(DecodeResult::DataComplete));
+    match decoder.feed_byte(byte) {
+        Ok(found) => found.is_some() == completed,
+        Err(DecodeError::TargetBufTooSmall) => true,
+        Err(_) => !completed,
     }
 }
 

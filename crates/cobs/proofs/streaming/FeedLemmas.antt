@@ -14,7 +14,7 @@ use Rattle.std.specs.Prelude.{IfOk, IfSome}
 use Rattle.std.proofs.lemmas.Grind.{common_steps}
 use Rattle.cobs.proofs.format.StreamLemmas.{fed-nonzero}
 use Rattle.cobs.proofs.streaming.LastPiece.{output-longer}
-use Rattle.cobs.proofs.streaming.TableLemmas.{output-nil, phase_by_table}
+use Rattle.cobs.proofs.streaming.TableLemmas.{answer_by_table, output-nil, phase_by_table}
 use Rattle.cobs.proofs.decoding.PieceLemmas.{output-one, last_part-one, output-push_more, output-push_next, last_part-push_next, lacks-push_more, is_full-push_more, output-push}
 
 -- the phase behind a piece, from what is known of the piece
@@ -170,6 +170,7 @@ Feeds-step buffer phase b = record {
   zero_idle = λ e. rw e (next_phase-zero (length buffer) phase);
   zero_unchanged = λ e. rw e (next_buffer-zero buffer phase);
   by_table = λ state e going. phase_by_table (length buffer) phase b state e going;
+  answered_by_table = λ state e. answer_by_table (length buffer) phase b state e;
   bound = answer-bound (length buffer) phase b;
   len = length-next_buffer buffer phase b;
 }

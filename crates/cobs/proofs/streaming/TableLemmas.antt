@@ -1,6 +1,6 @@
 -- The table of `DecoderState` against the grammar.
-use Rattle.std.proofs.Common.{◌≡◌, ◌≢◌, ℕ, zero, suc, ◌-◌, ◌<◌, ◌↔◌, Bool, true, false, cond, eqb, Some, List, [], ◌∷◌, ◌++◌, All, Ok, Err, refl, sym, ap, ◌∙◌, arith}
-use Rattle.std.proofs.lemmas.Bool.{eqb-true, ne_eqb}
+use Rattle.std.proofs.Common.{◌≡◌, ◌≢◌, ℕ, zero, suc, ◌-◌, ◌<◌, ◌+◌, ◌⊎◌, ◌↔◌, Bool, true, false, cond, eqb, Some, List, [], ◌∷◌, ◌++◌, length, All, Ok, Err, refl, sym, ap, ◌∙◌, arith}
+use Rattle.std.proofs.lemmas.Bool.{cases_lt, eqb-true, ne_eqb}
 use Rattle.std.proofs.lemmas.List.{append-nil}
 use Rattle.std.proofs.lemmas.List.Elements.{All-nil, All-push}
 use Rattle.std.proofs.lemmas.Grind.{common_steps}
@@ -9,11 +9,11 @@ use Rattle.cobs.specs.Piece.{parts, parts_after, last_part, lacks, is_whole, out
 use Rattle.cobs.specs.Table.{opened_by, table_answer, table_state, data_of, state_after, StateAfter}
 use Rattle.cobs.specs.declared.dec.state.DecoderState.{DecoderState}
 use Rattle.cobs.specs.declared.dec.state.DecoderState.TheVariants.{Idle, Grab, GrabChain}
-use Rattle.cobs.specs.Feed.{Phase, Within, Over, state_in}
+use Rattle.cobs.specs.Feed.{Phase, Within, Over, counted, state_in, written_in}
 use Rattle.cobs.specs.Feed as phases
-use Rattle.cobs.specs.Step.{next_phase}
+use Rattle.cobs.specs.Step.{next_answer, next_phase}
 use Rattle.cobs.specs.declared.dec.state.DecodeResult.TheVariants.{DataComplete}
-use Rattle.cobs.specs.declared.dec.DecodeError.TheVariants.{InvalidFrame}
+use Rattle.cobs.specs.declared.dec.DecodeError.TheVariants.{InvalidFrame, TargetBufTooSmall}
 use Rattle.cobs.proofs.decoding.OutcomeLemmas.{reads_iff}
 use Rattle.cobs.proofs.decoding.PieceLemmas.{output-one, last_part-one, output-push_more, output-push_next, last_part-push_next, lacks-push_more, is_full-push_more}
 
@@ -95,3 +95,8 @@ coded n b count = grind (arith, eqb-true)
 
 pub phase_by_table : (n : ℕ) (phase : Phase) (b : ℕ) (state : DecoderState) → state_in phase ≡ Some state → next_phase n phase b ≢ Over → state_in (next_phase n phase b) ≡ Some (table_state state b)
 phase_by_table n phase b state h e = grind (arith, coded, eqb-true)
+
+pub answer_by_table : (n : ℕ) (phase : Phase) (b : ℕ) (state : DecoderState) → state_in phase ≡ Some state
+    → let told = table_answer state b in
+    (next_answer n phase b ≡ counted (written_in phase) told) ⊎ ((next_answer n phase b ≡ Err TargetBufTooSmall) × (n < written_in phase + length (data_of told)))
+answer_by_table n phase b state h = grind (arith, cases_lt)
