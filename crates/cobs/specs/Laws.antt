@@ -17,7 +17,7 @@ EndsAtBlock p blocks = (first : List (List ℕ)) × (rest : List (List ℕ)) × 
 abbrev pub IsFront : List ℕ → List ℕ → Type 0
 IsFront front xs = (rest : List ℕ) × (xs ≡ front ++ rest)
 
--- the stream ends in a sentinel, or nothing of it has come
+-- the stream ends in a sentinel, or nothing of it has come: so no piece is open, and what follows begins one of its own
 abbrev pub IsAtSentinel : List ℕ → Type 0
 IsAtSentinel t = (t ≡ []) ⊎ ((front : List ℕ) × (t ≡ front ++ 0 ∷ []))
 

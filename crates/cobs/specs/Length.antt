@@ -17,8 +17,8 @@ full_blocks (run ∷ next ∷ more) = run / 254 + full_blocks (next ∷ more)
 abbrev pub encoded_len : List ℕ → ℕ
 encoded_len m = length m + 1 + full_blocks (runs m)
 
--- the same counted from an open block, once the block with this code has taken these bytes: the bytes that it had are as
--- good as ones
+-- the same counted from an open block, once the block with this code has taken these bytes. Of the `code - 1` bytes that
+-- it had only the number counts, since none is zero: ones give the same length (`law_15: same`).
 abbrev pub open_len : ℕ → List ℕ → ℕ
 open_len code bytes = encoded_len (replicate (code - 1) 1 ++ bytes)
 

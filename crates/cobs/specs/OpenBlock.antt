@@ -59,7 +59,8 @@ next_of reached = reached.block.index + reached.block.code
 abbrev pub end_of : Reached → ℕ
 end_of reached = if reached.full then reached.block.index else next_of reached
 
--- where the encoded frame ends once these bytes are taken too
+-- where the encoded frame ends once these bytes are taken too: no byte before the open block changes, and from there on
+-- it is as long as a frame of what the block has and these bytes
 abbrev pub end_after : Reached → List ℕ → ℕ
 end_after reached [] = end_of reached
 end_after reached (byte ∷ bytes) = reached.block.index + open_len reached.block.code (byte ∷ bytes)

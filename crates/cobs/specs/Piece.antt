@@ -3,7 +3,8 @@
 use Rattle.std.specs.Prelude.{ℕ, zero, suc, ◌-◌, ◌==◌, Bool, false, List, [], ◌∷◌, length, take, if◌then◌else◌, IsTrue}
 use Rattle.cobs.specs.Grammar.{code_of, bytes_of, message_of, last_of}
 
--- the parts of what is after the first n bytes: a part is as many bytes as its code says, or what is left
+-- the parts of what is after the first n bytes. A part is as many bytes as its code says, or what is left; the next one
+-- begins behind it, so the bytes after its code are those to skip then.
 unfoldable pub parts_after : ℕ → List ℕ → List (List ℕ)
 parts_after n [] = []
 parts_after (suc n) (byte ∷ bytes) = parts_after n bytes

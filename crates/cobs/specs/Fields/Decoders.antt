@@ -1,5 +1,5 @@
 -- What contracts see of the streaming decoders: their buffers and phases.
-use Rattle.std.specs.Prelude.{length, ℕ, zero, suc, ◌==◌, Bool, true, false, List, [], if◌then◌else◌}
+use Rattle.std.specs.Prelude.{◌≡◌, length, ℕ, zero, suc, ◌==◌, Bool, true, false, List, [], if◌then◌else◌}
 use Rattle.std.specs.List.{length_refill}
 use Rattle.std.proofs.Common.{refl, sym, ◌∙◌}
 use Rattle.std.specs.Borrow.{Lends, MutBor, Fml, RattleType, u8, Array}
@@ -82,12 +82,13 @@ module _ {N : ℕ} where
   abbrev pub heapless_phase : CobsDecoderHeapless N → Phase
   heapless_phase decoder = phase_of decoder.inner
 
+  -- bytes in place of others leave the vector full
+  pub filled_again : (decoder : CobsDecoderHeapless N) (bytes : List ℕ) → length (refilled decoder.dest bytes).items ≡ N
+  filled_again decoder bytes = sym (length_refill (length decoder.dest.items) decoder.dest.items bytes refl) ∙ decoder.filled
+
   -- the decoder with these bytes in its vector
   abbrev pub with_heapless_buffer : CobsDecoderHeapless N → List ℕ → CobsDecoderHeapless N
-  with_heapless_buffer decoder bytes = record decoder {
-    dest = refilled decoder.dest bytes;
-    filled = sym (length_refill (length decoder.dest.items) decoder.dest.items bytes refl) ∙ decoder.filled;
-  }
+  with_heapless_buffer decoder bytes = record decoder { dest = refilled decoder.dest bytes; filled = filled_again decoder bytes }
 
 -- the decoder ends with what the caller leaves in its buffer, and is otherwise as it was
 abbrev pub LendsHeapless : (N : RattleType) → MutBor (CobsDecoderHeapless (value_of N)) → MutBor (List ℕ) → Fml
