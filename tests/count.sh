@@ -31,7 +31,7 @@ skip() { # PART REASON
 
 has() { # TOOL-OR-FILE PACKAGE PART
     if command -v "$1" >/dev/null || [ -f "$1" ]; then return 0; fi
-    skip "$3" "lacks Debian's $2"
+    skip "$3" "needs Debian's $2"
     return 1
 }
 

@@ -52,8 +52,8 @@ copy() {
     grep -E "^$1( [a-z_]+=[^ :]+)*:" "$top/crates.txt" >> "$work/crates.txt"
 }
 
-# `refuse CRATE LAST`: round after round until the last test passes, or until there were as many as were asked for
-refuse() {
+# `fail_growths CRATE LAST`: round after round until the last test passes, or until there were as many as were asked for
+fail_growths() {
     cd "$work/crates/$1" || exit 2
     round=$first
     while [ "$round" -le "$last" ]; do
@@ -65,18 +65,18 @@ refuse() {
         fi
         if grep -E '^test .* \.\.\. FAILED$' "$work/log" | grep -v -q "^test $2 "; then
             cat "$work/log"
-            echo "$1, round $round: a call answered something else"
+            echo "$1, round $round: a call returned something else"
             exit 1
         fi
         if grep -q "^test $2 \.\.\. ok$" "$work/log"; then
-            echo "$1, round $round: no growth was refused, and the rounds before were answered as out of memory"
+            echo "$1, round $round: no growth failed, and the rounds before were reported as out of memory"
             return
         fi
-        echo "$1, round $round: a growth was refused, and answered as out of memory"
+        echo "$1, round $round: a growth failed, and was reported as out of memory"
         round=$((round + 1))
     done
     [ -n "$rounds" ] && return
-    echo "$1: no round was free of refusals"
+    echo "$1: a growth failed in every round"
     exit 1
 }
 
@@ -86,5 +86,5 @@ copy cobs_lines ''
 copy cobs_vectors ''
 copy cobs_frame_vectors 'memory|messages|slices'
 copy cobs_tool 'refused_memory'
-refuse cobs_tool refused_memory::without_a_refusal_every_mode_writes_its_output
-refuse cobs_frame_vectors memory::without_a_refusal_every_call_gives_its_value
+fail_growths cobs_tool refused_memory::without_a_refusal_every_mode_writes_its_output
+fail_growths cobs_frame_vectors memory::without_a_refusal_every_call_gives_its_value

@@ -84,8 +84,8 @@ else
     skip 'programs' "not built for $(uname -m)"
 fi
 if has cargo cargo 'Rust'; then
-    if ! lacking=$("$root/bindings/rust/tests/offline.sh" "$work"); then
-        skip 'Rust' "$lacking"
+    if ! missing=$("$root/bindings/rust/tests/offline.sh" "$work"); then
+        skip 'Rust' "$missing"
     elif [ "$(rustc --version | sed -n 's/^rustc 1\.\([0-9]*\)\..*/\1/p')" -ge 83 ]; then
         part 'Rust: the first frame' first_in_rust
         part 'Rust: the tests of the crate, with all cases' tests_in_rust
@@ -102,10 +102,10 @@ if has "$python" python3 'Python' && has cc gcc 'Python'; then
         if "$python" -c 'import hypothesis' 2>/dev/null; then
             part 'Python: calls and streams' pytest_of tests/test_calls.py tests/test_streams.py
         else
-            skip 'Python: calls and streams' "lacks Debian's python3-hypothesis"
+            skip 'Python: calls and streams' "needs Debian's python3-hypothesis"
         fi
     else
-        skip 'Python' "lacks Debian's python3-dev, python3-setuptools or python3-pytest"
+        skip 'Python' "needs Debian's python3-dev, python3-setuptools or python3-pytest"
     fi
 fi
 node=${NODE:-node}

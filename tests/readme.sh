@@ -58,21 +58,21 @@ export npm_config_offline npm_config_audit npm_config_fund
 why_not() { # LINE
     case $1 in
     'cobs: '* | 'cobs_bytes:' | 'app: '*) echo 'a line of crates.txt' ;;
-    rt' '* | *'&& '*' rt '*) echo 'lacks rt' ;;
-    'bindings/web/build.sh '*'# cobs.wasm'*) echo 'lacks rt' ;;
+    rt' '* | *'&& '*' rt '*) echo 'needs rt' ;;
+    'bindings/web/build.sh '*'# cobs.wasm'*) echo 'needs rt' ;;
     tests/*.sh*) echo 'a test of its own' ;;
     *'build.sh serve'*) echo "a server, which doesn't end" ;;
-    */dev/tty*) echo 'lacks a serial port' ;;
+    */dev/tty*) echo 'needs a serial port' ;;
     *'build.sh screenshots'*) echo 'takes more than a minute' ;;
-    *build.sh*) command -v node >/dev/null || echo "lacks Debian's nodejs" ;;
-    'npm '* | 'node '*) command -v node >/dev/null && command -v npm >/dev/null || echo "lacks Debian's nodejs and npm" ;;
-    'pip '* | python*) environment || echo "lacks Debian's python3-dev, python3-venv, python3-setuptools or python3-wheel" ;;
+    *build.sh*) command -v node >/dev/null || echo "needs Debian's nodejs" ;;
+    'npm '* | 'node '*) command -v node >/dev/null && command -v npm >/dev/null || echo "needs Debian's nodejs and npm" ;;
+    'pip '* | python*) environment || echo "needs Debian's python3-dev, python3-venv, python3-setuptools or python3-wheel" ;;
     ./test.py*)
         command -v arm-none-eabi-gcc >/dev/null && command -v qemu-system-arm >/dev/null ||
-            echo "lacks Debian's gcc-arm-none-eabi or qemu-system-arm"
+            echo "needs Debian's gcc-arm-none-eabi or qemu-system-arm"
         ;;
     cargo' '* | *'# in Cargo.toml'* | *'// in src/main.rs')
-        command -v cargo >/dev/null && [ -n "$has_crates" ] || echo "lacks cargo, or Debian's librust-memchr-dev or librust-serde-derive-dev"
+        command -v cargo >/dev/null && [ -n "$has_crates" ] || echo "needs cargo, or Debian's librust-memchr-dev or librust-serde-derive-dev"
         ;;
     esac
 }

@@ -260,7 +260,7 @@ elif command -v rt >/dev/null || [ -x /opt/rattle/bin/rt ]; then
     part 'the libraries for microcontrollers, built again' "$root/bindings/c/device/build.sh"
     [ ! -e "$tree/bindings/programs/x86_64-linux" ] || part 'the programs, built again' programs_again
 else
-    skip 'the libraries, the programs and the module, built again' "lacks Rattle's toolchain"
+    skip 'the libraries, the programs and the module, built again' "needs Rattle's toolchain"
 fi
 
 part 'source archive' source_archive && has cc gcc 'the source archive runs' && part 'the source archive runs' source_runs
@@ -303,14 +303,14 @@ if [ -n "$python" ]; then
         part 'the source distribution runs' python_runs "$folder/$name_of.tar.gz"
     }
 else
-    skip 'Python packages' "lacks Debian's python3-build, python3-setuptools, python3-wheel or python3-venv"
+    skip 'Python packages' "needs Debian's python3-build, python3-setuptools, python3-wheel or python3-venv"
 fi
 has npm npm 'Node package' && part 'Node package' node_package && part 'the Node package runs' node_runs
 part 'page' page_archive && has node nodejs 'the page runs' && has chromium chromium 'the page runs' && part 'the page runs' page_runs
 if ! has cargo cargo 'crate'; then
     :
-elif ! lacking=$("$root/bindings/rust/tests/offline.sh" "$work"); then
-    skip 'crate' "$lacking"
+elif ! missing=$("$root/bindings/rust/tests/offline.sh" "$work"); then
+    skip 'crate' "$missing"
 elif part 'crate' rust_crate; then
     if [ "$(rustc --version | sed -n 's/^rustc 1\.\([0-9]*\)\..*/\1/p')" -ge 83 ]; then
         part 'the crate runs' crate_runs

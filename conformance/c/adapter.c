@@ -75,6 +75,6 @@ int main(void)
             printf("%s differs\n", words[0]);
         }
     }
-    printf("%u cases, %u differ, %u of calls that it has not\n", cases, differ, lacking);
+    printf("%u cases, %u differ, %u of calls that it does not have\n", cases, differ, lacking);
     return differ != 0;
 }

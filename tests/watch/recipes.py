@@ -96,9 +96,9 @@ def main():
     for name in TEXTS:
         setting, recipes = recipes_of((TOP / name).read_text())
         for recipe in recipes:
-            lacking = [tool for tool in ("jq", "stty") if re.search(rf"\b{tool}\b", recipe) and not shutil.which(tool)]
-            if lacking:
-                print(f"skipped: {name}: {recipe}: it needs {lacking[0]}")
+            missing = [tool for tool in ("jq", "stty") if re.search(rf"\b{tool}\b", recipe) and not shutil.which(tool)]
+            if missing:
+                print(f"skipped: {name}: {recipe}: it needs {missing[0]}")
                 continue
             ran += 1
             try:

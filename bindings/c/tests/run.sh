@@ -1,7 +1,7 @@
 #!/bin/sh
 # Builds the library for C and all that stands beside it, and runs it.
 #
-# Prints a line for each part: 'ok', 'FAILED' with what it said, or 'skipped' with the Debian packages that it lacks. The
+# Prints a line for each part: 'ok', 'FAILED' with what it said, or 'skipped' with the Debian packages that are missing. The
 # last line counts them; the status is 0 only if nothing failed.
 #
 # Some words are meant to be split: flags, and the command that runs what was built for another processor. Some commands
@@ -311,7 +311,7 @@ if has pkg-config pkg-config 'install and dist'; then
     if unshare -rm true 2>/dev/null; then
         part 'install to /usr/local' usr_local
     else
-        skip 'install to /usr/local' 'lacks a namespace of its own (unshare -rm)'
+        skip 'install to /usr/local' 'needs a namespace of its own (unshare -rm)'
     fi
 fi
 if has cmake cmake 'find_package'; then

@@ -165,7 +165,7 @@ def main():
     rows, bad, skipped = [], 0, 0
     for name, (compiler, package, _) in TARGETS.items():
         if not shutil.which(compiler.split()[0]):
-            print(f"skipped {name}: lacks Debian's {package}")
+            print(f"skipped {name}: needs Debian's {package}")
             skipped += 1
             continue
         with tempfile.TemporaryDirectory() as work:
