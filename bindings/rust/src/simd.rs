@@ -1,12 +1,30 @@
 //! Vectors of bytes as `std::simd` has them, on stable Rust and for any target: what the proved source uses of it.
 //!
-//! The crate's only `unsafe` code is here: the loads of SSE2 and NEON. The tests compare every operation with the same
+//! The crate's only `unsafe` code is here: the calls of SSE2 and NEON. The tests compare every operation with the same
 //! on single bytes, for each width from 1 to 64.
 
 // Loops over indices, of which rustc makes vectors.
 #![allow(clippy::needless_range_loop)]
 
 use core::ops::{BitOr, BitXor};
+
+#[cfg(all(
+    target_feature = "neon",
+    target_arch = "aarch64",
+    target_endian = "little"
+))]
+use neon as way;
+#[cfg(not(any(
+    all(target_feature = "sse2", target_arch = "x86_64"),
+    all(
+        target_feature = "neon",
+        target_arch = "aarch64",
+        target_endian = "little"
+    )
+)))]
+use portable as way;
+#[cfg(all(target_feature = "sse2", target_arch = "x86_64"))]
+use sse2 as way;
 
 /// A vector of `N` bytes.
 #[derive(Clone, Copy)]
@@ -56,6 +74,10 @@ impl<const N: usize> Simd<u8, N> {
     /// Which bytes are equal.
     #[inline(always)]
     pub fn simd_eq(self, other: Self) -> Mask<N> {
+        if 1 < N && N < 16 {
+            let equal = way::equal(widened(&self.0), widened(&other.0));
+            return Mask(*equal.first_chunk().expect("less than 16 bytes"));
+        }
         self.compare(other, |a, b| a == b)
     }
 
@@ -123,29 +145,24 @@ impl<const N: usize> Mask<N> {
     }
 }
 
-/// One bit of each byte: of 16 at a time by `sixteen`, of 8 by `eight`, then of 4, and of single ones.
+/// Up to 16 bytes, and zeros after them: of fewer bytes rustc makes no vector.
 #[inline(always)]
-fn bits_by(
-    mask: &[u8],
-    sixteen: impl Fn(&[u8; 16]) -> u64,
-    eight: impl Fn(&[u8; 8]) -> u64,
-) -> u64 {
+fn widened(bytes: &[u8]) -> [u8; 16] {
+    let mut wide = [0; 16];
+    wide[..bytes.len()].copy_from_slice(bytes);
+    wide
+}
+
+/// One bit of each byte, of 16 at a time.
+#[inline(always)]
+fn bits_by(mask: &[u8], sixteen: impl Fn(&[u8; 16]) -> u64) -> u64 {
     let (mut bits, mut done) = (0, 0);
     while let Some(bytes) = mask[done..].first_chunk() {
         bits |= sixteen(bytes) << done;
         done += 16;
     }
-    if let Some(bytes) = mask[done..].first_chunk() {
-        bits |= eight(bytes) << done;
-        done += 8;
-    }
-    if let Some(bytes) = mask[done..].first_chunk() {
-        bits |= portable::of_word(u32::from_le_bytes(*bytes).into()) << done;
-        done += 4;
-    }
-    while done < mask.len() {
-        bits |= u64::from(mask[done] & 1) << done;
-        done += 1;
+    if done < mask.len() {
+        bits |= sixteen(&widened(&mask[done..])) << done;
     }
     bits
 }
@@ -153,37 +170,23 @@ fn bits_by(
 /// One bit of each byte.
 #[inline(always)]
 fn bits(mask: &[u8]) -> u64 {
-    #[cfg(all(
-        target_feature = "neon",
-        target_arch = "aarch64",
-        target_endian = "little"
-    ))]
-    use neon as way;
-    #[cfg(not(any(
-        all(target_feature = "sse2", target_arch = "x86_64"),
-        all(
-            target_feature = "neon",
-            target_arch = "aarch64",
-            target_endian = "little"
-        )
-    )))]
-    use portable as way;
-    #[cfg(all(target_feature = "sse2", target_arch = "x86_64"))]
-    use sse2 as way;
-    bits_by(mask, way::of_sixteen, way::of_eight)
+    if let [byte] = *mask {
+        return u64::from(byte & 1);
+    }
+    bits_by(mask, way::of_sixteen)
 }
 
 /// For any target: the product has one bit of each byte, side by side, in its highest byte.
 #[allow(dead_code)]
 mod portable {
     #[inline(always)]
-    pub fn of_word(mask: u64) -> u64 {
-        (mask & 0x0101_0101_0101_0101).wrapping_mul(0x0102_0408_1020_4080) >> 56
+    pub fn equal(bytes: [u8; 16], other: [u8; 16]) -> [u8; 16] {
+        core::array::from_fn(|i| if bytes[i] == other[i] { 0xFF } else { 0 })
     }
 
     #[inline(always)]
-    pub fn of_eight(mask: &[u8; 8]) -> u64 {
-        of_word(u64::from_le_bytes(*mask))
+    fn of_word(mask: u64) -> u64 {
+        (mask & 0x0101_0101_0101_0101).wrapping_mul(0x0102_0408_1020_4080) >> 56
     }
 
     #[inline(always)]
@@ -196,13 +199,15 @@ mod portable {
 #[cfg(all(target_feature = "sse2", target_arch = "x86_64"))]
 #[allow(unsafe_code)]
 mod sse2 {
-    use core::arch::x86_64::{_mm_loadl_epi64, _mm_loadu_si128, _mm_movemask_epi8};
+    use core::arch::x86_64::{_mm_cmpeq_epi8, _mm_loadu_si128, _mm_movemask_epi8};
+    use core::mem::transmute;
 
+    /// Said as one vector, since rustc compares bytes of an integer one by one: a message of 8 bytes is encoded 1.9
+    /// times as fast by this.
     #[inline(always)]
-    pub fn of_eight(mask: &[u8; 8]) -> u64 {
-        // SAFETY: the target has SSE2, and 8 bytes are loaded from any address.
-        let bits = unsafe { _mm_movemask_epi8(_mm_loadl_epi64(mask.as_ptr().cast())) };
-        u64::from(bits as u32)
+    pub fn equal(bytes: [u8; 16], other: [u8; 16]) -> [u8; 16] {
+        // SAFETY: the target has SSE2, and each vector has the 16 bytes of an array.
+        unsafe { transmute(_mm_cmpeq_epi8(transmute(bytes), transmute(other))) }
     }
 
     #[inline(always)]
@@ -220,10 +225,11 @@ mod sse2 {
 ))]
 #[allow(unsafe_code)]
 mod neon {
+    pub use super::portable::equal;
     use core::arch::aarch64::{vaddv_u8, vand_u8, vld1_u8};
 
     #[inline(always)]
-    pub fn of_eight(mask: &[u8; 8]) -> u64 {
+    fn of_eight(mask: &[u8; 8]) -> u64 {
         const PLACES: [u8; 8] = [1, 2, 4, 8, 16, 32, 64, 128];
         // SAFETY: the target has NEON, and both loads are of 8 bytes.
         let bits = unsafe { vaddv_u8(vand_u8(vld1_u8(mask.as_ptr()), vld1_u8(PLACES.as_ptr()))) };
@@ -290,7 +296,7 @@ mod tests {
         assert!(stored[0] == 0xAA && stored[N + 1..] == [0xAA; 80][N..]);
         for (mask, expected) in masks {
             assert_eq!(mask.to_bitmask(), expected, "{N}, {byte}");
-            let plain = bits_by(&mask.0, portable::of_sixteen, portable::of_eight);
+            let plain = bits_by(&mask.0, portable::of_sixteen);
             assert_eq!(plain, expected, "{N}, {byte}");
             let mut chosen = [0; N];
             mask.select(vector, splat).copy_to_slice(&mut chosen);
@@ -322,6 +328,8 @@ mod tests {
             let mask = core::array::from_fn(|i| if expected >> i & 1 == 1 { 0xFF } else { 0 });
             assert_eq!(portable::of_sixteen(&mask), expected);
             assert_eq!(bits(&mask), expected);
+            assert_eq!(portable::equal(mask, [0xFF; 16]), mask);
+            assert_eq!(way::equal(mask, [0xFF; 16]), mask);
         }
     }
 
