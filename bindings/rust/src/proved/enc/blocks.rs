@@ -274,6 +274,7 @@ pub(crate) fn append(source: &[u8], dest: &mut [u8], progress: EncoderProgress) 
 
 /// Writes the code of the open block where that block is part of the frame, and returns where the frame ends.
 /// Only this writes that code: what is in its place before doesn't matter.
+#[inline]
 pub(crate) fn close(dest: &mut [u8], progress: EncoderProgress) -> usize {
     if progress.is_full {
         return progress.index;
