@@ -10,7 +10,8 @@ usage: tests/docs.py [--write]
 - The proof of an example of a law, if the tests have one, is printed with it.
 - The functions that README.md and crates/cobs/CALLING.md show are in a crate of tests; of a test, its statements.
 - The contracts in crates/cobs/CALLING.md are those of src, of the calls in QUOTED. With --write they are written.
-- No file outside crates/cobs names its proofs: what a caller cites are its specs and its laws.
+- No file outside crates/cobs names its proofs, or a type by the private module that it is in: what a caller cites are
+  its specs, its laws and the public names of its types.
 - docs/MAP.md names each file of the repository, or a folder that it is in.
 - Each block of tests/wrong_code.txt can be applied. `tests/REFUSED.md` counts and names these and the edits of must-fail/.
 - No imports of the libraries go in a ring; files have at most 450 lines and functions 40 (layout.py).
@@ -107,7 +108,7 @@ def all_contracts():
 
 
 def private_names():
-    """A line for each file outside crates/cobs that names its proofs."""
+    """A line for each file outside crates/cobs that names its proofs, or a type by a private module."""
     for path in sorted((TOP / "crates").glob("*/*/")):
         if path.name not in ("src", "specs", "proofs") or path.parent.name == "cobs":
             continue
@@ -115,6 +116,8 @@ def private_names():
             for number, line in enumerate(file.read_text().splitlines(), 1):
                 if "Rattle.cobs.proofs" in line:
                     yield f"{file.relative_to(TOP)}:{number}: names a proof of cobs"
+                if re.search(r"Rattle\.cobs\.specs\.declared\.[a-z]", line):
+                    yield f"{file.relative_to(TOP)}:{number}: names a type of cobs by a private module, not as declared.TYPE"
 
 
 def names_on_map():

@@ -4,8 +4,8 @@ use Rattle.std.proofs.lemmas.Bool.{leb-false, cases_Bool}
 use Rattle.cobs.specs.Decode.{sized}
 use Rattle.cobs.specs.Piece.{output}
 use Rattle.cobs.specs.Stream.{outcome_of}
-use Rattle.cobs.specs.declared.dec.DecodeError.{DecodeError}
-use Rattle.cobs.specs.declared.dec.DecodeError.TheVariants.{EmptyFrame, InvalidFrame, TargetBufTooSmall}
+use Rattle.cobs.specs.declared.DecodeError.{DecodeError}
+use Rattle.cobs.specs.declared.DecodeError.TheVariants.{EmptyFrame, InvalidFrame, TargetBufTooSmall}
 use Rattle.cobs_abi.specs.Answer.{answer_by}
 use Rattle.cobs_abi.specs.declared.answer.TheConstants.{TOO_SMALL}
 

@@ -1,10 +1,10 @@
 -- The results of the library's calls, as C sees them.
 use Rattle.std.specs.Prelude.{ℕ, ◌+◌, ◌==◌, min, List, length, Option, Some, None, Result, Ok, Err, if◌then◌else◌}
 use Rattle.cobs.specs.Stream.{head}
-use Rattle.cobs.specs.declared.dec.frame_decoder.PieceEnd.{PieceEnd}
-use Rattle.cobs.specs.declared.dec.frame_decoder.PieceEnd.TheVariants.{Message, Broken, TooLong}
-use Rattle.cobs.specs.declared.dec.DecodeError.{DecodeError}
-use Rattle.cobs.specs.declared.dec.DecodeError.TheVariants.{EmptyFrame, InvalidFrame, TargetBufTooSmall}
+use Rattle.cobs.specs.declared.PieceEnd.{PieceEnd}
+use Rattle.cobs.specs.declared.PieceEnd.TheVariants.{Message, Broken, TooLong}
+use Rattle.cobs.specs.declared.DecodeError.{DecodeError}
+use Rattle.cobs.specs.declared.DecodeError.TheVariants.{EmptyFrame, InvalidFrame, TargetBufTooSmall}
 use Rattle.cobs_abi.specs.declared.answer.Answer.{Answer}
 use Rattle.cobs_abi.specs.declared.answer.TheConstants.{OK, TOO_SMALL, BROKEN, EMPTY}
 

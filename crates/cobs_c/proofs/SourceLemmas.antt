@@ -3,7 +3,7 @@ use Rattle.std.proofs.Common.{◌≡◌, ◌<◌, ◌≤◌, ℕ, List, [], ◌�
 use Rattle.cobs.specs.Grammar.{HasNoZero}
 use Rattle.cobs.specs.Decode.{answer_by_piece, leading_zeros, len_through_piece, decode_answer, reported, sized}
 use Rattle.cobs.specs.Stream.{first_piece, outcome_of}
-use Rattle.cobs.specs.declared.dec.DecodeError.{DecodeError}
+use Rattle.cobs.specs.declared.DecodeError.{DecodeError}
 
 -- the first piece by its end, in what is behind the zeros of a source: by `none` and `found` of `law_12`
 module _ (source rest : List ℕ) (n : ℕ) (is : rest ≡ drop (leading_zeros source) source) (stop : n < length rest → get_or rest n 0 ≡ 0) where

@@ -8,8 +8,8 @@ use Rattle.cobs.specs.Decode.{head_answer}
 use Rattle.cobs.specs.Grammar.{HasNoZero, IsBlock, bytes_of, joint}
 use Rattle.cobs.specs.Overwritten.{overwritten}
 use Rattle.cobs.specs.Piece.{IsWhole, is_whole, kept_output, last_part, output, parts, parts_after}
-use Rattle.cobs.specs.declared.dec.DecodeError.{DecodeError}
-use Rattle.cobs.specs.declared.dec.DecodeError.TheVariants.{InvalidFrame}
+use Rattle.cobs.specs.declared.DecodeError.{DecodeError}
+use Rattle.cobs.specs.declared.DecodeError.TheVariants.{InvalidFrame}
 use Rattle.cobs_small.proofs.BlockLemmas.{IsCodeAt, block-is, block_at, bytes-long, code-some, left-is, short, split}
 
 -- what `law_20` says

@@ -4,11 +4,11 @@ use Rattle.cobs.specs.Decode.{sized}
 use Rattle.cobs.specs.Feed.{told}
 use Rattle.cobs.specs.FeedPiece.{end_told, outcome_at}
 use Rattle.cobs.specs.Stream.{Outcome, Message, Broken, TooLong}
-use Rattle.cobs.specs.declared.dec.DecodeError.{DecodeError}
-use Rattle.cobs.specs.declared.dec.DecodeError.TheVariants.{TargetBufTooSmall}
-use Rattle.cobs.specs.declared.dec.frame_decoder.PieceEnd.{PieceEnd}
+use Rattle.cobs.specs.declared.DecodeError.{DecodeError}
+use Rattle.cobs.specs.declared.DecodeError.TheVariants.{TargetBufTooSmall}
+use Rattle.cobs.specs.declared.PieceEnd.{PieceEnd}
 use Rattle.cobs_abi.proofs.RoomLemmas.{too_small-only}
-use Rattle.cobs.specs.declared.dec.frame_decoder.PieceEnd.TheVariants as ends
+use Rattle.cobs.specs.declared.PieceEnd.TheVariants as ends
 use Rattle.cobs_abi.specs.Answer as answers
 use Rattle.cobs_abi.specs.Answer.{answer_by}
 use Rattle.cobs_abi.specs.declared.answer.Answer.{Answer}

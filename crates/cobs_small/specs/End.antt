@@ -1,7 +1,7 @@
 -- The result of a call, by the end of a piece.
 use Rattle.std.specs.Prelude.{ℕ, Option, Some, None}
-use Rattle.cobs.specs.declared.dec.frame_decoder.PieceEnd.{PieceEnd}
-use Rattle.cobs.specs.declared.dec.frame_decoder.PieceEnd.TheVariants.{Message, Broken, TooLong}
+use Rattle.cobs.specs.declared.PieceEnd.{PieceEnd}
+use Rattle.cobs.specs.declared.PieceEnd.TheVariants.{Message, Broken, TooLong}
 use Rattle.cobs_abi.specs.declared.answer.Answer.{Answer}
 use Rattle.cobs_abi.specs.declared.answer.TheConstants.{OK, TOO_SMALL, BROKEN, EMPTY}
 

@@ -5,9 +5,9 @@ use Rattle.std.specs.List.{flat_map}
 use Rattle.cobs.specs.Laws.{StreamLaw}
 use Rattle.cobs.specs.NextFrame.{Read, Runs, EndsFirst, ReaderState, ReaderAfter, ReadsNext, AtPieceEnd, all_given}
 use Rattle.cobs.specs.Stream.{Outcome, Message, Broken, TooLong, is_nonempty, stream_outcomes, unended}
-use Rattle.cobs.specs.declared.framed.Next.TheVariants as nexts
-use Rattle.cobs.specs.declared.framed.ReadFault.{ReadFault}
-use Rattle.cobs.specs.declared.framed.ReadFault.TheVariants as faults
+use Rattle.cobs.specs.declared.Next.TheVariants as nexts
+use Rattle.cobs.specs.declared.ReadFault.{ReadFault}
+use Rattle.cobs.specs.declared.ReadFault.TheVariants as faults
 use Rattle.cobs_lines.proofs.MemoryLemmas.{MemoryStep, bytes_left-Runs, never_fails, bytes_left-at_end, few_reads}
 use Rattle.cobs_lines.specs.Memory.{bytes_left}
 use Rattle.cobs_lines.specs.Lines.{outcome_line}

@@ -7,7 +7,7 @@ use Rattle.cobs.specs.Overwritten.{overwritten}
 use Rattle.cobs.specs.Piece.{output}
 use Rattle.cobs.specs.Push.{last_piece}
 use Rattle.cobs.specs.Stream.{Outcome, first_piece, outcome_of, stream_outcomes, unended}
-use Rattle.cobs.specs.declared.dec.frame_decoder.PieceEnd.{PieceEnd}
+use Rattle.cobs.specs.declared.PieceEnd.{PieceEnd}
 use Rattle.cobs_abi.proofs.RoomLemmas.{too_long-output}
 use Rattle.cobs_abi.specs.Answer.{answer_by}
 use Rattle.cobs_abi.specs.Decode.{Decodes}

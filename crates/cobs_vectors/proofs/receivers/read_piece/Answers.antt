@@ -1,7 +1,7 @@
 use Rattle.std.proofs.Common.{◌≡◌, ◌<◌, ◌≤◌, ◌∙◌, [], List, ℕ, Some, length, take, ap, subst, sym}
 use Rattle.std.proofs.lemmas.List.Elements.{All-from_get_or}
-use Rattle.cobs.specs.declared.dec.frame_decoder.PieceEnd.TheVariants.{Broken, Message, TooLong}
-use Rattle.cobs.specs.declared.dec.frame_decoder.PieceEnd.{PieceEnd}
+use Rattle.cobs.specs.declared.PieceEnd.TheVariants.{Broken, Message, TooLong}
+use Rattle.cobs.specs.declared.PieceEnd.{PieceEnd}
 use Rattle.cobs_vectors.proofs.Pieces.{held_front, reads_front}
 use Rattle.cobs_vectors.proofs.receivers.read_piece.Goals as goal
 

@@ -8,7 +8,7 @@ use Rattle.cobs.specs.Overwritten.{overwritten}
 use Rattle.cobs.specs.Piece.{output}
 use Rattle.cobs.specs.Push.{last_piece}
 use Rattle.cobs.specs.Stream.{outcome_of, stream_outcomes, unended}
-use Rattle.cobs.specs.declared.dec.frame_decoder.PieceEnd.{PieceEnd}
+use Rattle.cobs.specs.declared.PieceEnd.{PieceEnd}
 use Rattle.cobs_vectors.proofs.receivers.salvage.Goals as goal
 
 module _ (buffer buffer' received : List ℕ) (phase phase' : Phase) (idle : DecoderAfter buffer phase [])

@@ -1,7 +1,7 @@
 use Rattle.std.proofs.Common.{◌≡◌, ◌<◌, ◌≤◌, ◌==◌, ℕ, Bool, true, false, List, [], ◌∷◌, ◌++◌, if◌then◌else◌, length, take, get_or, set, sym, ap, subst, arith, take_all, append_assoc}
 use Rattle.std.proofs.lemmas.List.{take_more}
-use Rattle.cobs.specs.declared.enc.state.PushResult.{PushResult}
-use Rattle.cobs.specs.declared.enc.state.PushResult.TheVariants.{AddSingle, ModifyFromStartAndSkip, ModifyFromStartAndPushAndSkip}
+use Rattle.cobs.specs.declared.PushResult.{PushResult}
+use Rattle.cobs.specs.declared.PushResult.TheVariants.{AddSingle, ModifyFromStartAndSkip, ModifyFromStartAndPushAndSkip}
 use Rattle.cobs.specs.OpenBlock.{OpenBlock, IsOpenOutput, push_answer, applied}
 use Rattle.cobs_vectors.proofs.worked_callers.encode_by_state.Goals.{in-AddSingle+in_ok-push-in-AddSingle, in-ModifyFromStartAndSkip+in_ok-push-in-ModifyFromStartAndSkip, in-ModifyFromStartAndPushAndSkip+in_ok-push-in-ModifyFromStartAndPushAndSkip+in_ok-push-in-ModifyFromStartAndPushAndSkip-2}
 use Rattle.cobs_vectors.proofs.worked_callers.encode_by_state.Goals as goal
