@@ -199,7 +199,7 @@ mod portable {
 #[cfg(all(target_feature = "sse2", target_arch = "x86_64"))]
 #[allow(unsafe_code)]
 mod sse2 {
-    use core::arch::x86_64::{_mm_cmpeq_epi8, _mm_loadu_si128, _mm_movemask_epi8};
+    use core::arch::x86_64::{__m128i, _mm_cmpeq_epi8, _mm_loadu_si128, _mm_movemask_epi8};
     use core::mem::transmute;
 
     /// Said as one vector, since rustc compares bytes of an integer one by one: a message of 8 bytes is encoded 1.9
@@ -207,7 +207,10 @@ mod sse2 {
     #[inline(always)]
     pub fn equal(bytes: [u8; 16], other: [u8; 16]) -> [u8; 16] {
         // SAFETY: the target has SSE2, and each vector has the 16 bytes of an array.
-        unsafe { transmute(_mm_cmpeq_epi8(transmute(bytes), transmute(other))) }
+        unsafe {
+            let [bytes, other] = transmute::<[[u8; 16]; 2], [__m128i; 2]>([bytes, other]);
+            transmute(_mm_cmpeq_epi8(bytes, other))
+        }
     }
 
     #[inline(always)]
