@@ -13,7 +13,7 @@ pub(crate) const FULL_CODE: usize = 255;
 /// How many bytes a full block has after its code.
 pub(crate) const FULL_BLOCK_BYTES: usize = FULL_CODE - 1;
 
-/// Fewer bytes go one by one, in place of a window: 1 byte takes .65 of the time, 4 bytes .6 to 1.
+/// Fewer bytes go one by one, in place of a window: in the Rust crate 1 byte takes .65 of the time, 4 bytes .61.
 const FEW: usize = 8;
 
 /// The mask of a window that has no byte but zeros.
@@ -69,8 +69,8 @@ fn append_few(source: &[u8], dest: &mut [u8], progress: EncoderProgress) -> Enco
     let mut next = index + progress.code as usize;
     'by_byte: for read in 0..source.len() {
         let byte = source[read];
-        dest[index] = (next - index) as u8;
         dest[next] = byte;
+        dest[index] = (next - index) as u8;
         index = if byte == 0 { next } else { index };
         next += 1;
     }

@@ -9,18 +9,23 @@ use Rattle.cobs.proofs.encoding.TakingLemmas.{front-taken, next-least, reaches-s
 use Rattle.cobs.proofs.enc.blocks.append_few.Goals.{then-byte-eq0, else-byte-eq0}
 use Rattle.cobs.proofs.enc.blocks.append_few.Goals as goal
 
--- a byte that is written behind the open block's joins them, unless it is a zero
-joined : (H : List ℕ → Type 0) (source old slice : List ℕ) (end read index next byte : ℕ) (P : Bool → Type 0) → read < length source → get_or source read 0 ≡ byte → byte ≢ 0 → next < index + 255 → end ≤ length slice
-    → Reaches H source old slice end read index next P → Reaches H source old (set slice next byte) end (read + 1) index (next + 1) (λ full. 0 < read + 1 → full ≡ false)
-joined H source old slice end read index next byte P more is other short fits r =
-    let l = least source end read index next r.ordered r.within r.room in
-    let after : List ℕ = set slice next byte in
-    let k = length-set slice next byte in
-    let same = Reaches-same H source old slice end read index next P P after (take-set-le next slice next byte (omega arith)) (drop-set-lt end slice next byte (omega arith)) r in
-    let one : take 1 (drop read source) ≡ byte ∷ [] = grind (arith, drop_more) in
-    let here : take 1 (drop next after) ≡ take 1 (drop read source) = grind (arith, drop-set) in
-    let nonzero : HasNoZero (take 1 (drop read source)) = subst HasNoZero (sym one) (All-cons (λ byte. byte ≢ 0) byte [] other (All-nil (λ byte. byte ≢ 0))) in
-    Reaches-join H source old after end read index next P (λ full. 0 < read + 1 → full ≡ false) 1 (omega arith) (omega arith) (omega arith) nonzero here (λ full z p. absurd (omega arith)) (λ z lt. refl) same
+-- a byte is written behind the open block's
+module _ (H : List ℕ → Type 0) (source old slice : List ℕ) (end read index next byte : ℕ) (P : Bool → Type 0) (more : read < length source) (r : Reaches H source old slice end read index next P) where
+  written : Reaches H source old (set slice next byte) end read index next P
+  written =
+      let l = least source end read index next r.ordered r.within r.room in
+      Reaches-same H source old slice end read index next P P (set slice next byte) (take-set-le next slice next byte (omega arith)) (drop-set-lt end slice next byte (omega arith)) r
+
+  -- and joins them, unless it is a zero
+  joined : get_or source read 0 ≡ byte → byte ≢ 0 → next < index + 255 → end ≤ length slice → Reaches H source old (set slice next byte) end (read + 1) index (next + 1) (λ full. 0 < read + 1 → full ≡ false)
+  joined is other short fits =
+      let l = least source end read index next r.ordered r.within r.room in
+      let after : List ℕ = set slice next byte in
+      let k = length-set slice next byte in
+      let one : take 1 (drop read source) ≡ byte ∷ [] = grind (arith, drop_more) in
+      let here : take 1 (drop next after) ≡ take 1 (drop read source) = grind (arith, drop-set) in
+      let nonzero : HasNoZero (take 1 (drop read source)) = subst HasNoZero (sym one) (All-cons (λ byte. byte ≢ 0) byte [] other (All-nil (λ byte. byte ≢ 0))) in
+      Reaches-join H source old after end read index next P (λ full. 0 < read + 1 → full ≡ false) 1 (omega arith) (omega arith) (omega arith) nonzero here (λ full z p. absurd (omega arith)) (λ z lt. refl) written
 
 pub by_byte-init : goal.by_byte-init
 by_byte-init c =
@@ -40,27 +45,28 @@ by_byte-preserved c =
     let read : ℕ = c.by_byte.read in
     let byte : ℕ = get_or c.args.source.now read 0 in
     let i = c.by_byte.invariant in
-    let coded : List ℕ = set c.by_byte.dest index (next - index) in
-    let k = length-set c.by_byte.dest index (next - index) in
-    let n = length-set coded next byte in
+    let after : List ℕ = set c.by_byte.dest next byte in
+    let k = length-set c.by_byte.dest next byte in
+    let n = length-set after index (next - index) in
     elim c.if-byte-eq0.branch [
       | then-byte-eq0 b ↦ (let is = b.index-is in
-          let closed = Reaches-zero _ _ _ c.by_byte.dest _ read index next _ (λ full. 0 < read + 1 → full ≡ false) (omega arith) b.if-byte-eq0.true (omega arith) (omega arith) (λ lt. refl) i.reaches in
+          let same = written _ _ _ c.by_byte.dest _ read index next byte _ (omega arith) i.reaches in
+          let closed = Reaches-zero _ _ _ after _ read index next _ (λ full. 0 < read + 1 → full ≡ false) (omega arith) b.if-byte-eq0.true (omega arith) (omega arith) (λ lt. refl) same in
           record {
             ordered = omega arith;
             open' = omega arith;
             room = omega arith;
             fits = omega arith;
-            reaches = Reaches-at refl refl (sym is) refl (λ full p. p) (Reaches-code _ _ _ coded _ (read + 1) next (next + 1) _ (λ full. 0 < read + 1 → full ≡ false) byte closed);
+            reaches = Reaches-at refl refl (sym is) refl (λ full p. p) closed;
           })
       | else-byte-eq0 b ↦ (let is = b.index-is in
-          let again = Reaches-code _ _ _ c.by_byte.dest _ read index next _ (λ full. 0 < read → full ≡ false) (next - index) i.reaches in
+          let more = joined _ _ _ c.by_byte.dest _ read index next byte _ (omega arith) i.reaches refl b.if-byte-eq0.false (omega arith) (omega arith) in
           record {
             ordered = omega arith;
             open' = omega arith;
             room = omega arith;
             fits = omega arith;
-            reaches = Reaches-at refl refl (sym is) refl (λ full p. p) (joined _ _ _ coded _ read index next byte _ (omega arith) refl b.if-byte-eq0.false (omega arith) (omega arith) again);
+            reaches = Reaches-at refl refl (sym is) refl (λ full p. p) (Reaches-code _ _ _ after _ (read + 1) index (next + 1) _ (λ full. 0 < read + 1 → full ≡ false) (next - index) more);
           })
     ]
 
