@@ -275,7 +275,7 @@ unsigned int jcobs_frame_kind(const void *bytes, size_t len) JCOBS_ACCESS(read_o
 void jcobs_decoder_reset(jcobs_decoder *decoder) JCOBS_STATE;
 
 /* Takes bytes of a stream of frames, each followed by a zero, through the zero that ends the first one. The message
- * is then at the front of the buffer until the next call; bytes after that zero aren't read: push them next. Every
+ * is then at the front of the buffer until the next call; bytes after that zero have no effect: push them next. Every
  * frame is reported once, at its zero: OK, BROKEN, or TOO_SMALL if its output is longer than the buffer. Zeros
  * between frames are skipped. A broken or oversized frame never affects the next.
  *

@@ -232,9 +232,9 @@ pub fn law_8()
         → Reads (f ++ g) (m ++ joint (last_of r.blocks) ++ k) }
 {}
 
-/// A stream that is cut in two anywhere: the outcomes of its first part, and then those of the second part after what
-/// the first left unended. What both leave unended is what the second part leaves after that. Behind a zero nothing
-/// is left; bytes without a zero have no outcome, and are all left. The pieces themselves join as the outcomes do, and
+/// A stream may be cut anywhere: it has the outcomes of its first part, and then those of the second part after what
+/// the first left unended. What both leave unended is what the second part leaves after that. Behind a zero nothing is
+/// left; bytes without a zero have no outcome, and are all left. The pieces themselves join as the outcomes do, and
 /// nonzero bytes with a zero behind them are one piece.
 ///
 /// So a receiver may be given a stream in parts of any length, as reads happen to bring it, and gets what one call over
@@ -336,11 +336,11 @@ pub fn law_11()
         → outcome_of f n ≡ Message m }
 {}
 
-/// In a stream that begins with a nonzero byte the first piece is the bytes before the first zero, and, in a buffer
-/// of the stream's length, it comes to a message exactly if it reads as that message. Zeros before the first piece
-/// are skipped: behind them the first piece ends where the next zero is, and if nothing is behind them, there is none.
-/// What is before the first zero, or before the first sentinel, is found by its end. Until a piece has ended, the last
-/// piece is what is left unended, and it still is once a zero has ended it.
+/// A stream's first piece. In a stream that begins with a nonzero byte the first piece is the bytes before the first
+/// zero, and, in a buffer of the stream's length, it comes to a message exactly if it reads as that message. Zeros
+/// before the first piece are skipped: behind them the first piece ends where the next zero is, and if nothing is
+/// behind them, there is none. What is before the first zero, or before the first sentinel, is found by its end. Until
+/// a piece has ended, the last piece is what is left unended, and it still is once a zero has ended it.
 ///
 /// So `decode`, into a buffer as long as its source, and `decode_in_place` both return an error, or both the same
 /// message.
@@ -377,7 +377,7 @@ pub fn law_12()
         → last_piece (t ++ 0 ∷ []) ≡ unended t }
 {}
 
-/// What a streaming encoder has come to: where the frame so far ends, and how the open frame of an
+/// The open frame of a streaming encoder: where the frame so far ends, and how the open frame of an
 /// [`EncoderState`](crate::EncoderState) differs from the encoded one.
 ///
 /// So the placeholder is always within the output of a caller who carries out each push result, and the frame that this

@@ -12,7 +12,7 @@ use crate::encoder::{ENCODER_START, Encoder, end_of};
 use cobs::laws::{law_1, law_2, law_13, law_16};
 use cobs::{encode_in_place, max_encoding_overhead};
 
-/// Whether a frame can have come so far in a buffer of `room` bytes.
+/// Whether this progress is possible in a buffer of `room` bytes.
 #[inline(always)]
 fn is_place(encoder: &Encoder, room: usize) -> bool
     ensures { IsTrue result ↔ IsPlaceIn room (reached_in encoder.now) }

@@ -11,8 +11,8 @@ use crate::window::{
 };
 use std::simd::prelude::*;
 
-/// Copies the first of the 32 bytes from `read` on, up to a zero, by one load and one store of a whole window for each
-/// number of them, and returns how many.
+/// Copies the first of the 32 bytes from `read` on, up to a zero, with one load and one store, however many they are,
+/// and returns how many.
 #[inline(always)]
 fn copy_window_to_zero(source: &[u8], read: usize, dest: &mut [u8], at: usize) -> usize
     requires source { read + 32 ≤ length source.now }

@@ -88,7 +88,7 @@ impl<'a> CobsDecoder<'a> {
     ///
     /// `Ok(None)`: all bytes were taken, and no piece has ended in them. `Ok(Some(report))`: a whole frame has ended;
     /// `frame_size` is the length of its message, which is at the front of the slice, and `parsed_size` counts
-    /// the bytes that were taken, the zero after the frame included. The others are not looked at: push them next.
+    /// the bytes that were taken, the zero after the frame included. The others have no effect yet: push them next.
     ///
     /// # Errors
     /// A `PushError` has the error of `feed` and how many bytes were taken, the one that raised it included.

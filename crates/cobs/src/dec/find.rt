@@ -17,7 +17,7 @@ pub(crate) fn first_of(source: &[u8], byte: u8) -> usize
 
 /// The place of the first zero of the source, or the source's length if it has none.
 ///
-/// The clause `bytes` is for a caller that writes the source afterwards, whose type says only what it holds at last.
+/// `bytes` restates that elements are below 256, for callers that later overwrite the source.
 pub(crate) fn piece_len(source: &[u8]) -> usize
     ensures within { result ≤ length source.now }
     ensures nonzero { HasNoZero (take result source.now) }

@@ -78,7 +78,7 @@ pub trait FrameDecoder {
     /// Takes bytes of the stream through the first zero that ends a piece.
     ///
     /// `None` says that no piece ended in these bytes, and that all were taken. `Some((end, count))` says that a piece
-    /// ended with the byte at index `count - 1`, and how; the bytes after it were not looked at, and those of the
+    /// ended with the byte at index `count - 1`, and how; the bytes after it had no effect, and those of the
     /// buffer after the output are as they were. A piece that is too long for the buffer ends at its zero, as every
     /// other: so no byte has to be given one by one.
     ///

@@ -12,7 +12,8 @@ use cobs_bytes::window::{WIDE_WINDOW, WINDOW, copy_nonzero, is_all, write_row};
 const FEW: usize = 4;
 
 impl UnbufferedDecoder {
-    /// Takes the code at the front where no zero joins it to anything, and returns how many bytes that is.
+    /// Takes a code that adds no zero to the output, a piece's first or one after a full block, and returns how many
+    /// bytes that is.
     #[inline(always)]
     fn take_code(&mut self, bytes: &[u8]) -> usize
         requires going { self.old.over ≡ false }

@@ -6,7 +6,7 @@ use crate::proved::cobs_abi::block::{append, fits};
 use crate::proved::cobs_abi::encoder::{ENCODER_START, Encoder, end_of};
 use crate::proved::{encode_in_place, max_encoding_overhead};
 
-/// Whether a frame can have come so far in a buffer of `room` bytes.
+/// Whether this progress is possible in a buffer of `room` bytes.
 #[inline(always)]
 fn is_place(encoder: &Encoder, room: usize) -> bool {
     if 253 < encoder.taken || room < encoder.index {

@@ -10,8 +10,8 @@ use crate::proved::cobs_bytes::window::{
 };
 use crate::simd::*;
 
-/// Copies the first of the 32 bytes from `read` on, up to a zero, by one load and one store of a whole window for each
-/// number of them, and returns how many.
+/// Copies the first of the 32 bytes from `read` on, up to a zero, with one load and one store, however many they are,
+/// and returns how many.
 #[inline(always)]
 fn copy_window_to_zero(source: &[u8], read: usize, dest: &mut [u8], at: usize) -> usize {
     let places = u8x32::from_array([

@@ -1,5 +1,5 @@
 // Made by bindings/rust/translate.py from `crates/cobs_bytes/src/window.rt`: change that file, and run it again.
-//! Windows of up to 32 bytes, in vectors: where their zeros are, copied, and written.
+//! Windows of up to 64 bytes, in vectors: where their zeros are, copied, and written.
 
 use crate::simd::*;
 

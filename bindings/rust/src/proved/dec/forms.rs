@@ -21,7 +21,7 @@ fn copy_xored(source: &[u8], dest: &mut [u8], sentinel: u8) {
 /// Decodes the blocks of a source that has no sentinel, and returns how many bytes they give.
 ///
 /// The whole blocks through each full one are decoded by one copy, and a zero at each code; if their bytes don't fit,
-/// those of them that do. Each byte after what they give stays.
+/// those of them that do. The bytes of `dest` after that stay as they were.
 fn decode_fronts(source: &[u8], dest: &mut [u8], sentinel: u8) -> Result<usize, DecodeError> {
     let mut read = 0;
     let mut written = 0;

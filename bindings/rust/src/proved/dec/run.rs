@@ -10,7 +10,8 @@ use crate::proved::dec::unbuffered::{FULL, UnbufferedDecoder};
 const FEW: usize = 4;
 
 impl UnbufferedDecoder {
-    /// Takes the code at the front where no zero joins it to anything, and returns how many bytes that is.
+    /// Takes a code that adds no zero to the output, a piece's first or one after a full block, and returns how many
+    /// bytes that is.
     #[inline(always)]
     fn take_code(&mut self, bytes: &[u8]) -> usize {
         if self.left != 0 || self.code != FULL || bytes.is_empty() || bytes[0] == 0 {

@@ -40,7 +40,7 @@ fn decode_begun(source: &[u8], dest: &mut [u8]) -> (usize, Result<usize, DecodeE
 /// message has.
 ///
 /// Zeros in front of the frame are skipped. The frame ends at the next zero or with the source, and what is after
-/// that zero isn't read. The first `frame_size` bytes of `dest` are the message, and the others are as they were.
+/// that zero has no effect. The first `frame_size` bytes of `dest` are the message, and the others are as they were.
 /// `parsed_size` counts the skipped zeros, the frame, and the zero after it where there is one.
 ///
 /// # Errors

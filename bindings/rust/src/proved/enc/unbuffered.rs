@@ -93,7 +93,7 @@ impl UnbufferedEncoder {
         *self = UnbufferedEncoder::new();
     }
 
-    /// Whether a frame that ends in a buffer of this length can have come so far.
+    /// Whether this progress is possible in a buffer of this length.
     fn is_within(&self, len: usize) -> bool {
         let EncoderProgress {
             index,
@@ -130,7 +130,7 @@ impl UnbufferedEncoder {
     /// Takes the next bytes of the message.
     ///
     /// They don't fit exactly if the encoded frame of all the bytes that were taken so far, followed by these, is
-    /// longer than the buffer, or where no frame can have come so far in a buffer of this length. Then neither the
+    /// longer than the buffer, or if the encoder's progress isn't possible in a buffer of this length. Then neither the
     /// encoder nor the buffer has changed, so the caller may end the frame, or push fewer bytes. An empty push changes
     /// nothing. The bytes of the buffer after the frame are never written.
     ///
@@ -163,7 +163,7 @@ impl UnbufferedEncoder {
     /// the encoder has taken nothing. Every byte after the frame is as it was.
     ///
     /// # Errors
-    /// `DestBufTooSmallError` where no frame can have come so far in a buffer of this length. Then neither the
+    /// `DestBufTooSmallError` if the encoder's progress isn't possible in a buffer of this length. Then neither the
     /// encoder nor the buffer has changed.
     ///
     /// ```
