@@ -461,6 +461,10 @@ CHECKSUMS = {
     "crc-16-kermit": (2, lambda data: crc(data, 16, 0x1021, 0, True, 0), "little"),
     "crc-16-arc": (2, lambda data: crc(data, 16, 0x8005, 0, True, 0), "little"),
     "crc-32c": (4, lambda data: crc(data, 32, 0x1EDC6F41, 0xFFFFFFFF, True, 0xFFFFFFFF), "little"),
+    "poly=4129,init=0x1d0f": (2, lambda data: crc(data, 16, 0x1021, 0x1D0F, False, 0), "big"),
+    "reflected,width=8,poly=0x31": (1, lambda data: crc(data, 8, 0x31, 0, True, 0), "little"),
+    "width=24,poly=0x864cfb,init=0xb704ce": (3, lambda data: crc(data, 24, 0x864CFB, 0xB704CE, False, 0), "big"),
+    "width=32,poly=0x04c11db7,init=0xffffffff,xorout=0xffffffff,reflected": (4, zlib.crc32, "little"),
 }
 
 
@@ -599,6 +603,12 @@ def wrong_words():
         ["--color", "sometimes"],
         ["--crc", "crc-7"],
         ["--crc-order", "big"],
+        ["--crc", "poly=0x10000"],
+        ["--crc", "poly=1,width=12"],
+        ["--crc", "poly=1,init=0x10000"],
+        ["--crc", "poly=1,last=2"],
+        ["--crc", "poly"],
+        ["--crc", "init=1"],
         ["send", "--crc", "crc-7"],
         ["send", "--crc-order", "big"],
     ):

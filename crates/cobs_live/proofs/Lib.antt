@@ -1,3 +1,4 @@
+pub mod TableLemmas
 pub mod TallyLemmas
 pub mod TimeLemmas
 pub mod PartLemmas

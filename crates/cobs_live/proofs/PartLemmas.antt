@@ -15,9 +15,9 @@ use Rattle.cobs.specs.Push.{last_piece}
 use Rattle.cobs.specs.Stream.{Outcome, Broken as OfBroken, TooLong as OfTooLong, but_last, ended_pieces, outcome_of, stream_outcomes, unended}
 use Rattle.cobs.specs.declared.PieceEnd.{PieceEnd}
 use Rattle.cobs.specs.declared.PieceEnd.TheVariants as ends
-use Rattle.cobs_live.specs.Crc.{body_of, is_checked}
+use Rattle.cobs_live.specs.Checksum.{body_of, is_checked}
 use Rattle.cobs_live.specs.Seen.{Ended, Seen, all_ended, ended_in, held, seen_message, seen_of, seen_piece, whole, with_part}
-use Rattle.cobs_live.specs.declared.crc.Checksum.{Checksum}
+use Rattle.cobs_live.specs.declared.checksum.Checksum.{Checksum}
 use Rattle.cobs_live.specs.declared.seen.Kind.TheVariants.{Message, BadCrc}
 
 -- THE PIECES THAT HAVE ENDED

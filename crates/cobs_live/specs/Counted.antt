@@ -2,7 +2,7 @@
 use Rattle.std.specs.Prelude.{ℕ, ◌≡◌, ◌-◌, ◌^◌, ◌==◌, min, Bool, List, length, filter, Option, is_some}
 use Rattle.cobs.specs.Stream.{Outcome}
 use Rattle.cobs_live.specs.Seen.{seen_of}
-use Rattle.cobs_live.specs.declared.crc.Checksum.{Checksum}
+use Rattle.cobs_live.specs.declared.checksum.Checksum.{Checksum}
 use Rattle.cobs_live.specs.declared.seen.Kind.{Kind}
 use Rattle.cobs_live.specs.declared.seen.Kind.TheVariants.{Message, Broken, TooLong, BadCrc}
 use Rattle.cobs_live.specs.declared.tally.Tally.{Tally}

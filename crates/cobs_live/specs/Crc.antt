@@ -1,12 +1,11 @@
--- Checksums at the end of messages, by the catalogue of parametrised CRC algorithms.
-use Rattle.std.specs.Prelude.{ℕ, zero, suc, ◌-◌, ◌*◌, ◌/◌, ◌^◌, ◌==◌, nat_lt, Bool, true, false, List, ◌++◌, length, take, reverse, Option, Some, None, if◌then◌else◌}
-use Rattle.std.specs.Int.{reverse_bits, to_le_bytes, w8, w32}
+-- Cyclic redundancy checks, by the catalogue of parametrised CRC algorithms.
+use Rattle.std.specs.Prelude.{ℕ, zero, suc, ◌≡◌, ◌<◌, ◌-◌, ◌*◌, ◌/◌, ◌^◌, nat_lt, true, false, List, get_or, if◌then◌else◌}
+use Rattle.std.specs.Int.{reverse_bits, w8, w32}
 use Rattle.std.specs.Int.Bits.{bit_xor}
-use Rattle.std.specs.List.{ends_with, fold}
+use Rattle.std.specs.List.{fold}
 use Rattle.cobs_live.specs.declared.crc.Crc.{Crc}
 use Rattle.cobs_live.specs.declared.crc.Crc.TheVariants.{Crc8, Crc16CcittFalse, Crc16Modbus, Crc16Xmodem, Crc16Kermit, Crc16Arc, Crc32c, Crc32}
 use Rattle.cobs_live.specs.declared.crc.Params.{Params}
-use Rattle.cobs_live.specs.declared.crc.Checksum.{Checksum}
 
 -- the rows of the catalogue; a register has 32 bits, and a shorter polynomial and start are in the high ones
 abbrev pub params_of : Crc → Params
@@ -40,23 +39,10 @@ register p bytes = fold (after_byte p) p.init bytes
 abbrev pub crc : Params → List ℕ → ℕ
 crc p bytes = bit_xor (if p.reflected then reverse_bits w32 (register p bytes) else register p bytes / 2 ^ (32 - 8 * p.size)) p.xorout
 
--- the bytes of a checksum, in its order
-abbrev pub in_order : Checksum → List ℕ → List ℕ
-in_order c bytes = if c.little then bytes else reverse bytes
+-- what 8 steps make of a register that has a byte in the high bits, and nothing else
+abbrev pub word_of : ℕ → ℕ → ℕ
+word_of poly byte = after_bits poly 8 (2 ^ 24 * byte)
 
--- the bytes of the checksum of a message
-abbrev pub sum_of : Checksum → List ℕ → List ℕ
-sum_of c message = in_order c (take (params_of c.crc).size (to_le_bytes w32 (crc (params_of c.crc) message)))
-
--- a message with its checksum behind it, if it is to have one
-abbrev pub with_sum : Option Checksum → List ℕ → List ℕ
-with_sum None message = message
-with_sum (Some c) message = message ++ sum_of c message
-
--- what is in front of a checksum
-abbrev pub body_of : Checksum → List ℕ → List ℕ
-body_of c bytes = take (length bytes - (params_of c.crc).size) bytes
-
--- whether the bytes end with the checksum of what is in front of it
-abbrev pub is_checked : Checksum → List ℕ → Bool
-is_checked c bytes = ends_with (λ a b. a == b) bytes (sum_of c (body_of c bytes))
+-- a table of that, by bytes
+abbrev pub IsTable : ℕ → List ℕ → Type 0
+IsTable poly words = (byte : ℕ) → byte < 256 → get_or words byte 0 ≡ word_of poly byte

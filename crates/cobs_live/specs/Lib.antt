@@ -1,3 +1,4 @@
+pub mod Checksum
 pub mod Crc
 pub mod Seen
 pub mod Timed

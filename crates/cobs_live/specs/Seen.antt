@@ -4,8 +4,8 @@ use Rattle.std.specs.Fmt.{decimal}
 use Rattle.cobs.specs.Piece.{output}
 use Rattle.cobs.specs.Stream.{Outcome, ended_pieces, outcome_of}
 use Rattle.cobs.specs.Stream.{Message as OfMessage, Broken as OfBroken, TooLong as OfTooLong}
-use Rattle.cobs_live.specs.Crc.{body_of, is_checked}
-use Rattle.cobs_live.specs.declared.crc.Checksum.{Checksum}
+use Rattle.cobs_live.specs.Checksum.{body_of, is_checked}
+use Rattle.cobs_live.specs.declared.checksum.Checksum.{Checksum}
 use Rattle.cobs_live.specs.declared.seen.Kind.{Kind}
 use Rattle.cobs_live.specs.declared.seen.Kind.TheVariants.{Message, Broken, TooLong, BadCrc}
 use Rattle.cobs_live.specs.declared.seen.Sight.{Sight}

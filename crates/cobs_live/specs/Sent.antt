@@ -5,7 +5,7 @@ use Rattle.std.specs.Io.{StopsAt}
 use Rattle.std.specs.Io.KnownBytes.{Appends, Consumes, IsAtEnd}
 use Rattle.hex.specs.Hex.{decode_of}
 use Rattle.cobs.specs.Sentinel.{IsEncodedFrameFor}
-use Rattle.cobs_live.specs.Crc.{with_sum}
+use Rattle.cobs_live.specs.Checksum.{with_sum}
 use Rattle.cobs_live.specs.declared.fault.WatchFault.{WatchFault}
 use Rattle.cobs_live.specs.declared.fault.WatchFault.TheVariants.{ReadFailed, WriteFailed, OutputClosed, OutOfMemory}
 use Rattle.cobs_live.specs.declared.send.Settings.{Settings}

@@ -5,6 +5,7 @@
 #![tactic(auto)]
 
 pub mod capture;
+pub mod checksum;
 pub mod clock;
 pub mod crc;
 mod dump;

@@ -3,12 +3,12 @@ ghost use Rattle.std.specs.Prelude.{◌≡◌, ◌≢◌, ◌↔◌, List, [], O
 ghost use Rattle.std.specs.Io.Buffered.{writer_buffer, writer_inner};
 ghost use Rattle.std.specs.Io.KnownBytes.{Appends, Keeps};
 ghost use Rattle.hex.specs.Hex.{decode_of};
-ghost use Rattle.cobs_live.specs.Crc.{with_sum};
+ghost use Rattle.cobs_live.specs.Checksum.{with_sum};
 ghost use Rattle.cobs_live.specs.Sent.{HasSent, HoldsFrames, IsSendable, IsSent, SendsAs, SendsMessage, SendsText, digits_of, is_digit, text_of};
 ghost use Rattle.cobs_live.specs.Reads.{IsLive};
 ghost use Rattle.cobs_live.specs.Watched.{IsFlushed};
 
-use crate::crc::Checksum;
+use crate::checksum::Checksum;
 use crate::fault::WatchFault;
 use crate::input::LiveLines;
 use cobs::encode_vec_with_sentinel;
@@ -17,7 +17,7 @@ use std::alloc::{AllocError, Global};
 use std::io::{BufWriter, Write};
 
 /// How lines are sent.
-#[derive(Debug, PartialEq, Eq, Clone, Copy)]
+#[derive(Debug, PartialEq, Eq, Drop)]
 pub struct Settings {
     /// Whether a line is the hexadecimal digits of a message, and not the message itself.
     pub hex: bool,
@@ -173,7 +173,7 @@ fn send_message<W: Write + Drop>(
         → Keeps (W.contents (writer_inner output.old)) (W.contents (writer_inner output.new))) }
     ensures flushed { IsFlushed result (writer_buffer output.new) }
 {
-    let bytes = summed_frame(alloc, settings.sentinel, settings.checksum, message)?;
+    let bytes = summed_frame(alloc, settings.sentinel, &settings.checksum, message)?;
     output.write_all(&bytes)?;
     output.flush()?;
     Ok(())
@@ -183,10 +183,10 @@ fn send_message<W: Write + Drop>(
 fn summed_frame(
     alloc: Global,
     sentinel: u8,
-    checksum: Option<Checksum>,
+    checksum: &Option<Checksum>,
     message: &[u8],
 ) -> Result<Vec<u8>, AllocError>
-    ensures frame { IfOk result (λ bytes. IsSent sentinel (with_sum checksum message.now) bytes.items) }
+    ensures frame { IfOk result (λ bytes. IsSent sentinel (with_sum checksum.now message.now) bytes.items) }
 {
     let Some(checksum) = checksum else {
         return ended_frame(alloc, sentinel, message);
@@ -196,8 +196,8 @@ fn summed_frame(
 }
 
 /// A message with its checksum behind it.
-fn with_sum(alloc: Global, checksum: Checksum, message: &[u8]) -> Result<Vec<u8>, AllocError>
-    ensures sum { IfOk result (λ whole. whole.items ≡ with_sum (Some checksum) message.now) }
+pub fn with_sum(alloc: Global, checksum: &Checksum, message: &[u8]) -> Result<Vec<u8>, AllocError>
+    ensures sum { IfOk result (λ whole. whole.items ≡ with_sum (Some checksum.now) message.now) }
 {
     let mut whole = Vec::new(alloc);
     whole.extend_from_slice(message)?;

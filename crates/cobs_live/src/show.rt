@@ -281,7 +281,7 @@ fn show_bytes<W: Write>(
     law_12();
     let mut at = 0;
     'by_piece: while let Some((end, count)) = decoder.feed_piece(message, &bytes[at..]) {
-        let piece = sight_of(view.checksum, end, message);
+        let piece = sight_of(&view.checksum, end, message);
         tally.count_piece(piece.kind);
         let time = clock.next(view.stamp);
         let piece = with_part(view.partial, &piece, message);

@@ -1,12 +1,15 @@
 //! What is shown of a stream, and in which style.
-ghost use Rattle.std.specs.Prelude.{◌≡◌, OnOk, length};
+ghost use Rattle.std.specs.Prelude.{◌≡◌, OnOk, length, List, ℕ, Some};
 ghost use Rattle.std.specs.Io.KnownBytes.{Appends};
 ghost use Rattle.cobs.specs.FeedPiece.{IsWithin, outcome_at};
+ghost use Rattle.cobs_live.specs.Checksum.{with_sum};
+ghost use Rattle.cobs_live.specs.declared.checksum.Checksum.{Checksum};
+ghost use Rattle.cobs_live.specs.declared.seen.Kind.TheVariants.{Message};
 ghost use Rattle.cobs_live.specs.Seen.{held, seen_in, seen_message, seen_of, whole, with_part};
 ghost use Rattle.cobs_live.specs.Shown.{has_kind, in_front, in_view, passes, shown_end};
 
+use crate::checksum::Checksum;
 use crate::clock::{Stamp, write_stamp};
-use crate::crc::Checksum;
 use crate::line::write_line;
 use crate::seen::{Kind, Sight};
 use cobs::PieceEnd;
@@ -106,9 +109,9 @@ pub struct Settings {
 }
 
 /// A piece that ended so, over the buffer that it left; each message is to end with such a checksum.
-pub fn sight_of(checksum: Option<Checksum>, end: PieceEnd, buffer: &[u8]) -> Sight<'_>
+pub fn sight_of<'a>(checksum: &Option<Checksum>, end: PieceEnd, buffer: &'a [u8]) -> Sight<'a>
     requires within { IsWithin (length buffer.now) end }
-    ensures seen { seen_in result ≡ seen_of checksum (outcome_at end buffer.now) }
+    ensures seen { seen_in result ≡ seen_of checksum.now (outcome_at end buffer.now) }
 {
     match end {
         PieceEnd::Message(len) => message_sight(checksum, &buffer[..len]),
@@ -126,8 +129,8 @@ pub fn sight_of(checksum: Option<Checksum>, end: PieceEnd, buffer: &[u8]) -> Sig
 }
 
 /// A message that is to end with such a checksum.
-fn message_sight(checksum: Option<Checksum>, message: &[u8]) -> Sight<'_>
-    ensures seen { seen_in result ≡ seen_message checksum message.now }
+fn message_sight<'a>(checksum: &Option<Checksum>, message: &'a [u8]) -> Sight<'a>
+    ensures seen { seen_in result ≡ seen_message checksum.now message.now }
 {
     let Some(checksum) = checksum else {
         return whole(Kind::Message, message);
@@ -137,6 +140,14 @@ fn message_sight(checksum: Option<Checksum>, message: &[u8]) -> Sight<'_>
         None => whole(Kind::BadCrc, message),
     }
 }
+
+/// What is sent with a checksum is shown as it was: a message with its checksum behind it is seen as that message. (A law:
+/// this function does nothing when it runs.)
+pub fn sum_law()
+    ensures back { (checksum : Checksum) (message : List ℕ)
+        → seen_message (Some checksum) (with_sum (Some checksum) message)
+        ≡ whole Message message }
+{}
 
 /// A piece of this kind, all of whose bytes are shown.
 fn whole(kind: Kind, bytes: &[u8]) -> Sight<'_>

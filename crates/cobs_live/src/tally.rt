@@ -2,7 +2,7 @@
 ghost use Rattle.cobs.specs.Stream.{Outcome};
 ghost use Rattle.cobs_live.specs.Counted.{IsTallyOf};
 ghost use Rattle.cobs_live.specs.Seen.{seen_of};
-ghost use Rattle.cobs_live.specs.declared.crc.Checksum.{Checksum};
+ghost use Rattle.cobs_live.specs.declared.checksum.Checksum.{Checksum};
 
 use crate::seen::Kind;
 use std::fmt;

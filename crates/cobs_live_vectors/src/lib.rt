@@ -3,5 +3,6 @@
 #![tactic(auto)]
 
 pub mod recorder;
+pub mod sent_back;
 #[cfg(test)]
 mod tests;

@@ -4,8 +4,9 @@ mod faults;
 mod live;
 mod send;
 
+use cobs_live::checksum::Checksum;
 use cobs_live::clock::{Stamp, Timer};
-use cobs_live::crc::{Checksum, Crc};
+use cobs_live::crc::Crc;
 use cobs_live::input::AnyInput;
 use cobs_live::show::run_show;
 use cobs_live::shown::{Filter, Settings, Style, View};
@@ -369,10 +370,7 @@ fn each_piece_has_its_time(rt: HostRuntime) -> Result<(), Fail> {
 fn a_right_checksum_is_stripped_and_a_wrong_one_named(rt: HostRuntime) -> Result<(), Fail> {
     let alloc = rt.alloc();
     let mut how = settings(alloc, Style::Hex, Stamp::Untimed);
-    how.view.checksum = Some(Checksum {
-        crc: Crc::Crc8,
-        little: false,
-    });
+    how.view.checksum = Some(Checksum::new(Crc::Crc8.params(), false));
     // The digits 1 to 3 and their checksum, with a wrong one, and a message too short to have one.
     let mut input = AnyInput::new(b"\x05123\xC0\x00\x05123\xC1\x00\x01\x00".as_slice());
     let mut output = BufWriter::new(alloc, Vec::new(alloc))?;

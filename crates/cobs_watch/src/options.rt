@@ -19,17 +19,11 @@ const MAX_SECONDS: u64 = 4_294_967_295;
 /// The length in bytes of the longest message, where none is asked for.
 const LENGTH: &str = "65536";
 
-/// The names of checksums.
-const CRCS: [&str; 8] = [
-    "crc-8",
-    "crc-16-ccitt-false",
-    "crc-16-modbus",
-    "crc-16-xmodem",
-    "crc-16-kermit",
-    "crc-16-arc",
-    "crc-32",
-    "crc-32c",
-];
+/// What help says of the checksum.
+const CRC_HELP: &str =
+    "The checksum at the end of each message: crc-8, crc-16-ccitt-false, crc-16-modbus, \
+    crc-16-xmodem, crc-16-kermit, crc-16-arc, crc-32, crc-32c, or its parameters, \
+    as poly=0x1021,init=0xffff with width=32, xorout=N and reflected where they are so";
 
 /// The kinds of pieces.
 const KINDS: [&str; 5] = ["message", "broken", "too-long", "bad-crc", "unfinished"];
@@ -96,7 +90,7 @@ pub(crate) fn task_of(alloc: Global, words: &[String], auto_color: bool) -> Resu
         .after_help(SEND_EXAMPLES)
         .arg(digits)?
         .arg(sentinel_option(alloc))?;
-    let send = with_checksum(alloc, send, "Append this checksum to each message")?;
+    let send = with_checksum(alloc, send)?;
     let command = with_show_options(alloc, Command::new(alloc, "cobs_watch"))?
         .about("Watch COBS frames on a live line")
         .version(VERSION)
@@ -107,7 +101,7 @@ pub(crate) fn task_of(alloc: Global, words: &[String], auto_color: bool) -> Resu
     if let Some(sent) = matches.subcommand_matches("send") {
         return Ok(Task::Send(send::Settings {
             hex: sent.get_flag("hex"),
-            checksum: checksum_of(sent),
+            checksum: checksum_of(alloc, sent)?,
             sentinel: sentinel_of(alloc, sent)?,
         }));
     }
@@ -148,7 +142,7 @@ fn with_show_options<'a>(alloc: Global, command: Command<'a>) -> Result<Command<
         .arg(time_option(alloc)?)?
         .arg(color_option(alloc))?;
     let command = with_filters(alloc, command.next_help_heading("Filters"))?;
-    let command = with_checksum(alloc, command, "The checksum at the end of each message")?;
+    let command = with_checksum(alloc, command)?;
     let command = command
         .after_help(SHOW_EXAMPLES)
         .next_help_heading("The stream")
@@ -246,24 +240,19 @@ fn stamp_of(matches: &ArgMatches<'_>) -> Stamp {
     }
 }
 
-/// The command with the options of the checksum of messages; the text is what help says of it.
-fn with_checksum<'a>(
-    alloc: Global,
-    command: Command<'a>,
-    help: &'a str,
-) -> Result<Command<'a>, Error> {
+/// The command with the options of the checksum of messages.
+fn with_checksum<'a>(alloc: Global, command: Command<'a>) -> Result<Command<'a>, Error> {
     let crc = Arg::new(alloc, "crc")
         .long("crc")
-        .value_name("NAME")
-        .value_parser(CRCS.as_slice())
-        .help(help);
+        .value_name("CHECK")
+        .help(CRC_HELP);
     let order = Arg::new(alloc, "crc-order")
         .long("crc-order")
         .value_name("ORDER")
         .value_parser(["big", "little"].as_slice())
         .requires_arg("crc")?
         .help(
-            "Its first byte: the highest (big; crc-8, -ccitt-false, -xmodem) or the lowest (little; the others)",
+            "Its first byte: the highest (big) or the lowest (little, as without this where it is reflected)",
         );
     let command = command.next_help_heading("Checksums");
     Ok(command.arg(crc)?.arg(order)?)
@@ -378,7 +367,7 @@ fn show_task(alloc: Global, matches: &ArgMatches<'_>, auto_color: bool) -> Resul
                 number: matches.get_flag("number"),
                 stamp: stamp_of(matches),
                 filter: filter_of(alloc, matches)?,
-                checksum: checksum_of(matches),
+                checksum: checksum_of(alloc, matches)?,
                 partial: matches.get_flag("partial"),
             },
             length: length.min(MAX_LENGTH) as usize,

@@ -1,8 +1,10 @@
 //! The values of options.
+ghost use Rattle.std.specs.Prelude.{◌<◌, ◌≤◌, IfOk, IfSome};
 
 use clap::error::ErrorKind;
 use clap::{ArgMatches, Command, Error};
-use cobs_live::crc::{Checksum, Crc};
+use cobs_live::checksum::Checksum;
+use cobs_live::crc::{Crc, Params};
 use cobs_live::shown::Filter;
 use std::alloc::Global;
 
@@ -24,18 +26,22 @@ pub(crate) fn number_of(
     let Some(text) = matches.get_str(name) else {
         return Ok(None);
     };
-    let number = match text.strip_prefix("0x") {
-        Some(digits) => u64::from_str_radix(digits, 16),
-        None => text.parse::<u64>(),
-    };
-    match number {
-        Ok(number) if number <= max => Ok(Some(number)),
-        Ok(_) | Err(_) => Err(wrong(
+    match parsed(text) {
+        Some(number) if number <= max => Ok(Some(number)),
+        Some(_) | None => Err(wrong(
             alloc,
             &format!(in alloc;
                 "the value '{text}' of '--{name}' isn't a number from 0 to {max}, decimal or behind 0x"
             )?,
         )?),
+    }
+}
+
+/// The number that a text is, decimal or behind `0x` hexadecimal.
+fn parsed(text: &str) -> Option<u64> {
+    match text.strip_prefix("0x") {
+        Some(digits) => u64::from_str_radix(digits, 16).ok(),
+        None => text.parse::<u64>().ok(),
     }
 }
 
@@ -46,22 +52,139 @@ pub(crate) fn sentinel_of(alloc: Global, matches: &ArgMatches<'_>) -> Result<u8,
 }
 
 /// The checksum that was asked for, if any.
-pub(crate) fn checksum_of(matches: &ArgMatches<'_>) -> Option<Checksum> {
-    let crc = match matches.get_str("crc")? {
-        "crc-8" => Crc::Crc8,
-        "crc-16-ccitt-false" => Crc::Crc16CcittFalse,
-        "crc-16-modbus" => Crc::Crc16Modbus,
-        "crc-16-xmodem" => Crc::Crc16Xmodem,
-        "crc-16-kermit" => Crc::Crc16Kermit,
-        "crc-16-arc" => Crc::Crc16Arc,
-        "crc-32c" => Crc::Crc32c,
-        _ => Crc::Crc32,
+///
+/// # Errors
+/// An error that names a part that isn't a parameter, where there is no checksum of that name.
+pub(crate) fn checksum_of(
+    alloc: Global,
+    matches: &ArgMatches<'_>,
+) -> Result<Option<Checksum>, Error> {
+    let Some(text) = matches.get_str("crc") else {
+        return Ok(None);
     };
+    let params = params_of(alloc, text)?;
     let little = match matches.get_str("crc-order") {
         Some(order) => order == "little",
-        None => !matches!(crc, Crc::Crc8 | Crc::Crc16CcittFalse | Crc::Crc16Xmodem),
+        None => params.reflected,
     };
-    Some(Checksum { crc, little })
+    Ok(Some(Checksum::new(params, little)))
+}
+
+/// The check that has this name.
+fn crc_of(name: &str) -> Option<Crc> {
+    match name {
+        "crc-8" => Some(Crc::Crc8),
+        "crc-16-ccitt-false" => Some(Crc::Crc16CcittFalse),
+        "crc-16-modbus" => Some(Crc::Crc16Modbus),
+        "crc-16-xmodem" => Some(Crc::Crc16Xmodem),
+        "crc-16-kermit" => Some(Crc::Crc16Kermit),
+        "crc-16-arc" => Some(Crc::Crc16Arc),
+        "crc-32c" => Some(Crc::Crc32c),
+        "crc-32" => Some(Crc::Crc32),
+        _ => None,
+    }
+}
+
+/// The parameters of a check as they are written, which are those of the catalogue.
+#[derive(Drop)]
+struct Written {
+    width: u64,
+    poly: u64,
+    init: u64,
+    xorout: u64,
+    reflected: bool,
+}
+
+impl Written {
+    /// Takes a parameter, as `poly=0x1021`, and returns whether it is one.
+    fn take(&mut self, part: &str) -> bool {
+        if part == "reflected" {
+            self.reflected = true;
+            return true;
+        }
+        let Some((name, value)) = part.split_once('=') else {
+            return false;
+        };
+        let Some(number) = parsed(value) else {
+            return false;
+        };
+        match name {
+            "width" => self.width = number,
+            "poly" => self.poly = number,
+            "init" => self.init = number,
+            "xorout" => self.xorout = number,
+            _ => return false,
+        }
+        true
+    }
+}
+
+/// The check that has this name, or these parameters, as `poly=0x1021,init=0xffff`.
+fn params_of(alloc: Global, text: &str) -> Result<Params, Error>
+    ensures sized { IfOk result (λ params. (0 < params.size) × (params.size ≤ 4)) }
+{
+    if let Some(crc) = crc_of(text) {
+        return Ok(crc.params());
+    }
+    let mut written = Written {
+        width: 16,
+        poly: 0,
+        init: 0,
+        xorout: 0,
+        reflected: false,
+    };
+    for part in text.split(',') {
+        if !written.take(part) {
+            return Err(wrong(
+                alloc,
+                &format!(in alloc;
+                    "'{part}' of '--crc' is neither the name of a checksum nor poly=N, width=N, init=N, xorout=N or reflected"
+                )?,
+            )?);
+        }
+    }
+    match sized(&written) {
+        Some(params) => Ok(params),
+        None => Err(wrong(
+            alloc,
+            "'--crc' needs a poly above 0 and a width of 8, 16, 24 or 32 bits, in which poly, init and xorout fit",
+        )?),
+    }
+}
+
+/// The parameters as they are looked up, if they fit in their width.
+fn sized(written: &Written) -> Option<Params>
+    ensures sized { IfSome result (λ params. (0 < params.size) × (params.size ≤ 4)) }
+{
+    let size = size_of(written.width)?;
+    let spare = 32 - 8 * size;
+    let poly = u32::try_from(written.poly).ok()?;
+    let init = u32::try_from(written.init).ok()?;
+    let xorout = u32::try_from(written.xorout).ok()?;
+    let max = u32::MAX >> spare;
+    if poly == 0 || poly > max || init > max || xorout > max {
+        return None;
+    }
+    Some(Params {
+        size,
+        poly: poly << spare,
+        init: init << spare,
+        reflected: written.reflected,
+        xorout,
+    })
+}
+
+/// How many bytes a checksum of this many bits has.
+fn size_of(width: u64) -> Option<usize>
+    ensures sized { IfSome result (λ size. (0 < size) × (size ≤ 4)) }
+{
+    match width {
+        8 => Some(1),
+        16 => Some(2),
+        24 => Some(3),
+        32 => Some(4),
+        _ => None,
+    }
 }
 
 /// The filter that was asked for.

@@ -1,9 +1,13 @@
 //! What lines are sent as, and checksums.
 
-use super::{SENT, reader};
-use cobs_live::crc::{Checksum, Crc};
+use super::{SENT, SILENT, reader, settings, timer};
+use cobs_live::checksum::Checksum;
+use cobs_live::clock::Stamp;
+use cobs_live::crc::Crc;
 use cobs_live::input::AnyInput;
 use cobs_live::send::{self, run_send};
+use cobs_live::show::run_show;
+use cobs_live::shown::Style;
 use std::io::{BufReader, BufWriter, ErrorKind};
 use std::test::Fail;
 
@@ -47,10 +51,7 @@ fn a_checksum_is_behind_each_line(rt: HostRuntime) -> Result<(), Fail> {
     let alloc = rt.alloc();
     let how = send::Settings {
         hex: false,
-        checksum: Some(Checksum {
-            crc: Crc::Crc16Modbus,
-            little: true,
-        }),
+        checksum: Some(Checksum::new(Crc::Crc16Modbus.params(), true)),
         sentinel: 0,
     };
     let mut input = AnyInput::new(b"123456789\n\n".as_slice());
@@ -67,10 +68,47 @@ fn a_checksum_is_behind_each_line(rt: HostRuntime) -> Result<(), Fail> {
 #[test]
 fn checksums_are_those_of_the_catalogue(rt: HostRuntime) -> Result<(), Fail> {
     for (crc, bytes) in SUMS {
-        let highest_first = Checksum { crc, little: false };
+        let highest_first = Checksum::new(crc.params(), false);
         let mut room = [0; 4];
         assert_eq!(rt; &*highest_first.sum(b"123456789", &mut room), bytes);
         assert!(rt; highest_first.checked(bytes).is_none());
+    }
+    Ok(())
+}
+
+#[test]
+fn what_is_sent_with_a_checksum_is_shown_without_it(rt: HostRuntime) -> Result<(), Fail> {
+    let alloc = rt.alloc();
+    for (crc, _) in SUMS {
+        for little in [false, true] {
+            let mut sent = BufWriter::new(alloc, Vec::new(alloc))?;
+            let how = send::Settings {
+                hex: false,
+                checksum: Some(Checksum::new(crc.params(), little)),
+                sentinel: 0,
+            };
+            let mut lines = AnyInput::new(b"ping\n\n".as_slice());
+            let done = run_send(alloc, &how, &mut lines, &mut sent, &mut Vec::new(alloc));
+            assert_eq!(rt; done, Ok(true));
+            let mut how = settings(alloc, Style::Text, Stamp::Untimed);
+            how.length = 8;
+            how.view.checksum = Some(Checksum::new(crc.params(), little));
+            let mut shown = BufWriter::new(alloc, Vec::new(alloc))?;
+            let done = run_show(
+                alloc,
+                &how,
+                SILENT,
+                &timer(Stamp::Untimed)?,
+                &mut AnyInput::new(sent.get_ref().as_slice()),
+                &mut shown,
+                &mut Vec::new(alloc),
+            );
+            assert!(rt; done.is_ok());
+            assert_eq!(rt;
+                shown.get_ref().as_slice(),
+                b"message 4 ping\nmessage 0\n".as_slice()
+            );
+        }
     }
     Ok(())
 }

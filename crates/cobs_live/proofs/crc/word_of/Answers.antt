@@ -1,6 +1,6 @@
 use Rattle.std.proofs.Common.{rules, add-one}
 use Rattle.cobs_live.specs.Crc.{after_bits}
-use Rattle.cobs_live.proofs.crc.Params.after_byte.Goals as goal
+use Rattle.cobs_live.proofs.crc.word_of.Goals as goal
 
 pub by_bit-init : goal.by_bit-init
 unfolding after_bits

@@ -4,36 +4,25 @@ use Rattle.std.proofs.lemmas.Bool.Decides.{Decides-eqb}
 use Rattle.std.proofs.lemmas.Slice.Eq.{ends_is}
 use Rattle.std.specs.Prelude.{if◌then◌else◌}
 use Rattle.std.specs.Int.{to_le_bytes, w32}
-use Rattle.cobs_live.specs.Crc.{body_of, crc, is_checked, params_of, sum_of, with_sum}
+use Rattle.cobs_live.specs.Checksum.{body_of, is_checked, sum_of, with_sum}
+use Rattle.cobs_live.specs.Crc.{crc}
 use Rattle.cobs_live.specs.Seen.{whole}
-use Rattle.cobs_live.specs.declared.crc.Checksum.{Checksum}
-use Rattle.cobs_live.specs.declared.crc.Crc.{Crc}
-use Rattle.cobs_live.specs.declared.crc.Crc.TheVariants.{Crc8, Crc16CcittFalse, Crc16Modbus, Crc16Xmodem, Crc16Kermit, Crc16Arc, Crc32c, Crc32}
+use Rattle.cobs_live.specs.declared.checksum.Checksum.{Checksum}
 use Rattle.cobs_live.specs.declared.seen.Kind.TheVariants.{Message, BadCrc}
-use Rattle.cobs_live.proofs.crc.sum_law.Goals as goal
-
-small : (c : Crc) → (params_of c).size ≤ 4
-small Crc8 = omega arith
-small Crc16CcittFalse = omega arith
-small Crc16Modbus = omega arith
-small Crc16Xmodem = omega arith
-small Crc16Kermit = omega arith
-small Crc16Arc = omega arith
-small Crc32c = omega arith
-small Crc32 = omega arith
+use Rattle.cobs_live.proofs.shown.sum_law.Goals as goal
 
 ordered : (little : Bool) (bytes : List ℕ) → length (if little then bytes else reverse bytes) ≡ length bytes
 ordered true bytes = refl
 ordered false bytes = length-reverse bytes
 
-length-sum : (c : Checksum) (message : List ℕ) → length (sum_of c message) ≡ (params_of c.crc).size
+length-sum : (c : Checksum) (message : List ℕ) → length (sum_of c message) ≡ c.params.size
 length-sum c message =
-    ordered c.little (take (params_of c.crc).size (to_le_bytes w32 (crc (params_of c.crc) message)))
-    ∙ length-take-le (params_of c.crc).size (to_le_bytes w32 (crc (params_of c.crc) message)) (small c.crc)
+    ordered c.little (take c.params.size (to_le_bytes w32 (crc c.params message)))
+    ∙ length-take-le c.params.size (to_le_bytes w32 (crc c.params message)) (c.sized.1)
 
 body-back : (c : Checksum) (message : List ℕ) → body_of c (with_sum (Some c) message) ≡ message
 body-back c message =
-    let size : length (message ++ sum_of c message) - (params_of c.crc).size ≡ length message = omega (arith, length-append message (sum_of c message), length-sum c message) in
+    let size : length (message ++ sum_of c message) - c.params.size ≡ length message = omega (arith, length-append message (sum_of c message), length-sum c message) in
     ap (λ (k : ℕ). take k (message ++ sum_of c message)) size ∙ take-append-le (length message) message (sum_of c message) (omega arith) ∙ take_all (length message) message (omega arith)
 
 checked-back : (c : Checksum) (message : List ℕ) → is_checked c (with_sum (Some c) message) ≡ true

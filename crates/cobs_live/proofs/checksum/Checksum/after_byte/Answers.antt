@@ -1,0 +1,28 @@
+use Rattle.std.proofs.Common.{rules, ◌≡◌, ◌<◌, ◌≤◌, ℕ, ◌+◌, ◌-◌, ◌*◌, ◌/◌, ◌%◌, arith, ap, sym, ◌∙◌}
+use Rattle.std.specs.Prelude.{◌^◌, if◌then◌else◌}
+use Rattle.std.specs.Int.{reverse_bits, w8}
+use Rattle.std.specs.Int.Bits.{bit_xor}
+use Rattle.std.proofs.lemmas.Nat.{xor_lt}
+use Rattle.cobs_live.specs.Crc.{after_bits, after_byte}
+use Rattle.cobs_live.proofs.TableLemmas.{table_step}
+use Rattle.cobs_live.proofs.checksum.Checksum.after_byte.Goals as goal
+use Rattle.cobs_live.proofs.checksum.Checksum.after_byte.Goals.{then-self, else-self}
+
+pub returns : goal.returns
+returns c =
+    let at : ℕ = bit_xor (c.args.register / 2 ^ 24) c.if-self.first in
+    let first : c.if-self.first < 2 ^ 8 = elim c.if-self.branch [
+      | then-self w ↦ omega arith
+      | else-self w ↦ omega arith
+    ] in
+    let in_order : (if c.args.self.now.params.reflected then reverse_bits w8 c.args.byte else c.args.byte) ≡ c.if-self.first = elim c.if-self.branch [
+      | then-self w ↦ rw w.if-self.true (cc)
+      | else-self w ↦ rw w.if-self.false (cc)
+    ] in
+    let poly : c.args.self.now.params.poly < 2 ^ 32 = search rules in
+    let within : at < 2 ^ 8 = xor_lt 8 (c.args.register / 2 ^ 24) c.if-self.first (omega arith) first in
+    record {
+      after = ap (λ (word : ℕ). bit_xor word (c.args.register * 2 ^ 8 % 2 ^ 32)) (c.args.self.now.table at within)
+          ∙ table_step c.args.self.now.params.poly c.args.register c.if-self.first poly (omega arith) first
+          ∙ ap (λ (first : ℕ). after_bits c.args.self.now.params.poly 8 (bit_xor c.args.register (2 ^ 24 * first))) (sym in_order);
+    }

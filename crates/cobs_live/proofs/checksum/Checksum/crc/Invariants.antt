@@ -1,0 +1,6 @@
+use Rattle.std.proofs.Common.{◌≡◌, take}
+use Rattle.cobs_live.specs.Crc.{register}
+use Rattle.cobs_live.proofs.checksum.Checksum.crc.Given as goal
+
+abbrev pub invariant-by_byte : goal.invariant-by_byte
+invariant-by_byte l = l.register ≡ register l.self.params (take l.byte-index l.bytes)

@@ -1,6 +1,0 @@
-use Rattle.std.proofs.Common.{◌≡◌, take}
-use Rattle.cobs_live.specs.Crc.{register}
-use Rattle.cobs_live.proofs.crc.Params.crc.Given as goal
-
-abbrev pub invariant-by_byte : goal.invariant-by_byte
-invariant-by_byte l = l.register ≡ register l.self (take l.byte-index l.bytes)

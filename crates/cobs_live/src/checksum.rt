@@ -1,0 +1,94 @@
+//! Checksums at the end of messages.
+ghost use Rattle.std.specs.Prelude.{◌≡◌, ◌↔◌, ◌<◌, ◌≤◌, IfSome, IsSome, IsTrue};
+ghost use Rattle.cobs_live.specs.Crc.{IsTable, after_byte, crc};
+
+use crate::crc::{Params, table_of};
+
+/// A cyclic redundancy check that follows each message, and in which order its bytes do.
+#[derive(Debug, PartialEq, Eq, Drop)]
+pub struct Checksum {
+    pub params: Params,
+
+    /// Whether the lowest byte comes first, and not the highest.
+    pub little: bool,
+
+    /// What each byte makes of a register. `--crc crc-16-modbus` of telemetry pays for it: bit by bit a byte takes 54
+    /// instructions, by the table 24.
+    words: [u32; 256],
+
+    ghost sized: { (0 < params.size) × (params.size ≤ 4) },
+    ghost table: { IsTable params.poly words },
+}
+
+impl Checksum {
+    ghost use Rattle.cobs_live.specs.Checksum.{body_of, is_checked, sum_of};
+
+    /// The check with these parameters.
+    pub fn new(params: Params, little: bool) -> Self
+        requires sized { (0 < params.size) × (params.size ≤ 4) }
+        ensures params { result.params ≡ params }
+        ensures order { result.little ≡ little }
+    {
+        let words = table_of(params.poly);
+        Checksum {
+            params,
+            little,
+            words,
+        }
+    }
+
+    /// The check of some bytes.
+    fn crc(&self, bytes: &[u8]) -> u32
+        ensures crc { result ≡ crc self.now.params bytes.now }
+    {
+        let params = self.params;
+        let mut register = params.init;
+        'by_byte: for byte in bytes {
+            register = self.after_byte(register, *byte);
+        }
+        let low = if params.reflected {
+            register.reverse_bits()
+        } else {
+            register >> (32 - 8 * params.size)
+        };
+        low ^ params.xorout
+    }
+
+    /// The register after a byte more.
+    fn after_byte(&self, register: u32, byte: u8) -> u32
+        ensures after { result ≡ after_byte self.now.params register byte }
+    {
+        let first = if self.params.reflected {
+            byte.reverse_bits()
+        } else {
+            byte
+        };
+        let top = (register >> 24) as u8;
+        self.words[(top ^ first) as usize] ^ (register << 8)
+    }
+
+    /// The bytes of the checksum of a message, at the front of `room`.
+    pub fn sum<'a>(&self, message: &[u8], room: &'a mut [u8; 4]) -> &'a [u8]
+        ensures sum { result.now ≡ sum_of self.now message.now }
+    {
+        *room = self.crc(message).to_le_bytes();
+        let bytes = &mut room[..self.params.size];
+        if !self.little {
+            bytes.reverse();
+        }
+        bytes
+    }
+
+    /// What is in front of the checksum at the end of the bytes, if that is right.
+    pub fn checked<'a>(&self, bytes: &'a [u8]) -> Option<&'a [u8]>
+        ensures body { IfSome result (λ body. body.now ≡ body_of self.now bytes.now) }
+        ensures right { IsSome result ↔ IsTrue (is_checked self.now bytes.now) }
+    {
+        let body = &bytes[..bytes.len().saturating_sub(self.params.size)];
+        if bytes.ends_with(self.sum(body, &mut [0; 4])) {
+            Some(body)
+        } else {
+            None
+        }
+    }
+}
