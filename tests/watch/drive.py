@@ -609,6 +609,8 @@ def wrong_words():
         ["--crc", "poly=1,last=2"],
         ["--crc", "poly"],
         ["--crc", "init=1"],
+        ["--reconnect"],
+        ["--reconnect", "--count"],
         ["send", "--crc", "crc-7"],
         ["send", "--crc-order", "big"],
     ):
@@ -632,7 +634,7 @@ TOPICS = {
     "Styles": ["--text", "--raw", "--hexdump", "--json", "--bytes", "--pcap", "--partial", "--number", "--time", "--color"],
     "Filters": ["--only", "--min", "--max", "--prefix"],
     "Checksums": ["--crc", "--crc-order"],
-    "The stream": ["--length", "--sentinel", "--skip-first", "--count", "--count-every", "--log"],
+    "The stream": ["--length", "--sentinel", "--skip-first", "--count", "--count-every", "--reconnect", "--log"],
 }
 SEND_TOPICS = {"Options": ["--hex", "--sentinel", "--help"], "Checksums": ["--crc", "--crc-order"]}
 

@@ -65,6 +65,48 @@ def a_fifo(room):
 
 
 @part
+def a_fifo_whose_writers_come_and_go(room):
+    path = room / "line"
+    os.mkfifo(path)
+    with start(["--reconnect", "--count", path]) as watch:
+        for _ in range(3):
+            path.write_bytes(FRAME)
+            same(watch.stdout.readline(), SHOWN)
+            time.sleep(0.1)
+        watch.stdout.close()
+        path.write_bytes(FRAME)
+        # Each of the three hang-ups gave a sentinel.
+        same((watch.stderr.read().decode(), watch.wait(60)), (COUNTED.format(4, 4 * len(FRAME) + 3), 0))
+
+
+def plug(path):
+    """A pseudo-terminal that has this path."""
+    master, slave = pty.openpty()
+    tty.setraw(slave)
+    path.symlink_to(os.ttyname(slave))
+    return master, slave
+
+
+@part
+def a_device_that_goes_and_comes_back(room):
+    path = room / "line"
+    master, slave = plug(path)
+    with start(["--reconnect", "--number", path]) as watch:
+        for number in (1, 3, 5):
+            os.write(master, FRAME + FRAME[:3])
+            same(watch.stdout.readline(), b"%d " % number + SHOWN)
+            path.unlink()
+            os.close(slave)
+            os.close(master)
+            same(watch.stdout.readline(), b"%d broken 2\n" % (number + 1))
+            time.sleep(0.3)
+            master, slave = plug(path)
+        watch.kill()
+    os.close(slave)
+    os.close(master)
+
+
+@part
 def counts_and_a_reason_after_a_hang_up(_room):
     master, slave = pty.openpty()
     tty.setraw(slave)

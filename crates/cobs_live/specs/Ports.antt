@@ -1,5 +1,6 @@
 -- Readers and writers that wait, and writers with a log.
-use Rattle.std.specs.Prelude.{ℕ, List, Option, Some, None}
+use Rattle.std.specs.Prelude.{ℕ, ◌≡◌, List, [], ◌∷◌, Option, Some, None}
+use Rattle.std.specs.Io.KnownBytes.{Consumes}
 use Rattle.cobs_live.specs.declared.port.Port.{Port}
 use Rattle.cobs_live.specs.declared.port.Logged.{Logged}
 
@@ -15,3 +16,10 @@ logged_inner logged = logged.inner
 abbrev pub log_contents : {L : Type 0} → (L → Option (List ℕ)) → Option L → Option (List ℕ)
 log_contents contents None = None
 log_contents contents (Some log) = contents log
+
+-- what a read gives of a line that is opened again: where it stays open, bytes of the line, or of one that was opened for the
+-- read; where it hangs up, a sentinel
+abbrev pub GivesNext : {R : Type 0} → (R → Option (List ℕ)) → ℕ → Option R → Option R → List ℕ → Type 0
+GivesNext remaining sentinel (Some line) (Some line') bytes = Consumes (remaining line) (remaining line') bytes
+GivesNext {R} remaining sentinel None (Some line') bytes = (opened : R) × Consumes (remaining opened) (remaining line') bytes
+GivesNext remaining sentinel line None bytes = bytes ≡ sentinel ∷ []

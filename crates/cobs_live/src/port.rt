@@ -1,4 +1,4 @@
-//! Readers and writers that wait, that note why they fail, and that are written twice.
+//! Readers and writers that wait, that are opened again, that note why they fail, and that are written twice.
 
 use std::cell::Cell;
 use std::io::{self, ErrorKind, Read, Write};
@@ -86,6 +86,95 @@ impl<C: Clock + Drop, W: Write + Drop> Write for Port<'_, C, W> {
 
     fn flush(&mut self) -> io::Result<()> {
         self.inner.flush()
+    }
+}
+
+/// For how many milliseconds a line that hung up is left alone before it is opened again.
+const REST: u64 = 200;
+
+/// What opens a line.
+pub trait Opener<R> {
+    /// Opens the line.
+    fn open(&self) -> io::Result<R>;
+}
+
+/// A line that is opened again where it hung up: where it ended, or a read of it failed. For a hang-up it gives a sentinel,
+/// so that a piece that was cut off ends there, and doesn't go on in the bytes of the next connection.
+#[derive(Drop)]
+pub struct Reopened<C, O, R> {
+    clock: C,
+    opener: O,
+    sentinel: u8,
+
+    /// The line, while it is open.
+    line: Option<R>,
+}
+
+impl<C: Clock + Drop, O: Opener<R> + Drop, R: Read + Drop> Reopened<C, O, R> {
+    ghost use Rattle.std.specs.Prelude.{◌≡◌, IsSome, Some};
+
+    /// This line, which is open.
+    pub fn new(clock: C, opener: O, sentinel: u8, line: R) -> Self
+        ensures line { result.line ≡ Some line }
+        ensures sentinel { result.sentinel ≡ sentinel }
+    {
+        Reopened {
+            clock,
+            opener,
+            sentinel,
+            line: Some(line),
+        }
+    }
+
+    /// Waits until the line is open.
+    fn wait(&mut self)
+        ensures stays { IsSome self.old.line → self.new.line ≡ self.old.line }
+        ensures sentinel { self.new.sentinel ≡ self.old.sentinel }
+    {
+        'by_try: for _again in 0..usize::MAX {
+            if self.line.is_some() {
+                return;
+            }
+            thread::sleep(&self.clock, Duration::from_millis(REST));
+            self.line = self.opener.open().ok();
+        }
+    }
+}
+
+impl<C: Clock + Drop, O: Opener<R> + Drop, R: Read + Drop> Read for Reopened<C, O, R> {
+    ghost use Rattle.std.specs.Prelude.{IfOk, None, take};
+    ghost use Rattle.std.specs.Io.{ReadsAtMost};
+    ghost use Rattle.cobs_live.specs.Ports.{GivesNext};
+
+    ghost remaining = { λ _. None };
+
+    /// Reads from the line, or gives a sentinel where it hangs up.
+    fn read(&mut self, buf: &mut [u8]) -> io::Result<usize>
+        ensures bound { ReadsAtMost result buf.new }
+        ensures gives { IfOk result
+            (λ count. GivesNext R.remaining self.old.sentinel self.old.line self.new.line (take count buf.new)) }
+    {
+        self.wait();
+        let Some(line) = &mut self.line else {
+            return Err(ErrorKind::NotConnected.into());
+        };
+        let given = line.read(buf);
+        if buf.is_empty() || !is_hang_up(&given) {
+            return given;
+        }
+        self.line = None;
+        buf[0] = self.sentinel;
+        Ok(1)
+    }
+}
+
+/// Whether this read says that the line hung up: it ended or failed, and wasn't only interrupted or would have blocked.
+fn is_hang_up(given: &io::Result<usize>) -> bool {
+    match given {
+        Ok(count) => *count == 0,
+        Err(error) => {
+            error.kind() != ErrorKind::Interrupted && error.kind() != ErrorKind::WouldBlock
+        }
     }
 }
 

@@ -29,7 +29,7 @@ use cobs_live::capture::write_capture_head;
 use cobs_live::clock::Timer;
 use cobs_live::fault::WatchFault;
 use cobs_live::input::AnyInput;
-use cobs_live::port::{Logged, Port};
+use cobs_live::port::{Logged, Opener, Port, Reopened};
 use cobs_live::send::{self, run_send};
 use cobs_live::show::run_show;
 use cobs_live::shown::Style;
@@ -97,9 +97,27 @@ fn show(rt: &HostRuntime, task: &ShowTask) -> anyhow::Result<ExitCode> {
     match &task.path {
         None => show_input(rt, task, rt.stdin(), &reason, &mut output),
         Some(path) => match File::open(rt, path) {
+            Ok(file) if task.reconnect => {
+                let sentinel = task.settings.sentinel;
+                let line = Reopened::new(rt, Device { rt, path }, sentinel, file);
+                show_input(rt, task, line, &reason, &mut output)
+            }
             Ok(file) => show_input(rt, task, file, &reason, &mut output),
             Err(error) => Ok(not_opened(rt, path, &error)),
         },
+    }
+}
+
+/// A line that has a path.
+#[derive(Drop)]
+struct Device<'a> {
+    rt: &'a HostRuntime,
+    path: &'a str,
+}
+
+impl Opener<File> for Device<'_> {
+    fn open(&self) -> io::Result<File> {
+        File::open(self.rt, self.path)
     }
 }
 

@@ -65,6 +65,9 @@ pub(crate) struct ShowTask {
     /// The path of what is shown, if that isn't standard input.
     pub(crate) path: Option<String>,
 
+    /// Whether it is opened again after a hang-up.
+    pub(crate) reconnect: bool,
+
     /// The path of a file that gets what is shown too.
     pub(crate) log: Option<String>,
 }
@@ -157,11 +160,17 @@ fn with_line<'a>(alloc: Global, command: Command<'a>) -> Result<Command<'a>, Err
     let path = Arg::new(alloc, "path").value_name("PATH").help(
         "The device, FIFO or file that is shown, in place of standard input",
     );
+    let reconnect = flag(
+        alloc,
+        "reconnect",
+        "After a hang-up of the device or FIFO, wait and open it again",
+    )
+    .requires_arg("path")?;
     let log = Arg::new(alloc, "log")
         .long("log")
         .value_name("FILE")
         .help("Append what is shown to this file too");
-    Ok(command.arg(path)?.arg(log)?)
+    Ok(command.arg(path)?.arg(reconnect)?.arg(log)?)
 }
 
 /// The command with the options that count.
@@ -379,6 +388,7 @@ fn show_task(alloc: Global, matches: &ArgMatches<'_>, auto_color: bool) -> Resul
             every: every.map(|seconds| seconds.saturating_mul(1_000)),
         },
         path: owned(alloc, matches, "path")?,
+        reconnect: matches.get_flag("reconnect"),
         log: owned(alloc, matches, "log")?,
     }))
 }

@@ -2,14 +2,16 @@
 ghost use Rattle.std.specs.Prelude.{◌≡◌, []};
 ghost use Rattle.std.specs.Io.Buffered.{writer_buffer};
 
-use super::{SHOWN, SILENT, STREAM, reader, settings, timer, written_after};
+use super::{ByteReader, SHOWN, SILENT, STREAM, reader, settings, timer, written_after};
 use cobs_live::clock::Stamp;
 use cobs_live::fault::WatchFault;
 use cobs_live::input::AnyInput;
+use cobs_live::port::{Opener, Reopened};
 use cobs_live::show::run_show;
 use cobs_live::shown::Style;
 use cobs_live::tally::Tally;
 use std::alloc::Global;
+use std::cell::Cell;
 use std::io::{self, BufWriter, ErrorKind, Read, Write};
 use std::test::Fail;
 
@@ -113,5 +115,44 @@ fn a_failed_write_ends_a_run(rt: HostRuntime) -> Result<(), Fail> {
             assert_eq!(rt; output.get_ref().bytes.as_slice(), &SHOWN[0].1[..failing]);
         }
     }
+    Ok(())
+}
+
+/// Opens a line that gives these bytes, each second time and thrice in all.
+#[derive(Drop)]
+struct Plug<'a> {
+    bytes: &'a [u8],
+    opened: Cell<usize>,
+}
+
+impl<'a> Opener<ByteReader<'a>> for Plug<'a> {
+    fn open(&self) -> io::Result<ByteReader<'a>> {
+        let number = self.opened.get();
+        self.opened.set(number.saturating_add(1));
+        match number {
+            1 | 3 => Ok(reader(self.bytes, 5, ErrorKind::BrokenPipe)),
+            5 => Ok(reader(self.bytes, 0, ErrorKind::WouldBlock)),
+            _ => Err(ErrorKind::NotFound.into()),
+        }
+    }
+}
+
+#[test]
+fn a_line_is_opened_again_behind_a_sentinel(rt: HostRuntime) -> Result<(), Fail> {
+    let alloc = rt.alloc();
+    let plug = Plug {
+        bytes: b"\x03hi\x00\x03h",
+        opened: Cell::new(0),
+    };
+    // The first line ends, and the others fail.
+    let first = reader(b"\x02a\x00\x03b", usize::MAX, ErrorKind::Other);
+    let mut input = AnyInput::new(Reopened::new(&rt, plug, 0, first));
+    let mut output = BufWriter::new(alloc, Vec::new(alloc))?;
+    let shown = show(alloc, &mut input, &mut output)?;
+    assert_eq!(rt; shown, Err(WatchFault::ReadFailed));
+    assert_eq!(rt;
+        output.get_ref().as_slice(),
+        b"message 1 61\nbroken 1\nmessage 2 6869\nbroken 0\nmessage 2 6869\nbroken 0\n".as_slice()
+    );
     Ok(())
 }

@@ -1,0 +1,10 @@
+use Rattle.std.proofs.Common.{◌≡◌}
+use Rattle.std.specs.Prelude.{IsSome}
+use Rattle.cobs_live.proofs.port.Reopened.wait.Given as goal
+
+-- the line was opened here, if it wasn't open
+abbrev pub invariant-by_try : goal.invariant-by_try
+invariant-by_try g l = record {
+  stays : IsSome l.fn.self.line → l.self.line ≡ l.fn.self.line;
+  sentinel : l.self.sentinel ≡ l.fn.self.sentinel;
+}
