@@ -1,14 +1,13 @@
 #!/bin/sh
 # Proves crates/cobs_tool and crates/cobs_watch and builds both programs, static, for Linux on x86-64: build.sh [/FOLDER]
 #
-# It needs the toolchain, in /opt/rattle or in $RATTLE, and gcc with the static libc (Debian's gcc and libc6-dev). Each program
+# It needs the toolchain's `rt` in the PATH, and gcc with the static libc (Debian's gcc and libc6-dev). Each program
 # runs over its stored input before it is put into FOLDER, or into x86_64-linux/ here, with their sums and the versions of
 # gcc and glibc, on which the bytes depend too.
 set -eu
 cd "$(dirname "$0")"
-kit=${RATTLE:-/opt/rattle}
-PATH=$PATH:$kit/bin
 command -v rt >/dev/null || { echo "build.sh: it needs the toolchain's rt" >&2; exit 1; }
+kit=$(dirname "$(dirname "$(readlink -f "$(command -v rt)")")")
 folder=${1:-x86_64-linux}
 room=$(mktemp -d)
 trap 'rm -rf "$room"' EXIT

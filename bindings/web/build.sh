@@ -1,7 +1,7 @@
 #!/bin/sh
 # The module and what is made from it:
 #
-#     build.sh                 cobs.wasm, from the proved crate, and dist/ (needs the kit of Rattle; RATTLE is its folder)
+#     build.sh                 cobs.wasm, from the proved crate, and dist/ (needs the toolchain's rt in the PATH)
 #     build.sh to FILE         cobs.wasm alone, written to FILE
 #     build.sh dist [FOLDER]   the files with the module inside, from cobs.wasm as it is (Node)
 #     build.sh site FOLDER     the page as static files for any host; with REPOSITORY=URL, the address of this repository's files
@@ -15,7 +15,6 @@
 set -eu
 here=$(cd "$(dirname "$0")" && pwd)
 root=$(cd "$here/../.." && pwd)
-kit=${RATTLE:-/opt/rattle}
 node=${NODE:-node}
 crate=cobs_c
 target=wasm64-unknown-unknown
@@ -27,7 +26,8 @@ need() { # COMMAND PACKAGE
 
 build() { # FILE
     need python3 python3
-    [ -x "$kit/bin/rt" ] || { echo "build.sh: $kit/bin/rt is not there: set RATTLE to the kit's folder" >&2; exit 2; }
+    command -v rt >/dev/null || { echo "build.sh: it needs the toolchain's rt in the PATH" >&2; exit 2; }
+    kit=$(dirname "$(dirname "$(readlink -f "$(command -v rt)")")")
     archive=$root/crates/$crate/out/lib$crate.a
     kept=$(mktemp)
     log=$(mktemp)
@@ -35,7 +35,7 @@ build() { # FILE
     if [ -f "$archive" ]; then cp "$archive" "$kept"; had=yes; fi
     # the archive has one place for every target: what stood there comes back
     trap 'if [ $had = yes ]; then cp "$kept" "$archive"; else rm -f "$archive"; fi; rm -f "$kept" "$log"' EXIT
-    (cd "$root/crates/$crate" && "$kit/bin/rt" lib --target $target) >"$log" 2>&1 || { cat "$log" >&2; exit 1; }
+    (cd "$root/crates/$crate" && rt lib --target $target) >"$log" 2>&1 || { cat "$log" >&2; exit 1; }
     "$kit/bin/rattle-link" --target $target --toolchain "$kit/toolchain" --stack $stack -o "$1" "$archive" 2>"$log" \
         || { cat "$log" >&2; exit 1; }
     python3 -B "$here/strip.py" "$1"
@@ -59,7 +59,7 @@ case ${1:-} in
         need "$node" nodejs
         build "$here/cobs.wasm"
         "$node" "$here/pack.mjs" "$here/dist"
-        PATH=$PATH:$kit/bin "$root/tests/prebuilt.py" --write web
+        "$root/tests/prebuilt.py" --write web
         ls -l "$here/cobs.wasm" "$here/dist"
         ;;
     to) build "$2" ;;
