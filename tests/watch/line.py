@@ -79,6 +79,12 @@ def a_fifo_whose_writers_come_and_go(room):
         same((watch.stderr.read().decode(), watch.wait(60)), (COUNTED.format(4, 4 * len(FRAME) + 3), 0))
 
 
+def await_read(watch):
+    """Returns once the program waits: having written, it does so only for its next read."""
+    while Path(f"/proc/{watch.pid}/stat").read_text().rpartition(")")[2].split()[0] != "S":
+        time.sleep(0.01)
+
+
 def plug(path):
     """A pseudo-terminal that has this path."""
     master, slave = pty.openpty()
@@ -114,6 +120,8 @@ def counts_and_a_reason_after_a_hang_up(_room):
         os.close(slave)
         os.write(master, FRAME)
         same(watch.stdout.readline(), SHOWN)
+        # A read that waits fails at the hang-up; one that begins after it is at the end of the input.
+        await_read(watch)
         os.close(master)
         out, errors, status = ended(watch)
     same((out, errors, status), (b"", COUNTED.format(1, 6) + "cobs_watch: read failed: Input/output error (os error 5)\n", 1))
