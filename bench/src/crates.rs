@@ -11,7 +11,18 @@ macro_rules! calls_of {
             Some(match call {
                 "encode" => messages.iter().map(|m| $by::encode(m, room)).sum(),
                 "encode sentinel" => messages.iter().map(|m| $by::encode_with_sentinel(m, room, SENTINEL)).sum(),
-                "encoder feed" | "encoder 8" | "encoder 64" => {
+                "encoder feed" => {
+                    let mut sum = 0;
+                    for message in &*messages {
+                        let mut encoder = $by::CobsEncoder::new(room);
+                        for byte in message {
+                            encoder.push(&[*byte]).unwrap();
+                        }
+                        sum += encoder.finalize();
+                    }
+                    sum
+                }
+                "encoder 8" | "encoder 64" => {
                     let mut sum = 0;
                     for message in &*messages {
                         let mut encoder = $by::CobsEncoder::new(room);

@@ -6,7 +6,10 @@ mod encoder;
 use crate::proved as engine;
 use crate::proved::enc::xor_bytes;
 #[cfg(not(feature = "small"))]
-use crate::proved::{cobs_abi::block::append, enc::blocks::close, enc::progress::START};
+use crate::proved::enc::{
+    blocks::{append_short, close},
+    progress::START,
+};
 #[cfg(feature = "small")]
 use crate::small as engine;
 
@@ -68,7 +71,7 @@ pub fn try_encode(source: &[u8], dest: &mut [u8]) -> Result<usize, DestBufTooSma
 #[cfg(not(feature = "small"))]
 #[inline(always)]
 fn encode_few<const N: usize>(source: [u8; N], dest: &mut [u8]) -> usize {
-    let progress = append(&source, dest, START);
+    let progress = append_short(&source, dest, START, false);
     close(dest, progress)
 }
 

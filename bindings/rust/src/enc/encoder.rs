@@ -2,8 +2,7 @@
 
 use crate::enc::DestBufTooSmallError;
 use crate::proved::UnbufferedEncoder;
-#[cfg(not(feature = "small"))]
-use crate::proved::cobs_abi::block::append;
+#[cfg(feature = "small")]
 use crate::small;
 
 /// Encodes a message that comes in pieces into a slice.
@@ -43,9 +42,9 @@ impl<'a> CobsEncoder<'a> {
     #[inline]
     pub fn push(&mut self, data: &[u8]) -> Result<(), DestBufTooSmallError> {
         match *data {
-            // Compiled for one byte.
+            // Compiled into the caller's loop.
             #[cfg(not(feature = "small"))]
-            [byte] => small::push_message(&mut self.encoder, self.dest, &[byte]),
+            [byte] => self.take([byte]),
             #[cfg(not(feature = "small"))]
             _ => self.push_more(data),
             #[cfg(feature = "small")]
@@ -53,38 +52,36 @@ impl<'a> CobsEncoder<'a> {
         }
     }
 
-    /// A function of its own, so that a loop of pushes of one byte has one call.
+    /// A function of its own, so that a loop of pushes of one byte has no call.
     #[cfg(not(feature = "small"))]
+    #[inline(never)]
     fn push_more(&mut self, data: &[u8]) -> Result<(), DestBufTooSmallError> {
-        if data.len() <= 4 && self.push_few(data) {
-            return Ok(());
+        if data.len() <= 4 {
+            return self.push_few(data);
         }
         self.encoder.push(self.dest, data)
     }
 
-    /// Takes 2 to 4 bytes, compiled for each of these lengths: 1.5 times as fast as by vectors.
+    /// Takes 0 to 4 bytes, of which 2 to 4 are compiled for each length.
     #[cfg(not(feature = "small"))]
     #[inline(never)]
-    fn push_few(&mut self, data: &[u8]) -> bool {
+    fn push_few(&mut self, data: &[u8]) -> Result<(), DestBufTooSmallError> {
         match *data {
-            [a, b] => self.has_taken([a, b]),
-            [a, b, c] => self.has_taken([a, b, c]),
-            [a, b, c, d] => self.has_taken([a, b, c, d]),
-            _ => false,
+            [a, b] => self.take([a, b]),
+            [a, b, c] => self.take([a, b, c]),
+            [a, b, c, d] => self.take([a, b, c, d]),
+            _ => self.encoder.push(self.dest, data),
         }
     }
 
-    /// Takes the bytes, if they can't fill the open block and fit, and says whether they do.
     #[cfg(not(feature = "small"))]
     #[inline(always)]
-    fn has_taken<const N: usize>(&mut self, bytes: [u8; N]) -> bool {
-        let start = self.encoder.progress();
-        let code = start.code as usize + N;
-        if 254 < code || self.dest.len() < start.index + code {
-            return false;
+    fn take<const N: usize>(&mut self, bytes: [u8; N]) -> Result<(), DestBufTooSmallError> {
+        if self.encoder.take(self.dest, &bytes) {
+            Ok(())
+        } else {
+            Err(DestBufTooSmallError)
         }
-        self.encoder = UnbufferedEncoder::from_progress(append(&bytes, self.dest, start));
-        true
     }
 
     /// Ends the message: the slice begins with its frame, of the returned length, without a sentinel. It is the frame

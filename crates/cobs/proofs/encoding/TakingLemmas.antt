@@ -1,10 +1,12 @@
 -- What the core of the encoder makes of a source, step by step.
-use Rattle.std.proofs.Common.{◌≡◌, ℕ, ◌+◌, ◌-◌, ◌<◌, ◌≤◌, Bool, true, false, if◌then◌else◌, List, [], ◌∷◌, ◌++◌, length, drop, take, refl, sym, ap, ◌∙◌, subst, inl, inr, arith, append-nil, append_assoc, length-drop, take_all}
+use Rattle.std.proofs.Common.{◌≡◌, ◌≢◌, get_or, ℕ, ◌+◌, ◌-◌, ◌<◌, ◌≤◌, Bool, true, false, if◌then◌else◌, List, [], ◌∷◌, ◌++◌, length, drop, take, refl, sym, ap, ◌∙◌, subst, inl, inr, arith, append-nil, append_assoc, length-drop, take_all}
 use Rattle.std.proofs.Math.ListN.{set}
 use Rattle.std.proofs.Math.Seq.{take-add}
 use Rattle.std.proofs.lemmas.Bool.{cases_Bool, cases_lt}
-use Rattle.std.proofs.lemmas.List.{drop-drop, drop_all, length-set, take_rest}
+use Rattle.std.proofs.lemmas.List.{drop-drop, drop-set, drop-set-lt, drop_all, drop_more, length-set, take-set-le, take_rest}
+use Rattle.std.proofs.lemmas.List.Elements.{All-cons, All-nil}
 use Rattle.std.proofs.lemmas.Grind.{common_steps}
+use Rattle.cobs.specs.Grammar.{HasNoZero}
 use Rattle.cobs.specs.Length.{encoded_len, open_len}
 use Rattle.cobs.specs.OpenBlock.{Reached, CobsEncoderAfter, IsPlaceIn, end_after, end_of, next_of}
 use Rattle.cobs.specs.Internal.Taking.{TakesFront}
@@ -12,7 +14,7 @@ use Rattle.cobs.proofs.encoding.AfterLemmas.{at, end-is, from_after}
 use Rattle.cobs.proofs.encoding.OpenLemmas.{All-front}
 use Rattle.cobs.proofs.encoding.CoreLemmas.{after-fits, after-nothing, after-len, after-so-far, full-after, full-end, full-rest}
 use Rattle.cobs.proofs.encoding.OpenLenLemmas.{open_len-least, open_len-most}
-use Rattle.cobs.proofs.encoding.ReachLemmas.{Reaches, Reaches-noted, Reaches-weaker, ends-open, least}
+use Rattle.cobs.proofs.encoding.ReachLemmas.{Reaches, Reaches-join, Reaches-noted, Reaches-same, Reaches-weaker, ends-open, least}
 
 pub after-some : (r : Reached) (bytes : List ℕ) → 0 < length bytes → end_after r bytes ≡ r.block.index + open_len r.block.code bytes
 after-some r bytes h = grind arith
@@ -47,6 +49,24 @@ module _ (source old : List ℕ) (r : Reached) (some : 0 < length source) (code 
 
   pub reaches-start : Reaches (CobsEncoderAfter old r) source old old (end_after r source) 0 r.block.index (next_of r) (λ _. Unit {0})
   reaches-start = Reaches-weaker (λ noted p. tt) reaches-noted
+
+-- a byte is written behind the open block's
+module _ (H : List ℕ → Type 0) (source old slice : List ℕ) (end read index next byte : ℕ) (P : Bool → Type 0) (more : read < length source) (r : Reaches H source old slice end read index next P) where
+  pub written : Reaches H source old (set slice next byte) end read index next P
+  written =
+      let l = least source end read index next r.ordered r.within r.room in
+      Reaches-same H source old slice end read index next P P (set slice next byte) (take-set-le next slice next byte (omega arith)) (drop-set-lt end slice next byte (omega arith)) r
+
+  -- and joins them, unless it is a zero
+  pub joined : get_or source read 0 ≡ byte → byte ≢ 0 → next < index + 255 → end ≤ length slice → Reaches H source old (set slice next byte) end (read + 1) index (next + 1) (λ full. 0 < read + 1 → full ≡ false)
+  joined is other short fits =
+      let l = least source end read index next r.ordered r.within r.room in
+      let after : List ℕ = set slice next byte in
+      let k = length-set slice next byte in
+      let one : take 1 (drop read source) ≡ byte ∷ [] = grind (arith, drop_more) in
+      let here : take 1 (drop next after) ≡ take 1 (drop read source) = grind (arith, drop-set) in
+      let nonzero : HasNoZero (take 1 (drop read source)) = subst HasNoZero (sym one) (All-cons (λ byte. byte ≢ 0) byte [] other (All-nil (λ byte. byte ≢ 0))) in
+      Reaches-join H source old after end read index next P (λ full. 0 < read + 1 → full ≡ false) 1 (omega arith) (omega arith) (omega arith) nonzero here (λ full z p. absurd (omega arith)) (λ z lt. refl) written
 
 -- where a step ends
 module _ {source old slice : List ℕ} {r r' : Reached} (fits : end_after r source ≤ length slice) where
