@@ -27,7 +27,7 @@ head-prefix (zero ∷ t) = ap (λ (h : List ℕ). take (length h) (0 ∷ t)) (he
 head-prefix (suc b ∷ t) = grind (arith, head-cons, (head-prefix t))
 
 -- the first bytes that aren't zeros belong to it
-head-long : (n : ℕ) (t : List ℕ) → n ≤ length t → HasNoZero (take n t) → n ≤ length (head t)
+pub head-long : (n : ℕ) (t : List ℕ) → n ≤ length t → HasNoZero (take n t) → n ≤ length (head t)
 head-long zero t within nonzero = omega arith
 head-long (suc n) [] within nonzero = absurd (omega arith)
 head-long (suc n) (b ∷ t) within nonzero =
@@ -57,7 +57,7 @@ head-drop (suc n) (zero ∷ t) le = absurd (let z = ap length (head-zero t) in o
 head-drop (suc n) (suc b ∷ t) le = grind (arith, head-cons, head-drop n t)
 
 -- a stretch of it
-head-part : (k n : ℕ) (t : List ℕ) → k + n ≤ length (head t) → take k (drop n (head t)) ≡ take k (drop n t)
+pub head-part : (k n : ℕ) (t : List ℕ) → k + n ≤ length (head t) → take k (drop n (head t)) ≡ take k (drop n t)
 head-part k n t within =
     let rest : ℕ = length (head t) - n in
     ap (λ (h : List ℕ). take k (drop n h)) (sym (head-prefix t) ∙ ap (λ (m : ℕ). take m t) {x = length (head t)} {y = n + rest} (omega arith))

@@ -1,15 +1,21 @@
 -- Blocks that are decoded to the front of the buffer that they stand in.
-use Rattle.std.proofs.Common.{◌≡◌, ◌≢◌, ◌⊎◌, ◌↔◌, ◌++◌, ◌∷◌, IsTrue, Bool, true, false, ℕ, ◌+◌, ◌-◌, ◌<◌, ◌≤◌, List, length, take, drop, get_or, set, inl, inr, refl, arith, ap, sym, ◌∙◌, subst, length-drop, length-take-le}
+use Rattle.std.proofs.Common.{◌≡◌, ◌≢◌, ◌⊎◌, ◌↔◌, ◌++◌, ◌∷◌, IsTrue, Bool, true, false, ℕ, ◌+◌, ◌-◌, ◌<◌, ◌≤◌, List, length, take, drop, get_or, set, inl, inr, refl, arith, ap, sym, ◌∙◌, subst, length-append, length-drop, length-take-le, take_at, drop_at}
 use Rattle.std.proofs.Math.Nat.{zero-add}
-use Rattle.std.proofs.lemmas.List.{drop-drop, drop-take, get_or-drop, take-take, take_rest}
-use Rattle.std.proofs.lemmas.List.Elements.{All-drop}
+use Rattle.std.proofs.lemmas.List.{drop-drop, drop-take, drop_more, get_or-drop, take-take, take_rest}
+use Rattle.std.proofs.lemmas.List.Elements.{All-cons, All-drop}
+use borrow.Rule.Slice.PartMut.{put_mid}
 use Rattle.cobs.specs.Grammar.{HasNoZero, code_of, is_full}
-use Rattle.cobs.specs.Piece.{output, last_part}
+use Rattle.cobs.specs.Piece.{lacks, output, last_part}
 use Rattle.cobs.specs.Internal.Decoded.{DecodedSource, IsFlat}
 use Rattle.cobs.specs.Sentinel.{xor_each}
+use Rattle.cobs.specs.Stream.{head}
 use Rattle.cobs.proofs.format.SentinelLemmas.{xor_each-zero}
 use Rattle.cobs.proofs.decoding.FirstFront.{whole-piece}
 use Rattle.cobs.proofs.decoding.FlatLemmas.{moved-piece, moved-rest, put-back}
+use Rattle.cobs.proofs.decoding.FrontSteps.{head-drop, head-long, head-part, head-prefix}
+use Rattle.cobs.proofs.decoding.HeadLemmas.{front_is_head}
+use Rattle.cobs.proofs.decoding.OutcomeLemmas.{head_nonzero}
+use Rattle.cobs.proofs.decoding.PieceCuts.{last_part-last, output-last}
 use Rattle.cobs.proofs.decoding.SourceFronts.{stretch-last, stretch-zero}
 use Rattle.cobs.proofs.decoding.StretchSteps.{StretchCopied}
 use Rattle.cobs_bytes.proofs.bytes.DropLemmas.{drop-later}
@@ -109,3 +115,45 @@ module _ (old : List ℕ) (end first : ℕ) (within : end ≤ length old) where
         (simp zero-add at (stretch-zero (take end old) old old 0 0 start none first (take first old) some (omega arith) (sym (take-take first end old le)) flat.whole new (first - 1)
         (length old - 0) refl (omega arith) first-count
         (omega arith) begins rest (omega arith) (omega arith) other))
+
+-- the head is what is read and what stands before the next zero
+pub head-end : (old buffer : List ℕ) (read written : ℕ) → DecodedSource (head old) old buffer read written → written ≤ read → (n : ℕ) → n ≤ length (take (length buffer - read) (drop read buffer))
+    → HasNoZero (take n (take (length buffer - read) (drop read buffer)))
+    → (n < length (take (length buffer - read) (drop read buffer)) → get_or (take (length buffer - read) (drop read buffer)) n 0 ≡ 0) → take (read + n) old ≡ head old
+head-end old buffer read written d order n within none stop =
+    let w = d.blocks.within in
+    let same = take_rest buffer read ∙ drop-later written read buffer old order d.rest in
+    let l = ap length (front_is_head _ n within none stop ∙ ap head same ∙ head-drop read old w) in
+    ap (λ (k : ℕ). take k old) {x = read + n} {y = length (head old)} (omega (arith, length-take-le n _ within, length-drop read (head old))) ∙ head-prefix old
+
+-- a full block, of which all bytes are found to be nonzero, moved
+module _ (old buffer : List ℕ) (read written : ℕ) (d : DecodedSource (head old) old buffer read written) (order : written ≤ read) (code : get_or buffer read 0 ≡ 255) (fits : read + 255 ≤ length buffer) where
+  abbrev free : List ℕ
+  free = take (length buffer - written) (drop written buffer)
+
+  abbrev bytes : List ℕ
+  bytes = take 254 (drop (read - written + 1) free)
+
+  block-is : 255 ∷ bytes ≡ take 255 (drop read old)
+  block-is =
+      ap (λ (k : ℕ). k ∷ bytes) (sym code)
+      ∙ ap (λ (xs : List ℕ). get_or buffer read 0 ∷ take 254 xs) (ap (drop (read - written + 1)) (take_rest buffer written)
+      ∙ drop-drop (read - written + 1) written buffer ∙ ap (λ (k : ℕ). drop k buffer) {x = written + (read - written + 1)} {y = read + 1} (omega arith))
+      ∙ ap (take 255) (sym (drop_more buffer read 0 (omega arith)) ∙ drop-later written read buffer old order d.rest)
+
+  pub full-moved : HasNoZero bytes → (moved : List ℕ) → moved ≡ bytes ++ drop 254 free → DecodedSource (head old) old (put_mid written (length buffer - written) buffer moved) (read + 255) (written + 254)
+  full-moved none moved is =
+      let e = d.len in
+      let w = d.blocks.within in
+      let l = ap length (head-drop read old w) in
+      let long = head-long 255 (drop read old) (omega (arith, length-drop read old)) (subst HasNoZero block-is (All-cons (λ byte. byte ≢ 0) 255 bytes (λ z. omega (arith, z)) none)) in
+      let within : read + 255 ≤ length (head old) = omega (arith, length-drop read (head old)) in
+      let p = ap length (take_rest buffer written) ∙ length-drop written buffer in
+      let b = ap length block-is ∙ length-take-le 255 (drop read old) (omega (arith, length-drop read old)) in
+      let m = ap length is ∙ length-append bytes (drop 254 free) in
+      let o = output-last 255 bytes (omega arith) in
+      let last = last_part-last 255 bytes (omega arith) in
+      stretch-last (head old) old buffer read written d (head_nonzero old) 255 (255 ∷ bytes) (omega arith) within (block-is ∙ sym (head-part 255 read old (omega arith)))
+      (ap lacks last ∙ omega arith) moved 254 (length buffer - written) refl (omega (arith, length-drop 254 free)) (omega (arith, ap length o)) (omega arith)
+      (ap (take 254) is ∙ take_at bytes (drop 254 free) 254 (omega arith) ∙ sym o) (ap (drop 254) is ∙ drop_at bytes (drop 254 free) 254 (omega arith) ∙ ap (drop 254) (take_rest buffer written))
+      (inr (ap is_full last))

@@ -1,10 +1,11 @@
 //! Decoding a frame in its own buffer.
-ghost use Rattle.std.specs.Prelude.{◌≡◌, ◌≢◌, ◌+◌, ◌-◌, ◌<◌, ◌≤◌, ◌∷◌, ℕ, IsTrue, false, List, length, take, drop, slice_index, IfErr};
+ghost use Rattle.std.specs.Prelude.{All, ◌≡◌, ◌≢◌, ◌↔◌, ◌+◌, ◌-◌, ◌<◌, ◌≤◌, ◌∷◌, ℕ, IsTrue, false, List, length, take, drop, slice_index, IfErr};
 ghost use Rattle.cobs.specs.Overwritten.{overwritten};
 ghost use Rattle.cobs.specs.Decode.{head_answer, in_place, in_place_answer, in_place_report};
 ghost use Rattle.cobs.specs.Grammar.{HasNoZero, Reads, code_of};
 ghost use Rattle.cobs.specs.Headline.{AnswersMessage, IsPiece, ReportsMessage};
 ghost use Rattle.cobs.specs.Piece.{kept_output, last_part, output};
+ghost use Rattle.cobs.specs.Stream.{head};
 ghost use Rattle.cobs.specs.Internal.Decoded.{DecodedSource, IsFlat, whole_left};
 ghost use Rattle.cobs.specs.Sentinel.{xor_each};
 ghost use Rattle.cobs.specs.declared.dec.DecodeError.TheVariants.{TargetBufTooSmall};
@@ -14,7 +15,7 @@ use crate::dec::find::piece_len;
 use crate::dec::piece::copy_few;
 use crate::dec::{DecodeError, DecodeReport};
 use crate::enc::{FULL_CODE, xor_bytes};
-use cobs_bytes::lanes::move_to_front;
+use cobs_bytes::lanes::{move_nonzero, move_to_front};
 use cobs_bytes::window::{WIDE_WINDOW, WINDOW, is_all, write_row};
 
 /// Writes a zero over each code but the first of the first whole blocks of a piece, through the first full one; returns
@@ -192,6 +193,61 @@ fn decode_head_in_place(buffer: &mut [u8], end: usize) -> Result<usize, DecodeEr
     decode_blocks_in_place(buffer, end)
 }
 
+/// Whether a buffer is empty. `bytes` restates that elements are below 256, for callers that later overwrite it.
+#[inline(always)]
+fn has_none(buffer: &[u8]) -> bool
+    ensures none { IsTrue result ↔ (length buffer.now ≡ 0) }
+    ensures bytes { All (λ byte. byte < 256) buffer.now }
+{
+    buffer.is_empty()
+}
+
+/// Decodes the full blocks at the front of the buffer, as far as they are whole; returns how many bytes they have, and how
+/// many they give. Every other byte is as it was.
+///
+/// Each is searched for a zero and moved, so the frame's end needn't be known.
+#[inline(never)]
+fn decode_full_blocks(buffer: &mut [u8]) -> (usize, usize)
+    ensures within { result.0 ≤ length buffer.old }
+    ensures decoded { DecodedSource (head buffer.old) buffer.old buffer.new result.0 result.1 }
+    ensures order { result.1 ≤ result.0 }
+{
+    let mut read = 0;
+    let mut written = 0;
+    'by_block: while buffer.len() - read >= FULL_CODE
+        && buffer[read] as usize == FULL_CODE
+        && move_nonzero(&mut buffer[written..], read - written + 1, FULL_CODE - 1)
+    {
+        read += FULL_CODE;
+        written += FULL_CODE - 1;
+    }
+    (read, written)
+}
+
+/// Decodes a frame as [`decode_in_place_report`] does, where it begins with a full block: its end is sought behind the
+/// full blocks.
+#[inline(always)]
+fn decode_full_in_place(buffer: &mut [u8]) -> Result<DecodeReport, DecodeError>
+    ghost old: { List ℕ }
+    requires some { 0 < length buffer.old }
+    requires old { buffer.old ≡ old }
+    ensures answer { result ≡ in_place_report buffer.old }
+    ensures buffer { buffer.new ≡ in_place buffer.old }
+{
+    let (read, written) = decode_full_blocks(buffer);
+    let end = read + piece_len(&buffer[read..]);
+    let (frame_size, whole) = decode_behind(buffer, end, read, written);
+    if !whole {
+        return Err(DecodeError::InvalidFrame {
+            decoded_bytes: frame_size,
+        });
+    }
+    Ok(DecodeReport {
+        parsed_size: end,
+        frame_size,
+    })
+}
+
 /// Decodes the frame at the front of the buffer in its own place, up to the first zero or the buffer's end, and returns
 /// how many bytes the frame and the message have.
 ///
@@ -225,8 +281,11 @@ pub fn decode_in_place_report(buf: &mut [u8]) -> Result<DecodeReport, DecodeErro
         → Reads buf.old m }
     ensures room { IfErr result (λ error. error ≢ TargetBufTooSmall) }
 {
-    if buf.is_empty() {
+    if has_none(buf) {
         return Err(DecodeError::EmptyFrame);
+    }
+    if buf.len() > WIDE_WINDOW && buf[0] as usize == FULL_CODE {
+        return decode_full_in_place(buf);
     }
     let end = piece_len(buf);
     let frame_size = decode_head_in_place(buf, end)?;

@@ -5,6 +5,12 @@ use Rattle.cobs.proofs.decoding.HeadlineLemmas.{in_place_reads, in_place_only}
 use Rattle.cobs.proofs.decoding.OutcomeSteps.{in_place_report-refused, in_place_report-decoded}
 use Rattle.cobs.proofs.dec.in_place.decode_in_place_report.Goals as goal
 
+pub returns-then-buf-eq-FULL_CODE-clause-reads : goal.returns-then-buf-eq-FULL_CODE-clause-reads
+returns-then-buf-eq-FULL_CODE-clause-reads c = in_place_reads _ _ _ c.decode_full_in_place.ensures.answer c.decode_full_in_place.ensures.buffer c.has_none.ensures.bytes
+
+pub returns-then-buf-eq-FULL_CODE-clause-only : goal.returns-then-buf-eq-FULL_CODE-clause-only
+returns-then-buf-eq-FULL_CODE-clause-only c = in_place_only _ _ _ c.decode_full_in_place.ensures.answer c.decode_full_in_place.ensures.buffer c.has_none.ensures.bytes
+
 pub returns-in_err-frame_size-clause-answer : goal.returns-in_err-frame_size-clause-answer
 returns-in_err-frame_size-clause-answer c =
     grind (arith, eqb-false, front_is_head, in_place_report-refused)
@@ -13,10 +19,10 @@ pub returns-in_err-frame_size-clause-buffer : goal.returns-in_err-frame_size-cla
 returns-in_err-frame_size-clause-buffer c = grind (arith, front_is_head)
 
 pub returns-in_err-frame_size-clause-reads : goal.returns-in_err-frame_size-clause-reads
-returns-in_err-frame_size-clause-reads c = in_place_reads _ _ _ (returns-in_err-frame_size-clause-answer c) (returns-in_err-frame_size-clause-buffer c) c.piece_len-end.ensures.bytes
+returns-in_err-frame_size-clause-reads c = in_place_reads _ _ _ (returns-in_err-frame_size-clause-answer c) (returns-in_err-frame_size-clause-buffer c) c.has_none.ensures.bytes
 
 pub returns-in_err-frame_size-clause-only : goal.returns-in_err-frame_size-clause-only
-returns-in_err-frame_size-clause-only c = in_place_only _ _ _ (returns-in_err-frame_size-clause-answer c) (returns-in_err-frame_size-clause-buffer c) c.piece_len-end.ensures.bytes
+returns-in_err-frame_size-clause-only c = in_place_only _ _ _ (returns-in_err-frame_size-clause-answer c) (returns-in_err-frame_size-clause-buffer c) c.has_none.ensures.bytes
 
 pub returns-clause-answer : goal.returns-clause-answer
 returns-clause-answer c =
@@ -26,7 +32,7 @@ pub returns-clause-buffer : goal.returns-clause-buffer
 returns-clause-buffer c = grind (arith, front_is_head)
 
 pub returns-clause-reads : goal.returns-clause-reads
-returns-clause-reads c = in_place_reads _ _ _ (returns-clause-answer c) (returns-clause-buffer c) c.piece_len-end.ensures.bytes
+returns-clause-reads c = in_place_reads _ _ _ (returns-clause-answer c) (returns-clause-buffer c) c.has_none.ensures.bytes
 
 pub returns-clause-only : goal.returns-clause-only
-returns-clause-only c = in_place_only _ _ _ (returns-clause-answer c) (returns-clause-buffer c) c.piece_len-end.ensures.bytes
+returns-clause-only c = in_place_only _ _ _ (returns-clause-answer c) (returns-clause-buffer c) c.has_none.ensures.bytes
