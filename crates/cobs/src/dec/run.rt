@@ -1,5 +1,5 @@
 //! What `push` takes at once: first bytes that each return `Ok(None)`, up to a zero.
-ghost use Rattle.std.specs.Prelude.{◌≡◌, ◌≢◌, ◌<◌, ◌≤◌, ◌+◌, ◌∷◌, [], length, take, false, List, ℕ};
+ghost use Rattle.std.specs.Prelude.{◌≡◌, ◌≢◌, ◌<◌, ◌≤◌, ◌+◌, ◌∷◌, [], length, take, slice_index, false};
 ghost use Rattle.cobs.specs.Fields.Decoders.{phase_of};
 ghost use Rattle.cobs.specs.Internal.FedInTurn.{FedInTurn};
 
@@ -17,40 +17,31 @@ const FEW: usize = 4;
 const MANY: usize = 512;
 
 impl UnbufferedDecoder {
-    /// Takes a code that adds no zero to the output, a piece's first or one after a full block, and returns how many
-    /// bytes that is.
-    #[inline(always)]
-    fn take_code(&mut self, bytes: &[u8]) -> usize
-        requires going { self.old.over ≡ false }
-        ensures within { result ≤ length bytes.now }
-        ensures fed { (buffer : List ℕ) → FedInTurn buffer (phase_of self.old)
-            (take result bytes.now) buffer (phase_of self.new) }
-        ensures going { self.new.over ≡ false }
-    {
-        if self.left != 0 || self.code != FULL || bytes.is_empty() || bytes[0] == 0 {
-            return 0;
-        }
-        self.code = bytes[0];
-        self.left = bytes[0] - 1;
-        1
-    }
-
-    /// Takes first bytes up to a zero, as many as one copy can take, and returns how many: a code that nothing is
-    /// joined to, or up to 192 bytes in which no full block ends.
+    /// Takes first bytes up to a zero, as many as one step can take, and returns how many: a code that nothing is joined
+    /// to, a row of 32 blocks without bytes behind such a block, or up to 192 bytes in which no full block ends.
     #[inline(always)]
     fn take_part(&mut self, dest: &mut [u8], bytes: &[u8]) -> usize
         requires going { self.old.over ≡ false }
+        requires some { 0 < length bytes.now }
+        requires nonzero { slice_index bytes.now 0 ≢ 0 }
         ensures within { result ≤ length bytes.now }
         ensures fed { FedInTurn dest.old (phase_of self.old) (take result bytes.now)
             dest.new (phase_of self.new) }
         ensures going { self.new.over ≡ false }
     {
         if self.left == 0 && self.code == FULL {
-            return self.take_code(bytes);
+            self.code = bytes[0];
+            self.left = bytes[0] - 1;
+            return 1;
         }
         let at = self.dest_idx;
         let left = self.left as usize;
         let mut most = bytes.len().min(dest.len().saturating_sub(at));
+        if left == 0 && self.code == 1 && WINDOW <= most && is_all(bytes, 0, 1) {
+            write_row(dest, at, 0);
+            self.dest_idx = at + WINDOW;
+            return WINDOW;
+        }
         if self.code == FULL {
             most = most.min(left);
         }
@@ -65,42 +56,6 @@ impl UnbufferedDecoder {
             self.left = left as u8;
         }
         len
-    }
-
-    /// Takes a row of 32 blocks without bytes behind such a block, and returns how many bytes that is: none where the
-    /// bytes begin with no such row.
-    #[inline(always)]
-    fn take_row(&mut self, dest: &mut [u8], bytes: &[u8]) -> usize
-        requires going { self.old.over ≡ false }
-        ensures within { result ≤ length bytes.now }
-        ensures fed { FedInTurn dest.old (phase_of self.old) (take result bytes.now)
-            dest.new (phase_of self.new) }
-        ensures going { self.new.over ≡ false }
-    {
-        let at = self.dest_idx;
-        let most = bytes.len().min(dest.len().saturating_sub(at));
-        if self.left != 0 || self.code != 1 || most < WINDOW || !is_all(bytes, 0, 1) {
-            return 0;
-        }
-        write_row(dest, at, 0);
-        self.dest_idx = at + WINDOW;
-        WINDOW
-    }
-
-    /// Takes first bytes up to a zero, as many as one step can take, and returns how many.
-    #[inline(always)]
-    fn take_step(&mut self, dest: &mut [u8], bytes: &[u8]) -> usize
-        requires going { self.old.over ≡ false }
-        ensures within { result ≤ length bytes.now }
-        ensures fed { FedInTurn dest.old (phase_of self.old) (take result bytes.now)
-            dest.new (phase_of self.new) }
-        ensures going { self.new.over ≡ false }
-    {
-        let len = self.take_row(dest, bytes);
-        if len > 0 {
-            return len;
-        }
-        self.take_part(dest, bytes)
     }
 
     /// Takes first bytes up to a zero, step by step, until they are many, and returns how many.
@@ -119,9 +74,9 @@ impl UnbufferedDecoder {
             code: self.code,
             over: false,
         };
-        let mut run = here.take_code(bytes);
+        let mut run = 0;
         'by_step: while run < bytes.len() && run < MANY && bytes[run] != 0 {
-            let step = here.take_step(dest, &bytes[run..]);
+            let step = here.take_part(dest, &bytes[run..]);
             run += step;
             if step == 0 {
                 break;
