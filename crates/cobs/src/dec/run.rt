@@ -12,9 +12,15 @@ use cobs_bytes::window::{WINDOW, is_all, write_row};
 /// So few bytes are pushed by a step each: a run takes some 130 instructions, however short it is.
 const FEW: usize = 4;
 
-/// Behind this many bytes without a zero, those up to the next one are decoded as a whole: in a push of 64 KiB, 1.5 times
-/// as fast for runs of 300 to 900, three times for a zero after each byte, and .8 for runs of 20 to 45.
+/// Behind this many bytes without a zero, those up to the next one are decoded as a whole: in a push of 64 KiB that is
+/// 1.4 to 1.7 times as fast where blocks are full, and 4 times for a zero after each byte.
 const MANY: usize = 512;
+
+/// The codes of blocks that steps take faster, 1.3 to 1.6 times for runs of 20 to 45 and 5 % zeros: a step's copy needn't
+/// wait for the walk over the codes before it.
+const SHORT: u8 = 8;
+
+const LONG: u8 = 64;
 
 impl UnbufferedDecoder {
     /// Takes first bytes up to a zero, as many as one step can take, and returns how many: a code that nothing is joined
@@ -140,11 +146,13 @@ impl UnbufferedDecoder {
     /// returns how many.
     #[inline(never)]
     fn take_many(&mut self, dest: &mut [u8], bytes: &[u8]) -> usize
-        requires going { self.old.over ≡ false }
         ensures within { result ≤ length bytes.now }
         ensures fed { FedInTurn dest.old (phase_of self.old) (take result bytes.now)
             dest.new (phase_of self.new) }
     {
+        if self.over {
+            return 0;
+        }
         let open = (self.left as usize).min(bytes.len());
         let run = self.take_few(dest, &bytes[..open]);
         if self.left != 0 {
@@ -166,9 +174,13 @@ impl UnbufferedDecoder {
             return 0;
         }
         let run = self.take_few(dest, bytes);
-        if run < MANY {
+        if run < MANY || SHORT <= self.code && self.code <= LONG {
             return run;
         }
-        run + self.take_many(dest, &bytes[run..])
+        // A copy, so that this state itself stays in registers.
+        let mut rest = UnbufferedDecoder::from_phase(self.phase());
+        let more = rest.take_many(dest, &bytes[run..]);
+        *self = rest;
+        run + more
     }
 }
