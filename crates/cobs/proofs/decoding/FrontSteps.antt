@@ -63,6 +63,11 @@ head-part k n t within =
     ap (λ (h : List ℕ). take k (drop n h)) (sym (head-prefix t) ∙ ap (λ (m : ℕ). take m t) {x = length (head t)} {y = n + rest} (omega arith))
     ∙ ap (take k) (drop-take n rest t) ∙ take-take k rest (drop n t) (omega arith)
 
+-- what is left of it
+pub head-rest : (t : List ℕ) (read len : ℕ) → len ≡ length (head t) → read ≤ len → take (len - read) (drop read t) ≡ drop read (head t)
+head-rest t read len is within =
+    sym (head-part (len - read) read t (omega arith)) ∙ take_all (len - read) (drop read (head t)) (omega (arith, length-drop read (head t)))
+
 -- it ends with the source or at a zero, which is sought behind some bytes of it
 pub piece-end : (t rest : List ℕ) (read n : ℕ) → rest ≡ drop read t → read < length (head t) → n ≤ length rest → HasNoZero (take n rest) → (n < length rest → get_or rest n 0 ≡ 0)
     → read + n ≡ length (head t)

@@ -101,24 +101,6 @@ pub run_written : (full : Bool) (left count run : ℕ) (dest bytes : List ℕ) �
     → FedInTurn dest (phase_with full left count) (take run bytes) (over count dest (take run bytes)) (phase_with full (left - run) (count + run))
 run_written full left count run dest bytes some most room within nz = grind (arith, length-take-le, FedInTurn-within, begun)
 
--- the same by one copy, of which nothing may come
-pub run_fed : (inner : UnbufferedDecoder) (dest bytes new : List ℕ) (run : ℕ) → inner.over ≡ false → run ≤ inner.left → inner.dest_idx + run ≤ length dest → run ≤ length bytes → HasNoZero (take run bytes)
-    → new ≡ take inner.dest_idx dest ++ (take run bytes ++ drop (inner.dest_idx + run) dest)
-    → FedInTurn dest (phase_of inner) (take run bytes) new (phase_of (record { dest_idx = inner.dest_idx + run; left = inner.left - run; code = inner.code; over = inner.over }))
-run_fed inner dest bytes new zero going most room within nz is =
-    let at : inner.dest_idx + 0 ≡ inner.dest_idx = omega arith in (
-      is ∙ ap (λ (k : ℕ). take inner.dest_idx dest ++ drop k dest) at ∙ take-append-drop inner.dest_idx dest,
-      ap (λ (k : ℕ). cond inner.over Over (phase_with (eqb inner.code 255) (inner.left - 0) k)) at ∙ ap (λ (k : ℕ). cond inner.over Over (phase_with (eqb inner.code 255) k inner.dest_idx)) (omega arith),
-    )
-run_fed inner dest bytes new (suc n) going most room within nz is =
-    let fed = run_written (eqb inner.code 255) inner.left inner.dest_idx (suc n) dest bytes (omega arith) most room within nz in
-    let written : new ≡ over inner.dest_idx dest (take (suc n) bytes)
-    = is ∙ ap (λ (k : ℕ). take inner.dest_idx dest ++ (take (suc n) bytes ++ drop (inner.dest_idx + k) dest)) (sym (length-take-le (suc n) bytes within)) in
-    subst (λ (v : Bool). FedInTurn dest (cond v Over (phase_with (eqb inner.code 255) inner.left inner.dest_idx)) (take (suc n) bytes) new
-    (cond v Over (phase_with (eqb inner.code 255) (inner.left - suc n) (inner.dest_idx + suc n)))) (sym going)
-    (subst (λ (b : List ℕ). FedInTurn dest (phase_with (eqb inner.code 255) inner.left inner.dest_idx) (take (suc n) bytes) b (phase_with (eqb inner.code 255) (inner.left - suc n) (inner.dest_idx + suc n)))
-    (sym written) fed)
-
 -- a row of n blocks without bytes
 pub row_fed : (n : ℕ) (inner : UnbufferedDecoder) (dest bytes new : List ℕ) → inner.over ≡ false → inner.left ≡ 0 → inner.code ≡ 1 → inner.dest_idx + n ≤ length dest → take n bytes ≡ replicate n 1
     → new ≡ take inner.dest_idx dest ++ (replicate n 0 ++ drop (inner.dest_idx + n) dest)

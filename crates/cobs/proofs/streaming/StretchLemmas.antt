@@ -1,7 +1,7 @@
 -- A stretch without zeros behind a block boundary, fed as a whole: its output is written, and the phase is that of its last part.
-use Rattle.std.proofs.Common.{◌≡◌, ◌≢◌, ℕ, zero, suc, ◌+◌, ◌-◌, ◌<◌, ◌≤◌, Bool, true, false, cond, eqb, List, [], ◌∷◌, ◌++◌, length, take, drop, refl, sym, ap, ◌∙◌, subst, arith, append_assoc, inl, inr, length-append, length-drop, None, Ok}
+use Rattle.std.proofs.Common.{◌≡◌, ◌≢◌, ℕ, zero, suc, ◌+◌, ◌-◌, ◌<◌, ◌≤◌, Bool, true, false, cond, eqb, List, [], ◌∷◌, ◌++◌, length, take, drop, get_or, refl, sym, ap, ◌∙◌, subst, arith, append_assoc, inl, inr, length-append, length-drop, None, Ok}
 use Rattle.std.proofs.lemmas.List.{append-nil, length_push, length-take-le, take-append-drop, drop_all, drop-drop, take_rest, take-take}
-use Rattle.std.proofs.Math.Seq.{drop-append_seam, take-append_seam}
+use Rattle.std.proofs.Math.Seq.{drop-append_seam, take-add, take-append_seam}
 use Rattle.std.proofs.lemmas.List.Elements.{All-cons, All-head, All-tail, All-drop}
 use Rattle.std.proofs.lemmas.Bool.{ne_eqb, eqb-true, lt-ltb, cases_lt}
 use Rattle.std.specs.List.{All}
@@ -24,6 +24,11 @@ pub FedInTurn-append : (xs ys buffer buffer' buffer'' : List ℕ) (phase phase' 
 FedInTurn-append [] ys buffer buffer' buffer'' phase phase' phase'' f g = grind arith
 FedInTurn-append (x ∷ xs) ys buffer buffer' buffer'' phase phase' phase'' f g =
     (f.0, FedInTurn-append xs ys (next_buffer buffer phase x) buffer' buffer'' (next_phase (length buffer) phase x) phase' phase'' f.1 g)
+
+-- the bytes behind those that were fed
+pub joined : (bytes buffer buffer' buffer'' : List ℕ) (phase phase' phase'' : Phase) (run more : ℕ) → FedInTurn buffer phase (take run bytes) buffer' phase'
+    → FedInTurn buffer' phase' (take more (drop run bytes)) buffer'' phase'' → FedInTurn buffer phase (take (run + more) bytes) buffer'' phase''
+joined bytes buffer buffer' buffer'' phase phase' phase'' run more f g = grind (arith, take-add, FedInTurn-append)
 
 length-over : (base : ℕ) (buffer xs : List ℕ) → base + length xs ≤ length buffer → length (over base buffer xs) ≡ length buffer
 length-over base buffer xs room = omega (arith, length-append (take base buffer) (xs ++ drop (base + length xs) buffer), length-append xs (drop (base + length xs) buffer), length-take-le base buffer (omega arith), length-drop (base + length xs) buffer)
@@ -103,6 +108,31 @@ last_by (suc n) (code ∷ bytes) h small = elim (cases_lt (code - 1) (length byt
 
 pub code_small : (p : List ℕ) → All (λ b. b < 256) p → code_of (last_part p) < 256
 code_small p small = last_by (length p) p (omega arith) small
+
+-- A PIECE, of which the code was fed before all of its output is written
+pub code_phase : (inner : UnbufferedDecoder) (code : ℕ) → inner.over ≡ false → inner.code ≡ code → inner.left + 1 ≡ code → phase_of inner ≡ phase_at inner.dest_idx (code ∷ [])
+code_phase inner code going is left =
+    let one = last_part-one code in
+    ap (λ (v : Bool). cond v Over (phase_with (eqb inner.code 255) inner.left inner.dest_idx)) going
+    ∙ ap (λ (k : ℕ). phase_with (eqb inner.code 255) inner.left k) {y = inner.dest_idx + length (output (code ∷ []))} (omega (arith, ap length (output-one code)))
+    ∙ phase_with-at inner.dest_idx (code ∷ []) (eqb inner.code 255) inner.left (omega arith) (ap is_full one ∙ ap (λ (k : ℕ). eqb k 255) (sym is)) (ap lacks one ∙ omega arith)
+    ∙ within_same _ _ _ _ _ _ (ap (λ (k : ℕ). eqb k 255) is ∙ sym (ap is_full one)) (omega (arith, ap lacks one)) refl
+
+pub piece_fed : (before dest ys p : List ℕ) (phase phase' : Phase) (at code left count : ℕ) → 0 < length p → FedInTurn before phase (get_or p 0 0 ∷ []) dest phase'
+    → phase' ≡ phase_at at (get_or p 0 0 ∷ []) → HasNoZero p → at + length (output p) ≤ length dest → count ≡ length (output p) → take count ys ≡ output p
+    → drop count ys ≡ drop count (take (length dest - at) (drop at dest)) → code ≡ code_of (last_part p) → left ≡ lacks (last_part p)
+    → FedInTurn before phase p (put_mid at (length dest - at) dest ys) (phase_with (eqb code 255) left (at + count))
+piece_fed before dest ys [] phase phase' at code left count some first from nz room long front rest code-is left-is = absurd (omega arith)
+piece_fed before dest ys (byte ∷ q) phase phase' at code left count some first from nz room long front rest code-is left-is =
+    let p : List ℕ = byte ∷ q in
+    let fed : FedInTurn dest (phase_at at (byte ∷ [])) q (over at dest (output p)) (phase_at at p)
+    = rw (over-start at byte dest) at (FedInTurn-on at dest byte [] q (All-tail (λ b. b ≢ 0) byte q nz) room) in
+    let written : put_mid at (length dest - at) dest ys ≡ over at dest (output p) = put_over at count dest ys (output p) room long front rest in
+    let to : phase_with (eqb code 255) left (at + count) ≡ phase_at at p
+    = ap (λ (k : ℕ). phase_with (eqb code 255) left (at + k)) long
+    ∙ phase_with-at at p (eqb code 255) left some (ap (λ (k : ℕ). eqb k 255) (sym code-is)) (sym left-is)
+    ∙ within_same _ _ _ _ _ _ (ap (λ (k : ℕ). eqb k 255) code-is) left-is refl in
+    rw (written, to) (FedInTurn-append (byte ∷ []) q before dest (over at dest (output p)) phase (phase_at at (byte ∷ [])) (phase_at at p) (rw from at first) fed)
 
 -- THE OPEN BLOCK
 

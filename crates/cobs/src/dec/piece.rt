@@ -5,11 +5,11 @@ ghost use Rattle.cobs.specs.Overwritten.{overwritten};
 ghost use Rattle.cobs.specs.Decode.{sized};
 ghost use Rattle.cobs.specs.Internal.Decoded.{Decoded};
 ghost use Rattle.cobs.specs.Piece.{output, last_part, lacks};
-ghost use Rattle.cobs.specs.Stream.{outcome_of};
+ghost use Rattle.cobs.specs.Stream.{head, outcome_of};
 
 use crate::dec::DecodeError;
 use crate::dec::blocks::write_joints;
-use crate::dec::front::decode_stretch;
+use crate::dec::front::{decode_front, decode_stretch};
 use crate::enc::FULL_CODE;
 use cobs_bytes::window::{WIDE_WINDOW, WINDOW, copy_window};
 
@@ -99,6 +99,29 @@ pub(crate) fn decode_piece(piece: &[u8], dest: &mut [u8]) -> PieceOutput
         code: end.code,
         left: end.left,
     }
+}
+
+/// Writes the output of what a source has in front of its first zero, where that begins with a code, at the front of
+/// `dest`. Returns how many bytes of the source that is, and what is to be known of them.
+#[inline(always)]
+pub(crate) fn decode_head(source: &[u8], dest: &mut [u8]) -> (usize, PieceOutput)
+    requires begun { 0 < length (head source.now) }
+    requires room { length (head source.now) ≤ length dest.old }
+    ensures len { result.0 ≡ length (head source.now) }
+    ensures written { result.1.written ≡ length (output (head source.now)) }
+    ensures begins { take result.1.written dest.new ≡ output (head source.now) }
+    ensures rest { drop result.1.written dest.new ≡ drop result.1.written dest.old }
+    ensures code { result.1.code ≡ code_of (last_part (head source.now)) }
+    ensures left { result.1.left ≡ lacks (last_part (head source.now)) }
+{
+    let (front, len) = decode_front(source, dest);
+    let end = decode_piece(&source[front.read..len], &mut dest[front.written..]);
+    let whole = PieceOutput {
+        written: front.written + end.written,
+        code: end.code,
+        left: end.left,
+    };
+    (len, whole)
 }
 
 /// How many of the first bytes of a piece have an output that fits `room` bytes: all of them exactly if the whole

@@ -2,7 +2,7 @@ use Rattle.std.proofs.Common.{◌<◌, ◌≤◌, ◌+◌, All, length, arith, l
 use Rattle.std.proofs.lemmas.List.{take-take, length-take-le}
 use Rattle.std.proofs.lemmas.List.Elements.{All-take, All-from_get_or}
 use Rattle.cobs.proofs.decoding.PieceCuts.{output_short}
-use Rattle.cobs.proofs.streaming.RunLemmas.{over, run_written}
+use Rattle.cobs.proofs.streaming.RunLemmas.{over, row_fed, run_written}
 use Rattle.cobs.proofs.streaming.StretchLemmas.{open_fed, open_small}
 use Rattle.cobs.proofs.dec.unbuffered.UnbufferedDecoder.take_part.Goals as goal
 use Rattle.cobs.proofs.dec.unbuffered.UnbufferedDecoder.take_part.Goals.{After-write_joints-code, then-self-2, else-self-2}
@@ -23,6 +23,9 @@ overflow_cast-self-else-len-left c = record { fits = small (goal.at.overflow_cas
 
 pub overflow_cast-self-else-len-left-2 : goal.overflow_cast-self-else-len-left-2
 overflow_cast-self-else-len-left-2 c = record { fits = omega (arith, small (goal.at.overflow_cast-self-else-len-left-2 c).After-write_joints-code) }
+
+pub returns-then-is_all-clause-fed : goal.returns-then-is_all-clause-fed
+returns-then-is_all-clause-fed c = row_fed 32 c.args.self.now c.args.dest.now c.args.bytes.now _ c.requires.going c.if-left-eq0.true c.if-self-eq1.true (omega arith) (c.is_all.ensures c.if-is_all.true) c.write_row.ensures
 
 pub returns-then-len-left-clause-fed : goal.returns-then-len-left-clause-fed
 returns-then-len-left-clause-fed c = grind (arith, run_written, over, take-take, length-take, length-take-le, then-self-2, else-self-2)

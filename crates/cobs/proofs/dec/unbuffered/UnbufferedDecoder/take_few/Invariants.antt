@@ -1,7 +1,7 @@
 use Rattle.std.proofs.Common.{◌≡◌, ◌≤◌, ◌-◌, false, length, take}
 use Rattle.cobs.specs.Fields.Decoders.{phase_of}
 use Rattle.cobs.specs.Internal.FedInTurn.{FedInTurn}
-use Rattle.cobs.proofs.dec.unbuffered.UnbufferedDecoder.take_run.Given as goal
+use Rattle.cobs.proofs.dec.unbuffered.UnbufferedDecoder.take_few.Given as goal
 
 -- the run so far is taken
 abbrev pub invariant-by_step : goal.invariant-by_step
