@@ -21,25 +21,25 @@ abbrev pub len_through_piece : List ℕ → List ℕ → ℕ
 len_through_piece source p = min (length source) (leading_zeros source + length p + 1)
 
 -- the result for an outcome: the message's length
-abbrev pub sized : Outcome → Result ℕ DecodeError
-sized (Message message) = Ok (length message)
-sized (Broken count) = Err (InvalidFrame count)
-sized TooLong = Err TargetBufTooSmall
+abbrev pub outcome_result : Outcome → Result ℕ DecodeError
+outcome_result (Message message) = Ok (length message)
+outcome_result (Broken count) = Err (InvalidFrame count)
+outcome_result TooLong = Err TargetBufTooSmall
 
 -- the same with the count of bytes that were consumed
-abbrev pub reported : ℕ → Result ℕ DecodeError → Result DecodeReport DecodeError
-reported parsed (Ok size) = Ok (report_of parsed size)
-reported parsed (Err error) = Err error
+abbrev pub report_result : ℕ → Result ℕ DecodeError → Result DecodeReport DecodeError
+report_result parsed (Ok size) = Ok (report_of parsed size)
+report_result parsed (Err error) = Err error
 
 -- the result for a source that isn't empty, by its first piece, over a buffer of n bytes
-abbrev pub answer_by_piece : List ℕ → Option (List ℕ) → ℕ → Result DecodeReport DecodeError
-answer_by_piece source None n = Err (InvalidFrame 0)
-answer_by_piece source (Some p) n = reported (len_through_piece source p) (sized (outcome_of p n))
+abbrev pub result_by_piece : List ℕ → Option (List ℕ) → ℕ → Result DecodeReport DecodeError
+result_by_piece source None n = Err (InvalidFrame 0)
+result_by_piece source (Some p) n = report_result (len_through_piece source p) (outcome_result (outcome_of p n))
 
 -- the result of `decode` for a source, over a buffer of n bytes
-abbrev pub decode_answer : List ℕ → ℕ → Result DecodeReport DecodeError
-decode_answer [] n = Err EmptyFrame
-decode_answer (byte ∷ bytes) n = answer_by_piece (byte ∷ bytes) (first_piece (byte ∷ bytes)) n
+abbrev pub result_of_decode : List ℕ → ℕ → Result DecodeReport DecodeError
+result_of_decode [] n = Err EmptyFrame
+result_of_decode (byte ∷ bytes) n = result_by_piece (byte ∷ bytes) (first_piece (byte ∷ bytes)) n
 
 -- the output of the first piece of a source, if there is one
 abbrev pub output_of : Option (List ℕ) → List ℕ
@@ -58,30 +58,30 @@ message_of_head (byte ∷ bytes) =
     if is_whole h then Ok (output h) else Err (InvalidFrame (length (kept_output h)))
 
 -- the result for what is before the first zero of a list: the length of its message, or else of its kept output
-abbrev pub head_answer : List ℕ → Result ℕ DecodeError
-head_answer h = result_map_both length (λ error. error) (message_of_head h)
+abbrev pub head_result : List ℕ → Result ℕ DecodeError
+head_result h = result_map_both length (λ error. error) (message_of_head h)
 
 -- the result of `decode_in_place` for a buffer
-abbrev pub in_place_answer : List ℕ → Result ℕ DecodeError
-in_place_answer [] = Err EmptyFrame
-in_place_answer (byte ∷ bytes) = head_answer (head (byte ∷ bytes))
+abbrev pub result_in_place : List ℕ → Result ℕ DecodeError
+result_in_place [] = Err EmptyFrame
+result_in_place (byte ∷ bytes) = head_result (head (byte ∷ bytes))
 
 -- the result of `decode_in_place_report`: with the length of what is before the first zero
 abbrev pub in_place_report : List ℕ → Result DecodeReport DecodeError
-in_place_report buffer = reported (length (head buffer)) (in_place_answer buffer)
+in_place_report buffer = report_result (length (head buffer)) (result_in_place buffer)
 
 -- the buffer then: the message or the kept output, and after it the bytes as they were
 abbrev pub in_place : List ℕ → List ℕ
 in_place buffer = overwritten buffer (kept_output (head buffer))
 
 -- the result for what is before the first zero, over a buffer of n bytes
-abbrev pub head_answer_within : List ℕ → ℕ → Result ℕ DecodeError
-head_answer_within h n = if nat_le (length (kept_output h)) n then head_answer h else Err TargetBufTooSmall
+abbrev pub head_result_within : List ℕ → ℕ → Result ℕ DecodeError
+head_result_within h n = if nat_le (length (kept_output h)) n then head_result h else Err TargetBufTooSmall
 
 -- the result of `decode_with_sentinel` for a source for the sentinel 0, over a buffer of n bytes
-abbrev pub source_answer : List ℕ → ℕ → Result ℕ DecodeError
-source_answer [] n = Err EmptyFrame
-source_answer (byte ∷ bytes) n = head_answer_within (head (byte ∷ bytes)) n
+abbrev pub result_of_sentinel_decode : List ℕ → ℕ → Result ℕ DecodeError
+result_of_sentinel_decode [] n = Err EmptyFrame
+result_of_sentinel_decode (byte ∷ bytes) n = head_result_within (head (byte ∷ bytes)) n
 
 -- the message of a piece, if there is a piece, or why there is none
 abbrev pub message_of_piece : Option (List ℕ) → Result (List ℕ) DecodeError
@@ -99,6 +99,6 @@ decoded_head [] = Err EmptyFrame
 decoded_head (byte ∷ bytes) = message_of_head (head (byte ∷ bytes))
 
 -- an error of a vector form is that of the source, or out of memory
-abbrev pub IsRefusal : Result (List ℕ) DecodeError → DecodeVecError → Type 0
-IsRefusal answer (Decode error) = answer ≡ Err error
-IsRefusal answer (Memory error) = ⊤
+abbrev pub IsErrorFor : Result (List ℕ) DecodeError → DecodeVecError → Type 0
+IsErrorFor returned (Decode error) = returned ≡ Err error
+IsErrorFor returned (Memory error) = ⊤

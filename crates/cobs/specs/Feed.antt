@@ -2,10 +2,10 @@
 use Rattle.std.specs.Prelude.{ℕ, ◌≡◌, ◌≢◌, ◌≤◌, ◌<◌, ◌+◌, ◌⊎◌, ◌==◌, nat_le, Bool, true, false, List, [], ◌∷◌, ◌++◌, length, take, drop, Option, Some, None, Result, Ok, Err, IfOk, IfSome, if◌then◌else◌}
 use Rattle.std.specs.Result.{result_map_both}
 use Rattle.cobs.specs.Grammar.{HasNoZero, is_full}
-use Rattle.cobs.specs.Piece.{output, last_part, lacks}
-use Rattle.cobs.specs.Table.{data_of, table_answer, table_state}
+use Rattle.cobs.specs.Piece.{output, last_part, missing}
+use Rattle.cobs.specs.Table.{data_of, table_result, table_state}
 use Rattle.cobs.specs.Stream.{Outcome, outcome_of}
-use Rattle.cobs.specs.Decode.{sized}
+use Rattle.cobs.specs.Decode.{outcome_result}
 use Rattle.cobs.specs.declared.dec.DecodeError.{DecodeError}
 use Rattle.cobs.specs.declared.dec.state.DecoderState.{DecoderState}
 use Rattle.cobs.specs.declared.dec.state.DecoderState.TheVariants as states
@@ -14,18 +14,18 @@ use Rattle.cobs.specs.declared.dec.state.DecodeResult.TheVariants.{NoData, DataS
 use Rattle.cobs.specs.declared.dec.DecodeError.TheVariants.{InvalidFrame, TargetBufTooSmall}
 
 -- how a streaming decoder reports an outcome: as the free decoders do, in an option
-abbrev pub told : Outcome → Result (Option ℕ) DecodeError
-told outcome = result_map_both Some (λ error. error) (sized outcome)
+abbrev pub fed_result : Outcome → Result (Option ℕ) DecodeError
+fed_result outcome = result_map_both Some (λ error. error) (outcome_result outcome)
 
 -- the result for the zero after the front p of a piece, over a buffer of n bytes: where p is empty no piece has ended
-unfoldable pub answer_at_end : List ℕ → ℕ → Result (Option ℕ) DecodeError
-answer_at_end [] n = Ok None
-answer_at_end (byte ∷ bytes) n = told (outcome_of (byte ∷ bytes) n)
+unfoldable pub result_at_end : List ℕ → ℕ → Result (Option ℕ) DecodeError
+result_at_end [] n = Ok None
+result_at_end (byte ∷ bytes) n = fed_result (outcome_of (byte ∷ bytes) n)
 
 -- the result for a byte after the front p of a piece, over a buffer of n bytes
-unfoldable pub answer_to : List ℕ → ℕ → ℕ → Result (Option ℕ) DecodeError
-answer_to p byte n =
-    if byte == 0 then answer_at_end p n
+unfoldable pub result_for : List ℕ → ℕ → ℕ → Result (Option ℕ) DecodeError
+result_for p byte n =
+    if byte == 0 then result_at_end p n
     else (if nat_le (length (output (p ++ byte ∷ []))) n then Ok None else Err TargetBufTooSmall)
 
 -- the front of the piece once a byte is fed: a zero ends the piece
@@ -37,20 +37,20 @@ fed p byte = if byte == 0 then [] else p ++ byte ∷ []
 pub data Phase : Type 0 where
   Idle : Phase
   Within : (full : Bool) (left count : ℕ) → Phase
-  Over : Phase
+  Overlong : Phase
 
 -- a decoder's state in the table of `DecoderState`; none if the output was too long
 abbrev pub state_in : Phase → Option DecoderState
 state_in Idle = Some states.Idle
 state_in (Within false left count) = Some (states.Grab left)
 state_in (Within true left count) = Some (states.GrabChain left)
-state_in Over = None
+state_in Overlong = None
 
 -- how many bytes of the piece's output are written
 abbrev pub written_in : Phase → ℕ
 written_in Idle = 0
 written_in (Within full left count) = count
-written_in Over = 0
+written_in Overlong = 0
 
 -- what a result of that table is for a decoder that has written n bytes
 abbrev pub counted : ℕ → Result DecodeResult DecodeError → Result (Option ℕ) DecodeError
@@ -65,7 +65,7 @@ unfoldable pub phase_after : List ℕ → ℕ → Phase
 phase_after [] n = Idle
 phase_after (byte ∷ bytes) n =
     let p = byte ∷ bytes in
-    if nat_le (length (output p)) n then Within (is_full (last_part p)) (lacks (last_part p)) (length (output p)) else Over
+    if nat_le (length (output p)) n then Within (is_full (last_part p)) (missing (last_part p)) (length (output p)) else Overlong
 
 -- a decoder over a buffer of n bytes has taken the front p of a piece, as its phase shows
 pub record PhaseAfter (n : ℕ) (phase : Phase) (p : List ℕ) : Type 0 where
@@ -79,7 +79,7 @@ pub record DecoderAfter (buffer : List ℕ) (phase : Phase) (p : List ℕ) : Typ
 
 -- feeding a byte takes a decoder from the one buffer and phase to the other, with this result
 pub record Feeds (buffer : List ℕ) (phase : Phase) (byte : ℕ) (result : Result (Option ℕ) DecodeError) (buffer' : List ℕ) (phase' : Phase) : Type 0 where
-  pub answer : (p : List ℕ) → PhaseAfter (length buffer) phase p → result ≡ answer_to p byte (length buffer)
+  pub returned : (p : List ℕ) → PhaseAfter (length buffer) phase p → result ≡ result_for p byte (length buffer)
   pub phased : (p : List ℕ) → PhaseAfter (length buffer) phase p → PhaseAfter (length buffer) phase' (fed p byte)
   pub after : (p : List ℕ) → DecoderAfter buffer phase p → DecoderAfter buffer' phase' (fed p byte)
   pub untouched : (p : List ℕ) → PhaseAfter (length buffer) phase p → byte ≢ 0
@@ -88,10 +88,10 @@ pub record Feeds (buffer : List ℕ) (phase : Phase) (byte : ℕ) (result : Resu
   pub zero_idle : byte ≡ 0 → phase' ≡ Idle
   pub zero_unchanged : byte ≡ 0 → buffer' ≡ buffer
   -- its state moves as the table says, unless the output is now too long
-  pub by_table : (state : DecoderState) → state_in phase ≡ Some state → phase' ≢ Over → state_in phase' ≡ Some (table_state state byte)
+  pub by_table : (state : DecoderState) → state_in phase ≡ Some state → phase' ≢ Overlong → state_in phase' ≡ Some (table_state state byte)
   -- it returns what the table does, unless the byte of the message that the table gives has no room in the buffer
-  pub answered_by_table : (state : DecoderState) → state_in phase ≡ Some state
-      → (result ≡ counted (written_in phase) (table_answer state byte))
-      ⊎ ((result ≡ Err TargetBufTooSmall) × (length buffer < written_in phase + length (data_of (table_answer state byte))))
+  pub result_by_table : (state : DecoderState) → state_in phase ≡ Some state
+      → (result ≡ counted (written_in phase) (table_result state byte))
+      ⊎ ((result ≡ Err TargetBufTooSmall) × (length buffer < written_in phase + length (data_of (table_result state byte))))
   pub bound : IfOk result (λ found. IfSome found (λ n. n ≤ length buffer))
   pub len : length buffer' ≡ length buffer

@@ -30,20 +30,20 @@ AreAlikeAtFirst (x ∷ xs) (y ∷ ys) = AreAlike x y × (xs ≡ ys)
 abbrev pub FeedsEach : List ℕ → Phase → List ℕ → List ℕ → Phase → Type 0
 FeedsEach buffer phase [] buffer' phase' = (buffer' ≡ buffer) × (phase' ≡ phase)
 FeedsEach buffer phase (byte ∷ bytes) buffer' phase' =
-    (answer : Result (Option ℕ) DecodeError) × (between : List ℕ) × (phase_between : Phase) × Feeds buffer phase byte answer between phase_between
+    (returned : Result (Option ℕ) DecodeError) × (between : List ℕ) × (phase_between : Phase) × Feeds buffer phase byte returned between phase_between
     × FeedsEach between phase_between bytes buffer' phase'
 
 -- a decoder that takes these bytes goes from the one buffer and phase to the other, and reports these outcomes of the
 -- pieces that end in them
-pub record TakesBytes (buffer : List ℕ) (phase : Phase) (bytes : List ℕ) (told : List Outcome) (buffer' : List ℕ) (phase' : Phase) : Type 0 where
+pub record TakesBytes (buffer : List ℕ) (phase : Phase) (bytes : List ℕ) (given : List Outcome) (buffer' : List ℕ) (phase' : Phase) : Type 0 where
   pub len : length buffer' ≡ length buffer
   -- in every phase
   pub feeds : FeedsEach buffer phase bytes buffer' phase'
   pub after : (p : List ℕ) → DecoderAfter buffer phase p → DecoderAfter buffer' phase' (unended (p ++ bytes))
-  pub outcomes : (p : List ℕ) → DecoderAfter buffer phase p → told ≡ stream_outcomes (p ++ bytes) (length buffer)
+  pub outcomes : (p : List ℕ) → DecoderAfter buffer phase p → given ≡ stream_outcomes (p ++ bytes) (length buffer)
   -- where the buffer was written to inside p, the same but for the bytes of the first message
   pub phased : (p : List ℕ) → PhaseAfter (length buffer) phase p → PhaseAfter (length buffer) phase' (unended (p ++ bytes))
-  pub alike : (p : List ℕ) → PhaseAfter (length buffer) phase p → AreAlikeAtFirst told (stream_outcomes (p ++ bytes) (length buffer))
+  pub alike : (p : List ℕ) → PhaseAfter (length buffer) phase p → AreAlikeAtFirst given (stream_outcomes (p ++ bytes) (length buffer))
   pub after_zero : (p : List ℕ) → PhaseAfter (length buffer) phase p → Contains bytes 0 → DecoderAfter buffer' phase' (unended (p ++ bytes))
 
 -- the outcome that a `PieceEnd` means, over the buffer after the piece
@@ -53,12 +53,12 @@ outcome_at (ends.Broken count) buffer = Broken count
 outcome_at ends.TooLong buffer = TooLong
 
 -- the end of a piece that the result for its zero means; none if no piece has ended
-abbrev pub end_told : Result (Option ℕ) DecodeError → Option PieceEnd
-end_told (Ok None) = None
-end_told (Ok (Some n)) = Some (ends.Message n)
-end_told (Err EmptyFrame) = None
-end_told (Err (InvalidFrame count)) = Some (ends.Broken count)
-end_told (Err TargetBufTooSmall) = Some ends.TooLong
+abbrev pub end_reported : Result (Option ℕ) DecodeError → Option PieceEnd
+end_reported (Ok None) = None
+end_reported (Ok (Some n)) = Some (ends.Message n)
+end_reported (Err EmptyFrame) = None
+end_reported (Err (InvalidFrame count)) = Some (ends.Broken count)
+end_reported (Err TargetBufTooSmall) = Some ends.TooLong
 
 -- its message is within a buffer of this length
 abbrev pub IsWithin : ℕ → PieceEnd → Type 0

@@ -17,8 +17,8 @@ abbrev pub BeginsWith : List ℕ → ℕ → List ℕ → Type 0
 BeginsWith buffer n m = (n ≡ length m) × (take n buffer ≡ m)
 
 -- the result is the message's length, and the buffer begins with the message
-abbrev pub AnswersMessage : Result ℕ DecodeError → List ℕ → List ℕ → Type 0
-AnswersMessage result buffer m = IsOkAnd result (λ n. BeginsWith buffer n m)
+abbrev pub ReturnsMessage : Result ℕ DecodeError → List ℕ → List ℕ → Type 0
+ReturnsMessage result buffer m = IsOkAnd result (λ n. BeginsWith buffer n m)
 
 -- the same of a result that also says how many bytes were consumed
 abbrev pub ReportsMessage : Result DecodeReport DecodeError → List ℕ → List ℕ → Type 0

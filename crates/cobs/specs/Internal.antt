@@ -1,5 +1,5 @@
 -- Words that contracts of private functions alone cite.
 pub mod Taking
-pub mod Decoded
-pub mod FedInTurn
+pub mod DecodedUpTo
+pub mod FeedsQuietly
 pub mod KeptBytes

@@ -98,15 +98,15 @@ pub record AtStreamEnd (t : List ℕ) (reader : ReaderState) : Type 0 where
   pub nothing_kept : reader.kept ≡ []
 
 -- what a result says of the reads and of the stream t that they brought, and how it leaves the reader
-abbrev pub Tells : Result Next ReadFault → List Read → List ℕ → ReaderState → Type 0
-Tells (Ok (nexts.Message n)) reads t reader =
+abbrev pub Reports : Result Next ReadFault → List Read → List ℕ → ReaderState → Type 0
+Reports (Ok (nexts.Message n)) reads t reader =
     AtPieceEnd t (Message (take n reader.buffer)) reader × (n ≤ length reader.buffer)
-Tells (Ok (nexts.Broken count)) reads t reader = AtPieceEnd t (Broken count) reader
-Tells (Ok nexts.TooLong) reads t reader = AtPieceEnd t TooLong reader
-Tells (Ok (nexts.End unfinished)) reads t reader =
+Reports (Ok (nexts.Broken count)) reads t reader = AtPieceEnd t (Broken count) reader
+Reports (Ok nexts.TooLong) reads t reader = AtPieceEnd t TooLong reader
+Reports (Ok (nexts.End unfinished)) reads t reader =
     AtStreamEnd t reader × EndsIn reads (Some []) × (unfinished ≡ is_nonempty (unended t))
-Tells (Err faults.Io) reads t reader = AtStreamEnd t reader × EndsIn reads None
-Tells (Err faults.TooManyReads) reads t reader =
+Reports (Err faults.Io) reads t reader = AtStreamEnd t reader × EndsIn reads None
+Reports (Err faults.TooManyReads) reads t reader =
     AtStreamEnd t reader × (length reads ≡ 65536) × All GaveBytes reads
 
 -- the bytes that it counts are within a buffer of this length
@@ -126,4 +126,4 @@ pub record ReadsNext {S : Type 0} (step : S → Read → S → Type 0) (source s
   -- after each front p of a piece, the stream is p, what was kept, and what the reads gave; so nothing is read where
   -- p and the kept bytes end a piece
   pub called_for : (p : List ℕ) → ReaderAfter reader p → EachCalledFor (p ++ reader.kept) (length reader.buffer) reads
-  pub tells : (p : List ℕ) → ReaderAfter reader p → Tells result reads (p ++ reader.kept ++ all_given reads) reader'
+  pub result_says : (p : List ℕ) → ReaderAfter reader p → Reports result reads (p ++ reader.kept ++ all_given reads) reader'

@@ -24,8 +24,8 @@ abbrev pub IsOpenOutput : List ℕ → OpenBlock → List ℕ → Type 0
 IsOpenOutput g state m = (f : List ℕ) × IsOpenFrame f m state.index state.code × AgreeOutside state.index f g
 
 -- the result for a byte: a zero closes the open block, the 254th nonzero byte fills it, any other one joins it
-abbrev pub push_answer : OpenBlock → ℕ → PushResult
-push_answer state byte =
+abbrev pub push_result : OpenBlock → ℕ → PushResult
+push_result state byte =
     if byte == 0 then ModifyFromStartAndSkip (state.index, state.code)
     else (if state.code == 254 then ModifyFromStartAndPushAndSkip (state.index, 255, byte) else AddSingle byte)
 

@@ -19,13 +19,13 @@ unfoldable pub last_part : List ℕ → List ℕ
 last_part p = last_of (parts p)
 
 -- how many bytes of a part are missing
-abbrev pub lacks : List ℕ → ℕ
-lacks part = code_of part - length part
+abbrev pub missing : List ℕ → ℕ
+missing part = code_of part - length part
 
 -- whether the last part of a nonempty piece is complete
 unfoldable pub is_whole : List ℕ → Bool
 is_whole [] = false
-is_whole (byte ∷ bytes) = lacks (last_part (byte ∷ bytes)) == 0
+is_whole (byte ∷ bytes) = missing (last_part (byte ∷ bytes)) == 0
 
 abbrev pub IsWhole : List ℕ → Type 0
 IsWhole p = IsTrue (is_whole p)

@@ -3,7 +3,7 @@ use Rattle.std.specs.Prelude.{ℕ, ◌≡◌, ◌+◌, ◌-◌, ◌<◌, ◌≤�
 use Rattle.cobs.specs.Grammar.{last_of}
 use Rattle.cobs.specs.Piece.{output}
 use Rattle.cobs.specs.Stream.{stretches, is_nonempty, unended, Outcome, Message, Broken, TooLong, stream_outcomes}
-use Rattle.cobs.specs.Feed.{Phase, Idle, PhaseAfter, DecoderAfter, Feeds, answer_to}
+use Rattle.cobs.specs.Feed.{Phase, Idle, PhaseAfter, DecoderAfter, Feeds, result_for}
 use Rattle.cobs.specs.Overwritten.{overwritten}
 use Rattle.cobs.specs.Fields.Report.{parsed_size_of, frame_size_of}
 use Rattle.cobs.specs.declared.dec.DecodeReport.{DecodeReport}
@@ -16,71 +16,71 @@ unfoldable pub last_piece : List ℕ → List ℕ
 last_piece t = last_of (filter is_nonempty (stretches t))
 
 -- the result for the byte at this place, where a decoder over n bytes after the front p is fed the bytes one by one
-abbrev pub answer_at : List ℕ → List ℕ → ℕ → ℕ → Result (Option ℕ) DecodeError
-answer_at p bytes n place = answer_to (unended (p ++ take place bytes)) (slice_index bytes place) n
+abbrev pub result_at : List ℕ → List ℕ → ℕ → ℕ → Result (Option ℕ) DecodeError
+result_at p bytes n place = result_for (unended (p ++ take place bytes)) (slice_index bytes place) n
 
 -- the first bytes, this many, each return `Ok(None)`
 abbrev pub IsQuiet : List ℕ → List ℕ → ℕ → ℕ → Type 0
-IsQuiet p bytes n count = (place : ℕ) → place < count → answer_at p bytes n place ≡ Ok None
+IsQuiet p bytes n count = (place : ℕ) → place < count → result_at p bytes n place ≡ Ok None
 
 -- of the first bytes, this many, each but the last returns `Ok(None)`, and the last one returns this
-pub record StopsAfter (p bytes : List ℕ) (n count : ℕ) (answer : Result (Option ℕ) DecodeError) : Type 0 where
+pub record StopsAfter (p bytes : List ℕ) (n count : ℕ) (returned : Result (Option ℕ) DecodeError) : Type 0 where
   pub place : ℕ
   pub within : place < length bytes
   pub last : count ≡ place + 1
   pub quiet : IsQuiet p bytes n place
-  pub answered : answer_at p bytes n place ≡ answer
+  pub result_there : result_at p bytes n place ≡ returned
 
 -- a push after the front p returns the result of the first byte that doesn't return `Ok(None)`, with the
 -- count of bytes through that one
-abbrev pub Answers : List ℕ → List ℕ → ℕ → Result (Option DecodeReport) PushError → Type 0
-Answers p bytes n (Ok None) = IsQuiet p bytes n (length bytes)
-Answers p bytes n (Ok (Some report)) = StopsAfter p bytes n (parsed_size_of report) (Ok (Some (frame_size_of report)))
-Answers p bytes n (Err refusal) = StopsAfter p bytes n refusal.parsed_size (Err refusal.error)
+abbrev pub PushReturns : List ℕ → List ℕ → ℕ → Result (Option DecodeReport) PushError → Type 0
+PushReturns p bytes n (Ok None) = IsQuiet p bytes n (length bytes)
+PushReturns p bytes n (Ok (Some report)) = StopsAfter p bytes n (parsed_size_of report) (Ok (Some (frame_size_of report)))
+PushReturns p bytes n (Err failure) = StopsAfter p bytes n failure.parsed_size (Err failure.error)
 
 -- how many bytes a push consumed: this many as it says, or all
 abbrev pub consumed_size : List ℕ → Result (Option DecodeReport) PushError → ℕ
 consumed_size bytes (Ok None) = length bytes
 consumed_size bytes (Ok (Some report)) = parsed_size_of report
-consumed_size bytes (Err refusal) = refusal.parsed_size
+consumed_size bytes (Err failure) = failure.parsed_size
 
 -- these bytes
 abbrev pub consumed : List ℕ → Result (Option DecodeReport) PushError → List ℕ
 consumed bytes result = take (consumed_size bytes result) bytes
 
 -- what the error that a zero returns says of the piece that it ends
-abbrev pub refused_outcomes : DecodeError → List Outcome
-refused_outcomes EmptyFrame = []
-refused_outcomes (InvalidFrame count) = Broken count ∷ []
-refused_outcomes TargetBufTooSmall = TooLong ∷ []
+abbrev pub error_outcomes : DecodeError → List Outcome
+error_outcomes EmptyFrame = []
+error_outcomes (InvalidFrame count) = Broken count ∷ []
+error_outcomes TargetBufTooSmall = TooLong ∷ []
 
 -- the outcomes that a push reports: the message at the buffer's front; for an error the outcome of its piece, where
 -- the last byte consumed is a zero
 abbrev pub pushed_outcomes : List ℕ → Result (Option DecodeReport) PushError → List ℕ → List Outcome
 pushed_outcomes bytes (Ok None) buffer = []
 pushed_outcomes bytes (Ok (Some report)) buffer = Message (take (frame_size_of report) buffer) ∷ []
-pushed_outcomes bytes (Err refusal) buffer =
-    if slice_index bytes (refusal.parsed_size - 1) == 0 then refused_outcomes refusal.error else []
+pushed_outcomes bytes (Err failure) buffer =
+    if slice_index bytes (failure.parsed_size - 1) == 0 then error_outcomes failure.error else []
 
 -- the bytes are fed one after another, from the one buffer and phase to the other: each but the last returns
 -- `Ok(None)`, and the last one so
 abbrev pub FeedsInTurn : List ℕ → Phase → List ℕ → Result (Option ℕ) DecodeError → List ℕ → Phase → Type 0
-FeedsInTurn buffer phase [] answer buffer' phase' = (answer ≡ Ok None) × (buffer' ≡ buffer) × (phase' ≡ phase)
-FeedsInTurn buffer phase (byte ∷ []) answer buffer' phase' = Feeds buffer phase byte answer buffer' phase'
-FeedsInTurn buffer phase (byte ∷ next ∷ bytes) answer buffer' phase' =
+FeedsInTurn buffer phase [] returned buffer' phase' = (returned ≡ Ok None) × (buffer' ≡ buffer) × (phase' ≡ phase)
+FeedsInTurn buffer phase (byte ∷ []) returned buffer' phase' = Feeds buffer phase byte returned buffer' phase'
+FeedsInTurn buffer phase (byte ∷ next ∷ bytes) returned buffer' phase' =
     (between : List ℕ) × (phase_between : Phase) × Feeds buffer phase byte (Ok None) between phase_between
-    × FeedsInTurn between phase_between (next ∷ bytes) answer buffer' phase'
+    × FeedsInTurn between phase_between (next ∷ bytes) returned buffer' phase'
 
 -- what `feed` returns for the last byte that a push consumed
-abbrev pub last_answer : Result (Option DecodeReport) PushError → Result (Option ℕ) DecodeError
-last_answer (Ok None) = Ok None
-last_answer (Ok (Some report)) = Ok (Some (frame_size_of report))
-last_answer (Err refusal) = Err refusal.error
+abbrev pub last_result : Result (Option DecodeReport) PushError → Result (Option ℕ) DecodeError
+last_result (Ok None) = Ok None
+last_result (Ok (Some report)) = Ok (Some (frame_size_of report))
+last_result (Err failure) = Err failure.error
 
 -- a push of the bytes takes a decoder from the one buffer and phase to the other, and this is its result
 pub record PushesBytes (buffer : List ℕ) (phase : Phase) (bytes : List ℕ)
     (result : Result (Option DecodeReport) PushError) (buffer' : List ℕ) (phase' : Phase) : Type 0 where
-  pub answer : (p : List ℕ) → PhaseAfter (length buffer) phase p → Answers p bytes (length buffer) result
+  pub push_returns : (p : List ℕ) → PhaseAfter (length buffer) phase p → PushReturns p bytes (length buffer) result
   -- it has taken the bytes that were consumed
   pub phased : (p : List ℕ) → PhaseAfter (length buffer) phase p
       → PhaseAfter (length buffer) phase' (unended (p ++ consumed bytes result))
@@ -94,7 +94,7 @@ pub record PushesBytes (buffer : List ℕ) (phase : Phase) (bytes : List ℕ)
   pub outcomes : (p : List ℕ) → DecoderAfter buffer phase p
       → stream_outcomes (p ++ consumed bytes result) (length buffer) ≡ pushed_outcomes bytes result buffer'
   -- in every phase: it feeds the bytes that were consumed
-  pub feeds : FeedsInTurn buffer phase (consumed bytes result) (last_answer result) buffer' phase'
+  pub feeds : FeedsInTurn buffer phase (consumed bytes result) (last_result result) buffer' phase'
   pub within : consumed_size bytes result ≤ length bytes
   pub bound : IfOk result (λ found. IfSome found (λ report. frame_size_of report ≤ length buffer))
   pub zero_idle : (front : List ℕ) → consumed bytes result ≡ front ++ 0 ∷ [] → phase' ≡ Idle

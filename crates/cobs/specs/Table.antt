@@ -2,7 +2,7 @@
 -- piece.
 use Rattle.std.specs.Prelude.{ℕ, zero, suc, ◌≡◌, ◌<◌, ◌-◌, ◌==◌, List, [], ◌∷◌, All, Result, Ok, Err, if◌then◌else◌}
 use Rattle.cobs.specs.Grammar.{HasNoZero, is_full}
-use Rattle.cobs.specs.Piece.{last_part, lacks, output}
+use Rattle.cobs.specs.Piece.{last_part, missing, output}
 use Rattle.cobs.specs.declared.dec.state.DecoderState.{DecoderState}
 use Rattle.cobs.specs.declared.dec.state.DecoderState.TheVariants.{Idle, Grab, GrabChain}
 use Rattle.cobs.specs.declared.dec.state.DecodeResult.{DecodeResult}
@@ -15,12 +15,12 @@ abbrev pub opened_by : ℕ → DecoderState
 opened_by code = if code == 255 then GrabChain 254 else Grab (code - 1)
 
 -- the result
-abbrev pub table_answer : DecoderState → ℕ → Result DecodeResult DecodeError
-table_answer Idle byte = if byte == 0 then Ok NoData else Ok DataStart
-table_answer (Grab (suc left)) byte = if byte == 0 then Err (InvalidFrame 0) else Ok (DataContinue byte)
-table_answer (GrabChain (suc left)) byte = if byte == 0 then Err (InvalidFrame 0) else Ok (DataContinue byte)
-table_answer (Grab zero) byte = if byte == 0 then Ok DataComplete else Ok (DataContinue 0)
-table_answer (GrabChain zero) byte = if byte == 0 then Ok DataComplete else Ok NoData
+abbrev pub table_result : DecoderState → ℕ → Result DecodeResult DecodeError
+table_result Idle byte = if byte == 0 then Ok NoData else Ok DataStart
+table_result (Grab (suc left)) byte = if byte == 0 then Err (InvalidFrame 0) else Ok (DataContinue byte)
+table_result (GrabChain (suc left)) byte = if byte == 0 then Err (InvalidFrame 0) else Ok (DataContinue byte)
+table_result (Grab zero) byte = if byte == 0 then Ok DataComplete else Ok (DataContinue 0)
+table_result (GrabChain zero) byte = if byte == 0 then Ok DataComplete else Ok NoData
 
 -- the state after it
 abbrev pub table_state : DecoderState → ℕ → DecoderState
@@ -43,7 +43,7 @@ abbrev pub state_after : List ℕ → DecoderState
 state_after [] = Idle
 state_after (byte ∷ bytes) =
     let part = last_part (byte ∷ bytes) in
-    if is_full part then GrabChain (lacks part) else Grab (lacks part)
+    if is_full part then GrabChain (missing part) else Grab (missing part)
 
 -- the state has taken the front p of a piece, and these are the bytes that its results gave so far: what p decodes to
 pub record StateAfter (state : DecoderState) (p so_far : List ℕ) : Type 0 where

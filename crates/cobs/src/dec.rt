@@ -64,11 +64,11 @@ pub enum DecodeError {
 /// ```
 /// let mut buffer = [0; 4];
 /// let mut decoder = CobsDecoder::new(&mut buffer);
-/// let refused = PushError {
+/// let rejected = PushError {
 ///     error: DecodeError::InvalidFrame { decoded_bytes: 1 },
 ///     parsed_size: 3,
 /// };
-/// assert_eq!(rt; decoder.push(&[3, 7, 0, 2, 9, 0]), Err(refused));
+/// assert_eq!(rt; decoder.push(&[3, 7, 0, 2, 9, 0]), Err(rejected));
 /// ```
 #[derive(Debug, Drop, PartialEq, Eq, Error)]
 #[error("{error}")]
@@ -83,9 +83,9 @@ pub struct PushError {
 /// Why a source gave no vector. (A choice of this library: memory may run out, and nothing aborts.)
 ///
 /// ```
-/// let refused = decode_vec(alloc, &[]);
+/// let rejected = decode_vec(alloc, &[]);
 /// assert_eq!(rt;
-///     refused,
+///     rejected,
 ///     Err(DecodeVecError::Decode(DecodeError::EmptyFrame))
 /// );
 /// ```

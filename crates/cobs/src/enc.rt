@@ -15,7 +15,7 @@ mod unbuffered;
 mod vector;
 
 pub(crate) use blocks::FULL_CODE;
-use blocks::{append_short, append_windows, close, close_runs, is_short};
+use blocks::{append_rest_and_close, append_short, append_windows, close, fits_window_and_block};
 use cobs_bytes::window::WINDOW;
 pub use encoder::CobsEncoder;
 pub use error::DestBufTooSmallError;
@@ -74,11 +74,11 @@ fn encode_long(source: &[u8], dest: &mut [u8]) -> usize
     ensures rest { drop result dest.new ≡ drop result dest.old }
 {
     if source.len() <= WINDOW {
-        return close_runs(source, dest, START);
+        return append_rest_and_close(source, dest, START);
     }
     let (read, progress) = append_windows(source, dest, START);
     let left = &source[read..];
-    if !is_short(progress, left.len()) {
+    if !fits_window_and_block(progress, left.len()) {
         // Anew from its fields, so that the short way keeps them in registers.
         let EncoderProgress {
             index,
@@ -90,7 +90,7 @@ fn encode_long(source: &[u8], dest: &mut [u8]) -> usize
             code,
             is_full,
         };
-        return close_runs(left, dest, behind);
+        return append_rest_and_close(left, dest, behind);
     }
     let progress = append_short(left, dest, progress, false);
     close(dest, progress)

@@ -9,7 +9,7 @@ ghost use Rattle.cobs.specs.Grammar.{HasNoZero};
 ghost use Rattle.cobs.specs.Stream.{Outcome, stream_outcomes, unended, is_nonempty};
 ghost use Rattle.cobs.specs.Feed.{DecoderAfter};
 ghost use Rattle.cobs.specs.FeedPiece.{outcome_at, IsCountWithin};
-ghost use Rattle.cobs.specs.Internal.KeptBytes.{DecoderHasTaken, IsOutcome, TellsFirst};
+ghost use Rattle.cobs.specs.Internal.KeptBytes.{DecoderHasTaken, IsOutcome, ReportsFirst};
 
 use crate::dec::{FrameDecoder, PieceEnd};
 use std::io::Read;
@@ -208,7 +208,7 @@ impl<D: FrameDecoder> FrameReader<D> {
     ghost use Rattle.cobs.specs.Stream.{is_nonempty, unended};
     ghost use Rattle.cobs.specs.Feed.{DecoderAfter};
     ghost use Rattle.cobs.specs.NextFrame.{AtStreamEnd, IsNextWithin, ReaderAfter, ReadsNext};
-    ghost use Rattle.cobs.specs.Internal.KeptBytes.{TellsFirst, with_kept};
+    ghost use Rattle.cobs.specs.Internal.KeptBytes.{ReportsFirst, with_kept};
     ghost use Rattle.cobs.specs.Fields.Reader.{decoder_of, kept_of, reader_state};
 
     /// Makes a reader with this decoder, which has read nothing yet.
@@ -255,7 +255,7 @@ impl<D: FrameDecoder> FrameReader<D> {
             × (self.new.unfinished ≡ is_nonempty (unended (p ++ bytes.now)))) }
         ensures first { IfSome result (λ found. (p : List ℕ)
             → ReaderAfter (reader_state D.bytes D.phase self.old) p
-            → TellsFirst found.0 p bytes.now
+            → ReportsFirst found.0 p bytes.now
             (D.bytes (decoder_of self.new)) (drop found.1 bytes.now)) }
         ensures within { IfSome result (λ found. found.1 ≤ length bytes.now) }
         ensures bound { IfSome result

@@ -12,7 +12,7 @@ abbrev pub Any : Bool → Type 0
 Any full = Unit {0}
 
 -- Of a message that had H before, the slice has the first i bytes of the source too; `end` is where its frame is to end
--- once it has them all, and behind that the slice is as it was. A block that is full lacks its code still. Of the last
+-- once it has them all, and behind that the slice is as it was. The code of a block that is full is missing still. Of the last
 -- block before an open one P says whether it is full.
 pub record Taken (H : List ℕ → Type 0) (source old slice : List ℕ) (end i index code : ℕ) (P : Bool → Type 0) : Type 0 where
   pub some : 0 < code

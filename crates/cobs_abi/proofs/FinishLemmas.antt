@@ -17,7 +17,7 @@ use Rattle.cobs_abi.specs.declared.answer.Answer.{Answer}
 use Rattle.cobs_abi.specs.declared.answer.TheConstants.{OK}
 use Rattle.cobs_abi.specs.declared.encoder.Encoder.{Encoder}
 
--- exclusive or with 0 changes nothing
+-- XOR with 0 changes nothing
 pub xor_each-zero : (xs : List ℕ) → xor_each 0 xs ≡ xs
 xor_each-zero [] = refl
 xor_each-zero (x ∷ xs) = ap (λ (y : ℕ). y ∷ xor_each 0 xs) (xor_zero_r x) ∙ ap (λ (ys : List ℕ). x ∷ ys) (xor_each-zero xs)
@@ -47,7 +47,7 @@ module _ (free : (f : List ℕ) (s : ℕ) → IsFrame f → All (λ byte. byte �
         place = f.place;
         fresh = f.fresh;
         too_small = f.too_small;
-        refused = f.refused;
+        rejected = f.rejected;
         empty = f.empty;
         rest = behind ∙ f.rest;
         bound = f.bound;
@@ -84,7 +84,7 @@ module _ (counted : (f m : List ℕ) → IsEncodedFrame f m → length f ≡ enc
       place = λ _. omega (arith, f.place ok);
       fresh = λ _. f.fresh ok;
       too_small = λ other. absurd (other refl);
-      refused = λ other. absurd (other refl);
+      rejected = λ other. absurd (other refl);
       empty = λ none. absurd (omega arith);
       rest = behind_terminator buffer part last result.length s len (omega arith) (omega (arith, f.bound, front)) f.rest;
       bound = omega (arith, f.bound, front);
@@ -114,7 +114,7 @@ module _ (counted : (f m : List ℕ) → IsEncodedFrame f m → length f ≡ enc
           place = λ ok. absurd (other ok);
           fresh = λ ok. absurd (other ok);
           too_small = f.too_small;
-          refused = f.refused;
+          rejected = f.rejected;
           empty = λ _. f.too_small other;
           rest = rest;
           bound = omega arith;

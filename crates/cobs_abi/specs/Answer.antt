@@ -10,19 +10,19 @@ use Rattle.cobs_abi.specs.declared.answer.TheConstants.{OK, TOO_SMALL, BROKEN, E
 
 -- the result of a decoding call that took this many bytes, into a buffer of n bytes, by the message's length or the
 -- error
-abbrev pub answer_by : ℕ → ℕ → Result ℕ DecodeError → Answer
-answer_by consumed n (Ok size) = record { status = OK; consumed = consumed; length = size }
-answer_by consumed n (Err EmptyFrame) = record { status = EMPTY; consumed = consumed; length = 0 }
-answer_by consumed n (Err (InvalidFrame count)) = record { status = BROKEN; consumed = consumed; length = count }
-answer_by consumed n (Err TargetBufTooSmall) = record { status = TOO_SMALL; consumed = consumed; length = n }
+abbrev pub result_by : ℕ → ℕ → Result ℕ DecodeError → Answer
+result_by consumed n (Ok size) = record { status = OK; consumed = consumed; length = size }
+result_by consumed n (Err EmptyFrame) = record { status = EMPTY; consumed = consumed; length = 0 }
+result_by consumed n (Err (InvalidFrame count)) = record { status = BROKEN; consumed = consumed; length = count }
+result_by consumed n (Err TargetBufTooSmall) = record { status = TOO_SMALL; consumed = consumed; length = n }
 
 -- how many bytes a source has up to its first zero, with that zero if there is one
 abbrev pub head_end : List ℕ → ℕ
 head_end source = min (length source) (length (head source) + 1)
 
 -- what the result of a push says: how a piece of the stream ended, and after how many bytes
-abbrev pub told : Answer → Option (PieceEnd × ℕ)
-told answer =
-    if answer.status == OK then Some (Message answer.length, answer.consumed)
-    else (if answer.status == BROKEN then Some (Broken answer.length, answer.consumed)
-    else (if answer.status == TOO_SMALL then Some (TooLong, answer.consumed) else None))
+abbrev pub piece_end_of : Answer → Option (PieceEnd × ℕ)
+piece_end_of returned =
+    if returned.status == OK then Some (Message returned.length, returned.consumed)
+    else (if returned.status == BROKEN then Some (Broken returned.length, returned.consumed)
+    else (if returned.status == TOO_SMALL then Some (TooLong, returned.consumed) else None))

@@ -1,12 +1,12 @@
 -- What the calls that decode whole frames ensure.
 use Rattle.std.specs.Prelude.{◌≡◌, ◌≢◌, ◌≤◌, ◌↔◌, ◌++◌, ℕ, List, length, drop, Some, None}
-use Rattle.cobs.specs.Decode.{first_output, in_place, in_place_answer, len_through_piece, sized, source_answer}
+use Rattle.cobs.specs.Decode.{first_output, in_place, result_in_place, len_through_piece, outcome_result, result_of_sentinel_decode}
 use Rattle.cobs.specs.Grammar.{IsCanonical, IsFrame}
 use Rattle.cobs.specs.Overwritten.{overwritten}
 use Rattle.cobs.specs.Piece.{kept_output}
 use Rattle.cobs.specs.Sentinel.{xor_each}
 use Rattle.cobs.specs.Stream.{first_piece, head, outcome_of}
-use Rattle.cobs_abi.specs.Answer.{answer_by, head_end}
+use Rattle.cobs_abi.specs.Answer.{result_by, head_end}
 use Rattle.cobs_abi.specs.declared.answer.Answer.{Answer}
 use Rattle.cobs_abi.specs.declared.answer.TheConstants.{EMPTY, TOO_SMALL}
 use Rattle.cobs_abi.specs.declared.kind.TheConstants.{CANONICAL, LONGER, NOT_A_FRAME}
@@ -15,25 +15,25 @@ use Rattle.cobs_abi.specs.declared.kind.TheConstants.{CANONICAL, LONGER, NOT_A_F
 pub record Decodes (source message : List ℕ) (result : Answer) (message' : List ℕ) : Type 0 where
   pub none : first_piece source ≡ None → result ≡ record { status = EMPTY; consumed = length source; length = 0 }
   pub some : (p : List ℕ) → first_piece source ≡ Some p
-      → result ≡ answer_by (len_through_piece source p) (length message) (sized (outcome_of p (length message)))
+      → result ≡ result_by (len_through_piece source p) (length message) (outcome_result (outcome_of p (length message)))
   pub buffer : message' ≡ overwritten message (first_output source)
   -- a buffer as long as the source suffices
   pub room : length source ≤ length message → result.status ≢ TOO_SMALL
 
 -- `jcobs_decode_with_sentinel`: so is what is in front of the first sentinel s
 pub record DecodesFor (s : ℕ) (source message : List ℕ) (result : Answer) (message' : List ℕ) : Type 0 where
-  pub answer : let t = xor_each s source in result ≡ answer_by (head_end t) (length message) (source_answer t (length message))
+  pub returned : let t = xor_each s source in result ≡ result_by (head_end t) (length message) (result_of_sentinel_decode t (length message))
   pub buffer : message' ≡ overwritten message (kept_output (head (xor_each s source)))
 
 -- `jcobs_decode_in_place`
 pub record DecodesInPlace (source : List ℕ) (result : Answer) (source' : List ℕ) : Type 0 where
-  pub answer : result ≡ answer_by (head_end source) (length source) (in_place_answer source)
+  pub returned : result ≡ result_by (head_end source) (length source) (result_in_place source)
   pub buffer : source' ≡ in_place source
 
 -- `jcobs_decode_in_place_with_sentinel`: the bytes of the frame, in front of the first sentinel s, are XORed with it, and
 -- then begin with the message. The sentinel and the bytes after it are as they were.
 pub record DecodesInPlaceFor (s : ℕ) (source : List ℕ) (result : Answer) (source' : List ℕ) : Type 0 where
-  pub answer : let t = xor_each s source in result ≡ answer_by (head_end t) (length source) (in_place_answer t)
+  pub returned : let t = xor_each s source in result ≡ result_by (head_end t) (length source) (result_in_place t)
   pub buffer : let frame = head (xor_each s source) in source' ≡ overwritten frame (kept_output frame) ++ drop (length frame) source
 
 -- `jcobs_frame_kind`

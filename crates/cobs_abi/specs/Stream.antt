@@ -4,7 +4,7 @@ use Rattle.cobs.specs.Feed.{DecoderAfter, Idle}
 use Rattle.cobs.specs.FeedPiece.{TakesPiece}
 use Rattle.cobs.specs.Length.{encoded_len}
 use Rattle.cobs.specs.OpenBlock.{CobsEncoderAfter, end_of}
-use Rattle.cobs_abi.specs.Answer.{told}
+use Rattle.cobs_abi.specs.Answer.{piece_end_of}
 use Rattle.cobs_abi.specs.Encode.{Writes}
 use Rattle.cobs_abi.specs.State.{held, phase_in, reached_in}
 use Rattle.cobs_abi.specs.declared.answer.Answer.{Answer}
@@ -18,14 +18,14 @@ pub record IsFreshDecoder (decoder : Decoder) : Type 0 where
   pub after : (buffer : List ℕ) → DecoderAfter buffer (phase_in decoder) []
 
 -- `jcobs_decoder_is_idle`
-pub record TellsIdle (decoder : Decoder) (result : ℕ) : Type 0 where
+pub record ReportsIdle (decoder : Decoder) (result : ℕ) : Type 0 where
   pub idle : phase_in decoder ≡ Idle → result ≡ 1
   pub open_piece : phase_in decoder ≢ Idle → result ≡ 0
 
 -- `jcobs_decoder_push`, `jcobs_decoder_feed` of one byte, and `jcobs_decoder_push_with_sentinel` of bytes that are XORed
 -- with the sentinel: the decoder takes the bytes through the zero that ends the first piece, or all of them
 pub record DecodesNext (decoder : Decoder) (buffer bytes : List ℕ) (result : Answer) (decoder' : Decoder) (buffer' : List ℕ) : Type 0 where
-  pub takes : TakesPiece buffer (phase_in decoder) bytes (told result) buffer' (phase_in decoder')
+  pub takes : TakesPiece buffer (phase_in decoder) bytes (piece_end_of result) buffer' (phase_in decoder')
   pub more : result.status ≡ MORE
       → result ≡ record { status = MORE; consumed = length bytes; length = held (length buffer) (phase_in decoder') }
   pub too_small : result.status ≡ TOO_SMALL → result.length ≡ length buffer
@@ -49,10 +49,10 @@ pub record EncodesNext (encoder : Encoder) (buffer bytes : List ℕ) (result : A
       → CobsEncoderAfter buffer' (reached_in encoder') (m ++ bytes)
   pub counted : result.status ≡ OK → (m : List ℕ) → CobsEncoderAfter buffer (reached_in encoder) m → result.length ≡ encoded_len (m ++ bytes)
   -- in every state
-  pub answer : result.status ≡ OK
+  pub returned : result.status ≡ OK
       → result ≡ record { status = OK; consumed = length bytes; length = end_of (reached_in encoder') }
   pub too_small : result.status ≢ OK → result ≡ record { status = TOO_SMALL; consumed = 0; length = 0 }
-  pub refused : result.status ≢ OK → encoder' ≡ encoder
+  pub rejected : result.status ≢ OK → encoder' ≡ encoder
   pub rest : drop result.length buffer' ≡ drop result.length buffer
   pub bound : result.length ≤ length buffer
   pub len : length buffer' ≡ length buffer
@@ -66,7 +66,7 @@ pub record Finishes (added : ℕ) (IsWanted : List ℕ → List ℕ → Type 0) 
   pub place : result.status ≡ OK → result.length ≡ end_of (reached_in encoder) + added
   pub fresh : result.status ≡ OK → IsFreshEncoder encoder'
   pub too_small : result.status ≢ OK → result ≡ record { status = TOO_SMALL; consumed = 0; length = 0 }
-  pub refused : result.status ≢ OK → encoder' ≡ encoder
+  pub rejected : result.status ≢ OK → encoder' ≡ encoder
   pub empty : length buffer ≡ 0 → result ≡ record { status = TOO_SMALL; consumed = 0; length = 0 }
   pub rest : drop result.length buffer' ≡ drop result.length buffer
   pub bound : result.length ≤ length buffer

@@ -1,6 +1,6 @@
 //! What a call returns, as C sees it.
 ghost use Rattle.std.specs.Prelude.{◌≡◌};
-ghost use Rattle.cobs_abi.specs.Answer.{answer_by};
+ghost use Rattle.cobs_abi.specs.Answer.{result_by};
 
 use cobs::DecodeError;
 
@@ -52,8 +52,8 @@ pub fn too_small() -> Answer
 
 /// The result of a decoding call that took this many bytes, into a buffer of `room` bytes, by the message's length or
 /// the error.
-pub fn answer_by(consumed: usize, room: usize, size: Result<usize, DecodeError>) -> Answer
-    ensures { result ≡ answer_by consumed room size }
+pub fn result_by(consumed: usize, room: usize, size: Result<usize, DecodeError>) -> Answer
+    ensures { result ≡ result_by consumed room size }
 {
     let (status, length) = match size {
         Ok(length) => (OK, length),

@@ -1,7 +1,7 @@
 //! The streaming decoder by a step for each byte.
 ghost use Rattle.std.specs.Prelude.{◌≡◌, ◌≢◌, ℕ, List, length};
-ghost use Rattle.cobs.specs.FeedPiece.{TakesPiece, end_told};
-ghost use Rattle.cobs.specs.Step.{end_answer, next_buffer, next_phase};
+ghost use Rattle.cobs.specs.FeedPiece.{TakesPiece, end_reported};
+ghost use Rattle.cobs.specs.Step.{end_result, next_buffer, next_phase};
 ghost use Rattle.cobs.specs.Sentinel.{xor_each};
 ghost use Rattle.cobs_abi.specs.State.{phase_in};
 ghost use Rattle.cobs_abi.specs.Stream.{DecodesNext};
@@ -17,7 +17,7 @@ const FULL: u8 = 255;
 
 /// Returns the result of a call that took these of `len` bytes, into a buffer of `room` bytes.
 #[inline(always)]
-pub fn answer_of(
+pub fn result_of(
     decoder: &Decoder,
     found: Option<(PieceEnd, usize)>,
     len: usize,
@@ -86,7 +86,7 @@ fn take_byte(decoder: &mut Decoder, buffer: &mut [u8], byte: u8)
 /// Returns how a zero ends the open piece, or `None` if no piece has begun.
 #[inline(always)]
 pub fn piece_end(decoder: &Decoder, room: usize) -> Option<PieceEnd>
-    ensures { result ≡ end_told (end_answer room (phase_in decoder.now)) }
+    ensures { result ≡ end_reported (end_result room (phase_in decoder.now)) }
 {
     if decoder.too_long != 0 {
         return Some(PieceEnd::TooLong);
@@ -135,5 +135,5 @@ pub fn decode_each(decoder: &mut Decoder, buffer: &mut [u8], bytes: &[u8], senti
         decoder.new buffer.new }
 {
     let found = take_each(decoder, buffer, bytes, sentinel);
-    answer_of(decoder, found, bytes.len(), buffer.len())
+    result_of(decoder, found, bytes.len(), buffer.len())
 }

@@ -79,12 +79,12 @@ pub fn finish_terminated(encoder: &mut Encoder, buffer: &mut [u8]) -> Answer
         return too_small();
     }
     let last = buffer.len() - 1;
-    let answer = finish(encoder, &mut buffer[..last]);
-    if answer.status != OK {
-        return answer;
+    let returned = finish(encoder, &mut buffer[..last]);
+    if returned.status != OK {
+        return returned;
     }
-    buffer[answer.length] = 0;
-    done(answer.consumed, answer.length + 1)
+    buffer[returned.length] = 0;
+    done(returned.consumed, returned.length + 1)
 }
 
 /// Encodes the message of `message_len` bytes that lies in the buffer, in its own place, if the longest frame of such a

@@ -14,9 +14,9 @@ mod kind;
 mod source;
 mod text;
 
-pub use answer::{Answer, BROKEN, EMPTY, MORE, OK, TOO_SMALL, answer_by, done, too_small};
+pub use answer::{Answer, BROKEN, EMPTY, MORE, OK, TOO_SMALL, done, result_by, too_small};
 pub use decoder::{DECODER_START, Decoder};
-pub use decoding::{answer_of, decode_each, piece_end};
+pub use decoding::{decode_each, piece_end, result_of};
 pub use encoder::{ENCODER_START, Encoder, end_of};
 pub use encoding::{encode_each, encode_within, finish, finish_terminated};
 pub use kind::{CANONICAL, LONGER, NOT_A_FRAME};

@@ -1,4 +1,4 @@
--- What stands in a buffer.
+-- What is in a buffer.
 use Rattle.std.proofs.Common.{◌≡◌, ℕ, ◌+◌, ◌-◌, ◌<◌, ◌≤◌, min, List, [], ◌∷◌, ◌++◌, length, take, drop, set, get_or, sym, ap, ◌∙◌, arith, length-append, length-take-le, take_all, append_assoc, nat_le, true, false, ⊎_elim}
 use Rattle.std.proofs.lemmas.List.{drop_more, set_at}
 use Rattle.std.proofs.lemmas.Bool.{leb-true, leb-false, cases_Bool}

@@ -2,28 +2,28 @@
 use Rattle.std.proofs.Common.{◌≡◌, ◌≢◌, ◌∙◌, ◌⊎◌, inl, inr, ◌++◌, ◌+◌, ◌<◌, ◌≤◌, ℕ, List, [], ◌∷◌, All, length, take, drop, min, get_or, refl, sym, ap, subst, arith, take_all, length-take-le}
 use Rattle.std.proofs.lemmas.List.{length-map}
 use Rattle.std.specs.Int.Bits.{bit_xor}
-use Rattle.cobs.specs.Decode.{head_answer, in_place, in_place_answer}
+use Rattle.cobs.specs.Decode.{head_result, in_place, result_in_place}
 use Rattle.cobs.specs.Overwritten.{overwritten}
 use Rattle.cobs.specs.Piece.{kept_output}
 use Rattle.cobs.specs.Grammar.{HasNoZero}
 use Rattle.cobs.specs.Sentinel.{IsFreeOf, xor_each}
 use Rattle.cobs.specs.Stream.{head}
-use Rattle.cobs_abi.specs.Answer.{answer_by, head_end}
+use Rattle.cobs_abi.specs.Answer.{result_by, head_end}
 use Rattle.cobs_abi.specs.declared.answer.TheConstants.{OK}
 
--- the answer to a list is the one to what is in front of its first zero
-same_answer : (g t : List ℕ) → g ≡ head t → head g ≡ g → (length t ≡ 0) ⊎ (length g ≢ 0) → in_place_answer g ≡ in_place_answer t
+-- the result for a list is the one for what is in front of its first zero
+same_result : (g t : List ℕ) → g ≡ head t → head g ≡ g → (length t ≡ 0) ⊎ (length g ≢ 0) → result_in_place g ≡ result_in_place t
 unfolding head
-same_answer [] [] e h some = refl
-same_answer [] (b ∷ t) e h some = elim some [ inl none ↦ absurd (omega (arith, none)) | inr some ↦ absurd (some refl) ]
-same_answer (x ∷ g) [] e h some = absurd cc
-same_answer (x ∷ g) (b ∷ t) e h some = ap head_answer (h ∙ e)
+same_result [] [] e h some = refl
+same_result [] (b ∷ t) e h some = elim some [ inl none ↦ absurd (omega (arith, none)) | inr some ↦ absurd (some refl) ]
+same_result (x ∷ g) [] e h some = absurd cc
+same_result (x ∷ g) (b ∷ t) e h some = ap head_result (h ∙ e)
 
-empty_answer : (t : List ℕ) (n : ℕ) → head t ≡ [] → length t ≢ 0 → record { status = OK; consumed = 1; length = 0 } ≡ answer_by (head_end t) n (in_place_answer t)
-empty_answer [] n e some = absurd (some refl)
-empty_answer (b ∷ t) n e some =
+empty_result : (t : List ℕ) (n : ℕ) → head t ≡ [] → length t ≢ 0 → record { status = OK; consumed = 1; length = 0 } ≡ result_by (head_end t) n (result_in_place t)
+empty_result [] n e some = absurd (some refl)
+empty_result (b ∷ t) n e some =
     let one : head_end (b ∷ t) ≡ 1 = omega (arith, ap length e) in
-    sym (ap (λ (h : List ℕ). answer_by (head_end (b ∷ t)) n (head_answer h)) e ∙ ap (λ (k : ℕ). record { status = OK; consumed = k; length = 0 }) one)
+    sym (ap (λ (h : List ℕ). result_by (head_end (b ∷ t)) n (head_result h)) e ∙ ap (λ (k : ℕ). record { status = OK; consumed = k; length = 0 }) one)
 
 nothing_written : (xs buffer : List ℕ) → buffer ≡ overwritten [] xs ++ drop 0 buffer
 nothing_written [] buffer = refl
@@ -54,9 +54,9 @@ module _ (law : HeadLaw) (buffer : List ℕ) (end s : ℕ) (within : end ≤ len
   pub front-end : min (length buffer) (end + 1) ≡ head_end (xor_each s buffer)
   front-end = omega (arith, len, ap length is_head, length-map buffer (λ b. bit_xor b s))
 
-  pub front-answer : (end ≡ 0 × length buffer ≡ 0) ⊎ (end ≢ 0) → in_place_answer (xor_each s (take end buffer)) ≡ in_place_answer (xor_each s buffer)
-  front-answer some =
-      same_answer (xor_each s (take end buffer)) (xor_each s buffer) is_head head_of_front
+  pub front-result : (end ≡ 0 × length buffer ≡ 0) ⊎ (end ≢ 0) → result_in_place (xor_each s (take end buffer)) ≡ result_in_place (xor_each s buffer)
+  front-result some =
+      same_result (xor_each s (take end buffer)) (xor_each s buffer) is_head head_of_front
       (elim some [ inl none ↦ inl (length-map buffer (λ b. bit_xor b s) ∙ none.1) | inr some ↦ inr (λ none. some (sym len ∙ none)) ])
 
   pub front-buffer : in_place (xor_each s (take end buffer)) ++ drop end buffer ≡ (let frame = head (xor_each s buffer) in overwritten frame (kept_output frame) ++ drop (length frame) buffer)
@@ -70,8 +70,8 @@ module _ (law : HeadLaw) (buffer : List ℕ) (end s : ℕ) (within : end ≤ len
     no_head : head (xor_each s buffer) ≡ []
     no_head = sym is_head ∙ ap (λ (k : ℕ). xor_each s (take k buffer)) none
 
-    pub sentinel-answer : (n : ℕ) → record { status = OK; consumed = 1; length = 0 } ≡ answer_by (head_end (xor_each s buffer)) n (in_place_answer (xor_each s buffer))
-    sentinel-answer n = empty_answer (xor_each s buffer) n no_head (λ e. some (sym (length-map buffer (λ b. bit_xor b s)) ∙ e))
+    pub sentinel-result : (n : ℕ) → record { status = OK; consumed = 1; length = 0 } ≡ result_by (head_end (xor_each s buffer)) n (result_in_place (xor_each s buffer))
+    sentinel-result n = empty_result (xor_each s buffer) n no_head (λ e. some (sym (length-map buffer (λ b. bit_xor b s)) ∙ e))
 
     pub sentinel-buffer : buffer ≡ (let frame = head (xor_each s buffer) in overwritten frame (kept_output frame) ++ drop (length frame) buffer)
     sentinel-buffer = nothing_written (kept_output []) buffer ∙ sym (ap (λ (f : List ℕ). overwritten f (kept_output f) ++ drop (length f) buffer) no_head)

@@ -1,7 +1,7 @@
 -- Sources, and how much of them a call takes.
 use Rattle.std.proofs.Common.{◌≡◌, ◌<◌, ◌≤◌, ℕ, List, [], ◌∷◌, length, take, drop, get_or, Option, Some, None, Result, Ok, Err, sym, ap, subst}
 use Rattle.cobs.specs.Grammar.{HasNoZero}
-use Rattle.cobs.specs.Decode.{answer_by_piece, leading_zeros, len_through_piece, decode_answer, reported, sized}
+use Rattle.cobs.specs.Decode.{result_by_piece, leading_zeros, len_through_piece, result_of_decode, report_result, outcome_result}
 use Rattle.cobs.specs.Stream.{first_piece, outcome_of}
 use Rattle.cobs.specs.declared.DecodeError.{DecodeError}
 
@@ -16,13 +16,13 @@ module _ (source rest : List ℕ) (n : ℕ) (is : rest ≡ drop (leading_zeros s
       subst (λ (r : List ℕ). n ≤ length r → HasNoZero (take n r) → (n < length r → get_or r n 0 ≡ 0) → first_piece source ≡ Some (take n r)) (sym is)
       (λ within' before' stop'. law source n some within' before' stop') within before stop
 
--- the answer of `decode` where there is a piece
-pub answer-some : (source p : List ℕ) (n : ℕ) → first_piece source ≡ Some p → decode_answer source n ≡ reported (len_through_piece source p) (sized (outcome_of p n))
+-- the result of `decode` where there is a piece
+pub result-some : (source p : List ℕ) (n : ℕ) → first_piece source ≡ Some p → result_of_decode source n ≡ report_result (len_through_piece source p) (outcome_result (outcome_of p n))
 unfolding first_piece
-answer-some [] p n is = absurd cc
-answer-some (b ∷ bs) p n is = ap (λ (found : Option (List ℕ)). answer_by_piece (b ∷ bs) found n) is
+result-some [] p n is = absurd cc
+result-some (b ∷ bs) p n is = ap (λ (found : Option (List ℕ)). result_by_piece (b ∷ bs) found n) is
 
--- a refusal with the count of what was consumed
-pub reported-err : (parsed : ℕ) (size : Result ℕ DecodeError) (error : DecodeError) → Err error ≡ reported parsed size → Err error ≡ size
-reported-err parsed (Ok size) error e = absurd cc
-reported-err parsed (Err other) error e = cc
+-- an error with the count of what was consumed
+pub report_result-err : (parsed : ℕ) (size : Result ℕ DecodeError) (error : DecodeError) → Err error ≡ report_result parsed size → Err error ≡ size
+report_result-err parsed (Ok size) error e = absurd cc
+report_result-err parsed (Err other) error e = cc

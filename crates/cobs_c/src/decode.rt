@@ -9,7 +9,7 @@ ghost use Rattle.cobs_abi.specs.Decode.{Decodes, DecodesFor, DecodesInPlace, Dec
 
 use cobs::FrameKind;
 use cobs::laws::{law_1, law_6, law_12};
-use cobs_abi::{Answer, CANONICAL, EMPTY, LONGER, NOT_A_FRAME, answer_by, done};
+use cobs_abi::{Answer, CANONICAL, EMPTY, LONGER, NOT_A_FRAME, done, result_by};
 use memchr::memchr;
 
 /// The place of the first sentinel, or how many bytes there are if none is one.
@@ -70,9 +70,9 @@ pub extern "C" fn jcobs_decode(source: &[u8], message: &mut [u8]) -> Answer
     law_1();
     let room = message.len();
     match cobs::decode(source, message) {
-        Ok(report) => answer_by(report.parsed_size(), room, Ok(report.frame_size())),
+        Ok(report) => result_by(report.parsed_size(), room, Ok(report.frame_size())),
         Err(error) => match first_piece_end(source) {
-            Some(end) => answer_by(end, room, Err(error)),
+            Some(end) => result_by(end, room, Err(error)),
             None => Answer {
                 status: EMPTY,
                 consumed: source.len(),
@@ -93,7 +93,7 @@ pub extern "C" fn jcobs_decode_with_sentinel(
 {
     let room = message.len();
     let consumed = head_end(source, sentinel);
-    answer_by(
+    result_by(
         consumed,
         room,
         cobs::decode_with_sentinel(source, message, sentinel),
@@ -107,7 +107,7 @@ pub extern "C" fn jcobs_decode_in_place(buffer: &mut [u8]) -> Answer
 {
     let room = buffer.len();
     let consumed = head_end(buffer, 0);
-    answer_by(consumed, room, cobs::decode_in_place(buffer))
+    result_by(consumed, room, cobs::decode_in_place(buffer))
 }
 
 /// The frame at the front of the buffer, for this sentinel, decoded in its own place.
@@ -124,7 +124,7 @@ pub extern "C" fn jcobs_decode_in_place_with_sentinel(buffer: &mut [u8], sentine
     }
     let consumed = room.min(end + 1);
     let frame = &mut buffer[..end];
-    answer_by(
+    result_by(
         consumed,
         room,
         cobs::decode_in_place_with_sentinel(frame, sentinel),

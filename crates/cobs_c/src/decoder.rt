@@ -3,14 +3,14 @@ ghost use Rattle.std.specs.Prelude.{[], ◌∷◌, ℕ, List, None, IsTrue};
 ghost use Rattle.cobs.specs.Feed.{Idle};
 ghost use Rattle.cobs.specs.FeedPiece.{TakesPiece};
 ghost use Rattle.cobs.specs.Sentinel.{xor_each};
-ghost use Rattle.cobs_abi.specs.Stream.{DecodesNext, IsFreshDecoder, TellsIdle};
+ghost use Rattle.cobs_abi.specs.Stream.{DecodesNext, IsFreshDecoder, ReportsIdle};
 
 use cobs::UnbufferedDecoder;
 use cobs::laws::law_17;
-use cobs_abi::{Answer, Decoder, answer_of, decode_each};
+use cobs_abi::{Answer, Decoder, decode_each, result_of};
 
 /// So few bytes are taken by a step each, without a decoder made of the state and put back into it.
-const FEW: usize = 6;
+const BY_BYTE_MAX: usize = 6;
 
 /// Makes the decoder one that has taken nothing, whatever was in it.
 #[unsafe(no_mangle)]
@@ -23,7 +23,7 @@ pub extern "C" fn jcobs_decoder_reset(decoder: &mut Decoder)
 /// Whether no piece is open: 1, or else 0.
 #[unsafe(no_mangle)]
 pub extern "C" fn jcobs_decoder_is_idle(decoder: &Decoder) -> u32
-    ensures idle { TellsIdle decoder.now result }
+    ensures idle { ReportsIdle decoder.now result }
 {
     if decoder.is_idle() { 1 } else { 0 }
 }
@@ -52,16 +52,16 @@ pub extern "C" fn jcobs_decoder_push(
     ensures decodes { DecodesNext decoder.old buffer.old bytes.now result
         decoder.new buffer.new }
 {
-    if bytes.len() <= FEW {
+    if bytes.len() <= BY_BYTE_MAX {
         return decode_each(decoder, buffer, bytes, 0);
     }
     if decoder.is_idle() && are_idle(bytes) {
-        return answer_of(decoder, None, bytes.len(), buffer.len());
+        return result_of(decoder, None, bytes.len(), buffer.len());
     }
     let mut unbuffered = UnbufferedDecoder::from_phase(decoder.phase());
     let found = unbuffered.feed_piece(buffer, bytes);
     *decoder = Decoder::at(unbuffered.phase());
-    answer_of(decoder, found, bytes.len(), buffer.len())
+    result_of(decoder, found, bytes.len(), buffer.len())
 }
 
 /// Takes the next byte of the stream, as `jcobs_decoder_push` does.

@@ -54,12 +54,12 @@ pub extern "C" fn jcobs_encode_terminated(message: &[u8], frame: &mut [u8]) -> A
         return too_small();
     }
     let last = frame.len() - 1;
-    let answer = jcobs_encode(message, &mut frame[..last]);
-    if answer.status != OK {
-        return answer;
+    let returned = jcobs_encode(message, &mut frame[..last]);
+    if returned.status != OK {
+        return returned;
     }
-    frame[answer.length] = 0;
-    done(answer.consumed, answer.length + 1)
+    frame[returned.length] = 0;
+    done(returned.consumed, returned.length + 1)
 }
 
 /// Writes the frame of the message for this sentinel and the sentinel after it to the front of the buffer `frame`, if both
@@ -76,12 +76,12 @@ pub extern "C" fn jcobs_encode_terminated_with_sentinel(
         return too_small();
     }
     let last = frame.len() - 1;
-    let answer = jcobs_encode_with_sentinel(message, &mut frame[..last], sentinel);
-    if answer.status != OK {
-        return answer;
+    let returned = jcobs_encode_with_sentinel(message, &mut frame[..last], sentinel);
+    if returned.status != OK {
+        return returned;
     }
-    frame[answer.length] = sentinel;
-    done(answer.consumed, answer.length + 1)
+    frame[returned.length] = sentinel;
+    done(returned.consumed, returned.length + 1)
 }
 
 /// Encodes the message of `message_len` bytes that lies in the buffer, behind the room for the longest frame's other bytes,

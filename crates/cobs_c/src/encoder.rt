@@ -78,9 +78,9 @@ pub extern "C" fn jcobs_encoder_finish_with_sentinel(
         encoder.new buffer.new }
 {
     law_6();
-    let answer = jcobs_encoder_finish(encoder, buffer);
-    xor_bytes(&mut buffer[..answer.length], sentinel);
-    answer
+    let returned = jcobs_encoder_finish(encoder, buffer);
+    xor_bytes(&mut buffer[..returned.length], sentinel);
+    returned
 }
 
 /// Ends the message, as `jcobs_encoder_finish_with_sentinel` does, and writes the sentinel after its frame, if both fit.
@@ -100,12 +100,12 @@ pub extern "C" fn jcobs_encoder_finish_terminated_with_sentinel(
     }
     let last = buffer.len() - 1;
     let front = &mut buffer[..last];
-    let answer = jcobs_encoder_finish_with_sentinel(encoder, front, sentinel);
-    if answer.status != OK {
-        return answer;
+    let returned = jcobs_encoder_finish_with_sentinel(encoder, front, sentinel);
+    if returned.status != OK {
+        return returned;
     }
-    buffer[answer.length] = sentinel;
-    done(answer.consumed, answer.length + 1)
+    buffer[returned.length] = sentinel;
+    done(returned.consumed, returned.length + 1)
 }
 
 /// Ends the message, as `jcobs_encoder_finish` does, and writes a zero after its frame, if both fit.

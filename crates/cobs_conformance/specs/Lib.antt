@@ -1,5 +1,5 @@
 pub mod Agree
-pub mod Answer
+pub mod CallResult
 pub mod Case
 pub mod Fields
 pub mod Short

@@ -1,7 +1,7 @@
 //! Whether the result that came is the one that is wanted.
 ghost use Rattle.std.specs.Prelude.{◌↔◌, IsTrue, string_bytes};
 ghost use Rattle.std.specs.List.{AllZip};
-ghost use Rattle.cobs_conformance.specs.Agree.{Agrees, IsRefusal};
+ghost use Rattle.cobs_conformance.specs.Agree.{Agrees, IsErrorWord};
 
 /// Whether the words agree in turn, and there are as many.
 pub fn agree(wanted: &[&str], came: &[String]) -> bool
@@ -21,11 +21,11 @@ pub fn agree(wanted: &[&str], came: &[String]) -> bool
 fn agrees(wanted: &str, came: &str) -> bool
     ensures agrees { IsTrue result ↔ Agrees wanted.now came.now }
 {
-    wanted == "?" || wanted == came || wanted == "refused" && is_refusal(came)
+    wanted == "?" || wanted == came || wanted == "refused" && is_error_word(came)
 }
 
-fn is_refusal(word: &str) -> bool
-    ensures refusal { IsTrue result ↔ IsRefusal word.now }
+fn is_error_word(word: &str) -> bool
+    ensures failure { IsTrue result ↔ IsErrorWord word.now }
 {
     match word {
         "empty" | "invalid" | "too_small" | "broken" | "too_long" => true,

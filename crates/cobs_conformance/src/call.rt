@@ -1,5 +1,5 @@
 //! Which call a case makes.
-use crate::answer::Answer;
+use crate::call_result::CallResult;
 use crate::fault::CaseFault;
 use crate::{decoding, encoding, machines, streams};
 use std::alloc::Global;
@@ -9,7 +9,11 @@ use std::alloc::Global;
 /// # Errors
 /// `Malformed` where no call has the name or the arguments aren't its own, `NotCallable` where they break what the call
 /// asks of its caller, `OutOfMemory`.
-pub fn answer_to(alloc: Global, call: &str, arguments: &[&str]) -> Result<Answer, CaseFault> {
+pub fn result_of_call(
+    alloc: Global,
+    call: &str,
+    arguments: &[&str],
+) -> Result<CallResult, CaseFault> {
     match call {
         "max_encoding_overhead" => encoding::max_encoding_overhead(alloc, arguments),
         "max_encoding_length" => encoding::max_encoding_length(alloc, arguments),

@@ -3,7 +3,7 @@ ghost use Rattle.std.specs.Prelude.{◌≡◌, ◌↔◌, ◌+◌, length, slice
 ghost use Rattle.cobs_conformance.specs.Case.{IsNoCase};
 
 use crate::agree::agree;
-use crate::call::answer_to;
+use crate::call::result_of_call;
 use crate::fault::CaseFault;
 use crate::short::words_of;
 use std::alloc::{AllocError, Global};
@@ -47,13 +47,13 @@ pub fn verdict_of(alloc: Global, line: &str) -> Result<Verdict, AllocError>
         return Ok(Verdict::Differs(format!(in alloc; "no case: {line}")?));
     };
     let name = case.name;
-    match answer_to(alloc, case.call, case.arguments) {
-        Ok(answer) => {
-            if agree(case.wanted, answer.words()) {
+    match result_of_call(alloc, case.call, case.arguments) {
+        Ok(returned) => {
+            if agree(case.wanted, returned.words()) {
                 return Ok(Verdict::Agrees);
             }
             let wanted = joined(alloc, case.wanted)?;
-            let came = answer.text()?;
+            let came = returned.text()?;
             Ok(Verdict::Differs(format!(in alloc; "{name}: wanted {wanted}, came {came}")?))
         }
         Err(CaseFault::Malformed) => Ok(Verdict::Differs(format!(in alloc;

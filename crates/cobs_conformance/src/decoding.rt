@@ -1,12 +1,12 @@
 //! The calls that decode whole frames.
-use crate::answer::Answer;
 use crate::arguments::{NONE, byte_of, bytes_of};
+use crate::call_result::CallResult;
 use crate::fault::CaseFault;
 use cobs::{DecodeVecError, FrameKind};
 use std::alloc::Global;
 
 /// The message handed out.
-pub fn decode_vec(alloc: Global, arguments: &[&str]) -> Result<Answer, CaseFault> {
+pub fn decode_vec(alloc: Global, arguments: &[&str]) -> Result<CallResult, CaseFault> {
     let [source] = arguments else {
         return Err(CaseFault::Malformed);
     };
@@ -15,7 +15,10 @@ pub fn decode_vec(alloc: Global, arguments: &[&str]) -> Result<Answer, CaseFault
 }
 
 /// The message of a frame for a sentinel, handed out.
-pub fn decode_vec_with_sentinel(alloc: Global, arguments: &[&str]) -> Result<Answer, CaseFault> {
+pub fn decode_vec_with_sentinel(
+    alloc: Global,
+    arguments: &[&str],
+) -> Result<CallResult, CaseFault> {
     let [sentinel, source] = arguments else {
         return Err(CaseFault::Malformed);
     };
@@ -25,21 +28,21 @@ pub fn decode_vec_with_sentinel(alloc: Global, arguments: &[&str]) -> Result<Ans
 }
 
 /// The message of the first piece, in a buffer.
-pub fn decode(alloc: Global, arguments: &[&str]) -> Result<Answer, CaseFault> {
+pub fn decode(alloc: Global, arguments: &[&str]) -> Result<CallResult, CaseFault> {
     let [source, buffer] = arguments else {
         return Err(CaseFault::Malformed);
     };
     let source = bytes_of(alloc, source)?;
     let mut buffer = bytes_of(alloc, buffer)?;
     let report = cobs::decode(&source, &mut buffer);
-    let mut answer = Answer::new(alloc);
-    answer.say_report(&report)?;
-    answer.say_bytes(&buffer)?;
-    Ok(answer)
+    let mut returned = CallResult::new(alloc);
+    returned.say_report(&report)?;
+    returned.say_bytes(&buffer)?;
+    Ok(returned)
 }
 
 /// The message of a frame for a sentinel, in a buffer.
-pub fn decode_with_sentinel(alloc: Global, arguments: &[&str]) -> Result<Answer, CaseFault> {
+pub fn decode_with_sentinel(alloc: Global, arguments: &[&str]) -> Result<CallResult, CaseFault> {
     let [sentinel, source, buffer] = arguments else {
         return Err(CaseFault::Malformed);
     };
@@ -47,57 +50,57 @@ pub fn decode_with_sentinel(alloc: Global, arguments: &[&str]) -> Result<Answer,
     let source = bytes_of(alloc, source)?;
     let mut buffer = bytes_of(alloc, buffer)?;
     let decoded = cobs::decode_with_sentinel(&source, &mut buffer, sentinel);
-    let mut answer = Answer::new(alloc);
-    answer.say_decoded(&decoded)?;
-    answer.say_bytes(&buffer)?;
-    Ok(answer)
+    let mut returned = CallResult::new(alloc);
+    returned.say_decoded(&decoded)?;
+    returned.say_bytes(&buffer)?;
+    Ok(returned)
 }
 
 /// The message over its own frame.
-pub fn decode_in_place(alloc: Global, arguments: &[&str]) -> Result<Answer, CaseFault> {
+pub fn decode_in_place(alloc: Global, arguments: &[&str]) -> Result<CallResult, CaseFault> {
     let [buffer] = arguments else {
         return Err(CaseFault::Malformed);
     };
     let mut buffer = bytes_of(alloc, buffer)?;
     let decoded = cobs::decode_in_place(&mut buffer);
-    let mut answer = Answer::new(alloc);
-    answer.say_decoded(&decoded)?;
-    answer.say_bytes(&buffer)?;
-    Ok(answer)
+    let mut returned = CallResult::new(alloc);
+    returned.say_decoded(&decoded)?;
+    returned.say_bytes(&buffer)?;
+    Ok(returned)
 }
 
 /// The message over its own frame, with both sizes.
-pub fn decode_in_place_report(alloc: Global, arguments: &[&str]) -> Result<Answer, CaseFault> {
+pub fn decode_in_place_report(alloc: Global, arguments: &[&str]) -> Result<CallResult, CaseFault> {
     let [buffer] = arguments else {
         return Err(CaseFault::Malformed);
     };
     let mut buffer = bytes_of(alloc, buffer)?;
     let report = cobs::decode_in_place_report(&mut buffer);
-    let mut answer = Answer::new(alloc);
-    answer.say_report(&report)?;
-    answer.say_bytes(&buffer)?;
-    Ok(answer)
+    let mut returned = CallResult::new(alloc);
+    returned.say_report(&report)?;
+    returned.say_bytes(&buffer)?;
+    Ok(returned)
 }
 
 /// The message over its own frame for a sentinel.
 pub fn decode_in_place_with_sentinel(
     alloc: Global,
     arguments: &[&str],
-) -> Result<Answer, CaseFault> {
+) -> Result<CallResult, CaseFault> {
     let [sentinel, buffer] = arguments else {
         return Err(CaseFault::Malformed);
     };
     let sentinel = byte_of(alloc, sentinel)?;
     let mut buffer = bytes_of(alloc, buffer)?;
     let decoded = cobs::decode_in_place_with_sentinel(&mut buffer, sentinel);
-    let mut answer = Answer::new(alloc);
-    answer.say_decoded(&decoded)?;
-    answer.say_bytes(&buffer)?;
-    Ok(answer)
+    let mut returned = CallResult::new(alloc);
+    returned.say_decoded(&decoded)?;
+    returned.say_bytes(&buffer)?;
+    Ok(returned)
 }
 
 /// Whether bytes are a frame, and which one of its message.
-pub fn frame_kind(alloc: Global, arguments: &[&str]) -> Result<Answer, CaseFault> {
+pub fn frame_kind(alloc: Global, arguments: &[&str]) -> Result<CallResult, CaseFault> {
     let [bytes] = arguments else {
         return Err(CaseFault::Malformed);
     };
@@ -106,27 +109,27 @@ pub fn frame_kind(alloc: Global, arguments: &[&str]) -> Result<Answer, CaseFault
         FrameKind::Canonical => "canonical",
         FrameKind::Longer => "longer",
     };
-    let mut answer = Answer::new(alloc);
-    answer.say(kind)?;
-    Ok(answer)
+    let mut returned = CallResult::new(alloc);
+    returned.say(kind)?;
+    Ok(returned)
 }
 
 /// The status, the length and the message.
 fn said_message(
     alloc: Global,
     decoded: Result<Vec<u8>, DecodeVecError>,
-) -> Result<Answer, CaseFault> {
-    let mut answer = Answer::new(alloc);
+) -> Result<CallResult, CaseFault> {
+    let mut returned = CallResult::new(alloc);
     match decoded {
         Ok(message) => {
-            answer.say_decoded(&Ok(message.len()))?;
-            answer.say_bytes(&message)?;
+            returned.say_decoded(&Ok(message.len()))?;
+            returned.say_bytes(&message)?;
         }
         Err(DecodeVecError::Decode(error)) => {
-            answer.say_decoded(&Err(error))?;
-            answer.say(NONE)?;
+            returned.say_decoded(&Err(error))?;
+            returned.say(NONE)?;
         }
         Err(DecodeVecError::Memory(_)) => return Err(CaseFault::OutOfMemory),
     }
-    Ok(answer)
+    Ok(returned)
 }

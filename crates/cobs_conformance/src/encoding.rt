@@ -1,24 +1,24 @@
 //! The calls that encode.
 ghost use Rattle.std.specs.Prelude.{◌<◌, length};
 
-use crate::answer::Answer;
 use crate::arguments::{byte_of, bytes_of, number_of};
+use crate::call_result::CallResult;
 use crate::fault::CaseFault;
 use cobs::CobsEncoder;
 use std::alloc::Global;
 
 /// The greatest number of bytes by which a frame is longer than its message.
-pub fn max_encoding_overhead(alloc: Global, arguments: &[&str]) -> Result<Answer, CaseFault> {
+pub fn max_encoding_overhead(alloc: Global, arguments: &[&str]) -> Result<CallResult, CaseFault> {
     let [length] = arguments else {
         return Err(CaseFault::Malformed);
     };
-    let mut answer = Answer::new(alloc);
-    answer.say_number(cobs::max_encoding_overhead(number_of(length)?))?;
-    Ok(answer)
+    let mut returned = CallResult::new(alloc);
+    returned.say_number(cobs::max_encoding_overhead(number_of(length)?))?;
+    Ok(returned)
 }
 
 /// The greatest length of a message's frame.
-pub fn max_encoding_length(alloc: Global, arguments: &[&str]) -> Result<Answer, CaseFault> {
+pub fn max_encoding_length(alloc: Global, arguments: &[&str]) -> Result<CallResult, CaseFault> {
     let [length] = arguments else {
         return Err(CaseFault::Malformed);
     };
@@ -26,13 +26,13 @@ pub fn max_encoding_length(alloc: Global, arguments: &[&str]) -> Result<Answer, 
     if length > usize::MAX / 2 {
         return Err(CaseFault::NotCallable);
     }
-    let mut answer = Answer::new(alloc);
-    answer.say_number(cobs::max_encoding_length(length))?;
-    Ok(answer)
+    let mut returned = CallResult::new(alloc);
+    returned.say_number(cobs::max_encoding_length(length))?;
+    Ok(returned)
 }
 
 /// The frame handed out.
-pub fn encode_vec(alloc: Global, arguments: &[&str]) -> Result<Answer, CaseFault> {
+pub fn encode_vec(alloc: Global, arguments: &[&str]) -> Result<CallResult, CaseFault> {
     let [message] = arguments else {
         return Err(CaseFault::Malformed);
     };
@@ -44,7 +44,7 @@ pub fn encode_vec(alloc: Global, arguments: &[&str]) -> Result<Answer, CaseFault
 pub fn encode_vec_including_sentinels(
     alloc: Global,
     arguments: &[&str],
-) -> Result<Answer, CaseFault> {
+) -> Result<CallResult, CaseFault> {
     let [message] = arguments else {
         return Err(CaseFault::Malformed);
     };
@@ -53,7 +53,10 @@ pub fn encode_vec_including_sentinels(
 }
 
 /// The frame for a sentinel, handed out.
-pub fn encode_vec_with_sentinel(alloc: Global, arguments: &[&str]) -> Result<Answer, CaseFault> {
+pub fn encode_vec_with_sentinel(
+    alloc: Global,
+    arguments: &[&str],
+) -> Result<CallResult, CaseFault> {
     let [sentinel, message] = arguments else {
         return Err(CaseFault::Malformed);
     };
@@ -63,7 +66,7 @@ pub fn encode_vec_with_sentinel(alloc: Global, arguments: &[&str]) -> Result<Ans
 }
 
 /// The frame in a buffer that has room for it.
-pub fn encode(alloc: Global, arguments: &[&str]) -> Result<Answer, CaseFault> {
+pub fn encode(alloc: Global, arguments: &[&str]) -> Result<CallResult, CaseFault> {
     let [message, buffer] = arguments else {
         return Err(CaseFault::Malformed);
     };
@@ -78,7 +81,10 @@ pub fn encode(alloc: Global, arguments: &[&str]) -> Result<Answer, CaseFault> {
 }
 
 /// The frame between two zeros, in a buffer that has room for it.
-pub fn encode_including_sentinels(alloc: Global, arguments: &[&str]) -> Result<Answer, CaseFault> {
+pub fn encode_including_sentinels(
+    alloc: Global,
+    arguments: &[&str],
+) -> Result<CallResult, CaseFault> {
     let [message, buffer] = arguments else {
         return Err(CaseFault::Malformed);
     };
@@ -93,7 +99,7 @@ pub fn encode_including_sentinels(alloc: Global, arguments: &[&str]) -> Result<A
 }
 
 /// The frame for a sentinel, in a buffer that has room for it.
-pub fn encode_with_sentinel(alloc: Global, arguments: &[&str]) -> Result<Answer, CaseFault> {
+pub fn encode_with_sentinel(alloc: Global, arguments: &[&str]) -> Result<CallResult, CaseFault> {
     let [sentinel, message, buffer] = arguments else {
         return Err(CaseFault::Malformed);
     };
@@ -109,38 +115,41 @@ pub fn encode_with_sentinel(alloc: Global, arguments: &[&str]) -> Result<Answer,
 }
 
 /// The frame in a buffer, where it fits.
-pub fn try_encode(alloc: Global, arguments: &[&str]) -> Result<Answer, CaseFault> {
+pub fn try_encode(alloc: Global, arguments: &[&str]) -> Result<CallResult, CaseFault> {
     let [message, buffer] = arguments else {
         return Err(CaseFault::Malformed);
     };
     let message = bytes_of(alloc, message)?;
     let mut buffer = bytes_of(alloc, buffer)?;
     let written = cobs::try_encode(&message, &mut buffer);
-    let mut answer = Answer::new(alloc);
-    answer.say_written(&written)?;
-    answer.say_bytes(&buffer)?;
-    Ok(answer)
+    let mut returned = CallResult::new(alloc);
+    returned.say_written(&written)?;
+    returned.say_bytes(&buffer)?;
+    Ok(returned)
 }
 
 /// The frame between two zeros in a buffer, where it fits.
 pub fn try_encode_including_sentinels(
     alloc: Global,
     arguments: &[&str],
-) -> Result<Answer, CaseFault> {
+) -> Result<CallResult, CaseFault> {
     let [message, buffer] = arguments else {
         return Err(CaseFault::Malformed);
     };
     let message = bytes_of(alloc, message)?;
     let mut buffer = bytes_of(alloc, buffer)?;
     let written = cobs::try_encode_including_sentinels(&message, &mut buffer);
-    let mut answer = Answer::new(alloc);
-    answer.say_written(&written)?;
-    answer.say_bytes(&buffer)?;
-    Ok(answer)
+    let mut returned = CallResult::new(alloc);
+    returned.say_written(&written)?;
+    returned.say_bytes(&buffer)?;
+    Ok(returned)
 }
 
 /// The frame for a sentinel in a buffer, where it fits.
-pub fn try_encode_with_sentinel(alloc: Global, arguments: &[&str]) -> Result<Answer, CaseFault> {
+pub fn try_encode_with_sentinel(
+    alloc: Global,
+    arguments: &[&str],
+) -> Result<CallResult, CaseFault> {
     let [sentinel, message, buffer] = arguments else {
         return Err(CaseFault::Malformed);
     };
@@ -148,14 +157,14 @@ pub fn try_encode_with_sentinel(alloc: Global, arguments: &[&str]) -> Result<Ans
     let message = bytes_of(alloc, message)?;
     let mut buffer = bytes_of(alloc, buffer)?;
     let written = cobs::try_encode_with_sentinel(&message, &mut buffer, sentinel);
-    let mut answer = Answer::new(alloc);
-    answer.say_written(&written)?;
-    answer.say_bytes(&buffer)?;
-    Ok(answer)
+    let mut returned = CallResult::new(alloc);
+    returned.say_written(&written)?;
+    returned.say_bytes(&buffer)?;
+    Ok(returned)
 }
 
 /// A streaming encoder over a buffer, given pieces.
-pub fn encoder(alloc: Global, arguments: &[&str]) -> Result<Answer, CaseFault> {
+pub fn encoder(alloc: Global, arguments: &[&str]) -> Result<CallResult, CaseFault> {
     let [buffer, pieces @ ..] = arguments else {
         return Err(CaseFault::Malformed);
     };
@@ -163,11 +172,11 @@ pub fn encoder(alloc: Global, arguments: &[&str]) -> Result<Answer, CaseFault> {
     if buffer.is_empty() {
         return Err(CaseFault::NotCallable);
     }
-    let mut taken = Answer::new(alloc);
+    let mut taken = CallResult::new(alloc);
     let len = push_pieces(alloc, &mut buffer, pieces, &mut taken)?;
-    let mut answer = said_in(alloc, len, &buffer)?;
-    answer.append(taken)?;
-    Ok(answer)
+    let mut returned = said_in(alloc, len, &buffer)?;
+    returned.append(taken)?;
+    Ok(returned)
 }
 
 /// Pushes each piece to a new encoder, says whether it was taken, and returns the frame's length.
@@ -175,7 +184,7 @@ fn push_pieces(
     alloc: Global,
     buffer: &mut [u8],
     pieces: &[&str],
-    taken: &mut Answer,
+    taken: &mut CallResult,
 ) -> Result<usize, CaseFault>
     requires { 0 < length buffer.old }
 {
@@ -188,7 +197,7 @@ fn push_pieces(
 }
 
 /// A stream of frames, each with a zero after it.
-pub fn encode_frames(alloc: Global, arguments: &[&str]) -> Result<Answer, CaseFault> {
+pub fn encode_frames(alloc: Global, arguments: &[&str]) -> Result<CallResult, CaseFault> {
     let mut messages = Vec::new(alloc);
     for message in arguments {
         messages.push(bytes_of(alloc, message)?)?;
@@ -201,16 +210,16 @@ pub fn encode_frames(alloc: Global, arguments: &[&str]) -> Result<Answer, CaseFa
 }
 
 /// The bytes alone.
-fn said(alloc: Global, bytes: &[u8]) -> Result<Answer, CaseFault> {
-    let mut answer = Answer::new(alloc);
-    answer.say_bytes(bytes)?;
-    Ok(answer)
+fn said(alloc: Global, bytes: &[u8]) -> Result<CallResult, CaseFault> {
+    let mut returned = CallResult::new(alloc);
+    returned.say_bytes(bytes)?;
+    Ok(returned)
 }
 
 /// A length and the buffer after the call.
-fn said_in(alloc: Global, len: usize, buffer: &[u8]) -> Result<Answer, CaseFault> {
-    let mut answer = Answer::new(alloc);
-    answer.say_number(len)?;
-    answer.say_bytes(buffer)?;
-    Ok(answer)
+fn said_in(alloc: Global, len: usize, buffer: &[u8]) -> Result<CallResult, CaseFault> {
+    let mut returned = CallResult::new(alloc);
+    returned.say_number(len)?;
+    returned.say_bytes(buffer)?;
+    Ok(returned)
 }

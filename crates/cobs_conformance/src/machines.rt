@@ -1,13 +1,13 @@
 //! The two state machines.
-use crate::answer::Answer;
 use crate::arguments::{NONE, byte_of, bytes_of, number_of};
+use crate::call_result::CallResult;
 use crate::fault::CaseFault;
 use cobs::{DecodeResult, DecoderState, EncoderState, PushResult};
 use std::alloc::Global;
 
 /// The encoding state machine after a message: its result for one more byte, where it then is, and the frame that
 /// a caller has who carries out each result.
-pub fn encoder_state(alloc: Global, arguments: &[&str]) -> Result<Answer, CaseFault> {
+pub fn encoder_state(alloc: Global, arguments: &[&str]) -> Result<CallResult, CaseFault> {
     let [message, byte] = arguments else {
         return Err(CaseFault::Malformed);
     };
@@ -27,12 +27,12 @@ pub fn encoder_state(alloc: Global, arguments: &[&str]) -> Result<Answer, CaseFa
     carry_out(&pushed, &mut frame)?;
     let (index, code) = state.finalize();
     write_code(&mut frame, index, code);
-    let mut answer = Answer::new(alloc);
-    say_pushed(&mut answer, &pushed)?;
-    answer.say_number(index)?;
-    answer.say_number(code as usize)?;
-    answer.say_bytes(&frame)?;
-    Ok(answer)
+    let mut returned = CallResult::new(alloc);
+    say_pushed(&mut returned, &pushed)?;
+    returned.say_number(index)?;
+    returned.say_number(code as usize)?;
+    returned.say_bytes(&frame)?;
+    Ok(returned)
 }
 
 /// Carries a push result out on the frame so far, with a placeholder of 0.
@@ -59,55 +59,55 @@ fn write_code(frame: &mut Vec<u8>, index: usize, code: u8) {
     }
 }
 
-fn say_pushed(answer: &mut Answer, pushed: &PushResult) -> Result<(), CaseFault> {
+fn say_pushed(returned: &mut CallResult, pushed: &PushResult) -> Result<(), CaseFault> {
     match pushed {
         PushResult::AddSingle(byte) => {
-            answer.say("add_single")?;
-            answer.say(NONE)?;
-            answer.say(NONE)?;
-            answer.say_bytes(&[*byte])?;
+            returned.say("add_single")?;
+            returned.say(NONE)?;
+            returned.say(NONE)?;
+            returned.say_bytes(&[*byte])?;
         }
         PushResult::ModifyFromStartAndSkip((index, code)) => {
-            answer.say("modify_and_skip")?;
-            answer.say_number(*index)?;
-            answer.say_number(*code as usize)?;
-            answer.say(NONE)?;
+            returned.say("modify_and_skip")?;
+            returned.say_number(*index)?;
+            returned.say_number(*code as usize)?;
+            returned.say(NONE)?;
         }
         PushResult::ModifyFromStartAndPushAndSkip((index, code, byte)) => {
-            answer.say("modify_push_and_skip")?;
-            answer.say_number(*index)?;
-            answer.say_number(*code as usize)?;
-            answer.say_bytes(&[*byte])?;
+            returned.say("modify_push_and_skip")?;
+            returned.say_number(*index)?;
+            returned.say_number(*code as usize)?;
+            returned.say_bytes(&[*byte])?;
         }
     }
     Ok(())
 }
 
 /// The decoding state machine in a state: its result for a byte, and the state that follows.
-pub fn decoder_state(alloc: Global, arguments: &[&str]) -> Result<Answer, CaseFault> {
+pub fn decoder_state(alloc: Global, arguments: &[&str]) -> Result<CallResult, CaseFault> {
     let [state, left, byte] = arguments else {
         return Err(CaseFault::Malformed);
     };
     let mut state = state_of(state, left)?;
-    let answered = state.feed(byte_of(alloc, byte)?);
-    let mut answer = Answer::new(alloc);
-    match answered {
+    let fed = state.feed(byte_of(alloc, byte)?);
+    let mut returned = CallResult::new(alloc);
+    match fed {
         Ok(DecodeResult::DataContinue(byte)) => {
-            answer.say("data_continue")?;
-            answer.say_number(byte as usize)?;
+            returned.say("data_continue")?;
+            returned.say_number(byte as usize)?;
         }
-        Ok(DecodeResult::NoData) => say_without_byte(&mut answer, "no_data")?,
-        Ok(DecodeResult::DataStart) => say_without_byte(&mut answer, "data_start")?,
-        Ok(DecodeResult::DataComplete) => say_without_byte(&mut answer, "data_complete")?,
-        Err(_) => say_without_byte(&mut answer, "invalid")?,
+        Ok(DecodeResult::NoData) => say_without_byte(&mut returned, "no_data")?,
+        Ok(DecodeResult::DataStart) => say_without_byte(&mut returned, "data_start")?,
+        Ok(DecodeResult::DataComplete) => say_without_byte(&mut returned, "data_complete")?,
+        Err(_) => say_without_byte(&mut returned, "invalid")?,
     }
-    say_state(&mut answer, &state)?;
-    Ok(answer)
+    say_state(&mut returned, &state)?;
+    Ok(returned)
 }
 
-fn say_without_byte(answer: &mut Answer, name: &str) -> Result<(), CaseFault> {
-    answer.say(name)?;
-    answer.say(NONE)?;
+fn say_without_byte(returned: &mut CallResult, name: &str) -> Result<(), CaseFault> {
+    returned.say(name)?;
+    returned.say(NONE)?;
     Ok(())
 }
 
@@ -123,16 +123,16 @@ fn state_of(name: &str, left: &str) -> Result<DecoderState, CaseFault> {
     }
 }
 
-fn say_state(answer: &mut Answer, state: &DecoderState) -> Result<(), CaseFault> {
+fn say_state(returned: &mut CallResult, state: &DecoderState) -> Result<(), CaseFault> {
     match state {
-        DecoderState::Idle => say_without_byte(answer, "idle")?,
+        DecoderState::Idle => say_without_byte(returned, "idle")?,
         DecoderState::Grab(left) => {
-            answer.say("grab")?;
-            answer.say_number(*left as usize)?;
+            returned.say("grab")?;
+            returned.say_number(*left as usize)?;
         }
         DecoderState::GrabChain(left) => {
-            answer.say("grab_chain")?;
-            answer.say_number(*left as usize)?;
+            returned.say("grab_chain")?;
+            returned.say_number(*left as usize)?;
         }
     }
     Ok(())

@@ -7,9 +7,9 @@
 #![tactic(auto)]
 
 mod agree;
-mod answer;
 mod arguments;
 mod call;
+mod call_result;
 mod case;
 mod decoding;
 mod encoding;

@@ -1,6 +1,6 @@
 //! The calls over streams.
-use crate::answer::Answer;
 use crate::arguments::{MAX_BYTES, NONE, bytes_of, number_of};
+use crate::call_result::CallResult;
 use crate::fault::CaseFault;
 use crate::reads::Reads;
 use cobs::{
@@ -100,27 +100,27 @@ impl Streaming for ByBytes {
 /// A streaming decoder over a buffer, given pieces: each of the three decoders by pushes, byte by byte, and by
 /// `feed_piece`, whose results are compared with those to the zeros. If one comes to something else than the first, its
 /// result follows, so the case differs.
-pub fn decoder(alloc: Global, arguments: &[&str]) -> Result<Answer, CaseFault> {
+pub fn decoder(alloc: Global, arguments: &[&str]) -> Result<CallResult, CaseFault> {
     let [buffer, pieces @ ..] = arguments else {
         return Err(CaseFault::Malformed);
     };
     let buffer = bytes_of(alloc, buffer)?;
-    let mut answer = owned(alloc, &buffer, pieces, &Feeding::Pushes)?;
-    answer.append_other(owned(alloc, &buffer, pieces, &Feeding::Bytes)?)?;
-    answer.append_other(borrowed(alloc, &buffer, pieces, &Feeding::Pushes)?)?;
-    answer.append_other(borrowed(alloc, &buffer, pieces, &Feeding::Bytes)?)?;
+    let mut returned = owned(alloc, &buffer, pieces, &Feeding::Pushes)?;
+    returned.append_other(owned(alloc, &buffer, pieces, &Feeding::Bytes)?)?;
+    returned.append_other(borrowed(alloc, &buffer, pieces, &Feeding::Pushes)?)?;
+    returned.append_other(borrowed(alloc, &buffer, pieces, &Feeding::Bytes)?)?;
     if buffer.len() == 4 {
-        answer.append_other(heapless(alloc, &buffer, pieces, &Feeding::Pushes)?)?;
-        answer.append_other(heapless(alloc, &buffer, pieces, &Feeding::Bytes)?)?;
+        returned.append_other(heapless(alloc, &buffer, pieces, &Feeding::Pushes)?)?;
+        returned.append_other(heapless(alloc, &buffer, pieces, &Feeding::Bytes)?)?;
     }
     let ends = owned(alloc, &buffer, pieces, &Feeding::Zeros)?;
-    answer.append_unlike(&ends, owned(alloc, &buffer, pieces, &Feeding::Pieces)?)?;
-    answer.append_unlike(&ends, borrowed(alloc, &buffer, pieces, &Feeding::Pieces)?)?;
-    answer.append_unlike(&ends, by_bytes(alloc, &buffer, pieces)?)?;
+    returned.append_unlike(&ends, owned(alloc, &buffer, pieces, &Feeding::Pieces)?)?;
+    returned.append_unlike(&ends, borrowed(alloc, &buffer, pieces, &Feeding::Pieces)?)?;
+    returned.append_unlike(&ends, by_bytes(alloc, &buffer, pieces)?)?;
     if buffer.len() == 4 {
-        answer.append_unlike(&ends, heapless(alloc, &buffer, pieces, &Feeding::Pieces)?)?;
+        returned.append_unlike(&ends, heapless(alloc, &buffer, pieces, &Feeding::Pieces)?)?;
     }
-    Ok(answer)
+    Ok(returned)
 }
 
 fn owned(
@@ -128,7 +128,7 @@ fn owned(
     buffer: &[u8],
     pieces: &[&str],
     feeding: &Feeding,
-) -> Result<Answer, CaseFault> {
+) -> Result<CallResult, CaseFault> {
     let mut decoder = CobsDecoderOwned::new(alloc, buffer.len())?;
     write_over(decoder.dest_mut(), buffer);
     given(alloc, &mut decoder, pieces, feeding)
@@ -139,7 +139,7 @@ fn borrowed(
     buffer: &[u8],
     pieces: &[&str],
     feeding: &Feeding,
-) -> Result<Answer, CaseFault> {
+) -> Result<CallResult, CaseFault> {
     let mut dest = Vec::from_slice(alloc, buffer)?;
     let mut decoder = CobsDecoder::new(&mut dest);
     given(alloc, &mut decoder, pieces, feeding)
@@ -150,14 +150,14 @@ fn heapless(
     buffer: &[u8],
     pieces: &[&str],
     feeding: &Feeding,
-) -> Result<Answer, CaseFault> {
+) -> Result<CallResult, CaseFault> {
     let mut decoder = CobsDecoderHeapless::<4>::new();
     write_over(decoder.dest_mut(), buffer);
     given(alloc, &mut decoder, pieces, feeding)
 }
 
 /// A decoder whose `feed_piece` is the trait's own.
-fn by_bytes(alloc: Global, buffer: &[u8], pieces: &[&str]) -> Result<Answer, CaseFault> {
+fn by_bytes(alloc: Global, buffer: &[u8], pieces: &[&str]) -> Result<CallResult, CaseFault> {
     let mut decoder = CobsDecoderOwned::new(alloc, buffer.len())?;
     write_over(decoder.dest_mut(), buffer);
     given(alloc, &mut ByBytes { decoder }, pieces, &Feeding::Pieces)
@@ -176,8 +176,8 @@ fn given<D: Streaming>(
     decoder: &mut D,
     pieces: &[&str],
     feeding: &Feeding,
-) -> Result<Answer, CaseFault> {
-    let mut events = Answer::new(alloc);
+) -> Result<CallResult, CaseFault> {
+    let mut events = CallResult::new(alloc);
     let mut taken = 0usize;
     'by_piece: for piece in pieces {
         if *piece == "reset" {
@@ -193,10 +193,10 @@ fn given<D: Streaming>(
             taken = taken.saturating_add(bytes.len());
         }
     }
-    let mut answer = Answer::new(alloc);
-    answer.say_bytes(decoder.buffer())?;
-    answer.append(events)?;
-    Ok(answer)
+    let mut returned = CallResult::new(alloc);
+    returned.say_bytes(decoder.buffer())?;
+    returned.append(events)?;
+    Ok(returned)
 }
 
 /// Pushes a piece, and what each result leaves of it again.
@@ -204,18 +204,18 @@ fn push_piece<D: Streaming>(
     decoder: &mut D,
     piece: &[u8],
     taken: usize,
-    events: &mut Answer,
+    events: &mut CallResult,
 ) -> Result<(), CaseFault> {
     let mut left = piece;
     let mut taken = taken;
     'by_push: for _ in 0..piece.len() {
-        let (consumed, answered) = match decoder.push_bytes(left) {
+        let (consumed, fed) = match decoder.push_bytes(left) {
             Ok(None) => (left.len(), Ok(None)),
             Ok(Some(report)) => (report.parsed_size(), Ok(Some(report.frame_size()))),
-            Err(refusal) => (refusal.parsed_size, Err(refusal.error)),
+            Err(failure) => (failure.parsed_size, Err(failure.error)),
         };
         taken = taken.saturating_add(consumed);
-        say_event(events, taken, &answered, decoder.buffer())?;
+        say_event(events, taken, &fed, decoder.buffer())?;
         left = left.get(consumed..).unwrap_or(&[]);
     }
     Ok(())
@@ -227,14 +227,14 @@ fn feed_bytes<D: Streaming>(
     piece: &[u8],
     taken: usize,
     all: bool,
-    events: &mut Answer,
+    events: &mut CallResult,
 ) -> Result<(), CaseFault> {
     let mut taken = taken;
     'by_byte: for byte in piece {
         taken = taken.saturating_add(1);
-        let answered = decoder.feed_byte(*byte);
+        let fed = decoder.feed_byte(*byte);
         if all || *byte == 0 {
-            say_event(events, taken, &answered, decoder.buffer())?;
+            say_event(events, taken, &fed, decoder.buffer())?;
         }
     }
     Ok(())
@@ -245,7 +245,7 @@ fn feed_pieces<D: Streaming>(
     decoder: &mut D,
     piece: &[u8],
     taken: usize,
-    events: &mut Answer,
+    events: &mut CallResult,
 ) -> Result<(), CaseFault> {
     let mut left = piece;
     let mut taken = taken;
@@ -253,13 +253,13 @@ fn feed_pieces<D: Streaming>(
         let Some((end, consumed)) = decoder.feed_piece(left) else {
             return Ok(());
         };
-        let answered = match end {
+        let fed = match end {
             PieceEnd::Message(len) => Ok(Some(len)),
             PieceEnd::Broken(decoded_bytes) => Err(DecodeError::InvalidFrame { decoded_bytes }),
             PieceEnd::TooLong => Err(DecodeError::TargetBufTooSmall),
         };
         taken = taken.saturating_add(consumed);
-        say_event(events, taken, &answered, decoder.buffer())?;
+        say_event(events, taken, &fed, decoder.buffer())?;
         left = left.get(consumed..).unwrap_or(&[]);
     }
     Ok(())
@@ -267,12 +267,12 @@ fn feed_pieces<D: Streaming>(
 
 /// Says a result for a byte, if it isn't "nothing yet": the bytes taken, the kind, and what begins the buffer.
 fn say_event(
-    events: &mut Answer,
+    events: &mut CallResult,
     taken: usize,
-    answered: &Result<Option<usize>, DecodeError>,
+    fed: &Result<Option<usize>, DecodeError>,
     buffer: &[u8],
 ) -> Result<(), CaseFault> {
-    let (kind, len) = match answered {
+    let (kind, len) = match fed {
         Ok(None) => return Ok(()),
         Ok(Some(len)) => ("message", *len),
         Err(DecodeError::InvalidFrame { decoded_bytes }) => ("broken", *decoded_bytes),
@@ -285,21 +285,21 @@ fn say_event(
 }
 
 /// The outcomes of a stream that comes in pieces.
-pub fn decode_stream(alloc: Global, arguments: &[&str]) -> Result<Answer, CaseFault> {
+pub fn decode_stream(alloc: Global, arguments: &[&str]) -> Result<CallResult, CaseFault> {
     let [room, pieces @ ..] = arguments else {
         return Err(CaseFault::Malformed);
     };
     let mut buffer = buffer_of(alloc, room)?;
     let mut decoder = CobsDecoder::new(&mut buffer);
-    let mut answer = Answer::new(alloc);
+    let mut returned = CallResult::new(alloc);
     'by_piece: for piece in pieces {
         let bytes = bytes_of(alloc, piece)?;
         let outcomes = cobs::decode_stream(alloc, &mut decoder, &bytes)?;
         'by_outcome: for outcome in &outcomes {
-            answer.say_outcome(outcome)?;
+            returned.say_outcome(outcome)?;
         }
     }
-    Ok(answer)
+    Ok(returned)
 }
 
 /// A buffer of this many zeros.
@@ -314,47 +314,51 @@ fn buffer_of(alloc: Global, room: &str) -> Result<Vec<u8>, CaseFault> {
 
 /// A reader of frames over a source that gives these reads: the result of each call, until the source has ended and
 /// all reads were made.
-pub fn next_frame(alloc: Global, arguments: &[&str]) -> Result<Answer, CaseFault> {
+pub fn next_frame(alloc: Global, arguments: &[&str]) -> Result<CallResult, CaseFault> {
     let [room, reads @ ..] = arguments else {
         return Err(CaseFault::Malformed);
     };
     let mut buffer = buffer_of(alloc, room)?;
     let mut source = Reads::of_words(alloc, reads)?;
     let mut frames = FrameReader::new(CobsDecoder::new(&mut buffer));
-    let mut answer = Answer::new(alloc);
+    let mut returned = CallResult::new(alloc);
     'by_call: for _ in 0..MOST_CALLS {
         let before = source.made();
         let next = frames.next_frame(&mut source).ok();
-        answer.say_number(source.made().saturating_sub(before))?;
-        say_next(&mut answer, &next, frames.decoder().dest())?;
+        returned.say_number(source.made().saturating_sub(before))?;
+        say_next(&mut returned, &next, frames.decoder().dest())?;
         if matches!(&next, Some(Next::End { .. })) && source.is_at_end() {
-            return Ok(answer);
+            return Ok(returned);
         }
     }
-    Ok(answer)
+    Ok(returned)
 }
 
 /// Says what a call of `next_frame` found, nothing if a read failed.
-fn say_next(answer: &mut Answer, next: &Option<Next>, buffer: &[u8]) -> Result<(), CaseFault> {
+fn say_next(
+    returned: &mut CallResult,
+    next: &Option<Next>,
+    buffer: &[u8],
+) -> Result<(), CaseFault> {
     match next {
         Some(Next::Message(len)) => {
-            answer.say("message")?;
-            answer.say_bytes(buffer.get(..*len).unwrap_or(buffer))?;
+            returned.say("message")?;
+            returned.say_bytes(buffer.get(..*len).unwrap_or(buffer))?;
         }
         Some(Next::Broken(count)) => {
-            answer.say("broken")?;
-            answer.say_number(*count)?;
+            returned.say("broken")?;
+            returned.say_number(*count)?;
         }
-        Some(Next::TooLong) => say_alone(answer, "too_long")?,
-        Some(Next::End { unfinished: false }) => say_alone(answer, "end")?,
-        Some(Next::End { unfinished: true }) => say_alone(answer, "unfinished")?,
-        None => say_alone(answer, "failed")?,
+        Some(Next::TooLong) => say_alone(returned, "too_long")?,
+        Some(Next::End { unfinished: false }) => say_alone(returned, "end")?,
+        Some(Next::End { unfinished: true }) => say_alone(returned, "unfinished")?,
+        None => say_alone(returned, "failed")?,
     }
     Ok(())
 }
 
-fn say_alone(answer: &mut Answer, kind: &str) -> Result<(), CaseFault> {
-    answer.say(kind)?;
-    answer.say(NONE)?;
+fn say_alone(returned: &mut CallResult, kind: &str) -> Result<(), CaseFault> {
+    returned.say(kind)?;
+    returned.say(NONE)?;
     Ok(())
 }

@@ -349,11 +349,11 @@ fn unbuffered_decoder_feed_example(rt: HostRuntime) {
 fn unbuffered_decoder_push_example(rt: HostRuntime) {
     let mut buffer = [0; 2];
     let mut decoder = UnbufferedDecoder::new();
-    let refused = PushError {
+    let rejected = PushError {
         error: DecodeError::TargetBufTooSmall,
         parsed_size: 4,
     };
-    assert_eq!(rt; decoder.push(&mut buffer, &[4, 7, 8, 9, 0]), Err(refused));
+    assert_eq!(rt; decoder.push(&mut buffer, &[4, 7, 8, 9, 0]), Err(rejected));
     assert_eq!(rt; buffer, [7, 8]);
 }
 

@@ -24,19 +24,19 @@ fn decode_error_example(rt: HostRuntime) {
 fn push_error_example(rt: HostRuntime) {
     let mut buffer = [0; 4];
     let mut decoder = CobsDecoder::new(&mut buffer);
-    let refused = PushError {
+    let rejected = PushError {
         error: DecodeError::InvalidFrame { decoded_bytes: 1 },
         parsed_size: 3,
     };
-    assert_eq!(rt; decoder.push(&[3, 7, 0, 2, 9, 0]), Err(refused));
+    assert_eq!(rt; decoder.push(&[3, 7, 0, 2, 9, 0]), Err(rejected));
 }
 
 #[test]
 fn decode_vec_error_example(rt: HostRuntime) {
     let alloc = rt.alloc();
-    let refused = decode_vec(alloc, &[]);
+    let rejected = decode_vec(alloc, &[]);
     assert_eq!(rt;
-        refused,
+        rejected,
         Err(DecodeVecError::Decode(DecodeError::EmptyFrame))
     );
 }

@@ -148,8 +148,8 @@ fn encode_with_sentinel_example(rt: HostRuntime) {
 #[test]
 fn try_encode_with_sentinel_example(rt: HostRuntime) {
     let mut dest = [170; 3];
-    let refused = try_encode_with_sentinel(&[1, 0, 2], &mut dest, 1);
-    assert_eq!(rt; refused, Err(DestBufTooSmallError));
+    let rejected = try_encode_with_sentinel(&[1, 0, 2], &mut dest, 1);
+    assert_eq!(rt; rejected, Err(DestBufTooSmallError));
     assert_eq!(rt; try_encode_with_sentinel(&[1, 0], &mut dest, 1), Ok(3));
     assert_eq!(rt; dest, [3, 0, 0]);
 }
@@ -165,8 +165,8 @@ fn encode_including_sentinels_example(rt: HostRuntime) {
 #[test]
 fn try_encode_including_sentinels_example(rt: HostRuntime) {
     let mut dest = [170; 4];
-    let refused = try_encode_including_sentinels(&[1, 2], &mut dest);
-    assert_eq!(rt; refused, Err(DestBufTooSmallError));
+    let rejected = try_encode_including_sentinels(&[1, 2], &mut dest);
+    assert_eq!(rt; rejected, Err(DestBufTooSmallError));
     assert_eq!(rt; try_encode_including_sentinels(&[1], &mut dest), Ok(4));
     assert_eq!(rt; dest, [0, 2, 1, 0]);
 }
@@ -203,7 +203,7 @@ fn encoder_state_default_example(rt: HostRuntime) {
 fn encoder_state_clone_example(rt: HostRuntime) -> Result<(), Fail> {
     let mut state = EncoderState::default();
     let copy = state.clone()?;
-    let _answer = state.push(7);
+    let _returned = state.push(7);
     assert_eq!(rt; state.finalize(), (0, 2));
     assert_eq!(rt; copy.finalize(), (0, 1));
     Ok(())
@@ -291,8 +291,8 @@ fn unbuffered_encoder_push_example(rt: HostRuntime) {
 
 #[test]
 fn unbuffered_encoder_finalize_example(rt: HostRuntime) {
-    let refused = UnbufferedEncoder::new().finalize(&mut []);
-    assert_eq!(rt; refused, Err(DestBufTooSmallError));
+    let rejected = UnbufferedEncoder::new().finalize(&mut []);
+    assert_eq!(rt; rejected, Err(DestBufTooSmallError));
 }
 
 #[test]

@@ -237,7 +237,7 @@ pub fn feed_one(decoder: &mut UnbufferedDecoder, buffer: &mut [u8], byte: u8)
         buffer.new (phase_of decoder.new) }
 {
     law_17();
-    let _answer = decoder.feed(buffer, byte);
+    let _returned = decoder.feed(buffer, byte);
 }
 
 /// The example of `law_18`.

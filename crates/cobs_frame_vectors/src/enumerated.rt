@@ -1,6 +1,6 @@
 //! All lists of a few parts through each call that decodes a whole frame, and as messages, compared with the plain
 //! reference.
-use crate::slices::{Answer, Decoder, VectorCall, check_decoder, vector};
+use crate::slices::{CallResult, Decoder, VectorCall, check_decoder, vector};
 use cobs::{DestBufTooSmallError, FrameKind, frame_kind, try_encode};
 use cobs_vectors::bytes::{LONG_FRAME, LONG_MESSAGE, ONES, chosen, joined, repeated};
 use cobs_vectors::reference::{Reading, frame_of, reading_of, split_at_zero};
@@ -26,18 +26,18 @@ fn check_decode(rt: &impl Abort, alloc: Global, source: &[u8], room: usize) -> R
         is_whole,
         ..
     } = reading_of(alloc, piece)?;
-    let answer = if source.is_empty() {
-        Answer::EmptyFrame
+    let returned = if source.is_empty() {
+        CallResult::EmptyFrame
     } else if piece.is_empty() {
-        Answer::InvalidFrame(0)
+        CallResult::InvalidFrame(0)
     } else if output.len() > room {
-        Answer::TooSmall
+        CallResult::TooSmall
     } else if !is_whole {
-        Answer::InvalidFrame(output.len())
+        CallResult::InvalidFrame(output.len())
     } else {
         let terminator = if behind.is_some() { 1 } else { 0 };
         let parsed = zeros.saturating_add(piece.len()).saturating_add(terminator);
-        Answer::Sizes(output.len(), parsed)
+        CallResult::Sizes(output.len(), parsed)
     };
     let before = repeated(alloc, 170, room)?;
     let after = written(alloc, &output, room)?;
@@ -45,7 +45,7 @@ fn check_decode(rt: &impl Abort, alloc: Global, source: &[u8], room: usize) -> R
         rt,
         alloc,
         (Decoder::Decode, source, &before),
-        (answer, &after),
+        (returned, &after),
     )
 }
 
@@ -57,12 +57,12 @@ fn check_in_place(rt: &impl Abort, alloc: Global, source: &[u8]) -> Result<(), F
         is_whole,
         kept,
     } = reading_of(alloc, head)?;
-    let answer = if source.is_empty() {
-        Answer::EmptyFrame
+    let returned = if source.is_empty() {
+        CallResult::EmptyFrame
     } else if head.is_empty() || is_whole {
-        Answer::Sizes(output.len(), head.len())
+        CallResult::Sizes(output.len(), head.len())
     } else {
-        Answer::InvalidFrame(kept)
+        CallResult::InvalidFrame(kept)
     };
     let mut after = output;
     after.truncate(kept);
@@ -73,7 +73,7 @@ fn check_in_place(rt: &impl Abort, alloc: Global, source: &[u8]) -> Result<(), F
         rt,
         alloc,
         (Decoder::InPlaceReport, &[], source),
-        (answer, &after),
+        (returned, &after),
     )
 }
 
@@ -90,14 +90,14 @@ fn check_with_sentinel(
         is_whole,
         kept,
     } = reading_of(alloc, head)?;
-    let answer = if source.is_empty() {
-        Answer::EmptyFrame
+    let returned = if source.is_empty() {
+        CallResult::EmptyFrame
     } else if kept > room {
-        Answer::TooSmall
+        CallResult::TooSmall
     } else if head.is_empty() || is_whole {
-        Answer::Length(kept)
+        CallResult::Length(kept)
     } else {
-        Answer::InvalidFrame(kept)
+        CallResult::InvalidFrame(kept)
     };
     let mut known = output;
     known.truncate(kept);
@@ -107,7 +107,7 @@ fn check_with_sentinel(
         rt,
         alloc,
         (Decoder::WithSentinel(0), source, &before),
-        (answer, &after),
+        (returned, &after),
     )
 }
 

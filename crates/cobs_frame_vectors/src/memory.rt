@@ -4,7 +4,7 @@
 //! memory, and nothing else. The last one passes only if no growth fails. `tests/fail-alloc.sh` fails the
 //! growths one after another until that test passes.
 use crate::messages::{encode_few, three_messages};
-use crate::slices::{Answer, VectorCall, refused, vector};
+use crate::slices::{CallResult, VectorCall, rejected, vector};
 use cobs::{
     CobsDecoder, CobsDecoderHeapless, CobsDecoderOwned, DecodeVecError, FrameDecoder, FrameOutcome,
     decode_stream,
@@ -13,7 +13,7 @@ use std::alloc::{AllocError, Global};
 use std::process::Abort;
 
 /// A call that returns a vector, its arguments, and its vector or its error.
-type Row = (VectorCall, &'static [u8], Result<&'static [u8], Answer>);
+type Row = (VectorCall, &'static [u8], Result<&'static [u8], CallResult>);
 
 /// A message with a zero.
 const MESSAGE: &[u8] = &[10, 11, 0, 12];
@@ -38,7 +38,7 @@ const TAKING: [Row; 8] = [
     (
         VectorCall::Decode,
         &[2, 5, 3, 1],
-        Err(Answer::InvalidFrame(3)),
+        Err(CallResult::InvalidFrame(3)),
     ),
     (
         VectorCall::DecodeWithSentinel(10),
@@ -49,17 +49,17 @@ const TAKING: [Row; 8] = [
     (
         VectorCall::DecodeWithSentinel(0),
         &[2, 5, 3, 1],
-        Err(Answer::InvalidFrame(2)),
+        Err(CallResult::InvalidFrame(2)),
     ),
 ];
 
 /// Calls that take none.
 const TAKING_NONE: [Row; 2] = [
-    (VectorCall::Decode, &[], Err(Answer::EmptyFrame)),
+    (VectorCall::Decode, &[], Err(CallResult::EmptyFrame)),
     (
         VectorCall::DecodeWithSentinel(7),
         &[],
-        Err(Answer::EmptyFrame),
+        Err(CallResult::EmptyFrame),
     ),
 ];
 
@@ -68,7 +68,7 @@ fn check_vectors(rt: &impl Abort, alloc: Global, rows: &[Row], may_want: bool) {
     for (call, source, wanted) in rows {
         match vector(rt, alloc, *call, source) {
             Ok(found) => assert_eq!(rt; Ok(found.as_slice()), *wanted),
-            Err(DecodeVecError::Decode(error)) => assert_eq!(rt; Err(refused(&error)), *wanted),
+            Err(DecodeVecError::Decode(error)) => assert_eq!(rt; Err(rejected(&error)), *wanted),
             Err(DecodeVecError::Memory(AllocError)) => assert!(rt; may_want, "{source:?}"),
         }
     }
@@ -127,7 +127,7 @@ fn check_idle<D: FrameDecoder + Drop>(rt: &impl Abort, alloc: Global, mut decode
             }
             _ => panic!(rt; "the decoder was not idle: {outcomes:?}"),
         },
-        Err(AllocError) => panic!(rt; "a second growth was refused"),
+        Err(AllocError) => panic!(rt; "a second growth failed"),
     }
 }
 
@@ -157,13 +157,13 @@ fn an_empty_source_takes_no_memory(rt: HostRuntime) {
 }
 
 #[test]
-fn more_memory_than_there_is_is_refused(rt: HostRuntime) {
+fn more_memory_than_there_is_is_an_error(rt: HostRuntime) {
     for room in [usize::MAX, usize::MAX / 4] {
         assert!(rt; CobsDecoderOwned::new(rt.alloc(), room).is_err());
     }
 }
 
 #[test]
-fn without_a_refusal_every_call_gives_its_value(rt: HostRuntime) {
+fn with_enough_memory_every_call_gives_its_value(rt: HostRuntime) {
     check_calls(&rt, rt.alloc(), false);
 }

@@ -28,7 +28,7 @@ pub enum VectorCall {
 
 /// What a call that decodes returns.
 #[derive(Clone, Copy, Debug, PartialEq, Eq)]
-pub enum Answer {
+pub enum CallResult {
     /// This many bytes were written.
     Length(usize),
 
@@ -46,32 +46,32 @@ pub enum Answer {
 }
 
 /// The error of a decoder.
-pub fn refused(error: &DecodeError) -> Answer {
+pub fn rejected(error: &DecodeError) -> CallResult {
     match error {
-        DecodeError::EmptyFrame => Answer::EmptyFrame,
-        DecodeError::InvalidFrame { decoded_bytes } => Answer::InvalidFrame(*decoded_bytes),
-        DecodeError::TargetBufTooSmall => Answer::TooSmall,
+        DecodeError::EmptyFrame => CallResult::EmptyFrame,
+        DecodeError::InvalidFrame { decoded_bytes } => CallResult::InvalidFrame(*decoded_bytes),
+        DecodeError::TargetBufTooSmall => CallResult::TooSmall,
     }
 }
 
 /// The result of a decoder that counts bytes.
-fn counted(answer: Result<usize, DecodeError>) -> Answer {
-    match answer {
-        Ok(count) => Answer::Length(count),
-        Err(error) => refused(&error),
+fn counted(returned: Result<usize, DecodeError>) -> CallResult {
+    match returned {
+        Ok(count) => CallResult::Length(count),
+        Err(error) => rejected(&error),
     }
 }
 
 /// The result of a decoder that reports sizes.
-fn reported(answer: Result<DecodeReport, DecodeError>) -> Answer {
-    match answer {
-        Ok(report) => Answer::Sizes(report.frame_size(), report.parsed_size()),
-        Err(error) => refused(&error),
+fn reported(returned: Result<DecodeReport, DecodeError>) -> CallResult {
+    match returned {
+        Ok(report) => CallResult::Sizes(report.frame_size(), report.parsed_size()),
+        Err(error) => rejected(&error),
     }
 }
 
 /// Makes the call.
-fn decoded(call: Decoder, source: &[u8], buffer: &mut [u8]) -> Answer {
+fn decoded(call: Decoder, source: &[u8], buffer: &mut [u8]) -> CallResult {
     match call {
         Decoder::Decode => reported(decode(source, buffer)),
         Decoder::WithSentinel(sentinel) => counted(decode_with_sentinel(source, buffer, sentinel)),
@@ -84,12 +84,12 @@ pub fn check_decoder(
     rt: &impl Abort,
     alloc: Global,
     (call, source, before): (Decoder, &[u8], &[u8]),
-    (answer, after): (Answer, &[u8]),
+    (returned, after): (CallResult, &[u8]),
 ) -> Result<(), Fail> {
     let mut buffer = before.to_vec(alloc)?;
     assert_eq!(rt;
         decoded(call, source, &mut buffer),
-        answer,
+        returned,
         "{source:?} into {before:?}"
     );
     assert_eq!(rt; buffer.as_slice(), after, "{source:?} into {before:?}");

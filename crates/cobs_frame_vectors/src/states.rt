@@ -12,12 +12,12 @@ enum State {
 
 /// What a byte brings.
 #[derive(Clone, Copy, Debug, PartialEq, Eq)]
-enum Answer {
+enum CallResult {
     NoData,
     Start,
     Complete,
     Byte(u8),
-    Refused,
+    Rejected,
 }
 
 /// The decoder's state for one of this table.
@@ -45,39 +45,39 @@ fn seen(state: &DecoderState) -> State {
 }
 
 /// What the decoder returned, in words of this table.
-fn told(answer: &Result<DecodeResult, DecodeError>) -> Option<Answer> {
-    match answer {
-        Ok(DecodeResult::NoData) => Some(Answer::NoData),
-        Ok(DecodeResult::DataStart) => Some(Answer::Start),
-        Ok(DecodeResult::DataComplete) => Some(Answer::Complete),
-        Ok(DecodeResult::DataContinue(byte)) => Some(Answer::Byte(*byte)),
-        Err(DecodeError::InvalidFrame { decoded_bytes: 0 }) => Some(Answer::Refused),
+fn known_result(returned: &Result<DecodeResult, DecodeError>) -> Option<CallResult> {
+    match returned {
+        Ok(DecodeResult::NoData) => Some(CallResult::NoData),
+        Ok(DecodeResult::DataStart) => Some(CallResult::Start),
+        Ok(DecodeResult::DataComplete) => Some(CallResult::Complete),
+        Ok(DecodeResult::DataContinue(byte)) => Some(CallResult::Byte(*byte)),
+        Err(DecodeError::InvalidFrame { decoded_bytes: 0 }) => Some(CallResult::Rejected),
         Err(_) => None,
     }
 }
 
 /// The result that is wanted.
-fn wanted_answer(state: State, byte: u8) -> Answer {
+fn wanted_result(state: State, byte: u8) -> CallResult {
     match (state, byte) {
-        (State::Idle, 0) => Answer::NoData,
-        (State::Idle, _) => Answer::Start,
-        (State::InBlock { left: 0, .. }, 0) => Answer::Complete,
+        (State::Idle, 0) => CallResult::NoData,
+        (State::Idle, _) => CallResult::Start,
+        (State::InBlock { left: 0, .. }, 0) => CallResult::Complete,
         (
             State::InBlock {
                 left: 0,
                 full: true,
             },
             _,
-        ) => Answer::NoData,
+        ) => CallResult::NoData,
         (
             State::InBlock {
                 left: 0,
                 full: false,
             },
             _,
-        ) => Answer::Byte(0),
-        (State::InBlock { .. }, 0) => Answer::Refused,
-        (State::InBlock { .. }, data) => Answer::Byte(data),
+        ) => CallResult::Byte(0),
+        (State::InBlock { .. }, 0) => CallResult::Rejected,
+        (State::InBlock { .. }, data) => CallResult::Byte(data),
     }
 }
 
@@ -100,10 +100,10 @@ fn wanted_state(state: State, byte: u8) -> State {
 fn check_each_byte(rt: &impl Abort, state: State) {
     for byte in 0..=255u8 {
         let mut decoder = built(state);
-        let answer = decoder.feed(byte);
+        let returned = decoder.feed(byte);
         assert_eq!(rt;
-            told(&answer),
-            Some(wanted_answer(state, byte)),
+            known_result(&returned),
+            Some(wanted_result(state, byte)),
             "{state:?} and {byte}"
         );
         assert_eq!(rt;

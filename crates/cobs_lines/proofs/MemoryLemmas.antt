@@ -38,7 +38,7 @@ TakesChunk-copied left chunk chunk' left' n long count copied rest =
       leaves = rest ∙ drop_least left n least;
     }
 
--- what such a read answers
+-- what such a read returns
 pub TakesChunk-read : {E : Type 0} (r : Result ℕ E) (left chunk chunk' left' : List ℕ) → length chunk ≡ 64 → r ≡ Ok (min (length left) (length chunk))
     → IfOk r (λ n. chunk' ≡ take n left ++ drop n chunk) → IfOk r (λ n. left' ≡ drop n left)
     → TakesChunk left (option_map (λ n. take n chunk') (result_ok r)) left'

@@ -37,15 +37,15 @@ all_ended-none t n none = nil_from_length (all_ended t n) (length-all_ended t n 
 
 one_piece : (law : StreamLaw) (q : List ℕ) (n : ℕ) (outcome : Outcome) → HasNoZero q → outcome ∷ [] ≡ stream_outcomes (q ++ 0 ∷ []) n → (all_ended (q ++ 0 ∷ []) n ≡ ended_in n q ∷ []) × (outcome ≡ outcome_of q n)
 unfolding all_ended stream_outcomes ended_pieces but_last
-one_piece law [] n outcome h told = absurd cc
-one_piece law (b ∷ q) n outcome h told =
+one_piece law [] n outcome h reported = absurd cc
+one_piece law (b ∷ q) n outcome h reported =
     let one = law.piece (b ∷ q) (λ none. cc) h in
-    (ap (map (ended_in n)) one, let same = told ∙ ap (map (λ p. outcome_of p n)) one in cc)
+    (ap (map (ended_in n)) one, let same = reported ∙ ap (map (λ p. outcome_of p n)) one in cc)
 
 one_ended : (law : StreamLaw) (t : List ℕ) (n : ℕ) (outcome : Outcome) → stream_outcomes t n ≡ [] → outcome ∷ [] ≡ stream_outcomes (t ++ 0 ∷ []) n → (all_ended (t ++ 0 ∷ []) n ≡ ended_in n (unended t) ∷ []) × (outcome ≡ outcome_of (unended t) n)
-one_ended law t n outcome none told =
+one_ended law t n outcome none reported =
     let behind = all_ended-append law t (0 ∷ []) n ∙ ap (λ (z : List Ended). z ++ all_ended (unended t ++ 0 ∷ []) n) (all_ended-none t n none) in
-    let one = one_piece law (unended t) n outcome (law.begun t) (told ∙ law.cut t (0 ∷ []) n ∙ ap (λ (z : List Outcome). z ++ stream_outcomes (unended t ++ 0 ∷ []) n) none) in
+    let one = one_piece law (unended t) n outcome (law.begun t) (reported ∙ law.cut t (0 ∷ []) n ∙ ap (λ (z : List Outcome). z ++ stream_outcomes (unended t ++ 0 ∷ []) n) none) in
     (behind ∙ one.0, one.1)
 
 -- WHAT THE BUFFER HOLDS OF IT

@@ -108,7 +108,7 @@ module _ (law : StreamLaw) {settings : Settings} {from to before after : Option 
   abbrev pub newly : List ℕ → List ℕ
   newly more = begun watch.skipping (xor_each watch.settings.now.sentinel more)
 
-  -- with more bytes, a stream leaves what the decoder leaves of them, and has the outcomes that it tells
+  -- with more bytes, a stream leaves what the decoder leaves of them, and has the outcomes that it reports
   pub more-stream : (more : List ℕ) → stream_of settings (s.ended.bytes ++ more) ≡ stream_of settings s.ended.bytes ++ newly more
   more-stream more =
       ap (begun settings.skip_first) (map-append (λ b. bit_xor b settings.sentinel) s.ended.bytes more)

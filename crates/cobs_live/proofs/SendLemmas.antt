@@ -75,9 +75,9 @@ still-at_end (Some xs) (Some ys) (Some zs) read r end none = sym none ∙ end
 pub flag_kept : (P : List ℕ → Type 0) (xs : List (List ℕ)) (x : List ℕ) (flag : Bool) → (IsTrue flag ↔ All P xs) → P x → (IsTrue flag ↔ All P (xs ++ x ∷ []))
 flag_kept P xs x flag h p = (λ e. All-push P xs x (h.0 e) p, λ all. h.1 (All-pop P (xs ++ x ∷ []) xs (Some x) refl all).0)
 
--- and one more that lacks it
+-- and one more that hasn't it
 pub flag_lost : (P : List ℕ → Type 0) (xs : List (List ℕ)) (x : List ℕ) → (P x → ⊥) → (IsTrue false ↔ All P (xs ++ x ∷ []))
-flag_lost P xs x lacks = (λ e. absurd cc, λ all. absurd (lacks (All-pop P (xs ++ x ∷ []) xs (Some x) refl all).1))
+flag_lost P xs x missing = (λ e. absurd cc, λ all. absurd (missing (All-pop P (xs ++ x ∷ []) xs (Some x) refl all).1))
 
 -- the lines that were sent so far, and a flag that says whether each could be
 pub record SentSoFar (settings : Settings) (all_sent : Bool) (from to before after : Option (List ℕ)) : Type 0 where
@@ -124,7 +124,7 @@ module _ {settings : Settings} {all_sent : Bool} {from to to' before after after
 
   -- one more line that could not be sent
   abbrev pub SentSoFar-skipped : (flag : Bool) → flag ≡ false → (IsSendable settings (text_of line) → ⊥) → SentSoFar settings flag from to' before after'
-  SentSoFar-skipped flag none lacks = SentSoFar-with flag (rw none (flag_lost (λ l. IsSendable settings (text_of l)) s.lines line lacks))
+  SentSoFar-skipped flag none missing = SentSoFar-with flag (rw none (flag_lost (λ l. IsSendable settings (text_of l)) s.lines line missing))
 
 -- a run so far that is live, whose reads gave the lines that were sent
 pub record IsLiveSoFar {S : Type 0} (step : S → Read → S → Type 0) (source source' : S) (settings : Settings) (all_sent : Bool) (from to before after : Option (List ℕ)) : Type 0 where

@@ -78,8 +78,8 @@ module _ (law : StreamLaw) {view : View} {times : ℕ → ℕ} {n : ℕ} {p byte
       → IsTallyOf view.checksum tally' ((gone ++ stream_outcomes (p ++ bytes) n) ++ outcome ∷ []) read
       → IsReadAt times (length ((gone ++ stream_outcomes (p ++ bytes) n) ++ outcome ∷ [])) clock'
       → ShowsBytes view times n p (bytes ++ rest) gone read buffer' phase' before after' tally' clock'
-  ShowsBytes-piece {after' = after'} outcome piece len taken told ended written counted timed =
-      let one : outcome ∷ [] ≡ stream_outcomes (unended (p ++ bytes) ++ rest) n = subst (λ (k : ℕ). outcome ∷ [] ≡ stream_outcomes (unended (p ++ bytes) ++ rest) k) s.len told in
+  ShowsBytes-piece {after' = after'} outcome piece len taken reported ended written counted timed =
+      let one : outcome ∷ [] ≡ stream_outcomes (unended (p ++ bytes) ++ rest) n = subst (λ (k : ℕ). outcome ∷ [] ≡ stream_outcomes (unended (p ++ bytes) ++ rest) k) s.len reported in
       let last : all_ended (unended (p ++ bytes) ++ rest) n ≡ piece ∷ [] = subst (λ (k : ℕ). all_ended (unended (p ++ bytes) ++ rest) k ≡ piece ∷ []) s.len ended in
       let number : length gone + length (all_ended (p ++ bytes) n) ≡ length (gone ++ stream_outcomes (p ++ bytes) n) = omega (arith, length-append gone (stream_outcomes (p ++ bytes) n), length-all_ended (p ++ bytes) n) in
       let text : shown_from view times (length gone) (all_ended (p ++ (bytes ++ rest)) n) ≡ shown_from view times (length gone) (all_ended (p ++ bytes) n) ++ shown view times (length (gone ++ stream_outcomes (p ++ bytes) n)) piece =
@@ -98,8 +98,8 @@ module _ (law : StreamLaw) {view : View} {times : ℕ → ℕ} {n : ℕ} {p byte
   -- bytes in which no piece ends
   pub ShowsBytes-rest : {buffer' : List ℕ} {phase' : Phase} → length buffer' ≡ length buffer → DecoderAfter buffer' phase' (unended (unended (p ++ bytes) ++ rest)) → [] ≡ stream_outcomes (unended (p ++ bytes) ++ rest) (length buffer)
       → ShowsBytes view times n p (bytes ++ rest) gone read buffer' phase' before after tally clock
-  ShowsBytes-rest len taken told =
-      let none : [] ≡ stream_outcomes (unended (p ++ bytes) ++ rest) n = subst (λ (k : ℕ). [] ≡ stream_outcomes (unended (p ++ bytes) ++ rest) k) s.len told in
+  ShowsBytes-rest len taken reported =
+      let none : [] ≡ stream_outcomes (unended (p ++ bytes) ++ rest) n = subst (λ (k : ℕ). [] ≡ stream_outcomes (unended (p ++ bytes) ++ rest) k) s.len reported in
       let same : stream_outcomes (p ++ (bytes ++ rest)) n ≡ stream_outcomes (p ++ bytes) n = outcomes-on ∙ ap (λ (l : List Outcome). stream_outcomes (p ++ bytes) n ++ l) (sym none) ∙ append-nil (stream_outcomes (p ++ bytes) n) in
       let same_pieces : all_ended (p ++ (bytes ++ rest)) n ≡ all_ended (p ++ bytes) n = pieces-on ∙ ap (λ (l : List Ended). all_ended (p ++ bytes) n ++ l) (all_ended-none (unended (p ++ bytes) ++ rest) n (sym none)) ∙ append-nil (all_ended (p ++ bytes) n) in
       record {

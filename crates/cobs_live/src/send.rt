@@ -93,7 +93,7 @@ fn send_text<W: Write + Drop>(
     requires flushed { writer_buffer output.old ≡ [] }
     ensures sent { OnOk result ((bytes : List ℕ) × SendsText settings.now text.now bytes
         × Appends (W.contents (writer_inner output.old)) (W.contents (writer_inner output.new)) bytes) }
-    ensures answer { IfOk result (λ sent. IsTrue sent ↔ IsSendable settings.now text.now) }
+    ensures returned { IfOk result (λ sent. IsTrue sent ↔ IsSendable settings.now text.now) }
     ensures fault { IfErr result (λ fault. fault ≢ WatchFault.ReadFailed) }
     ensures unwritten { IfErr result (λ fault. fault ≡ WatchFault.OutOfMemory
         → Keeps (W.contents (writer_inner output.old)) (W.contents (writer_inner output.new))) }
@@ -117,7 +117,7 @@ fn send_digits<W: Write + Drop>(
     requires flushed { writer_buffer output.old ≡ [] }
     ensures sent { OnOk result ((bytes : List ℕ) × SendsAs true settings.now text.now bytes
         × Appends (W.contents (writer_inner output.old)) (W.contents (writer_inner output.new)) bytes) }
-    ensures answer { IfOk result (λ sent. IsTrue sent ↔ IsOk (decode_of (digits_of text.now))) }
+    ensures returned { IfOk result (λ sent. IsTrue sent ↔ IsOk (decode_of (digits_of text.now))) }
     ensures fault { IfErr result (λ fault. fault ≢ WatchFault.ReadFailed) }
     ensures unwritten { IfErr result (λ fault. fault ≡ WatchFault.OutOfMemory
         → Keeps (W.contents (writer_inner output.old)) (W.contents (writer_inner output.new))) }

@@ -4,7 +4,7 @@ use Rattle.std.proofs.lemmas.Bool.{eq-eqb, ne_eqb, true≢false}
 use Rattle.std.proofs.lemmas.List.{drop-drop, drop-take, drop_all, drop_more, get_or-drop, get_or-take, set_at, take-take, take_rest}
 use Rattle.std.specs.Result.{result_map_both}
 use borrow.Rule.Slice.PartMut.{put_mid}
-use Rattle.cobs.specs.Decode.{head_answer}
+use Rattle.cobs.specs.Decode.{head_result}
 use Rattle.cobs.specs.Grammar.{HasNoZero, IsBlock, bytes_of, joint}
 use Rattle.cobs.specs.Overwritten.{overwritten}
 use Rattle.cobs.specs.Piece.{IsWhole, is_whole, kept_output, last_part, output, parts, parts_after}
@@ -31,12 +31,12 @@ kept-nothing : kept_output [] ≡ []
 unfolding kept_output is_whole output parts parts_after last_part
 kept-nothing = refl
 
-answer-is : (law : OutputLaw) (h : List ℕ) (whole : Bool) → whole_left h ≡ whole → head_answer h ≡ cond whole (Ok (length (kept_output h))) (Err (InvalidFrame (length (kept_output h))))
-answer-is law [] true w = ap (λ (x : List ℕ). Ok (length x)) (sym kept-nothing)
-answer-is law [] false w = absurd (true≢false w)
-answer-is law (b ∷ h) true w =
+result-equals : (law : OutputLaw) (h : List ℕ) (whole : Bool) → whole_left h ≡ whole → head_result h ≡ cond whole (Ok (length (kept_output h))) (Err (InvalidFrame (length (kept_output h))))
+result-equals law [] true w = ap (λ (x : List ℕ). Ok (length x)) (sym kept-nothing)
+result-equals law [] false w = absurd (true≢false w)
+result-equals law (b ∷ h) true w =
     ap (λ (v : Bool). result_map_both length (λ (e : DecodeError). e) (cond v (Ok (output (b ∷ h))) (Err (InvalidFrame (length (kept_output (b ∷ h))))))) w ∙ ap (λ (x : List ℕ). Ok (length x)) (sym (law.all_kept (b ∷ h) w))
-answer-is law (b ∷ h) false w = ap (λ (v : Bool). result_map_both length (λ (e : DecodeError). e) (cond v (Ok (output (b ∷ h))) (Err (InvalidFrame (length (kept_output (b ∷ h))))))) w
+result-equals law (b ∷ h) false w = ap (λ (v : Bool). result_map_both length (λ (e : DecodeError). e) (cond v (Ok (output (b ∷ h))) (Err (InvalidFrame (length (kept_output (b ∷ h))))))) w
 
 -- a block and what is behind it: what is kept, with the zero that is due between them, and whether it is whole
 module _ (law : OutputLaw) (code : ℕ) (bytes : List ℕ) (block : IsBlock (code ∷ bytes)) where
@@ -72,15 +72,15 @@ module _ (law : OutputLaw) (old : List ℕ) (end : ℕ) (buffer : List ℕ) (rea
 
   -- the result and the buffer once nothing that is left is kept
   ended : (left : List ℕ) (whole : Bool) → drop read h ≡ left → kept_output left ≡ [] → whole_left left ≡ whole
-      → (cond whole (Ok written) (Err (InvalidFrame written)) ≡ head_answer h) × (buffer ≡ overwritten old (kept_output h))
+      → (cond whole (Ok written) (Err (InvalidFrame written)) ≡ head_result h) × (buffer ≡ overwritten old (kept_output h))
   ended left whole is nothing w =
       let kept : kept_output h ≡ s.done = s.kept ∙ ap (λ (x : List ℕ). s.done ++ kept_output x) is ∙ ap (λ (x : List ℕ). s.done ++ x) nothing ∙ append-nil s.done in
       let all : take (length old) s.done ≡ s.done = take_all (length old) s.done (let c = s.count in let o = s.order in let w = s.within in let f = s.fits in omega arith) in (
-        ap (λ (n : ℕ). cond whole (Ok n) (Err (InvalidFrame n))) (sym (ap length kept ∙ s.count)) ∙ sym (answer-is law h whole (s.whole ∙ ap whole_left is ∙ w)),
+        ap (λ (n : ℕ). cond whole (Ok n) (Err (InvalidFrame n))) (sym (ap length kept ∙ s.count)) ∙ sym (result-equals law h whole (s.whole ∙ ap whole_left is ∙ w)),
         s.holds ∙ sym (ap (overwritten old) kept ∙ ap (λ (x : List ℕ). x ++ drop (length s.done) old) all ∙ ap (λ (n : ℕ). s.done ++ drop n old) s.count),
       )
 
-  pub all-read : end ≤ read → (Ok written ≡ head_answer h) × (buffer ≡ overwritten old (kept_output h))
+  pub all-read : end ≤ read → (Ok written ≡ head_result h) × (buffer ≡ overwritten old (kept_output h))
   all-read past = ended [] true (drop_all read h (let l = long in omega arith)) kept-nothing refl
 
   -- behind the front it is as it was
@@ -100,7 +100,7 @@ module _ (law : OutputLaw) (old : List ℕ) (end : ℕ) (buffer : List ℕ) (rea
         let same : get_or buffer read 0 ≡ get_or old read 0 = sym (first buffer) ∙ ap (λ (xs : List ℕ). get_or xs 0 0) (behind read s.order) ∙ first old in
         record { nonzero = s.nonzero; here = omega (arith, long); is = same ∙ sym (get_or-take end old read 0 here); below = omega (arith, same, s.below read) }
 
-    pub broken : end - read < get_or buffer read 0 → (Err (InvalidFrame written) ≡ head_answer h) × (buffer ≡ overwritten old (kept_output h))
+    pub broken : end - read < get_or buffer read 0 → (Err (InvalidFrame written) ≡ head_result h) × (buffer ≡ overwritten old (kept_output h))
     broken more =
         let few = short _ _ _ at (let l = long in omega arith) in
         ended (code ∷ drop (read + 1) h) false (left-is _ _ _ at) (law.short_kept code (drop (read + 1) h) few) (law.short code (drop (read + 1) h) few)

@@ -2,7 +2,7 @@
 ghost use Rattle.std.specs.Prelude.{◌≡◌, ◌<◌, ◌≤◌, length, take, slice_index};
 ghost use Rattle.cobs.specs.Grammar.{HasNoZero};
 ghost use Rattle.cobs_abi.specs.Decode.{Decodes};
-ghost use Rattle.cobs_small.specs.End.{answer_for};
+ghost use Rattle.cobs_small.specs.End.{result_for_end};
 
 use crate::decoder::jcobs_decoder_push;
 use cobs::PieceEnd;
@@ -24,8 +24,8 @@ pub(crate) fn len_to_zero(bytes: &[u8]) -> usize
 }
 
 /// Returns the result of a call that took these bytes, into a buffer of `room` bytes, by how the piece has ended.
-fn answer_for(consumed: usize, room: usize, end: Option<PieceEnd>) -> Answer
-    ensures { result ≡ answer_for consumed room end }
+fn result_for_end(consumed: usize, room: usize, end: Option<PieceEnd>) -> Answer
+    ensures { result ≡ result_for_end consumed room end }
 {
     let (status, length) = match end {
         None => (EMPTY, 0),
@@ -56,7 +56,7 @@ pub extern "C" fn jcobs_decode(source: &[u8], message: &mut [u8]) -> Answer
     if pushed.status != MORE {
         return pushed;
     }
-    answer_for(
+    result_for_end(
         source.len(),
         message.len(),
         piece_end(&decoder, message.len()),

@@ -1,6 +1,6 @@
 //! Streams of frames to messages.
 ghost use Rattle.std.specs.Prelude.{[], ◌∷◌};
-ghost use Rattle.cobs_abi.specs.Stream.{DecodesNext, IsFreshDecoder, TellsIdle};
+ghost use Rattle.cobs_abi.specs.Stream.{DecodesNext, IsFreshDecoder, ReportsIdle};
 
 use cobs::UnbufferedDecoder;
 use cobs_abi::{Answer, Decoder, decode_each};
@@ -16,7 +16,7 @@ pub extern "C" fn jcobs_decoder_reset(decoder: &mut Decoder)
 /// Returns 1 if no piece is open, and 0 otherwise.
 #[unsafe(no_mangle)]
 pub extern "C" fn jcobs_decoder_is_idle(decoder: &Decoder) -> u32
-    ensures idle { TellsIdle decoder.now result }
+    ensures idle { ReportsIdle decoder.now result }
 {
     if decoder.is_idle() { 1 } else { 0 }
 }

@@ -48,12 +48,12 @@ pub extern "C" fn jcobs_encode_terminated(message: &[u8], frame: &mut [u8]) -> A
         return too_small();
     }
     let last = frame.len() - 1;
-    let answer = jcobs_encode(message, &mut frame[..last]);
-    if answer.status != OK {
-        return answer;
+    let returned = jcobs_encode(message, &mut frame[..last]);
+    if returned.status != OK {
+        return returned;
     }
-    frame[answer.length] = 0;
-    done(answer.consumed, answer.length + 1)
+    frame[returned.length] = 0;
+    done(returned.consumed, returned.length + 1)
 }
 
 /// Encodes the message of `message_len` bytes that lies in the buffer, behind the room for the longest frame's other bytes,

@@ -1,6 +1,6 @@
 //! A frame that is decoded in its own place.
 ghost use Rattle.std.specs.Prelude.{◌≡◌, ◌+◌, ◌<◌, ◌≤◌, length, take, drop};
-ghost use Rattle.cobs.specs.Decode.{head_answer};
+ghost use Rattle.cobs.specs.Decode.{head_result};
 ghost use Rattle.cobs.specs.Grammar.{HasNoZero};
 ghost use Rattle.cobs.specs.Overwritten.{overwritten};
 ghost use Rattle.cobs.specs.Piece.{kept_output};
@@ -9,7 +9,7 @@ ghost use Rattle.cobs_abi.specs.Decode.{DecodesInPlace};
 use crate::decode::len_to_zero;
 use cobs::DecodeError;
 use cobs::laws::{law_12, law_20};
-use cobs_abi::{Answer, answer_by};
+use cobs_abi::{Answer, result_by};
 
 /// The code of a full block.
 const FULL: usize = 255;
@@ -29,7 +29,7 @@ fn move_to_front(buffer: &mut [u8], from: usize, len: usize)
 fn decode_blocks(buffer: &mut [u8], end: usize) -> Result<usize, DecodeError>
     requires within { end ≤ length buffer.old }
     requires nonzero { HasNoZero (take end buffer.old) }
-    ensures answer { result ≡ head_answer (take end buffer.old) }
+    ensures returned { result ≡ head_result (take end buffer.old) }
     ensures buffer { buffer.new ≡ overwritten buffer.old (kept_output (take end buffer.old)) }
 {
     law_20();
@@ -61,9 +61,9 @@ pub extern "C" fn jcobs_decode_in_place(buffer: &mut [u8]) -> Answer
     law_12();
     let room = buffer.len();
     if buffer.is_empty() {
-        return answer_by(0, room, Err(DecodeError::EmptyFrame));
+        return result_by(0, room, Err(DecodeError::EmptyFrame));
     }
     let end = len_to_zero(buffer);
     let size = decode_blocks(buffer, end);
-    answer_by(room.min(end + 1), room, size)
+    result_by(room.min(end + 1), room, size)
 }

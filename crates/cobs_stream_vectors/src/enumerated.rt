@@ -1,5 +1,5 @@
 //! All lists of a few parts through each streaming decoder, compared with the plain reference.
-use crate::streaming::{Answer, Check, StreamingDecoder, check_all, fed};
+use crate::streaming::{CallResult, Check, StreamingDecoder, check_all, fed};
 use cobs::{FrameOutcome, decode_stream};
 use cobs_vectors::bytes::{LONG_FRAME, ONES, chosen, joined};
 use cobs_vectors::reference::{Reading, reading_of, split_at_zero};
@@ -34,13 +34,13 @@ impl Check for Fed<'_> {
                 ..
             } = reading_of(alloc, &piece)?;
             let wanted = if output.len() > room {
-                Answer::TooSmall
+                CallResult::TooSmall
             } else if *byte != 0 || piece.is_empty() {
-                Answer::Nothing
+                CallResult::Nothing
             } else if is_whole {
-                Answer::Length(output.len())
+                CallResult::Length(output.len())
             } else {
-                Answer::InvalidFrame(output.len())
+                CallResult::InvalidFrame(output.len())
             };
             assert_eq!(rt;
                 fed(decoder.feed_one(*byte)),

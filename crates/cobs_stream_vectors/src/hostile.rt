@@ -1,5 +1,5 @@
 //! Decoders in states that no careful caller brings about.
-use crate::streaming::{Answer, Check, StreamingDecoder, check_all, feed_all, overwrite};
+use crate::streaming::{CallResult, Check, StreamingDecoder, check_all, feed_all, overwrite};
 use cobs_vectors::bytes::{ONES, Parts, joined};
 use std::alloc::Global;
 use std::process::Abort;
@@ -47,7 +47,7 @@ fn give<D: StreamingDecoder>(decoder: &mut D, bytes: &[u8], is_pushed: bool) {
 
 /// The decoder is idle: the next frame is read.
 fn check_idle<D: StreamingDecoder>(rt: &impl Abort, decoder: &mut D) {
-    assert_eq!(rt; feed_all(rt, decoder, &[2, 5, 0]), Answer::Length(1));
+    assert_eq!(rt; feed_all(rt, decoder, &[2, 5, 0]), CallResult::Length(1));
     assert!(rt; decoder.whole_buffer().starts_with(&[5]));
 }
 
@@ -84,7 +84,7 @@ impl Check for Resets<'_> {
         let before = decoder.whole_buffer().to_vec(alloc)?;
         if decoder.begin_anew() {
             assert!(rt; decoder.whole_buffer() == before.as_slice());
-            assert_eq!(rt; feed_all(rt, &mut decoder, &[0]), Answer::Nothing);
+            assert_eq!(rt; feed_all(rt, &mut decoder, &[0]), CallResult::Nothing);
             check_idle(rt, &mut decoder);
 
             give(&mut decoder, self.front, false);
@@ -135,9 +135,9 @@ impl Check for Overwritten {
         _alloc: Global,
         mut decoder: D,
     ) -> Result<(), Fail> {
-        assert_eq!(rt; feed_all(rt, &mut decoder, &[3, 7]), Answer::Nothing);
+        assert_eq!(rt; feed_all(rt, &mut decoder, &[3, 7]), CallResult::Nothing);
         overwrite(&mut decoder, 8);
-        assert_eq!(rt; feed_all(rt, &mut decoder, &[9, 0]), Answer::Length(2));
+        assert_eq!(rt; feed_all(rt, &mut decoder, &[9, 0]), CallResult::Length(2));
         assert!(rt; decoder.whole_buffer() == [8, 9].as_slice());
         overwrite(&mut decoder, 9);
         let _ = decoder.begin_anew();

@@ -80,7 +80,7 @@ enum Found {
 }
 
 /// The result that says so.
-fn answer_of(found: Found) -> Result<Next, ReadFault> {
+fn result_of(found: Found) -> Result<Next, ReadFault> {
     match found {
         Found::Message(message) => Ok(Next::Message(message.len())),
         Found::Broken(count) => Ok(Next::Broken(count)),
@@ -103,8 +103,8 @@ fn find_all<D: FrameDecoder>(
 ) {
     let mut source = Recorded::new(reader_of(*given));
     for (at, found) in wanted.iter().enumerate() {
-        let answer = frames.next_frame(&mut source);
-        assert_eq!(rt; answer, answer_of(*found), "row {row}, call {at}");
+        let returned = frames.next_frame(&mut source);
+        assert_eq!(rt; returned, result_of(*found), "row {row}, call {at}");
         if let Found::Message(message) = found {
             let is_there = frames.decoder().buffer().starts_with(message);
             assert!(rt; is_there, "row {row}, call {at}");

@@ -1,6 +1,6 @@
 //! From messages to frames and back, in pieces.
 use crate::encoders::encode_in_pieces;
-use crate::streaming::{Answer, Check, StreamingDecoder, check_all, feed_all, pushed};
+use crate::streaming::{CallResult, Check, StreamingDecoder, check_all, feed_all, pushed};
 use cobs::{CobsDecoder, CobsDecoderHeapless, CobsDecoderOwned, max_encoding_length};
 use cobs_vectors::bytes::{LONG_FRAME, LONG_MESSAGE, joined, repeated};
 use std::alloc::Global;
@@ -51,7 +51,7 @@ fn streams_go_there_and_back(rt: HostRuntime) -> Result<(), Fail> {
 struct Pieces<'a> {
     frame: &'a [u8],
     size: usize,
-    answer: Answer,
+    returned: CallResult,
 }
 
 impl Check for Pieces<'_> {
@@ -65,22 +65,25 @@ impl Check for Pieces<'_> {
     ) -> Result<(), Fail> {
         let size = self.size;
         assert!(rt; size > 0);
-        let mut last = Answer::Nothing;
+        let mut last = CallResult::Nothing;
         for piece in self.frame.chunks(size) {
-            let (answer, _) = pushed(decoder.push_some(piece), piece.len());
-            if last == Answer::Nothing {
+            let (returned, _) = pushed(decoder.push_some(piece), piece.len());
+            if last == CallResult::Nothing {
                 assert!(rt;
-                    answer == last || answer == self.answer,
+                    returned == last || returned == self.returned,
                     "in pieces of {size}"
                 );
             } else {
-                assert_eq!(rt; answer, last, "in pieces of {size}");
+                assert_eq!(rt; returned, last, "in pieces of {size}");
             }
-            last = answer;
+            last = returned;
         }
         let end = pushed(decoder.push_some(&[0]), 1);
-        assert_eq!(rt; end, (self.answer, 1), "in pieces of {size}");
-        assert_eq!(rt; last == Answer::TooSmall, self.answer == Answer::TooSmall);
+        assert_eq!(rt; end, (self.returned, 1), "in pieces of {size}");
+        assert_eq!(rt;
+            last == CallResult::TooSmall,
+            self.returned == CallResult::TooSmall
+        );
         let message = joined(alloc, LONG_MESSAGE)?;
         assert!(rt;
             message.as_slice().starts_with(decoder.whole_buffer()),
@@ -93,7 +96,10 @@ impl Check for Pieces<'_> {
 #[test]
 fn pieces_of_any_size_give_the_message_or_overflow(rt: HostRuntime) -> Result<(), Fail> {
     let mut frame = joined(rt.alloc(), LONG_FRAME)?;
-    for (room, answer) in [(2001, Answer::Length(2001)), (2000, Answer::TooSmall)] {
+    for (room, returned) in [
+        (2001, CallResult::Length(2001)),
+        (2000, CallResult::TooSmall),
+    ] {
         for size in [1, 7, 254, 255, 1000, 2008] {
             check_all(
                 &rt,
@@ -102,7 +108,7 @@ fn pieces_of_any_size_give_the_message_or_overflow(rt: HostRuntime) -> Result<()
                 &Pieces {
                     frame: &frame,
                     size,
-                    answer,
+                    returned,
                 },
             )?;
         }
@@ -111,7 +117,7 @@ fn pieces_of_any_size_give_the_message_or_overflow(rt: HostRuntime) -> Result<()
     let mut decoder = CobsDecoderOwned::new(rt.alloc(), 2000)?;
     frame.push(0)?;
     let found = pushed(decoder.push(&frame), frame.len());
-    assert_eq!(rt; found, (Answer::TooSmall, 2008));
+    assert_eq!(rt; found, (CallResult::TooSmall, 2008));
     Ok(())
 }
 
@@ -123,14 +129,14 @@ fn the_decoder_with_its_buffer_inside(rt: HostRuntime) {
     for _ in 0..10 {
         assert_eq!(rt;
             feed_all(&rt, &mut decoder, b"\x0chello world\0"),
-            Answer::Length(11)
+            CallResult::Length(11)
         );
         assert!(rt; decoder.dest().starts_with(b"hello world"));
     }
     let delimited = b"\0\x0chello world\0";
     assert_eq!(rt;
         pushed(decoder.push(delimited), 14),
-        (Answer::Length(11), 14)
+        (CallResult::Length(11), 14)
     );
     assert!(rt; decoder.dest().starts_with(b"hello world"));
 }

@@ -120,7 +120,7 @@ pub fn check_all(
 
 /// What a call returns.
 #[derive(Clone, Copy, Debug, PartialEq, Eq)]
-pub enum Answer {
+pub enum CallResult {
     /// Nothing is wrong, and no message has ended.
     Nothing,
 
@@ -135,37 +135,43 @@ pub enum Answer {
 }
 
 /// The error of a decoder.
-fn refused(error: &DecodeError) -> Answer {
+fn rejected(error: &DecodeError) -> CallResult {
     match error {
-        DecodeError::EmptyFrame => Answer::Nothing,
-        DecodeError::InvalidFrame { decoded_bytes } => Answer::InvalidFrame(*decoded_bytes),
-        DecodeError::TargetBufTooSmall => Answer::TooSmall,
+        DecodeError::EmptyFrame => CallResult::Nothing,
+        DecodeError::InvalidFrame { decoded_bytes } => CallResult::InvalidFrame(*decoded_bytes),
+        DecodeError::TargetBufTooSmall => CallResult::TooSmall,
     }
 }
 
 /// The result for a byte.
-pub fn fed(answer: Result<Option<usize>, DecodeError>) -> Answer {
-    match answer {
-        Ok(None) => Answer::Nothing,
-        Ok(Some(count)) => Answer::Length(count),
-        Err(error) => refused(&error),
+pub fn fed(returned: Result<Option<usize>, DecodeError>) -> CallResult {
+    match returned {
+        Ok(None) => CallResult::Nothing,
+        Ok(Some(count)) => CallResult::Length(count),
+        Err(error) => rejected(&error),
     }
 }
 
 /// The result for this many bytes, and how many of them were consumed.
-pub fn pushed(answer: Result<Option<DecodeReport>, PushError>, count: usize) -> (Answer, usize) {
-    match answer {
-        Ok(None) => (Answer::Nothing, count),
-        Ok(Some(report)) => (Answer::Length(report.frame_size()), report.parsed_size()),
-        Err(PushError { error, parsed_size }) => (refused(&error), parsed_size),
+pub fn pushed(
+    returned: Result<Option<DecodeReport>, PushError>,
+    count: usize,
+) -> (CallResult, usize) {
+    match returned {
+        Ok(None) => (CallResult::Nothing, count),
+        Ok(Some(report)) => (
+            CallResult::Length(report.frame_size()),
+            report.parsed_size(),
+        ),
+        Err(PushError { error, parsed_size }) => (rejected(&error), parsed_size),
     }
 }
 
 /// Feeds the bytes, and returns the last result. Each before it has to be that nothing has ended.
-pub fn feed_all<D: StreamingDecoder>(rt: &impl Abort, decoder: &mut D, bytes: &[u8]) -> Answer {
-    let mut last = Answer::Nothing;
+pub fn feed_all<D: StreamingDecoder>(rt: &impl Abort, decoder: &mut D, bytes: &[u8]) -> CallResult {
+    let mut last = CallResult::Nothing;
     for byte in bytes {
-        assert_eq!(rt; last, Answer::Nothing, "before {byte} in {bytes:?}");
+        assert_eq!(rt; last, CallResult::Nothing, "before {byte} in {bytes:?}");
         last = fed(decoder.feed_one(*byte));
     }
     last

@@ -1,5 +1,5 @@
 //! Whole streams: several frames, cut and damaged.
-use crate::streaming::{Answer, Check, StreamingDecoder, check_all, pushed};
+use crate::streaming::{CallResult, Check, StreamingDecoder, check_all, pushed};
 use cobs::{FrameOutcome, decode_stream};
 use cobs_vectors::bytes::joined;
 use std::alloc::{AllocError, Global};
@@ -96,27 +96,27 @@ fn push_all<D: StreamingDecoder>(
 ) -> Result<(), Fail> {
     let mut rest = bytes;
     for _ in 0..=bytes.len() {
-        let (answer, consumed) = pushed(decoder.push_some(rest), rest.len());
+        let (returned, consumed) = pushed(decoder.push_some(rest), rest.len());
         let Some((taken, behind)) = rest.split_at_checked(consumed) else {
             panic!(rt; "more was consumed than was pushed");
         };
         rest = behind;
         let is_ended = taken.last() == Some(&0);
-        match answer {
-            Answer::Nothing => return Ok(()),
-            Answer::Length(count) => {
+        match returned {
+            CallResult::Nothing => return Ok(()),
+            CallResult::Length(count) => {
                 let Some(message) = decoder.whole_buffer().get(..count) else {
                     panic!(rt; "a message longer than the buffer");
                 };
                 assert!(rt; is_ended);
                 outcomes.push(FrameOutcome::Message(message.to_vec(alloc)?))?;
             }
-            Answer::InvalidFrame(count) => {
+            CallResult::InvalidFrame(count) => {
                 assert!(rt; is_ended);
                 outcomes.push(FrameOutcome::Broken(count))?;
             }
-            Answer::TooSmall if is_ended => outcomes.push(FrameOutcome::TooLong)?,
-            Answer::TooSmall => {}
+            CallResult::TooSmall if is_ended => outcomes.push(FrameOutcome::TooLong)?,
+            CallResult::TooSmall => {}
         }
     }
     panic!(rt; "a push consumed nothing");

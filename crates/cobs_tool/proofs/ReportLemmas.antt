@@ -37,7 +37,7 @@ unended-behind : (law : StreamLaw) (front behind : List ℕ) → unended (front 
 unended-behind law front behind =
     ap unended (sym (append_assoc front (0 ∷ []) behind)) ∙ law.left (front ++ 0 ∷ []) behind ∙ ap (λ l. unended (l ++ behind)) (law.ended front)
 
--- what stands behind the first piece that ends in the stream t, and then more, decides the rest of the report
+-- what is behind the first piece that ends in the stream t, and then more, decides the rest of the report
 report-first : (law : StreamLaw) (t behind more : List ℕ) (n : ℕ) (outcome : Outcome) → n ≡ longest_message → EndsFirst t n outcome behind
     → report (t ++ more) ≡ outcome_line outcome ++ report (behind ++ more)
 report-first law t behind more n outcome e first =
@@ -65,8 +65,8 @@ abbrev pub left_of : ReaderState → InMemory → List ℕ
 left_of reader source = reader.kept ++ bytes_left source
 
 -- a call has come to the end of a piece: its line is the first of what was still to be reported
-pub record PieceTold (reader : ReaderState) (source : InMemory) (reader' : ReaderState) (source' : InMemory) (outcome : Outcome) : Type 0 where
-  pub told : report (left_of reader source) ≡ outcome_line outcome ++ report (left_of reader' source')
+pub record PieceReported (reader : ReaderState) (source : InMemory) (reader' : ReaderState) (source' : InMemory) (outcome : Outcome) : Type 0 where
+  pub stated : report (left_of reader source) ≡ outcome_line outcome ++ report (left_of reader' source')
   pub fewer : length reader'.kept + length (bytes_left source') < length reader.kept + length (bytes_left source)
   pub idle : ReaderAfter reader' []
 
@@ -76,86 +76,86 @@ left_of-given : (reader : ReaderState) (source : InMemory) (reads : List Read) (
 left_of-given reader source reads source' runs =
     ap (λ l. reader.kept ++ l) (bytes_left-Runs source reads source' runs) ∙ sym (append_assoc reader.kept (all_given reads) (bytes_left source'))
 
-pub PieceTold-from : (law : StreamLaw) (reader : ReaderState) (source : InMemory) (reader' : ReaderState) (source' : InMemory) (reads : List Read) (outcome : Outcome)
+pub PieceReported-from : (law : StreamLaw) (reader : ReaderState) (source : InMemory) (reader' : ReaderState) (source' : InMemory) (reads : List Read) (outcome : Outcome)
     → length reader'.buffer ≡ longest_message → Runs MemoryStep source reads source' → AtPieceEnd (reader.kept ++ all_given reads) outcome reader'
-    → PieceTold reader source reader' source' outcome
-PieceTold-from law reader source reader' source' reads outcome len runs end =
+    → PieceReported reader source reader' source' outcome
+PieceReported-from law reader source reader' source' reads outcome len runs end =
     let more = bytes_left source' in
     let given = left_of-given reader source reads source' runs in
     let whole = ap length given in
     let cut = ap length end.first.cut in
     record {
-      told = ap report given ∙ report-first law (reader.kept ++ all_given reads) reader'.kept more (length reader'.buffer) outcome len end.first;
+      stated = ap report given ∙ report-first law (reader.kept ++ all_given reads) reader'.kept more (length reader'.buffer) outcome len end.first;
       fewer = omega (arith, length-append reader.kept (bytes_left source), length-append (reader.kept ++ all_given reads) more, length-append end.first.front (0 ∷ reader'.kept));
       idle = end.idle;
     }
 
--- what each answer of a call tells, where the reader was idle
+-- what each result of a call reports, where the reader was idle
 
-pub message_told : (law : StreamLaw) (reader : ReaderState) (source : InMemory) (reader' : ReaderState) (source' : InMemory) (n : ℕ)
+pub message_reported : (law : StreamLaw) (reader : ReaderState) (source : InMemory) (reader' : ReaderState) (source' : InMemory) (n : ℕ)
     → ReadsNext MemoryStep source source' reader (Ok (nexts.Message n)) reader' → ReaderAfter reader [] → length reader'.buffer ≡ longest_message
-    → PieceTold reader source reader' source' (Message (take n reader'.buffer)) × (n ≤ length reader'.buffer)
-message_told law reader source reader' source' n next idle len =
-    let told = next.tells [] idle in
-    (PieceTold-from law reader source reader' source' next.reads _ len next.runs told.0, told.1)
+    → PieceReported reader source reader' source' (Message (take n reader'.buffer)) × (n ≤ length reader'.buffer)
+message_reported law reader source reader' source' n next idle len =
+    let stated = next.result_says [] idle in
+    (PieceReported-from law reader source reader' source' next.reads _ len next.runs stated.0, stated.1)
 
-pub broken_told : (law : StreamLaw) (reader : ReaderState) (source : InMemory) (reader' : ReaderState) (source' : InMemory) (count : ℕ)
+pub broken_reported : (law : StreamLaw) (reader : ReaderState) (source : InMemory) (reader' : ReaderState) (source' : InMemory) (count : ℕ)
     → ReadsNext MemoryStep source source' reader (Ok (nexts.Broken count)) reader' → ReaderAfter reader [] → length reader'.buffer ≡ longest_message
-    → PieceTold reader source reader' source' (Broken count)
-broken_told law reader source reader' source' count next idle len =
-    PieceTold-from law reader source reader' source' next.reads _ len next.runs (next.tells [] idle)
+    → PieceReported reader source reader' source' (Broken count)
+broken_reported law reader source reader' source' count next idle len =
+    PieceReported-from law reader source reader' source' next.reads _ len next.runs (next.result_says [] idle)
 
-pub too_long_told : (law : StreamLaw) (reader : ReaderState) (source : InMemory) (reader' : ReaderState) (source' : InMemory)
+pub too_long_reported : (law : StreamLaw) (reader : ReaderState) (source : InMemory) (reader' : ReaderState) (source' : InMemory)
     → ReadsNext MemoryStep source source' reader (Ok nexts.TooLong) reader' → ReaderAfter reader [] → length reader'.buffer ≡ longest_message
-    → PieceTold reader source reader' source' TooLong
-too_long_told law reader source reader' source' next idle len =
-    PieceTold-from law reader source reader' source' next.reads _ len next.runs (next.tells [] idle)
+    → PieceReported reader source reader' source' TooLong
+too_long_reported law reader source reader' source' next idle len =
+    PieceReported-from law reader source reader' source' next.reads _ len next.runs (next.result_says [] idle)
 
 -- the last line, or none
 abbrev pub unfinished_text : Bool → List ℕ
 unfinished_text unfinished = if unfinished then codes "unfinished\n" else []
 
 -- nothing is left behind the end
-pub end_told : (reader : ReaderState) (source : InMemory) (reader' : ReaderState) (source' : InMemory) (unfinished : Bool)
+pub stream_end_reported : (reader : ReaderState) (source : InMemory) (reader' : ReaderState) (source' : InMemory) (unfinished : Bool)
     → ReadsNext MemoryStep source source' reader (Ok (nexts.End unfinished)) reader' → ReaderAfter reader [] → length reader'.buffer ≡ longest_message
     → report (left_of reader source) ≡ unfinished_text unfinished
-end_told reader source reader' source' unfinished next idle len =
+stream_end_reported reader source reader' source' unfinished next idle len =
     let t = reader.kept ++ all_given next.reads in
-    let told = next.tells [] idle in
-    let (earlier, last) = told.1 in
+    let stated = next.result_says [] idle in
+    let (earlier, last) = stated.1 in
     let none : bytes_left source' ≡ [] = bytes_left-at_end source earlier source' (subst (λ reads. Runs MemoryStep source reads source') last next.runs) in
     ap report (left_of-given reader source next.reads source' next.runs ∙ ap (λ l. t ++ l) none ∙ append-nil t)
-    ∙ report-none t (length reader'.buffer) len told.0.none_ended
-    ∙ ap unfinished_text (sym told.2)
+    ∙ report-none t (length reader'.buffer) len stated.0.none_ended
+    ∙ ap unfinished_text (sym stated.2)
 
 -- a call over 1 MiB or less meets no fault: no read fails, and one in 64 bytes is enough
 pub no_fault : (reader : ReaderState) (source : InMemory) (reader' : ReaderState) (source' : InMemory) (fault : ReadFault)
     → ReadsNext MemoryStep source source' reader (Err fault) reader' → ReaderAfter reader [] → length (left_of reader source) ≤ max_input → ⊥
 no_fault reader source reader' source' faults.Io next idle few =
-    let (earlier, last) = (next.tells [] idle).1 in
+    let (earlier, last) = (next.result_says [] idle).1 in
     never_fails source earlier source' (subst (λ reads. Runs MemoryStep source reads source') last next.runs)
 no_fault reader source reader' source' faults.TooManyReads next idle few =
-    let told = next.tells [] idle in
-    let enough = few_reads source next.reads source' next.runs told.2 in
-    let count = told.1 in
+    let stated = next.result_says [] idle in
+    let enough = few_reads source next.reads source' next.runs stated.2 in
+    let count = stated.1 in
     omega (arith, length-append reader.kept (bytes_left source))
 
 -- the text so far, with one more line
-pub told_more : (text text' line rest rest' whole : List ℕ) → text ++ rest ≡ whole → rest ≡ line ++ rest' → text' ≡ text ++ line → text' ++ rest' ≡ whole
-told_more text text' line rest rest' whole before first pushed =
+pub text_more : (text text' line rest rest' whole : List ℕ) → text ++ rest ≡ whole → rest ≡ line ++ rest' → text' ≡ text ++ line → text' ++ rest' ≡ whole
+text_more text text' line rest rest' whole before first pushed =
     ap (λ l. l ++ rest') pushed ∙ append_assoc text line rest' ∙ ap (λ l. text ++ l) (sym first) ∙ before
 
--- nothing is told yet, and nothing is read
+-- nothing is reported yet, and nothing is read
 pub report-start : (text kept left stream : List ℕ) → text ≡ [] → kept ≡ [] → left ≡ stream → text ++ report (kept ++ left) ≡ report stream
 report-start text kept left stream none nothing all = ap (λ l. l ++ report (kept ++ left)) none ∙ ap (λ l. report (l ++ left)) nothing ∙ ap report all
 
 -- the text with its last line
-pub told_all : (text text' line rest whole : List ℕ) → text ++ rest ≡ whole → rest ≡ line → text' ≡ text ++ line → text' ≡ whole
-told_all text text' line rest whole before last pushed = pushed ∙ ap (λ l. text ++ l) (sym last) ∙ before
+pub text_all : (text text' line rest whole : List ℕ) → text ++ rest ≡ whole → rest ≡ line → text' ≡ text ++ line → text' ≡ whole
+text_all text text' line rest whole before last pushed = pushed ∙ ap (λ l. text ++ l) (sym last) ∙ before
 
 -- what is still to be reported gets shorter
 pub still_few : (reader : ReaderState) (source : InMemory) (reader' : ReaderState) (source' : InMemory) (outcome : Outcome) (most : ℕ)
-    → PieceTold reader source reader' source' outcome → length (left_of reader source) ≤ most → length (left_of reader' source') ≤ most
+    → PieceReported reader source reader' source' outcome → length (left_of reader source) ≤ most → length (left_of reader' source') ≤ most
 still_few reader source reader' source' outcome most piece few =
     let fewer = piece.fewer in
     omega (arith, length-append reader.kept (bytes_left source), length-append reader'.kept (bytes_left source'))

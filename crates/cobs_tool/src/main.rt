@@ -15,11 +15,11 @@
 
 mod fault;
 mod input;
+#[cfg(test)]
+mod memory_limits;
 mod mode;
 mod modes;
 mod output;
-#[cfg(test)]
-mod refused_memory;
 mod report;
 #[cfg(test)]
 mod tests;

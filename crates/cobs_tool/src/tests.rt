@@ -251,13 +251,13 @@ fn check_limit(rt: &impl Abort, alloc: Global, mode: &Mode, zeros: &[u8], count:
     assert_eq!(rt; run_mode(alloc, mode, &mut longest, &mut output), Ok(()));
     assert_eq!(rt; output.len(), count);
 
-    let mut refused = Vec::new(alloc);
+    let mut rejected = Vec::new(alloc);
     let mut longer = zeros;
-    let result = run_mode(alloc, mode, &mut longer, &mut refused);
+    let result = run_mode(alloc, mode, &mut longer, &mut rejected);
     assert_eq!(rt; result, Err(ToolFault::InputTooLong));
-    let result = run_mode(alloc, mode, &mut io::repeat(1), &mut refused);
+    let result = run_mode(alloc, mode, &mut io::repeat(1), &mut rejected);
     assert_eq!(rt; result, Err(ToolFault::InputTooLong));
-    assert_eq!(rt; refused.len(), 0);
+    assert_eq!(rt; rejected.len(), 0);
 }
 
 #[test]

@@ -5,7 +5,7 @@
 ghost use Rattle.std.specs.Prelude.{◌≡◌, ◌≢◌, ◌≤◌, ◌<◌, ◌+◌, ◌^◌, ◌↔◌, ◌∷◌, ◌++◌, [], All, length, take, drop, slice_index, slice_set, List, ℕ, Ok, Some, option_to_list, IfOk, IfSome, IsSomeAnd, IsTrue};
 ghost use Rattle.cobs.specs.Overwritten.{message_in, written_at};
 ghost use Rattle.cobs.specs.Fields.Decoders.{borrowed_buffer, borrowed_phase, borrowed_slice, heapless_buffer, heapless_phase, owned_buffer, owned_phase};
-ghost use Rattle.cobs.specs.Feed.{state_in, Idle, Over, PhaseAfter};
+ghost use Rattle.cobs.specs.Feed.{state_in, Idle, Overlong, PhaseAfter};
 ghost use Rattle.cobs.specs.Grammar.{HasNoZero, IsEncodedFrame, Reads};
 ghost use Rattle.cobs.specs.Headline.{IsPiece, PushesMessage};
 ghost use Rattle.cobs.specs.Length.{encoded_len, max_encoded_len};
@@ -140,7 +140,7 @@ pub fn frames_of(alloc: Global, messages: &[Vec<u8>]) -> Result<Option<Vec<u8>>,
 pub fn push_zero(decoder: &mut CobsDecoderOwned)
     ensures same_bytes { owned_buffer decoder.new ≡ owned_buffer decoder.old }
 {
-    let _answer = decoder.push(&[0]);
+    let _returned = decoder.push(&[0]);
 }
 
 /// Pushes no bytes, which changes nothing in any phase.
@@ -149,14 +149,14 @@ pub fn push_nothing(decoder: &mut CobsDecoder<'_>)
     ensures same_phase { borrowed_phase decoder.new ≡ borrowed_phase decoder.old }
     ensures same_slice { borrowed_slice decoder.new ≡ borrowed_slice decoder.old }
 {
-    let _answer = decoder.push(&[]);
+    let _returned = decoder.push(&[]);
 }
 
 /// Whether a push came to this message, which is then at the buffer's front.
-fn came_to(answer: Result<Option<DecodeReport>, PushError>, buffer: &[u8], message: &[u8]) -> bool
-    ensures { IsTrue result ↔ PushesMessage answer buffer.now message.now }
+fn came_to(returned: Result<Option<DecodeReport>, PushError>, buffer: &[u8], message: &[u8]) -> bool
+    ensures { IsTrue result ↔ PushesMessage returned buffer.now message.now }
 {
-    match answer {
+    match returned {
         Ok(Some(report)) => report.frame_size() == message.len() && buffer.starts_with(message),
         Ok(None) | Err(_) => false,
     }
@@ -170,8 +170,8 @@ pub fn push_reads(decoder: &mut CobsDecoder<'_>, ended: &[u8], piece: &[u8], mes
     ensures { IsTrue result ↔ (Reads piece.now message.now
         × (length message.now ≤ length (borrowed_buffer decoder.old))) }
 {
-    let answer = decoder.push(ended);
-    came_to(answer, decoder.dest(), message)
+    let returned = decoder.push(ended);
+    came_to(returned, decoder.dest(), message)
 }
 
 /// The same with a buffer of the decoder's own.
@@ -187,8 +187,8 @@ pub fn push_reads_owned(
     ensures { IsTrue result ↔ (Reads piece.now message.now
         × (length message.now ≤ length (owned_buffer decoder.old))) }
 {
-    let answer = decoder.push(ended);
-    came_to(answer, decoder.dest(), message)
+    let returned = decoder.push(ended);
+    came_to(returned, decoder.dest(), message)
 }
 
 /// The same with a buffer that lies in the decoder.
@@ -204,25 +204,25 @@ pub fn push_reads_heapless<const N: usize>(
     ensures { IsTrue result ↔ (Reads piece.now message.now
         × (length message.now ≤ length (heapless_buffer decoder.old))) }
 {
-    let answer = decoder.push(ended);
-    came_to(answer, decoder.dest(), message)
+    let returned = decoder.push(ended);
+    came_to(returned, decoder.dest(), message)
 }
 
 /// The byte of the message that a result gives.
-fn byte_given(answer: Result<DecodeResult, DecodeError>) -> Option<u8>
-    ensures { option_to_list result ≡ data_of answer }
+fn byte_given(returned: Result<DecodeResult, DecodeError>) -> Option<u8>
+    ensures { option_to_list result ≡ data_of returned }
 {
-    match answer {
+    match returned {
         Ok(DecodeResult::DataContinue(byte)) => Some(byte),
         _ => None,
     }
 }
 
 /// Whether a result says that a whole frame has ended.
-fn is_complete(answer: Result<DecodeResult, DecodeError>) -> bool
-    ensures { IsTrue result ↔ (answer ≡ Ok DecodeResult.DataComplete) }
+fn is_complete(returned: Result<DecodeResult, DecodeError>) -> bool
+    ensures { IsTrue result ↔ (returned ≡ Ok DecodeResult.DataComplete) }
 {
-    matches!(answer, Ok(DecodeResult::DataComplete))
+    matches!(returned, Ok(DecodeResult::DataComplete))
 }
 
 /// Decodes a frame byte by byte into a vector, using only the state machine: the message, or `None` if it isn't a
@@ -250,9 +250,9 @@ pub fn decode_by_state(alloc: Global, frame: &[u8]) -> Result<Option<Vec<u8>>, A
 /// again, unless the decoder's buffer is now too short.
 pub fn feed_both(decoder: &mut CobsDecoderOwned, state: &mut DecoderState, byte: u8)
     requires { state_in (owned_phase decoder.old) ≡ Some state.old }
-    ensures { owned_phase decoder.new ≢ Over → state_in (owned_phase decoder.new) ≡ Some state.new }
+    ensures { owned_phase decoder.new ≢ Overlong → state_in (owned_phase decoder.new) ≡ Some state.new }
 {
-    let _answer = decoder.feed(byte);
+    let _returned = decoder.feed(byte);
     let _row = state.feed(byte);
 }
 

@@ -1,7 +1,7 @@
 //! Callers as a user's own crate has them: a handler of one byte, a loop over a stream, a reader of frames, a round
 //! trip, a log. What each promises is proved only from the public clauses of `cobs`.
 ghost use Rattle.std.specs.Prelude.{◌≡◌, ◌≢◌, ◌≤◌, ◌<◌, ◌^◌, ◌↔◌, ◌∷◌, ◌++◌, [], length, take, drop, List, ℕ, IfOk, IfSome, IsOk, OnOk, IsSomeAnd, IsTrue, Some};
-ghost use Rattle.cobs.specs.Feed.{DecoderAfter, Idle, Over, state_in};
+ghost use Rattle.cobs.specs.Feed.{DecoderAfter, Idle, Overlong, state_in};
 ghost use Rattle.cobs.specs.FeedPiece.{IsWithin, outcome_at};
 ghost use Rattle.cobs.specs.Fields.Encoders.{reached_by};
 ghost use Rattle.cobs.specs.Fields.Reader.{kept_of, reader_state};
@@ -49,7 +49,7 @@ pub fn count_messages(decoder: &mut CobsDecoderOwned, bytes: &[u8]) -> usize {
                 at += report.parsed_size();
                 count = count.saturating_add(1);
             }
-            Err(refused) => at += refused.parsed_size,
+            Err(rejected) => at += rejected.parsed_size,
         }
     }
     count
@@ -117,7 +117,7 @@ pub fn on_zero<D: FrameDecoder>(decoder: &mut D) -> usize
 pub fn end_alike<D: FrameDecoder>(decoder: &mut D, state: &mut DecoderState, byte: u8) -> bool
     requires { state_in (D.phase decoder.old) ≡ Some state.old }
     ensures alike { IsTrue result }
-    ensures state { D.phase decoder.new ≢ Over → state_in (D.phase decoder.new) ≡ Some state.new }
+    ensures state { D.phase decoder.new ≢ Overlong → state_in (D.phase decoder.new) ≡ Some state.new }
 {
     let completed = matches!(state.feed(byte), Ok(DecodeResult::DataComplete));
     match decoder.feed_byte(byte) {
@@ -286,7 +286,7 @@ pub fn frame_two(
 pub fn append_to_log(alloc: Global, log: &[u8], message: &[u8]) -> Result<Vec<u8>, AllocError>
     requires at_sentinel { IsAtSentinel log.now }
     requires fits { max_encoded_len (length message.now) < 2 ^ 64 }
-    ensures told { IfOk result (λ longer. (n : ℕ) → length message.now ≤ n
+    ensures reported { IfOk result (λ longer. (n : ℕ) → length message.now ≤ n
         → stream_outcomes longer.items n ≡ stream_outcomes log.now n ++ Message message.now ∷ []) }
     ensures at_sentinel { IfOk result (λ longer. IsAtSentinel longer.items) }
 {
@@ -307,7 +307,7 @@ fn relayed(alloc: Global, log: Vec<u8>, end: PieceEnd, buffer: &[u8]) -> Result<
     requires at_sentinel { IsAtSentinel log.items }
     requires within { IsWithin (length buffer.now) end }
     requires fits { max_encoded_len (length buffer.now) < 2 ^ 64 }
-    ensures told { IfOk result (λ longer. stream_outcomes longer.items (length buffer.now)
+    ensures reported { IfOk result (λ longer. stream_outcomes longer.items (length buffer.now)
         ≡ stream_outcomes log.items (length buffer.now) ++ messages_of (outcome_at end buffer.now ∷ [])) }
     ensures at_sentinel { IfOk result (λ longer. IsAtSentinel longer.items) }
 {

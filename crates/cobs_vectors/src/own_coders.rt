@@ -1,7 +1,7 @@
 //! Coders of a user's own, proved from the laws only, and an encoder in a state that another program kept.
 ghost use Rattle.std.specs.Prelude.{◌≡◌, ◌≤◌, ◌<◌, ◌^◌, ◌↔◌, List, ℕ, length, take, IfOk, IsOk, IsTrue};
 ghost use Rattle.cobs.specs.Feed.{Feeds};
-ghost use Rattle.cobs.specs.FeedPiece.{TakesPiece, end_told};
+ghost use Rattle.cobs.specs.FeedPiece.{TakesPiece, end_reported};
 ghost use Rattle.cobs.specs.Fields.Decoders.{phase_of};
 ghost use Rattle.cobs.specs.Fields.Encoders.{reached_by};
 ghost use Rattle.cobs.specs.Grammar.{IsCanonical, IsEncodedFrame, IsFrame, Reads};
@@ -117,10 +117,10 @@ pub fn encode_by_byte(message: &[u8], dest: &mut [u8]) -> usize
 }
 
 /// How the result for a zero ends a piece.
-fn piece_end(answer: Result<Option<usize>, DecodeError>) -> Option<PieceEnd>
-    ensures { result ≡ end_told answer }
+fn piece_end(returned: Result<Option<usize>, DecodeError>) -> Option<PieceEnd>
+    ensures { result ≡ end_reported returned }
 {
-    match answer {
+    match returned {
         Ok(None) | Err(DecodeError::EmptyFrame) => None,
         Ok(Some(len)) => Some(PieceEnd::Message(len)),
         Err(DecodeError::InvalidFrame { decoded_bytes }) => Some(PieceEnd::Broken(decoded_bytes)),
@@ -139,9 +139,9 @@ pub fn feed_each(
 {
     law_17();
     'by_byte: for (i, byte) in bytes.iter().enumerate() {
-        let answer = decoder.feed(buffer, *byte);
+        let returned = decoder.feed(buffer, *byte);
         if *byte == 0 {
-            if let Some(end) = piece_end(answer) {
+            if let Some(end) = piece_end(returned) {
                 return Some((end, i + 1));
             }
         }

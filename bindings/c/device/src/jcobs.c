@@ -24,7 +24,7 @@ typedef char jcobs_size_t_is_no_shorter_than_int[sizeof(size_t) >= sizeof(unsign
 
 /* Returns 1 if no piece is open, and 0 otherwise.
  * Proved, in decoder.rt:
- *     ensures idle { TellsIdle decoder.now result } */
+ *     ensures idle { ReportsIdle decoder.now result } */
 unsigned int jcobs_decoder_is_idle(const jcobs_decoder *decoder)
 {
     if (decoder->written == 0) {

@@ -81,11 +81,11 @@ impl core::error::Error for DecodeError {}
 /// # use jcobs::proved::*;
 /// let mut buffer = [0; 4];
 /// let mut decoder = CobsDecoder::new(&mut buffer);
-/// let refused = PushError {
+/// let rejected = PushError {
 ///     error: DecodeError::InvalidFrame { decoded_bytes: 1 },
 ///     parsed_size: 3,
 /// };
-/// assert_eq!(decoder.push(&[3, 7, 0, 2, 9, 0]), Err(refused));
+/// assert_eq!(decoder.push(&[3, 7, 0, 2, 9, 0]), Err(rejected));
 /// ```
 #[derive(Debug, Clone, Copy, PartialEq, Eq)]
 pub struct PushError {
@@ -111,9 +111,9 @@ impl core::error::Error for PushError {}
 /// ```
 /// # use jcobs::proved::*;
 /// # #[cfg(feature = "alloc")] {
-/// let refused = decode_vec(&[]);
+/// let rejected = decode_vec(&[]);
 /// assert_eq!(
-///     refused,
+///     rejected,
 ///     Err(DecodeVecError::Decode(DecodeError::EmptyFrame))
 /// );
 /// # }

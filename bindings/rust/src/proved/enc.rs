@@ -14,7 +14,7 @@ pub(crate) mod vector;
 
 use crate::proved::cobs_bytes::window::WINDOW;
 pub(crate) use blocks::FULL_CODE;
-use blocks::{append_short, append_windows, close, close_runs, is_short};
+use blocks::{append_rest_and_close, append_short, append_windows, close, fits_window_and_block};
 pub use encoder::CobsEncoder;
 pub use error::DestBufTooSmallError;
 pub use in_place::encode_in_place;
@@ -61,11 +61,11 @@ pub fn encode(source: &[u8], dest: &mut [u8]) -> usize {
 #[inline(never)]
 fn encode_long(source: &[u8], dest: &mut [u8]) -> usize {
     if source.len() <= WINDOW {
-        return close_runs(source, dest, START);
+        return append_rest_and_close(source, dest, START);
     }
     let (read, progress) = append_windows(source, dest, START);
     let left = &source[read..];
-    if !is_short(progress, left.len()) {
+    if !fits_window_and_block(progress, left.len()) {
         // Anew from its fields, so that the short way keeps them in registers.
         let EncoderProgress {
             index,
@@ -77,7 +77,7 @@ fn encode_long(source: &[u8], dest: &mut [u8]) -> usize {
             code,
             is_full,
         };
-        return close_runs(left, dest, behind);
+        return append_rest_and_close(left, dest, behind);
     }
     let progress = append_short(left, dest, progress, false);
     close(dest, progress)

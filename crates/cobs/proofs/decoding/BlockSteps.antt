@@ -3,17 +3,17 @@ use Rattle.std.proofs.Common.{◌≡◌, ℕ, ◌+◌, ◌-◌, ◌<◌, ◌≤�
 use Rattle.std.proofs.lemmas.List.{drop_all}
 use Rattle.cobs.specs.Overwritten.{overwritten}
 use Rattle.cobs.specs.Piece.{kept_output}
-use Rattle.cobs.specs.Decode.{head_answer}
+use Rattle.cobs.specs.Decode.{head_result}
 use Rattle.cobs.specs.declared.dec.DecodeError.TheVariants.{InvalidFrame}
-use Rattle.cobs.specs.Internal.Decoded.{BlocksRead, whole_left}
+use Rattle.cobs.specs.Internal.DecodedUpTo.{BlocksRead, whole_left}
 use Rattle.cobs.proofs.decoding.PieceCuts.{part-cons}
 use Rattle.cobs.proofs.decoding.KeptLemmas.{kept_output-empty, broken-part, kept-broken}
 
--- the answer, by whether all is whole
-pub kept-answer : (h : List ℕ) → head_answer h ≡ cond (whole_left h) (Ok (length (kept_output h))) (Err (InvalidFrame (length (kept_output h))))
+-- the result, by whether all is whole
+pub kept-result : (h : List ℕ) → head_result h ≡ cond (whole_left h) (Ok (length (kept_output h))) (Err (InvalidFrame (length (kept_output h))))
 unfolding kept_output
-kept-answer [] = ap (λ (x : List ℕ). Ok (length x)) (sym kept_output-empty)
-kept-answer (x ∷ p) = grind arith
+kept-result [] = ap (λ (x : List ℕ). Ok (length x)) (sym kept_output-empty)
+kept-result (x ∷ p) = grind arith
 
 module _ (h done : List ℕ) (read : ℕ) (b : BlocksRead h done read) where
   -- all blocks are read
@@ -24,8 +24,8 @@ module _ (h done : List ℕ) (read : ℕ) (b : BlocksRead h done read) where
     pub all-whole : whole_left h ≡ true
     all-whole = b.whole ∙ ap whole_left (drop_all read h past)
 
-    pub all-answer : Ok (length done) ≡ head_answer h
-    all-answer = grind (arith, kept-answer, all-kept, all-whole)
+    pub all-result : Ok (length done) ≡ head_result h
+    all-result = grind (arith, kept-result, all-kept, all-whole)
 
   -- the last block is broken
   module _ (code : ℕ) (more : read < length h) (is : code ≡ get_or h read 0) (broken : length h - read < code) where
@@ -41,8 +41,8 @@ module _ (h done : List ℕ) (read : ℕ) (b : BlocksRead h done read) where
     pub broken-whole : whole_left h ≡ false
     broken-whole = b.whole ∙ ap whole_left cons ∙ broken-part code (drop (read + 1) h) short
 
-    pub broken-answer : Err (InvalidFrame (length done)) ≡ head_answer h
-    broken-answer = grind (arith, kept-answer, broken-kept, broken-whole)
+    pub broken-result : Err (InvalidFrame (length done)) ≡ head_result h
+    broken-result = grind (arith, kept-result, broken-kept, broken-whole)
 
 -- a buffer whose front is exactly what was to be written
 pub overwritten-front : (old new bytes : List ℕ) (written : ℕ) → length new ≡ length old → written ≤ length old → drop written new ≡ drop written old → bytes ≡ take written new → new ≡ overwritten old bytes

@@ -3,7 +3,7 @@ use Rattle.std.proofs.Common.{◌≡◌, ◌≢◌, ℕ, ◌+◌, ◌-◌, ◌<�
 use Rattle.std.proofs.lemmas.List.{length-set, get_or-take, drop_more, drop-set-lt, get_or-set_same, get_or-set_other}
 use Rattle.cobs.specs.Grammar.{HasNoZero, code_of}
 use Rattle.cobs.specs.Piece.{output, last_part}
-use Rattle.cobs.specs.Internal.Decoded.{IsFlat}
+use Rattle.cobs.specs.Internal.DecodedUpTo.{IsFlat}
 use Rattle.cobs.proofs.decoding.PieceCuts.{output-le}
 use Rattle.cobs.proofs.decoding.WindowSteps.{code-pos, code-decoded, code-copied, end-begins, last-code}
 use borrow.Rule.Slice.PartMut.{put_mid}

@@ -4,13 +4,13 @@ use Rattle.std.proofs.lemmas.Bool.{eq-eqb}
 use Rattle.std.proofs.lemmas.List.{take-take, take-map, drop-map, drop_all, length-set, drop-set-lt, take_more_set, drop-drop, drop_more, get_or-take, get_or-drop, get_or-set_other}
 use borrow.Rule.Slice.PartMut.{put_mid}
 use Rattle.cobs.specs.Grammar.{code_of, HasNoZero}
-use Rattle.cobs.specs.Piece.{output, kept_output, last_part, lacks, is_whole}
-use Rattle.cobs.specs.Internal.Decoded.{IsFlat}
-use Rattle.cobs.specs.Decode.{head_answer}
+use Rattle.cobs.specs.Piece.{output, kept_output, last_part, missing, is_whole}
+use Rattle.cobs.specs.Internal.DecodedUpTo.{IsFlat}
+use Rattle.cobs.specs.Decode.{head_result}
 use Rattle.cobs.specs.Sentinel.{xor_each}
 use Rattle.cobs.proofs.format.SentinelLemmas.{xor_twice}
 use Rattle.cobs.proofs.decoding.PieceCuts.{last_part-more, last_part-last, is_whole-of, length-output-last, length-output-more, joint_of, joint-length}
-use Rattle.cobs.proofs.decoding.WindowSteps.{CopiedTo, Decoded, code-pos, code-decoded, code-copied, flat-short, end-begins, last-code, last-lacks}
+use Rattle.cobs.proofs.decoding.WindowSteps.{CopiedTo, DecodedUpTo, code-pos, code-decoded, code-copied, flat-short, end-begins, last-code, last-missing}
 
 -- the parts in front of `read` aren't full, and what is left ends as the piece does
 pub record FlatSoFar (piece : List ℕ) (read : ℕ) : Type 0 where
@@ -38,13 +38,13 @@ module _ (piece : List ℕ) (read code : ℕ) (f : FlatSoFar piece read) (is : c
       record {
         some = omega arith;
         len = omega arith;
-        whole = ap lacks part ∙ omega arith;
+        whole = ap missing part ∙ omega arith;
       }
 
   pub flat-code : length piece - read ≡ code → code_of (last_part piece) ≡ code
   flat-code ends = grind (arith, length-drop, cons, last_part-last)
 
--- the blocks in front of `read` are whole and not full, whatever stands behind
+-- the blocks in front of `read` are whole and not full, whatever is behind
 pub record FrontSoFar (piece : List ℕ) (read : ℕ) : Type 0 where
   pub within : read < length piece
   pub front : (end : ℕ) → read < end → end ≤ length piece → FlatSoFar (take end piece) read
@@ -88,19 +88,19 @@ front-ones-by (suc n) piece read f ones lt =
 pub front-ones : (piece : List ℕ) (read : ℕ) → FrontSoFar piece read → take 32 (drop read piece) ≡ replicate 32 1 → read + 32 < length piece → FrontSoFar piece (read + 32)
 front-ones piece read f ones lt = front-ones-by 32 piece read f ones lt
 
--- bytes that exclusive or with the sentinel makes empty blocks
+-- bytes that are empty blocks once they are XORed with the sentinel
 pub xored-ones : (piece : List ℕ) (sentinel read : ℕ) → take 32 (drop read piece) ≡ replicate 32 (bit_xor 1 sentinel) → take 32 (drop read (xor_each sentinel piece)) ≡ replicate 32 1
 xored-ones piece sentinel read alike =
     ap (take 32) (drop-map (λ b. bit_xor b sentinel) read piece) ∙ take-map (λ b. bit_xor b sentinel) 32 (drop read piece)
     ∙ ap (xor_each sentinel) alike ∙ ap (replicate 32) (xor_twice 1 sentinel)
 
--- what stands behind the front of a copy is the next code
+-- the byte behind the front of a copy is the next code
 pub next-code : (piece dest : List ℕ) (read code : ℕ) → CopiedTo piece dest read (length piece) read → 0 < code → read + code < length piece → get_or dest (read + (code - 1)) 0 ≡ get_or piece (read + code) 0
 next-code piece dest read code k some more = grind (arith, get_or-drop, get_or-take)
 
--- the codes of the blocks in front of `read` are zeros, and the others stand copied
+-- the codes of the blocks in front of `read` are zeros, and the others are copied
 pub record FlatCopied (piece old dest : List ℕ) (read code : ℕ) : Type 0 where
-  pub decoded : Decoded piece old dest read read
+  pub decoded : DecodedUpTo piece old dest read read
   pub copied : CopiedTo piece dest read (length piece) read
   pub at-read : code ≡ get_or piece read 0
 
@@ -213,12 +213,12 @@ module _ (first len : ℕ) (old : List ℕ) (some : 0 < len) (room : len ≤ len
       pub joints-code : code ≡ code_of (last_part piece)
       joints-code = last-code piece old dest _ _ code j.flat.decoded j.flat.at-read j.some ends
 
-      pub joints-lack : end - len ≡ lacks (last_part piece)
-      joints-lack =
+      pub joints-missing : end - len ≡ missing (last_part piece)
+      joints-missing =
           let l = long in
           let w = j.flat.decoded.within in
           let b = j.begun in
-          omega (arith, last-lacks piece old dest _ _ code j.flat.decoded j.flat.at-read j.some ends)
+          omega (arith, last-missing piece old dest _ _ code j.flat.decoded j.flat.at-read j.some ends)
 
   -- two codes, of which the second is the open part's
   pub joints-turn : (dest : List ℕ) (end code : ℕ) → JointsWritten first len old dest end code → length (output piece) + 1 ≡ len → (other : ℕ) → end + other < len
@@ -236,7 +236,7 @@ module _ (first len : ℕ) (old : List ℕ) (some : 0 < len) (room : len ≤ len
       subst (λ (i : ℕ). JointsWritten first len old (set once i 0) (end + (other + code)) code) at
       (subst (λ (k : ℕ). JointsWritten first len old (set once (end + other - 1) 0) k code) (omega arith) (joints-more once (end + other) other n flat (omega arith) code is))
 
--- what stands after the first code, moved to the front
+-- what is after the first code, moved to the front
 module _ (old after : List ℕ) (from len : ℕ) (inside : from + len ≤ length old) (some : 0 < len) (is : after ≡ take (len - 1) (drop (from + 1) old) ++ drop (len - 1) old) where
   pub moved-piece : get_or old from 0 ∷ take (len - 1) after ≡ take len (drop from old)
   moved-piece =
@@ -253,11 +253,11 @@ put-back read buffer new = grind (arith, drop-drop, drop_all, append-nil)
 -- such a frame is whole, so all its output is kept
 module _ (h : List ℕ) (flat : IsFlat h) where
   pub flat-is_whole : is_whole h ≡ true
-  flat-is_whole = is_whole-of h flat.some ∙ eq-eqb (lacks (last_part h)) 0 flat.whole
+  flat-is_whole = is_whole-of h flat.some ∙ eq-eqb (missing (last_part h)) 0 flat.whole
 
   pub flat-kept : kept_output h ≡ output h
   unfolding kept_output
   flat-kept = rw flat-is_whole refl
 
-  pub flat-answer : (n : ℕ) → n + 1 ≡ length h → Ok n ≡ head_answer h
-  flat-answer n is = grind (arith, flat-is_whole)
+  pub flat-result : (n : ℕ) → n + 1 ≡ length h → Ok n ≡ head_result h
+  flat-result n is = grind (arith, flat-is_whole)

@@ -8,7 +8,7 @@ use Rattle.std.proofs.Math.Nat.{zero-add}
 use borrow.Rule.Slice.PartMut.{put_mid}
 use Rattle.cobs.specs.Overwritten.{overwritten}
 use Rattle.cobs.specs.Grammar.{HasNoZero}
-use Rattle.cobs.specs.Internal.Decoded.{Decoded}
+use Rattle.cobs.specs.Internal.DecodedUpTo.{DecodedUpTo}
 use Rattle.cobs.specs.Piece.{output, last_part}
 use Rattle.cobs.specs.Sentinel.{xor_each}
 use Rattle.cobs.specs.Stream.{head}
@@ -83,7 +83,7 @@ part-head piece read nonzero =
 
 -- A STEP BEHIND OTHERS
 
-module _ (piece old dest : List ℕ) (read written : ℕ) (p : Decoded piece old dest read written) (within : written ≤ length dest) (new part : List ℕ) (part-is : part ≡ drop read piece) (back : List ℕ)
+module _ (piece old dest : List ℕ) (read written : ℕ) (p : DecodedUpTo piece old dest read written) (within : written ≤ length dest) (new part : List ℕ) (part-is : part ≡ drop read piece) (back : List ℕ)
     (back-is : back ≡ drop written dest) (k : ℕ) (k-is : k ≡ length dest - written) where
   front-long : length (take written dest) ≡ written
   front-long = length-take-le written dest within
@@ -94,7 +94,7 @@ module _ (piece old dest : List ℕ) (read written : ℕ) (p : Decoded piece old
   left-is : written + length (output part) ≡ length (output piece)
   left-is = ap (λ (x : List ℕ). written + length (output x)) part-is ∙ p.left
 
-  pub decoded-joined : (n m : ℕ) → Decoded part back new n m → Decoded piece old (put_mid written k dest new) (read + n) (written + m)
+  pub decoded-joined : (n m : ℕ) → DecodedUpTo part back new n m → DecodedUpTo piece old (put_mid written k dest new) (read + n) (written + m)
   decoded-joined n m q =
       let next : drop n part ≡ drop (read + n) piece = ap (drop n) part-is ∙ drop-drop n read piece in
       let d = length-drop read piece in
@@ -164,7 +164,7 @@ module _ (source old : List ℕ) (code : ℕ) (some : 0 < length (head source)) 
   code-some = omega (arith, head-code 0 source some)
 
   -- some of its bytes are copied
-  pub block-stayed : (new : List ℕ) (done : ℕ) → done < code → done + 1 ≤ length source → HasNoZero (take done (drop 1 source)) → new ≡ take done (drop 1 source) ++ drop done old → Decoded (head source) old new 0 0
+  pub block-stayed : (new : List ℕ) (done : ℕ) → done < code → done + 1 ≤ length source → HasNoZero (take done (drop 1 source)) → new ≡ take done (drop 1 source) ++ drop done old → DecodedUpTo (head source) old new 0 0
   block-stayed new done few within nonzero new-is =
       let long = head-behind done source some within nonzero in
       let d = length-drop 1 source in
@@ -175,13 +175,13 @@ module _ (source old : List ℕ) (code : ℕ) (some : 0 < length (head source)) 
   module _ (new : List ℕ) (same : length new ≡ length old) where
     -- a block that isn't full: a zero is written over a copy of the next code
     pub long-copied : code ≢ 255 → code < length source → code ≤ length old → HasNoZero (take code (drop 1 source)) → new ≡ take code (drop 1 source) ++ drop code old
-        → Decoded (head source) old (set new (code - 1) 0) code code
+        → DecodedUpTo (head source) old (set new (code - 1) 0) code code
     long-copied other within room nonzero new-is =
         let pos = code-some in
         let more : code + 1 ≤ length (head source) = head-behind code source some (omega arith) nonzero in
         let r = room-zero (head source) old old 0 0 code (started (head source) old some) at-head pos (omega arith) other in
         let long : length (take code (drop 1 source)) ≡ code = length-take-le code (drop 1 source) (let d = length-drop 1 source in omega arith) in
-        let q : Decoded (head source) old new 0 0 = stayed (head source) old new (take code (drop 1 source)) code some new-is long (omega arith) in
+        let q : DecodedUpTo (head source) old new 0 0 = stayed (head source) old new (take code (drop 1 source)) code some new-is long (omega arith) in
         let front : take (code - 1) new ≡ take (code - 1) (drop 1 (head source)) =
         ap (take (code - 1)) new-is ∙ take-append-le (code - 1) (take code (drop 1 source)) (drop code old) (omega arith) ∙ take-take (code - 1) code (drop 1 source) (omega arith)
         ∙ sym (head-part (code - 1) 1 source (omega arith)) in
@@ -189,11 +189,11 @@ module _ (source old : List ℕ) (code : ℕ) (some : 0 < length (head source)) 
 
     -- a full one
     pub full-copied : code ≡ 255 → 256 ≤ length source → get_or source 255 0 ≢ 0 → 254 ≤ length old → HasNoZero (take 254 (drop 1 source)) → new ≡ take 254 (drop 1 source) ++ drop 254 old
-        → Decoded (head source) old new 255 254
+        → DecodedUpTo (head source) old new 255 254
     full-copied full within next room nonzero new-is =
         let long : 255 ≤ length (head source) = head-behind 254 source some (omega arith) nonzero in
         let more = head-one_more 255 source long within next in
-        subst (λ (x : List ℕ). Decoded (head source) old x 255 254) (sym new-is)
+        subst (λ (x : List ℕ). DecodedUpTo (head source) old x 255 254) (sym new-is)
         (full-decoded (head source) old old 0 0 255 (started (head source) old some) (sym full ∙ at-head) (omega arith) more 254 254 (take 254 (drop 1 source)) room (omega arith) (omega arith)
         (sym (head-part 254 1 source (omega arith))) (omega arith))
 
@@ -208,7 +208,7 @@ ones-front (b ∷ t) long first ones =
     let front : take 32 (b ∷ t) ≡ replicate 32 1 = ap (λ (x : ℕ). x ∷ take 31 t) first ∙ ap (λ (xs : List ℕ). 1 ∷ xs) (sym (take-take 31 32 t (omega arith)) ∙ ap (take 31) ones) in
     (more, head-part 32 0 (b ∷ t) (omega arith) ∙ front)
 
-pub ones-decoded : (t dest after : List ℕ) → 33 ≤ length t → get_or t 0 0 ≡ 1 → take 32 (drop 1 t) ≡ replicate 32 1 → after ≡ replicate 32 0 ++ drop 32 dest → Decoded (head t) dest after 32 32
+pub ones-decoded : (t dest after : List ℕ) → 33 ≤ length t → get_or t 0 0 ≡ 1 → take 32 (drop 1 t) ≡ replicate 32 1 → after ≡ replicate 32 0 ++ drop 32 dest → DecodedUpTo (head t) dest after 32 32
 ones-decoded t dest after long first ones is =
     let front = ones-front t long first ones in
     let next : List ℕ = drop 32 (head t) in
@@ -223,9 +223,9 @@ ones-decoded t dest after long first ones is =
       last = sym (ap last_part whole ∙ last_part-ones 32 next (omega arith));
     }
 
--- the codes of a stretch of n bytes are read up to this one, whose block is within it, and the bytes that follow the codes stand behind them
+-- the codes of a stretch of n bytes are read up to this one, whose block is within it, and the bytes that follow the codes are behind them
 pub record StretchRead (source old dest : List ℕ) (n read code : ℕ) : Type 0 where
-  pub decoded : Decoded (head source) old dest read read
+  pub decoded : DecodedUpTo (head source) old dest read read
   pub copied : CopiedTo (head source) dest read (n + 1) read
   pub at-read : code ≡ get_or source read 0
   pub some : 0 < code
@@ -258,7 +258,7 @@ module _ (source old dest : List ℕ) (n read code : ℕ) (few : n < 255) (room 
   more : read + code < length (head source)
   more = omega (arith, w.copied.within, w.inside)
 
-  pub stretch-next : Decoded (head source) old (set dest (read + (code - 1)) 0) (read + code) (read + code)
+  pub stretch-next : DecodedUpTo (head source) old (set dest (read + (code - 1)) 0) (read + code) (read + code)
   stretch-next =
       code-decoded (head source) old dest read read code w.decoded at-code w.some more (n + 1) w.copied (omega (arith, w.inside)) (λ e. omega (arith, w.inside, e)) (omega (arith, w.inside, w.same))
 

@@ -1,4 +1,4 @@
--- What stands before the first zero of a list, and the first piece behind its leading zeros.
+-- What is before the first zero of a list, and the first piece behind its leading zeros.
 use Rattle.std.proofs.Common.{◌≡◌, ◌≢◌, ℕ, zero, suc, ◌+◌, ◌<◌, ◌≤◌, Bool, cond, List, [], ◌∷◌, length, take, drop, get_or, Some, None, refl, sym, ap, ◌∙◌, arith, length-drop}
 use Rattle.std.proofs.lemmas.Bool.{ne_eqb}
 use Rattle.std.proofs.lemmas.List.Elements.{All-head, All-tail}
@@ -20,14 +20,14 @@ front_is_head (byte ∷ t) (suc n) within none stop =
 leading_zeros-none : (b : ℕ) (t : List ℕ) → b ≢ 0 → leading_zeros (b ∷ t) ≡ 0
 leading_zeros-none b t some = ap (λ (v : Bool). cond v (1 + leading_zeros t) 0) (ne_eqb b 0 some)
 
--- the first piece is what stands before the first zero behind the leading ones
+-- the first piece is what is before the first zero behind the leading ones
 pub first_piece_behind : (t : List ℕ) → first_piece t ≡ first_piece (drop (leading_zeros t) t)
 unfolding first_piece
 first_piece_behind [] = refl
 first_piece_behind (zero ∷ t) = grind (arith, first_piece_behind t)
 first_piece_behind (suc b ∷ t) = ap (λ (k : ℕ). first_piece (drop k (suc b ∷ t))) (sym (leading_zeros-none (suc b) t (λ e. omega arith)))
 
--- and behind them stands no zero
+-- and behind them is no zero
 pub leading_zeros-stop : (t : List ℕ) → leading_zeros t < length t → get_or (drop (leading_zeros t) t) 0 0 ≢ 0
 leading_zeros-stop [] some = absurd (omega arith)
 leading_zeros-stop (zero ∷ t) some = grind (arith, (leading_zeros-stop t (omega arith)))

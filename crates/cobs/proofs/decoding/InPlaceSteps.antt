@@ -1,12 +1,12 @@
--- Blocks that are decoded to the front of the buffer that they stand in.
+-- Blocks that are decoded to the front of the buffer that they are in.
 use Rattle.std.proofs.Common.{◌≡◌, ◌≢◌, ◌⊎◌, ◌↔◌, ◌++◌, ◌∷◌, IsTrue, Bool, true, false, ℕ, ◌+◌, ◌-◌, ◌<◌, ◌≤◌, List, length, take, drop, get_or, set, inl, inr, refl, arith, ap, sym, ◌∙◌, subst, length-append, length-drop, length-take-le, take_at, drop_at}
 use Rattle.std.proofs.Math.Nat.{zero-add}
 use Rattle.std.proofs.lemmas.List.{drop-drop, drop-take, drop_more, get_or-drop, take-take, take_rest}
 use Rattle.std.proofs.lemmas.List.Elements.{All-cons, All-drop}
 use borrow.Rule.Slice.PartMut.{put_mid}
 use Rattle.cobs.specs.Grammar.{HasNoZero, code_of, is_full}
-use Rattle.cobs.specs.Piece.{lacks, output, last_part}
-use Rattle.cobs.specs.Internal.Decoded.{DecodedSource, IsFlat}
+use Rattle.cobs.specs.Piece.{missing, output, last_part}
+use Rattle.cobs.specs.Internal.DecodedUpTo.{DecodedSource, IsFlat}
 use Rattle.cobs.specs.Sentinel.{xor_each}
 use Rattle.cobs.specs.Stream.{head}
 use Rattle.cobs.proofs.format.SentinelLemmas.{xor_each-zero}
@@ -154,6 +154,6 @@ module _ (old buffer : List ℕ) (read written : ℕ) (d : DecodedSource (head o
       let o = output-last 255 bytes (omega arith) in
       let last = last_part-last 255 bytes (omega arith) in
       stretch-last (head old) old buffer read written d (head_nonzero old) 255 (255 ∷ bytes) (omega arith) within (block-is ∙ sym (head-part 255 read old (omega arith)))
-      (ap lacks last ∙ omega arith) moved 254 (length buffer - written) refl (omega (arith, length-drop 254 free)) (omega (arith, ap length o)) (omega arith)
+      (ap missing last ∙ omega arith) moved 254 (length buffer - written) refl (omega (arith, length-drop 254 free)) (omega (arith, ap length o)) (omega arith)
       (ap (take 254) is ∙ take_at bytes (drop 254 free) 254 (omega arith) ∙ sym o) (ap (drop 254) is ∙ drop_at bytes (drop 254 free) 254 (omega arith) ∙ ap (drop 254) (take_rest buffer written))
       (inr (ap is_full last))

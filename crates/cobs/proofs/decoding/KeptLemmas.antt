@@ -2,8 +2,8 @@
 use Rattle.std.proofs.Common.{◌==◌, ◌≡◌, ℕ, ◌+◌, ◌-◌, ◌<◌, ◌≤◌, Bool, true, false, cond, eqb, List, [], ◌∷◌, ◌++◌, length, take, drop, refl, sym, ap, ◌∙◌, arith, append_assoc, length-append, length-drop, append-nil, take_all, ◌≢◌, take_at, drop_at}
 use Rattle.std.proofs.lemmas.Bool.{ne_eqb, eq-eqb}
 use Rattle.cobs.specs.Grammar.{bytes_of, joint, message_of, last_of, IsBlock}
-use Rattle.cobs.specs.Piece.{parts, lacks, output, last_part, is_whole, kept_output, IsWhole}
-use Rattle.cobs.specs.Internal.Decoded.{whole_left}
+use Rattle.cobs.specs.Piece.{parts, missing, output, last_part, is_whole, kept_output, IsWhole}
+use Rattle.cobs.specs.Internal.DecodedUpTo.{whole_left}
 use Rattle.cobs.proofs.decoding.PieceCuts.{joint_of, output-last, output-more, output-empty, last_part-more, last_part-last, is_whole-of}
 use Rattle.cobs.proofs.decoding.WindowSteps.{take-past}
 
@@ -52,11 +52,11 @@ module _ (code : ℕ) (bytes : List ℕ) where
   whole-part [] some fits is =
       let d = length-drop (code - 1) bytes in
       let l = ap length is in
-      is_whole-of (code ∷ bytes) (omega arith) ∙ ap (λ (x : List ℕ). eqb (lacks x) 0) (last_part-last code bytes (omega arith)) ∙ eq-eqb (lacks (code ∷ bytes)) 0 (omega arith)
+      is_whole-of (code ∷ bytes) (omega arith) ∙ ap (λ (x : List ℕ). eqb (missing x) 0) (last_part-last code bytes (omega arith)) ∙ eq-eqb (missing (code ∷ bytes)) 0 (omega arith)
   whole-part (byte ∷ rest) some fits is =
       let d = length-drop (code - 1) bytes in
       let l = ap length is in
-      is_whole-of (code ∷ bytes) (omega arith) ∙ ap (λ (x : List ℕ). eqb (lacks x) 0) (last_part-more code bytes (omega arith) ∙ ap last_part is)
+      is_whole-of (code ∷ bytes) (omega arith) ∙ ap (λ (x : List ℕ). eqb (missing x) 0) (last_part-more code bytes (omega arith) ∙ ap last_part is)
       ∙ sym (is_whole-of (byte ∷ rest) (omega arith))
 
   pub broken-part : length bytes < code - 1 → is_whole (code ∷ bytes) ≡ false

@@ -66,7 +66,7 @@ outcome_frame f m n r fits =
     let is = frame_output f m r in
     outcome_of_whole f n (omega (arith, ap length is)) (frame_whole f m r) ∙ ap Message (sym is)
 
--- WHAT STANDS BEFORE THE FIRST ZERO
+-- WHAT IS BEFORE THE FIRST ZERO
 
 pub head-zero : (bytes : List ℕ) → head (0 ∷ bytes) ≡ []
 unfolding head

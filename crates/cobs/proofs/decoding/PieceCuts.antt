@@ -3,7 +3,7 @@ use Rattle.std.proofs.Common.{◌≡◌, ◌≢◌, ℕ, zero, suc, ◌+◌, ◌
 use Rattle.std.proofs.lemmas.List.{drop-drop, drop_more}
 use Rattle.std.proofs.lemmas.Bool.{cases_lt, cases_eq, ne_eqb, eq-eqb}
 use Rattle.cobs.specs.Grammar.{bytes_of, joint, message_of, last_of}
-use Rattle.cobs.specs.Piece.{last_part, is_whole, lacks, parts, parts_after, output}
+use Rattle.cobs.specs.Piece.{last_part, is_whole, missing, parts, parts_after, output}
 use Rattle.cobs.proofs.format.FrameLemmas.{parts_after-drop, parts_after-past}
 
 parts_after-some : (p : List ℕ) → 0 < length p → 0 < length (parts_after 0 p)
@@ -47,7 +47,7 @@ pub last_part-last : (code : ℕ) (bytes : List ℕ) → length bytes ≤ code -
 unfolding last_part parts parts_after
 last_part-last code bytes short = grind (arith, parts_after-past, take_all)
 
-pub is_whole-of : (p : List ℕ) → 0 < length p → is_whole p ≡ eqb (lacks (last_part p)) 0
+pub is_whole-of : (p : List ℕ) → 0 < length p → is_whole p ≡ eqb (missing (last_part p)) 0
 unfolding is_whole
 is_whole-of p h = grind arith
 

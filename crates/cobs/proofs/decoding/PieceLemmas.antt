@@ -3,7 +3,7 @@ use Rattle.std.proofs.Common.{◌≡◌, ℕ, zero, suc, ◌+◌, ◌-◌, ◌<�
 use Rattle.std.proofs.lemmas.List.{take-append-le, drop-append-le, length_push}
 use Rattle.std.proofs.lemmas.Bool.{cases_lt}
 use Rattle.cobs.specs.Grammar.{joint, is_full}
-use Rattle.cobs.specs.Piece.{parts, parts_after, lacks, output, last_part}
+use Rattle.cobs.specs.Piece.{parts, parts_after, missing, output, last_part}
 use Rattle.cobs.proofs.decoding.PieceCuts.{joint_of, output-last, output-more, last_part-last, last_part-more}
 
 -- the first byte of a piece is a code, and gives nothing
@@ -13,12 +13,12 @@ output-one b = output-last b [] (omega arith)
 pub last_part-one : (b : ℕ) → last_part (b ∷ []) ≡ b ∷ []
 last_part-one b = last_part-last b [] (omega arith)
 
--- a last part that lacks something takes the byte, and behind another one it is the code of the next
+-- a last part of which bytes are missing takes the byte, and behind another one it is the code of the next
 record Grown (p : List ℕ) (b : ℕ) : Type 0 where
-  more_output : 0 < lacks (last_part p) → output (p ++ b ∷ []) ≡ output p ++ b ∷ []
-  more_last : 0 < lacks (last_part p) → last_part (p ++ b ∷ []) ≡ last_part p ++ b ∷ []
-  next_output : lacks (last_part p) ≡ 0 → output (p ++ b ∷ []) ≡ output p ++ joint (last_part p)
-  next_last : lacks (last_part p) ≡ 0 → last_part (p ++ b ∷ []) ≡ b ∷ []
+  more_output : 0 < missing (last_part p) → output (p ++ b ∷ []) ≡ output p ++ b ∷ []
+  more_last : 0 < missing (last_part p) → last_part (p ++ b ∷ []) ≡ last_part p ++ b ∷ []
+  next_output : missing (last_part p) ≡ 0 → output (p ++ b ∷ []) ≡ output p ++ joint (last_part p)
+  next_last : missing (last_part p) ≡ 0 → last_part (p ++ b ∷ []) ≡ b ∷ []
 
 -- one part
 grown-last : (code : ℕ) (bytes : List ℕ) (b : ℕ) → length bytes ≤ code - 1 → Grown (code ∷ bytes) b
@@ -49,30 +49,30 @@ grown-by (suc n) (code ∷ bytes) b le some = elim (cases_lt (code - 1) (length 
 grown : (c : ℕ) (p : List ℕ) (b : ℕ) → Grown (c ∷ p) b
 grown c p b = grown-by (suc (length p)) (c ∷ p) b (omega arith) (omega arith)
 
-last_part-empty : lacks (last_part []) ≡ 0
+last_part-empty : missing (last_part []) ≡ 0
 unfolding last_part parts parts_after
 last_part-empty = refl
 
-pub output-push_more : (p : List ℕ) (b : ℕ) → 0 < lacks (last_part p) → output (p ++ b ∷ []) ≡ output p ++ b ∷ []
+pub output-push_more : (p : List ℕ) (b : ℕ) → 0 < missing (last_part p) → output (p ++ b ∷ []) ≡ output p ++ b ∷ []
 output-push_more [] b h = absurd (omega (arith, last_part-empty))
 output-push_more (c ∷ p) b h = (grown c p b).more_output h
 
-last_part-push_more : (p : List ℕ) (b : ℕ) → 0 < lacks (last_part p) → last_part (p ++ b ∷ []) ≡ last_part p ++ b ∷ []
+last_part-push_more : (p : List ℕ) (b : ℕ) → 0 < missing (last_part p) → last_part (p ++ b ∷ []) ≡ last_part p ++ b ∷ []
 last_part-push_more [] b h = absurd (omega (arith, last_part-empty))
 last_part-push_more (c ∷ p) b h = (grown c p b).more_last h
 
-pub output-push_next : (c : ℕ) (p : List ℕ) (b : ℕ) → lacks (last_part (c ∷ p)) ≡ 0 → output (c ∷ p ++ b ∷ []) ≡ output (c ∷ p) ++ joint (last_part (c ∷ p))
+pub output-push_next : (c : ℕ) (p : List ℕ) (b : ℕ) → missing (last_part (c ∷ p)) ≡ 0 → output (c ∷ p ++ b ∷ []) ≡ output (c ∷ p) ++ joint (last_part (c ∷ p))
 output-push_next c p b h = (grown c p b).next_output h
 
-pub last_part-push_next : (c : ℕ) (p : List ℕ) (b : ℕ) → lacks (last_part (c ∷ p)) ≡ 0 → last_part (c ∷ p ++ b ∷ []) ≡ b ∷ []
+pub last_part-push_next : (c : ℕ) (p : List ℕ) (b : ℕ) → missing (last_part (c ∷ p)) ≡ 0 → last_part (c ∷ p ++ b ∷ []) ≡ b ∷ []
 last_part-push_next c p b h = (grown c p b).next_last h
 
-pub lacks-push_more : (p : List ℕ) (b : ℕ) → 0 < lacks (last_part p) → lacks (last_part (p ++ b ∷ [])) + 1 ≡ lacks (last_part p)
-lacks-push_more p b h = grind (arith, last_part-push_more, length_push)
+pub missing-push_more : (p : List ℕ) (b : ℕ) → 0 < missing (last_part p) → missing (last_part (p ++ b ∷ [])) + 1 ≡ missing (last_part p)
+missing-push_more p b h = grind (arith, last_part-push_more, length_push)
 
-pub is_full-push_more : (p : List ℕ) (b : ℕ) → 0 < lacks (last_part p) → is_full (last_part (p ++ b ∷ [])) ≡ is_full (last_part p)
+pub is_full-push_more : (p : List ℕ) (b : ℕ) → 0 < missing (last_part p) → is_full (last_part (p ++ b ∷ [])) ≡ is_full (last_part p)
 is_full-push_more p b h = grind (arith, last_part-push_more)
 
 -- The step lemma in one: the output grows at its end
 pub output-push : (c : ℕ) (p : List ℕ) (b : ℕ) → (more : List ℕ) × (output (c ∷ p ++ b ∷ []) ≡ output (c ∷ p) ++ more)
-output-push c p b = elim (cases_lt 0 (lacks (last_part (c ∷ p)))) [ inl h ↦ (b ∷ [], output-push_more (c ∷ p) b h) | inr h ↦ (joint (last_part (c ∷ p)), output-push_next c p b (omega arith)) ]
+output-push c p b = elim (cases_lt 0 (missing (last_part (c ∷ p)))) [ inl h ↦ (b ∷ [], output-push_more (c ∷ p) b h) | inr h ↦ (joint (last_part (c ∷ p)), output-push_next c p b (omega arith)) ]

@@ -5,19 +5,19 @@ use Rattle.std.proofs.lemmas.List.Elements.{All-take, All-drop}
 use borrow.Rule.Slice.PartMut.{put_mid}
 use Rattle.cobs.specs.Overwritten.{overwritten}
 use Rattle.cobs.specs.Grammar.{HasNoZero, code_of, is_full}
-use Rattle.cobs.specs.Piece.{output, last_part, lacks, kept_output}
-use Rattle.cobs.specs.Internal.Decoded.{BlocksRead, DecodedSource, IsFlat, whole_left}
+use Rattle.cobs.specs.Piece.{output, last_part, missing, kept_output}
+use Rattle.cobs.specs.Internal.DecodedUpTo.{BlocksRead, DecodedSource, IsFlat, whole_left}
 use Rattle.cobs.specs.Sentinel.{xor_each}
 use Rattle.cobs.proofs.decoding.KeptLemmas.{joins, joins-full, joins-zero-due}
 use Rattle.cobs.proofs.decoding.WholeLemmas.{in_front}
 use Rattle.cobs.proofs.decoding.WindowSteps.{take-past, drop-past, put_mid-end}
 use Rattle.cobs.proofs.decoding.BlockSteps.{overwritten-front}
 use Rattle.cobs_bytes.proofs.bytes.DropLemmas.{drop-later}
-use Rattle.cobs.proofs.decoding.SourceSteps.{front-head, answer-fits, answer-too_long, overwritten-full, source_answer-head}
-use Rattle.cobs.proofs.decoding.FlatLemmas.{flat-kept, flat-answer}
+use Rattle.cobs.proofs.decoding.SourceSteps.{front-head, result-fits, result-too_long, overwritten-full, result_of_sentinel_decode-head}
+use Rattle.cobs.proofs.decoding.FlatLemmas.{flat-kept, flat-result}
 use Rattle.cobs.specs.Stream.{head}
 use Rattle.cobs.specs.declared.dec.DecodeError.TheVariants.{TargetBufTooSmall}
-use Rattle.cobs.specs.Decode.{head_answer_within, source_answer}
+use Rattle.cobs.specs.Decode.{head_result_within, result_of_sentinel_decode}
 
 -- a source whose front is whole blocks, up to its end or a sentinel
 module _ (source dest new : List ℕ) (s end : ℕ) (within : end ≤ length source) (nonzero : HasNoZero (xor_each s (take end source))) (stop : end < length source → get_or source end 0 ≡ s)
@@ -28,13 +28,13 @@ module _ (source dest new : List ℕ) (s end : ℕ) (within : end ≤ length sou
   kept-len : length (kept_output (xor_each s (take end source))) + 1 ≡ end
   kept-len = ap (λ (x : List ℕ). length x + 1) (flat-kept _ flat) ∙ flat.len ∙ front-long
 
-  pub front-answer : 0 < length source → (n : ℕ) → n ≡ length (take end source) - 1 → Ok n ≡ source_answer (xor_each s source) (length dest)
-  front-answer some n n-is =
+  pub front-result : 0 < length source → (n : ℕ) → n ≡ length (take end source) - 1 → Ok n ≡ result_of_sentinel_decode (xor_each s source) (length dest)
+  front-result some n n-is =
       let l = front-long in
       let t = length-take-le end source within in
       let k = kept-len in
-      flat-answer _ flat n (omega arith) ∙ answer-fits (xor_each s (take end source)) (length dest) (omega arith)
-      ∙ ap (λ (h : List ℕ). head_answer_within h (length dest)) (front-head source end s within nonzero stop) ∙ source_answer-head source s (length dest) some
+      flat-result _ flat n (omega arith) ∙ result-fits (xor_each s (take end source)) (length dest) (omega arith)
+      ∙ ap (λ (h : List ℕ). head_result_within h (length dest)) (front-head source end s within nonzero stop) ∙ result_of_sentinel_decode-head source s (length dest) some
 
   pub front-buffer : length new ≡ length dest → drop (end - 1) new ≡ drop (end - 1) dest → take (end - 1) new ≡ output (xor_each s (take end source)) → new ≡ overwritten dest (kept_output (head (xor_each s source)))
   front-buffer same rest begins = grind (arith, overwritten-front, flat-kept, front-head)
@@ -61,7 +61,7 @@ module _ (source : List ℕ) (s read : ℕ) where
 
 -- a stretch of whole blocks behind those that are decoded
 module _ (h old dest : List ℕ) (read written : ℕ) (d : DecodedSource h old dest read written) where
-  module _ (none : HasNoZero h) (len : ℕ) (p : List ℕ) (some : 0 < len) (fits : read + len ≤ length h) (p-is : p ≡ take len (drop read h)) (whole : lacks (last_part p) ≡ 0) where
+  module _ (none : HasNoZero h) (len : ℕ) (p : List ℕ) (some : 0 < len) (fits : read + len ≤ length h) (p-is : p ≡ take len (drop read h)) (whole : missing (last_part p) ≡ 0) where
     abbrev q : List ℕ
     q = drop (read + len) h
 
@@ -100,9 +100,9 @@ module _ (h old dest : List ℕ) (read written : ℕ) (d : DecodedSource h old d
       pub full-buffer : put_mid written k dest new ≡ overwritten old (kept_output h)
       full-buffer = overwritten-full old (put_mid written k dest new) (kept_output h) tail full-long kept-full
 
-      pub full-count : Err TargetBufTooSmall ≡ head_answer_within h (length old)
+      pub full-count : Err TargetBufTooSmall ≡ head_result_within h (length old)
       unfolding tail
-      full-count = grind (arith, kept-full, length-append, put_mid, tail, joins, q, length-drop, full-long, answer-too_long, h)
+      full-count = grind (arith, kept-full, length-append, put_mid, tail, joins, q, length-drop, full-long, result-too_long, h)
 
     -- decoded to the front of what is left of the buffer
     module _ (new : List ℕ) (w k : ℕ) (k-is : k ≡ length dest - written) (same : length new ≡ length dest - written) (count : w ≡ length (output p)) (room : w ≤ length dest - written) (begins : take w new ≡ output p)

@@ -9,25 +9,25 @@ use Rattle.cobs.specs.Grammar.{HasNoZero}
 use Rattle.cobs.specs.Piece.{kept_output}
 use Rattle.cobs.specs.Sentinel.{xor_each}
 use Rattle.cobs.specs.Stream.{head}
-use Rattle.cobs.specs.Decode.{head_answer, head_answer_within, source_answer}
-use Rattle.cobs.specs.Internal.Decoded.{DecodedSource}
+use Rattle.cobs.specs.Decode.{head_result, head_result_within, result_of_sentinel_decode}
+use Rattle.cobs.specs.Internal.DecodedUpTo.{DecodedSource}
 use Rattle.cobs.specs.declared.dec.DecodeError.TheVariants.{InvalidFrame, TargetBufTooSmall}
 use Rattle.cobs.proofs.format.SentinelLemmas.{xor_twice}
 use Rattle.cobs.proofs.decoding.HeadLemmas.{front_is_head}
 use Rattle.cobs.proofs.decoding.KeptLemmas.{kept_output-empty}
 use Rattle.cobs.proofs.decoding.OutcomeSteps.{overwritten-none}
-use Rattle.cobs.proofs.decoding.BlockSteps.{all-kept, all-answer, broken-kept, broken-answer, overwritten-front}
+use Rattle.cobs.proofs.decoding.BlockSteps.{all-kept, all-result, broken-kept, broken-result, overwritten-front}
 
--- ANSWERS BY THE KEPT OUTPUT
+-- RESULTS BY THE KEPT OUTPUT
 
 module _ (h : List ℕ) (n : ℕ) where
   -- where it fits
-  pub answer-fits : length (kept_output h) ≤ n → head_answer h ≡ head_answer_within h n
-  answer-fits fits = sym (ap (λ (t : Bool). cond t (head_answer h) (Err TargetBufTooSmall)) (le-leb (length (kept_output h)) n fits))
+  pub result-fits : length (kept_output h) ≤ n → head_result h ≡ head_result_within h n
+  result-fits fits = sym (ap (λ (t : Bool). cond t (head_result h) (Err TargetBufTooSmall)) (le-leb (length (kept_output h)) n fits))
 
   -- where it is too long
-  pub answer-too_long : n < length (kept_output h) → Err TargetBufTooSmall ≡ head_answer_within h n
-  answer-too_long long = sym (ap (λ (t : Bool). cond t (head_answer h) (Err TargetBufTooSmall)) (lt-leb (length (kept_output h)) n long))
+  pub result-too_long : n < length (kept_output h) → Err TargetBufTooSmall ≡ head_result_within h n
+  result-too_long long = sym (ap (λ (t : Bool). cond t (head_result h) (Err TargetBufTooSmall)) (lt-leb (length (kept_output h)) n long))
 
 -- a buffer that is the front of what was to be written
 pub overwritten-full : (old new bytes more : List ℕ) → length new ≡ length old → bytes ≡ new ++ more → new ≡ overwritten old bytes
@@ -53,9 +53,9 @@ module _ (source : List ℕ) (end s : ℕ) (within : end ≤ length source) (bef
   pub xor_head : xor_each s (take end source) ≡ head (xor_each s source)
   xor_head = front-head source end s within xor_no_zero stop
 
--- the answer to a source that isn't empty, by what stands before its first sentinel
-pub source_answer-head : (source : List ℕ) (s n : ℕ) → 0 < length source → head_answer_within (head (xor_each s source)) n ≡ source_answer (xor_each s source) n
-source_answer-head source s n some = grind (arith, length-map)
+-- the result for a source that isn't empty, by what is before its first sentinel
+pub result_of_sentinel_decode-head : (source : List ℕ) (s n : ℕ) → 0 < length source → head_result_within (head (xor_each s source)) n ≡ result_of_sentinel_decode (xor_each s source) n
+result_of_sentinel_decode-head source s n some = grind (arith, length-map)
 
 -- an empty source leaves the buffer as it is
 pub nothing_kept : (source dest : List ℕ) (s : ℕ) → length source ≡ 0 → dest ≡ overwritten dest (kept_output (head (xor_each s source)))
@@ -79,8 +79,8 @@ module _ (h old dest : List ℕ) (read written : ℕ) (d : DecodedSource h old d
     pub all-long : written ≡ length (kept_output h)
     all-long = sym (ap length kept ∙ done-long)
 
-    pub all-count : Ok written ≡ head_answer_within h (length old)
-    all-count = grind (arith, done-long, all-answer, answer-fits, kept)
+    pub all-count : Ok written ≡ head_result_within h (length old)
+    all-count = grind (arith, done-long, all-result, result-fits, kept)
 
   module _ (code : ℕ) (here : read < length h) (is : code ≡ get_or h read 0) (broken : length h - read < code) where
     kept-is : kept_output h ≡ take written dest
@@ -92,5 +92,5 @@ module _ (h old dest : List ℕ) (read written : ℕ) (d : DecodedSource h old d
     pub broken-long : written ≡ length (kept_output h)
     broken-long = sym (ap length kept-is ∙ done-long)
 
-    pub broken-count : Err (InvalidFrame written) ≡ head_answer_within h (length old)
-    broken-count = grind (arith, done-long, broken-answer, answer-fits, kept-is)
+    pub broken-count : Err (InvalidFrame written) ≡ head_result_within h (length old)
+    broken-count = grind (arith, done-long, broken-result, result-fits, kept-is)

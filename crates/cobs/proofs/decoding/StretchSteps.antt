@@ -6,10 +6,10 @@ use Rattle.std.proofs.lemmas.List.{drop_more, get_or-map, length-map, take-take,
 use Rattle.std.proofs.lemmas.List.Elements.{All-take, All-drop}
 use borrow.Rule.Slice.PartMut.{put_mid}
 use Rattle.cobs.specs.Overwritten.{overwritten}
-use Rattle.cobs.specs.Decode.{head_answer_within}
+use Rattle.cobs.specs.Decode.{head_result_within}
 use Rattle.cobs.specs.Grammar.{HasNoZero, code_of}
 use Rattle.cobs.specs.Piece.{kept_output, output, last_part}
-use Rattle.cobs.specs.Internal.Decoded.{DecodedSource, IsFlat}
+use Rattle.cobs.specs.Internal.DecodedUpTo.{DecodedSource, IsFlat}
 use Rattle.cobs.specs.Sentinel.{xor_each}
 use Rattle.cobs.specs.declared.dec.DecodeError.TheVariants.{TargetBufTooSmall}
 use Rattle.cobs.proofs.decoding.FlatLemmas.{put-back}
@@ -72,7 +72,7 @@ module _ {h old dest place copied : List ℕ} {read written len fit code : ℕ} 
     after-long = grind (arith, put-back, length-append, length-take-le, place-long)
 
     -- the buffer ends inside the stretch, or where a zero is due behind it
-    pub buffer-full : length dest ≡ written + (fit - 1) → (fit < len) ⊎ (read + len < length h) × (full ≡ false) → (Err TargetBufTooSmall ≡ head_answer_within h (length old))
+    pub buffer-full : length dest ≡ written + (fit - 1) → (fit < len) ⊎ (read + len < length h) × (full ≡ false) → (Err TargetBufTooSmall ≡ head_result_within h (length old))
         × (after ≡ overwritten old (kept_output h))
     buffer-full ends either =
         let p = part-long in

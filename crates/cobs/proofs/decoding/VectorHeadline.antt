@@ -1,4 +1,4 @@
--- What a vector form that found memory answers: the message m exactly where the list reads as m; and what it holds.
+-- What a vector form that found memory returns: the message m exactly if the list reads as m; and what it holds.
 use Rattle.std.proofs.Common.{◌≡◌, ℕ, ◌<◌, ◌↔◌, Bool, true, false, cond, List, [], ◌∷◌, length, All, Result, Ok, Err, ◌++◌, take, drop, take_at, refl, sym, ap, ◌∙◌, subst, ⊎_elim}
 use Rattle.std.proofs.lemmas.Bool.{cases_Bool}
 use Rattle.cobs.specs.Grammar.{Reads}
@@ -10,10 +10,10 @@ use Rattle.cobs.specs.declared.dec.DecodeError.TheVariants.{InvalidFrame}
 use Rattle.cobs.proofs.format.FrameLemmas.{frame_whole, frame_output, reads_output}
 use Rattle.cobs.proofs.decoding.OutcomeLemmas.{first_piece_alone, head_alone}
 
--- a whole piece by its output, a broken one refused
-message_reads : (f m : List ℕ) (count : ℕ) → All (λ b. b < 256) f → IsPiece f → (answer : Result (List ℕ) DecodeError)
-    → answer ≡ cond (is_whole f) (Ok (output f)) (Err (InvalidFrame count)) → (answer ≡ Ok m) ↔ Reads f m
-message_reads f m count below piece answer is = (
+-- a whole piece by its output, a broken one rejected
+message_reads : (f m : List ℕ) (count : ℕ) → All (λ b. b < 256) f → IsPiece f → (returned : Result (List ℕ) DecodeError)
+    → returned ≡ cond (is_whole f) (Ok (output f)) (Err (InvalidFrame count)) → (returned ≡ Ok m) ↔ Reads f m
+message_reads f m count below piece returned is = (
   λ e. ⊎_elim
       (λ (whole : is_whole f ≡ true).
       let same : output f ≡ m = cc in
@@ -43,9 +43,9 @@ module _ (f : List ℕ) (below : All (λ b. b < 256) f) (m : List ℕ) where
 pub truncated : (new items : List ℕ) (k len : ℕ) → length new ≡ len → take k (take len (new ++ drop (length new) items)) ≡ take k new
 truncated new items k len same = ap (take k) (take_at new (drop (length new) items) len same)
 
--- an answer is one message, or an error
-pub one_message : {answer : Result (List ℕ) DecodeError} {items m : List ℕ} → answer ≡ Ok items → answer ≡ Ok m → items ≡ m
+-- a result is one message, or an error
+pub one_message : {returned : Result (List ℕ) DecodeError} {items m : List ℕ} → returned ≡ Ok items → returned ≡ Ok m → items ≡ m
 one_message is e = cc
 
-pub no_message : {answer : Result (List ℕ) DecodeError} {error : DecodeError} {m : List ℕ} → answer ≡ Err error → answer ≡ Ok m → ⊥
+pub no_message : {returned : Result (List ℕ) DecodeError} {error : DecodeError} {m : List ℕ} → returned ≡ Err error → returned ≡ Ok m → ⊥
 no_message is e = absurd (cc)

@@ -5,12 +5,12 @@ use Rattle.cobs.specs.Overwritten.{overwritten}
 use Rattle.cobs.specs.Piece.{output, is_whole, kept_output}
 use Rattle.cobs.specs.Stream.{outcome_of, first_piece, head}
 use Rattle.cobs.specs.Fields.Report.{frame_size_of}
-use Rattle.cobs.specs.Decode.{sized, decode_answer, answer_by_piece, output_of, first_output, message_of_piece, decoded, head_answer, source_answer, message_of_head, decoded_head}
+use Rattle.cobs.specs.Decode.{outcome_result, result_of_decode, result_by_piece, output_of, first_output, message_of_piece, decoded, head_result, result_of_sentinel_decode, message_of_head, decoded_head}
 use Rattle.cobs.specs.declared.dec.DecodeReport.{DecodeReport}
 use Rattle.cobs.specs.declared.dec.DecodeError.{DecodeError}
 use Rattle.cobs.specs.declared.dec.DecodeError.TheVariants.{InvalidFrame, TargetBufTooSmall}
 use Rattle.cobs.proofs.decoding.OutcomeLemmas.{output_within, first_piece_head, length-head}
-use Rattle.cobs.proofs.decoding.SourceSteps.{answer-fits}
+use Rattle.cobs.proofs.decoding.SourceSteps.{result-fits}
 
 -- a buffer that has room begins with what is written
 pub overwritten-begins : (buffer bytes : List ℕ) → length bytes ≤ length buffer → take (length bytes) (overwritten buffer bytes) ≡ bytes
@@ -24,9 +24,9 @@ first_piece_within (zero ∷ t) p is = let l = first_piece_within t p is in omeg
 first_piece_within (suc b ∷ t) p is = grind (arith, first_piece_head, length-head)
 
 -- the outcome of a piece whose output has room
-sized-fits : (p : List ℕ) (n : ℕ) → length (output p) ≤ n → sized (outcome_of p n) ≡ (if is_whole p then Ok (length (output p)) else Err (InvalidFrame (length (output p))))
+outcome_result-fits : (p : List ℕ) (n : ℕ) → length (output p) ≤ n → outcome_result (outcome_of p n) ≡ (if is_whole p then Ok (length (output p)) else Err (InvalidFrame (length (output p))))
 unfolding outcome_of
-sized-fits p n fits = grind (arith, le-leb)
+outcome_result-fits p n fits = grind (arith, le-leb)
 
 -- THE FIRST PIECE
 
@@ -35,31 +35,31 @@ pub above_zero : {k n : ℕ} → k ≡ n → n ≢ 0 → 0 < k
 above_zero is some = omega (arith, is, some)
 
 module _ (source : List ℕ) (n : ℕ) (room : n ≡ length source) where
-  abbrev Refused : Result (List ℕ) DecodeError → DecodeError → Type 0
-  Refused answer error = (answer ≡ Err error) × (error ≢ TargetBufTooSmall)
+  abbrev Rejected : Result (List ℕ) DecodeError → DecodeError → Type 0
+  Rejected returned error = (returned ≡ Err error) × (error ≢ TargetBufTooSmall)
 
-  piece-refused : (error : DecodeError) (p : Option (List ℕ)) → first_piece source ≡ p → Err error ≡ answer_by_piece source p n → Refused (message_of_piece p) error
-  piece-refused error p h e = grind (arith, first_piece_within, output_within, sized-fits)
+  piece-rejected : (error : DecodeError) (p : Option (List ℕ)) → first_piece source ≡ p → Err error ≡ result_by_piece source p n → Rejected (message_of_piece p) error
+  piece-rejected error p h e = grind (arith, first_piece_within, output_within, outcome_result-fits)
 
-  piece-message : (report : DecodeReport) (old : List ℕ) (p : Option (List ℕ)) → first_piece source ≡ p → length old ≡ n → Ok report ≡ answer_by_piece source p n
+  piece-message : (report : DecodeReport) (old : List ℕ) (p : Option (List ℕ)) → first_piece source ≡ p → length old ≡ n → Ok report ≡ result_by_piece source p n
       → message_of_piece p ≡ Ok (take (frame_size_of report) (overwritten old (output_of p)))
   piece-message report old None is long e = absurd (cc)
-  piece-message report old (Some p) is long e = grind (arith, first_piece_within, output_within, sized-fits, overwritten-begins)
+  piece-message report old (Some p) is long e = grind (arith, first_piece_within, output_within, outcome_result-fits, overwritten-begins)
 
-  answer-is : 0 < length source → decode_answer source n ≡ answer_by_piece source (first_piece source) n
-  answer-is some = grind arith
+  result-equals : 0 < length source → result_of_decode source n ≡ result_by_piece source (first_piece source) n
+  result-equals some = grind arith
 
   decoded-is : 0 < length source → decoded source ≡ message_of_piece (first_piece source)
   decoded-is some = grind arith
 
-  pub decoded-refused : (error : DecodeError) → 0 < length source → Err error ≡ decode_answer source n → Refused (decoded source) error
-  decoded-refused error some e = grind (arith, decoded-is, piece-refused, answer-is)
+  pub decoded-rejected : (error : DecodeError) → 0 < length source → Err error ≡ result_of_decode source n → Rejected (decoded source) error
+  decoded-rejected error some e = grind (arith, decoded-is, piece-rejected, result-equals)
 
-  pub decoded-message : (report : DecodeReport) (old new : List ℕ) → 0 < length source → length old ≡ n → Ok report ≡ decode_answer source n → new ≡ overwritten old (first_output source)
+  pub decoded-message : (report : DecodeReport) (old new : List ℕ) → 0 < length source → length old ≡ n → Ok report ≡ result_of_decode source n → new ≡ overwritten old (first_output source)
       → decoded source ≡ Ok (take (frame_size_of report) new)
-  decoded-message report old new some long e is = grind (arith, decoded-is, piece-message, answer-is)
+  decoded-message report old new some long e is = grind (arith, decoded-is, piece-message, result-equals)
 
--- WHAT STANDS BEFORE THE FIRST ZERO
+-- WHAT IS BEFORE THE FIRST ZERO
 
 -- a kept output is no longer than the output
 pub kept_within : (p : List ℕ) → length (kept_output p) ≤ length p
@@ -67,22 +67,22 @@ unfolding kept_output
 kept_within p = grind (arith, output_within, length-take)
 
 module _ (source : List ℕ) (n : ℕ) (room : n ≡ length source) where
-  head-answer : 0 < length source → source_answer source n ≡ head_answer (head source)
-  head-answer some = grind (arith, kept_within, length-head, answer-fits)
+  head-result : 0 < length source → result_of_sentinel_decode source n ≡ head_result (head source)
+  head-result some = grind (arith, kept_within, length-head, result-fits)
 
   head-is : 0 < length source → decoded_head source ≡ message_of_head (head source)
   head-is some = grind arith
 
-  refused : (error : DecodeError) (h : List ℕ) → Err error ≡ head_answer h → (message_of_head h ≡ Err error) × (error ≢ TargetBufTooSmall)
-  refused error h e = grind arith
+  rejected : (error : DecodeError) (h : List ℕ) → Err error ≡ head_result h → (message_of_head h ≡ Err error) × (error ≢ TargetBufTooSmall)
+  rejected error h e = grind arith
 
-  pub decoded_head-refused : (error : DecodeError) → 0 < length source → Err error ≡ source_answer source n → (decoded_head source ≡ Err error) × (error ≢ TargetBufTooSmall)
-  decoded_head-refused error some e = grind (arith, head-answer, head-is, refused)
+  pub decoded_head-rejected : (error : DecodeError) → 0 < length source → Err error ≡ result_of_sentinel_decode source n → (decoded_head source ≡ Err error) × (error ≢ TargetBufTooSmall)
+  decoded_head-rejected error some e = grind (arith, head-result, head-is, rejected)
 
-  message : (size : ℕ) (old : List ℕ) (h : List ℕ) → length h ≤ length old → Ok size ≡ head_answer h → message_of_head h ≡ Ok (take size (overwritten old (kept_output h)))
+  message : (size : ℕ) (old : List ℕ) (h : List ℕ) → length h ≤ length old → Ok size ≡ head_result h → message_of_head h ≡ Ok (take size (overwritten old (kept_output h)))
   unfolding kept_output
   message size old h fits e = grind (arith, output_within, overwritten-begins)
 
-  pub decoded_head-message : (size : ℕ) (old new : List ℕ) → 0 < length source → length old ≡ n → Ok size ≡ source_answer source n → new ≡ overwritten old (kept_output (head source))
+  pub decoded_head-message : (size : ℕ) (old new : List ℕ) → 0 < length source → length old ≡ n → Ok size ≡ result_of_sentinel_decode source n → new ≡ overwritten old (kept_output (head source))
       → decoded_head source ≡ Ok (take size new)
-  decoded_head-message size old new some long e is = grind (arith, length-head, head-is, message, head-answer)
+  decoded_head-message size old new some long e is = grind (arith, length-head, head-is, message, head-result)

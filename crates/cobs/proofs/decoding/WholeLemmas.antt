@@ -4,8 +4,8 @@ use Rattle.std.proofs.lemmas.Bool.{cases_lt}
 use Rattle.std.proofs.lemmas.List.{take-append-le, drop-append-le}
 use Rattle.std.proofs.lemmas.List.Elements.{All-head, All-tail, All-drop}
 use Rattle.cobs.specs.Grammar.{HasNoZero, code_of}
-use Rattle.cobs.specs.Piece.{output, last_part, lacks, kept_output}
-use Rattle.cobs.specs.Internal.Decoded.{whole_left}
+use Rattle.cobs.specs.Piece.{output, last_part, missing, kept_output}
+use Rattle.cobs.specs.Internal.DecodedUpTo.{whole_left}
 use Rattle.cobs.proofs.decoding.PieceCuts.{joint_of, output-last, output-more, last_part-more, last_part-last}
 use Rattle.cobs.proofs.decoding.KeptLemmas.{joins, output-part, whole-part, kept-part}
 
@@ -45,7 +45,7 @@ more code bytes q some far rest =
     let out : output (code ∷ bytes) ≡ (take (code - 1) bytes ++ joint_of code) ++ output left = output-more code bytes far in
     grind (arith, joins, joint_of, append_assoc, output-part, kept-part, whole-part, last_part-more)
 
-by_length : (n : ℕ) (p q : List ℕ) → length p ≤ n → 0 < length p → HasNoZero p → lacks (last_part p) ≡ 0 → InFront p q
+by_length : (n : ℕ) (p q : List ℕ) → length p ≤ n → 0 < length p → HasNoZero p → missing (last_part p) ≡ 0 → InFront p q
 by_length n [] q le some none whole = absurd (omega arith)
 by_length zero (code ∷ bytes) q le some none whole = absurd (omega arith)
 by_length (suc n) (code ∷ bytes) q le some none whole =
@@ -55,10 +55,10 @@ by_length (suc n) (code ∷ bytes) q le some none whole =
       | inl far ↦ more code bytes q (omega arith) far
           (by_length n (drop (code - 1) bytes) q (omega arith) (omega arith)
           (All-drop (λ byte. byte ≢ 0) (code - 1) bytes (All-tail (λ byte. byte ≢ 0) code bytes none))
-          (ap lacks (sym (last_part-more code bytes far)) ∙ whole))
-      | inr short ↦ one code bytes q (omega arith) (let w = sym (ap lacks (last_part-last code bytes short)) ∙ whole in omega arith)
+          (ap missing (sym (last_part-more code bytes far)) ∙ whole))
+      | inr short ↦ one code bytes q (omega arith) (let w = sym (ap missing (last_part-last code bytes short)) ∙ whole in omega arith)
     ]
 
 -- whole blocks in front of anything
-pub in_front : (p q : List ℕ) → 0 < length p → HasNoZero p → lacks (last_part p) ≡ 0 → InFront p q
+pub in_front : (p q : List ℕ) → 0 < length p → HasNoZero p → missing (last_part p) ≡ 0 → InFront p q
 in_front p q some none whole = by_length (length p) p q (omega arith) some none whole

@@ -9,26 +9,26 @@ use Rattle.std.proofs.Math.Seq.{take-add, take-append-add, drop-append-add}
 use Rattle.std.specs.Prelude.{if◌then◌else◌}
 use borrow.Rule.Slice.PartMut.{put_mid, same_len_mid}
 use Rattle.cobs.specs.Grammar.{HasNoZero, code_of}
-use Rattle.cobs.specs.Piece.{output, last_part, lacks}
-pub use Rattle.cobs.specs.Internal.Decoded.{Decoded}
+use Rattle.cobs.specs.Piece.{output, last_part, missing}
+pub use Rattle.cobs.specs.Internal.DecodedUpTo.{DecodedUpTo}
 use Rattle.cobs.proofs.decoding.PieceCuts.{last_part-more, last_part-last, output-last, output-le, joint_of, joint-length, part-cons, part-next, part-output, part-length}
 
--- Behind the front stand the bytes from the code's on up to end.
+-- Behind the front are the bytes from the code's on up to end.
 pub record CopiedTo (piece dest : List ℕ) (read end written : ℕ) : Type 0 where
   pub within : end ≤ length piece
   pub bytes : take (end - (read + 1)) (drop written dest) ≡ take (end - (read + 1)) (drop (read + 1) piece)
 
-pub started : (piece dest : List ℕ) → 0 < length piece → Decoded piece dest dest 0 0
+pub started : (piece dest : List ℕ) → 0 < length piece → DecodedUpTo piece dest dest 0 0
 started piece dest some = record { within = some; left = omega arith; front = refl; rest = refl; last = refl }
 
--- bytes that stand where the output will
-pub stayed : (piece old new bytes : List ℕ) (done : ℕ) → 0 < length piece → new ≡ bytes ++ drop done old → length bytes ≡ done → done ≤ length (output piece) → Decoded piece old new 0 0
+-- bytes that are where the output will be
+pub stayed : (piece old new bytes : List ℕ) (done : ℕ) → 0 < length piece → new ≡ bytes ++ drop done old → length bytes ≡ done → done ≤ length (output piece) → DecodedUpTo piece old new 0 0
 stayed piece old new bytes done some is long few = grind (arith, drop-append-drop)
 
 pub code-pos : (piece : List ℕ) (read : ℕ) → HasNoZero piece → read < length piece → 0 < get_or piece read 0
 code-pos piece read h lt = let other = All-get_or (λ byte. byte ≢ 0) piece read 0 lt h in omega (arith, other)
 
-module _ (piece old dest : List ℕ) (read written code : ℕ) (p : Decoded piece old dest read written) (is : code ≡ get_or piece read 0) where
+module _ (piece old dest : List ℕ) (read written code : ℕ) (p : DecodedUpTo piece old dest read written) (is : code ≡ get_or piece read 0) where
   module _ (some : 0 < code) (more : read + code < length piece) where
     length-parts : length (output (drop read piece)) ≡ code - 1 + length (joint_of code) + length (output (drop (read + code) piece))
     length-parts = part-length piece read code p.within is some more
@@ -41,12 +41,12 @@ module _ (piece old dest : List ℕ) (read written code : ℕ) (p : Decoded piec
 
     -- a part, and what joins the next one
     step : (after : List ℕ) (n : ℕ) → take n after ≡ take written dest ++ (take (code - 1) (drop (read + 1) piece) ++ joint_of code) → n ≡ written + (code - 1 + length (joint_of code))
-        → drop (length (output piece)) after ≡ drop (length (output piece)) dest → Decoded piece old after (read + code) n
+        → drop (length (output piece)) after ≡ drop (length (output piece)) dest → DecodedUpTo piece old after (read + code) n
     step after n front ends behind = grind (arith, behind, length-parts, append_assoc, joint_of, part-output, length-drop, part-cons, last_part-more, part-next)
 
     -- the part's bytes, and a zero behind them
     pub zero-step : (after : List ℕ) (n : ℕ) → code ≢ 255 → n ≡ written + code → n ≤ length after → take (written + (code - 1)) after ≡ take written dest ++ take (code - 1) (drop (read + 1) piece)
-        → drop (length (output piece)) after ≡ drop (length (output piece)) dest → Decoded piece old (set after (written + (code - 1)) 0) (read + code) n
+        → drop (length (output piece)) after ≡ drop (length (output piece)) dest → DecodedUpTo piece old (set after (written + (code - 1)) 0) (read + code) n
     zero-step after n other n-is room front behind =
         let at : ℕ = written + (code - 1) in
         let joint-is : joint_of code ≡ 0 ∷ [] = ap (λ t. if t then [] else 0 ∷ []) (ne_eqb code 255 other) in
@@ -59,7 +59,7 @@ module _ (piece old dest : List ℕ) (read written code : ℕ) (p : Decoded piec
       here : take (code - 1) (drop written dest) ≡ take (code - 1) (drop (read + 1) piece)
       here = sym (take-take (code - 1) (end - (read + 1)) (drop written dest) (omega arith)) ∙ ap (take (code - 1)) k.bytes ∙ take-take (code - 1) (end - (read + 1)) (drop (read + 1) piece) (omega arith)
 
-      pub code-decoded : written + code ≤ length dest → Decoded piece old (set dest (written + (code - 1)) 0) (read + code) (written + code)
+      pub code-decoded : written + code ≤ length dest → DecodedUpTo piece old (set dest (written + (code - 1)) 0) (read + code) (written + code)
       code-decoded room = zero-step dest (written + code) short refl room (take-add written (code - 1) dest ∙ ap (λ (x : List ℕ). take written dest ++ x) here) refl
 
       pub code-copied : CopiedTo piece (set dest (written + (code - 1)) 0) (read + code) end (written + code)
@@ -88,14 +88,14 @@ module _ (piece old dest : List ℕ) (read written code : ℕ) (p : Decoded piec
       long-behind : drop (length (output piece)) (put_mid written k dest part) ≡ drop (length (output piece)) dest
       long-behind = grind (arith, drop-put_mid, long-part, length-parts)
 
-      pub full-decoded : code ≡ 255 → Decoded piece old (put_mid written k dest part) (read + code) (written + (code - 1))
+      pub full-decoded : code ≡ 255 → DecodedUpTo piece old (put_mid written k dest part) (read + code) (written + (code - 1))
       full-decoded full =
           let joint-is : joint_of code ≡ [] = ap (λ t. if t then [] else 0 ∷ []) (eq-eqb code 255 full) in
           step (put_mid written k dest part) (written + (code - 1))
           (long-front ∙ ap (λ (x : List ℕ). take written dest ++ x) (sym (append-nil (take (code - 1) (drop (read + 1) piece))) ∙ ap (λ (x : List ℕ). take (code - 1) (drop (read + 1) piece) ++ x) (sym joint-is)))
           (let j = ap length joint-is in omega arith) long-behind
 
-      pub long-decoded : code ≢ 255 → length (output piece) ≤ length dest → Decoded piece old (set (put_mid written k dest part) (written + (code - 1)) 0) (read + code) (written + (code - 1) + 1)
+      pub long-decoded : code ≢ 255 → length (output piece) ≤ length dest → DecodedUpTo piece old (set (put_mid written k dest part) (written + (code - 1)) 0) (read + code) (written + (code - 1) + 1)
       long-decoded other fits =
           let r = room-zero other in
           let d = length-drop written dest in
@@ -113,8 +113,8 @@ module _ (piece old dest : List ℕ) (read written code : ℕ) (p : Decoded piec
     pub last-code : code ≡ code_of (last_part piece)
     last-code = sym (ap code_of last-is)
 
-    pub last-lacks : code - (length piece - read) ≡ lacks (last_part piece)
-    last-lacks = grind (arith, length-drop, last-is)
+    pub last-missing : code - (length piece - read) ≡ missing (last_part piece)
+    last-missing = grind (arith, length-drop, last-is)
 
 -- the front of a list behind another one
 pub take-past : (xs ys : List ℕ) (n m k : ℕ) → length xs ≡ n → k ≡ n + m → take k (xs ++ ys) ≡ xs ++ take m ys
@@ -128,14 +128,14 @@ drop-past xs ys n m k long is = ap (λ (j : ℕ). drop j (xs ++ ys)) {x = k} {y 
 pub put_mid-end : (at k : ℕ) (dest new : List ℕ) → k ≡ length dest - at → put_mid at k dest new ≡ take at dest ++ new
 put_mid-end at k dest new is = grind (arith, drop-drop, drop_all, append-nil)
 
--- a piece in which no code stands behind a full part
-module _ (piece old dest : List ℕ) (read : ℕ) (p : Decoded piece old dest read read) (flat : length (output piece) + 1 ≡ length piece) where
+-- a piece in which no code is behind a full part
+module _ (piece old dest : List ℕ) (read : ℕ) (p : DecodedUpTo piece old dest read read) (flat : length (output piece) + 1 ≡ length piece) where
   -- its codes but the last are below 255
   pub flat-short : (code : ℕ) → code ≡ get_or piece read 0 → 0 < code → read + code < length piece → code ≢ 255
   flat-short code is some more full = grind (arith, length-parts, output-le, length-drop, joint-length)
 
 -- where no code is left
-module _ (piece old dest : List ℕ) (read written code : ℕ) (p : Decoded piece old dest read written) (is : code ≡ get_or piece read 0) (some : 0 < code) (last : length piece ≤ read + code)
+module _ (piece old dest : List ℕ) (read written code : ℕ) (p : DecodedUpTo piece old dest read written) (is : code ≡ get_or piece read 0) (some : 0 < code) (last : length piece ≤ read + code)
     (k : CopiedTo piece dest read (length piece) written) (room : length (output piece) ≤ length dest) where
   pub end-begins : take (written + (length piece - read - 1)) dest ≡ output piece
   end-begins = grind (arith, length-drop, take-add, take_all, output-is)

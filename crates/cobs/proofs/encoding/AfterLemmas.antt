@@ -79,7 +79,7 @@ to_after slice m index next code false is short fits o =
     let x : ℕ = get_or front index 0 in
     let begins : take (length (concat o.front ++ code ∷ o.bytes)) slice ≡ set (concat o.front ++ code ∷ o.bytes) index x =
     ap (λ (n : ℕ). take n slice) long ∙ sym (take-append-drop index front) ∙ ap (λ (y : List ℕ). y ++ drop index front) (take-take index next slice (omega arith) ∙ o.written)
-    ∙ ap (λ (y : List ℕ). concat o.front ++ y) (drop_more front index 0 (omega arith)) ∙ ap (λ (y : List ℕ). concat o.front ++ x ∷ y) o.stands
+    ∙ ap (λ (y : List ℕ). concat o.front ++ y) (drop_more front index 0 (omega arith)) ∙ ap (λ (y : List ℕ). concat o.front ++ x ∷ y) o.bytes_there
     ∙ sym (set_at (concat o.front) code o.bytes x index (sym b)) in
     record {
       frame = concat o.front ++ code ∷ o.bytes;
@@ -143,9 +143,9 @@ module _ (slice m : List ℕ) (r : Reached) (h : CobsEncoderAfter slice r m) whe
   pub whole-is : h.frame ≡ concat o.front ++ (if r.full then [] else r.block.code ∷ o.bytes)
   whole-is = (frame-is h.frame m h.follows.0 r.block.index r.block.code h.encoded o).1 ∙ ap (λ (t : Bool). concat o.front ++ (if t then [] else r.block.code ∷ o.bytes)) (sym noted-is)
 
-  -- what stands in an encoder's slice, where the open block is a placeholder behind the frame or part of it
-  stands-there : (r.full ≡ true) ⊎ (r.full ≡ false) → (take r.block.index slice ≡ concat o.front) × (drop (r.block.index + 1) (take (next_of r) slice) ≡ o.bytes)
-  stands-there (inl full) =
+  -- what is in an encoder's slice, where the open block is a placeholder behind the frame or part of it
+  bytes_there-there : (r.full ≡ true) ⊎ (r.full ≡ false) → (take r.block.index slice ≡ concat o.front) × (drop (r.block.index + 1) (take (next_of r) slice) ≡ o.bytes)
+  bytes_there-there (inl full) =
       let none = no_bytes o.front o.bytes (sym full ∙ noted-is) in
       let z = ap length none.0 in
       let c = parts.1.0 in
@@ -155,7 +155,7 @@ module _ (slice m : List ℕ) (r : Reached) (h : CobsEncoderAfter slice r m) whe
         ap (λ (n : ℕ). take n slice) (sym long) ∙ h.begins.1 ∙ set_past h.frame r.block.index h.begins.0 (omega arith) ∙ frame_is,
         drop_all (r.block.index + 1) (take (next_of r) slice) (omega arith) ∙ sym none.0,
       )
-  stands-there (inr open') =
+  bytes_there-there (inr open') =
       let c = parts.1.0 in
       let b = o.begins in
       let frame_is : h.frame ≡ concat o.front ++ r.block.code ∷ o.bytes = whole-is ∙ ap (λ (t : Bool). concat o.front ++ (if t then [] else r.block.code ∷ o.bytes)) open' in
@@ -170,7 +170,7 @@ module _ (slice m : List ℕ) (r : Reached) (h : CobsEncoderAfter slice r m) whe
 
   pub from_after : Opened slice m r.block.index (next_of r) r.full
   from_after =
-      let there = stands-there (cases_Bool r.full) in
+      let there = bytes_there-there (cases_Bool r.full) in
       record {
         front = o.front;
         bytes = o.bytes;
@@ -181,7 +181,7 @@ module _ (slice m : List ℕ) (r : Reached) (h : CobsEncoderAfter slice r m) whe
         begins = o.begins;
         place = let c = parts.1.0 in omega arith;
         written = there.0;
-        stands = there.1;
+        bytes_there = there.1;
         noted = noted-is;
       }
 

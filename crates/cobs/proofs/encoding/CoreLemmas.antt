@@ -1,4 +1,4 @@
--- Where the core of the encoder begins and ends, said of the slice of a `CobsEncoder`.
+-- How the core of the encoder begins and ends, said of the slice of a `CobsEncoder`.
 use Rattle.std.proofs.Common.{◌≡◌, ◌≢◌, ℕ, ◌+◌, ◌-◌, ◌<◌, ◌≤◌, Bool, true, false, if◌then◌else◌, List, [], ◌∷◌, ◌++◌, length, drop, take, ap, ◌∙◌, arith}
 use Rattle.std.specs.List.{concat}
 use Rattle.std.proofs.Math.ListN.{set}

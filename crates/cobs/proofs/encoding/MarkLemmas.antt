@@ -14,7 +14,7 @@ use Rattle.cobs_bytes.specs.Mask.{zero_mask}
 use Rattle.cobs_bytes.proofs.bytes.MaskLemmas.{mask_behind, mask_behind-none, mask_behind-and, some_left, lowest_bit, lowest_left, nonzero_len, nonzero_len-lt, nonzero_len-before, nonzero_len-at, clear_front}
 use Rattle.cobs.proofs.encoding.ReachLemmas.{Reaches, Reaches-at, Reaches-same, Reaches-full, Reaches-join, Reaches-zero, Reaches-zeros, IsNotFull, least}
 
--- what stands in a list that was made of three parts
+-- what is in a list that was made of three parts
 module _ (dest part : List ℕ) (at n : ℕ) (long : length part ≡ n) (fits : at ≤ length dest) where
   length-front : length (take at dest) ≡ at
   length-front = length-take-le at dest fits
@@ -31,7 +31,7 @@ module _ (dest part : List ℕ) (at n : ℕ) (long : length part ≡ n) (fits : 
       ap (drop r) (sym (append_assoc (take at dest) part (drop (at + n) dest)))
       ∙ drop-append-drop (at + n) dest (take at dest ++ part) r le (length-append (take at dest) part ∙ omega arith)
 
--- A window of len bytes at `read` stands copied at `next`; d bytes of it are taken, and the bits say where the zeros of the
+-- A window of len bytes at `read` is copied to `next`; d bytes of it are taken, and the bits say where the zeros of the
 -- others are.
 pub record MarksAt (H : List ℕ → Type 0) (source old slice : List ℕ) (end read len index next zeros d : ℕ) : Type 0 where
   pub seen : d ≤ len
@@ -96,17 +96,17 @@ module _ {H : List ℕ → Type 0} {source old slice after : List ℕ} {end read
   pub filled : index + 255 - next ≤ min (count_trailing_zeros 64 zeros) len → read + (index + 255 - next) < length source
       → Reaches H source old (set after index 255) end (read + (index + 255 - next)) (index + 255) (index + 255 + 1) (λ noted. noted ≡ true)
   filled none more =
-      let lacking : ℕ = index + 255 - next in
-      let sum : next + lacking ≡ index + 255 = omega arith in
+      let until_full : ℕ = index + 255 - next in
+      let sum : next + until_full ≡ index + 255 = omega arith in
       let l = length-window in
       let near = ap (λ (n : ℕ). min (count_trailing_zeros 64 n) len) w.bits in
       let row : List ℕ = take len (drop read source) in
-      let nonzero = subst HasNoZero (take-take lacking len (drop read source) (omega arith)) (clear_front row lacking (omega arith) (omega arith)) in
-      let here = sym (take-take lacking len (drop next after) (omega arith)) ∙ ap (take lacking) copied-here ∙ take-take lacking len (drop read source) (omega arith) in
-      let joined = Reaches-join H source old after end read index next (λ _. Unit {0}) IsNotFull lacking (omega arith) (omega arith) length-after nonzero here (λ full z p. absurd (omega arith))
+      let nonzero = subst HasNoZero (take-take until_full len (drop read source) (omega arith)) (clear_front row until_full (omega arith) (omega arith)) in
+      let here = sym (take-take until_full len (drop next after) (omega arith)) ∙ ap (take until_full) copied-here ∙ take-take until_full len (drop read source) (omega arith) in
+      let joined = Reaches-join H source old after end read index next (λ _. Unit {0}) IsNotFull until_full (omega arith) (omega arith) length-after nonzero here (λ full z p. absurd (omega arith))
       (λ z. refl) copied-reaches in
-      Reaches-full H source old after end (read + lacking) index (index + 255) IsNotFull (λ noted. noted ≡ true) more refl length-after refl
-      (subst (λ (n : ℕ). Reaches H source old after end (read + lacking) index n IsNotFull) sum joined)
+      Reaches-full H source old after end (read + until_full) index (index + 255) IsNotFull (λ noted. noted ≡ true) more refl length-after refl
+      (subst (λ (n : ℕ). Reaches H source old after end (read + until_full) index n IsNotFull) sum joined)
 
 -- a code at the next zero
 module _ {H : List ℕ → Type 0} {source old slice : List ℕ} {end read len index next zeros d : ℕ} (s : MarksAt H source old slice end read len index next zeros d) (some : zeros ≢ 0) where
@@ -184,7 +184,7 @@ marks-end {H} {source} {old} {slice} {end} {read} {len} {index} {next} {zeros} {
     let joined = Reaches-join H source old slice end (read + d) index (next + d) (λ full. 0 < d → full ≡ false) IsNotFull (len - d) (omega arith) (omega arith) fits nonzero s.here (λ full z p. p (omega arith)) (λ z. refl) s.reaches in
     grind (arith, Reaches-at, joined)
 
--- n zeros, in whose place ones stand
+-- n zeros, in whose place ones are written
 pub row-taken : {H : List ℕ → Type 0} {source old slice copied after : List ℕ} {end read len index next zeros : ℕ} → Copied H source old slice copied end read len index next zeros → (n : ℕ)
     → 0 < n → read + n ≤ length source
     → take n (drop read source) ≡ replicate n 0 → after ≡ take next (set copied index (next - index)) ++ (replicate n 1 ++ drop (next + n) (set copied index (next - index)))

@@ -129,7 +129,7 @@ module _ (m f g : List ℕ) (index code : ℕ) (o : IsOpenFrame f m index code) 
         (x, out ∙ sym (set_at (concat o.front ++ block) 1 [] x (index + 255) len)),
       )
 
--- what a caller has who carried out the answers ends with the open block
+-- what a caller has who carried out the results ends with the open block
 module _ (g : List ℕ) (state : OpenBlock) (m : List ℕ) (o : IsOpenOutput g state m) where
   pub length-IsOpenOutput : length g ≡ state.index + state.code
   length-IsOpenOutput =

@@ -26,7 +26,7 @@ pub record Opened (slice m : List ℕ) (index next : ℕ) (full : Bool) : Type 0
   pub begins : index ≡ length (concat front)
   pub place : next ≡ index + (length bytes + 1)
   pub written : take index slice ≡ concat front
-  pub stands : drop (index + 1) (take next slice) ≡ bytes
+  pub bytes_there : drop (index + 1) (take next slice) ≡ bytes
   pub noted : full ≡ ends_in_full front bytes
 
 -- the same blocks in another slice
@@ -42,11 +42,11 @@ Opened-in slice slice' m index next full front behind o = record {
   begins = o.begins;
   place = o.place;
   written = front ∙ o.written;
-  stands = behind ∙ o.stands;
+  bytes_there = behind ∙ o.bytes_there;
   noted = o.noted;
 }
 
--- what stands behind is no matter
+-- what is behind is no matter
 pub Opened-same : (slice slice' m : List ℕ) (index next : ℕ) (full : Bool) → take next slice' ≡ take next slice → Opened slice m index next full → Opened slice' m index next full
 Opened-same slice slice' m index next full same o =
     let le : index ≤ next = omega arith in
@@ -70,7 +70,7 @@ not_full-more front [] [] some = absurd (some refl)
 not_full-more front [] (x ∷ more) some = refl
 not_full-more front (b ∷ bytes) more some = refl
 
--- nonzero bytes that stand there already join the open block
+-- nonzero bytes that are there already join the open block
 pub Opened-join : (slice m more : List ℕ) (index next : ℕ) (full : Bool) → more ≢ [] → HasNoZero more → next + length more ≤ index + 255 → next + length more ≤ length slice
     → take (length more) (drop next slice) ≡ more → Opened slice m index next full → Opened slice (m ++ more) index (next + length more) false
 Opened-join slice m more index next full some nonzero short fits here o =
@@ -87,7 +87,7 @@ Opened-join slice m more index next full some nonzero short fits here o =
       begins = o.begins;
       place = omega arith;
       written = o.written;
-      stands = ap (drop (index + 1)) all ∙ drop-append-le (index + 1) (take next slice) more (omega arith) ∙ ap (λ (x : List ℕ). x ++ more) o.stands;
+      bytes_there = ap (drop (index + 1)) all ∙ drop-append-le (index + 1) (take next slice) more (omega arith) ∙ ap (λ (x : List ℕ). x ++ more) o.bytes_there;
       noted = sym (not_full-more o.front o.bytes more some);
     }
 
@@ -105,7 +105,7 @@ Opened-close slice m index next code full fits is o =
     let wrote : take next (set slice index code) ≡ concat o.front ++ block =
     take-set-lt next slice index code (omega arith) ∙ set_split (take next slice) index code (omega arith)
     ∙ ap (λ (x : List ℕ). x ++ code ∷ drop (suc index) (take next slice)) (take-take index next slice (omega arith) ∙ o.written)
-    ∙ ap (λ (n : ℕ). concat o.front ++ code ∷ drop n (take next slice)) one ∙ ap (λ (x : List ℕ). concat o.front ++ code ∷ x) o.stands
+    ∙ ap (λ (n : ℕ). concat o.front ++ code ∷ drop n (take next slice)) one ∙ ap (λ (x : List ℕ). concat o.front ++ code ∷ x) o.bytes_there
     ∙ ap (λ (n : ℕ). concat o.front ++ n ∷ o.bytes) code_is in
     let goes : m ++ joint (code ∷ []) ≡ message_of (front' ++ lone_block ∷ []) =
     ap (λ (x : List ℕ). x ++ joint (code ∷ [])) o.message ∙ ap (λ (t : Bool). message_of front' ++ (if t then [] else 0 ∷ [])) (sym same_code)
@@ -120,6 +120,6 @@ Opened-close slice m index next code full fits is o =
       begins = (let l = length-append (concat o.front) block in let b = o.begins in let e : length (concat front') ≡ length (concat o.front ++ block) = ap length (concat-push o.front block) in omega arith);
       place = refl;
       written = wrote ∙ sym (concat-push o.front block);
-      stands = drop_all (next + 1) (take (next + 1) (set slice index code)) (let l = length-take (next + 1) (set slice index code) in omega arith);
+      bytes_there = drop_all (next + 1) (take (next + 1) (set slice index code)) (let l = length-take (next + 1) (set slice index code) in omega arith);
       noted = sym same_code ∙ ap is_full (sym (last_of-push o.front block));
     }

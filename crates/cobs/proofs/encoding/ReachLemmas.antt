@@ -48,7 +48,7 @@ module _ (H : List ℕ → Type 0) (source old slice : List ℕ) (end pos index 
       let l = least source end pos index next r.ordered r.within r.room in
       grind (arith, drop-set-lt, Opened-code)
 
-  -- k bytes that stand in place join the open block
+  -- k bytes that are in place join the open block
   pub Reaches-join : (k : ℕ) → pos + k ≤ length source → next + k ≤ index + 255 → end ≤ length slice → HasNoZero (take k (drop pos source)) → take k (drop next slice) ≡ take k (drop pos source)
       → ((full : Bool) → k ≡ 0 → P full → Q full) → (0 < k → Q false) → Reaches H source old slice end pos index next P → Reaches H source old slice end (pos + k) index (next + k) Q
   Reaches-join k within short fits nonzero here none some r =

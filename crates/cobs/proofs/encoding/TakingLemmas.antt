@@ -22,7 +22,7 @@ after-some r bytes h = grind arith
 -- for the tactics of `take`
 pub ruleset short_room = (after-some, open_len-most, cases_Bool)
 
--- an encoder that has taken a message stands at a place
+-- an encoder that has taken a message is at a place
 pub after-place : (slice m : List ℕ) (r : Reached) → CobsEncoderAfter slice r m → IsPlaceIn (length slice) r
 after-place slice m r h =
     let o = h.follows.1 in

@@ -62,7 +62,7 @@ broken_piece : (parts (2 ∷ 5 ∷ 3 ∷ 1 ∷ []) ≡ (2 ∷ 5 ∷ []) ∷ (3 �
 unfolding parts parts_after output kept_output is_whole last_part
 broken_piece = (refl, refl, refl)
 
--- it comes to no message, and a whole one to a message exactly where there is room
+-- it comes to no message, and a whole one to a message exactly if there is room
 outcomes : (map (outcome_of (2 ∷ 5 ∷ 3 ∷ 1 ∷ [])) (3 ∷ 2 ∷ []) ≡ Broken 3 ∷ TooLong ∷ []) × (map (outcome_of (2 ∷ 12 ∷ [])) (1 ∷ 0 ∷ []) ≡ Message (12 ∷ []) ∷ TooLong ∷ [])
 unfolding parts parts_after output is_whole last_part outcome_of
 outcomes = (refl, refl)
@@ -116,7 +116,7 @@ fronts_no_frames = (λ (m, r). true≢false (sym (frame_whole (3 ∷ 10 ∷ []) 
 
 -- THE FIRST PIECE
 
--- what stands before the first zero; behind zeros, where a piece follows them, the two differ
+-- what is before the first zero; behind zeros, where a piece follows them, the two differ
 first_pieces : (first_piece (2 ∷ 5 ∷ 0 ∷ 9 ∷ []) ≡ Some (2 ∷ 5 ∷ [])) × (head (2 ∷ 5 ∷ 0 ∷ 9 ∷ []) ≡ 2 ∷ 5 ∷ [])
 unfolding first_piece head
 first_pieces = (refl, refl)

@@ -40,12 +40,12 @@ last_run-append bytes m h =
     let j = join_with_byte-slice_split 0 m in
     grind (arith, stretches-append, last-onto_parts, some_stretch)
 
--- what follows a full block ends in a full run exactly where all does
+-- what follows a full block ends in a full run exactly if all does
 full_run-append : (bytes k : List ℕ) → length bytes ≡ 254 → HasNoZero bytes → k ≢ [] → EndsInFullRun (bytes ++ k) ↔ EndsInFullRun k
 full_run-append bytes [] l h some = absurd (some refl)
 full_run-append bytes (x ∷ k) l h some = grind (arith, last_run-append)
 
--- CANONICAL BLOCKS END IN A FULL ONE EXACTLY WHERE THEIR MESSAGE ENDS IN A FULL RUN
+-- CANONICAL BLOCKS END IN A FULL ONE EXACTLY IF THEIR MESSAGE ENDS IN A FULL RUN
 
 ends_full : (bs : List (List ℕ)) → bs ≢ [] → All IsBlock bs → IsShorter bs → IsFull (last_of bs) ↔ EndsInFullRun (message_of bs)
 ends_full [] some h s = absurd (some refl)

@@ -5,7 +5,7 @@ use Rattle.std.proofs.lemmas.Bool.{cases_lt, eq-eqb, eqb-true}
 use Rattle.std.proofs.lemmas.List.{drop_all}
 use Rattle.std.proofs.lemmas.List.Elements.{All-head, All-tail, All-cons, All-nil, All-append, All-take, All-drop}
 use Rattle.cobs.specs.Grammar.{HasNoZero, IsBlock, bytes_of, joint, message_of, last_of, IsFrameOf, Reads}
-use Rattle.cobs.specs.Piece.{parts_after, parts, last_part, lacks, is_whole, IsWhole, output}
+use Rattle.cobs.specs.Piece.{parts_after, parts, last_part, missing, is_whole, IsWhole, output}
 
 -- THE PARTS OF A LIST
 
@@ -70,16 +70,16 @@ parts-blocks blocks h = ap parts (sym (append-nil (concat blocks))) ∙ parts-ap
 pub parts-frame : (f : List ℕ) (blocks : List (List ℕ)) → IsFrameOf f blocks → parts f ≡ blocks
 parts-frame f blocks frame = ap parts frame.whole ∙ parts-blocks blocks frame.each
 
--- the last of some blocks lacks nothing
-lacks-last : (blocks : List (List ℕ)) → All IsBlock blocks → lacks (last_of blocks) ≡ 0
-lacks-last [] h = refl
-lacks-last (block ∷ []) h = grind (arith, All-head)
-lacks-last (block ∷ next ∷ blocks) h = lacks-last (next ∷ blocks) (All-tail IsBlock block (next ∷ blocks) h)
+-- the last of some blocks is whole
+missing-last : (blocks : List (List ℕ)) → All IsBlock blocks → missing (last_of blocks) ≡ 0
+missing-last [] h = refl
+missing-last (block ∷ []) h = grind (arith, All-head)
+missing-last (block ∷ next ∷ blocks) h = missing-last (next ∷ blocks) (All-tail IsBlock block (next ∷ blocks) h)
 
 -- WHOLE PIECES
 
--- parts of which the last lacks nothing are blocks
-blocks_behind : (n : ℕ) (p : List ℕ) → HasNoZero p → All (λ b. b < 256) p → lacks (last_of (parts_after n p)) ≡ 0 → All IsBlock (parts_after n p)
+-- parts of which the last is whole are blocks
+blocks_behind : (n : ℕ) (p : List ℕ) → HasNoZero p → All (λ b. b < 256) p → missing (last_of (parts_after n p)) ≡ 0 → All IsBlock (parts_after n p)
 unfolding parts_after
 blocks_behind n [] h below whole = All-nil IsBlock
 blocks_behind (suc n) (x ∷ p) h below whole = blocks_behind n p (All-tail (λ b. b ≢ 0) x p h) (All-tail (λ b. b < 256) x p below) whole
@@ -96,7 +96,7 @@ blocks_behind zero (c ∷ p) h below whole =
 pub blocks_of_whole : (p : List ℕ) → HasNoZero p → All (λ b. b < 256) p → IsWhole p → All IsBlock (parts p)
 unfolding parts last_part is_whole
 blocks_of_whole [] h below whole = absurd (cc)
-blocks_of_whole (c ∷ p) h below whole = blocks_behind 0 (c ∷ p) h below (eqb-true (lacks (last_of (parts_after 0 (c ∷ p)))) 0 whole)
+blocks_of_whole (c ∷ p) h below whole = blocks_behind 0 (c ∷ p) h below (eqb-true (missing (last_of (parts_after 0 (c ∷ p)))) 0 whole)
 
 -- A FRAME READS AS ITS OUTPUT
 
@@ -119,10 +119,10 @@ module _ (f m : List ℕ) (r : Reads f m) where
   pub frame_nonzero : HasNoZero f
   frame_nonzero = subst HasNoZero (sym r.frame.whole) (concat_nonzero r.blocks r.frame.each)
 
-  -- the last part of a frame lacks nothing
+  -- the last part of a frame is whole
   pub frame_whole : IsWhole f
   unfolding last_part is_whole
-  frame_whole = grind (arith, frame_some, parts-frame, lacks-last, eq-eqb)
+  frame_whole = grind (arith, frame_some, parts-frame, missing-last, eq-eqb)
 
   -- it reads as its output
   pub frame_output : m ≡ output f

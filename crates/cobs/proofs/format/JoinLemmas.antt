@@ -45,7 +45,7 @@ message_of-front first (b ∷ rest) some = (
   message_of-append first (b ∷ rest) some (λ e. cc) ∙ append_assoc (message_of first) (joint (last_of first)) (message_of (b ∷ rest)),
 )
 
--- a front is a frame exactly where it ends at a block's end
+-- a front is a frame exactly if it ends at a block's end
 pub front_frame : (p q m : List ℕ) (r : Reads (p ++ q) m) → p ≢ [] → IsFrame p ↔ EndsAtBlock p r.blocks
 front_frame p q m r some = (
   λ (k, s). (s.blocks, parts q, first_blocks p q r.blocks s.blocks r.frame s.frame, s.frame.whole),

@@ -5,7 +5,7 @@ use Rattle.std.proofs.lemmas.Bool.{cases_Bool, eq-eqb, eqb-true, ne_eqb}
 use Rattle.std.proofs.lemmas.List.Elements.{All-head, All-tail, All-take}
 use Rattle.cobs.specs.Grammar.{HasNoZero, IsBlock, IsFrame, IsCanonical, Reads, code_of, is_full, last_of, lone_block, message_of}
 use Rattle.cobs.specs.Piece.{last_part, output}
-use Rattle.cobs.specs.Internal.Decoded.{IsFlat}
+use Rattle.cobs.specs.Internal.DecodedUpTo.{IsFlat}
 use Rattle.cobs.specs.declared.dec.blocks.FrameKind.{FrameKind}
 use Rattle.cobs.specs.declared.dec.blocks.FrameKind.TheVariants.{NotAFrame, Canonical, Longer}
 use Rattle.cobs.proofs.format.FrameLemmas.{All-apart, parts-frame, frame_some, reads_output}
@@ -36,14 +36,14 @@ says f kind h = record { not_a_frame = grind (arith, frame_of); canonical = grin
 
 -- FRONT BY FRONT
 
--- blocks stand in front of `rest`, of which the last is full or not
+-- blocks are in front of `rest`, of which the last is full or not
 pub record BlocksBehind (f rest : List ℕ) (after_full : Bool) : Type 0 where
   pub nonzero : HasNoZero rest
   pub below : All (λ b. b < 256) rest
   pub frame : IsFrame f ↔ IsFrame rest
   pub canonical : IsCanonical f ↔ (IsCanonical rest × (after_full ≡ true → rest ≢ lone_block))
 
--- nothing stands behind them, or a broken block
+-- nothing is behind them, or a broken block
 pub broken-kind : (f rest : List ℕ) (t : Bool) → BlocksBehind f rest t → (0 < length rest → length rest < get_or rest 0 0) → IsKindOf NotAFrame f
 broken-kind f [] t i broken = λ frame. (let h = i.frame.0 frame in frame_some [] h.0 h.1 refl)
 broken-kind f (code ∷ bytes) t i broken = λ frame. short-frame code bytes (let b = broken (omega arith) in omega arith) (i.frame.0 frame)

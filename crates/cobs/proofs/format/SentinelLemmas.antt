@@ -8,7 +8,7 @@ use Rattle.cobs.specs.Grammar.{HasNoZero, IsEncodedFrame, IsFrame}
 use Rattle.cobs.specs.Sentinel.{xor_each, IsEncodedFrameFor, IsDelimitedFrame, IsFreeOf, between_ends}
 use Rattle.cobs.proofs.format.FrameLemmas.{frame_nonzero}
 
--- exclusive or with the same byte twice changes nothing
+-- XOR with the same byte twice changes nothing
 pub xor_twice : (b s : ℕ) → bit_xor (bit_xor b s) s ≡ b
 xor_twice b s = xor_assoc b s s ∙ ap (bit_xor b) (xor_self s) ∙ xor_zero_r b
 
@@ -16,7 +16,7 @@ pub xor_each-twice : (s : ℕ) (f : List ℕ) → xor_each s (xor_each s f) ≡ 
 xor_each-twice s [] = refl
 xor_each-twice s (b ∷ f) = ap (λ (x : ℕ). x ∷ xor_each s (xor_each s f)) (xor_twice b s) ∙ ap (λ (l : List ℕ). b ∷ l) (xor_each-twice s f)
 
--- exclusive or with 0 changes nothing
+-- XOR with 0 changes nothing
 pub xor_each-zero : (f : List ℕ) → xor_each 0 f ≡ f
 xor_each-zero [] = refl
 xor_each-zero (b ∷ f) = ap (λ (x : ℕ). x ∷ xor_each 0 f) (xor_zero_r b) ∙ ap (λ (l : List ℕ). b ∷ l) (xor_each-zero f)
@@ -37,7 +37,7 @@ coded_nonzero f s free =
 pub encoded_nonzero : {f m : List ℕ} → IsEncodedFrame f m → HasNoZero f
 encoded_nonzero {f} {m} e = frame_nonzero f m e.reads
 
--- the sentinel stands in no frame for it
+-- the sentinel is in no frame for it
 pub no_sentinel : (f : List ℕ) (s : ℕ) → IsFrame f → IsFreeOf s (xor_each s f)
 no_sentinel f s (m, r) = All-map (λ b. b ≢ s) (λ b. bit_xor b s) f
     (All-weaker (λ b. b ≢ 0) (λ b. bit_xor b s ≢ s) (λ b some is. some (sym (xor_twice b s) ∙ ap (λ (x : ℕ). bit_xor x s) is ∙ xor_self s)) f (frame_nonzero f m r))

@@ -135,7 +135,7 @@ nonempty-push : (p : List ℕ) (b : ℕ) → is_nonempty (p ++ b ∷ []) ≡ tru
 nonempty-push [] b = refl
 nonempty-push (c ∷ p) b = refl
 
--- something is unended behind a byte exactly where the byte is no zero
+-- something is unended behind a byte exactly if the byte is no zero
 pub nonempty-unended_push : (t : List ℕ) (b : ℕ) → not (eqb b 0) ≡ is_nonempty (unended (t ++ b ∷ []))
 nonempty-unended_push t b = grind (arith, unended-push, ne_eqb, fed-nonzero, nonempty-push)
 
@@ -154,7 +154,7 @@ unended-at_sentinel : (t : List ℕ) → IsAtSentinel t → unended t ≡ []
 unended-at_sentinel t (inl none) = ap unended none ∙ unended-no_zero [] (All-nil (λ x. x ≢ 0))
 unended-at_sentinel t (inr (front, ends)) = ap unended ends ∙ unended-zero front
 
--- what stands in front of a sentinel, up to the next one, and behind that one has its outcomes by itself
+-- what is in front of a sentinel, up to the next one, and behind that one has its outcomes by itself
 pub stream_outcomes-apart : (a d z : List ℕ) (n : ℕ) → IsAtSentinel a → stream_outcomes (a ++ d ++ 0 ∷ z) n ≡ stream_outcomes a n ++ stream_outcomes (d ++ 0 ∷ []) n ++ stream_outcomes z n
 stream_outcomes-apart a d z n h =
     let cut = stream_outcomes-append (a ++ d ++ 0 ∷ []) z n in

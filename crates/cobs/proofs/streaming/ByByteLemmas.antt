@@ -3,7 +3,7 @@ use Rattle.std.proofs.Common.{◌≡◌, ◌≢◌, ℕ, ◌+◌, ◌<◌, ◌�
 use Rattle.std.proofs.lemmas.Bool.{cases_eq, eq-eqb, ne_eqb}
 use Rattle.std.proofs.lemmas.List.{append-nil, take_more}
 use Rattle.cobs.specs.Feed.{Phase, PhaseAfter, DecoderAfter, Feeds}
-use Rattle.cobs.specs.FeedPiece.{IsWithin, TakesBytes, TakesPiece, end_told, outcome_at}
+use Rattle.cobs.specs.FeedPiece.{IsWithin, TakesBytes, TakesPiece, end_reported, outcome_at}
 use Rattle.cobs.specs.Stream.{unended, stream_outcomes}
 use Rattle.cobs.specs.Push.{last_piece}
 use Rattle.cobs.specs.Overwritten.{overwritten}
@@ -12,16 +12,16 @@ use Rattle.cobs.specs.declared.dec.DecodeError.{DecodeError}
 use Rattle.cobs.specs.declared.dec.frame_decoder.PieceEnd.{PieceEnd}
 use Rattle.cobs.proofs.format.StreamLemmas.{fed-nonzero, unended-push, unended-no_zero, ended_pieces-no_zero}
 use Rattle.cobs.proofs.streaming.LastPiece.{begun, drop-later, output-longer, last_piece-unended, last_piece-zero, ended_pieces-nonzero}
-use Rattle.cobs.proofs.streaming.SoFar.{SoFar-start, SoFar-more, TakesBytes-byte, outcome_told, told_by, count-within, here, nil-alike, no_outcomes}
+use Rattle.cobs.proofs.streaming.SoFar.{SoFar-start, SoFar-more, TakesBytes-byte, outcome_reported, reported_by, count-within, here, nil-alike, no_outcomes}
 
--- THE ANSWER TO A ZERO
+-- THE RESULT FOR A ZERO
 
-told-none : (result : Result (Option ℕ) DecodeError) (buffer : List ℕ) → end_told result ≡ None → outcome_told result buffer ≡ []
-told-none result buffer e = grind arith
+stated-none : (result : Result (Option ℕ) DecodeError) (buffer : List ℕ) → end_reported result ≡ None → outcome_reported result buffer ≡ []
+stated-none result buffer e = grind arith
 
-told-some : (result : Result (Option ℕ) DecodeError) (buffer : List ℕ) (end : PieceEnd) → end_told result ≡ Some end → IfOk result (λ found. IfSome found (λ n. n ≤ length buffer))
-    → (outcome_told result buffer ≡ outcome_at end buffer ∷ []) × IsWithin (length buffer) end
-told-some result buffer end e bound = grind arith
+stated-some : (result : Result (Option ℕ) DecodeError) (buffer : List ℕ) (end : PieceEnd) → end_reported result ≡ Some end → IfOk result (λ found. IfSome found (λ n. n ≤ length buffer))
+    → (outcome_reported result buffer ≡ outcome_at end buffer ∷ []) × IsWithin (length buffer) end
+stated-some result buffer end e bound = grind arith
 
 -- THE BYTES SO FAR
 
@@ -78,13 +78,13 @@ module _ {buffer₀ buffer buffer' : List ℕ} {phase₀ phase phase' : Phase} {
   pub holds_behind : (p : List ℕ) → DecoderAfter buffer₀ phase₀ p → buffer' ≡ overwritten buffer₀ (output (last_piece (p ++ take (i + 1) bytes)))
   holds_behind p h = begun (output (last_piece (p ++ take (i + 1) bytes))) buffer₀ buffer' (f.len ∙ t.takes.len) (begins_behind p h) (untouched_behind p h.phased)
 
-  pub takes_behind : TakesBytes buffer₀ phase₀ (take (i + 1) bytes) (told_by (get_or bytes i 0) result buffer') buffer' phase'
+  pub takes_behind : TakesBytes buffer₀ phase₀ (take (i + 1) bytes) (reported_by (get_or bytes i 0) result buffer') buffer' phase'
   takes_behind = rw (take_more bytes i 0 inside) (SoFar-more t.takes (TakesBytes-byte f))
 
   -- it ends no piece
-  pub piece-more : (get_or bytes i 0 ≡ 0 → end_told result ≡ None) → TakesPiece buffer₀ phase₀ (take (i + 1) bytes) None buffer' phase'
+  pub piece-more : (get_or bytes i 0 ≡ 0 → end_reported result ≡ None) → TakesPiece buffer₀ phase₀ (take (i + 1) bytes) None buffer' phase'
   piece-more none = record {
-    takes = subst (λ told. TakesBytes buffer₀ phase₀ (take (i + 1) bytes) told buffer' phase') nothing takes_behind;
+    takes = subst (λ stated. TakesBytes buffer₀ phase₀ (take (i + 1) bytes) stated buffer' phase') nothing takes_behind;
     ends = tt;
     holds = holds_behind;
     untouched = untouched_behind;
@@ -93,15 +93,15 @@ module _ {buffer₀ buffer buffer' : List ℕ} {phase₀ phase phase' : Phase} {
     within = tt;
   }
     where
-      nothing : told_by (get_or bytes i 0) result buffer' ≡ []
-      nothing = grind (arith, cases_eq, eq-eqb, ne_eqb, told-none)
+      nothing : reported_by (get_or bytes i 0) result buffer' ≡ []
+      nothing = grind (arith, cases_eq, eq-eqb, ne_eqb, stated-none)
 
   -- it ends a piece
-  pub piece-ended : (end : PieceEnd) → get_or bytes i 0 ≡ 0 → end_told result ≡ Some end → TakesPiece buffer₀ phase₀ bytes (Some (end, i + 1)) buffer' phase'
+  pub piece-ended : (end : PieceEnd) → get_or bytes i 0 ≡ 0 → end_reported result ≡ Some end → TakesPiece buffer₀ phase₀ bytes (Some (end, i + 1)) buffer' phase'
   piece-ended end z is =
-      let e = told-some result buffer' end is (rw f.len f.bound) in
-      let told : told_by (get_or bytes i 0) result buffer' ≡ outcome_at end buffer' ∷ [] = rw (eq-eqb _ 0 z) e.0 in
-      let takes = subst (λ told. TakesBytes buffer₀ phase₀ (take (i + 1) bytes) told buffer' phase') told takes_behind in
+      let e = stated-some result buffer' end is (rw f.len f.bound) in
+      let stated : reported_by (get_or bytes i 0) result buffer' ≡ outcome_at end buffer' ∷ [] = rw (eq-eqb _ 0 z) e.0 in
+      let takes = subst (λ stated. TakesBytes buffer₀ phase₀ (take (i + 1) bytes) stated buffer' phase') stated takes_behind in
       let fits = subst (λ n. IsWithin n end) (f.len ∙ t.takes.len) e.1 in
       record {
         takes = takes;
@@ -119,10 +119,10 @@ module _ {buffer₀ buffer buffer' : List ℕ} {phase₀ phase phase' : Phase} {
 
 pub piece-byte : (bytes buffer between buffer' : List ℕ) (phase phase_between phase' : Phase) (result : Result (Option ℕ) DecodeError) (i : ℕ) → i < length bytes
     → TakesPiece buffer phase (take i bytes) None between phase_between → Feeds between phase_between (get_or bytes i 0) result buffer' phase'
-    → (get_or bytes i 0 ≡ 0 → end_told result ≡ None) → TakesPiece buffer phase (take (i + 1) bytes) None buffer' phase'
+    → (get_or bytes i 0 ≡ 0 → end_reported result ≡ None) → TakesPiece buffer phase (take (i + 1) bytes) None buffer' phase'
 piece-byte bytes _ _ _ _ _ _ result i inside t f none = piece-more bytes i inside t f none
 
 pub piece-end : (bytes buffer between buffer' : List ℕ) (phase phase_between phase' : Phase) (result : Result (Option ℕ) DecodeError) (end : PieceEnd) (i : ℕ) → i < length bytes
     → TakesPiece buffer phase (take i bytes) None between phase_between → Feeds between phase_between (get_or bytes i 0) result buffer' phase'
-    → get_or bytes i 0 ≡ 0 → end_told result ≡ Some end → TakesPiece buffer phase bytes (Some (end, i + 1)) buffer' phase'
+    → get_or bytes i 0 ≡ 0 → end_reported result ≡ Some end → TakesPiece buffer phase bytes (Some (end, i + 1)) buffer' phase'
 piece-end bytes _ _ _ _ _ _ result end i inside t f z is = piece-ended bytes i inside t f end z is

@@ -4,22 +4,22 @@ use Rattle.std.proofs.lemmas.List.{take_all, take-append-le, append-nil, length_
 use Rattle.std.proofs.lemmas.List.Elements.{All-push, All-nil}
 use Rattle.std.proofs.lemmas.Bool.{cases_lt, cond-true, cond-false, ne_eqb, le-leb, leb-true, lt-leb}
 use Rattle.cobs.specs.Grammar.{HasNoZero, is_full}
-use Rattle.cobs.specs.Piece.{lacks, output, last_part, is_whole}
+use Rattle.cobs.specs.Piece.{missing, output, last_part, is_whole}
 use Rattle.cobs.specs.Stream.{outcome_of, TooLong}
-use Rattle.cobs.specs.Feed.{Phase, Idle, Within, Over, phase_after, PhaseAfter, DecoderAfter, fed, answer_at_end, answer_to, Feeds}
-use Rattle.cobs.specs.Step.{grows, next_phase, next_buffer, if_over, end_answer, next_answer}
+use Rattle.cobs.specs.Feed.{Phase, Idle, Within, Overlong, phase_after, PhaseAfter, DecoderAfter, fed, result_at_end, result_for, Feeds}
+use Rattle.cobs.specs.Step.{grows, next_phase, next_buffer, error_if_overlong, end_result, next_result}
 use Rattle.cobs.specs.declared.dec.DecodeError.{DecodeError}
 use Rattle.cobs.specs.declared.dec.DecodeError.TheVariants.{TargetBufTooSmall}
 use Rattle.std.specs.Prelude.{IfOk, IfSome}
 use Rattle.std.proofs.lemmas.Grind.{common_steps}
 use Rattle.cobs.proofs.format.StreamLemmas.{fed-nonzero}
 use Rattle.cobs.proofs.streaming.LastPiece.{output-longer}
-use Rattle.cobs.proofs.streaming.TableLemmas.{answer_by_table, output-nil, phase_by_table}
-use Rattle.cobs.proofs.decoding.PieceLemmas.{output-one, last_part-one, output-push_more, output-push_next, last_part-push_next, lacks-push_more, is_full-push_more, output-push}
+use Rattle.cobs.proofs.streaming.TableLemmas.{returned_by_table, output-nil, phase_by_table}
+use Rattle.cobs.proofs.decoding.PieceLemmas.{output-one, last_part-one, output-push_more, output-push_next, last_part-push_next, missing-push_more, is_full-push_more, output-push}
 
 -- the phase behind a piece, from what is known of the piece
-phase_after-is : (c : ℕ) (q : List ℕ) (n : ℕ) (full : Bool) (left count : ℕ) → is_full (last_part (c ∷ q)) ≡ full → lacks (last_part (c ∷ q)) ≡ left → length (output (c ∷ q)) ≡ count
-    → phase_after (c ∷ q) n ≡ cond (leb count n) (Within full left count) Over
+phase_after-is : (c : ℕ) (q : List ℕ) (n : ℕ) (full : Bool) (left count : ℕ) → is_full (last_part (c ∷ q)) ≡ full → missing (last_part (c ∷ q)) ≡ left → length (output (c ∷ q)) ≡ count
+    → phase_after (c ∷ q) n ≡ cond (leb count n) (Within full left count) Overlong
 unfolding phase_after
 phase_after-is c q n full left count f l o = grind arith
 
@@ -30,23 +30,23 @@ next_phase-zero n phase = grind arith
 next_buffer-zero : (buffer : List ℕ) (phase : Phase) → next_buffer buffer phase 0 ≡ buffer
 next_buffer-zero buffer phase = grind arith
 
-grows-is : (n : ℕ) (full : Bool) (left count : ℕ) → grows n full left count ≡ cond (leb (count + 1) n) (Within full left (count + 1)) Over
+grows-is : (n : ℕ) (full : Bool) (left count : ℕ) → grows n full left count ≡ cond (leb (count + 1) n) (Within full left (count + 1)) Overlong
 grows-is n full left count = rw add-one refl
 
 nonzero : (b : ℕ) → 0 < b → eqb b 0 ≡ false
 nonzero b h = ne_eqb b 0 (λ e. omega arith)
 
 -- within a part
-within_step : (n c : ℕ) (q : List ℕ) (b : ℕ) (full : Bool) (left : ℕ) → is_full (last_part (c ∷ q)) ≡ full → lacks (last_part (c ∷ q)) ≡ left → 0 < b → length (output (c ∷ q)) ≤ n
+within_step : (n c : ℕ) (q : List ℕ) (b : ℕ) (full : Bool) (left : ℕ) → is_full (last_part (c ∷ q)) ≡ full → missing (last_part (c ∷ q)) ≡ left → 0 < b → length (output (c ∷ q)) ≤ n
     → next_phase n (Within full left (length (output (c ∷ q)))) b ≡ phase_after (c ∷ q ++ b ∷ []) n
-within_step n c q b full (suc left) f l h fits = grind (arith, nonzero, grows-is, phase_after-is, is_full-push_more (c ∷ q) b, lacks-push_more (c ∷ q) b, output-push_more (c ∷ q) b, length_push)
+within_step n c q b full (suc left) f l h fits = grind (arith, nonzero, grows-is, phase_after-is, is_full-push_more (c ∷ q) b, missing-push_more (c ∷ q) b, output-push_more (c ∷ q) b, length_push)
 within_step n c q b true zero f l h fits = grind (arith, nonzero, phase_after-is, last_part-push_next, output-push_next, append-nil, cond-true, le-leb)
 within_step n c q b false zero f l h fits = grind (arith, nonzero, grows-is, phase_after-is, last_part-push_next, output-push_next, length_push)
 
-fits_phase : (c : ℕ) (q : List ℕ) (n : ℕ) → length (output (c ∷ q)) ≤ n → phase_after (c ∷ q) n ≡ Within (is_full (last_part (c ∷ q))) (lacks (last_part (c ∷ q))) (length (output (c ∷ q)))
+fits_phase : (c : ℕ) (q : List ℕ) (n : ℕ) → length (output (c ∷ q)) ≤ n → phase_after (c ∷ q) n ≡ Within (is_full (last_part (c ∷ q))) (missing (last_part (c ∷ q))) (length (output (c ∷ q)))
 fits_phase c q n h = grind (arith, phase_after-is, cond-true, le-leb)
 
-over_phase : (c : ℕ) (q : List ℕ) (n : ℕ) → n < length (output (c ∷ q)) → phase_after (c ∷ q) n ≡ Over
+over_phase : (c : ℕ) (q : List ℕ) (n : ℕ) → n < length (output (c ∷ q)) → phase_after (c ∷ q) n ≡ Overlong
 over_phase c q n h = grind (arith, phase_after-is, cond-false, lt-leb)
 
 -- the phase behind one more byte
@@ -59,32 +59,32 @@ phase-step : (n : ℕ) (p : List ℕ) (b : ℕ) → next_phase n (phase_after p 
 unfolding phase_after
 phase-step n p b = grind (arith, next_phase-zero, nonzero_step, fed-nonzero)
 
--- ANSWERS
+-- RESULTS
 
-answer_within : (n c : ℕ) (q : List ℕ) (left : ℕ) → lacks (last_part (c ∷ q)) ≡ left → length (output (c ∷ q)) ≤ n
-    → end_answer n (Within (is_full (last_part (c ∷ q))) left (length (output (c ∷ q)))) ≡ answer_at_end (c ∷ q) n
-unfolding answer_at_end outcome_of is_whole
-answer_within n c q left h e = grind (arith, cond-true, le-leb, nonzero)
+result_within : (n c : ℕ) (q : List ℕ) (left : ℕ) → missing (last_part (c ∷ q)) ≡ left → length (output (c ∷ q)) ≤ n
+    → end_result n (Within (is_full (last_part (c ∷ q))) left (length (output (c ∷ q)))) ≡ result_at_end (c ∷ q) n
+unfolding result_at_end outcome_of is_whole
+result_within n c q left h e = grind (arith, cond-true, le-leb, nonzero)
 
 too_long : (c : ℕ) (q : List ℕ) (n : ℕ) → n < length (output (c ∷ q)) → outcome_of (c ∷ q) n ≡ TooLong
 unfolding outcome_of
 too_long c q n more = cond-false _ _ _ (lt-leb _ _ more)
 
-end_answer-is : (n : ℕ) (p : List ℕ) → end_answer n (phase_after p n) ≡ answer_at_end p n
-unfolding phase_after answer_at_end
-end_answer-is n p = grind (arith, cases_lt, over_phase, too_long, fits_phase, answer_within)
+end_result-is : (n : ℕ) (p : List ℕ) → end_result n (phase_after p n) ≡ result_at_end p n
+unfolding phase_after result_at_end
+end_result-is n p = grind (arith, cases_lt, over_phase, too_long, fits_phase, result_within)
 
-if_over-is : (c : ℕ) (q : List ℕ) (n : ℕ) → if_over (phase_after (c ∷ q) n) ≡ cond (leb (length (output (c ∷ q))) n) (Ok None) (Err TargetBufTooSmall)
+error_if_overlong-is : (c : ℕ) (q : List ℕ) (n : ℕ) → error_if_overlong (phase_after (c ∷ q) n) ≡ cond (leb (length (output (c ∷ q))) n) (Ok None) (Err TargetBufTooSmall)
 unfolding phase_after
-if_over-is c q n = elim (leb (length (output (c ∷ q))) n) as (λ v. if_over (cond v (Within (is_full (last_part (c ∷ q))) (lacks (last_part (c ∷ q))) (length (output (c ∷ q)))) Over) ≡ cond v (Ok None) (Err TargetBufTooSmall)) [ true ↦ refl | false ↦ refl ]
+error_if_overlong-is c q n = elim (leb (length (output (c ∷ q))) n) as (λ v. error_if_overlong (cond v (Within (is_full (last_part (c ∷ q))) (missing (last_part (c ∷ q))) (length (output (c ∷ q)))) Overlong) ≡ cond v (Ok None) (Err TargetBufTooSmall)) [ true ↦ refl | false ↦ refl ]
 
-if_over-push : (p : List ℕ) (b n : ℕ) → if_over (phase_after (p ++ b ∷ []) n) ≡ cond (leb (length (output (p ++ b ∷ []))) n) (Ok None) (Err TargetBufTooSmall)
-if_over-push [] b n = if_over-is b [] n
-if_over-push (c ∷ q) b n = if_over-is c (q ++ b ∷ []) n
+error_if_overlong-push : (p : List ℕ) (b n : ℕ) → error_if_overlong (phase_after (p ++ b ∷ []) n) ≡ cond (leb (length (output (p ++ b ∷ []))) n) (Ok None) (Err TargetBufTooSmall)
+error_if_overlong-push [] b n = error_if_overlong-is b [] n
+error_if_overlong-push (c ∷ q) b n = error_if_overlong-is c (q ++ b ∷ []) n
 
-answer_to-step : (n : ℕ) (p : List ℕ) (b : ℕ) → next_answer n (phase_after p n) b ≡ answer_to p b n
-unfolding answer_to
-answer_to-step n p b = grind (arith, end_answer-is, nonzero, nonzero_step, if_over-push)
+result_for-step : (n : ℕ) (p : List ℕ) (b : ℕ) → next_result n (phase_after p n) b ≡ result_for p b n
+unfolding result_for
+result_for-step n p b = grind (arith, end_result-is, nonzero, nonzero_step, error_if_overlong-push)
 
 -- BUFFERS
 
@@ -101,7 +101,7 @@ begins-over buffer o more h e = grind (arith, take_all, length-append, take-appe
 begins-push : (buffer o : List ℕ) (w : ℕ) → Begins buffer o → Begins (set buffer (length o) w) (o ++ w ∷ [])
 begins-push buffer o w e = grind (arith, cases_lt, length_push, take_more_set, take_all, length-set, set_past, begins-over)
 
-begins_within : (buffer : List ℕ) (c : ℕ) (q : List ℕ) (b : ℕ) (full : Bool) (left : ℕ) → is_full (last_part (c ∷ q)) ≡ full → lacks (last_part (c ∷ q)) ≡ left → 0 < b
+begins_within : (buffer : List ℕ) (c : ℕ) (q : List ℕ) (b : ℕ) (full : Bool) (left : ℕ) → is_full (last_part (c ∷ q)) ≡ full → missing (last_part (c ∷ q)) ≡ left → 0 < b
     → Begins buffer (output (c ∷ q)) → Begins (next_buffer buffer (Within full left (length (output (c ∷ q)))) b) (output (c ∷ q ++ b ∷ []))
 begins_within buffer c q b full (suc left) f l h e = grind (arith, output-push_more (c ∷ q) b, nonzero, begins-push)
 begins_within buffer c q b true zero f l h e = grind (arith, output-push_next, append-nil)
@@ -128,14 +128,14 @@ piece-fed p (suc b) h = rw (fed-nonzero p (suc b) (λ e. omega arith)) (All-push
 pub PhaseAfter-step : (n : ℕ) (phase : Phase) (p : List ℕ) (b : ℕ) → PhaseAfter n phase p → PhaseAfter n (next_phase n phase b) (fed p b)
 PhaseAfter-step n phase p b h = record { piece = piece-fed p b h.piece; phase_is = ap (λ (x : Phase). next_phase n x b) h.phase_is ∙ phase-step n p b }
 
-pub PhaseAfter-answer_to : (n : ℕ) (phase : Phase) (p : List ℕ) (b : ℕ) → PhaseAfter n phase p → next_answer n phase b ≡ answer_to p b n
-PhaseAfter-answer_to n phase p b h = ap (λ (x : Phase). next_answer n x b) h.phase_is ∙ answer_to-step n p b
+pub PhaseAfter-result_for : (n : ℕ) (phase : Phase) (p : List ℕ) (b : ℕ) → PhaseAfter n phase p → next_result n phase b ≡ result_for p b n
+PhaseAfter-result_for n phase p b h = ap (λ (x : Phase). next_result n x b) h.phase_is ∙ result_for-step n p b
 
 pub DecoderAfter-step : (buffer : List ℕ) (phase : Phase) (p : List ℕ) (b : ℕ) → DecoderAfter buffer phase p → DecoderAfter (next_buffer buffer phase b) (next_phase (length buffer) phase b) (fed p b)
 DecoderAfter-step buffer phase p b h =
     grind (arith, common_steps, length-next_buffer, PhaseAfter-step, begins-step)
 
-untouched_within : (buffer : List ℕ) (c : ℕ) (q : List ℕ) (b : ℕ) (full : Bool) (left : ℕ) → is_full (last_part (c ∷ q)) ≡ full → lacks (last_part (c ∷ q)) ≡ left → 0 < b
+untouched_within : (buffer : List ℕ) (c : ℕ) (q : List ℕ) (b : ℕ) (full : Bool) (left : ℕ) → is_full (last_part (c ∷ q)) ≡ full → missing (last_part (c ∷ q)) ≡ left → 0 < b
     → drop (length (output (c ∷ q ++ b ∷ []))) (next_buffer buffer (Within full left (length (output (c ∷ q)))) b) ≡ drop (length (output (c ∷ q ++ b ∷ []))) buffer
 untouched_within buffer c q b full (suc left) f l h = grind (arith, output-push_more (c ∷ q) b, nonzero, drop-set-lt, length_push)
 untouched_within buffer c q b true zero f l h = refl
@@ -156,26 +156,26 @@ pub DecoderAfter-idle : (buffer : List ℕ) (phase : Phase) → phase ≡ Idle �
 unfolding phase_after
 DecoderAfter-idle buffer phase e = grind (arith, All-nil, output-nil, begins-nil)
 
--- no more bytes are told than the buffer has
-answer-bound : (n : ℕ) (phase : Phase) (byte : ℕ) → IfOk (next_answer n phase byte) (λ found. IfSome found (λ k. k ≤ n))
-answer-bound n phase byte = grind (arith, leb-true)
+-- no more bytes are reported than the buffer has
+result-bound : (n : ℕ) (phase : Phase) (byte : ℕ) → IfOk (next_result n phase byte) (λ found. IfSome found (λ k. k ≤ n))
+result-bound n phase byte = grind (arith, leb-true)
 
 -- the machine feeds a byte
-pub Feeds-step : (buffer : List ℕ) (phase : Phase) (b : ℕ) → let n = length buffer in Feeds buffer phase b (next_answer n phase b) (next_buffer buffer phase b) (next_phase n phase b)
+pub Feeds-step : (buffer : List ℕ) (phase : Phase) (b : ℕ) → let n = length buffer in Feeds buffer phase b (next_result n phase b) (next_buffer buffer phase b) (next_phase n phase b)
 Feeds-step buffer phase b = record {
-  answer = λ p h. PhaseAfter-answer_to (length buffer) phase p b h;
+  returned = λ p h. PhaseAfter-result_for (length buffer) phase p b h;
   phased = λ p h. PhaseAfter-step (length buffer) phase p b h;
   after = λ p h. DecoderAfter-step buffer phase p b h;
   untouched = λ p h nz. PhaseAfter-untouched buffer phase p b h nz;
   zero_idle = λ e. rw e (next_phase-zero (length buffer) phase);
   zero_unchanged = λ e. rw e (next_buffer-zero buffer phase);
   by_table = λ state e going. phase_by_table (length buffer) phase b state e going;
-  answered_by_table = λ state e. answer_by_table (length buffer) phase b state e;
-  bound = answer-bound (length buffer) phase b;
+  result_by_table = λ state e. returned_by_table (length buffer) phase b state e;
+  bound = result-bound (length buffer) phase b;
   len = length-next_buffer buffer phase b;
 }
 
 -- whatever does what the machine does feeds the byte
-pub Feeds-as : {buffer buffer' : List ℕ} {phase phase' : Phase} {b : ℕ} {result : Result (Option ℕ) DecodeError} → result ≡ next_answer (length buffer) phase b → phase' ≡ next_phase (length buffer) phase b
+pub Feeds-as : {buffer buffer' : List ℕ} {phase phase' : Phase} {b : ℕ} {result : Result (Option ℕ) DecodeError} → result ≡ next_result (length buffer) phase b → phase' ≡ next_phase (length buffer) phase b
     → buffer' ≡ next_buffer buffer phase b → Feeds buffer phase b result buffer' phase'
-Feeds-as {buffer} {buffer'} {phase} {phase'} {b} answer phase_is buffer_is = rw (answer, phase_is, buffer_is) (Feeds-step buffer phase b)
+Feeds-as {buffer} {buffer'} {phase} {phase'} {b} returned phase_is buffer_is = rw (returned, phase_is, buffer_is) (Feeds-step buffer phase b)

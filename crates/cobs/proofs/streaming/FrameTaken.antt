@@ -5,7 +5,7 @@ use Rattle.std.proofs.lemmas.List.{take-append-le, take-take}
 use Rattle.std.proofs.lemmas.List.Elements.{All-take}
 use Rattle.cobs.specs.Grammar.{Reads}
 use Rattle.cobs.specs.Stream.{Outcome, Message, outcome_of, stream_outcomes, unended}
-use Rattle.cobs.specs.Feed.{Phase, Idle, DecoderAfter, Feeds, answer_at_end, answer_to, told}
+use Rattle.cobs.specs.Feed.{Phase, Idle, DecoderAfter, Feeds, result_at_end, result_for, fed_result}
 use Rattle.cobs.specs.FeedPiece.{IsWithin, TakesPiece, outcome_at}
 use Rattle.cobs.specs.Headline.{IsPiece}
 use Rattle.cobs.specs.declared.dec.DecodeError.{DecodeError}
@@ -27,26 +27,26 @@ message_fits f m n r e = grind (arith, cases_lt, outcome_of_long, (frame_output 
 
 -- A ZERO THAT IS FED
 
-answer_is : (f m : List ℕ) (n : ℕ) → Reads f m → length m ≤ n → answer_to f 0 n ≡ Ok (Some (length m))
-unfolding answer_to answer_at_end
-answer_is [] m n r fits = absurd ((frame_piece r).0 refl)
-answer_is (b ∷ f) m n r fits = ap told (outcome_frame (b ∷ f) m n r fits)
+result_is : (f m : List ℕ) (n : ℕ) → Reads f m → length m ≤ n → result_for f 0 n ≡ Ok (Some (length m))
+unfolding result_for result_at_end
+result_is [] m n r fits = absurd ((frame_piece r).0 refl)
+result_is (b ∷ f) m n r fits = ap fed_result (outcome_frame (b ∷ f) m n r fits)
 
-message_told : (f : List ℕ) (n k : ℕ) → Ok (Some k) ≡ answer_to f 0 n → (m : List ℕ) × (f ≢ []) × (outcome_of f n ≡ Message m) × (k ≡ length m)
-unfolding answer_to answer_at_end
-message_told f n k h = grind arith
+message_reported : (f : List ℕ) (n k : ℕ) → Ok (Some k) ≡ result_for f 0 n → (m : List ℕ) × (f ≢ []) × (outcome_of f n ≡ Message m) × (k ≡ length m)
+unfolding result_for result_at_end
+message_reported f n k h = grind arith
 
 module _ {buffer buffer' f : List ℕ} {phase phase' : Phase} {result : Result (Option ℕ) DecodeError} (w : Feeds buffer phase 0 result buffer' phase') (h : DecoderAfter buffer phase f) where
-  stands : (m : List ℕ) → Reads f m → length m ≤ length buffer → take (length m) buffer' ≡ m
-  stands m r fits =
+  bytes_there : (m : List ℕ) → Reads f m → length m ≤ length buffer → take (length m) buffer' ≡ m
+  bytes_there m r fits =
       let is = frame_output f m r in
       grind (arith, take_all)
 
   pub fed-reads : (m : List ℕ) → Reads f m → length m ≤ length buffer → (result ≡ Ok (Some (length m))) × (take (length m) buffer' ≡ m)
-  fed-reads m r fits = (w.answer f h.phased ∙ answer_is f m (length buffer) r fits, stands m r fits)
+  fed-reads m r fits = (w.returned f h.phased ∙ result_is f m (length buffer) r fits, bytes_there m r fits)
 
   pub fed-only : (n : ℕ) → result ≡ Ok (Some n) → All (λ b. b < 256) f → Reads f (take n buffer')
-  fed-only n is below = grind (arith, message_told, message_reads, stands, message_fits)
+  fed-only n is below = grind (arith, message_reported, message_reads, bytes_there, message_fits)
 
 -- A PIECE THAT IS TAKEN
 

@@ -1,4 +1,4 @@
--- What a push of a list and the zero behind it answers: the message m exactly where the list reads as m.
+-- What a push of a list and the zero behind it returns: the message m exactly if the list reads as m.
 use Rattle.std.proofs.Common.{◌≡◌, ◌≢◌, ℕ, ◌<◌, ◌≤◌, Fits, get_or, w8, ◌↔◌, List, [], ◌∷◌, ◌++◌, length, take, All, Option, Some, None, Result, Ok, Err, refl, sym, ap, ◌∙◌, subst, arith, length-append, length-take-le, take-append-drop, take_all, take_at, drop, ⊎_elim}
 use Rattle.std.proofs.lemmas.Bool.{cases_lt, cases_Bool, ne_eqb, le-leb}
 use Rattle.std.proofs.lemmas.List.{take-append-le, take_more, get_or_append_left}
@@ -6,9 +6,9 @@ use Rattle.std.proofs.lemmas.List.Elements.{All-take, All-get_or}
 use Rattle.cobs.specs.Grammar.{Reads}
 use Rattle.cobs.specs.Piece.{output}
 use Rattle.cobs.specs.Stream.{Outcome, Message, outcome_of, stream_outcomes, unended}
-use Rattle.cobs.specs.Feed.{Phase, Idle, answer_to}
+use Rattle.cobs.specs.Feed.{Phase, Idle, result_for}
 use Rattle.cobs.specs.Fields.Report.{parsed_size_of, frame_size_of}
-use Rattle.cobs.specs.Push.{answer_at, PushesBytes, pushed_outcomes}
+use Rattle.cobs.specs.Push.{result_at, PushesBytes, pushed_outcomes}
 use Rattle.cobs.specs.Headline.{IsPiece, PushesMessage}
 use Rattle.cobs.specs.declared.dec.DecodeReport.{DecodeReport}
 use Rattle.cobs.specs.declared.dec.PushError.{PushError}
@@ -23,18 +23,18 @@ use Rattle.cobs.proofs.decoding.HeadlineLemmas.{bytes_below, reads_where_fits, o
 output-take : (f : List ℕ) (k : ℕ) → length (output (take k f)) ≤ length (output f)
 output-take f k = let h = output-grows (take k f) (drop k f) in let e = ap (λ (x : List ℕ). length (output x)) (take-append-drop k f) in omega arith
 
--- a byte of the piece whose output so far fits is answered by `Ok(None)`
-answer_to-quiet : (q : List ℕ) (b n : ℕ) → b ≢ 0 → length (output (q ++ b ∷ [])) ≤ n → answer_to q b n ≡ Ok None
-unfolding answer_to
-answer_to-quiet q b n some fits = cc (ne_eqb b 0 some, le-leb (length (output (q ++ b ∷ []))) n fits)
+-- a byte of the piece whose output so far fits returns `Ok(None)`
+result_for-quiet : (q : List ℕ) (b n : ℕ) → b ≢ 0 → length (output (q ++ b ∷ [])) ≤ n → result_for q b n ≡ Ok None
+unfolding result_for
+result_for-quiet q b n some fits = cc (ne_eqb b 0 some, le-leb (length (output (q ++ b ∷ []))) n fits)
 
 module _ (f : List ℕ) (n : ℕ) (piece : IsPiece f) where
   -- the bytes in front of the zero are quiet, where the output fits
-  quiet_inside : length (output f) ≤ n → (place : ℕ) → place < length f → answer_at [] (f ++ 0 ∷ []) n place ≡ Ok None
+  quiet_inside : length (output f) ≤ n → (place : ℕ) → place < length f → result_at [] (f ++ 0 ∷ []) n place ≡ Ok None
   quiet_inside fits place within =
       let front : take place (f ++ 0 ∷ []) ≡ take place f = take-append-le place f (0 ∷ []) (omega arith) in
       let same : unended (take place (f ++ 0 ∷ [])) ≡ take place f = ap unended front ∙ unended-no_zero (take place f) (All-take (λ b. b ≢ 0) place f piece.1) in
-      grind (arith, take-append-le, unended-no_zero, All-take, get_or_append_left, take_more, output-take, answer_to-quiet, All-get_or)
+      grind (arith, take-append-le, unended-no_zero, All-take, get_or_append_left, take_more, output-take, result_for-quiet, All-get_or)
 
   -- a front of the piece alone has no outcome
   no_outcome : (k : ℕ) → k ≤ length f → stream_outcomes (take k (f ++ 0 ∷ [])) n ≡ []
@@ -44,24 +44,24 @@ module _ (f : List ℕ) (n : ℕ) (piece : IsPiece f) where
   one_outcome : (k : ℕ) → length f < k → stream_outcomes (take k (f ++ 0 ∷ [])) n ≡ outcome_of f n ∷ []
   one_outcome k all = let l = length-append f (0 ∷ []) in ap (λ (x : List ℕ). stream_outcomes x n) (take_all k (f ++ 0 ∷ []) (omega arith)) ∙ stream_outcomes-one f n piece.0 piece.1
 
-pushed-no_message : (bytes : List ℕ) (refusal : PushError) (buffer m : List ℕ) → Message m ∷ [] ≡ pushed_outcomes bytes (Err refusal) buffer → ⊥
-pushed-no_message bytes refusal buffer m e = grind (arith, cases_Bool)
+pushed-no_message : (bytes : List ℕ) (failure : PushError) (buffer m : List ℕ) → Message m ∷ [] ≡ pushed_outcomes bytes (Err failure) buffer → ⊥
+pushed-no_message bytes failure buffer m e = grind (arith, cases_Bool)
 
 module _ (buffer bytes buffer' f : List ℕ) (phase phase' : Phase) (idle : phase ≡ Idle) (is : bytes ≡ f ++ 0 ∷ []) (below : All (λ b. b < 256) f) (piece : IsPiece f) (m : List ℕ) where
-  -- an answer tells of a message only behind the zero
-  told : (report : DecodeReport) → PushesBytes buffer phase bytes (Ok (Some report)) buffer' phase' → Message (take (frame_size_of report) buffer') ≡ outcome_of f (length buffer)
-  told report w =
+  -- a result reports a message only behind the zero
+  stated : (report : DecodeReport) → PushesBytes buffer phase bytes (Ok (Some report)) buffer' phase' → Message (take (frame_size_of report) buffer') ≡ outcome_of f (length buffer)
+  stated report w =
       let k = parsed_size_of report in
       let n = length buffer in
       let o : stream_outcomes (take k (f ++ 0 ∷ [])) n ≡ Message (take (frame_size_of report) buffer') ∷ [] = ap (λ (x : List ℕ). stream_outcomes (take k x) n) (sym is) ∙ w.outcomes [] (DecoderAfter-idle buffer phase idle) in
       grind (arith, DecoderAfter-idle, one_outcome, no_outcome, cases_lt)
 
   pushes_from : length (output f) ≤ length buffer → (result : Result (Option DecodeReport) PushError) → PushesBytes buffer phase bytes result buffer' phase' → PushesMessage result buffer' m → Reads f m
-  pushes_from h result e p = grind (arith, outcome_reads, told)
+  pushes_from h result e p = grind (arith, outcome_reads, stated)
 
-  -- where the output doesn't fit, no message is answered
+  -- where the output doesn't fit, no message is returned
   pushes_long : length buffer < length (output f) → (result : Result (Option DecodeReport) PushError) → PushesBytes buffer phase bytes result buffer' phase' → PushesMessage result buffer' m → ⊥
-  pushes_long h result e p = grind (arith, told, outcome_of_long)
+  pushes_long h result e p = grind (arith, stated, outcome_of_long)
 
   pushes_to : length (output f) ≤ length buffer → (result : Result (Option DecodeReport) PushError) → PushesBytes buffer phase bytes result buffer' phase' → Reads f m → PushesMessage result buffer' m
   pushes_to fits (Ok None) w r =
@@ -72,25 +72,25 @@ module _ (buffer bytes buffer' f : List ℕ) (phase phase' : Phase) (idle : phas
       absurd (cc)
   pushes_to fits (Ok (Some report)) w r =
       let message : outcome_of f (length buffer) ≡ Message m = (outcome_reads f m (length buffer) piece.0 piece.1 below fits).1 r in
-      let same : take (frame_size_of report) buffer' ≡ m = (let t = told report w in cc) in
+      let same : take (frame_size_of report) buffer' ≡ m = (let t = stated report w in cc) in
       let bound = w.bound in
       let len = w.len in
       (sym (sym (ap length same) ∙ length-take-le (frame_size_of report) buffer' (omega arith)), same)
-  pushes_to fits (Err refusal) w r =
+  pushes_to fits (Err failure) w r =
       let n = length buffer in
-      let k = refusal.parsed_size in
+      let k = failure.parsed_size in
       let message : outcome_of f n ≡ Message m = (outcome_reads f m n piece.0 piece.1 below fits).1 r in
       let after = DecoderAfter-idle buffer phase idle in
       ⊎_elim
       (λ (all : length f < k).
-      let o : stream_outcomes (take k (f ++ 0 ∷ [])) n ≡ pushed_outcomes bytes (Err refusal) buffer' = ap (λ (x : List ℕ). stream_outcomes (take k x) n) (sym is) ∙ w.outcomes [] after in
-      absurd (pushed-no_message bytes refusal buffer' m (ap (λ (x : Outcome). x ∷ []) (sym message) ∙ sym (one_outcome f n piece k all) ∙ o)))
+      let o : stream_outcomes (take k (f ++ 0 ∷ [])) n ≡ pushed_outcomes bytes (Err failure) buffer' = ap (λ (x : List ℕ). stream_outcomes (take k x) n) (sym is) ∙ w.outcomes [] after in
+      absurd (pushed-no_message bytes failure buffer' m (ap (λ (x : Outcome). x ∷ []) (sym message) ∙ sym (one_outcome f n piece k all) ∙ o)))
       (λ (short : k ≤ length f).
-      let stop = w.answer [] after.phased in
+      let stop = w.push_returns [] after.phased in
       let last = stop.last in
       let quiet = quiet_inside f n piece fits stop.place (omega arith) in
-      let answered = ap (λ (x : List ℕ). answer_at [] x n stop.place) (sym is) ∙ stop.answered in
-      absurd (let e = sym quiet ∙ answered in cc))
+      let result_there = ap (λ (x : List ℕ). result_at [] x n stop.place) (sym is) ∙ stop.result_there in
+      absurd (let e = sym quiet ∙ result_there in cc))
       (cases_lt (length f) k)
 
 -- the bytes of a front are bytes
@@ -108,11 +108,11 @@ push_reads {buffer} {bytes} {buffer'} {phase} {phase'} {result} w below f m idle
     ))
     (λ more. pushes_long buffer bytes buffer' f phase phase' idle is front piece m more result w)
 
--- what a push of bytes as a program has them tells
+-- what a push of bytes as a program has them reports
 pub push_message : {buffer bytes buffer' : List ℕ} {phase phase' : Phase} {result : Result (Option DecodeReport) PushError} → PushesBytes buffer phase bytes result buffer' phase' → ((i : ℕ) → Fits w8 (get_or bytes i 0))
     → (f m : List ℕ) → phase ≡ Idle → bytes ≡ f ++ 0 ∷ [] → Reads f m → length m ≤ length buffer → PushesMessage result buffer' m
 push_message {bytes = bytes} w fits f m idle is r room = (push_reads w (bytes_below bytes fits) f m idle is (frame_piece r)).1 (r, room)
 
 pub push_only : {buffer bytes buffer' : List ℕ} {phase phase' : Phase} {result : Result (Option DecodeReport) PushError} → PushesBytes buffer phase bytes result buffer' phase' → ((i : ℕ) → Fits w8 (get_or bytes i 0))
     → (f m : List ℕ) → phase ≡ Idle → bytes ≡ f ++ 0 ∷ [] → IsPiece f → PushesMessage result buffer' m → Reads f m × (length m ≤ length buffer)
-push_only {bytes = bytes} w fits f m idle is piece told = (push_reads w (bytes_below bytes fits) f m idle is piece).0 told
+push_only {bytes = bytes} w fits f m idle is piece stated = (push_reads w (bytes_below bytes fits) f m idle is piece).0 stated

@@ -4,20 +4,20 @@ use Rattle.std.proofs.lemmas.List.{take_more, length_push, same_from_push}
 use Rattle.std.proofs.lemmas.Bool.{ne_eqb, eq-eqb}
 use borrow.Author.Count.{below_more}
 use Rattle.cobs.specs.Stream.{unended}
-use Rattle.cobs.specs.Feed.{Phase, Idle, PhaseAfter, answer_to, Feeds}
-use Rattle.cobs.specs.FeedPiece.{TakesBytes, TakesPiece, end_told}
-use Rattle.cobs.specs.Push.{FeedsInTurn, answer_at, IsQuiet, StopsAfter, refused_outcomes, PushesBytes}
+use Rattle.cobs.specs.Feed.{Phase, Idle, PhaseAfter, result_for, Feeds}
+use Rattle.cobs.specs.FeedPiece.{TakesBytes, TakesPiece, end_reported}
+use Rattle.cobs.specs.Push.{FeedsInTurn, result_at, IsQuiet, StopsAfter, error_outcomes, PushesBytes}
 use Rattle.cobs.specs.Fields.Report.{report_of}
 use Rattle.cobs.specs.declared.dec.DecodeError.{DecodeError}
 use Rattle.cobs.proofs.streaming.ByByteLemmas.{piece-nothing, piece-more, takes_behind, holds_behind, untouched_behind}
-use Rattle.cobs.proofs.streaming.SoFar.{here, told_by}
+use Rattle.cobs.proofs.streaming.SoFar.{here, reported_by}
 
--- a byte that is no zero is answered by no message
-no_message : (q : List ℕ) (b n k : ℕ) → answer_to q b n ≡ Ok (Some k) → b ≡ 0
-unfolding answer_to
+-- a byte that is no zero returns no message
+no_message : (q : List ℕ) (b n k : ℕ) → result_for q b n ≡ Ok (Some k) → b ≡ 0
+unfolding result_for
 no_message q b n k h = grind (arith, ne_eqb)
 
--- the first i bytes took a decoder from a buffer and phase to others, and each was answered by `Ok(None)`
+-- the first i bytes took a decoder from a buffer and phase to others, and each returned `Ok(None)`
 pub record Pushed (buffer₀ : List ℕ) (phase₀ : Phase) (buffer : List ℕ) (phase : Phase) (bytes : List ℕ) (i : ℕ) : Type 0 where
   pub piece : TakesPiece buffer₀ phase₀ (take i bytes) None buffer phase
   pub quiet : (p : List ℕ) → PhaseAfter (length buffer₀) phase₀ p → IsQuiet p bytes (length buffer₀) i
@@ -25,9 +25,9 @@ pub record Pushed (buffer₀ : List ℕ) (phase₀ : Phase) (buffer : List ℕ) 
   pub feeds : FeedsInTurn buffer₀ phase₀ (take i bytes) (Ok None) buffer phase
 
 -- one more byte is fed
-FeedsInTurn-push : (xs buffer₀ : List ℕ) (phase₀ : Phase) {buffer buffer' : List ℕ} {phase phase' : Phase} {byte : ℕ} {answer : Result (Option ℕ) DecodeError}
-    → FeedsInTurn buffer₀ phase₀ xs (Ok None) buffer phase → Feeds buffer phase byte answer buffer' phase' → FeedsInTurn buffer₀ phase₀ (xs ++ byte ∷ []) answer buffer' phase'
-FeedsInTurn-push [] buffer₀ phase₀ {buffer} {buffer'} {phase} {phase'} {byte} {answer} f g = grind arith
+FeedsInTurn-push : (xs buffer₀ : List ℕ) (phase₀ : Phase) {buffer buffer' : List ℕ} {phase phase' : Phase} {byte : ℕ} {returned : Result (Option ℕ) DecodeError}
+    → FeedsInTurn buffer₀ phase₀ xs (Ok None) buffer phase → Feeds buffer phase byte returned buffer' phase' → FeedsInTurn buffer₀ phase₀ (xs ++ byte ∷ []) returned buffer' phase'
+FeedsInTurn-push [] buffer₀ phase₀ {buffer} {buffer'} {phase} {phase'} {byte} {returned} f g = grind arith
 FeedsInTurn-push (x ∷ []) buffer₀ phase₀ {buffer} {buffer'} {phase} f g = (buffer, phase, f, g)
 FeedsInTurn-push (x ∷ y ∷ xs) buffer₀ phase₀ (between, phase_between, f, more) g = grind (arith, FeedsInTurn-push (y ∷ xs) between phase_between more g)
 
@@ -36,8 +36,8 @@ Pushed-start buffer phase bytes = record { piece = piece-nothing buffer phase; q
 
 module _ {buffer₀ buffer buffer' : List ℕ} {phase₀ phase phase' : Phase} {result : Result (Option ℕ) DecodeError} (bytes : List ℕ) (i : ℕ) (within : i < length bytes)
     (s : Pushed buffer₀ phase₀ buffer phase bytes i) (f : Feeds buffer phase (get_or bytes i 0) result buffer' phase') where
-  answer_here : (p : List ℕ) → PhaseAfter (length buffer₀) phase₀ p → answer_at p bytes (length buffer₀) i ≡ result
-  answer_here p h = ap (answer_to (unended (p ++ take i bytes)) (get_or bytes i 0)) (sym s.piece.takes.len) ∙ sym (f.answer _ (here s.piece.takes p h))
+  result_here : (p : List ℕ) → PhaseAfter (length buffer₀) phase₀ p → result_at p bytes (length buffer₀) i ≡ result
+  result_here p h = ap (result_for (unended (p ++ take i bytes)) (get_or bytes i 0)) (sym s.piece.takes.len) ∙ sym (f.returned _ (here s.piece.takes p h))
 
   zero_behind : (front : List ℕ) → take (i + 1) bytes ≡ front ++ 0 ∷ [] → phase' ≡ Idle
   zero_behind front e = f.zero_idle (same_from_push (take i bytes) front (get_or bytes i 0) 0 (sym (take_more bytes i 0 within) ∙ e)).1
@@ -48,8 +48,8 @@ module _ {buffer₀ buffer buffer' : List ℕ} {phase₀ phase phase' : Phase} {
   -- the push goes on
   pub Pushed-more : result ≡ Ok None → Pushed buffer₀ phase₀ buffer' phase' bytes (i + 1)
   Pushed-more e = record {
-    piece = piece-more bytes i within s.piece f (λ z. ap end_told e);
-    quiet = λ p h. below_more (λ j. answer_at p bytes (length buffer₀) j ≡ Ok None) i (s.quiet p h) (answer_here p h ∙ e);
+    piece = piece-more bytes i within s.piece f (λ z. ap end_reported e);
+    quiet = λ p h. below_more (λ j. result_at p bytes (length buffer₀) j ≡ Ok None) i (s.quiet p h) (result_here p h ∙ e);
     zero_idle = zero_behind;
     feeds = rw e at feeds_behind;
   }
@@ -57,20 +57,20 @@ module _ {buffer₀ buffer buffer' : List ℕ} {phase₀ phase phase' : Phase} {
   -- THE PUSH ENDS
 
   stops_here : (r : Result (Option ℕ) DecodeError) → result ≡ r → (p : List ℕ) → PhaseAfter (length buffer₀) phase₀ p → StopsAfter p bytes (length buffer₀) (i + 1) r
-  stops_here r e p h = record { place = i; within = within; last = refl; quiet = s.quiet p h; answered = answer_here p h ∙ e }
+  stops_here r e p h = record { place = i; within = within; last = refl; quiet = s.quiet p h; result_there = result_here p h ∙ e }
 
-  takes : TakesBytes buffer₀ phase₀ (take (i + 1) bytes) (told_by (get_or bytes i 0) result buffer') buffer' phase'
+  takes : TakesBytes buffer₀ phase₀ (take (i + 1) bytes) (reported_by (get_or bytes i 0) result buffer') buffer' phase'
   takes = takes_behind bytes i within s.piece f
 
   -- a message is reported
   pub pushed_some : (n : ℕ) → result ≡ Ok (Some n) → PushesBytes buffer₀ phase₀ bytes (Ok (Some (report_of (i + 1) n))) buffer' phase'
   pushed_some n e = record {
-    answer = stops_here (Ok (Some n)) e;
+    push_returns = stops_here (Ok (Some n)) e;
     phased = takes.phased;
     after = takes.after;
     holds = holds_behind bytes i within s.piece f;
     untouched = untouched_behind bytes i within s.piece f;
-    outcomes = λ p h. sym (takes.outcomes p h) ∙ rw (e, eq-eqb _ 0 (no_message _ _ _ n (answer_here p h.phased ∙ e))) refl;
+    outcomes = λ p h. sym (takes.outcomes p h) ∙ rw (e, eq-eqb _ 0 (no_message _ _ _ n (result_here p h.phased ∙ e))) refl;
     within = omega arith;
     bound = rw (← s.piece.takes.len) (rw e at f.bound);
     zero_idle = zero_behind;
@@ -78,15 +78,15 @@ module _ {buffer₀ buffer buffer' : List ℕ} {phase₀ phase phase' : Phase} {
     len = takes.len;
   }
 
-  -- an error is answered
+  -- an error is returned
   pub pushed_error : (e : DecodeError) → result ≡ Err e → PushesBytes buffer₀ phase₀ bytes (Err (record { error = e; parsed_size = i + 1 })) buffer' phase'
   pushed_error e is = record {
-    answer = stops_here (Err e) is;
+    push_returns = stops_here (Err e) is;
     phased = takes.phased;
     after = takes.after;
     holds = holds_behind bytes i within s.piece f;
     untouched = untouched_behind bytes i within s.piece f;
-    outcomes = λ p h. sym (takes.outcomes p h) ∙ ap (λ r. told_by (get_or bytes i 0) r buffer') is ∙ ap (λ (k : ℕ). cond (eqb (get_or bytes k 0) 0) (refused_outcomes e) []) (omega arith);
+    outcomes = λ p h. sym (takes.outcomes p h) ∙ ap (λ r. reported_by (get_or bytes i 0) r buffer') is ∙ ap (λ (k : ℕ). cond (eqb (get_or bytes k 0) 0) (error_outcomes e) []) (omega arith);
     within = omega arith;
     bound = tt;
     zero_idle = zero_behind;

@@ -10,10 +10,10 @@ use Rattle.cobs.specs.Piece.{output}
 use Rattle.cobs.specs.Overwritten.{overwritten}
 use Rattle.cobs.specs.Push.{last_piece}
 use Rattle.cobs.specs.Stream.{Outcome, Message, Broken, TooLong, outcome_of, stream_outcomes, unended, is_nonempty}
-use Rattle.cobs.specs.Feed.{Phase, Idle, Within, Over, DecoderAfter, phase_after}
+use Rattle.cobs.specs.Feed.{Phase, Idle, Within, Overlong, DecoderAfter, phase_after}
 use Rattle.cobs.specs.FeedPiece.{outcome_at, TakesPiece}
-use Rattle.cobs.specs.NextFrame.{Read, bytes_given, GaveBytes, all_given, EndsIn, Runs, CallsForMore, EachCalledFor, EndsFirst, HasDecoded, ReaderState, ReaderAfter, AtPieceEnd, AtStreamEnd, Tells, ReadsNext}
-use Rattle.cobs.specs.Internal.KeptBytes.{EndsFirstIn, DecoderHasTaken, TellsFirst}
+use Rattle.cobs.specs.NextFrame.{Read, bytes_given, GaveBytes, all_given, EndsIn, Runs, CallsForMore, EachCalledFor, EndsFirst, HasDecoded, ReaderState, ReaderAfter, AtPieceEnd, AtStreamEnd, Reports, ReadsNext}
+use Rattle.cobs.specs.Internal.KeptBytes.{EndsFirstIn, DecoderHasTaken, ReportsFirst}
 use Rattle.cobs.specs.declared.framed.Next.{Next}
 use Rattle.cobs.specs.declared.framed.Next.TheVariants as nexts
 use Rattle.cobs.specs.declared.framed.ReadFault.TheVariants as faults
@@ -90,7 +90,7 @@ EndsFirst-behind t {bytes} {behind} {n} {outcome} none w = record {
 not_idle : Phase → Bool
 not_idle Idle = false
 not_idle (Within full left count) = true
-not_idle Over = true
+not_idle Overlong = true
 
 nonempty_phase : (p : List ℕ) (n : ℕ) → is_nonempty p ≡ not_idle (phase_after p n)
 unfolding phase_after not_idle
@@ -194,7 +194,7 @@ module _ {S : Type 0} {step : S → Read → S → Type 0} {from to : S} {reader
     runs = Runs-push step from g.reads to to' None g.runs s;
     failed = (λ _. (g.reads, refl), λ _. refl);
     called_for = λ p b. EachCalledFor-push _ _ g.reads None (more_called_for few g p b);
-    tells = λ p b. rw (nothing_more g None refl p) (emptied kept e g p b, (g.reads, refl));
+    result_says = λ p b. rw (nothing_more g None refl p) (emptied kept e g p b, (g.reads, refl));
   }
 
   -- a read gave no bytes
@@ -205,16 +205,16 @@ module _ {S : Type 0} {step : S → Read → S → Type 0} {from to : S} {reader
     runs = Runs-push step from g.reads to to' (Some []) g.runs s;
     failed = (λ f. absurd cc, λ l. absurd (some_is_none [] (last_read g.reads (Some []) None l)));
     called_for = λ p b. EachCalledFor-push _ _ g.reads (Some []) (more_called_for few g p b);
-    tells = λ p b. rw (nothing_more g (Some []) refl p) (emptied kept e g p b, (g.reads, refl), g.flag p b);
+    result_says = λ p b. rw (nothing_more g (Some []) refl p) (emptied kept e g p b, (g.reads, refl), g.flag p b);
   }
 
 -- WHERE A PIECE ENDS
 
--- an outcome is told
--- the first piece that ends in some bytes is told, behind a stream in which none has ended
-Tells-first : (next : Next) (reads : List Read) (t bytes : List ℕ) (reader : ReaderState) → stream_outcomes t (length reader.buffer) ≡ []
-    → TellsFirst next (unended t) bytes reader.buffer reader.kept → ReaderAfter reader [] → Tells (Ok next) reads (t ++ bytes) reader
-Tells-first next reads t bytes reader none w b =
+-- an outcome is reported
+-- the first piece that ends in some bytes is reported, behind a stream in which none has ended
+Reports-first : (next : Next) (reads : List Read) (t bytes : List ℕ) (reader : ReaderState) → stream_outcomes t (length reader.buffer) ≡ []
+    → ReportsFirst next (unended t) bytes reader.buffer reader.kept → ReaderAfter reader [] → Reports (Ok next) reads (t ++ bytes) reader
+Reports-first next reads t bytes reader none w b =
     let first = EndsFirst-behind t none w.first in
     let decoded : HasDecoded w.outcome reader.buffer (unended first.front) = subst (λ (x : List ℕ). HasDecoded w.outcome reader.buffer x) (sym (unended-append t w.first.front)) w.decoded in
     let ended : AtPieceEnd (t ++ bytes) w.outcome reader = record { first = first; decoded = decoded; idle = b } in
@@ -222,16 +222,16 @@ Tells-first next reads t bytes reader none w b =
 
 -- the kept bytes end a piece: nothing is read
 pub ReadsNext-kept : {S : Type 0} (step : S → Read → S → Type 0) (source : S) (reader reader' : ReaderState) (next : Next)
-    → ((p : List ℕ) → ReaderAfter reader p → TellsFirst next p reader.kept reader'.buffer reader'.kept) → ReaderAfter reader' []
+    → ((p : List ℕ) → ReaderAfter reader p → ReportsFirst next p reader.kept reader'.buffer reader'.kept) → ReaderAfter reader' []
     → ReadsNext step source source reader (Ok next) reader'
 ReadsNext-kept step source reader reader' next h idle = record {
   reads = [];
   runs = refl;
   failed = (λ f. absurd cc, λ l. absurd (omega (arith, ap length l.1, length_push l.0 None)));
   called_for = λ p b. EachCalledFor-nil _ _;
-  tells = λ p b.
-      let w : TellsFirst next (unended p) reader.kept reader'.buffer reader'.kept = rw (unended-no_zero p b.phased.piece) (h p b) in
-      rw (append-nil (p ++ reader.kept)) (Tells-first next [] p reader.kept reader' (stream_outcomes-no_zero p _ b.phased.piece) w idle);
+  result_says = λ p b.
+      let w : ReportsFirst next (unended p) reader.kept reader'.buffer reader'.kept = rw (unended-no_zero p b.phased.piece) (h p b) in
+      rw (append-nil (p ++ reader.kept)) (Reports-first next [] p reader.kept reader' (stream_outcomes-no_zero p _ b.phased.piece) w idle);
 }
 
 All-last : {X : Type 0} (P : X → Type 0) (xs : List X) (x : X) → All P (xs ++ x ∷ []) → P x
@@ -245,17 +245,17 @@ AtStreamEnd-more t bytes reader reader' len before more = grind (arith, stream_o
 module _ {S : Type 0} {step : S → Read → S → Type 0} {from to to' : S} {reader₀ reader reader' : ReaderState} {unfinished : Bool} {count : ℕ} where
   -- the bytes that were read end a piece
   pub ReadsNext-piece : (bytes : List ℕ) (next : Next) → count < 65536 → Going step from to reader₀ reader unfinished count → step to (Some bytes) to' → length reader'.buffer ≡ length reader.buffer
-      → ((q : List ℕ) → ReaderAfter reader q → TellsFirst next q bytes reader'.buffer reader'.kept) → ReaderAfter reader' []
+      → ((q : List ℕ) → ReaderAfter reader q → ReportsFirst next q bytes reader'.buffer reader'.kept) → ReaderAfter reader' []
       → ReadsNext step from to' reader₀ (Ok next) reader'
   ReadsNext-piece bytes next few g s len h idle = record {
     reads = g.reads ++ Some bytes ∷ [];
     runs = Runs-push step from g.reads to to' (Some bytes) g.runs s;
     failed = (λ f. absurd cc, λ l. absurd (some_is_none bytes (last_read g.reads (Some bytes) None l)));
     called_for = λ p b. EachCalledFor-push _ _ g.reads (Some bytes) (more_called_for few g p b);
-    tells = λ p b.
+    result_says = λ p b.
         let t = p ++ reader₀.kept ++ all_given g.reads in
         let end = g.at_end p b in
-        rw (given-push (p ++ reader₀.kept) g.reads (Some bytes)) (Tells-first next _ t bytes reader' (ap (stream_outcomes t) len ∙ end.none_ended) (h _ end.after) idle);
+        rw (given-push (p ++ reader₀.kept) g.reads (Some bytes)) (Reports-first next _ t bytes reader' (ap (stream_outcomes t) len ∙ end.none_ended) (h _ end.after) idle);
   }
 
   -- they end none, and the call goes on
@@ -286,7 +286,7 @@ ReadsNext-too_many {reader₀} {reader} all g = record {
   runs = g.runs;
   failed = (λ f. absurd cc, λ l. absurd (All-last GaveBytes l.0 None (subst (λ (x : List Read). All GaveBytes x) l.1 g.gave) refl));
   called_for = λ p b. EachCalledFor-all _ _ g.reads (omega (arith, g.count_is)) g.gave (ap (stream_outcomes (p ++ reader₀.kept ++ all_given g.reads)) (sym g.len) ∙ (g.at_end p b).none_ended);
-  tells = λ p b. (g.at_end p b, g.count_is ∙ all, g.gave);
+  result_says = λ p b. (g.at_end p b, g.count_is ∙ all, g.gave);
 }
 
 -- THE FRONT OF A CHUNK

@@ -1,4 +1,4 @@
--- So many bytes of a block at once are so many feeds.
+-- Bytes of a block, taken at once, are as many feeds.
 use Rattle.std.proofs.Common.{◌≡◌, ◌≢◌, ℕ, zero, suc, ◌+◌, ◌-◌, ◌<◌, ◌≤◌, Bool, false, cond, eqb, List, [], ◌∷◌, ◌++◌, length, take, drop, replicate, set, get_or, sym, ap, ◌∙◌, subst, refl, arith, append_assoc, None, Ok}
 use Rattle.std.proofs.lemmas.List.{length-replicate, set-append_right, length_push, drop_more, take_more_set, drop-set-lt, length-set, take-append-drop, length-take-le}
 use Rattle.std.proofs.Math.Seq.{set-append_seam}
@@ -6,11 +6,11 @@ use Rattle.cobs.specs.declared.dec.unbuffered.UnbufferedDecoder.{UnbufferedDecod
 use Rattle.std.proofs.lemmas.List.Elements.{All-head, All-tail}
 use Rattle.std.proofs.lemmas.Bool.{ne_eqb, lt-ltb}
 use Rattle.cobs.specs.Grammar.{HasNoZero}
-use Rattle.cobs.specs.Feed.{Phase, Within, Over}
-use Rattle.cobs.specs.FeedPiece.{TakesPiece, end_told}
+use Rattle.cobs.specs.Feed.{Phase, Within, Overlong}
+use Rattle.cobs.specs.FeedPiece.{TakesPiece, end_reported}
 use Rattle.cobs.specs.Fields.Decoders.{phase_of, phase_with}
-use Rattle.cobs.specs.Internal.FedInTurn.{FedInTurn}
-use Rattle.cobs.specs.Step.{next_phase, next_buffer, next_answer}
+use Rattle.cobs.specs.Internal.FeedsQuietly.{FeedsQuietly}
+use Rattle.cobs.specs.Step.{next_phase, next_buffer, next_result}
 use Rattle.cobs.proofs.streaming.FeedLemmas.{Feeds-step}
 use Rattle.cobs.proofs.streaming.ByByteLemmas.{piece-more}
 
@@ -37,84 +37,84 @@ over-push base buffer xs x room =
     ∙ ap (λ (k : ℕ). (xs ++ x ∷ []) ++ drop k buffer) (omega arith))
 
 -- THE BULK LEMMA: bytes of a block that fit are fed by one copy
-pub FedInTurn-within : (xs buffer : List ℕ) (full : Bool) (left count : ℕ) → HasNoZero xs → length xs ≤ left → count + length xs ≤ length buffer
-    → FedInTurn buffer (Within full left count) xs (over count buffer xs) (Within full (left - length xs) (count + length xs))
-FedInTurn-within [] buffer full left count h l r = grind (arith, over-nil)
-FedInTurn-within (x ∷ xs) buffer full zero count h l r = absurd (omega arith)
-FedInTurn-within (x ∷ xs) buffer full (suc left) count h l r =
+pub FeedsQuietly-within : (xs buffer : List ℕ) (full : Bool) (left count : ℕ) → HasNoZero xs → length xs ≤ left → count + length xs ≤ length buffer
+    → FeedsQuietly buffer (Within full left count) xs (over count buffer xs) (Within full (left - length xs) (count + length xs))
+FeedsQuietly-within [] buffer full left count h l r = grind (arith, over-nil)
+FeedsQuietly-within (x ∷ xs) buffer full zero count h l r = absurd (omega arith)
+FeedsQuietly-within (x ∷ xs) buffer full (suc left) count h l r =
     let nz : 0 < x = omega (arith, All-head (λ b. b ≢ 0) x xs h) in
     let room : count < length buffer = omega arith in
-    let again : FedInTurn (set buffer count x) (Within full left (count + 1)) xs (over (count + 1) (set buffer count x) xs) (Within full (left - length xs) (count + 1 + length xs))
-    = FedInTurn-within xs (set buffer count x) full left (count + 1) (All-tail (λ b. b ≢ 0) x xs h) (omega arith) (omega (arith, length-set buffer count x)) in
+    let again : FeedsQuietly (set buffer count x) (Within full left (count + 1)) xs (over (count + 1) (set buffer count x) xs) (Within full (left - length xs) (count + 1 + length xs))
+    = FeedsQuietly-within xs (set buffer count x) full left (count + 1) (All-tail (λ b. b ≢ 0) x xs h) (omega arith) (omega (arith, length-set buffer count x)) in
     grind (arith, ne_eqb, lt-ltb, over-cons)
 
 -- blocks without bytes behind a block of which nothing is missing
-FedInTurn-ones : (n : ℕ) (buffer : List ℕ) (count : ℕ) → count + n ≤ length buffer
-    → FedInTurn buffer (Within false 0 count) (replicate n 1) (over count buffer (replicate n 0)) (Within false 0 (count + n))
-FedInTurn-ones zero buffer count r = grind (arith, over-nil)
-FedInTurn-ones (suc n) buffer count r =
+FeedsQuietly-ones : (n : ℕ) (buffer : List ℕ) (count : ℕ) → count + n ≤ length buffer
+    → FeedsQuietly buffer (Within false 0 count) (replicate n 1) (over count buffer (replicate n 0)) (Within false 0 (count + n))
+FeedsQuietly-ones zero buffer count r = grind (arith, over-nil)
+FeedsQuietly-ones (suc n) buffer count r =
     let room : count < length buffer = omega arith in
-    let again : FedInTurn (set buffer count 0) (Within false 0 (count + 1)) (replicate n 1) (over (count + 1) (set buffer count 0) (replicate n 0)) (Within false 0 (count + 1 + n))
-    = FedInTurn-ones n (set buffer count 0) (count + 1) (omega (arith, length-set buffer count 0)) in
+    let again : FeedsQuietly (set buffer count 0) (Within false 0 (count + 1)) (replicate n 1) (over (count + 1) (set buffer count 0) (replicate n 0)) (Within false 0 (count + 1 + n))
+    = FeedsQuietly-ones n (set buffer count 0) (count + 1) (omega (arith, length-set buffer count 0)) in
     grind (arith, lt-ltb, over-cons)
 
 -- the first of the bytes behind a place
 from_here : (bytes : List ℕ) (i r : ℕ) → i < length bytes → take (suc r) (drop i bytes) ≡ get_or bytes i 0 ∷ take r (drop (i + 1) bytes)
 from_here bytes i r within = ap (take (suc r)) (drop_more bytes i 0 within)
 
--- what goes on by each byte that is answered by `Ok(None)` goes on by the r bytes behind the place i, fed in turn
+-- what goes on by each byte that returns `Ok(None)` goes on by the r bytes behind the place i, fed in turn
 pub ran-on : (P : List ℕ → Phase → ℕ → Type 0) (bytes : List ℕ)
-    → ((buffer : List ℕ) (phase : Phase) (i : ℕ) → i < length bytes → P buffer phase i → let byte = get_or bytes i 0 in next_answer (length buffer) phase byte ≡ Ok None
+    → ((buffer : List ℕ) (phase : Phase) (i : ℕ) → i < length bytes → P buffer phase i → let byte = get_or bytes i 0 in next_result (length buffer) phase byte ≡ Ok None
     → P (next_buffer buffer phase byte) (next_phase (length buffer) phase byte) (i + 1))
-    → (buffer buffer' : List ℕ) (phase phase' : Phase) (i r : ℕ) → i + r ≤ length bytes → P buffer phase i → FedInTurn buffer phase (take r (drop i bytes)) buffer' phase' → P buffer' phase' (i + r)
+    → (buffer buffer' : List ℕ) (phase phase' : Phase) (i r : ℕ) → i + r ≤ length bytes → P buffer phase i → FeedsQuietly buffer phase (take r (drop i bytes)) buffer' phase' → P buffer' phase' (i + r)
 ran-on P bytes more buffer buffer' phase phase' i zero within s f = grind arith
 ran-on P bytes more buffer buffer' phase phase' i (suc r) within s f =
-    let fed = subst (λ (l : List ℕ). FedInTurn buffer phase l buffer' phase') (from_here bytes i r (omega arith)) f in
+    let fed = subst (λ (l : List ℕ). FeedsQuietly buffer phase l buffer' phase') (from_here bytes i r (omega arith)) f in
     subst (P buffer' phase') (omega arith) (ran-on P bytes more (next_buffer buffer phase (get_or bytes i 0)) buffer' (next_phase (length buffer) phase (get_or bytes i 0)) phase' (i + 1) r (omega arith) (more buffer phase i (omega arith) s fed.0) fed.1)
 
 -- a piece that has not ended goes on so
 pub piece-run : {buffer₀ buffer buffer' : List ℕ} {phase₀ phase phase' : Phase} (bytes : List ℕ) (i r : ℕ) → i + r ≤ length bytes → TakesPiece buffer₀ phase₀ (take i bytes) None buffer phase
-    → FedInTurn buffer phase (take r (drop i bytes)) buffer' phase' → TakesPiece buffer₀ phase₀ (take (i + r) bytes) None buffer' phase'
+    → FeedsQuietly buffer phase (take r (drop i bytes)) buffer' phase' → TakesPiece buffer₀ phase₀ (take (i + r) bytes) None buffer' phase'
 piece-run {buffer₀} {phase₀ = phase₀} bytes i r within t f =
     ran-on (λ buffer phase i. TakesPiece buffer₀ phase₀ (take i bytes) None buffer phase) bytes
-    (λ buffer phase i within t quiet. piece-more bytes i within t (Feeds-step buffer phase (get_or bytes i 0)) (λ _. ap end_told quiet)) _ _ _ _ i r within t f
+    (λ buffer phase i within t quiet. piece-more bytes i within t (Feeds-step buffer phase (get_or bytes i 0)) (λ _. ap end_reported quiet)) _ _ _ _ i r within t f
 
 -- a piece that is too long goes on by bytes that are no zeros
 pub piece-over : {buffer₀ buffer : List ℕ} {phase₀ : Phase} (bytes : List ℕ) (i r : ℕ) → i + r ≤ length bytes → HasNoZero (take r (drop i bytes))
-    → TakesPiece buffer₀ phase₀ (take i bytes) None buffer Over → TakesPiece buffer₀ phase₀ (take (i + r) bytes) None buffer Over
+    → TakesPiece buffer₀ phase₀ (take i bytes) None buffer Overlong → TakesPiece buffer₀ phase₀ (take (i + r) bytes) None buffer Overlong
 piece-over bytes i zero within some t = grind arith
 piece-over {buffer₀} {buffer} {phase₀} bytes i (suc r) within some t =
     let rest = subst HasNoZero (from_here bytes i r (omega arith)) some in
     let nz = All-head (λ b. b ≢ 0) _ _ rest in
-    let over : next_phase (length buffer) Over (get_or bytes i 0) ≡ Over = rw (ne_eqb _ 0 nz) refl in
-    let one = subst (λ phase. TakesPiece buffer₀ phase₀ (take (i + 1) bytes) None buffer phase) over (piece-more bytes i (omega arith) t (Feeds-step buffer Over (get_or bytes i 0)) (λ z. absurd (nz z))) in
-    subst (λ (k : ℕ). TakesPiece buffer₀ phase₀ (take k bytes) None buffer Over) (omega arith) (piece-over bytes (i + 1) r (omega arith) (All-tail (λ b. b ≢ 0) _ _ rest) one)
+    let over : next_phase (length buffer) Overlong (get_or bytes i 0) ≡ Overlong = rw (ne_eqb _ 0 nz) refl in
+    let one = subst (λ phase. TakesPiece buffer₀ phase₀ (take (i + 1) bytes) None buffer phase) over (piece-more bytes i (omega arith) t (Feeds-step buffer Overlong (get_or bytes i 0)) (λ z. absurd (nz z))) in
+    subst (λ (k : ℕ). TakesPiece buffer₀ phase₀ (take k bytes) None buffer Overlong) (omega arith) (piece-over bytes (i + 1) r (omega arith) (All-tail (λ b. b ≢ 0) _ _ rest) one)
 
 -- THE RUN OF A DECODER
 
--- a block that lacks bytes, or has written some, is one of a piece
+-- a block of which bytes are missing, or that has written some, is one of a piece
 pub begun : (full : Bool) (left count : ℕ) → 0 < left + count → phase_with full left count ≡ Within full left count
 begun full left count h = grind arith
 
 -- bytes of the open block that fit, written behind what was written
 pub run_written : (full : Bool) (left count run : ℕ) (dest bytes : List ℕ) → 0 < run → run ≤ left → count + run ≤ length dest → run ≤ length bytes → HasNoZero (take run bytes)
-    → FedInTurn dest (phase_with full left count) (take run bytes) (over count dest (take run bytes)) (phase_with full (left - run) (count + run))
-run_written full left count run dest bytes some most room within nz = grind (arith, length-take-le, FedInTurn-within, begun)
+    → FeedsQuietly dest (phase_with full left count) (take run bytes) (over count dest (take run bytes)) (phase_with full (left - run) (count + run))
+run_written full left count run dest bytes some most room within nz = grind (arith, length-take-le, FeedsQuietly-within, begun)
 
 -- a row of n blocks without bytes
 pub row_fed : (n : ℕ) (inner : UnbufferedDecoder) (dest bytes new : List ℕ) → inner.over ≡ false → inner.left ≡ 0 → inner.code ≡ 1 → inner.dest_idx + n ≤ length dest → take n bytes ≡ replicate n 1
     → new ≡ take inner.dest_idx dest ++ (replicate n 0 ++ drop (inner.dest_idx + n) dest)
-    → FedInTurn dest (phase_of inner) (take n bytes) new (phase_of (record { dest_idx = inner.dest_idx + n; left = inner.left; code = inner.code; over = inner.over }))
+    → FeedsQuietly dest (phase_of inner) (take n bytes) new (phase_of (record { dest_idx = inner.dest_idx + n; left = inner.left; code = inner.code; over = inner.over }))
 row_fed n inner dest bytes new going none empty room ones is =
     let at : (count : ℕ) → phase_of (record { dest_idx = count; left = inner.left; code = inner.code; over = inner.over }) ≡ Within false 0 count
-    = λ count. ap (λ (v : Bool). cond v Over (phase_with (eqb inner.code 255) inner.left count)) going ∙ ap (λ (k : ℕ). phase_with (eqb k 255) inner.left count) empty
+    = λ count. ap (λ (v : Bool). cond v Overlong (phase_with (eqb inner.code 255) inner.left count)) going ∙ ap (λ (k : ℕ). phase_with (eqb k 255) inner.left count) empty
     ∙ ap (λ (k : ℕ). phase_with false k count) none in
     let written : new ≡ over inner.dest_idx dest (replicate n 0)
     = is ∙ ap (λ (k : ℕ). take inner.dest_idx dest ++ (replicate n 0 ++ drop (inner.dest_idx + k) dest)) (sym (length-replicate n 0)) in
-    let fed = FedInTurn-ones n dest inner.dest_idx room in
+    let fed = FeedsQuietly-ones n dest inner.dest_idx room in
     let to : List ℕ = over inner.dest_idx dest (replicate n 0) in
     let later : Phase = phase_of (record { dest_idx = inner.dest_idx + n; left = inner.left; code = inner.code; over = inner.over }) in
-    subst (λ (l : List ℕ). FedInTurn dest (phase_of inner) l new later) (sym ones)
-    (subst (λ (b : List ℕ). FedInTurn dest (phase_of inner) (replicate n 1) b later) (sym written)
-    (subst (λ (p : Phase). FedInTurn dest p (replicate n 1) to later) (sym (at inner.dest_idx))
-    (subst (λ (p : Phase). FedInTurn dest (Within false 0 inner.dest_idx) (replicate n 1) to p) (sym (at (inner.dest_idx + n))) fed)))
+    subst (λ (l : List ℕ). FeedsQuietly dest (phase_of inner) l new later) (sym ones)
+    (subst (λ (b : List ℕ). FeedsQuietly dest (phase_of inner) (replicate n 1) b later) (sym written)
+    (subst (λ (p : Phase). FeedsQuietly dest p (replicate n 1) to later) (sym (at inner.dest_idx))
+    (subst (λ (p : Phase). FeedsQuietly dest (Within false 0 inner.dest_idx) (replicate n 1) to p) (sym (at (inner.dest_idx + n))) fed)))

@@ -7,8 +7,8 @@ use Rattle.std.proofs.lemmas.Bool.{leb-true, cases_Bool, cases_eq, eq-eqb, ne_eq
 use Rattle.std.proofs.Math.Seq.{take-add}
 use Rattle.cobs.specs.Grammar.{HasNoZero}
 use Rattle.cobs.specs.Stream.{ended_pieces, unended, Outcome, Message, Broken, outcome_of, stream_outcomes}
-use Rattle.cobs.specs.Feed.{Phase, PhaseAfter, DecoderAfter, Feeds, fed, answer_to, answer_at_end}
-use Rattle.cobs.specs.Push.{refused_outcomes}
+use Rattle.cobs.specs.Feed.{Phase, PhaseAfter, DecoderAfter, Feeds, fed, result_for, result_at_end}
+use Rattle.cobs.specs.Push.{error_outcomes}
 use Rattle.cobs.specs.FeedPiece.{AreAlikeAtFirst, FeedsEach, TakesBytes, TakesPiece, outcome_at, IsWithin, IsCountWithin}
 use Rattle.cobs.specs.declared.dec.frame_decoder.PieceEnd.{PieceEnd}
 use Rattle.cobs.specs.declared.dec.DecodeError.{DecodeError}
@@ -19,27 +19,27 @@ use Rattle.cobs.proofs.format.StreamLemmas.{stream_outcomes-no_zero, unended-no_
 abbrev pub SoFar : List ℕ → Phase → List ℕ → Phase → List ℕ → List Outcome → Type 0
 SoFar buffer₀ phase₀ buffer phase done found = TakesBytes buffer₀ phase₀ done found buffer phase
 
--- WHAT IS TOLD AT A ZERO
+-- WHAT IS REPORTED AT A ZERO
 
 -- the outcome that the result for a zero means, over the buffer after it; none if no piece has ended
-abbrev pub outcome_told : Result (Option ℕ) DecodeError → List ℕ → List Outcome
-outcome_told (Ok None) buffer = []
-outcome_told (Ok (Some n)) buffer = Message (take n buffer) ∷ []
-outcome_told (Err error) buffer = refused_outcomes error
+abbrev pub outcome_reported : Result (Option ℕ) DecodeError → List ℕ → List Outcome
+outcome_reported (Ok None) buffer = []
+outcome_reported (Ok (Some n)) buffer = Message (take n buffer) ∷ []
+outcome_reported (Err error) buffer = error_outcomes error
 
--- the outcome that a byte and its result tell
-abbrev pub told_by : ℕ → Result (Option ℕ) DecodeError → List ℕ → List Outcome
-told_by byte result buffer = cond (eqb byte 0) (outcome_told result buffer) []
+-- the outcome that a byte and its result report
+abbrev pub reported_by : ℕ → Result (Option ℕ) DecodeError → List ℕ → List Outcome
+reported_by byte result buffer = cond (eqb byte 0) (outcome_reported result buffer) []
 
--- the answer to the zero behind a piece tells its outcome, over a buffer that begins with the output
-told-after : (buffer : List ℕ) (phase : Phase) (p : List ℕ) → DecoderAfter buffer phase p → outcome_told (answer_to p 0 (length buffer)) buffer ≡ outcomes_at p 0 (length buffer)
-unfolding answer_to answer_at_end outcome_of
-told-after buffer phase p h = grind (arith, take_all, leb-true)
+-- the result for the zero behind a piece reports its outcome, over a buffer that begins with the output
+stated-after : (buffer : List ℕ) (phase : Phase) (p : List ℕ) → DecoderAfter buffer phase p → outcome_reported (result_for p 0 (length buffer)) buffer ≡ outcomes_at p 0 (length buffer)
+unfolding result_for result_at_end outcome_of
+stated-after buffer phase p h = grind (arith, take_all, leb-true)
 
--- over any buffer of that length it tells it but for the bytes of the message
-told-phased : (buffer p : List ℕ) → AreAlikeAtFirst (outcome_told (answer_to p 0 (length buffer)) buffer) (outcomes_at p 0 (length buffer))
-unfolding answer_to answer_at_end outcome_of
-told-phased buffer p = grind (arith, length-take, leb-true)
+-- over any buffer of that length it reports it but for the bytes of the message
+stated-phased : (buffer p : List ℕ) → AreAlikeAtFirst (outcome_reported (result_for p 0 (length buffer)) buffer) (outcomes_at p 0 (length buffer))
+unfolding result_for result_at_end outcome_of
+stated-phased buffer p = grind (arith, length-take, leb-true)
 
 -- LISTS OF OUTCOMES
 
@@ -76,7 +76,7 @@ fits-stream : (t : List ℕ) (count n : ℕ) → Broken count ∷ [] ≡ stream_
 unfolding stream_outcomes
 fits-stream t count n e = fits-map (ended_pieces t) count n e
 
--- so what an answer counts is within it
+-- so what a result counts is within it
 pub count-within : (end : PieceEnd) (buffer t : List ℕ) (n : ℕ) → AreAlikeAtFirst (outcome_at end buffer ∷ []) (stream_outcomes t n) → IsWithin n end → IsCountWithin n end
 count-within end buffer t n h e = grind (arith, fits-stream)
 
@@ -101,26 +101,26 @@ module _ {buffer buffer' : List ℕ} {phase phase' : Phase} {byte : ℕ} {result
   outcomes_byte : (p : List ℕ) → HasNoZero p → stream_outcomes (p ++ byte ∷ []) (length buffer) ≡ outcomes_at p byte (length buffer)
   outcomes_byte p h = grind (arith, stream_outcomes-push, stream_outcomes-no_zero, unended-no_zero)
 
-  told_byte : (p : List ℕ) → DecoderAfter buffer phase p → told_by byte result buffer' ≡ outcomes_at p byte (length buffer)
-  told_byte p h = grind (arith, cases_eq, eq-eqb, ne_eqb, told-after, outcomes_at-nonzero)
+  reported_byte : (p : List ℕ) → DecoderAfter buffer phase p → reported_by byte result buffer' ≡ outcomes_at p byte (length buffer)
+  reported_byte p h = grind (arith, cases_eq, eq-eqb, ne_eqb, stated-after, outcomes_at-nonzero)
 
-  alike_byte : (p : List ℕ) → PhaseAfter (length buffer) phase p → AreAlikeAtFirst (told_by byte result buffer') (outcomes_at p byte (length buffer))
-  alike_byte p h = grind (arith, cases_eq, eq-eqb, ne_eqb, told-phased, outcomes_at-nonzero)
+  alike_byte : (p : List ℕ) → PhaseAfter (length buffer) phase p → AreAlikeAtFirst (reported_by byte result buffer') (outcomes_at p byte (length buffer))
+  alike_byte p h = grind (arith, cases_eq, eq-eqb, ne_eqb, stated-phased, outcomes_at-nonzero)
 
-  pub TakesBytes-byte : TakesBytes buffer phase (byte ∷ []) (told_by byte result buffer') buffer' phase'
+  pub TakesBytes-byte : TakesBytes buffer phase (byte ∷ []) (reported_by byte result buffer') buffer' phase'
   TakesBytes-byte = record {
     len = f.len;
     feeds = (result, buffer', phase', f, (refl, refl));
     phased = λ p h. rw (unended_byte p h.piece) (f.phased p h);
     after = λ p h. rw (unended_byte p h.phased.piece) (f.after p h);
-    outcomes = λ p h. told_byte p h ∙ sym (outcomes_byte p h.phased.piece);
+    outcomes = λ p h. reported_byte p h ∙ sym (outcomes_byte p h.phased.piece);
     alike = λ p h. rw (outcomes_byte p h.piece) (alike_byte p h);
     after_zero = λ p h z.
         let is : byte ≡ 0 = elim (Contains-push_cases [] byte 0 z) [ inl none ↦ absurd (omega (arith, none.1)) | inr is ↦ is ] in
         rw (unended_byte p h.piece, is) (DecoderAfter-idle buffer' phase' (f.zero_idle is));
   }
 
--- the front behind which the decoder stands, over its own buffer
+-- the front behind which the decoder is, over its own buffer
 pub here : {buffer₀ buffer : List ℕ} {phase₀ phase : Phase} {done : List ℕ} {found : List Outcome} → SoFar buffer₀ phase₀ buffer phase done found
     → (p : List ℕ) → PhaseAfter (length buffer₀) phase₀ p → PhaseAfter (length buffer) phase (unended (p ++ done))
 here {buffer₀} {buffer} {phase₀} {phase} {done} s p h = subst (λ n. PhaseAfter n phase (unended (p ++ done))) (sym s.len) (s.phased p h)
@@ -133,25 +133,25 @@ unended_more p done more = ap unended (sym (append_assoc p done more)) ∙ unend
 outcomes_more : (p done more : List ℕ) (n : ℕ) → stream_outcomes (p ++ (done ++ more)) n ≡ stream_outcomes (p ++ done) n ++ stream_outcomes (unended (p ++ done) ++ more) n
 outcomes_more p done more n = ap (λ (x : List ℕ). stream_outcomes x n) (sym (append_assoc p done more)) ∙ stream_outcomes-append (p ++ done) more n
 
-module _ {buffer₀ buffer buffer' : List ℕ} {phase₀ phase phase' : Phase} {done more : List ℕ} {found told : List Outcome} where
-  told_more : SoFar buffer₀ phase₀ buffer phase done found → TakesBytes buffer phase more told buffer' phase' → (p : List ℕ) → DecoderAfter buffer phase (unended (p ++ done))
-      → told ≡ stream_outcomes (unended (p ++ done) ++ more) (length buffer₀)
-  told_more s t p w = t.outcomes _ w ∙ ap (stream_outcomes (unended (p ++ done) ++ more)) s.len
+module _ {buffer₀ buffer buffer' : List ℕ} {phase₀ phase phase' : Phase} {done more : List ℕ} {found stated : List Outcome} where
+  reported_more : SoFar buffer₀ phase₀ buffer phase done found → TakesBytes buffer phase more stated buffer' phase' → (p : List ℕ) → DecoderAfter buffer phase (unended (p ++ done))
+      → stated ≡ stream_outcomes (unended (p ++ done) ++ more) (length buffer₀)
+  reported_more s t p w = t.outcomes _ w ∙ ap (stream_outcomes (unended (p ++ done) ++ more)) s.len
 
   -- bytes taken behind those so far
-  pub SoFar-more : SoFar buffer₀ phase₀ buffer phase done found → TakesBytes buffer phase more told buffer' phase' → SoFar buffer₀ phase₀ buffer' phase' (done ++ more) (found ++ told)
+  pub SoFar-more : SoFar buffer₀ phase₀ buffer phase done found → TakesBytes buffer phase more stated buffer' phase' → SoFar buffer₀ phase₀ buffer' phase' (done ++ more) (found ++ stated)
   SoFar-more s t = record {
     len = t.len ∙ s.len;
     feeds = FeedsEach-append done more buffer₀ buffer buffer' phase₀ phase phase' s.feeds t.feeds;
     phased = λ p h. rw (unended_more p done more) (subst (λ n. PhaseAfter n phase' (unended (unended (p ++ done) ++ more))) s.len (t.phased _ (here s p h)));
     after = λ p h. rw (unended_more p done more) (t.after _ (s.after p h));
-    outcomes = λ p h. rw (outcomes_more p done more (length buffer₀), ← s.outcomes p h, told_more s t p (s.after p h)) refl;
+    outcomes = λ p h. rw (outcomes_more p done more (length buffer₀), ← s.outcomes p h, reported_more s t p (s.after p h)) refl;
     alike = λ p h. elim (zero_or_none done) [
-      | inl old ↦ rw (outcomes_more p done more (length buffer₀), told_more s t p (s.after_zero p h old)) (alike-append _ _ _ (s.alike p h))
+      | inl old ↦ rw (outcomes_more p done more (length buffer₀), reported_more s t p (s.after_zero p h old)) (alike-append _ _ _ (s.alike p h))
       | inr none ↦
           let plain : stream_outcomes (p ++ done) (length buffer₀) ≡ [] = stream_outcomes-no_zero (p ++ done) (length buffer₀) (All-append (λ b. b ≢ 0) p done h.piece none) in
           rw (outcomes_more p done more (length buffer₀), plain, alike-nil found (rw plain at (s.alike p h)))
-          (subst (λ n. AreAlikeAtFirst told (stream_outcomes (unended (p ++ done) ++ more) n)) s.len (t.alike _ (here s p h)))
+          (subst (λ n. AreAlikeAtFirst stated (stream_outcomes (unended (p ++ done) ++ more) n)) s.len (t.alike _ (here s p h)))
     ];
     after_zero = λ p h z. rw (unended_more p done more) (elim (Contains-append_cases done more 0 z) [
       | inl old ↦ t.after _ (s.after_zero p h old)
@@ -177,7 +177,7 @@ module _ {buffer₀ buffer buffer' : List ℕ} {phase₀ phase phase' : Phase} {
   pub SoFar-all : SoFar buffer₀ phase₀ buffer phase (take i bytes) found → TakesPiece buffer phase (take (length bytes - i) (drop i bytes)) None buffer' phase' → SoFar buffer₀ phase₀ buffer' phase' bytes found
   SoFar-all s t = rw (append-nil found, take-append-drop i bytes) at (SoFar-more s (rw (take_rest bytes i) at t.takes))
 
-  -- a piece ends in them behind so many
+  -- a piece ends in them behind that many
   pub SoFar-piece : (end : PieceEnd) (count : ℕ) → SoFar buffer₀ phase₀ buffer phase (take i bytes) found → TakesPiece buffer phase (take (length bytes - i) (drop i bytes)) (Some (end, count)) buffer' phase'
       → SoFar buffer₀ phase₀ buffer' phase' (take (i + count) bytes) (found ++ outcome_at end buffer' ∷ [])
   SoFar-piece end count s t = rw (take-add i count bytes) (SoFar-more s (rw (take_rest bytes i) at t.takes))

@@ -7,86 +7,86 @@ use Rattle.std.proofs.lemmas.Bool.{ne_eqb, eqb-true, lt-ltb, cases_lt}
 use Rattle.std.specs.List.{All}
 use borrow.Rule.Slice.PartMut.{put_mid}
 use Rattle.cobs.specs.Grammar.{HasNoZero, code_of, is_full}
-use Rattle.cobs.specs.Piece.{output, last_part, lacks, parts, parts_after}
-use Rattle.cobs.specs.Feed.{Phase, Within, Over}
+use Rattle.cobs.specs.Piece.{output, last_part, missing, parts, parts_after}
+use Rattle.cobs.specs.Feed.{Phase, Within, Overlong}
 use Rattle.cobs.specs.declared.dec.unbuffered.UnbufferedDecoder.{UnbufferedDecoder}
 use Rattle.cobs.specs.Fields.Decoders.{phase_of, phase_with}
-use Rattle.cobs.specs.Internal.FedInTurn.{FedInTurn}
-use Rattle.cobs.specs.Step.{grows, next_phase, next_buffer, next_answer, end_answer, if_over}
-use Rattle.cobs.proofs.decoding.PieceLemmas.{output-one, last_part-one, output-push_more, output-push_next, last_part-push_next, lacks-push_more, is_full-push_more}
+use Rattle.cobs.specs.Internal.FeedsQuietly.{FeedsQuietly}
+use Rattle.cobs.specs.Step.{grows, next_phase, next_buffer, next_result, end_result, error_if_overlong}
+use Rattle.cobs.proofs.decoding.PieceLemmas.{output-one, last_part-one, output-push_more, output-push_next, last_part-push_next, missing-push_more, is_full-push_more}
 use Rattle.cobs.proofs.decoding.PieceCuts.{last_part-more, last_part-last, output-last, output-more, joint_of, output_short}
 use Rattle.cobs.proofs.streaming.LastPiece.{output-grows}
 use Rattle.cobs.proofs.streaming.RunLemmas.{over, over-nil, over-push, begun}
 
 -- the bytes are fed in two parts
-pub FedInTurn-append : (xs ys buffer buffer' buffer'' : List ℕ) (phase phase' phase'' : Phase)
-    → FedInTurn buffer phase xs buffer' phase' → FedInTurn buffer' phase' ys buffer'' phase'' → FedInTurn buffer phase (xs ++ ys) buffer'' phase''
-FedInTurn-append [] ys buffer buffer' buffer'' phase phase' phase'' f g = grind arith
-FedInTurn-append (x ∷ xs) ys buffer buffer' buffer'' phase phase' phase'' f g =
-    (f.0, FedInTurn-append xs ys (next_buffer buffer phase x) buffer' buffer'' (next_phase (length buffer) phase x) phase' phase'' f.1 g)
+pub FeedsQuietly-append : (xs ys buffer buffer' buffer'' : List ℕ) (phase phase' phase'' : Phase)
+    → FeedsQuietly buffer phase xs buffer' phase' → FeedsQuietly buffer' phase' ys buffer'' phase'' → FeedsQuietly buffer phase (xs ++ ys) buffer'' phase''
+FeedsQuietly-append [] ys buffer buffer' buffer'' phase phase' phase'' f g = grind arith
+FeedsQuietly-append (x ∷ xs) ys buffer buffer' buffer'' phase phase' phase'' f g =
+    (f.0, FeedsQuietly-append xs ys (next_buffer buffer phase x) buffer' buffer'' (next_phase (length buffer) phase x) phase' phase'' f.1 g)
 
 -- the bytes behind those that were fed
-pub joined : (bytes buffer buffer' buffer'' : List ℕ) (phase phase' phase'' : Phase) (run more : ℕ) → FedInTurn buffer phase (take run bytes) buffer' phase'
-    → FedInTurn buffer' phase' (take more (drop run bytes)) buffer'' phase'' → FedInTurn buffer phase (take (run + more) bytes) buffer'' phase''
-joined bytes buffer buffer' buffer'' phase phase' phase'' run more f g = grind (arith, take-add, FedInTurn-append)
+pub joined : (bytes buffer buffer' buffer'' : List ℕ) (phase phase' phase'' : Phase) (run more : ℕ) → FeedsQuietly buffer phase (take run bytes) buffer' phase'
+    → FeedsQuietly buffer' phase' (take more (drop run bytes)) buffer'' phase'' → FeedsQuietly buffer phase (take (run + more) bytes) buffer'' phase''
+joined bytes buffer buffer' buffer'' phase phase' phase'' run more f g = grind (arith, take-add, FeedsQuietly-append)
 
 length-over : (base : ℕ) (buffer xs : List ℕ) → base + length xs ≤ length buffer → length (over base buffer xs) ≡ length buffer
 length-over base buffer xs room = omega (arith, length-append (take base buffer) (xs ++ drop (base + length xs) buffer), length-append xs (drop (base + length xs) buffer), length-take-le base buffer (omega arith), length-drop (base + length xs) buffer)
 
 -- the phase behind the front q of a stretch whose output begins at base
 abbrev pub phase_at : ℕ → List ℕ → Phase
-phase_at base q = Within (is_full (last_part q)) (lacks (last_part q)) (base + length (output q))
+phase_at base q = Within (is_full (last_part q)) (missing (last_part q)) (base + length (output q))
 
 -- a byte behind a front of the stretch
 record Steps (base : ℕ) (buffer : List ℕ) (phase : Phase) (before q' : List ℕ) (x : ℕ) : Type 0 where
-  answer : next_answer (length buffer) phase x ≡ Ok None
+  returned : next_result (length buffer) phase x ≡ Ok None
   phase_is : next_phase (length buffer) phase x ≡ phase_at base q'
   buffer_is : next_buffer (over base buffer before) phase x ≡ over base buffer (output q')
 
-answer_if : (n : ℕ) (phase phase' : Phase) (x : ℕ) → x ≢ 0 → next_phase n phase x ≡ phase' → if_over phase' ≡ Ok None → next_answer n phase x ≡ Ok None
-answer_if n phase phase' x nz e o = ap (λ (v : Bool). cond v (end_answer n phase) (if_over (next_phase n phase x))) (ne_eqb x 0 nz) ∙ ap if_over e ∙ o
+result_if : (n : ℕ) (phase phase' : Phase) (x : ℕ) → x ≢ 0 → next_phase n phase x ≡ phase' → error_if_overlong phase' ≡ Ok None → next_result n phase x ≡ Ok None
+result_if n phase phase' x nz e o = ap (λ (v : Bool). cond v (end_result n phase) (error_if_overlong (next_phase n phase x))) (ne_eqb x 0 nz) ∙ ap error_if_overlong e ∙ o
 
 grown_phase : (n : ℕ) (full : Bool) (left count : ℕ) → count < n → grows n full left count ≡ Within full left (count + 1)
-grown_phase n full left count room = ap (λ (v : Bool). cond v (Within full left (count + 1)) Over) (lt-ltb count n room)
+grown_phase n full left count room = ap (λ (v : Bool). cond v (Within full left (count + 1)) Overlong) (lt-ltb count n room)
 
 pub within_same : (full full' : Bool) (left left' count count' : ℕ) → full ≡ full' → left ≡ left' → count ≡ count' → Within full left count ≡ Within full' left' count'
 within_same full full' left left' count count' f l c = ap (λ (v : Bool). Within v left count) f ∙ ap (λ (k : ℕ). Within full' k count) l ∙ ap (λ (k : ℕ). Within full' left' k) c
 
-step_at : (base : ℕ) (buffer : List ℕ) (c : ℕ) (q : List ℕ) (x : ℕ) (full : Bool) (left : ℕ) → is_full (last_part (c ∷ q)) ≡ full → lacks (last_part (c ∷ q)) ≡ left → x ≢ 0
+step_at : (base : ℕ) (buffer : List ℕ) (c : ℕ) (q : List ℕ) (x : ℕ) (full : Bool) (left : ℕ) → is_full (last_part (c ∷ q)) ≡ full → missing (last_part (c ∷ q)) ≡ left → x ≢ 0
     → base + length (output (c ∷ q ++ x ∷ [])) ≤ length buffer → Steps base buffer (Within full left (base + length (output (c ∷ q)))) (output (c ∷ q)) (c ∷ q ++ x ∷ []) x
 step_at base buffer c q x full (suc left) f l nz room =
-    grind (arith, output-push_more (c ∷ q) x, lacks-push_more (c ∷ q) x, is_full-push_more (c ∷ q) x, length_push, ne_eqb, grown_phase, within_same, answer_if, over, over-push)
-step_at base buffer c q x true zero f l nz room = grind (arith, output-push_next, append-nil, ne_eqb, within_same, last_part-push_next, answer_if, over)
-step_at base buffer c q x false zero f l nz room = grind (arith, output-push_next, length_push, ne_eqb, grown_phase, within_same, last_part-push_next, answer_if, over, over-push)
+    grind (arith, output-push_more (c ∷ q) x, missing-push_more (c ∷ q) x, is_full-push_more (c ∷ q) x, length_push, ne_eqb, grown_phase, within_same, result_if, over, over-push)
+step_at base buffer c q x true zero f l nz room = grind (arith, output-push_next, append-nil, ne_eqb, within_same, last_part-push_next, result_if, over)
+step_at base buffer c q x false zero f l nz room = grind (arith, output-push_next, length_push, ne_eqb, grown_phase, within_same, last_part-push_next, result_if, over, over-push)
 
 -- a stretch behind the front of it that was fed
-FedInTurn-on : (base : ℕ) (buffer : List ℕ) (c : ℕ) (q tail : List ℕ) → HasNoZero tail → base + length (output (c ∷ q ++ tail)) ≤ length buffer
-    → FedInTurn (over base buffer (output (c ∷ q))) (phase_at base (c ∷ q)) tail (over base buffer (output (c ∷ q ++ tail))) (phase_at base (c ∷ q ++ tail))
-FedInTurn-on base buffer c q [] h room = (ap (λ (z : List ℕ). over base buffer (output z)) (append-nil (c ∷ q)), ap (phase_at base) (append-nil (c ∷ q)))
-FedInTurn-on base buffer c q (x ∷ tail) h room =
+FeedsQuietly-on : (base : ℕ) (buffer : List ℕ) (c : ℕ) (q tail : List ℕ) → HasNoZero tail → base + length (output (c ∷ q ++ tail)) ≤ length buffer
+    → FeedsQuietly (over base buffer (output (c ∷ q))) (phase_at base (c ∷ q)) tail (over base buffer (output (c ∷ q ++ tail))) (phase_at base (c ∷ q ++ tail))
+FeedsQuietly-on base buffer c q [] h room = (ap (λ (z : List ℕ). over base buffer (output z)) (append-nil (c ∷ q)), ap (phase_at base) (append-nil (c ∷ q)))
+FeedsQuietly-on base buffer c q (x ∷ tail) h room =
     let same : (c ∷ q ++ x ∷ []) ++ tail ≡ c ∷ q ++ x ∷ tail = append_assoc (c ∷ q) (x ∷ []) tail in
     let long : length (over base buffer (output (c ∷ q))) ≡ length buffer = length-over base buffer (output (c ∷ q)) (omega (arith, output-grows (c ∷ q) (x ∷ tail))) in
     let fits : base + length (output ((c ∷ q ++ x ∷ []) ++ tail)) ≤ length buffer = omega (arith, ap (λ (z : List ℕ). length (output z)) same) in
     let s : Steps base buffer (phase_at base (c ∷ q)) (output (c ∷ q)) (c ∷ q ++ x ∷ []) x
     = step_at base buffer c q x _ _ refl refl (All-head (λ b. b ≢ 0) x tail h) (omega (arith, output-grows (c ∷ q ++ x ∷ []) tail)) in
-    let again : FedInTurn (over base buffer (output (c ∷ q ++ x ∷ []))) (phase_at base (c ∷ q ++ x ∷ [])) tail (over base buffer (output ((c ∷ q ++ x ∷ []) ++ tail))) (phase_at base ((c ∷ q ++ x ∷ []) ++ tail))
-    = FedInTurn-on base buffer c (q ++ x ∷ []) tail (All-tail (λ b. b ≢ 0) x tail h) fits in
+    let again : FeedsQuietly (over base buffer (output (c ∷ q ++ x ∷ []))) (phase_at base (c ∷ q ++ x ∷ [])) tail (over base buffer (output ((c ∷ q ++ x ∷ []) ++ tail))) (phase_at base ((c ∷ q ++ x ∷ []) ++ tail))
+    = FeedsQuietly-on base buffer c (q ++ x ∷ []) tail (All-tail (λ b. b ≢ 0) x tail h) fits in
     grind (arith, append_assoc, over, length-over, output-grows, step_at, All-head, All-tail)
 
 over-start : (base c : ℕ) (buffer : List ℕ) → over base buffer (output (c ∷ [])) ≡ buffer
 over-start base c buffer = ap (over base buffer) (output-one c) ∙ over-nil base buffer
 
 phase-start : (base c : ℕ) → phase_at base (c ∷ []) ≡ Within (eqb c 255) (c - 1) base
-phase-start base c = within_same _ _ _ _ _ _ (ap is_full (last_part-one c)) (ap lacks (last_part-one c)) (omega (arith, ap length (output-one c)))
+phase-start base c = within_same _ _ _ _ _ _ (ap is_full (last_part-one c)) (ap missing (last_part-one c)) (omega (arith, ap length (output-one c)))
 
--- a full part that lacks nothing has written bytes
-written_by : (n : ℕ) (p : List ℕ) → length p ≤ n → 0 < length p → is_full (last_part p) ≡ true → lacks (last_part p) ≡ 0 → 0 < length (output p)
+-- a full part that is whole has written bytes
+written_by : (n : ℕ) (p : List ℕ) → length p ≤ n → 0 < length p → is_full (last_part p) ≡ true → missing (last_part p) ≡ 0 → 0 < length (output p)
 written_by n [] h some f l = absurd (omega arith)
 written_by zero (code ∷ bytes) h some f l = absurd (omega arith)
 written_by (suc n) (code ∷ bytes) h some f l = grind (arith, cases_lt, length-drop, last_part-more, output-more, length-append, joint_of, eqb-true, last_part-last, output-last)
 
 -- the phase behind a stretch, by the fields of a decoder
-phase_with-at : (base : ℕ) (p : List ℕ) (full : Bool) (left : ℕ) → 0 < length p → is_full (last_part p) ≡ full → lacks (last_part p) ≡ left
+phase_with-at : (base : ℕ) (p : List ℕ) (full : Bool) (left : ℕ) → 0 < length p → is_full (last_part p) ≡ full → missing (last_part p) ≡ left
     → phase_with full left (base + length (output p)) ≡ Within full left (base + length (output p))
 phase_with-at base p full left h e q = grind (arith, begun, written_by)
 
@@ -96,7 +96,7 @@ put_over : (at written : ℕ) (dest ys out : List ℕ) → at + length out ≤ l
     → put_mid at (length dest - at) dest ys ≡ over at dest out
 put_over at written dest ys out room long front rest = grind (arith, drop_all, length-drop, take-append-drop, take_rest, drop-drop, append-nil)
 
--- the last part of a piece of bytes has a code below 256, and lacks less
+-- the last part of a piece of bytes has a code below 256, and fewer bytes are missing
 last_by : (n : ℕ) (p : List ℕ) → length p ≤ n → All (λ b. b < 256) p → code_of (last_part p) < 256
 unfolding last_part parts parts_after
 last_by n [] h small = omega arith
@@ -113,26 +113,26 @@ code_small p small = last_by (length p) p (omega arith) small
 pub code_phase : (inner : UnbufferedDecoder) (code : ℕ) → inner.over ≡ false → inner.code ≡ code → inner.left + 1 ≡ code → phase_of inner ≡ phase_at inner.dest_idx (code ∷ [])
 code_phase inner code going is left =
     let one = last_part-one code in
-    ap (λ (v : Bool). cond v Over (phase_with (eqb inner.code 255) inner.left inner.dest_idx)) going
+    ap (λ (v : Bool). cond v Overlong (phase_with (eqb inner.code 255) inner.left inner.dest_idx)) going
     ∙ ap (λ (k : ℕ). phase_with (eqb inner.code 255) inner.left k) {y = inner.dest_idx + length (output (code ∷ []))} (omega (arith, ap length (output-one code)))
-    ∙ phase_with-at inner.dest_idx (code ∷ []) (eqb inner.code 255) inner.left (omega arith) (ap is_full one ∙ ap (λ (k : ℕ). eqb k 255) (sym is)) (ap lacks one ∙ omega arith)
-    ∙ within_same _ _ _ _ _ _ (ap (λ (k : ℕ). eqb k 255) is ∙ sym (ap is_full one)) (omega (arith, ap lacks one)) refl
+    ∙ phase_with-at inner.dest_idx (code ∷ []) (eqb inner.code 255) inner.left (omega arith) (ap is_full one ∙ ap (λ (k : ℕ). eqb k 255) (sym is)) (ap missing one ∙ omega arith)
+    ∙ within_same _ _ _ _ _ _ (ap (λ (k : ℕ). eqb k 255) is ∙ sym (ap is_full one)) (omega (arith, ap missing one)) refl
 
-pub piece_fed : (before dest ys p : List ℕ) (phase phase' : Phase) (at code left count : ℕ) → 0 < length p → FedInTurn before phase (get_or p 0 0 ∷ []) dest phase'
+pub piece_fed : (before dest ys p : List ℕ) (phase phase' : Phase) (at code left count : ℕ) → 0 < length p → FeedsQuietly before phase (get_or p 0 0 ∷ []) dest phase'
     → phase' ≡ phase_at at (get_or p 0 0 ∷ []) → HasNoZero p → at + length (output p) ≤ length dest → count ≡ length (output p) → take count ys ≡ output p
-    → drop count ys ≡ drop count (take (length dest - at) (drop at dest)) → code ≡ code_of (last_part p) → left ≡ lacks (last_part p)
-    → FedInTurn before phase p (put_mid at (length dest - at) dest ys) (phase_with (eqb code 255) left (at + count))
+    → drop count ys ≡ drop count (take (length dest - at) (drop at dest)) → code ≡ code_of (last_part p) → left ≡ missing (last_part p)
+    → FeedsQuietly before phase p (put_mid at (length dest - at) dest ys) (phase_with (eqb code 255) left (at + count))
 piece_fed before dest ys [] phase phase' at code left count some first from nz room long front rest code-is left-is = absurd (omega arith)
 piece_fed before dest ys (byte ∷ q) phase phase' at code left count some first from nz room long front rest code-is left-is =
     let p : List ℕ = byte ∷ q in
-    let fed : FedInTurn dest (phase_at at (byte ∷ [])) q (over at dest (output p)) (phase_at at p)
-    = rw (over-start at byte dest) at (FedInTurn-on at dest byte [] q (All-tail (λ b. b ≢ 0) byte q nz) room) in
+    let fed : FeedsQuietly dest (phase_at at (byte ∷ [])) q (over at dest (output p)) (phase_at at p)
+    = rw (over-start at byte dest) at (FeedsQuietly-on at dest byte [] q (All-tail (λ b. b ≢ 0) byte q nz) room) in
     let written : put_mid at (length dest - at) dest ys ≡ over at dest (output p) = put_over at count dest ys (output p) room long front rest in
     let to : phase_with (eqb code 255) left (at + count) ≡ phase_at at p
     = ap (λ (k : ℕ). phase_with (eqb code 255) left (at + k)) long
     ∙ phase_with-at at p (eqb code 255) left some (ap (λ (k : ℕ). eqb k 255) (sym code-is)) (sym left-is)
     ∙ within_same _ _ _ _ _ _ (ap (λ (k : ℕ). eqb k 255) code-is) left-is refl in
-    rw (written, to) (FedInTurn-append (byte ∷ []) q before dest (over at dest (output p)) phase (phase_at at (byte ∷ [])) (phase_at at p) (rw from at first) fed)
+    rw (written, to) (FeedsQuietly-append (byte ∷ []) q before dest (over at dest (output p)) phase (phase_at at (byte ∷ [])) (phase_at at p) (rw from at first) fed)
 
 -- THE OPEN BLOCK
 
@@ -180,8 +180,8 @@ module _ (inner : UnbufferedDecoder) (len : ℕ) (before dest xs : List ℕ) (lo
   open_small fits below = subst (λ (p : List ℕ). code_of (last_part p) < 256) (sym piece-is) (code_small ((inner.left + 1) ∷ xs) (All-cons (λ b. b < 256) (inner.left + 1) xs (omega arith) below))
 
   pub open_fed : (code left : ℕ) (ys : List ℕ) → inner.over ≡ false → inner.code ≢ 255 → HasNoZero xs → inner.left < len → len < 254
-      → take (len + 1 - 1) ys ≡ output piece → drop (len + 1 - 1) ys ≡ drop (len + 1 - 1) copy → code ≡ code_of (last_part piece) → left ≡ lacks (last_part piece)
-      → FedInTurn before (phase_of inner) xs (put_mid inner.dest_idx (length dest - inner.dest_idx) dest ys)
+      → take (len + 1 - 1) ys ≡ output piece → drop (len + 1 - 1) ys ≡ drop (len + 1 - 1) copy → code ≡ code_of (last_part piece) → left ≡ missing (last_part piece)
+      → FeedsQuietly before (phase_of inner) xs (put_mid inner.dest_idx (length dest - inner.dest_idx) dest ys)
       (phase_of (record { dest_idx = inner.dest_idx + len; left = left; code = code; over = inner.over }))
   open_fed code left ys going other nz more few front rest code-is left-is =
       let at : ℕ = inner.dest_idx in
@@ -189,14 +189,14 @@ module _ (inner : UnbufferedDecoder) (len : ℕ) (before dest xs : List ℕ) (lo
       let short : length (output (c ∷ xs)) ≡ length xs = omega (arith, output_short (c ∷ xs)) in
       let same : length dest ≡ length before = ap length dest-is ∙ length-over at before xs (omega arith) in
       let n : len + 1 - 1 ≡ length xs = omega arith in
-      let fed : FedInTurn (over at before (output (c ∷ []))) (phase_at at (c ∷ [])) xs (over at before (output (c ∷ xs))) (phase_at at (c ∷ xs))
-      = FedInTurn-on at before c [] xs nz (omega arith) in
+      let fed : FeedsQuietly (over at before (output (c ∷ []))) (phase_at at (c ∷ [])) xs (over at before (output (c ∷ xs))) (phase_at at (c ∷ xs))
+      = FeedsQuietly-on at before c [] xs nz (omega arith) in
       let written : put_mid at (length dest - at) dest ys ≡ over at before (output (c ∷ xs))
       = put_over at (len + 1 - 1) dest ys (output (c ∷ xs)) (omega arith) (omega arith) (front ∙ ap output piece-is) rest
       ∙ ap (λ (l : List ℕ). over at l (output (c ∷ xs))) dest-is ∙ over-over at before xs (omega arith) (output (c ∷ xs)) short in
       let from : phase_at at (c ∷ []) ≡ Within false inner.left at = phase-start at c ∙ within_same _ _ _ _ _ _ (ne_eqb c 255 (λ e. omega arith)) (omega arith) refl in
       let code-at : code ≡ code_of (last_part (c ∷ xs)) = code-is ∙ ap (λ (p : List ℕ). code_of (last_part p)) piece-is in
-      let left-at : left ≡ lacks (last_part (c ∷ xs)) = left-is ∙ ap (λ (p : List ℕ). lacks (last_part p)) piece-is in
+      let left-at : left ≡ missing (last_part (c ∷ xs)) = left-is ∙ ap (λ (p : List ℕ). missing (last_part p)) piece-is in
       let to : phase_with (eqb code 255) left (at + len) ≡ phase_at at (c ∷ xs)
       = ap (λ (k : ℕ). phase_with (eqb code 255) left (at + k)) (sym (short ∙ long))
       ∙ phase_with-at at (c ∷ xs) (eqb code 255) left (omega arith) (ap (λ (k : ℕ). eqb k 255) (sym code-at)) (sym left-at)

@@ -5,43 +5,43 @@ use Rattle.std.proofs.lemmas.List.{append-nil}
 use Rattle.std.proofs.lemmas.List.Elements.{All-nil, All-push}
 use Rattle.std.proofs.lemmas.Grind.{common_steps}
 use Rattle.cobs.specs.Grammar.{HasNoZero, is_full, Reads}
-use Rattle.cobs.specs.Piece.{parts, parts_after, last_part, lacks, is_whole, output}
-use Rattle.cobs.specs.Table.{opened_by, table_answer, table_state, data_of, state_after, StateAfter}
+use Rattle.cobs.specs.Piece.{parts, parts_after, last_part, missing, is_whole, output}
+use Rattle.cobs.specs.Table.{opened_by, table_result, table_state, data_of, state_after, StateAfter}
 use Rattle.cobs.specs.declared.dec.state.DecoderState.{DecoderState}
 use Rattle.cobs.specs.declared.dec.state.DecoderState.TheVariants.{Idle, Grab, GrabChain}
-use Rattle.cobs.specs.Feed.{Phase, Within, Over, counted, state_in, written_in}
+use Rattle.cobs.specs.Feed.{Phase, Within, Overlong, counted, state_in, written_in}
 use Rattle.cobs.specs.Feed as phases
-use Rattle.cobs.specs.Step.{next_answer, next_phase}
+use Rattle.cobs.specs.Step.{next_result, next_phase}
 use Rattle.cobs.specs.declared.dec.state.DecodeResult.TheVariants.{DataComplete}
 use Rattle.cobs.specs.declared.dec.DecodeError.TheVariants.{InvalidFrame, TargetBufTooSmall}
 use Rattle.cobs.proofs.decoding.OutcomeLemmas.{reads_iff}
-use Rattle.cobs.proofs.decoding.PieceLemmas.{output-one, last_part-one, output-push_more, output-push_next, last_part-push_next, lacks-push_more, is_full-push_more}
+use Rattle.cobs.proofs.decoding.PieceLemmas.{output-one, last_part-one, output-push_more, output-push_next, last_part-push_next, missing-push_more, is_full-push_more}
 
--- in a block, full or not, that lacks so many bytes
+-- in a block, full or not, of which that many bytes are missing
 abbrev pub inside : Bool → ℕ → DecoderState
 inside full left = cond full (GrabChain left) (Grab left)
 
-state_after-is : (c : ℕ) (q : List ℕ) {full : Bool} {left : ℕ} → is_full (last_part (c ∷ q)) ≡ full → lacks (last_part (c ∷ q)) ≡ left → state_after (c ∷ q) ≡ inside full left
-state_after-is c q f l = ap (λ (x : Bool). inside x (lacks (last_part (c ∷ q)))) f ∙ ap (inside _) l
+state_after-is : (c : ℕ) (q : List ℕ) {full : Bool} {left : ℕ} → is_full (last_part (c ∷ q)) ≡ full → missing (last_part (c ∷ q)) ≡ left → state_after (c ∷ q) ≡ inside full left
+state_after-is c q f l = ap (λ (x : Bool). inside x (missing (last_part (c ∷ q)))) f ∙ ap (inside _) l
 
 opened_after : (c : ℕ) (q : List ℕ) (b : ℕ) → last_part (c ∷ q) ≡ b ∷ [] → opened_by b ≡ state_after (c ∷ q)
 opened_after c q b is = grind (arith, state_after-is, eqb-true)
 
 -- one more byte inside a piece
 module _ (c : ℕ) (q : List ℕ) (b : ℕ) (some : b ≢ 0) where
-  state_step : (full : Bool) (left : ℕ) → is_full (last_part (c ∷ q)) ≡ full → lacks (last_part (c ∷ q)) ≡ left → table_state (inside full left) b ≡ state_after (c ∷ q ++ b ∷ [])
-  state_step true (suc left) f l = grind (arith, ne_eqb, state_after-is, is_full-push_more (c ∷ q) b, lacks-push_more (c ∷ q) b)
-  state_step false (suc left) f l = grind (arith, ne_eqb, state_after-is, is_full-push_more (c ∷ q) b, lacks-push_more (c ∷ q) b)
+  state_step : (full : Bool) (left : ℕ) → is_full (last_part (c ∷ q)) ≡ full → missing (last_part (c ∷ q)) ≡ left → table_state (inside full left) b ≡ state_after (c ∷ q ++ b ∷ [])
+  state_step true (suc left) f l = grind (arith, ne_eqb, state_after-is, is_full-push_more (c ∷ q) b, missing-push_more (c ∷ q) b)
+  state_step false (suc left) f l = grind (arith, ne_eqb, state_after-is, is_full-push_more (c ∷ q) b, missing-push_more (c ∷ q) b)
   state_step true zero f l = grind (arith, ne_eqb, opened_after, last_part-push_next)
   state_step false zero f l = grind (arith, ne_eqb, opened_after, last_part-push_next)
 
-  data_step : (full : Bool) (left : ℕ) → is_full (last_part (c ∷ q)) ≡ full → lacks (last_part (c ∷ q)) ≡ left → output (c ∷ q) ++ data_of (table_answer (inside full left) b) ≡ output (c ∷ q ++ b ∷ [])
+  data_step : (full : Bool) (left : ℕ) → is_full (last_part (c ∷ q)) ≡ full → missing (last_part (c ∷ q)) ≡ left → output (c ∷ q) ++ data_of (table_result (inside full left) b) ≡ output (c ∷ q ++ b ∷ [])
   data_step true (suc left) f l = grind (arith, ne_eqb, output-push_more (c ∷ q) b)
   data_step false (suc left) f l = grind (arith, ne_eqb, output-push_more (c ∷ q) b)
   data_step true zero f l = grind (arith, ne_eqb, output-push_next)
   data_step false zero f l = grind (arith, ne_eqb, output-push_next)
 
--- the state behind a byte that is no zero, and the data with what the table answers to it
+-- the state behind a byte that is no zero, and the data with what the table has for it
 next_state : (p : List ℕ) (b : ℕ) → b ≢ 0 → table_state (state_after p) b ≡ state_after (p ++ b ∷ [])
 next_state p b h = grind (arith, ne_eqb, opened_after, last_part-one, state_step)
 
@@ -50,11 +50,11 @@ pub output-nil : output [] ≡ []
 unfolding output parts parts_after
 output-nil = refl
 
-next_data : (p : List ℕ) (b : ℕ) → b ≢ 0 → output p ++ data_of (table_answer (state_after p) b) ≡ output (p ++ b ∷ [])
+next_data : (p : List ℕ) (b : ℕ) → b ≢ 0 → output p ++ data_of (table_result (state_after p) b) ≡ output (p ++ b ∷ [])
 next_data p b h = grind (arith, ne_eqb, append-nil, output-nil, output-one, data_step)
 
 pub StateAfter-step : (state : DecoderState) (p so_far : List ℕ) (b : ℕ) → b < 256 → StateAfter state p so_far → b ≢ 0
-    → StateAfter (table_state state b) (p ++ b ∷ []) (so_far ++ data_of (table_answer state b))
+    → StateAfter (table_state state b) (p ++ b ∷ []) (so_far ++ data_of (table_result state b))
 StateAfter-step state p so_far b below s some =
     grind (arith, common_steps, All-push, next_state, next_data)
 
@@ -64,12 +64,12 @@ StateAfter-start = grind (arith, All-nil, output-nil)
 pub table_state-zero : (state : DecoderState) → table_state state 0 ≡ Idle
 table_state-zero state = grind arith
 
-at_end : (c : ℕ) (q : List ℕ) → table_answer (state_after (c ∷ q)) 0 ≡ cond (is_whole (c ∷ q)) (Ok DataComplete) (Err (InvalidFrame 0))
+at_end : (c : ℕ) (q : List ℕ) → table_result (state_after (c ∷ q)) 0 ≡ cond (is_whole (c ∷ q)) (Ok DataComplete) (Err (InvalidFrame 0))
 unfolding is_whole
 at_end c q = grind (arith, ne_eqb)
 
--- the zero behind p is answered by `DataComplete` exactly where p is a frame, and the data is then its message
-complete : (p m : List ℕ) → HasNoZero p → All (λ b. b < 256) p → ((table_answer (state_after p) 0 ≡ Ok DataComplete) × (output p ≡ m)) ↔ Reads p m
+-- the zero behind p returns `DataComplete` exactly if p is a frame, and the data is then its message
+complete : (p m : List ℕ) → HasNoZero p → All (λ b. b < 256) p → ((table_result (state_after p) 0 ≡ Ok DataComplete) × (output p ≡ m)) ↔ Reads p m
 complete [] m nonzero below = (λ (e, is). absurd cc, λ r. absurd (((reads_iff [] m below).0 r).0 refl))
 complete (c ∷ q) m nonzero below = (
   λ (e, is). (reads_iff (c ∷ q) m below).1 ((λ n. cc), nonzero, whole (is_whole (c ∷ q)) (sym (at_end c q) ∙ e), sym is),
@@ -80,11 +80,11 @@ complete (c ∷ q) m nonzero below = (
     whole true e = refl
     whole false e = absurd cc
 
-pub StateAfter-end : (state : DecoderState) (p so_far m : List ℕ) → StateAfter state p so_far → ((table_answer state 0 ≡ Ok DataComplete) × (so_far ≡ m)) ↔ Reads p m
+pub StateAfter-end : (state : DecoderState) (p so_far m : List ℕ) → StateAfter state p so_far → ((table_result state 0 ≡ Ok DataComplete) × (so_far ≡ m)) ↔ Reads p m
 StateAfter-end state p so_far m s =
     let h = complete p m s.piece s.bytes in (
-      λ (e, is). h.0 (ap (λ x. table_answer x 0) (sym s.state_is) ∙ e, sym s.so_far_is ∙ is),
-      λ r. let w = h.1 r in (ap (λ x. table_answer x 0) s.state_is ∙ w.0, s.so_far_is ∙ w.1),
+      λ (e, is). h.0 (ap (λ x. table_result x 0) (sym s.state_is) ∙ e, sym s.so_far_is ∙ is),
+      λ r. let w = h.1 r in (ap (λ x. table_result x 0) s.state_is ∙ w.0, s.so_far_is ∙ w.1),
     )
 
 -- THE PHASES OF A STREAMING DECODER
@@ -93,10 +93,10 @@ StateAfter-end state p so_far m s =
 coded : (n b count : ℕ) → state_in (cond (eqb b 0) phases.Idle (Within (eqb b 255) (b - 1) count)) ≡ Some (cond (eqb b 0) Idle (opened_by b))
 coded n b count = grind (arith, eqb-true)
 
-pub phase_by_table : (n : ℕ) (phase : Phase) (b : ℕ) (state : DecoderState) → state_in phase ≡ Some state → next_phase n phase b ≢ Over → state_in (next_phase n phase b) ≡ Some (table_state state b)
+pub phase_by_table : (n : ℕ) (phase : Phase) (b : ℕ) (state : DecoderState) → state_in phase ≡ Some state → next_phase n phase b ≢ Overlong → state_in (next_phase n phase b) ≡ Some (table_state state b)
 phase_by_table n phase b state h e = grind (arith, coded, eqb-true)
 
-pub answer_by_table : (n : ℕ) (phase : Phase) (b : ℕ) (state : DecoderState) → state_in phase ≡ Some state
-    → let told = table_answer state b in
-    (next_answer n phase b ≡ counted (written_in phase) told) ⊎ ((next_answer n phase b ≡ Err TargetBufTooSmall) × (n < written_in phase + length (data_of told)))
-answer_by_table n phase b state h = grind (arith, cases_lt)
+pub returned_by_table : (n : ℕ) (phase : Phase) (b : ℕ) (state : DecoderState) → state_in phase ≡ Some state
+    → let stated = table_result state b in
+    (next_result n phase b ≡ counted (written_in phase) stated) ⊎ ((next_result n phase b ≡ Err TargetBufTooSmall) × (n < written_in phase + length (data_of stated)))
+returned_by_table n phase b state h = grind (arith, cases_lt)

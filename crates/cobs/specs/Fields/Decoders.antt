@@ -13,7 +13,7 @@ use Rattle.cobs.specs.declared.dec.heapless.CobsDecoderHeapless.{CobsDecoderHeap
 use Rattle.cobs.specs.contracts.dec.buffered.CobsDecoder.{the_row as borrowed_row}
 use Rattle.cobs.specs.contracts.dec.buffered.CobsDecoderOwned.{the_row as owned_row}
 use Rattle.cobs.specs.contracts.dec.heapless.CobsDecoderHeapless.{the_row as heapless_row}
-use Rattle.cobs.specs.Feed.{Phase, Idle, Within, Over}
+use Rattle.cobs.specs.Feed.{Phase, Idle, Within, Overlong}
 use Rattle.cobs.specs.declared.dec.unbuffered.UnbufferedDecoder.{UnbufferedDecoder}
 use Rattle.cobs.specs.declared.dec.unbuffered.DecoderPhase.{DecoderPhase}
 use Rattle.cobs.specs.declared.dec.unbuffered.DecoderPhase.TheVariants.{Idle as TheIdle, Within as TheWithin, TooLong}
@@ -29,13 +29,13 @@ phase_with true zero zero = Idle
 -- the phase that a `DecoderPhase` names
 abbrev pub phase_at : DecoderPhase → Phase
 phase_at TheIdle = Idle
-phase_at (TheWithin is_full lacking written) = phase_with is_full lacking written
-phase_at TooLong = Over
+phase_at (TheWithin is_full left written) = phase_with is_full left written
+phase_at TooLong = Overlong
 
 -- where a decoder is whose buffer is passed to each call, as the three others do by the one in them. It reads the
 -- private fields: contracts name where a decoder is by this word, and know nothing else of those fields.
 abbrev pub phase_of : UnbufferedDecoder → Phase
-phase_of inner = if inner.over then Over else phase_with (inner.code == 255) inner.left inner.dest_idx
+phase_of inner = if inner.over then Overlong else phase_with (inner.code == 255) inner.left inner.dest_idx
 
 -- the bytes of the slice that was borrowed by a `CobsDecoder`
 abbrev pub borrowed_buffer : CobsDecoder → List ℕ

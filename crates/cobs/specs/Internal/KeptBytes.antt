@@ -26,7 +26,7 @@ pub record EndsFirstIn (p bytes : List ℕ) (n : ℕ) (outcome : Outcome) (rest 
   pub here : stream_outcomes (p ++ (front ++ 0 ∷ [])) n ≡ outcome ∷ []
 
 -- the result reports that piece, over the buffer
-pub record TellsFirst (next : Next) (p bytes buffer rest : List ℕ) : Type 0 where
+pub record ReportsFirst (next : Next) (p bytes buffer rest : List ℕ) : Type 0 where
   pub outcome : Outcome
   pub is : IsOutcome next buffer outcome
   pub first : EndsFirstIn p bytes (length buffer) outcome rest

@@ -2,11 +2,11 @@
 //! byte after the first code gives one byte; and whether a list is a frame.
 ghost use Rattle.std.specs.Prelude.{◌≡◌, ◌≢◌, ◌↔◌, ◌+◌, ◌-◌, ◌<◌, ◌≤◌, ◌∷◌, length, take, drop, slice_index, IsTrue, ℕ, false, List, ◌++◌};
 ghost use Rattle.cobs.specs.Grammar.{HasNoZero, code_of, IsCanonical, IsFrame};
-ghost use Rattle.cobs.specs.Piece.{lacks, last_part, output};
-ghost use Rattle.cobs.specs.Internal.Decoded.{IsFlat};
+ghost use Rattle.cobs.specs.Piece.{missing, last_part, output};
+ghost use Rattle.cobs.specs.Internal.DecodedUpTo.{IsFlat};
 ghost use Rattle.cobs.specs.Sentinel.{xor_each};
 
-use crate::dec::find::piece_len;
+use crate::dec::find::len_before_zero;
 use crate::enc::FULL_CODE;
 use cobs_bytes::window::{WINDOW, is_all, write_row};
 
@@ -16,7 +16,7 @@ use cobs_bytes::window::{WINDOW, is_all, write_row};
 /// Rows of empty blocks go by 32 at a time, and codes of one value in a row by a loop of their own, which needn't
 /// wait for each.
 #[inline(always)]
-pub(crate) fn flat_front(piece: &[u8], sentinel: u8) -> (usize, bool)
+pub(crate) fn first_stretch(piece: &[u8], sentinel: u8) -> (usize, bool)
     requires { HasNoZero (xor_each sentinel piece.now) }
     ensures within { result.0 ≤ length piece.now }
     ensures flat { 0 < result.0 → IsFlat (take result.0 (xor_each sentinel piece.now)) }
@@ -60,7 +60,12 @@ pub(crate) fn flat_front(piece: &[u8], sentinel: u8) -> (usize, bool)
 /// `alike` says that rows of empty blocks, and two codes that take turns, are worth loops of their own, which needn't
 /// wait for each.
 #[inline(always)]
-pub(crate) fn write_joints(dest: &mut [u8], first: usize, len: usize, alike: bool) -> (usize, usize)
+pub(crate) fn write_zeros_at_codes(
+    dest: &mut [u8],
+    first: usize,
+    len: usize,
+    alike: bool,
+) -> (usize, usize)
     requires some { 0 < len }
     requires room { len ≤ length dest.old + 1 }
     requires nonzero { HasNoZero (first ∷ take (len - 1) dest.old) }
@@ -68,7 +73,7 @@ pub(crate) fn write_joints(dest: &mut [u8], first: usize, len: usize, alike: boo
     ensures begins { take (len - 1) dest.new ≡ output (first ∷ take (len - 1) dest.old) }
     ensures rest { drop (len - 1) dest.new ≡ drop (len - 1) dest.old }
     ensures code { result.0 ≡ code_of (last_part (first ∷ take (len - 1) dest.old)) }
-    ensures left { result.1 ≡ lacks (last_part (first ∷ take (len - 1) dest.old)) }
+    ensures left { result.1 ≡ missing (last_part (first ∷ take (len - 1) dest.old)) }
 {
     let mut before = 0;
     let mut code = first;
@@ -142,13 +147,13 @@ pub fn frame_kind(bytes: &[u8]) -> FrameKind
     ensures canonical { (result ≡ FrameKind.Canonical) ↔ IsCanonical bytes.now }
     ensures longer { (result ≡ FrameKind.Longer) ↔ (IsFrame bytes.now × ¬ IsCanonical bytes.now) }
 {
-    if piece_len(bytes) < bytes.len() {
+    if len_before_zero(bytes) < bytes.len() {
         return FrameKind::NotAFrame;
     }
     let mut rest = bytes;
     let mut after_full = false;
     'by_front: loop {
-        let (front, full) = flat_front(rest, 0);
+        let (front, full) = first_stretch(rest, 0);
         if front == 0 {
             return FrameKind::NotAFrame;
         }

@@ -1,17 +1,17 @@
 //! The other decode forms from a source that stays as it is: for any sentinel, and into a vector.
 ghost use Rattle.std.specs.Prelude.{◌≡◌, IsTrue, false, ◌≢◌, ◌+◌, ◌-◌, ◌++◌, ◌≤◌, length, take, drop, List, ℕ, [], IfOk, IfErr, IsOkAnd};
 ghost use Rattle.cobs.specs.Overwritten.{overwritten};
-ghost use Rattle.cobs.specs.Decode.{head_answer_within, source_answer, decoded, decoded_head, IsRefusal};
+ghost use Rattle.cobs.specs.Decode.{head_result_within, result_of_sentinel_decode, decoded, decoded_head, IsErrorFor};
 ghost use Rattle.cobs.specs.Grammar.{HasNoZero, Reads};
-ghost use Rattle.cobs.specs.Headline.{AnswersMessage, IsPiece, FoundMemory};
+ghost use Rattle.cobs.specs.Headline.{ReturnsMessage, IsPiece, FoundMemory};
 ghost use Rattle.cobs.specs.Piece.{kept_output, output};
-ghost use Rattle.cobs.specs.Internal.Decoded.{IsFlat};
+ghost use Rattle.cobs.specs.Internal.DecodedUpTo.{IsFlat};
 ghost use Rattle.cobs.specs.Sentinel.{xor_each};
 ghost use Rattle.cobs.specs.Stream.{head};
 ghost use Rattle.cobs.specs.declared.dec.DecodeError.TheVariants.{EmptyFrame, TargetBufTooSmall};
 
-use crate::dec::blocks::{flat_front, write_joints};
-use crate::dec::find::first_of;
+use crate::dec::blocks::{first_stretch, write_zeros_at_codes};
+use crate::dec::find::position_or_len;
 use crate::dec::piece::copy_few;
 use crate::dec::{DecodeError, DecodeVecError, decode};
 use cobs_bytes::lanes::copy_xored_short;
@@ -20,7 +20,7 @@ use std::alloc::Global;
 
 /// Writes the bytes of the source, each XORed with the sentinel, to the front of `dest`.
 #[inline(never)]
-fn copy_xored(source: &[u8], dest: &mut [u8], sentinel: u8)
+fn xor_into(source: &[u8], dest: &mut [u8], sentinel: u8)
     requires { length source.now ≤ length dest.old }
     ensures { dest.new ≡ xor_each sentinel source.now ++ drop (length source.now) dest.old }
 {
@@ -33,15 +33,19 @@ fn copy_xored(source: &[u8], dest: &mut [u8], sentinel: u8)
 ///
 /// The whole blocks through each full one are decoded by one copy, and a zero at each code; if their bytes don't fit,
 /// those of them that do. The bytes of `dest` after that stay as they were.
-fn decode_fronts(source: &[u8], dest: &mut [u8], sentinel: u8) -> Result<usize, DecodeError>
+fn decode_xored_stretches(
+    source: &[u8],
+    dest: &mut [u8],
+    sentinel: u8,
+) -> Result<usize, DecodeError>
     requires { HasNoZero (xor_each sentinel source.now) }
-    ensures answer { result ≡ head_answer_within (xor_each sentinel source.now) (length dest.old) }
+    ensures returned { result ≡ head_result_within (xor_each sentinel source.now) (length dest.old) }
     ensures buffer { dest.new ≡ overwritten dest.old (kept_output (xor_each sentinel source.now)) }
 {
     let mut read = 0;
     let mut written = 0;
     'by_front: while read < source.len() {
-        let (len, full) = flat_front(&source[read..], sentinel);
+        let (len, full) = first_stretch(&source[read..], sentinel);
         if len == 0 {
             return Err(DecodeError::InvalidFrame {
                 decoded_bytes: written,
@@ -49,8 +53,8 @@ fn decode_fronts(source: &[u8], dest: &mut [u8], sentinel: u8) -> Result<usize, 
         }
         let fit = len.min(dest.len() - written + 1);
         let place = &mut dest[written..];
-        copy_xored(&source[read + 1..read + fit], place, sentinel);
-        write_joints(place, (source[read] ^ sentinel) as usize, fit, true);
+        xor_into(&source[read + 1..read + fit], place, sentinel);
+        write_zeros_at_codes(place, (source[read] ^ sentinel) as usize, fit, true);
         if fit < len {
             return Err(DecodeError::TargetBufTooSmall);
         }
@@ -88,7 +92,7 @@ fn decode_xored_short(source: &[u8], dest: &mut [u8], sentinel: u8) -> bool
     if !copy_xored_short(&source[1..], dest, sentinel) {
         return false;
     }
-    let (_, left) = write_joints(dest, (source[0] ^ sentinel) as usize, len, true);
+    let (_, left) = write_zeros_at_codes(dest, (source[0] ^ sentinel) as usize, len, true);
     if left > 0 {
         dest[..len - 1].copy_from_slice(&old[..len - 1]);
         return false;
@@ -124,13 +128,13 @@ pub fn decode_with_sentinel(
     dest: &mut [u8],
     sentinel: u8,
 ) -> Result<usize, DecodeError>
-    ensures answer { result ≡ source_answer (xor_each sentinel source.now) (length dest.old) }
+    ensures answer { result ≡ result_of_sentinel_decode (xor_each sentinel source.now) (length dest.old) }
     ensures buffer { dest.new ≡ overwritten dest.old
         (kept_output (head (xor_each sentinel source.now))) }
     ensures reads { (m : List ℕ) → Reads (xor_each sentinel source.now) m
-        → length m ≤ length dest.old → AnswersMessage result dest.new m }
+        → length m ≤ length dest.old → ReturnsMessage result dest.new m }
     ensures only { let f = xor_each sentinel source.now in IsPiece f → (m : List ℕ)
-        → AnswersMessage result dest.new m → Reads f m × (length m ≤ length dest.old) }
+        → ReturnsMessage result dest.new m → Reads f m × (length m ≤ length dest.old) }
 {
     if source.is_empty() {
         return Err(DecodeError::EmptyFrame);
@@ -144,8 +148,8 @@ pub fn decode_with_sentinel(
     if decode_xored_short(&source[..len], dest, sentinel) {
         return Ok(len - 1);
     }
-    let end = first_of(source, sentinel);
-    decode_fronts(&source[..end], dest, sentinel)
+    let end = position_or_len(source, sentinel);
+    decode_xored_stretches(&source[..end], dest, sentinel)
 }
 
 /// Returns the message of the first frame of the source, in a vector of exactly its bytes.
@@ -164,7 +168,7 @@ pub fn decode_with_sentinel(
 /// ```
 pub fn decode_vec(alloc: Global, source: &[u8]) -> Result<Vec<u8>, DecodeVecError>
     ensures message { IfOk result (λ message. decoded source.now ≡ Ok message.items) }
-    ensures refused { IfErr result (λ error. IsRefusal (decoded source.now) error) }
+    ensures refused { IfErr result (λ error. IsErrorFor (decoded source.now) error) }
     ensures empty { source.now ≡ [] → result ≡ Err (DecodeVecError.Decode EmptyFrame) }
     ensures room { IfErr result (λ error. error ≢ DecodeVecError.Decode TargetBufTooSmall) }
     ensures reads { FoundMemory result → (m : List ℕ) → Reads source.now m
@@ -209,7 +213,7 @@ pub fn decode_vec_with_sentinel(
     ensures message { IfOk result
         (λ message. decoded_head (xor_each sentinel source.now) ≡ Ok message.items) }
     ensures refused { IfErr result
-        (λ error. IsRefusal (decoded_head (xor_each sentinel source.now)) error) }
+        (λ error. IsErrorFor (decoded_head (xor_each sentinel source.now)) error) }
     ensures empty { source.now ≡ [] → result ≡ Err (DecodeVecError.Decode EmptyFrame) }
     ensures room { IfErr result (λ error. error ≢ DecodeVecError.Decode TargetBufTooSmall) }
     ensures reads { FoundMemory result → (m : List ℕ) → Reads (xor_each sentinel source.now) m

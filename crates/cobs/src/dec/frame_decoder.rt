@@ -1,7 +1,7 @@
 //! The traits of the streaming decoders: what `stream` and `framed` know of one, and writing to its buffer.
 ghost use Rattle.std.specs.Prelude.{◌≡◌, ◌≤◌, ℕ, List, length, ◌+◌};
 ghost use Rattle.cobs.specs.Feed.{Feeds, Phase};
-ghost use Rattle.cobs.specs.FeedPiece.{end_told, TakesPiece};
+ghost use Rattle.cobs.specs.FeedPiece.{end_reported, TakesPiece};
 ghost use Rattle.std.specs.Borrow.{sem};
 ghost use Rattle.cobs.specs.Overwritten.{written_at};
 ghost use Rattle.cobs.specs.Fields.Decoders.{LendsBytes};
@@ -30,10 +30,10 @@ pub enum PieceEnd {
 }
 
 /// What the result for a zero means: nothing if no piece has ended.
-pub(crate) fn piece_end(answer: Result<Option<usize>, DecodeError>) -> Option<PieceEnd>
-    ensures { result ≡ end_told answer }
+pub(crate) fn piece_end(returned: Result<Option<usize>, DecodeError>) -> Option<PieceEnd>
+    ensures { result ≡ end_reported returned }
 {
-    match answer {
+    match returned {
         Ok(None) | Err(DecodeError::EmptyFrame) => None,
         Ok(Some(n)) => Some(PieceEnd::Message(n)),
         Err(DecodeError::InvalidFrame { decoded_bytes }) => Some(PieceEnd::Broken(decoded_bytes)),
@@ -99,9 +99,9 @@ pub trait FrameDecoder {
         ensures same_loan { loan self.new ≡ loan self.old }
     {
         'by_byte: for (i, byte) in stream.iter().enumerate() {
-            let answer = self.feed_byte(*byte);
+            let returned = self.feed_byte(*byte);
             if *byte == 0 {
-                if let Some(end) = piece_end(answer) {
+                if let Some(end) = piece_end(returned) {
                     return Some((end, i + 1));
                 }
             }

@@ -2,10 +2,10 @@
 //! stores them.
 ghost use Rattle.std.specs.Prelude.{◌≡◌, ◌<◌, ◌≤◌, length, take, slice_index};
 ghost use Rattle.cobs.specs.Grammar.{HasNoZero};
-ghost use Rattle.cobs.specs.Internal.Decoded.{Decoded};
+ghost use Rattle.cobs.specs.Internal.DecodedUpTo.{DecodedUpTo};
 ghost use Rattle.cobs.specs.Stream.{head};
 
-use crate::dec::find::piece_len;
+use crate::dec::find::len_before_zero;
 use crate::enc::FULL_CODE;
 use cobs_bytes::window::{WIDE_WINDOW, WINDOW, copy_nonzero, is_all, write_row};
 
@@ -17,7 +17,7 @@ const STRETCH: usize = 3 * WIDE_WINDOW;
 
 /// How far a source is decoded: up to a code of it, and how many bytes of the output are written.
 #[derive(Clone, Copy)]
-pub(crate) struct Cursor {
+pub(crate) struct DecodedSoFar {
     /// How many bytes of the source are read.
     pub(crate) read: usize,
     /// How many bytes of the output are written.
@@ -35,7 +35,7 @@ pub(crate) fn decode_stretch(source: &[u8], dest: &mut [u8]) -> usize
     requires long { 193 ≤ length source.now }
     requires first { slice_index source.now 0 ≤ 64 }
     requires room { 192 ≤ length dest.old }
-    ensures decoded { Decoded (head source.now) dest.old dest.new result result }
+    ensures decoded { DecodedUpTo (head source.now) dest.old dest.new result result }
     ensures within { result ≤ 192 }
     ensures some { HasNoZero (take 193 source.now) → 0 < result }
 {
@@ -72,11 +72,11 @@ pub(crate) fn decode_stretch(source: &[u8], dest: &mut [u8]) -> usize
 /// Decodes what is at the front of a source up to a code: a block, or those of a window. It has read nothing where
 /// a zero is near.
 #[inline(always)]
-fn decode_step(source: &[u8], dest: &mut [u8]) -> Cursor
+fn decode_step(source: &[u8], dest: &mut [u8]) -> DecodedSoFar
     requires begun { 0 < length (head source.now) }
     requires long { 256 ≤ length source.now }
     requires room { 256 ≤ length dest.old }
-    ensures decoded { Decoded (head source.now) dest.old dest.new result.read result.written }
+    ensures decoded { DecodedUpTo (head source.now) dest.old dest.new result.read result.written }
     ensures slower { result.written ≤ result.read }
     ensures within { result.read ≤ 255 }
 {
@@ -84,12 +84,12 @@ fn decode_step(source: &[u8], dest: &mut [u8]) -> Cursor
     if code == FULL_CODE {
         let copied = copy_nonzero(source, 1, FULL_CODE - 1, dest, 0);
         if copied < FULL_CODE - 1 || source[FULL_CODE] == 0 {
-            return Cursor {
+            return DecodedSoFar {
                 read: 0,
                 written: 0,
             };
         }
-        return Cursor {
+        return DecodedSoFar {
             read: FULL_CODE,
             written: FULL_CODE - 1,
         };
@@ -102,7 +102,7 @@ fn decode_step(source: &[u8], dest: &mut [u8]) -> Cursor
     } else {
         0
     };
-    Cursor {
+    DecodedSoFar {
         read: step,
         written: step,
     }
@@ -113,9 +113,9 @@ fn decode_step(source: &[u8], dest: &mut [u8]) -> Cursor
 ///
 /// One bound covers both, since no step writes more than it reads.
 #[inline(never)]
-fn decode_blocks(source: &[u8], dest: &mut [u8]) -> Cursor
+fn decode_blocks(source: &[u8], dest: &mut [u8]) -> DecodedSoFar
     requires begun { 0 < length (head source.now) }
-    ensures decoded { Decoded (head source.now) dest.old dest.new result.read result.written }
+    ensures decoded { DecodedUpTo (head source.now) dest.old dest.new result.read result.written }
     ensures within { result.written ≤ length dest.old }
 {
     let mut read = 0;
@@ -125,7 +125,7 @@ fn decode_blocks(source: &[u8], dest: &mut [u8]) -> Cursor
         if end <= read {
             let left = (source.len() - read).min(dest.len() - written);
             if left < 2 * LONGEST_STEP {
-                return Cursor { read, written };
+                return DecodedSoFar { read, written };
             }
             end = read + (left - LONGEST_STEP);
         }
@@ -133,7 +133,7 @@ fn decode_blocks(source: &[u8], dest: &mut [u8]) -> Cursor
         read += step.read;
         written += step.written;
         if step.read == 0 {
-            return Cursor { read, written };
+            return DecodedSoFar { read, written };
         }
     }
 }
@@ -142,19 +142,19 @@ fn decode_blocks(source: &[u8], dest: &mut [u8]) -> Cursor
 /// the first zero, and finds that zero. Returns how far it has come, and how many bytes are in front of the zero. A
 /// short source has no such front.
 #[inline(always)]
-pub(crate) fn decode_front(source: &[u8], dest: &mut [u8]) -> (Cursor, usize)
+pub(crate) fn decode_ahead(source: &[u8], dest: &mut [u8]) -> (DecodedSoFar, usize)
     requires begun { 0 < length (head source.now) }
-    ensures decoded { Decoded (head source.now) dest.old dest.new result.0.read result.0.written }
+    ensures decoded { DecodedUpTo (head source.now) dest.old dest.new result.0.read result.0.written }
     ensures within { result.0.written ≤ length dest.old }
     ensures end { result.1 ≡ length (head source.now) }
 {
     if source.len() < 2 * LONGEST_STEP {
-        let none = Cursor {
+        let none = DecodedSoFar {
             read: 0,
             written: 0,
         };
-        return (none, piece_len(source));
+        return (none, len_before_zero(source));
     }
     let front = decode_blocks(source, dest);
-    (front, front.read + piece_len(&source[front.read..]))
+    (front, front.read + len_before_zero(&source[front.read..]))
 }

@@ -1,17 +1,17 @@
 //! Decoding a frame in its own buffer.
 ghost use Rattle.std.specs.Prelude.{All, ◌≡◌, ◌≢◌, ◌↔◌, ◌+◌, ◌-◌, ◌<◌, ◌≤◌, ◌∷◌, ℕ, IsTrue, false, List, length, take, drop, slice_index, IfErr};
 ghost use Rattle.cobs.specs.Overwritten.{overwritten};
-ghost use Rattle.cobs.specs.Decode.{head_answer, in_place, in_place_answer, in_place_report};
+ghost use Rattle.cobs.specs.Decode.{head_result, in_place, result_in_place, in_place_report};
 ghost use Rattle.cobs.specs.Grammar.{HasNoZero, Reads, code_of};
-ghost use Rattle.cobs.specs.Headline.{AnswersMessage, IsPiece, ReportsMessage};
+ghost use Rattle.cobs.specs.Headline.{ReturnsMessage, IsPiece, ReportsMessage};
 ghost use Rattle.cobs.specs.Piece.{kept_output, last_part, output};
 ghost use Rattle.cobs.specs.Stream.{head};
-ghost use Rattle.cobs.specs.Internal.Decoded.{DecodedSource, IsFlat, whole_left};
+ghost use Rattle.cobs.specs.Internal.DecodedUpTo.{DecodedSource, IsFlat, whole_left};
 ghost use Rattle.cobs.specs.Sentinel.{xor_each};
 ghost use Rattle.cobs.specs.declared.dec.DecodeError.TheVariants.{TargetBufTooSmall};
 
-use crate::dec::blocks::{flat_front, write_joints};
-use crate::dec::find::piece_len;
+use crate::dec::blocks::{first_stretch, write_zeros_at_codes};
+use crate::dec::find::len_before_zero;
 use crate::dec::piece::copy_few;
 use crate::dec::{DecodeError, DecodeReport};
 use crate::enc::{FULL_CODE, xor_bytes};
@@ -24,7 +24,7 @@ use cobs_bytes::window::{WIDE_WINDOW, WINDOW, is_all, write_row};
 /// A code is overwritten only if the block that it begins is whole. Rows of empty blocks go by 32 at a time, and two
 /// codes that take turns by a loop of their own, which needn't wait for each.
 #[inline(always)]
-fn mark_front(first: usize, rest: &mut [u8], len: usize) -> (usize, usize)
+fn write_zeros_through_full(first: usize, rest: &mut [u8], len: usize) -> (usize, usize)
     requires room { len ≤ length rest.old + 1 }
     requires nonzero { HasNoZero (first ∷ take (len - 1) rest.old) }
     requires whole { first ≤ len }
@@ -78,7 +78,7 @@ fn mark_front(first: usize, rest: &mut [u8], len: usize) -> (usize, usize)
 /// The blocks are walked over first, as far as the next full one, since the bytes behind the message must stay. Then all
 /// their bytes are moved at once, and a zero is written at each code.
 #[inline(never)]
-fn decode_behind(buffer: &mut [u8], end: usize, first: usize, start: usize) -> (usize, bool)
+fn decode_rest_in_place(buffer: &mut [u8], end: usize, first: usize, start: usize) -> (usize, bool)
     ghost old: { List ℕ }
     requires nonzero { HasNoZero (take end old) }
     requires within { end ≤ length buffer.old }
@@ -91,14 +91,14 @@ fn decode_behind(buffer: &mut [u8], end: usize, first: usize, start: usize) -> (
     let mut read = first;
     let mut written = start;
     'by_front: while read < end {
-        let (front, full) = flat_front(&buffer[read..end], 0);
+        let (front, full) = first_stretch(&buffer[read..end], 0);
         if front == 0 {
             return (written, false);
         }
         let place = &mut buffer[written..];
         let code = place[read - written] as usize;
         move_to_front(place, read - written + 1, front - 1);
-        write_joints(place, code, front, true);
+        write_zeros_at_codes(place, code, front, true);
         read += front;
         written += front - 1;
         if !full && read < end {
@@ -119,7 +119,7 @@ fn decode_blocks_in_place(buffer: &mut [u8], end: usize) -> Result<usize, Decode
     requires within { end ≤ length buffer.old }
     requires nonzero { HasNoZero (take end buffer.old) }
     requires old { buffer.old ≡ old }
-    ensures answer { result ≡ head_answer (take end buffer.old) }
+    ensures returned { result ≡ head_result (take end buffer.old) }
     ensures buffer { buffer.new ≡ overwritten buffer.old (kept_output (take end buffer.old)) }
 {
     if end == 0 {
@@ -129,7 +129,7 @@ fn decode_blocks_in_place(buffer: &mut [u8], end: usize) -> Result<usize, Decode
     if end < code {
         return Err(DecodeError::InvalidFrame { decoded_bytes: 0 });
     }
-    let (first, last) = mark_front(code, &mut buffer[1..], end);
+    let (first, last) = write_zeros_through_full(code, &mut buffer[1..], end);
     let mut written = first - 1;
     move_to_front(buffer, 1, written);
     if last == 1 {
@@ -143,7 +143,7 @@ fn decode_blocks_in_place(buffer: &mut [u8], end: usize) -> Result<usize, Decode
         buffer[written] = 0;
         written += 1;
     }
-    let (decoded_bytes, whole) = decode_behind(buffer, end, first, written);
+    let (decoded_bytes, whole) = decode_rest_in_place(buffer, end, first, written);
     if whole {
         Ok(decoded_bytes)
     } else {
@@ -171,7 +171,7 @@ fn decode_short_in_place(buffer: &mut [u8], end: usize) -> bool
     copy_few(&buffer[..end - 1], &mut old);
     let code = buffer[0] as usize;
     move_to_front(buffer, 1, end - 1);
-    let (_, left) = write_joints(buffer, code, end, false);
+    let (_, left) = write_zeros_at_codes(buffer, code, end, false);
     if left > 0 {
         buffer[..end - 1].copy_from_slice(&old[..end - 1]);
         return false;
@@ -184,7 +184,7 @@ fn decode_short_in_place(buffer: &mut [u8], end: usize) -> bool
 fn decode_head_in_place(buffer: &mut [u8], end: usize) -> Result<usize, DecodeError>
     requires within { end ≤ length buffer.old }
     requires nonzero { HasNoZero (take end buffer.old) }
-    ensures answer { result ≡ head_answer (take end buffer.old) }
+    ensures returned { result ≡ head_result (take end buffer.old) }
     ensures buffer { buffer.new ≡ overwritten buffer.old (kept_output (take end buffer.old)) }
 {
     if decode_short_in_place(buffer, end) {
@@ -231,12 +231,12 @@ fn decode_full_in_place(buffer: &mut [u8]) -> Result<DecodeReport, DecodeError>
     ghost old: { List ℕ }
     requires some { 0 < length buffer.old }
     requires old { buffer.old ≡ old }
-    ensures answer { result ≡ in_place_report buffer.old }
+    ensures returned { result ≡ in_place_report buffer.old }
     ensures buffer { buffer.new ≡ in_place buffer.old }
 {
     let (read, written) = decode_full_blocks(buffer);
-    let end = read + piece_len(&buffer[read..]);
-    let (frame_size, whole) = decode_behind(buffer, end, read, written);
+    let end = read + len_before_zero(&buffer[read..]);
+    let (frame_size, whole) = decode_rest_in_place(buffer, end, read, written);
     if !whole {
         return Err(DecodeError::InvalidFrame {
             decoded_bytes: frame_size,
@@ -287,7 +287,7 @@ pub fn decode_in_place_report(buf: &mut [u8]) -> Result<DecodeReport, DecodeErro
     if buf.len() > WIDE_WINDOW && buf[0] as usize == FULL_CODE {
         return decode_full_in_place(buf);
     }
-    let end = piece_len(buf);
+    let end = len_before_zero(buf);
     let frame_size = decode_head_in_place(buf, end)?;
     Ok(DecodeReport {
         parsed_size: end,
@@ -313,10 +313,10 @@ pub fn decode_in_place_report(buf: &mut [u8]) -> Result<DecodeReport, DecodeErro
 /// assert_eq!(rt; decode_in_place(&mut [2, 1, 3, 7]), Err(broken));
 /// ```
 pub fn decode_in_place(buff: &mut [u8]) -> Result<usize, DecodeError>
-    ensures answer { result ≡ in_place_answer buff.old }
+    ensures answer { result ≡ result_in_place buff.old }
     ensures buffer { buff.new ≡ in_place buff.old }
-    ensures reads { (m : List ℕ) → Reads buff.old m → AnswersMessage result buff.new m }
-    ensures only { IsPiece buff.old → (m : List ℕ) → AnswersMessage result buff.new m
+    ensures reads { (m : List ℕ) → Reads buff.old m → ReturnsMessage result buff.new m }
+    ensures only { IsPiece buff.old → (m : List ℕ) → ReturnsMessage result buff.new m
         → Reads buff.old m }
     ensures room { IfErr result (λ error. error ≢ TargetBufTooSmall) }
 {
@@ -338,12 +338,12 @@ pub fn decode_in_place(buff: &mut [u8]) -> Result<usize, DecodeError>
 /// assert_eq!(rt; buff, [10, 11, 0, 12, 12]);
 /// ```
 pub fn decode_in_place_with_sentinel(buff: &mut [u8], sentinel: u8) -> Result<usize, DecodeError>
-    ensures answer { result ≡ in_place_answer (xor_each sentinel buff.old) }
+    ensures answer { result ≡ result_in_place (xor_each sentinel buff.old) }
     ensures buffer { buff.new ≡ in_place (xor_each sentinel buff.old) }
     ensures reads { (m : List ℕ) → Reads (xor_each sentinel buff.old) m
-        → AnswersMessage result buff.new m }
+        → ReturnsMessage result buff.new m }
     ensures only { let f = xor_each sentinel buff.old in IsPiece f → (m : List ℕ)
-        → AnswersMessage result buff.new m → Reads f m }
+        → ReturnsMessage result buff.new m → Reads f m }
     ensures room { IfErr result (λ error. error ≢ TargetBufTooSmall) }
 {
     xor_bytes(buff, sentinel);

@@ -2,20 +2,20 @@
 ghost use Rattle.std.specs.Prelude.{◌≢◌, false, ◌↔◌, ◌≡◌, ◌+◌, ◌-◌, ◌++◌, ◌<◌, ◌≤◌, ℕ, List, length, take, drop, slice_index};
 ghost use Rattle.cobs.specs.Grammar.{HasNoZero, code_of};
 ghost use Rattle.cobs.specs.Overwritten.{overwritten};
-ghost use Rattle.cobs.specs.Decode.{sized};
-ghost use Rattle.cobs.specs.Internal.Decoded.{Decoded};
-ghost use Rattle.cobs.specs.Piece.{output, last_part, lacks};
+ghost use Rattle.cobs.specs.Decode.{outcome_result};
+ghost use Rattle.cobs.specs.Internal.DecodedUpTo.{DecodedUpTo};
+ghost use Rattle.cobs.specs.Piece.{output, last_part, missing};
 ghost use Rattle.cobs.specs.Stream.{head, outcome_of};
 
 use crate::dec::DecodeError;
-use crate::dec::blocks::write_joints;
-use crate::dec::front::{decode_front, decode_stretch};
+use crate::dec::blocks::write_zeros_at_codes;
+use crate::dec::front::{decode_ahead, decode_stretch};
 use crate::enc::FULL_CODE;
 use cobs_bytes::window::{WIDE_WINDOW, WINDOW, copy_window};
 
 /// What is to be known of a piece once its output is written.
 #[derive(Clone, Copy)]
-pub(crate) struct PieceOutput {
+pub(crate) struct DecodedPiece {
     /// The length of the output.
     pub(crate) written: usize,
     /// The code of the last part.
@@ -40,7 +40,7 @@ pub(crate) fn copy_few(source: &[u8], dest: &mut [u8])
 
 /// Decodes a piece in which no code is after a full part: one copy, and a zero at each code.
 #[tactic(auto, using(std::proofs::lemmas::Grind::common_steps, std::proofs::Common::take_at, std::proofs::Common::drop_at))]
-fn decode_flat_piece(piece: &[u8], dest: &mut [u8]) -> PieceOutput
+fn decode_flat_piece(piece: &[u8], dest: &mut [u8]) -> DecodedPiece
     requires some { 0 < length piece.now }
     requires nonzero { HasNoZero piece.now }
     requires flat { length (output piece.now) + 1 ≡ length piece.now }
@@ -49,11 +49,11 @@ fn decode_flat_piece(piece: &[u8], dest: &mut [u8]) -> PieceOutput
     ensures begins { take result.written dest.new ≡ output piece.now }
     ensures rest { drop result.written dest.new ≡ drop result.written dest.old }
     ensures code { result.code ≡ code_of (last_part piece.now) }
-    ensures left { result.left ≡ lacks (last_part piece.now) }
+    ensures left { result.left ≡ missing (last_part piece.now) }
 {
     copy_few(&piece[1..], dest);
-    let (code, left) = write_joints(dest, piece[0] as usize, piece.len(), false);
-    PieceOutput {
+    let (code, left) = write_zeros_at_codes(dest, piece[0] as usize, piece.len(), false);
+    DecodedPiece {
         written: piece.len() - 1,
         code,
         left,
@@ -63,7 +63,7 @@ fn decode_flat_piece(piece: &[u8], dest: &mut [u8]) -> PieceOutput
 /// Writes the output of a piece at the front of `dest`, and returns its length and what its last part is.
 ///
 /// Precondition: the output fits. No byte after it is written.
-pub(crate) fn decode_piece(piece: &[u8], dest: &mut [u8]) -> PieceOutput
+pub(crate) fn decode_piece(piece: &[u8], dest: &mut [u8]) -> DecodedPiece
     requires some { 0 < length piece.now }
     requires nonzero { HasNoZero piece.now }
     requires room { length (output piece.now) ≤ length dest.old }
@@ -71,7 +71,7 @@ pub(crate) fn decode_piece(piece: &[u8], dest: &mut [u8]) -> PieceOutput
     ensures begins { take result.written dest.new ≡ output piece.now }
     ensures rest { drop result.written dest.new ≡ drop result.written dest.old }
     ensures code { result.code ≡ code_of (last_part piece.now) }
-    ensures left { result.left ≡ lacks (last_part piece.now) }
+    ensures left { result.left ≡ missing (last_part piece.now) }
 {
     let mut read = 0;
     let mut written = 0;
@@ -94,7 +94,7 @@ pub(crate) fn decode_piece(piece: &[u8], dest: &mut [u8]) -> PieceOutput
         }
     }
     let end = decode_flat_piece(&piece[read..], &mut dest[written..]);
-    PieceOutput {
+    DecodedPiece {
         written: written + end.written,
         code: end.code,
         left: end.left,
@@ -104,7 +104,7 @@ pub(crate) fn decode_piece(piece: &[u8], dest: &mut [u8]) -> PieceOutput
 /// Writes the output of what a source has in front of its first zero, where that begins with a code, at the front of
 /// `dest`. Returns how many bytes of the source that is, and what is to be known of them.
 #[inline(always)]
-pub(crate) fn decode_head(source: &[u8], dest: &mut [u8]) -> (usize, PieceOutput)
+pub(crate) fn decode_head(source: &[u8], dest: &mut [u8]) -> (usize, DecodedPiece)
     requires begun { 0 < length (head source.now) }
     requires room { length (head source.now) ≤ length dest.old }
     ensures len { result.0 ≡ length (head source.now) }
@@ -112,11 +112,11 @@ pub(crate) fn decode_head(source: &[u8], dest: &mut [u8]) -> (usize, PieceOutput
     ensures begins { take result.1.written dest.new ≡ output (head source.now) }
     ensures rest { drop result.1.written dest.new ≡ drop result.1.written dest.old }
     ensures code { result.1.code ≡ code_of (last_part (head source.now)) }
-    ensures left { result.1.left ≡ lacks (last_part (head source.now)) }
+    ensures left { result.1.left ≡ missing (last_part (head source.now)) }
 {
-    let (front, len) = decode_front(source, dest);
+    let (front, len) = decode_ahead(source, dest);
     let end = decode_piece(&source[front.read..len], &mut dest[front.written..]);
-    let whole = PieceOutput {
+    let whole = DecodedPiece {
         written: front.written + end.written,
         code: end.code,
         left: end.left,
@@ -128,7 +128,7 @@ pub(crate) fn decode_head(source: &[u8], dest: &mut [u8]) -> (usize, PieceOutput
 /// output does, otherwise as many as fill the room.
 ///
 /// It takes one step for each code, and none where the room is enough for any piece of this length.
-pub(crate) fn fitting_len(piece: &[u8], room: usize) -> usize
+pub(crate) fn len_whose_output_fits(piece: &[u8], room: usize) -> usize
     requires some { 0 < length piece.now }
     requires nonzero { HasNoZero piece.now }
     ensures some { 0 < result }
@@ -160,7 +160,7 @@ pub(crate) fn fitting_len(piece: &[u8], room: usize) -> usize
 /// If the output is longer than `dest`, its first bytes fill `dest`; else it is at the front of `dest`, whole
 /// or broken off, and no byte after it is written.
 #[inline(always)]
-pub(crate) fn finish_piece(
+pub(crate) fn decode_rest(
     piece: &[u8],
     dest: &mut [u8],
     read: usize,
@@ -169,13 +169,13 @@ pub(crate) fn finish_piece(
     requires some { read < length piece.now }
     requires nonzero { HasNoZero piece.now }
     requires within { written ≤ length dest.old }
-    ensures answer { (old : List ℕ) → Decoded piece.now old dest.old read written
-        → result ≡ sized (outcome_of piece.now (length dest.old)) }
+    ensures returned { (old : List ℕ) → DecodedUpTo piece.now old dest.old read written
+        → result ≡ outcome_result (outcome_of piece.now (length dest.old)) }
     ensures buffer { (old : List ℕ) → length old ≡ length dest.old
-        → Decoded piece.now old dest.old read written
+        → DecodedUpTo piece.now old dest.old read written
         → dest.new ≡ overwritten old (output piece.now) }
 {
-    let fit = fitting_len(&piece[read..], dest.len() - written);
+    let fit = len_whose_output_fits(&piece[read..], dest.len() - written);
     let end = decode_piece(&piece[read..read + fit], &mut dest[written..]);
     if read + fit < piece.len() {
         return Err(DecodeError::TargetBufTooSmall);

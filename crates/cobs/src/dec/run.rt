@@ -1,16 +1,16 @@
 //! What `push` takes at once: first bytes that each return `Ok(None)`, up to a zero.
 ghost use Rattle.std.specs.Prelude.{◌≡◌, ◌≢◌, ◌<◌, ◌≤◌, ◌+◌, ◌∷◌, [], length, take, slice_index, false};
 ghost use Rattle.cobs.specs.Fields.Decoders.{phase_of};
-ghost use Rattle.cobs.specs.Internal.FedInTurn.{FedInTurn};
+ghost use Rattle.cobs.specs.Internal.FeedsQuietly.{FeedsQuietly};
 
-use crate::dec::blocks::write_joints;
+use crate::dec::blocks::write_zeros_at_codes;
 use crate::dec::piece::decode_head;
 use crate::dec::unbuffered::{FULL, UnbufferedDecoder};
 use cobs_bytes::lanes::copy_to_zero;
 use cobs_bytes::window::{WINDOW, is_all, write_row};
 
 /// So few bytes are pushed by a step each: a run takes some 130 instructions, however short it is.
-const FEW: usize = 4;
+const BY_BYTE_MAX: usize = 4;
 
 /// Behind this many bytes without a zero, those up to the next one are decoded as a whole: in a push of 64 KiB that is
 /// 1.4 to 1.7 times as fast where blocks are full, and 4 times for a zero after each byte.
@@ -31,7 +31,7 @@ impl UnbufferedDecoder {
         requires some { 0 < length bytes.now }
         requires nonzero { slice_index bytes.now 0 ≢ 0 }
         ensures within { result ≤ length bytes.now }
-        ensures fed { FedInTurn dest.old (phase_of self.old) (take result bytes.now)
+        ensures fed { FeedsQuietly dest.old (phase_of self.old) (take result bytes.now)
             dest.new (phase_of self.new) }
         ensures going { self.new.over ≡ false }
     {
@@ -57,7 +57,7 @@ impl UnbufferedDecoder {
             self.left -= len as u8;
         } else {
             // What the open block is missing is what a code of one more would open.
-            let (code, left) = write_joints(&mut dest[at..], left + 1, len + 1, false);
+            let (code, left) = write_zeros_at_codes(&mut dest[at..], left + 1, len + 1, false);
             self.code = code as u8;
             self.left = left as u8;
         }
@@ -69,7 +69,7 @@ impl UnbufferedDecoder {
     fn take_few(&mut self, dest: &mut [u8], bytes: &[u8]) -> usize
         requires going { self.old.over ≡ false }
         ensures within { result ≤ length bytes.now }
-        ensures fed { FedInTurn dest.old (phase_of self.old) (take result bytes.now)
+        ensures fed { FeedsQuietly dest.old (phase_of self.old) (take result bytes.now)
             dest.new (phase_of self.new) }
         ensures going { self.new.over ≡ false }
     {
@@ -101,7 +101,7 @@ impl UnbufferedDecoder {
         requires whole { self.old.left ≡ 0 }
         requires nonzero { code ≢ 0 }
         requires room { self.old.dest_idx < length dest.old }
-        ensures fed { FedInTurn dest.old (phase_of self.old) (code ∷ [])
+        ensures fed { FeedsQuietly dest.old (phase_of self.old) (code ∷ [])
             dest.new (phase_of self.new) }
         ensures going { self.new.over ≡ false }
         ensures code { self.new.code ≡ code }
@@ -123,7 +123,7 @@ impl UnbufferedDecoder {
         requires going { self.old.over ≡ false }
         requires whole { self.old.left ≡ 0 }
         ensures within { result ≤ length bytes.now }
-        ensures fed { FedInTurn dest.old (phase_of self.old) (take result bytes.now)
+        ensures fed { FeedsQuietly dest.old (phase_of self.old) (take result bytes.now)
             dest.new (phase_of self.new) }
     {
         if bytes.is_empty() || bytes[0] == 0 || dest.len() <= self.dest_idx {
@@ -147,7 +147,7 @@ impl UnbufferedDecoder {
     #[inline(never)]
     fn take_many(&mut self, dest: &mut [u8], bytes: &[u8]) -> usize
         ensures within { result ≤ length bytes.now }
-        ensures fed { FedInTurn dest.old (phase_of self.old) (take result bytes.now)
+        ensures fed { FeedsQuietly dest.old (phase_of self.old) (take result bytes.now)
             dest.new (phase_of self.new) }
     {
         if self.over {
@@ -164,13 +164,13 @@ impl UnbufferedDecoder {
     /// Takes first bytes that each return `Ok(None)`, up to a zero, as many as can be taken at once, and
     /// returns how many.
     #[inline(always)]
-    pub(crate) fn take_run(&mut self, dest: &mut [u8], bytes: &[u8]) -> usize
+    pub(crate) fn take_quiet(&mut self, dest: &mut [u8], bytes: &[u8]) -> usize
         ensures within { result ≤ length bytes.now }
-        ensures fed { FedInTurn dest.old (phase_of self.old) (take result bytes.now)
+        ensures fed { FeedsQuietly dest.old (phase_of self.old) (take result bytes.now)
             dest.new (phase_of self.new) }
     {
         // A piece that is too long has a result for each byte.
-        if self.over || bytes.len() <= FEW {
+        if self.over || bytes.len() <= BY_BYTE_MAX {
             return 0;
         }
         let run = self.take_few(dest, bytes);

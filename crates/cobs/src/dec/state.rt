@@ -1,7 +1,7 @@
 //! The state machine of a decoder, without a buffer.
 ghost use Rattle.std.specs.Prelude.{◌≡◌, ◌≢◌, ◌↔◌, ◌++◌, ◌∷◌, [], List, ℕ, Ok};
 ghost use Rattle.cobs.specs.Grammar.{Reads};
-ghost use Rattle.cobs.specs.Table.{data_of, opened_by, table_answer, table_state, StateAfter};
+ghost use Rattle.cobs.specs.Table.{data_of, opened_by, table_result, table_state, StateAfter};
 ghost use Rattle.cobs.specs.declared.dec.state.DecodeResult.TheVariants.{DataComplete};
 
 use crate::dec::DecodeError;
@@ -85,7 +85,7 @@ impl DecoderState {
 
     /// Returns what the table has for this state and this byte: the result, and the state after it.
     fn row(&self, byte: u8) -> (Result<DecodeResult, DecodeError>, DecoderState)
-        ensures answer { result.0 ≡ table_answer self.now byte }
+        ensures returned { result.0 ≡ table_result self.now byte }
         ensures state { result.1 ≡ table_state self.now byte }
     {
         match (self, byte) {
@@ -146,7 +146,7 @@ impl DecoderState {
     /// assert!(rt; matches!(state.feed(9), Ok(DecodeResult::NoData)));
     /// ```
     pub fn feed(&mut self, byte: u8) -> Result<DecodeResult, DecodeError>
-        ensures answer { result ≡ table_answer self.old byte }
+        ensures answer { result ≡ table_result self.old byte }
         ensures state { self.new ≡ table_state self.old byte }
 
         // After the front p of a piece, with the bytes that the results gave so far.
@@ -156,8 +156,8 @@ impl DecoderState {
             → (((result ≡ Ok DataComplete) × (so_far ≡ m)) ↔ Reads p m) }
         ensures idle { byte ≡ 0 → StateAfter self.new [] [] }
     {
-        let (answer, next) = self.row(byte);
+        let (returned, next) = self.row(byte);
         *self = next;
-        answer
+        returned
     }
 }

@@ -1,13 +1,13 @@
 //! The streaming decoder whose buffer is passed to each call. The three others are built on it.
 ghost use Rattle.std.specs.Prelude.{◌≡◌, ◌<◌, ◌≤◌, ◌+◌, ℕ, false, List, [], length, take, Err, IfOk, IfSome, ◌++◌};
-ghost use Rattle.cobs.specs.Feed.{DecoderAfter, Feeds, Idle, Over, Phase};
+ghost use Rattle.cobs.specs.Feed.{DecoderAfter, Feeds, Idle, Overlong, Phase};
 ghost use Rattle.cobs.specs.declared.dec.DecodeError.TheVariants.{TargetBufTooSmall};
 ghost use Rattle.cobs.specs.Fields.Decoders.{phase_at, phase_of};
-ghost use Rattle.cobs.specs.Step.{next_phase, next_buffer, next_answer, end_answer};
+ghost use Rattle.cobs.specs.Step.{next_phase, next_buffer, next_result, end_result};
 ghost use Rattle.cobs.specs.Push.{PushesBytes};
 ghost use Rattle.cobs.specs.FeedPiece.{TakesPiece};
 
-use crate::dec::find::piece_len;
+use crate::dec::find::len_before_zero;
 use crate::dec::frame_decoder::{PieceEnd, piece_end};
 use crate::dec::{DecodeError, DecodeReport, PushError};
 use crate::enc::FULL_CODE;
@@ -110,7 +110,7 @@ impl UnbufferedDecoder {
     /// Takes a zero, which ends a piece if one has begun, over a buffer of this length.
     #[inline(always)]
     fn end(&mut self, len: usize) -> Result<Option<usize>, DecodeError>
-        ensures answer { result ≡ end_answer len (phase_of self.old) }
+        ensures returned { result ≡ end_result len (phase_of self.old) }
         ensures idle { phase_of self.new ≡ Idle }
     {
         let ended = mem::replace(self, UnbufferedDecoder::new());
@@ -261,11 +261,11 @@ impl UnbufferedDecoder {
     /// ```
     /// let mut buffer = [0; 2];
     /// let mut decoder = UnbufferedDecoder::new();
-    /// let refused = PushError {
+    /// let rejected = PushError {
     ///     error: DecodeError::TargetBufTooSmall,
     ///     parsed_size: 4,
     /// };
-    /// assert_eq!(rt; decoder.push(&mut buffer, &[4, 7, 8, 9, 0]), Err(refused));
+    /// assert_eq!(rt; decoder.push(&mut buffer, &[4, 7, 8, 9, 0]), Err(rejected));
     /// assert_eq!(rt; buffer, [7, 8]);
     /// ```
     pub fn push(&mut self, dest: &mut [u8], bytes: &[u8]) -> Result<Option<DecodeReport>, PushError>
@@ -274,7 +274,7 @@ impl UnbufferedDecoder {
     {
         let mut at = 0;
         'by_run: while at < bytes.len() {
-            at += self.take_run(dest, &bytes[at..]);
+            at += self.take_quiet(dest, &bytes[at..]);
             if at < bytes.len() {
                 let parsed_size = at + 1;
                 match self.feed(dest, bytes[at]) {
@@ -312,16 +312,16 @@ impl UnbufferedDecoder {
         'by_run: while taken < bytes.len() {
             // Of a piece that is too long for the buffer, all in front of its zero is taken.
             taken += if self.over {
-                piece_len(&bytes[taken..])
+                len_before_zero(&bytes[taken..])
             } else {
-                self.take_run(dest, &bytes[taken..])
+                self.take_quiet(dest, &bytes[taken..])
             };
             if taken < bytes.len() {
                 let byte = bytes[taken];
-                let answer = self.feed(dest, byte);
+                let returned = self.feed(dest, byte);
                 taken += 1;
                 if byte == 0 {
-                    if let Some(end) = piece_end(answer) {
+                    if let Some(end) = piece_end(returned) {
                         return Some((end, taken));
                     }
                 }

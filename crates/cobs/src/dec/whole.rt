@@ -1,16 +1,16 @@
 //! Decoding a whole frame into another buffer.
 ghost use Rattle.std.specs.Prelude.{◌≡◌, ◌<◌, ◌≤◌, List, length, ℕ};
 ghost use Rattle.cobs.specs.Overwritten.{overwritten};
-ghost use Rattle.cobs.specs.Decode.{decode_answer, first_output, sized};
+ghost use Rattle.cobs.specs.Decode.{result_of_decode, first_output, outcome_result};
 ghost use Rattle.cobs.specs.Grammar.{Reads};
 ghost use Rattle.cobs.specs.Headline.{IsPiece, ReportsMessage};
 ghost use Rattle.cobs.specs.Piece.{output};
 ghost use Rattle.cobs.specs.Stream.{head, outcome_of};
 
-use crate::dec::blocks::write_joints;
+use crate::dec::blocks::write_zeros_at_codes;
 use crate::dec::find::leading_zeros;
-use crate::dec::front::decode_front;
-use crate::dec::piece::finish_piece;
+use crate::dec::front::decode_ahead;
+use crate::dec::piece::decode_rest;
 use crate::dec::{DecodeError, DecodeReport};
 use cobs_bytes::lanes::copy_xored_short;
 use cobs_bytes::window::WIDE_WINDOW;
@@ -18,10 +18,10 @@ use cobs_bytes::window::WIDE_WINDOW;
 /// Decodes what a source has in front of its first zero, where that begins with a code; returns how many bytes that is,
 /// and its message's length.
 #[inline(always)]
-fn decode_begun(source: &[u8], dest: &mut [u8]) -> (usize, Result<usize, DecodeError>)
+fn decode_at_code(source: &[u8], dest: &mut [u8]) -> (usize, Result<usize, DecodeError>)
     requires begun { 0 < length (head source.now) }
     ensures len { result.0 ≡ length (head source.now) }
-    ensures answer { result.1 ≡ sized (outcome_of (head source.now) (length dest.old)) }
+    ensures returned { result.1 ≡ outcome_result (outcome_of (head source.now) (length dest.old)) }
     ensures buffer { dest.new ≡ overwritten dest.old (output (head source.now)) }
 {
     let most = source.len() - 1;
@@ -30,7 +30,7 @@ fn decode_begun(source: &[u8], dest: &mut [u8]) -> (usize, Result<usize, DecodeE
         && most <= dest.len()
         && copy_xored_short(&source[1..], dest, 0)
     {
-        let (_, left) = write_joints(dest, source[0] as usize, source.len(), false);
+        let (_, left) = write_zeros_at_codes(dest, source[0] as usize, source.len(), false);
         let decoded = if left == 0 {
             Ok(most)
         } else {
@@ -40,10 +40,10 @@ fn decode_begun(source: &[u8], dest: &mut [u8]) -> (usize, Result<usize, DecodeE
         };
         return (source.len(), decoded);
     }
-    let (front, len) = decode_front(source, dest);
+    let (front, len) = decode_ahead(source, dest);
     (
         len,
-        finish_piece(&source[..len], dest, front.read, front.written),
+        decode_rest(&source[..len], dest, front.read, front.written),
     )
 }
 
@@ -76,7 +76,7 @@ fn decode_begun(source: &[u8], dest: &mut [u8]) -> (usize, Result<usize, DecodeE
 /// assert_eq!(rt; dest, [1, 2, 170]);
 /// ```
 pub fn decode(source: &[u8], dest: &mut [u8]) -> Result<DecodeReport, DecodeError>
-    ensures answer { result ≡ decode_answer source.now (length dest.old) }
+    ensures answer { result ≡ result_of_decode source.now (length dest.old) }
     ensures buffer { dest.new ≡ overwritten dest.old (first_output source.now) }
     ensures reads { (m : List ℕ) → Reads source.now m → length m ≤ length dest.old
         → ReportsMessage result dest.new m }
@@ -90,7 +90,7 @@ pub fn decode(source: &[u8], dest: &mut [u8]) -> Result<DecodeReport, DecodeErro
     if start == source.len() {
         return Err(DecodeError::InvalidFrame { decoded_bytes: 0 });
     }
-    let (len, decoded) = decode_begun(&source[start..], dest);
+    let (len, decoded) = decode_at_code(&source[start..], dest);
     let parsed_size = (start + len + 1).min(source.len());
     decoded.map(|frame_size| DecodeReport {
         parsed_size,

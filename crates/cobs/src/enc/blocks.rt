@@ -41,7 +41,7 @@ fn progress_at(index: usize, next: usize, is_full: bool) -> EncoderProgress
 
 /// Whether `len` bytes, one at least, are no more than a window and can't fill the open block.
 #[inline(always)]
-pub(crate) fn is_short(progress: EncoderProgress, len: usize) -> bool
+pub(crate) fn fits_window_and_block(progress: EncoderProgress, len: usize) -> bool
     ensures some { IsTrue result → 0 < len }
     ensures few { IsTrue result → len ≤ 32 }
     ensures open_block { IsTrue result → progress.code + len < 255 }
@@ -112,7 +112,7 @@ fn append_few(source: &[u8], dest: &mut [u8], progress: EncoderProgress) -> Enco
 }
 
 /// Takes a `source` of up to 32 bytes that can't fill the open block, by few branches that could be guessed wrong:
-/// two zeros are marked before the first question is how many there are. With `few_zeros` a source without zeros is
+/// two zeros are marked before the first question is how many there are. With `test_for_none` a source without zeros is
 /// asked for before that.
 #[inline(always)]
 #[tactic(auto, using(crate::proofs::encoding::TakingLemmas::next_steps))]
@@ -120,7 +120,7 @@ pub(crate) fn append_short(
     source: &[u8],
     dest: &mut [u8],
     progress: EncoderProgress,
-    few_zeros: bool,
+    test_for_none: bool,
 ) -> EncoderProgress
     requires some { 0 < length source.now }
     requires few { length source.now ≤ 32 }
@@ -137,7 +137,7 @@ pub(crate) fn append_short(
     let start = progress.index;
     let next = start + progress.code as usize;
     let mask = copy_window(source, 0, len, dest, next);
-    if few_zeros && mask == 0 {
+    if test_for_none && mask == 0 {
         return progress_at(start, next + len, false);
     }
     let (first, left) = mark_first(dest, start, next, mask);
@@ -269,7 +269,7 @@ pub(crate) fn run_len(source: &[u8]) -> usize
 /// come.
 #[inline(always)]
 #[tactic(auto, using(crate::proofs::encoding::TakingLemmas::next_steps))]
-fn append_run(
+fn append_long_run(
     source: &[u8],
     run: usize,
     dest: &mut [u8],
@@ -288,14 +288,14 @@ fn append_run(
     let mut next = index + progress.code as usize;
     let mut read = 0;
     'by_block: while read < run {
-        let lacking = index + FULL_CODE - next;
-        if lacking == 0 {
+        let until_full = index + FULL_CODE - next;
+        if until_full == 0 {
             dest[index] = FULL_CODE as u8;
             index = next;
             next += 1;
             continue;
         }
-        let len = lacking.min(run - read);
+        let len = until_full.min(run - read);
         dest[next..next + len].copy_from_slice(&source[read..read + len]);
         read += len;
         next += len;
@@ -314,7 +314,7 @@ fn append_run(
 /// Takes a `source` whose first run has `run` bytes: by that run, then by windows up to the next long one, in turn.
 #[inline(never)]
 #[tactic(auto, using(crate::proofs::encoding::TakingLemmas::next_steps))]
-pub(crate) fn append_runs(
+pub(crate) fn append_rest(
     source: &[u8],
     run: usize,
     dest: &mut [u8],
@@ -327,12 +327,12 @@ pub(crate) fn append_runs(
     ensures { TakesFront dest.old (reached_at progress) source.now (length source.now)
         dest.new (reached_at result) }
 {
-    let (mut read, mut progress) = append_run(source, run, dest, progress);
+    let (mut read, mut progress) = append_long_run(source, run, dest, progress);
     'by_run: while read < source.len() {
         let (windows, behind) = append_windows(&source[read..], dest, progress);
         read += windows;
         let left = &source[read..];
-        let (next, behind) = append_run(left, run_len(left), dest, behind);
+        let (next, behind) = append_long_run(left, run_len(left), dest, behind);
         read += next;
         progress = behind;
     }
@@ -343,7 +343,7 @@ pub(crate) fn append_runs(
 /// code of the open block is written only by [`close`]: what is in its place before that doesn't matter.
 ///
 /// Most of a message goes by windows. What they leave is mostly short; a long run, and last bytes that may fill the
-/// open block, go by [`append_runs`].
+/// open block, go by [`append_rest`].
 #[inline(always)]
 pub(crate) fn append(source: &[u8], dest: &mut [u8], progress: EncoderProgress) -> EncoderProgress
     requires some { 0 < length source.now }
@@ -354,10 +354,10 @@ pub(crate) fn append(source: &[u8], dest: &mut [u8], progress: EncoderProgress) 
 {
     let (read, progress) = append_windows(source, dest, progress);
     let left = &source[read..];
-    if is_short(progress, left.len()) {
+    if fits_window_and_block(progress, left.len()) {
         append_short(left, dest, progress, false)
     } else {
-        append_runs(left, run_len(left), dest, progress)
+        append_rest(left, run_len(left), dest, progress)
     }
 }
 
@@ -377,11 +377,15 @@ pub(crate) fn close(dest: &mut [u8], progress: EncoderProgress) -> usize
     progress.index + progress.code as usize
 }
 
-/// Takes a `source` as [`append_runs`] does, and ends the frame: one call at the end of `encode_long`, so that no value
+/// Takes a `source` as [`append_rest`] does, and ends the frame: one call at the end of `encode_long`, so that no value
 /// of that function has to outlive a call.
 #[inline(never)]
 #[tactic(auto, using(crate::proofs::encoding::TakingLemmas::next_steps))]
-pub(crate) fn close_runs(source: &[u8], dest: &mut [u8], progress: EncoderProgress) -> usize
+pub(crate) fn append_rest_and_close(
+    source: &[u8],
+    dest: &mut [u8],
+    progress: EncoderProgress,
+) -> usize
     requires place { IsPlaceIn (length dest.old) (reached_at progress) }
     requires fits { end_after (reached_at progress) source.now ≤ length dest.old }
     ensures frame { (m : List ℕ) → CobsEncoderAfter dest.old (reached_at progress) m
@@ -392,6 +396,6 @@ pub(crate) fn close_runs(source: &[u8], dest: &mut [u8], progress: EncoderProgre
     if source.is_empty() {
         return close(dest, progress);
     }
-    let behind = append_runs(source, run_len(source), dest, progress);
+    let behind = append_rest(source, run_len(source), dest, progress);
     close(dest, behind)
 }

@@ -5,7 +5,7 @@ ghost use Rattle.cobs.specs.OpenBlock.{IsPlaceIn, end_after};
 ghost use Rattle.cobs.specs.Fields.Progress.{reached_at};
 ghost use Rattle.cobs.specs.Internal.Taking.{IsFirstRun, TakesFront};
 
-use crate::enc::blocks::{FULL_BLOCK_BYTES, append, append_runs, run_len};
+use crate::enc::blocks::{FULL_BLOCK_BYTES, append, append_rest, run_len};
 use crate::enc::progress::EncoderProgress;
 use memchr::memrchr;
 
@@ -72,7 +72,7 @@ pub(crate) fn try_append(source: &[u8], dest: &mut [u8], progress: &mut EncoderP
         ↔ (end_after (reached_at progress.old) source.now ≤ length dest.old) }
     ensures taken { IsTrue result → TakesFront dest.old (reached_at progress.old) source.now
         (length source.now) dest.new (reached_at progress.new) }
-    ensures refused { result ≡ false
+    ensures rejected { result ≡ false
         → (dest.new ≡ dest.old) × (reached_at progress.new ≡ reached_at progress.old) }
 {
     // Field by field, here and below: fields that were stored one by one can't be loaded at once without waiting.
@@ -94,7 +94,7 @@ pub(crate) fn try_append(source: &[u8], dest: &mut [u8], progress: &mut EncoderP
     let behind = if run == 0 {
         append(source, dest, start)
     } else {
-        append_runs(source, run, dest, start)
+        append_rest(source, run, dest, start)
     };
     progress.index = behind.index;
     progress.code = behind.code;

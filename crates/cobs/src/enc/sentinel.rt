@@ -41,8 +41,8 @@ pub fn encode_with_sentinel(source: &[u8], dest: &mut [u8], sentinel: u8) -> usi
 ///
 /// ```
 /// let mut dest = [170; 3];
-/// let refused = try_encode_with_sentinel(&[1, 0, 2], &mut dest, 1);
-/// assert_eq!(rt; refused, Err(DestBufTooSmallError));
+/// let rejected = try_encode_with_sentinel(&[1, 0, 2], &mut dest, 1);
+/// assert_eq!(rt; rejected, Err(DestBufTooSmallError));
 /// assert_eq!(rt; try_encode_with_sentinel(&[1, 0], &mut dest, 1), Ok(3));
 /// assert_eq!(rt; dest, [3, 0, 0]);
 /// ```
@@ -109,8 +109,8 @@ pub fn encode_including_sentinels(source: &[u8], dest: &mut [u8]) -> usize
 ///
 /// ```
 /// let mut dest = [170; 4];
-/// let refused = try_encode_including_sentinels(&[1, 2], &mut dest);
-/// assert_eq!(rt; refused, Err(DestBufTooSmallError));
+/// let rejected = try_encode_including_sentinels(&[1, 2], &mut dest);
+/// assert_eq!(rt; rejected, Err(DestBufTooSmallError));
 /// assert_eq!(rt; try_encode_including_sentinels(&[1], &mut dest), Ok(4));
 /// assert_eq!(rt; dest, [0, 2, 1, 0]);
 /// ```

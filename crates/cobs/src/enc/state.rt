@@ -1,7 +1,7 @@
 //! The state machine of an encoder, without a buffer.
 ghost use Rattle.std.specs.Prelude.{◌≡◌, ◌<◌, ◌+◌, ◌↔◌, ◌∷◌, ◌++◌, [], ℕ, List, IsTrue, slice_set};
 ghost use Rattle.cobs.specs.Grammar.{IsOpenFrame};
-ghost use Rattle.cobs.specs.OpenBlock.{EncoderAfter, IsOpenOutput, push_answer, next_open, applied};
+ghost use Rattle.cobs.specs.OpenBlock.{EncoderAfter, IsOpenOutput, push_result, next_open, applied};
 
 use std::alloc::AllocError;
 use std::marker::Model;
@@ -98,7 +98,7 @@ impl Clone for EncoderState {
     /// ```
     /// let mut state = EncoderState::default();
     /// let copy = state.clone()?;
-    /// let _answer = state.push(7);
+    /// let _returned = state.push(7);
     /// assert_eq!(rt; state.finalize(), (0, 2));
     /// assert_eq!(rt; copy.finalize(), (0, 1));
     /// ```
@@ -136,7 +136,7 @@ impl EncoderState {
     /// ```
     pub fn push(&mut self, byte: u8) -> PushResult
         requires { self.old.index + self.old.code < usize.MAX }
-        ensures answer { result ≡ push_answer self.old byte }
+        ensures answer { result ≡ push_result self.old byte }
         ensures open { self.new ≡ next_open self.old byte }
         ensures after { (m : List ℕ) → EncoderAfter self.old m
             → EncoderAfter self.new (m ++ byte ∷ []) }
@@ -144,15 +144,15 @@ impl EncoderState {
             → IsOpenOutput (applied g result placeholder) self.new (m ++ byte ∷ []) }
     {
         if byte == 0 {
-            let answer = PushResult::ModifyFromStartAndSkip((self.code_index, self.code));
+            let returned = PushResult::ModifyFromStartAndSkip((self.code_index, self.code));
             self.code_index += self.code as usize;
             self.code = 1;
-            answer
+            returned
         } else if self.code == 254 {
-            let answer = PushResult::ModifyFromStartAndPushAndSkip((self.code_index, 255, byte));
+            let returned = PushResult::ModifyFromStartAndPushAndSkip((self.code_index, 255, byte));
             self.code_index += 255;
             self.code = 1;
-            answer
+            returned
         } else {
             self.code += 1;
             PushResult::AddSingle(byte)

@@ -7,7 +7,7 @@ ghost use Rattle.cobs.specs.Fields.Progress.{reached_at, reached_by};
 ghost use Rattle.cobs.specs.Internal.Taking.{TakesFront};
 
 use crate::enc::DestBufTooSmallError;
-use crate::enc::blocks::{FULL_BLOCK_BYTES, FULL_CODE, append_short, close, is_short};
+use crate::enc::blocks::{FULL_BLOCK_BYTES, FULL_CODE, append_short, close, fits_window_and_block};
 use crate::enc::progress::{EncoderProgress, START};
 use crate::enc::room::try_append;
 
@@ -167,7 +167,7 @@ impl UnbufferedEncoder {
         ensures fits { IsTrue result ↔ (end_after (reached_by self.old) bytes.now ≤ length dest.old) }
         ensures taken { IsTrue result → TakesFront dest.old (reached_by self.old) bytes.now
             (length bytes.now) dest.new (reached_by self.new) }
-        ensures refused { result ≡ false
+        ensures rejected { result ≡ false
             → (dest.new ≡ dest.old) × (reached_by self.new ≡ reached_by self.old) }
         ensures empty { bytes.now ≡ []
             → (dest.new ≡ dest.old) × (reached_by self.new ≡ reached_by self.old) }
@@ -177,7 +177,7 @@ impl UnbufferedEncoder {
         }
         let at = self.progress;
         let room = dest.len() - at.index;
-        if is_short(at, bytes.len()) && at.code as usize + bytes.len() <= room {
+        if fits_window_and_block(at, bytes.len()) && at.code as usize + bytes.len() <= room {
             // Field by field, so that no byte between the fields is copied.
             let behind = append_short(bytes, dest, at, true);
             self.progress.index = behind.index;
@@ -243,8 +243,8 @@ impl UnbufferedEncoder {
     /// encoder nor the buffer has changed.
     ///
     /// ```
-    /// let refused = UnbufferedEncoder::new().finalize(&mut []);
-    /// assert_eq!(rt; refused, Err(DestBufTooSmallError));
+    /// let rejected = UnbufferedEncoder::new().finalize(&mut []);
+    /// assert_eq!(rt; rejected, Err(DestBufTooSmallError));
     /// ```
     pub fn finalize(&mut self, dest: &mut [u8]) -> Result<usize, DestBufTooSmallError>
         ensures place { IsOk result ↔ IsPlaceIn (length dest.old) (reached_by self.old) }

@@ -2,11 +2,11 @@
 //! each byte, and what a decoder has taken. Then what the streaming decoders make of a frame.
 ghost use Rattle.std.specs.Prelude.{◌≡◌, ◌≢◌, ◌<◌, ◌≤◌, ◌+◌, ℕ, List, [], ◌∷◌, ◌++◌, length, take, drop, slice_index, slice_set, true, false, All, Option, Some, None, Ok, Result};
 ghost use Rattle.cobs.specs.Feed.{DecoderAfter, Feeds, Idle, Phase};
-ghost use Rattle.cobs.specs.FeedPiece.{TakesPiece, end_told, outcome_at};
+ghost use Rattle.cobs.specs.FeedPiece.{TakesPiece, end_reported, outcome_at};
 ghost use Rattle.cobs.specs.Fields.Encoders.{IsPlaceIn};
 ghost use Rattle.cobs.specs.Grammar.{HasNoZero, IsEncodedFrame, Reads};
 ghost use Rattle.cobs.specs.Headline.{IsPiece, PushesMessage};
-ghost use Rattle.cobs.specs.Step.{next_answer, next_buffer, next_phase};
+ghost use Rattle.cobs.specs.Step.{next_result, next_buffer, next_phase};
 ghost use Rattle.cobs.specs.Length.{encoded_len};
 ghost use Rattle.cobs.specs.OpenBlock.{CobsEncoderAfter, Reached, next_of, place_at};
 ghost use Rattle.cobs.specs.Push.{PushesBytes};
@@ -116,7 +116,7 @@ pub fn law_16()
 ///         buffer.new (phase_of decoder.new) }
 /// {
 ///     law_17();
-///     let _answer = decoder.feed(buffer, byte);
+///     let _returned = decoder.feed(buffer, byte);
 /// }
 /// ```
 ///
@@ -125,11 +125,11 @@ pub fn law_16()
 /// pub returns : goal.returns
 /// returns c =
 ///     let law = c.law_17.ensures in
-///     law.byte (c.args.byte ∷ []) _ _ _ _ _ _ _ 0 (omega arith) (law.nothing _ _) c.feed-answer.ensures.feeds (λ z. absurd (c.requires z))
+///     law.byte (c.args.byte ∷ []) _ _ _ _ _ _ _ 0 (omega arith) (law.nothing _ _) c.feed-returned.ensures.feeds (λ z. absurd (c.requires z))
 /// ```
 pub fn law_17()
     ensures step { (buffer : List ℕ) (phase : Phase) (byte : ℕ) → let n = length buffer in
-        Feeds buffer phase byte (next_answer n phase byte)
+        Feeds buffer phase byte (next_result n phase byte)
         (next_buffer buffer phase byte) (next_phase n phase byte) }
     ensures nothing { (buffer : List ℕ) (phase : Phase)
         → TakesPiece buffer phase [] None buffer phase }
@@ -137,13 +137,13 @@ pub fn law_17()
         (result : Result (Option ℕ) DecodeError) (i : ℕ) → i < length bytes
         → TakesPiece buffer phase (take i bytes) None between phase_between
         → Feeds between phase_between (slice_index bytes i) result buffer' phase'
-        → (slice_index bytes i ≡ 0 → end_told result ≡ None)
+        → (slice_index bytes i ≡ 0 → end_reported result ≡ None)
         → TakesPiece buffer phase (take (i + 1) bytes) None buffer' phase' }
     ensures end { (bytes buffer between buffer' : List ℕ) (phase phase_between phase' : Phase)
         (result : Result (Option ℕ) DecodeError) (end : PieceEnd) (i : ℕ) → i < length bytes
         → TakesPiece buffer phase (take i bytes) None between phase_between
         → Feeds between phase_between (slice_index bytes i) result buffer' phase'
-        → slice_index bytes i ≡ 0 → end_told result ≡ Some end
+        → slice_index bytes i ≡ 0 → end_reported result ≡ Some end
         → TakesPiece buffer phase bytes (Some (end, i + 1)) buffer' phase' }
 {}
 

@@ -45,7 +45,7 @@ pub zero_mask-none : (bytes : List ℕ) → zero_mask bytes ≡ 0 → All (λ b.
 zero_mask-none [] e = All-nil (λ b. b ≢ 0)
 zero_mask-none (b ∷ bytes) e = grind (arith, cases_eq, set_if, All-cons, (zero_mask-none bytes (omega arith)))
 
--- how many bytes stand before the first zero
+-- how many bytes are before the first zero
 abbrev pub nonzero_len : List ℕ → ℕ
 nonzero_len bytes = prefix_len (λ b. not (eqb b 0)) bytes
 
@@ -153,7 +153,7 @@ module _ (d : ℕ) (bytes : List ℕ) (few : d + length bytes ≤ 64) (some : ma
   pub mask_behind-and : bit_and (mask_behind d bytes) (mask_behind d bytes - 1) ≡ mask_behind (d + nonzero_len bytes + 1) (drop (nonzero_len bytes + 1) bytes)
   mask_behind-and = grind (arith, nonzero_len-behind, left, mask-and)
 
--- where the lowest bit stands no lower than k, the first k bytes aren't zeros
+-- where the lowest bit is no lower than k, the first k bytes aren't zeros
 pub clear_front : (bytes : List ℕ) (k : ℕ) → length bytes ≤ 64 → k ≤ count_trailing_zeros 64 (zero_mask bytes) → HasNoZero (take k bytes)
 clear_front bytes k few le =
     elim (cases_eq (zero_mask bytes) 0) [

@@ -24,7 +24,7 @@ module _ (old buffer : List ℕ) (from done start n : ℕ) (is : buffer ≡ move
       ∙ ap (λ (x : List ℕ). take start x ++ (take n (drop (from + start) old) ++ drop (start + n) x)) is
       ∙ same_lists _ _ (search (rules, places)) (λ k d h. grind (arith, places))
 
--- the next window, as it stands
+-- the next window, as it is
 pub moved-next : (old buffer : List ℕ) (from done n : ℕ) → buffer ≡ moved old from done → from + (done + n) ≤ length old → put_chunk done buffer (take n (drop (from + done) buffer)) ≡ moved old from (done + n)
 moved-next old buffer from done n is inside =
     let m = moved-more old buffer from done done n is inside (omega arith) (omega arith) in

@@ -1,4 +1,4 @@
--- Short stretches that are copied, each byte changed by exclusive or.
+-- Short stretches that are copied, each byte XORed.
 use Rattle.std.proofs.Common.{◌≡◌, ℕ, ◌+◌, ◌-◌, ◌%◌, ◌^◌, ◌≤◌, cond, eqb, List, ◌++◌, length, map, drop, take, replicate, bit_xor, ap, ◌∙◌, subst, arith, take_all, w8}
 use Rattle.std.proofs.lemmas.List.{take-map, drop-map, length-map}
 use Rattle.std.proofs.lemmas.Simd.{zip2_splat, length-chunk, bitmask_splat}

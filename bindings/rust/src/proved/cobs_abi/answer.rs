@@ -49,7 +49,7 @@ pub fn too_small() -> Answer {
 
 /// The result of a decoding call that took this many bytes, into a buffer of `room` bytes, by the message's length or
 /// the error.
-pub fn answer_by(consumed: usize, room: usize, size: Result<usize, DecodeError>) -> Answer {
+pub fn result_by(consumed: usize, room: usize, size: Result<usize, DecodeError>) -> Answer {
     let (status, length) = match size {
         Ok(length) => (OK, length),
         Err(DecodeError::EmptyFrame) => (EMPTY, 0),

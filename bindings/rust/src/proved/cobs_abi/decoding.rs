@@ -10,7 +10,7 @@ const FULL: u8 = 255;
 
 /// Returns the result of a call that took these of `len` bytes, into a buffer of `room` bytes.
 #[inline(always)]
-pub fn answer_of(
+pub fn result_of(
     decoder: &Decoder,
     found: Option<(PieceEnd, usize)>,
     len: usize,
@@ -109,5 +109,5 @@ fn take_each(
 #[inline(always)]
 pub fn decode_each(decoder: &mut Decoder, buffer: &mut [u8], bytes: &[u8], sentinel: u8) -> Answer {
     let found = take_each(decoder, buffer, bytes, sentinel);
-    answer_of(decoder, found, bytes.len(), buffer.len())
+    result_of(decoder, found, bytes.len(), buffer.len())
 }

@@ -101,6 +101,23 @@ pub fn move_to_front(buffer: &mut [u8], from: usize, len: usize) {
     }
 }
 
+/// Moves the 64 to 256 bytes from `from` on to the front of the buffer, if none is a zero, and says whether it did.
+#[inline(always)]
+pub fn move_nonzero(buffer: &mut [u8], from: usize, len: usize) -> bool {
+    let last = len - WIDE_WINDOW;
+    let second = last.min(WIDE_WINDOW);
+    let third = last.min(2 * WIDE_WINDOW);
+    let zeros = zeros_at::<64>(buffer, from)
+        | zeros_at::<64>(buffer, from + second)
+        | zeros_at::<64>(buffer, from + third)
+        | zeros_at::<64>(buffer, from + last);
+    if zeros != 0 {
+        return false;
+    }
+    move_long(buffer, from, len);
+    true
+}
+
 /// Copies `N` to `2 * N` bytes, as two parts that may overlap, if none is the sentinel, and says whether it did.
 #[inline(always)]
 fn copy_xored_two<const N: usize>(source: &[u8], dest: &mut [u8], sentinel: u8) -> bool {

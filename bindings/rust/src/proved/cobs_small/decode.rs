@@ -18,7 +18,7 @@ pub(crate) fn len_to_zero(bytes: &[u8]) -> usize {
 }
 
 /// Returns the result of a call that took these bytes, into a buffer of `room` bytes, by how the piece has ended.
-fn answer_for(consumed: usize, room: usize, end: Option<PieceEnd>) -> Answer {
+fn result_for_end(consumed: usize, room: usize, end: Option<PieceEnd>) -> Answer {
     let (status, length) = match end {
         None => (EMPTY, 0),
         Some(PieceEnd::Message(length)) => return done(consumed, length),
@@ -39,7 +39,7 @@ pub fn jcobs_decode(source: &[u8], message: &mut [u8]) -> Answer {
     if pushed.status != MORE {
         return pushed;
     }
-    answer_for(
+    result_for_end(
         source.len(),
         message.len(),
         piece_end(&decoder, message.len()),

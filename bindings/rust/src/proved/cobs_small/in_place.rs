@@ -2,7 +2,7 @@
 //! A frame that is decoded in its own place.
 
 use crate::proved::DecodeError;
-use crate::proved::cobs_abi::{Answer, answer_by};
+use crate::proved::cobs_abi::{Answer, result_by};
 use crate::proved::cobs_small::decode::len_to_zero;
 
 /// The code of a full block.
@@ -41,9 +41,9 @@ fn decode_blocks(buffer: &mut [u8], end: usize) -> Result<usize, DecodeError> {
 pub fn jcobs_decode_in_place(buffer: &mut [u8]) -> Answer {
     let room = buffer.len();
     if buffer.is_empty() {
-        return answer_by(0, room, Err(DecodeError::EmptyFrame));
+        return result_by(0, room, Err(DecodeError::EmptyFrame));
     }
     let end = len_to_zero(buffer);
     let size = decode_blocks(buffer, end);
-    answer_by(room.min(end + 1), room, size)
+    result_by(room.min(end + 1), room, size)
 }

@@ -3,7 +3,7 @@
 //! byte after the first code gives one byte; and whether a list is a frame.
 
 use crate::proved::cobs_bytes::window::{WINDOW, is_all, write_row};
-use crate::proved::dec::find::piece_len;
+use crate::proved::dec::find::len_before_zero;
 use crate::proved::enc::FULL_CODE;
 
 /// How many bytes the first whole blocks of a piece have, through the first full one, and whether the last of them is
@@ -12,7 +12,7 @@ use crate::proved::enc::FULL_CODE;
 /// Rows of empty blocks go by 32 at a time, and codes of one value in a row by a loop of their own, which needn't
 /// wait for each.
 #[inline(always)]
-pub(crate) fn flat_front(piece: &[u8], sentinel: u8) -> (usize, bool) {
+pub(crate) fn first_stretch(piece: &[u8], sentinel: u8) -> (usize, bool) {
     let mut read = 0;
     if piece.is_empty() {
         return (read, false);
@@ -48,7 +48,7 @@ pub(crate) fn flat_front(piece: &[u8], sentinel: u8) -> (usize, bool) {
 /// `alike` says that rows of empty blocks, and two codes that take turns, are worth loops of their own, which needn't
 /// wait for each.
 #[inline(always)]
-pub(crate) fn write_joints(
+pub(crate) fn write_zeros_at_codes(
     dest: &mut [u8],
     first: usize,
     len: usize,
@@ -124,13 +124,13 @@ pub enum FrameKind {
 /// assert_eq!(frame_kind(&longer[..255]), FrameKind::Canonical);
 /// ```
 pub fn frame_kind(bytes: &[u8]) -> FrameKind {
-    if piece_len(bytes) < bytes.len() {
+    if len_before_zero(bytes) < bytes.len() {
         return FrameKind::NotAFrame;
     }
     let mut rest = bytes;
     let mut after_full = false;
     'by_front: loop {
-        let (front, full) = flat_front(rest, 0);
+        let (front, full) = first_stretch(rest, 0);
         if front == 0 {
             return FrameKind::NotAFrame;
         }

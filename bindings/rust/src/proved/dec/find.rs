@@ -5,16 +5,16 @@ use crate::proved::cobs_bytes::window::{WIDE_WINDOW, first_zero_of_few};
 use memchr::memchr;
 
 /// Where the first such byte of a source is, or the source's length if there is none.
-pub(crate) fn first_of(source: &[u8], byte: u8) -> usize {
+pub(crate) fn position_or_len(source: &[u8], byte: u8) -> usize {
     memchr(byte, source).unwrap_or(source.len())
 }
 
 /// The place of the first zero of the source, or the source's length if it has none.
 ///
 /// `bytes` restates that elements are below 256, for callers that later overwrite the source.
-pub(crate) fn piece_len(source: &[u8]) -> usize {
+pub(crate) fn len_before_zero(source: &[u8]) -> usize {
     if source.len() > WIDE_WINDOW {
-        return first_of(source, 0);
+        return position_or_len(source, 0);
     }
     if source.is_empty() {
         return 0;

@@ -3,8 +3,8 @@
 
 use crate::proved::cobs_bytes::lanes::copy_xored_short;
 use crate::proved::cobs_bytes::window::WIDE_WINDOW;
-use crate::proved::dec::blocks::{flat_front, write_joints};
-use crate::proved::dec::find::first_of;
+use crate::proved::dec::blocks::{first_stretch, write_zeros_at_codes};
+use crate::proved::dec::find::position_or_len;
 use crate::proved::dec::piece::copy_few;
 use crate::proved::dec::{DecodeError, DecodeVecError, decode};
 #[cfg(feature = "alloc")]
@@ -12,7 +12,7 @@ use alloc::vec::Vec;
 
 /// Writes the bytes of the source, each XORed with the sentinel, to the front of `dest`.
 #[inline(never)]
-fn copy_xored(source: &[u8], dest: &mut [u8], sentinel: u8) {
+fn xor_into(source: &[u8], dest: &mut [u8], sentinel: u8) {
     'by_byte: for i in 0..source.len() {
         dest[i] = source[i] ^ sentinel;
     }
@@ -22,11 +22,15 @@ fn copy_xored(source: &[u8], dest: &mut [u8], sentinel: u8) {
 ///
 /// The whole blocks through each full one are decoded by one copy, and a zero at each code; if their bytes don't fit,
 /// those of them that do. The bytes of `dest` after that stay as they were.
-fn decode_fronts(source: &[u8], dest: &mut [u8], sentinel: u8) -> Result<usize, DecodeError> {
+fn decode_xored_stretches(
+    source: &[u8],
+    dest: &mut [u8],
+    sentinel: u8,
+) -> Result<usize, DecodeError> {
     let mut read = 0;
     let mut written = 0;
     'by_front: while read < source.len() {
-        let (len, full) = flat_front(&source[read..], sentinel);
+        let (len, full) = first_stretch(&source[read..], sentinel);
         if len == 0 {
             return Err(DecodeError::InvalidFrame {
                 decoded_bytes: written,
@@ -34,8 +38,8 @@ fn decode_fronts(source: &[u8], dest: &mut [u8], sentinel: u8) -> Result<usize, 
         }
         let fit = len.min(dest.len() - written + 1);
         let place = &mut dest[written..];
-        copy_xored(&source[read + 1..read + fit], place, sentinel);
-        write_joints(place, (source[read] ^ sentinel) as usize, fit, true);
+        xor_into(&source[read + 1..read + fit], place, sentinel);
+        write_zeros_at_codes(place, (source[read] ^ sentinel) as usize, fit, true);
         if fit < len {
             return Err(DecodeError::TargetBufTooSmall);
         }
@@ -65,7 +69,7 @@ fn decode_xored_short(source: &[u8], dest: &mut [u8], sentinel: u8) -> bool {
     if !copy_xored_short(&source[1..], dest, sentinel) {
         return false;
     }
-    let (_, left) = write_joints(dest, (source[0] ^ sentinel) as usize, len, true);
+    let (_, left) = write_zeros_at_codes(dest, (source[0] ^ sentinel) as usize, len, true);
     if left > 0 {
         dest[..len - 1].copy_from_slice(&old[..len - 1]);
         return false;
@@ -114,8 +118,8 @@ pub fn decode_with_sentinel(
     if decode_xored_short(&source[..len], dest, sentinel) {
         return Ok(len - 1);
     }
-    let end = first_of(source, sentinel);
-    decode_fronts(&source[..end], dest, sentinel)
+    let end = position_or_len(source, sentinel);
+    decode_xored_stretches(&source[..end], dest, sentinel)
 }
 
 /// Returns the message of the first frame of the source, in a vector of exactly its bytes.

@@ -26,8 +26,8 @@ pub enum PieceEnd {
 }
 
 /// What the result for a zero means: nothing if no piece has ended.
-pub(crate) fn piece_end(answer: Result<Option<usize>, DecodeError>) -> Option<PieceEnd> {
-    match answer {
+pub(crate) fn piece_end(returned: Result<Option<usize>, DecodeError>) -> Option<PieceEnd> {
+    match returned {
         Ok(None) | Err(DecodeError::EmptyFrame) => None,
         Ok(Some(n)) => Some(PieceEnd::Message(n)),
         Err(DecodeError::InvalidFrame { decoded_bytes }) => Some(PieceEnd::Broken(decoded_bytes)),
@@ -80,9 +80,9 @@ pub trait FrameDecoder {
     /// ```
     fn feed_piece(&mut self, stream: &[u8]) -> Option<(PieceEnd, usize)> {
         'by_byte: for (i, byte) in stream.iter().enumerate() {
-            let answer = self.feed_byte(*byte);
+            let returned = self.feed_byte(*byte);
             if *byte == 0 {
-                if let Some(end) = piece_end(answer) {
+                if let Some(end) = piece_end(returned) {
                     return Some((end, i + 1));
                 }
             }

@@ -3,7 +3,7 @@
 //! stores them.
 
 use crate::proved::cobs_bytes::window::{WIDE_WINDOW, WINDOW, copy_nonzero, is_all, write_row};
-use crate::proved::dec::find::piece_len;
+use crate::proved::dec::find::len_before_zero;
 use crate::proved::enc::FULL_CODE;
 
 /// No step reads or writes more bytes than a full block and the code after it.
@@ -14,7 +14,7 @@ const STRETCH: usize = 3 * WIDE_WINDOW;
 
 /// How far a source is decoded: up to a code of it, and how many bytes of the output are written.
 #[derive(Clone, Copy)]
-pub(crate) struct Cursor {
+pub(crate) struct DecodedSoFar {
     /// How many bytes of the source are read.
     pub(crate) read: usize,
     /// How many bytes of the output are written.
@@ -61,17 +61,17 @@ pub(crate) fn decode_stretch(source: &[u8], dest: &mut [u8]) -> usize {
 /// Decodes what is at the front of a source up to a code: a block, or those of a window. It has read nothing where
 /// a zero is near.
 #[inline(always)]
-fn decode_step(source: &[u8], dest: &mut [u8]) -> Cursor {
+fn decode_step(source: &[u8], dest: &mut [u8]) -> DecodedSoFar {
     let code = source[0] as usize;
     if code == FULL_CODE {
         let copied = copy_nonzero(source, 1, FULL_CODE - 1, dest, 0);
         if copied < FULL_CODE - 1 || source[FULL_CODE] == 0 {
-            return Cursor {
+            return DecodedSoFar {
                 read: 0,
                 written: 0,
             };
         }
-        return Cursor {
+        return DecodedSoFar {
             read: FULL_CODE,
             written: FULL_CODE - 1,
         };
@@ -84,7 +84,7 @@ fn decode_step(source: &[u8], dest: &mut [u8]) -> Cursor {
     } else {
         0
     };
-    Cursor {
+    DecodedSoFar {
         read: step,
         written: step,
     }
@@ -95,7 +95,7 @@ fn decode_step(source: &[u8], dest: &mut [u8]) -> Cursor {
 ///
 /// One bound covers both, since no step writes more than it reads.
 #[inline(never)]
-fn decode_blocks(source: &[u8], dest: &mut [u8]) -> Cursor {
+fn decode_blocks(source: &[u8], dest: &mut [u8]) -> DecodedSoFar {
     let mut read = 0;
     let mut written = 0;
     let mut end = 0;
@@ -103,7 +103,7 @@ fn decode_blocks(source: &[u8], dest: &mut [u8]) -> Cursor {
         if end <= read {
             let left = (source.len() - read).min(dest.len() - written);
             if left < 2 * LONGEST_STEP {
-                return Cursor { read, written };
+                return DecodedSoFar { read, written };
             }
             end = read + (left - LONGEST_STEP);
         }
@@ -111,7 +111,7 @@ fn decode_blocks(source: &[u8], dest: &mut [u8]) -> Cursor {
         read += step.read;
         written += step.written;
         if step.read == 0 {
-            return Cursor { read, written };
+            return DecodedSoFar { read, written };
         }
     }
 }
@@ -120,14 +120,14 @@ fn decode_blocks(source: &[u8], dest: &mut [u8]) -> Cursor {
 /// the first zero, and finds that zero. Returns how far it has come, and how many bytes are in front of the zero. A
 /// short source has no such front.
 #[inline(always)]
-pub(crate) fn decode_front(source: &[u8], dest: &mut [u8]) -> (Cursor, usize) {
+pub(crate) fn decode_ahead(source: &[u8], dest: &mut [u8]) -> (DecodedSoFar, usize) {
     if source.len() < 2 * LONGEST_STEP {
-        let none = Cursor {
+        let none = DecodedSoFar {
             read: 0,
             written: 0,
         };
-        return (none, piece_len(source));
+        return (none, len_before_zero(source));
     }
     let front = decode_blocks(source, dest);
-    (front, front.read + piece_len(&source[front.read..]))
+    (front, front.read + len_before_zero(&source[front.read..]))
 }

@@ -1,10 +1,10 @@
 // Made by bindings/rust/translate.py from `crates/cobs/src/dec/in_place.rt`: change that file, and run it again.
 //! Decoding a frame in its own buffer.
 
-use crate::proved::cobs_bytes::lanes::move_to_front;
+use crate::proved::cobs_bytes::lanes::{move_nonzero, move_to_front};
 use crate::proved::cobs_bytes::window::{WIDE_WINDOW, WINDOW, is_all, write_row};
-use crate::proved::dec::blocks::{flat_front, write_joints};
-use crate::proved::dec::find::piece_len;
+use crate::proved::dec::blocks::{first_stretch, write_zeros_at_codes};
+use crate::proved::dec::find::len_before_zero;
 use crate::proved::dec::piece::copy_few;
 use crate::proved::dec::{DecodeError, DecodeReport};
 use crate::proved::enc::{FULL_CODE, xor_bytes};
@@ -15,7 +15,7 @@ use crate::proved::enc::{FULL_CODE, xor_bytes};
 /// A code is overwritten only if the block that it begins is whole. Rows of empty blocks go by 32 at a time, and two
 /// codes that take turns by a loop of their own, which needn't wait for each.
 #[inline(always)]
-fn mark_front(first: usize, rest: &mut [u8], len: usize) -> (usize, usize) {
+fn write_zeros_through_full(first: usize, rest: &mut [u8], len: usize) -> (usize, usize) {
     let mut before = 0;
     let mut code = first;
     let mut read = 0;
@@ -56,18 +56,23 @@ fn mark_front(first: usize, rest: &mut [u8], len: usize) -> (usize, usize) {
 /// The blocks are walked over first, as far as the next full one, since the bytes behind the message must stay. Then all
 /// their bytes are moved at once, and a zero is written at each code.
 #[inline(never)]
-fn decode_behind(buffer: &mut [u8], end: usize, first: usize, start: usize) -> (usize, bool) {
+fn decode_rest_in_place(
+    buffer: &mut [u8],
+    end: usize,
+    first: usize,
+    start: usize,
+) -> (usize, bool) {
     let mut read = first;
     let mut written = start;
     'by_front: while read < end {
-        let (front, full) = flat_front(&buffer[read..end], 0);
+        let (front, full) = first_stretch(&buffer[read..end], 0);
         if front == 0 {
             return (written, false);
         }
         let place = &mut buffer[written..];
         let code = place[read - written] as usize;
         move_to_front(place, read - written + 1, front - 1);
-        write_joints(place, code, front, true);
+        write_zeros_at_codes(place, code, front, true);
         read += front;
         written += front - 1;
         if !full && read < end {
@@ -91,7 +96,7 @@ fn decode_blocks_in_place(buffer: &mut [u8], end: usize) -> Result<usize, Decode
     if end < code {
         return Err(DecodeError::InvalidFrame { decoded_bytes: 0 });
     }
-    let (first, last) = mark_front(code, &mut buffer[1..], end);
+    let (first, last) = write_zeros_through_full(code, &mut buffer[1..], end);
     let mut written = first - 1;
     move_to_front(buffer, 1, written);
     if last == 1 {
@@ -105,7 +110,7 @@ fn decode_blocks_in_place(buffer: &mut [u8], end: usize) -> Result<usize, Decode
         buffer[written] = 0;
         written += 1;
     }
-    let (decoded_bytes, whole) = decode_behind(buffer, end, first, written);
+    let (decoded_bytes, whole) = decode_rest_in_place(buffer, end, first, written);
     if whole {
         Ok(decoded_bytes)
     } else {
@@ -126,7 +131,7 @@ fn decode_short_in_place(buffer: &mut [u8], end: usize) -> bool {
     copy_few(&buffer[..end - 1], &mut old);
     let code = buffer[0] as usize;
     move_to_front(buffer, 1, end - 1);
-    let (_, left) = write_joints(buffer, code, end, false);
+    let (_, left) = write_zeros_at_codes(buffer, code, end, false);
     if left > 0 {
         buffer[..end - 1].copy_from_slice(&old[..end - 1]);
         return false;
@@ -141,6 +146,48 @@ fn decode_head_in_place(buffer: &mut [u8], end: usize) -> Result<usize, DecodeEr
         return Ok(end - 1);
     }
     decode_blocks_in_place(buffer, end)
+}
+
+/// Whether a buffer is empty. `bytes` restates that elements are below 256, for callers that later overwrite it.
+#[inline(always)]
+fn has_none(buffer: &[u8]) -> bool {
+    buffer.is_empty()
+}
+
+/// Decodes the full blocks at the front of the buffer, as far as they are whole; returns how many bytes they have, and how
+/// many they give. Every other byte is as it was.
+///
+/// Each is searched for a zero and moved, so the frame's end needn't be known.
+#[inline(never)]
+fn decode_full_blocks(buffer: &mut [u8]) -> (usize, usize) {
+    let mut read = 0;
+    let mut written = 0;
+    'by_block: while buffer.len() - read >= FULL_CODE
+        && buffer[read] as usize == FULL_CODE
+        && move_nonzero(&mut buffer[written..], read - written + 1, FULL_CODE - 1)
+    {
+        read += FULL_CODE;
+        written += FULL_CODE - 1;
+    }
+    (read, written)
+}
+
+/// Decodes a frame as [`decode_in_place_report`] does, where it begins with a full block: its end is sought behind the
+/// full blocks.
+#[inline(always)]
+fn decode_full_in_place(buffer: &mut [u8]) -> Result<DecodeReport, DecodeError> {
+    let (read, written) = decode_full_blocks(buffer);
+    let end = read + len_before_zero(&buffer[read..]);
+    let (frame_size, whole) = decode_rest_in_place(buffer, end, read, written);
+    if !whole {
+        return Err(DecodeError::InvalidFrame {
+            decoded_bytes: frame_size,
+        });
+    }
+    Ok(DecodeReport {
+        parsed_size: end,
+        frame_size,
+    })
 }
 
 /// Decodes the frame at the front of the buffer in its own place, up to the first zero or the buffer's end, and returns
@@ -171,10 +218,13 @@ fn decode_head_in_place(buffer: &mut [u8], end: usize) -> Result<usize, DecodeEr
 // For a frame of some bytes, a call with its result in memory takes as long as the decoding.
 #[inline(always)]
 pub fn decode_in_place_report(buf: &mut [u8]) -> Result<DecodeReport, DecodeError> {
-    if buf.is_empty() {
+    if has_none(buf) {
         return Err(DecodeError::EmptyFrame);
     }
-    let end = piece_len(buf);
+    if buf.len() > WIDE_WINDOW && buf[0] as usize == FULL_CODE {
+        return decode_full_in_place(buf);
+    }
+    let end = len_before_zero(buf);
     let frame_size = decode_head_in_place(buf, end)?;
     Ok(DecodeReport {
         parsed_size: end,

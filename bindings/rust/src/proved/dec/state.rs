@@ -127,8 +127,8 @@ impl DecoderState {
     /// ```
     #[inline]
     pub fn feed(&mut self, byte: u8) -> Result<DecodeResult, DecodeError> {
-        let (answer, next) = self.row(byte);
+        let (returned, next) = self.row(byte);
         *self = next;
-        answer
+        returned
     }
 }

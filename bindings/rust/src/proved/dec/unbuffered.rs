@@ -1,7 +1,7 @@
 // Made by bindings/rust/translate.py from `crates/cobs/src/dec/unbuffered.rt`: change that file, and run it again.
 //! The streaming decoder whose buffer is passed to each call. The three others are built on it.
 
-use crate::proved::dec::find::piece_len;
+use crate::proved::dec::find::len_before_zero;
 use crate::proved::dec::frame_decoder::{PieceEnd, piece_end};
 use crate::proved::dec::{DecodeError, DecodeReport, PushError};
 use crate::proved::enc::FULL_CODE;
@@ -250,11 +250,11 @@ impl UnbufferedDecoder {
     /// # use jcobs::proved::*;
     /// let mut buffer = [0; 2];
     /// let mut decoder = UnbufferedDecoder::new();
-    /// let refused = PushError {
+    /// let rejected = PushError {
     ///     error: DecodeError::TargetBufTooSmall,
     ///     parsed_size: 4,
     /// };
-    /// assert_eq!(decoder.push(&mut buffer, &[4, 7, 8, 9, 0]), Err(refused));
+    /// assert_eq!(decoder.push(&mut buffer, &[4, 7, 8, 9, 0]), Err(rejected));
     /// assert_eq!(buffer, [7, 8]);
     /// ```
     pub fn push(
@@ -264,7 +264,7 @@ impl UnbufferedDecoder {
     ) -> Result<Option<DecodeReport>, PushError> {
         let mut at = 0;
         'by_run: while at < bytes.len() {
-            at += self.take_run(dest, &bytes[at..]);
+            at += self.take_quiet(dest, &bytes[at..]);
             if at < bytes.len() {
                 let parsed_size = at + 1;
                 match self.feed(dest, bytes[at]) {
@@ -300,16 +300,16 @@ impl UnbufferedDecoder {
         'by_run: while taken < bytes.len() {
             // Of a piece that is too long for the buffer, all in front of its zero is taken.
             taken += if self.over {
-                piece_len(&bytes[taken..])
+                len_before_zero(&bytes[taken..])
             } else {
-                self.take_run(dest, &bytes[taken..])
+                self.take_quiet(dest, &bytes[taken..])
             };
             if taken < bytes.len() {
                 let byte = bytes[taken];
-                let answer = self.feed(dest, byte);
+                let returned = self.feed(dest, byte);
                 taken += 1;
                 if byte == 0 {
-                    if let Some(end) = piece_end(answer) {
+                    if let Some(end) = piece_end(returned) {
                         return Some((end, taken));
                     }
                 }

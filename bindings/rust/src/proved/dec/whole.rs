@@ -3,23 +3,23 @@
 
 use crate::proved::cobs_bytes::lanes::copy_xored_short;
 use crate::proved::cobs_bytes::window::WIDE_WINDOW;
-use crate::proved::dec::blocks::write_joints;
+use crate::proved::dec::blocks::write_zeros_at_codes;
 use crate::proved::dec::find::leading_zeros;
-use crate::proved::dec::front::decode_front;
-use crate::proved::dec::piece::finish_piece;
+use crate::proved::dec::front::decode_ahead;
+use crate::proved::dec::piece::decode_rest;
 use crate::proved::dec::{DecodeError, DecodeReport};
 
 /// Decodes what a source has in front of its first zero, where that begins with a code; returns how many bytes that is,
 /// and its message's length.
 #[inline(always)]
-fn decode_begun(source: &[u8], dest: &mut [u8]) -> (usize, Result<usize, DecodeError>) {
+fn decode_at_code(source: &[u8], dest: &mut [u8]) -> (usize, Result<usize, DecodeError>) {
     let most = source.len() - 1;
     if 0 < most
         && most <= WIDE_WINDOW
         && most <= dest.len()
         && copy_xored_short(&source[1..], dest, 0)
     {
-        let (_, left) = write_joints(dest, source[0] as usize, source.len(), false);
+        let (_, left) = write_zeros_at_codes(dest, source[0] as usize, source.len(), false);
         let decoded = if left == 0 {
             Ok(most)
         } else {
@@ -29,10 +29,10 @@ fn decode_begun(source: &[u8], dest: &mut [u8]) -> (usize, Result<usize, DecodeE
         };
         return (source.len(), decoded);
     }
-    let (front, len) = decode_front(source, dest);
+    let (front, len) = decode_ahead(source, dest);
     (
         len,
-        finish_piece(&source[..len], dest, front.read, front.written),
+        decode_rest(&source[..len], dest, front.read, front.written),
     )
 }
 
@@ -74,7 +74,7 @@ pub fn decode(source: &[u8], dest: &mut [u8]) -> Result<DecodeReport, DecodeErro
     if start == source.len() {
         return Err(DecodeError::InvalidFrame { decoded_bytes: 0 });
     }
-    let (len, decoded) = decode_begun(&source[start..], dest);
+    let (len, decoded) = decode_at_code(&source[start..], dest);
     let parsed_size = (start + len + 1).min(source.len());
     decoded.map(|frame_size| DecodeReport {
         parsed_size,

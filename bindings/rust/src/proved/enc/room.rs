@@ -1,7 +1,7 @@
 // Made by bindings/rust/translate.py from `crates/cobs/src/enc/room.rt`: change that file, and run it again.
 //! Whether a frame fits, before a byte of it is written; and what is taken if it does.
 
-use crate::proved::enc::blocks::{FULL_BLOCK_BYTES, append, append_runs, run_len};
+use crate::proved::enc::blocks::{FULL_BLOCK_BYTES, append, append_rest, run_len};
 use crate::proved::enc::progress::EncoderProgress;
 use memchr::memrchr;
 
@@ -74,7 +74,7 @@ pub(crate) fn try_append(source: &[u8], dest: &mut [u8], progress: &mut EncoderP
     let behind = if run == 0 {
         append(source, dest, start)
     } else {
-        append_runs(source, run, dest, start)
+        append_rest(source, run, dest, start)
     };
     progress.index = behind.index;
     progress.code = behind.code;

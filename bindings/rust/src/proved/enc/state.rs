@@ -92,15 +92,15 @@ impl EncoderState {
     #[inline]
     pub fn push(&mut self, byte: u8) -> PushResult {
         if byte == 0 {
-            let answer = PushResult::ModifyFromStartAndSkip((self.code_index, self.code));
+            let returned = PushResult::ModifyFromStartAndSkip((self.code_index, self.code));
             self.code_index += self.code as usize;
             self.code = 1;
-            answer
+            returned
         } else if self.code == 254 {
-            let answer = PushResult::ModifyFromStartAndPushAndSkip((self.code_index, 255, byte));
+            let returned = PushResult::ModifyFromStartAndPushAndSkip((self.code_index, 255, byte));
             self.code_index += 255;
             self.code = 1;
-            answer
+            returned
         } else {
             self.code += 1;
             PushResult::AddSingle(byte)

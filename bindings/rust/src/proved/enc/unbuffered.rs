@@ -2,7 +2,9 @@
 //! The encoder whose buffer is passed to each call, of a message that comes in pieces.
 
 use crate::proved::enc::DestBufTooSmallError;
-use crate::proved::enc::blocks::{FULL_BLOCK_BYTES, FULL_CODE, append_short, close, is_short};
+use crate::proved::enc::blocks::{
+    FULL_BLOCK_BYTES, FULL_CODE, append_short, close, fits_window_and_block,
+};
 use crate::proved::enc::progress::{EncoderProgress, START};
 use crate::proved::enc::room::try_append;
 
@@ -147,7 +149,7 @@ impl UnbufferedEncoder {
         }
         let at = self.progress;
         let room = dest.len() - at.index;
-        if is_short(at, bytes.len()) && at.code as usize + bytes.len() <= room {
+        if fits_window_and_block(at, bytes.len()) && at.code as usize + bytes.len() <= room {
             // Field by field, so that no byte between the fields is copied.
             let behind = append_short(bytes, dest, at, true);
             self.progress.index = behind.index;
@@ -199,8 +201,8 @@ impl UnbufferedEncoder {
     ///
     /// ```
     /// # use jcobs::proved::*;
-    /// let refused = UnbufferedEncoder::new().finalize(&mut []);
-    /// assert_eq!(refused, Err(DestBufTooSmallError));
+    /// let rejected = UnbufferedEncoder::new().finalize(&mut []);
+    /// assert_eq!(rejected, Err(DestBufTooSmallError));
     /// ```
     pub fn finalize(&mut self, dest: &mut [u8]) -> Result<usize, DestBufTooSmallError> {
         if !self.is_within(dest.len()) {

@@ -5,16 +5,16 @@ use Rattle.cobs.proofs.encoding.TakingLemmas.{all-rest, front-last, start-after,
 use Rattle.cobs.proofs.enc.encode_long.Goals as goal
 
 pub returns-then-source-le-WINDOW-clause-frame : goal.returns-then-source-le-WINDOW-clause-frame
-returns-then-source-le-WINDOW-clause-frame c = c.close_runs.ensures.frame [] (start-taken c.args.dest.now _ refl (omega arith))
+returns-then-source-le-WINDOW-clause-frame c = c.append_rest_and_close.ensures.frame [] (start-taken c.args.dest.now _ refl (omega arith))
 
 pub returns-then-source-le-WINDOW-clause-len : goal.returns-then-source-le-WINDOW-clause-len
-returns-then-source-le-WINDOW-clause-len c = c.close_runs.ensures.end ∙ start-fits c.args.dest.now _ refl (omega arith) c.args.source.now
+returns-then-source-le-WINDOW-clause-len c = c.append_rest_and_close.ensures.end ∙ start-fits c.args.dest.now _ refl (omega arith) c.args.source.now
 
-pub returns-then-not-is_short-clause-frame : goal.returns-then-not-is_short-clause-frame
-returns-then-not-is_short-clause-frame c =
+pub returns-then-not-fits_window_and_block-clause-frame : goal.returns-then-not-fits_window_and_block-clause-frame
+returns-then-not-fits_window_and_block-clause-frame c =
     let n : ℕ = c.append_windows-read.result.0 in
     let whole = ap (λ (x : List ℕ). take n c.args.source.now ++ x) (take_rest c.args.source.now c.append_windows-read.result.0) ∙ take-append-drop n c.args.source.now in
-    let runs = c.close_runs-then-not-is_short in
+    let runs = c.append_rest_and_close-then-not-fits_window_and_block in
     subst (λ (m : List ℕ). IsEncodedFrame (take runs.result runs.new.dest) m) whole
     (runs.ensures.frame (take n c.args.source.now) (c.append_windows-read.ensures.taken.after [] (start-taken c.args.dest.now _ refl (omega arith))))
 

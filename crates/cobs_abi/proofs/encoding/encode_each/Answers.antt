@@ -10,10 +10,10 @@ use Rattle.cobs_abi.proofs.PlaceLemmas.{nothing, something}
 use Rattle.cobs_abi.proofs.encoding.encode_each.Goals as goal
 
 abbrev length_of : Answer → ℕ
-length_of answer = answer.length
+length_of returned = returned.length
 
 abbrev status_of : Answer → ℕ
-status_of answer = answer.status
+status_of returned = returned.status
 
 pub returns-then-not-is_place : goal.returns-then-not-is_place
 returns-then-not-is_place c = record {
@@ -21,9 +21,9 @@ returns-then-not-is_place c = record {
     fits = λ m h. let p = c.is_place.ensures.1 (c.law_16.ensures.place _ m _ h) in let none = c.if-not-is_place.true in absurd cc;
     taken = search rules;
     counted = λ ok. absurd (omega (arith, ok, ap status_of c.too_small.ensures));
-    answer = search rules;
+    returned = search rules;
     too_small = search rules;
-    refused = search rules;
+    rejected = search rules;
     rest = search rules;
     bound = search rules;
     len = search rules;
@@ -47,9 +47,9 @@ returns-then-is_empty c = record {
         let e = ap (λ (x : List ℕ). encoded_len (m ++ x)) none ∙ ap encoded_len (append-nil m) in
         let end = c.law_13.ensures.end c.args.buffer.now m _ h in
         omega (arith, ap length_of c.done.ensures, c.end_of.ensures, ap end_of c.progress-start.ensures, e, end);
-    answer = search rules;
+    returned = search rules;
     too_small = search rules;
-    refused = search rules;
+    rejected = search rules;
     rest = search rules;
     bound = search rules;
     len = search rules;
@@ -69,9 +69,9 @@ returns-then-not-fits c = record {
         (λ t. absurd cc, λ le. let yes = c.fits.ensures.fits.1 (omega arith) in absurd cc);
     taken = search rules;
     counted = λ ok. absurd (omega (arith, ok, ap status_of c.too_small-then-not-fits.ensures));
-    answer = search rules;
+    returned = search rules;
     too_small = search rules;
-    refused = search rules;
+    rejected = search rules;
     rest = search rules;
     bound = search rules;
     len = search rules;
@@ -95,9 +95,9 @@ returns c = record {
         let h' = subst (λ (r : Reached). CobsEncoderAfter c.args.buffer.now r m) (sym c.progress-start.ensures) h in
         let end = c.law_13.ensures.end c.append-progress.new.buffer _ _ (c.append-progress.ensures.taken m h') in
         omega (arith, ap length_of c.done-2.ensures, c.end_of-2.ensures, end);
-    answer = search rules;
+    returned = search rules;
     too_small = search rules;
-    refused = search rules;
+    rejected = search rules;
     rest = search rules;
     bound = search rules;
     len = search rules;

@@ -53,7 +53,7 @@ returns c =
         place = λ _. omega (arith, ap end_of same);
         fresh = λ _. record { start = refl; taken = c.law_16.ensures.nothing };
         too_small = λ other. absurd (other refl);
-        refused = λ other. absurd (other refl);
+        rejected = λ other. absurd (other refl);
         empty = λ none. absurd (some none);
         rest = rest;
         bound = place.fits;

@@ -15,7 +15,7 @@ use Rattle.cobs_bytes.proofs.lanes.copy_window_to_zero.Goals as goal
 places_below : ℕ → ℕ → ℕ → List Bool
 places_below len from n = map (λ i. top 7 (cond (ltb i len) 255 0)) (range_with_len from n)
 
--- they select the first so many of one list, and the others of the other one
+-- they select the first bytes of one list, and the others of the other one
 selected : (n from len : ℕ) (xs ys : List ℕ) → length xs ≡ n → length ys ≡ n → sel_l (places_below len from n) xs ys ≡ take (len - from) xs ++ drop (len - from) ys
 unfolding places_below
 selected zero from len [] [] l k = grind (arith, take_all, drop_all)

@@ -5,7 +5,7 @@ use Rattle.cobs_bytes.specs.Mask.{zero_mask}
 use Rattle.cobs_bytes.proofs.bytes.MaskLemmas.{clear_front, lowest_bit, nonzero_len-at}
 use Rattle.cobs_bytes.proofs.window.first_zero_of_few.Goals as goal
 
--- where the lowest bit of the mask stands
+-- where the lowest bit of the mask is
 place : (bytes : List ℕ) (mask : ℕ) → mask ≡ zero_mask bytes → count_trailing_zeros 64 mask ≡ count_trailing_zeros 64 (zero_mask bytes)
 place bytes mask is = ap (count_trailing_zeros 64) is
 

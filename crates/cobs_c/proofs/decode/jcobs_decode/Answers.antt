@@ -1,10 +1,10 @@
 use Rattle.std.proofs.Common.{◌≡◌, ℕ, List, Err, sym, ap, ◌∙◌, length, arith}
-use Rattle.cobs.specs.Decode.{len_through_piece, sized}
+use Rattle.cobs.specs.Decode.{len_through_piece, outcome_result}
 use Rattle.cobs.specs.Stream.{outcome_of}
-use Rattle.cobs_abi.specs.Answer.{answer_by}
+use Rattle.cobs_abi.specs.Answer.{result_by}
 use Rattle.cobs_abi.specs.declared.answer.Answer.{Answer}
 use Rattle.cobs_abi.proofs.RoomLemmas.{too_long-output, too_small-only}
-use Rattle.cobs_c.proofs.SourceLemmas.{answer-some, reported-err}
+use Rattle.cobs_c.proofs.SourceLemmas.{result-some, report_result-err}
 use Rattle.cobs_c.proofs.decode.jcobs_decode.Goals as goal
 
 pub returns-in-Some : goal.returns-in-Some
@@ -17,14 +17,14 @@ returns-in-Some c =
         none = λ is. absurd (let e = sym found.1 ∙ is in cc);
         some = λ p is.
             let same : found.0 ≡ p = let e = sym found.1 ∙ is in cc in
-            let refused = reported-err (len_through_piece source p) (sized (outcome_of p n)) c.in-Err.error (c.in-Err.ensures.answer ∙ answer-some source p n is) in
-            c.answer_by-in-Some.ensures ∙ ap (λ (k : ℕ). answer_by k n (Err c.in-Err.error)) (found.2 ∙ ap (len_through_piece source) same) ∙ ap (answer_by (len_through_piece source p) n) refused;
+            let rejected = report_result-err (len_through_piece source p) (outcome_result (outcome_of p n)) c.in-Err.error (c.in-Err.ensures.answer ∙ result-some source p n is) in
+            c.result_by-in-Some.ensures ∙ ap (λ (k : ℕ). result_by k n (Err c.in-Err.error)) (found.2 ∙ ap (len_through_piece source) same) ∙ ap (result_by (len_through_piece source p) n) rejected;
         buffer = c.decode.ensures.buffer;
         room = λ long small.
             let p : List ℕ = found.0 in
-            let refused = reported-err (len_through_piece source p) (sized (outcome_of p n)) c.in-Err.error (c.in-Err.ensures.answer ∙ answer-some source p n found.1) in
-            let error = too_small-only c.in-Some.end n c.in-Err.error (sym (ap (λ (a : Answer). a.status) c.answer_by-in-Some.ensures) ∙ small) in
-            let longer = too_long-output p n (sym (ap Err error) ∙ refused) in
+            let rejected = report_result-err (len_through_piece source p) (outcome_result (outcome_of p n)) c.in-Err.error (c.in-Err.ensures.answer ∙ result-some source p n found.1) in
+            let error = too_small-only c.in-Some.end n c.in-Err.error (sym (ap (λ (a : Answer). a.status) c.result_by-in-Some.ensures) ∙ small) in
+            let longer = too_long-output p n (sym (ap Err error) ∙ rejected) in
             absurd (omega (arith, longer, c.law_1.ensures.within p, found.3, long));
       };
     }

@@ -1,7 +1,7 @@
 use Rattle.std.proofs.Common.{◌∙◌, ◌++◌, ℕ, List, length, drop, ap}
-use Rattle.cobs_abi.specs.Answer.{answer_by, head_end}
+use Rattle.cobs_abi.specs.Answer.{result_by, head_end}
 use Rattle.cobs.specs.Sentinel.{xor_each}
-use Rattle.cobs_c.proofs.InPlaceLemmas.{HeadLaw, front-answer, front-buffer, front-end, sentinel-answer, sentinel-buffer}
+use Rattle.cobs_c.proofs.InPlaceLemmas.{HeadLaw, front-result, front-buffer, front-end, sentinel-result, sentinel-buffer}
 use Rattle.cobs_c.proofs.decode.jcobs_decode_in_place_with_sentinel.Goals as goal
 
 pub returns-then-room-ne0 : goal.returns-then-room-ne0
@@ -11,7 +11,7 @@ returns-then-room-ne0 c =
     let buffer : List ℕ = c.args.buffer.now in
     record {
       decodes = record {
-        answer = c.done.ensures ∙ sentinel-answer law buffer _ c.args.sentinel e.within e.before e.stop c.if-end-eq0.true c.if-room-ne0.true (length buffer);
+        returned = c.done.ensures ∙ sentinel-result law buffer _ c.args.sentinel e.within e.before e.stop c.if-end-eq0.true c.if-room-ne0.true (length buffer);
         buffer = sentinel-buffer law buffer _ c.args.sentinel e.within e.before e.stop c.if-end-eq0.true c.if-room-ne0.true;
       };
     }
@@ -25,9 +25,9 @@ returns c =
     let n : ℕ = length buffer in
     record {
       decodes = record {
-        answer = c.answer_by.ensures
-            ∙ ap (λ (k : ℕ). answer_by k n c.decode_in_place_with_sentinel.result) (c.min-consumed.ensures ∙ front-end law buffer end c.args.sentinel e.within e.before e.stop)
-            ∙ ap (answer_by (head_end (xor_each c.args.sentinel buffer)) n) (c.decode_in_place_with_sentinel.ensures.answer ∙ front-answer law buffer end c.args.sentinel e.within e.before e.stop c.else-end-eq0.either);
+        returned = c.result_by.ensures
+            ∙ ap (λ (k : ℕ). result_by k n c.decode_in_place_with_sentinel.result) (c.min-consumed.ensures ∙ front-end law buffer end c.args.sentinel e.within e.before e.stop)
+            ∙ ap (result_by (head_end (xor_each c.args.sentinel buffer)) n) (c.decode_in_place_with_sentinel.ensures.answer ∙ front-result law buffer end c.args.sentinel e.within e.before e.stop c.else-end-eq0.either);
         buffer = ap (λ (x : List ℕ). x ++ drop end buffer) c.decode_in_place_with_sentinel.ensures.buffer ∙ front-buffer law buffer end c.args.sentinel e.within e.before e.stop;
       };
     }

@@ -9,6 +9,6 @@ returns c =
     let last : ℕ = length c.args.frame.now - 1 in
     let front = length-take-le last c.args.frame.now (omega arith) in
     record {
-      encodes = rw c.done.ensures (Writes-terminated last c.args.sentinel (omega (arith, some)) (omega (arith, front, c.jcobs_encode_with_sentinel-answer.auto.frame))
-          c.jcobs_encode_with_sentinel-answer.ensures.encodes c.if-answer-ne-OK.false (λ (f : List ℕ) w. (f, w, refl)));
+      encodes = rw c.done.ensures (Writes-terminated last c.args.sentinel (omega (arith, some)) (omega (arith, front, c.jcobs_encode_with_sentinel-returned.auto.frame))
+          c.jcobs_encode_with_sentinel-returned.ensures.encodes c.if-returned-ne-OK.false (λ (f : List ℕ) w. (f, w, refl)));
     }

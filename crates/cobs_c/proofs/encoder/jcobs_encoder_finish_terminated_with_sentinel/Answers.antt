@@ -3,18 +3,18 @@ use Rattle.std.proofs.lemmas.Bool.{eqb-false}
 use Rattle.cobs_abi.proofs.FinishLemmas.{Finishes-no_room, Finishes-terminated}
 use Rattle.cobs_c.proofs.encoder.jcobs_encoder_finish_terminated_with_sentinel.Goals as goal
 
-pub returns-then-answer-ne-OK : goal.returns-then-answer-ne-OK
-returns-then-answer-ne-OK c =
+pub returns-then-returned-ne-OK : goal.returns-then-returned-ne-OK
+returns-then-returned-ne-OK c =
     let some : length c.args.buffer.now ≢ 0 = eqb-false _ 0 (sym c.is_empty.ensures ∙ c.if-is_empty.false) in
     let last : ℕ = length c.args.buffer.now - 1 in
     let whole = length-take-le last c.args.buffer.now (omega arith) in
-    let f = c.jcobs_encoder_finish_with_sentinel-answer.ensures.finishes in
-    record { finishes = Finishes-no_room c.law_2.ensures.len c.law_13.ensures.end last c.args.sentinel (omega (arith, some)) (f.len ∙ whole) f c.if-answer-ne-OK.true }
+    let f = c.jcobs_encoder_finish_with_sentinel-returned.ensures.finishes in
+    record { finishes = Finishes-no_room c.law_2.ensures.len c.law_13.ensures.end last c.args.sentinel (omega (arith, some)) (f.len ∙ whole) f c.if-returned-ne-OK.true }
 
 pub returns : goal.returns
 returns c =
     let some : length c.args.buffer.now ≢ 0 = eqb-false _ 0 (sym c.is_empty.ensures ∙ c.if-is_empty.false) in
     let last : ℕ = length c.args.buffer.now - 1 in
     let whole = length-take-le last c.args.buffer.now (omega arith) in
-    let f = c.jcobs_encoder_finish_with_sentinel-answer.ensures.finishes in
-    record { finishes = rw c.done.ensures (Finishes-terminated c.law_2.ensures.len c.law_13.ensures.end last c.args.sentinel (omega (arith, some)) (f.len ∙ whole) f (λ (x m : List ℕ) e. (x, e, refl)) c.if-answer-ne-OK.false) }
+    let f = c.jcobs_encoder_finish_with_sentinel-returned.ensures.finishes in
+    record { finishes = rw c.done.ensures (Finishes-terminated c.law_2.ensures.len c.law_13.ensures.end last c.args.sentinel (omega (arith, some)) (f.len ∙ whole) f (λ (x m : List ℕ) e. (x, e, refl)) c.if-returned-ne-OK.false) }

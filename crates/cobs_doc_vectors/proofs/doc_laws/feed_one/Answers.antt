@@ -4,4 +4,4 @@ use Rattle.cobs_doc_vectors.proofs.doc_laws.feed_one.Goals as goal
 pub returns : goal.returns
 returns c =
     let law = c.law_17.ensures in
-    law.byte (c.args.byte ∷ []) _ _ _ _ _ _ _ 0 (omega arith) (law.nothing _ _) c.feed-answer.ensures.feeds (λ z. absurd (c.requires z))
+    law.byte (c.args.byte ∷ []) _ _ _ _ _ _ _ 0 (omega arith) (law.nothing _ _) c.feed-returned.ensures.feeds (λ z. absurd (c.requires z))

@@ -37,18 +37,18 @@ by_line-preserved g c =
     let through : IfSome (g.S.LiveLines.remaining c.by_line.input) (λ xs. line ≡ take_through 10 xs) = rw start at c.in-Ok.ensures.bytes in
     let consumed : Consumes (g.S.LiveLines.remaining c.by_line.input) (g.S.LiveLines.remaining c.read_line_beside.new.self) line = rw start at c.in-Ok.ensures.none_lost in
     let written = rw (c.without_newline.ensures.text, c.deref.ensures.value) at sent.1 in
-    let answer = rw (c.without_newline.ensures.text, c.deref.ensures.value) at c.in_ok-send_text.ensures.answer in
+    let returned = rw (c.without_newline.ensures.text, c.deref.ensures.value) at c.in_ok-send_text.ensures.returned in
     let read : Read = record { back = writer_buffer c.by_line.output; written = g.W.Write.contents (writer_inner c.by_line.output); came = line } in
     let step : g.S.LiveLines.step c.by_line.input read c.read_line_beside.new.self = rw start at c.in-Ok.ensures.step in
     let live = live-read read c.by_line.invariant.live step c.by_line.invariant.flushed refl in
     let same : came live.reads ≡ c.by_line.invariant.live.so_far.lines ++ line ∷ [] = came-push c.by_line.invariant.live.live.reads read ∙ ap (λ (ls : List (List ℕ)). ls ++ line ∷ []) c.by_line.invariant.live.same in
     elim c.if-not-branch.branch [
       | then-not-branch w ↦ record {
-        live = record { live = live; same = same; so_far = SentSoFar-skipped line sent.0 c.by_line.invariant.live.so_far some through c.in-Ok.ensures.rest stops consumed written sent.2 _ w.all_sent-is (λ sendable. let yes = answer.1 sendable in let no = w.if-not-branch.true in cc) };
+        live = record { live = live; same = same; so_far = SentSoFar-skipped line sent.0 c.by_line.invariant.live.so_far some through c.in-Ok.ensures.rest stops consumed written sent.2 _ w.all_sent-is (λ sendable. let yes = returned.1 sendable in let no = w.if-not-branch.true in cc) };
         flushed = c.in_ok-send_text.ensures.flushed;
       }
       | else-not-branch w ↦ record {
-        live = record { live = live; same = same; so_far = SentSoFar-more line sent.0 c.by_line.invariant.live.so_far some through c.in-Ok.ensures.rest stops consumed written sent.2 _ w.all_sent-is (answer.0 w.if-not-branch.false) };
+        live = record { live = live; same = same; so_far = SentSoFar-more line sent.0 c.by_line.invariant.live.so_far some through c.in-Ok.ensures.rest stops consumed written sent.2 _ w.all_sent-is (returned.0 w.if-not-branch.false) };
         flushed = c.in_ok-send_text.ensures.flushed;
       }
     ]

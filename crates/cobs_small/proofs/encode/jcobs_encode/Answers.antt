@@ -32,7 +32,7 @@ returns c =
     let fits : encoded_len c.args.message.now + 0 ≤ length c.jcobs_encoder_push-pushed.new.buffer = omega (arith, le, e.len) in
     let long = ap (λ (a : Answer). a.length) (w.fits fits) in
     let end = c.law_13.ensures.end c.jcobs_encoder_push-pushed.new.buffer c.args.message.now _ taken in
-    let pushed = ap (λ (a : Answer). a.length) (e.answer ok) in
+    let pushed = ap (λ (a : Answer). a.length) (e.returned ok) in
     let same : c.jcobs_encoder_push-pushed.result.length ≡ c.jcobs_encoder_finish-finished.result.length = omega (arith, long, end, pushed) in
     record {
       encodes = rw c.done.ensures (record {

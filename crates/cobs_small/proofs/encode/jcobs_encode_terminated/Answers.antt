@@ -11,7 +11,7 @@ returns c =
     let last : ℕ = length c.args.frame.now - 1 in
     let front = length-take-le last c.args.frame.now (omega arith) in
     record {
-      encodes = rw c.done.ensures (Writes-terminated last 0 (omega (arith, some)) (omega (arith, front, c.jcobs_encode-answer.auto.frame))
-          c.jcobs_encode-answer.ensures.encodes c.if-answer-ne-OK.false (λ (f : List ℕ) w.
+      encodes = rw c.done.ensures (Writes-terminated last 0 (omega (arith, some)) (omega (arith, front, c.jcobs_encode-returned.auto.frame))
+          c.jcobs_encode-returned.ensures.encodes c.if-returned-ne-OK.false (λ (f : List ℕ) w.
           (f, (subst (λ (g : List ℕ). IsEncodedFrame g c.args.message.now) (sym (xor_each-zero f)) w.0, w.1), refl)));
     }

@@ -12,7 +12,7 @@ by_block-init c =
 pub returns-then-end-read : goal.returns-then-end-read
 returns-then-end-read c =
     let both = broken (assumption c.law_20.ensures) _ _ _ _ _ c.by_block.invariant c.by_block-test.true c.if-end-read.true in
-    record { answer = both.0; buffer = both.1 }
+    record { returned = both.0; buffer = both.1 }
 
 pub overflow_sub-code : goal.overflow_sub-code
 overflow_sub-code c = let some = code-some _ _ _ (at (assumption c.law_20.ensures) _ _ _ _ _ c.by_block.invariant c.by_block-test.true) in omega arith
@@ -40,4 +40,4 @@ by_block-preserved c =
 pub returns : goal.returns
 returns c =
     let both = all-read (assumption c.law_20.ensures) _ _ _ _ _ c.by_block.invariant c.by_block-test.false in
-    record { answer = both.0; buffer = both.1 }
+    record { returned = both.0; buffer = both.1 }

@@ -3,7 +3,7 @@ use Rattle.std.proofs.lemmas.List.{length-replicate}
 use Rattle.cobs.specs.Fields.Decoders.{owned_buffer}
 use Rattle.cobs.specs.Stream.{Message}
 use Rattle.cobs_lines.specs.Lines.{outcome_line}
-use Rattle.cobs_tool.proofs.ReportLemmas.{report-start, few_at_start, still_few, told_all, unfinished_text, message_told, broken_told, too_long_told, end_told, no_fault, told_more}
+use Rattle.cobs_tool.proofs.ReportLemmas.{report-start, few_at_start, still_few, text_all, unfinished_text, message_reported, broken_reported, too_long_reported, stream_end_reported, no_fault, text_more}
 use Rattle.cobs_tool.proofs.report.report_of.Goals.{then-unfinished+in_ok-push_str-in-Ok-End, else-unfinished}
 use Rattle.cobs_tool.proofs.report.report_of.Goals as goal
 
@@ -11,7 +11,7 @@ pub by_piece-init : goal.by_piece-init
 by_piece-init c =
     let made = c.in_ok-decoder.ensures in
     record {
-      told = report-start _ _ _ _ c.new-text.ensures.bytes c.new-frames.ensures.kept c.new-source.ensures.bytes;
+      stated = report-start _ _ _ _ c.new-text.ensures.bytes c.new-frames.ensures.kept c.new-source.ensures.bytes;
       few = few_at_start _ _ _ _ c.new-frames.ensures.kept c.new-source.ensures.bytes c.requires;
       idle = rw c.new-frames.ensures.decoder made.idle;
       buffer = ap (λ d. length (owned_buffer d)) c.new-frames.ensures.decoder ∙ ap length made.buffer ∙ length-replicate {A = ℕ} 65536 0;
@@ -20,78 +20,78 @@ by_piece-init c =
 pub slice_bounds-message-end : goal.slice_bounds-message-end
 slice_bounds-message-end c =
     let next = rw c.in-Ok-Message.field-0-is at c.in-Ok-Message.ensures.next in
-    let told = message_told (assumption c.law_9.ensures) _ _ _ _ _ next c.by_piece.invariant.idle (c.in-Ok-Message.ensures.len ∙ c.by_piece.invariant.buffer) in
-    let within = told.1 in
+    let stated = message_reported (assumption c.law_9.ensures) _ _ _ _ _ next c.by_piece.invariant.idle (c.in-Ok-Message.ensures.len ∙ c.by_piece.invariant.buffer) in
+    let within = stated.1 in
     let buffer = ap length (c.dest.ensures.value ∙ ap owned_buffer c.decoder.ensures.value) in
     sym (length-take-le c.in-Ok-Message.len c.dest.result.now (omega arith))
 
 pub by_piece-smaller-in-Continue-branch-2 : goal.by_piece-smaller-in-Continue-branch-2
 by_piece-smaller-in-Continue-branch-2 c =
     let next = rw c.in-Ok-Message.field-0-is at c.in-Ok-Message.ensures.next in
-    let told = message_told (assumption c.law_9.ensures) _ _ _ _ _ next c.by_piece.invariant.idle (c.in-Ok-Message.ensures.len ∙ c.by_piece.invariant.buffer) in
-    told.0.fewer
+    let stated = message_reported (assumption c.law_9.ensures) _ _ _ _ _ next c.by_piece.invariant.idle (c.in-Ok-Message.ensures.len ∙ c.by_piece.invariant.buffer) in
+    stated.0.fewer
 
 pub by_piece-preserved-in-Continue-branch-2 : goal.by_piece-preserved-in-Continue-branch-2
 by_piece-preserved-in-Continue-branch-2 c =
     let next = rw c.in-Ok-Message.field-0-is at c.in-Ok-Message.ensures.next in
     let len = c.in-Ok-Message.ensures.len ∙ c.by_piece.invariant.buffer in
-    let told = message_told (assumption c.law_9.ensures) _ _ _ _ _ next c.by_piece.invariant.idle len in
+    let stated = message_reported (assumption c.law_9.ensures) _ _ _ _ _ next c.by_piece.invariant.idle len in
     let pushed = c.in_ok-push_message-in-Ok-Message.ensures in
     let message = ap (take c.in-Ok-Message.len) (c.dest.ensures.value ∙ ap owned_buffer c.decoder.ensures.value) in
     record {
-      told = told_more _ _ _ _ _ _ c.by_piece.invariant.told told.0.told (pushed ∙ ap (λ l. string_bytes c.by_piece.text ++ outcome_line (Message l)) message);
-      few = still_few _ _ _ _ _ _ told.0 c.by_piece.invariant.few;
-      idle = told.0.idle;
+      stated = text_more _ _ _ _ _ _ c.by_piece.invariant.stated stated.0.stated (pushed ∙ ap (λ l. string_bytes c.by_piece.text ++ outcome_line (Message l)) message);
+      few = still_few _ _ _ _ _ _ stated.0 c.by_piece.invariant.few;
+      idle = stated.0.idle;
       buffer = len;
     }
 
 pub by_piece-smaller-in-Continue-branch-3 : goal.by_piece-smaller-in-Continue-branch-3
 by_piece-smaller-in-Continue-branch-3 c =
     let next = rw c.in-Ok-Broken.field-0-is at c.in-Ok-Broken.ensures.next in
-    let told = broken_told (assumption c.law_9.ensures) _ _ _ _ _ next c.by_piece.invariant.idle (c.in-Ok-Broken.ensures.len ∙ c.by_piece.invariant.buffer) in
-    told.fewer
+    let stated = broken_reported (assumption c.law_9.ensures) _ _ _ _ _ next c.by_piece.invariant.idle (c.in-Ok-Broken.ensures.len ∙ c.by_piece.invariant.buffer) in
+    stated.fewer
 
 pub by_piece-preserved-in-Continue-branch-3 : goal.by_piece-preserved-in-Continue-branch-3
 by_piece-preserved-in-Continue-branch-3 c =
     let next = rw c.in-Ok-Broken.field-0-is at c.in-Ok-Broken.ensures.next in
     let len = c.in-Ok-Broken.ensures.len ∙ c.by_piece.invariant.buffer in
-    let told = broken_told (assumption c.law_9.ensures) _ _ _ _ _ next c.by_piece.invariant.idle len in
+    let stated = broken_reported (assumption c.law_9.ensures) _ _ _ _ _ next c.by_piece.invariant.idle len in
     record {
-      told = told_more _ _ _ _ _ _ c.by_piece.invariant.told told.told c.in_ok-push_broken-in-Ok-Broken.ensures;
-      few = still_few _ _ _ _ _ _ told c.by_piece.invariant.few;
-      idle = told.idle;
+      stated = text_more _ _ _ _ _ _ c.by_piece.invariant.stated stated.stated c.in_ok-push_broken-in-Ok-Broken.ensures;
+      few = still_few _ _ _ _ _ _ stated c.by_piece.invariant.few;
+      idle = stated.idle;
       buffer = len;
     }
 
 pub by_piece-smaller : goal.by_piece-smaller
 by_piece-smaller c =
     let next = rw c.in-Ok-TooLong.field-0-is at c.in-Ok-TooLong.ensures.next in
-    let told = too_long_told (assumption c.law_9.ensures) _ _ _ _ next c.by_piece.invariant.idle (c.in-Ok-TooLong.ensures.len ∙ c.by_piece.invariant.buffer) in
-    told.fewer
+    let stated = too_long_reported (assumption c.law_9.ensures) _ _ _ _ next c.by_piece.invariant.idle (c.in-Ok-TooLong.ensures.len ∙ c.by_piece.invariant.buffer) in
+    stated.fewer
 
 pub by_piece-preserved : goal.by_piece-preserved
 by_piece-preserved c =
     let next = rw c.in-Ok-TooLong.field-0-is at c.in-Ok-TooLong.ensures.next in
     let len = c.in-Ok-TooLong.ensures.len ∙ c.by_piece.invariant.buffer in
-    let told = too_long_told (assumption c.law_9.ensures) _ _ _ _ next c.by_piece.invariant.idle len in
+    let stated = too_long_reported (assumption c.law_9.ensures) _ _ _ _ next c.by_piece.invariant.idle len in
     record {
-      told = told_more _ _ _ _ _ _ c.by_piece.invariant.told told.told c.in_ok-push_str-in-Ok-TooLong.ensures.bytes;
-      few = still_few _ _ _ _ _ _ told c.by_piece.invariant.few;
-      idle = told.idle;
+      stated = text_more _ _ _ _ _ _ c.by_piece.invariant.stated stated.stated c.in_ok-push_str-in-Ok-TooLong.ensures.bytes;
+      few = still_few _ _ _ _ _ _ stated c.by_piece.invariant.few;
+      idle = stated.idle;
       buffer = len;
     }
 
 pub returns-in-Ok-End : goal.returns-in-Ok-End
 returns-in-Ok-End c =
     let next = rw c.in-Ok-End.field-0-is at c.in-Ok-End.ensures.next in
-    let last = end_told _ _ _ _ _ next c.by_piece.invariant.idle (c.in-Ok-End.ensures.len ∙ c.by_piece.invariant.buffer) in
+    let last = stream_end_reported _ _ _ _ _ next c.by_piece.invariant.idle (c.in-Ok-End.ensures.len ∙ c.by_piece.invariant.buffer) in
     record {
       report = elim c.if-unfinished.branch [
         | then-unfinished+in_ok-push_str-in-Ok-End w ↦
-            told_all _ _ _ _ _ c.by_piece.invariant.told (last ∙ ap unfinished_text w.if-unfinished.true)
+            text_all _ _ _ _ _ c.by_piece.invariant.stated (last ∙ ap unfinished_text w.if-unfinished.true)
             (ap string_bytes w.text-is ∙ w.in_ok-push_str-in-Ok-End.ensures.bytes)
         | else-unfinished w ↦
-            told_all _ _ _ _ _ c.by_piece.invariant.told (last ∙ ap unfinished_text w.if-unfinished.false) (ap string_bytes w.text-is ∙ sym (append-nil _))
+            text_all _ _ _ _ _ c.by_piece.invariant.stated (last ∙ ap unfinished_text w.if-unfinished.false) (ap string_bytes w.text-is ∙ sym (append-nil _))
       ];
     }
 

@@ -10,7 +10,7 @@ use Rattle.cobs_tool.proofs.report.report_of.Given as goal
 abbrev pub invariant-by_piece : goal.invariant-by_piece
 invariant-by_piece l =
     let left = kept_of l.frames ++ bytes_left l.source in record {
-      told : string_bytes l.text ++ report left ≡ report l.fn.stream;
+      stated : string_bytes l.text ++ report left ≡ report l.fn.stream;
       few : length left ≤ max_input;
       idle : DecoderAfter (owned_buffer (decoder_of l.frames)) (owned_phase (decoder_of l.frames)) [];
       buffer : length (owned_buffer (decoder_of l.frames)) ≡ longest_message;

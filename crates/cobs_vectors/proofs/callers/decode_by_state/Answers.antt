@@ -32,4 +32,4 @@ returns-else-is_complete c =
     let frame : List ℕ = c.args.frame.now in
     let all : take c.by_byte.byte-index frame ≡ frame = take_all c.by_byte.byte-index frame c.by_byte-test.false in
     λ m. let h = c.feed-2.ensures.message frame c.by_byte.message.items m (subst (λ (p : List ℕ). StateAfter c.by_byte.state p c.by_byte.message.items) all c.by_byte.invariant) refl in
-    (λ none. absurd none, λ r. let told : true ≡ false = sym (c.is_complete.ensures.1 (h.1 r).0) ∙ c.if-is_complete.false in absurd (cc))
+    (λ none. absurd none, λ r. let reported : true ≡ false = sym (c.is_complete.ensures.1 (h.1 r).0) ∙ c.if-is_complete.false in absurd (cc))

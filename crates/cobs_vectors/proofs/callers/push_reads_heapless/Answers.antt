@@ -5,7 +5,7 @@ use Rattle.cobs_vectors.proofs.callers.push_reads_heapless.Goals as goal
 pub returns : goal.returns
 returns g c =
     let m : List ℕ = c.args.message.now in
-    let at = λ (b : List ℕ). PushesMessage c.push-answer.result b m in (
-      λ yes. c.push-answer.ensures.only c.args.piece.now m c.requires.idle c.requires.ended c.requires.piece (subst at c.dest.ensures.value (c.came_to.ensures.0 yes)),
-      λ r. c.came_to.ensures.1 (subst at (sym c.dest.ensures.value) (c.push-answer.ensures.reads c.args.piece.now m c.requires.idle c.requires.ended r.0 r.1)),
+    let at = λ (b : List ℕ). PushesMessage c.push-returned.result b m in (
+      λ yes. c.push-returned.ensures.only c.args.piece.now m c.requires.idle c.requires.ended c.requires.piece (subst at c.dest.ensures.value (c.came_to.ensures.0 yes)),
+      λ r. c.came_to.ensures.1 (subst at (sym c.dest.ensures.value) (c.push-returned.ensures.reads c.args.piece.now m c.requires.idle c.requires.ended r.0 r.1)),
     )

@@ -6,18 +6,18 @@ use Rattle.cobs.specs.Stream.{Outcome, Message, stream_outcomes, outcome_of}
 use Rattle.cobs_vectors.proofs.clients.append_to_log.Goals as goal
 
 -- a log, a frame and a zero
-told : (log f m : List ℕ) (n : ℕ) → IsAtSentinel log → f ≢ [] → HasNoZero f
+reported : (log f m : List ℕ) (n : ℕ) → IsAtSentinel log → f ≢ [] → HasNoZero f
     → ((a d z : List ℕ) (n : ℕ) → IsAtSentinel a → stream_outcomes (a ++ d ++ 0 ∷ z) n ≡ stream_outcomes a n ++ stream_outcomes (d ++ 0 ∷ []) n ++ stream_outcomes z n)
     → stream_outcomes (f ++ 0 ∷ []) n ≡ outcome_of f n ∷ [] → outcome_of f n ≡ Message m → stream_outcomes [] n ≡ []
     → stream_outcomes ((log ++ f) ++ 0 ∷ []) n ≡ stream_outcomes log n ++ Message m ∷ []
-told log f m n at some nonzero apart one message none =
+reported log f m n at some nonzero apart one message none =
     let s : List Outcome = stream_outcomes log n in
     apart log f [] n at
     ∙ ap (λ (x : List Outcome). (s ++ x) ++ stream_outcomes [] n) (one ∙ ap (λ (o : Outcome). o ∷ []) message)
     ∙ ap (λ (x : List Outcome). (s ++ Message m ∷ []) ++ x) none ∙ append-nil (s ++ Message m ∷ [])
 
-pub returns-clause-told : goal.returns-clause-told
-returns-clause-told c = λ n held.
+pub returns-clause-reported : goal.returns-clause-reported
+returns-clause-reported c = λ n held.
     let log : List ℕ = c.args.log.now in
     let f : List ℕ = c.in_ok-frame.frame.items in
     let m : List ℕ = c.args.message.now in
@@ -29,7 +29,7 @@ returns-clause-told c = λ n held.
     let message = c.law_11.ensures.message f m n c.in_ok-frame.ensures.frame.reads held in
     let none = c.law_9.ensures.none [] n (All-nil (λ b. b ≢ 0)) in
     let items : c.push.new.self.items ≡ (log ++ f) ++ 0 ∷ [] = search rules in
-    rw items (told log f m n c.requires.at_sentinel some nonzero c.law_10.ensures.apart one message none)
+    rw items (reported log f m n c.requires.at_sentinel some nonzero c.law_10.ensures.apart one message none)
 
 pub returns-clause-at_sentinel : goal.returns-clause-at_sentinel
 returns-clause-at_sentinel c = inr (c.extend_from_slice.new.self.items, c.in_ok-push.ensures.items)

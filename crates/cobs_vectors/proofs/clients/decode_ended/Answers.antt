@@ -5,9 +5,9 @@ use Rattle.cobs.specs.Headline.{BeginsWith, PushesMessage}
 use Rattle.cobs_vectors.proofs.clients.decode_ended.Goals as goal
 use Rattle.cobs_vectors.proofs.clients.decode_ended.Goals.{After-push}
 
--- both halves of what the push tells
-told : (c : After-push) (m : List ℕ) → PushesMessage c.push.result (borrowed_buffer c.push.new.self) m ↔ (Reads c.args.piece.now m × (length m ≤ length (borrowed_buffer c.new-decoder.result)))
-told c m =
+-- both halves of what the push reports
+reported : (c : After-push) (m : List ℕ) → PushesMessage c.push.result (borrowed_buffer c.push.new.self) m ↔ (Reads c.args.piece.now m × (length m ≤ length (borrowed_buffer c.new-decoder.result)))
+reported c m =
     let idle = c.new-decoder.ensures.phase in (
       c.push.ensures.only c.args.piece.now m idle c.requires.ended c.requires.piece,
       λ r. c.push.ensures.reads c.args.piece.now m idle c.requires.ended r.0 r.1,
@@ -18,13 +18,13 @@ returns-in-Ok-Some c = λ m.
     let made = c.new-decoder.ensures.same_slice in
     let pushed = c.push.ensures.same_slice in
     let start = c.new-decoder.ensures.buffer in
-    let r = rw (c.in-Ok-Some.is, c.in-Ok-Some.field-0-is, start) at (told (goal.at.returns-in-Ok-Some c).After-push m) in
+    let r = rw (c.in-Ok-Some.is, c.in-Ok-Some.field-0-is, start) at (reported (goal.at.returns-in-Ok-Some c).After-push m) in
     rw c.frame_size.ensures.size (subst (λ (l : List ℕ). BeginsWith l c.in-Ok-Some.report.frame_size m ↔ (Reads c.args.piece.now m × (length m ≤ length c.args.dest.now))) (grind arith) r)
 
 pub returns-in-Ok-None : goal.returns-in-Ok-None
 returns-in-Ok-None c = λ m.
-    rw (c.in-Ok-None.is, c.in-Ok-None.field-0-is, c.new-decoder.ensures.buffer) at (told (goal.at.returns-in-Ok-None c).After-push m)
+    rw (c.in-Ok-None.is, c.in-Ok-None.field-0-is, c.new-decoder.ensures.buffer) at (reported (goal.at.returns-in-Ok-None c).After-push m)
 
 pub returns-in-Err : goal.returns-in-Err
 returns-in-Err c = λ m.
-    rw (c.in-Err.is, c.new-decoder.ensures.buffer) at (told (goal.at.returns-in-Err c).After-push m)
+    rw (c.in-Err.is, c.new-decoder.ensures.buffer) at (reported (goal.at.returns-in-Err c).After-push m)

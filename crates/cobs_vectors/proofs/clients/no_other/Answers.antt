@@ -3,11 +3,11 @@ use Rattle.cobs.specs.Headline.{BeginsWith, IsPiece}
 use Rattle.cobs_vectors.proofs.clients.no_other.Goals as goal
 
 pub returns-in-Ok : goal.returns-in-Ok
-returns-in-Ok c = λ m told.
+returns-in-Ok c = λ m reported.
     let message : List ℕ = c.args.message.now in
     let written : List ℕ = take c.encode-len.result c.encode-len.new.dest in
     let len = c.law_2.ensures.len written message c.encode-len.ensures.frame in
     let lower = c.law_4.ensures.lower message in
     let piece : IsPiece written = (λ none. let z = ap length none in omega arith, c.encode-len.ensures.no_sentinel) in
-    let begins = subst (λ n. BeginsWith c.decode.new.dest n m) c.frame_size.ensures.size told in
+    let begins = subst (λ n. BeginsWith c.decode.new.dest n m) c.frame_size.ensures.size reported in
     c.law_5.ensures.message written m message (c.in-Ok.ensures.only piece m begins).0 c.encode-len.ensures.frame.reads

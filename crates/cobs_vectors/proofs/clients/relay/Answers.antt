@@ -10,8 +10,8 @@ first (Broken count) more = refl
 first TooLong more = refl
 
 relayed : (out out' found more all : List Outcome) (o : Outcome) → out ++ messages_of found ≡ all → found ≡ o ∷ more → out' ≡ out ++ messages_of (o ∷ []) → out' ++ messages_of more ≡ all
-relayed out out' found more all o so_far one told =
-    ap (λ (x : List Outcome). x ++ messages_of more) told ∙ append_assoc out (messages_of (o ∷ [])) (messages_of more)
+relayed out out' found more all o so_far one reported =
+    ap (λ (x : List Outcome). x ++ messages_of more) reported ∙ append_assoc out (messages_of (o ∷ [])) (messages_of more)
     ∙ ap (λ (x : List Outcome). out ++ x) (first o more ∙ ap messages_of (sym one)) ∙ so_far
 
 pub by_piece-preserved : goal.by_piece-preserved
@@ -24,7 +24,7 @@ by_piece-preserved g c =
     let one = rw (take_rest stream at, inv.len, drop-drop) at (c.law_21.ensures.outcomes _ _ _ _ _ _ _ t inv.idle) in
     record {
       within = omega (arith, t.within.0, length-take (length stream - at) (drop at stream), length-drop at stream, inv.within);
-      told = relayed _ _ _ _ _ _ inv.told one (rw (c.buffer.ensures.value, len) at c.in_ok-out.ensures.told);
+      reported = relayed _ _ _ _ _ _ inv.reported one (rw (c.buffer.ensures.value, len) at c.in_ok-out.ensures.reported);
       at_sentinel = c.in_ok-out.ensures.at_sentinel;
       idle = t.idle;
       len = len;

@@ -10,7 +10,7 @@ invariant-by_piece g l =
     let n = length (g.D.FrameDecoder.bytes l.fn.decoder) in
     record {
       within : l.at ≤ length l.stream;
-      told : stream_outcomes l.out.items n ++ messages_of (stream_outcomes (drop l.at l.stream) n) ≡ messages_of (stream_outcomes l.stream n);
+      reported : stream_outcomes l.out.items n ++ messages_of (stream_outcomes (drop l.at l.stream) n) ≡ messages_of (stream_outcomes l.stream n);
       at_sentinel : IsAtSentinel l.out.items;
       idle : g.D.FrameDecoder.phase l.decoder ≡ Idle;
       len : length (g.D.FrameDecoder.bytes l.decoder) ≡ n;

@@ -5,9 +5,9 @@ use Rattle.cobs.specs.Headline.{PushesMessage}
 use Rattle.cobs_vectors.proofs.receivers.push_reads_unbuffered.Goals as goal
 use Rattle.cobs_vectors.proofs.receivers.push_reads_unbuffered.Goals.{After-push}
 
--- both halves of what the push tells
-told : (c : After-push) (m : List ℕ) → PushesMessage c.push.result c.push.new.dest m ↔ (Reads c.args.piece.now m × (length m ≤ length c.args.dest.now))
-told c m =
+-- both halves of what the push reports
+reported : (c : After-push) (m : List ℕ) → PushesMessage c.push.result c.push.new.dest m ↔ (Reads c.args.piece.now m × (length m ≤ length c.args.dest.now))
+reported c m =
     let below = All-from_get_or (λ b. b < 256) c.args.ended.now 0 (λ i within. (c.type_inv.ended i).fits) in
     let pushes = c.push.ensures.pushes in
     let idle = c.new.ensures.idle in (
@@ -17,10 +17,10 @@ told c m =
 
 pub returns-in-Ok-Some : goal.returns-in-Ok-Some
 returns-in-Ok-Some c = λ m.
-    rw c.frame_size.ensures.size (rw (c.in-Ok-Some.is, c.in-Ok-Some.field-0-is) at (told (goal.at.returns-in-Ok-Some c).After-push m))
+    rw c.frame_size.ensures.size (rw (c.in-Ok-Some.is, c.in-Ok-Some.field-0-is) at (reported (goal.at.returns-in-Ok-Some c).After-push m))
 
 pub returns-in-Ok-None : goal.returns-in-Ok-None
-returns-in-Ok-None c = λ m. rw (c.in-Ok-None.is, c.in-Ok-None.field-0-is) at (told (goal.at.returns-in-Ok-None c).After-push m)
+returns-in-Ok-None c = λ m. rw (c.in-Ok-None.is, c.in-Ok-None.field-0-is) at (reported (goal.at.returns-in-Ok-None c).After-push m)
 
 pub returns-in-Err : goal.returns-in-Err
-returns-in-Err c = λ m. rw c.in-Err.is at (told (goal.at.returns-in-Err c).After-push m)
+returns-in-Err c = λ m. rw c.in-Err.is at (reported (goal.at.returns-in-Err c).After-push m)

@@ -9,8 +9,8 @@ use Rattle.cobs_vectors.proofs.receivers.read_piece.Goals as goal
 same_end : (x y : PieceEnd × ℕ) → Some x ≡ Some y → x.0 ≡ y.0
 same_end x y e = let same : x ≡ y = cc in ap (λ z. z.0) same
 
-told_len : (len n : ℕ) → ◌≡◌ {A = PieceEnd} (Message len) (Message n) → len ≡ n
-told_len len n e = cc
+len_same : (len n : ℕ) → ◌≡◌ {A = PieceEnd} (Message len) (Message n) → len ≡ n
+len_same len n e = cc
 
 not_broken : (count n : ℕ) → ◌≡◌ {A = PieceEnd} (Broken count) (Message n) → ⊥
 not_broken count n e = absurd cc
@@ -24,13 +24,13 @@ returns-in-Some-Message-default g c = λ m.
     let buffer : List ℕ = g.D.FrameDecoder.bytes c.feed_piece.new.self in
     let below = All-from_get_or (λ b. b < 256) f 0 (λ i within. (c.type_inv.piece i).fits) in
     let takes = rw c.requires.ended at c.feed_piece.ensures.takes in
-    let told = rw (c.requires.ended, c.in-Some-Message-default.field-0-0-is) at c.in-Some-Message-default.ensures.takes in (
+    let reported = rw (c.requires.ended, c.in-Some-Message-default.field-0-0-is) at c.in-Some-Message-default.ensures.takes in (
       λ begins. (
-        reads_front f buffer m c.in-Some-Message-default.len (c.law_18.ensures.taken_only _ _ f [] _ _ _ _ told c.requires.idle c.requires.piece below) begins,
+        reads_front f buffer m c.in-Some-Message-default.len (c.law_18.ensures.taken_only _ _ f [] _ _ _ _ reported c.requires.idle c.requires.piece below) begins,
         subst (λ n. length m ≤ n) takes.takes.len (held_front buffer m _ begins),
       ),
       λ r. let w = c.law_18.ensures.taken _ _ f [] m _ _ _ takes c.requires.idle r.0 r.1 in
-          let len = told_len _ _ (rw c.in-Some-Message-default.field-0-0-is at (same_end _ _ (sym c.in-Some-Message-default.is ∙ w.0))) in
+          let len = len_same _ _ (rw c.in-Some-Message-default.field-0-0-is at (same_end _ _ (sym c.in-Some-Message-default.is ∙ w.0))) in
           (len, ap (λ n. take n buffer) len ∙ w.1),
     )
 

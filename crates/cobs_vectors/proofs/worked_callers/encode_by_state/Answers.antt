@@ -2,28 +2,28 @@ use Rattle.std.proofs.Common.{◌≡◌, ◌<◌, ◌≤◌, ◌==◌, ℕ, Bool
 use Rattle.std.proofs.lemmas.List.{take_more}
 use Rattle.cobs.specs.declared.PushResult.{PushResult}
 use Rattle.cobs.specs.declared.PushResult.TheVariants.{AddSingle, ModifyFromStartAndSkip, ModifyFromStartAndPushAndSkip}
-use Rattle.cobs.specs.OpenBlock.{OpenBlock, IsOpenOutput, push_answer, applied}
+use Rattle.cobs.specs.OpenBlock.{OpenBlock, IsOpenOutput, push_result, applied}
 use Rattle.cobs_vectors.proofs.worked_callers.encode_by_state.Goals.{in-AddSingle+in_ok-push-in-AddSingle, in-ModifyFromStartAndSkip+in_ok-push-in-ModifyFromStartAndSkip, in-ModifyFromStartAndPushAndSkip+in_ok-push-in-ModifyFromStartAndPushAndSkip+in_ok-push-in-ModifyFromStartAndPushAndSkip-2}
 use Rattle.cobs_vectors.proofs.worked_callers.encode_by_state.Goals as goal
 
--- the index that an answer names
+-- the index that a result names
 abbrev index_of : PushResult → ℕ
 index_of (AddSingle b) = 0
 index_of (ModifyFromStartAndSkip (i, c)) = i
 index_of (ModifyFromStartAndPushAndSkip (i, c, b)) = i
 
 -- it is the open block's
-index_of-push_answer : (state : OpenBlock) (byte : ℕ) → index_of (push_answer state byte) ≤ state.index
-index_of-push_answer state byte = go (byte == 0) (state.code == 254)
+index_of-push_result : (state : OpenBlock) (byte : ℕ) → index_of (push_result state byte) ≤ state.index
+index_of-push_result state byte = go (byte == 0) (state.code == 254)
   where
     go : (zero full : Bool) → index_of (if zero then ModifyFromStartAndSkip (state.index, state.code) else (if full then ModifyFromStartAndPushAndSkip (state.index, 255, byte) else AddSingle byte)) ≤ state.index
     go true full = omega arith
     go false true = omega arith
     go false false = omega arith
 
-within : (g : List ℕ) (state : OpenBlock) (byte : ℕ) (answer : PushResult) → state.index < length g → answer ≡ push_answer state byte → index_of answer < length g
-within g state byte answer end is =
-    let at = index_of-push_answer state byte in
+within : (g : List ℕ) (state : OpenBlock) (byte : ℕ) (returned : PushResult) → state.index < length g → returned ≡ push_result state byte → index_of returned < length g
+within g state byte returned end is =
+    let at = index_of-push_result state byte in
     let same = ap index_of is in
     omega arith
 
@@ -52,7 +52,7 @@ by_byte-preserved c =
     let g : List ℕ = c.by_byte.output.items in
     let carried = c.push.ensures.carried (take i source) g 0 c.by_byte.invariant in
     let more = take_more source i 0 (omega arith) in
-    let carry : (answer : PushResult) → c.push.result ≡ answer → applied g c.push.result 0 ≡ applied g answer 0 = λ answer is. ap (λ (r : PushResult). applied g r 0) is in
+    let carry : (returned : PushResult) → c.push.result ≡ returned → applied g c.push.result 0 ≡ applied g returned 0 = λ returned is. ap (λ (r : PushResult). applied g r 0) is in
     let same : c.match-push.output.items ≡ applied g c.push.result 0 = elim c.match-push.branch [
       | in-AddSingle+in_ok-push-in-AddSingle w ↦
           let is = carry _ w.in-AddSingle.is in

@@ -4,7 +4,7 @@ use Rattle.cobs.specs.Decode.{decoded}
 use Rattle.cobs.proofs.decoding.HeadlineLemmas.{bytes_below}
 use Rattle.cobs.proofs.decoding.ReadsLemmas.{frame_piece}
 use Rattle.cobs.proofs.decoding.VectorHeadline.{decoded_reads, one_message, no_message, truncated}
-use Rattle.cobs.proofs.decoding.VectorSteps.{above_zero, decoded-refused, decoded-message}
+use Rattle.cobs.proofs.decoding.VectorSteps.{above_zero, decoded-rejected, decoded-message}
 use Rattle.cobs.proofs.dec.forms.decode_vec.Goals as goal
 
 pub returns-in-Ok : goal.returns-in-Ok
@@ -16,21 +16,21 @@ returns-in-Ok c =
     let is : decoded c.args.source.now ≡ Ok c.truncate.new.self.items =
     decoded-message c.args.source.now _ long c.in-Ok.report c.deref_mut.result.now c.decode.new.dest (above_zero refl some) refl (sym c.in-Ok.is ∙ c.decode.ensures.answer) c.decode.ensures.buffer
     ∙ sym (ap Ok items) in
-    let told = decoded_reads c.args.source.now (bytes_below _ c.type_inv.source) in
+    let stated = decoded_reads c.args.source.now (bytes_below _ c.type_inv.source) in
     record {
       message = is;
       refused = tt;
       empty = λ none. absurd (some (ap length none));
       room = tt;
-      reads = λ found m r. one_message is ((told m (frame_piece r)).1 r);
-      only = λ piece m same. (told m piece).0 (is ∙ ap Ok same);
+      reads = λ found m r. one_message is ((stated m (frame_piece r)).1 r);
+      only = λ piece m same. (stated m piece).0 (is ∙ ap Ok same);
     }
 
 pub returns-in-Err : goal.returns-in-Err
 returns-in-Err c =
     let some : length c.args.source.now ≢ 0 = eqb-false _ 0 (sym c.is_empty.ensures ∙ c.if-is_empty.false) in
     let long : length c.deref_mut.result.now ≡ length c.args.source.now = search rules in
-    let is = decoded-refused c.args.source.now _ long c.in-Err.error (above_zero refl some) (sym c.in-Err.is ∙ c.decode.ensures.answer) in
+    let is = decoded-rejected c.args.source.now _ long c.in-Err.error (above_zero refl some) (sym c.in-Err.is ∙ c.decode.ensures.answer) in
     record {
       message = tt;
       refused = is.0;

@@ -6,7 +6,7 @@ use Rattle.cobs.specs.Decode.{decoded_head}
 use Rattle.cobs.proofs.decoding.HeadlineLemmas.{xored_below}
 use Rattle.cobs.proofs.decoding.ReadsLemmas.{frame_piece}
 use Rattle.cobs.proofs.decoding.VectorHeadline.{decoded_head_reads, one_message, no_message, truncated}
-use Rattle.cobs.proofs.decoding.VectorSteps.{above_zero, decoded_head-refused, decoded_head-message}
+use Rattle.cobs.proofs.decoding.VectorSteps.{above_zero, decoded_head-rejected, decoded_head-message}
 use Rattle.cobs.proofs.dec.forms.decode_vec_with_sentinel.Goals as goal
 
 pub returns-in-Ok : goal.returns-in-Ok
@@ -20,14 +20,14 @@ returns-in-Ok c =
     let is : decoded_head f ≡ Ok c.truncate.new.self.items =
     decoded_head-message f _ (long ∙ sym changed) c.in-Ok.len c.deref_mut.result.now c.decode_with_sentinel.new.dest (above_zero changed some) refl
     (sym c.in-Ok.is ∙ c.decode_with_sentinel.ensures.answer) c.decode_with_sentinel.ensures.buffer ∙ sym (ap Ok items) in
-    let told = decoded_head_reads f (xored_below c.args.sentinel c.args.source.now c.ranges.sentinel.fits c.type_inv.source) in
+    let stated = decoded_head_reads f (xored_below c.args.sentinel c.args.source.now c.ranges.sentinel.fits c.type_inv.source) in
     record {
       message = is;
       refused = tt;
       empty = λ none. absurd (some (ap length none));
       room = tt;
-      reads = λ found m r. one_message is ((told m (frame_piece r)).1 r);
-      only = λ piece m same. (told m piece).0 (is ∙ ap Ok same);
+      reads = λ found m r. one_message is ((stated m (frame_piece r)).1 r);
+      only = λ piece m same. (stated m piece).0 (is ∙ ap Ok same);
     }
 
 pub returns-in-Err : goal.returns-in-Err
@@ -36,7 +36,7 @@ returns-in-Err c =
     let some : length c.args.source.now ≢ 0 = eqb-false _ 0 (sym c.is_empty.ensures ∙ c.if-is_empty.false) in
     let long : length c.deref_mut.result.now ≡ length c.args.source.now = search rules in
     let changed = length-map c.args.source.now (λ (b : ℕ). bit_xor b c.args.sentinel) in
-    let is = decoded_head-refused f _ (long ∙ sym changed) c.in-Err.error (above_zero changed some) (sym c.in-Err.is ∙ c.decode_with_sentinel.ensures.answer) in
+    let is = decoded_head-rejected f _ (long ∙ sym changed) c.in-Err.error (above_zero changed some) (sym c.in-Err.is ∙ c.decode_with_sentinel.ensures.answer) in
     record {
       message = tt;
       refused = is.0;

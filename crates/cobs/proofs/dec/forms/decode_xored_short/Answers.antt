@@ -2,8 +2,8 @@ use Rattle.std.proofs.Common.{◌≡◌, ◌∙◌, ◌+◌, ◌-◌, ℕ, ◌�
 use Rattle.cobs.proofs.decoding.PieceCuts.{output_short}
 use Rattle.cobs.proofs.dec.forms.decode_xored_short.Goals as goal
 
-pub write_joints-left-requires-clause-flat : goal.write_joints-left-requires-clause-flat
-write_joints-left-requires-clause-flat c =
+pub write_zeros_at_codes-left-requires-clause-flat : goal.write_zeros_at_codes-left-requires-clause-flat
+write_zeros_at_codes-left-requires-clause-flat c =
     let n : ℕ = length c.args.source.now in
     let same : length c.copy_xored_short.new.dest ≡ length c.args.dest.now = c.copy_xored_short.auto.dest in
     let long = length-take-le (n - 1) c.copy_xored_short.new.dest (omega arith) in

@@ -1,6 +1,6 @@
 use Rattle.std.proofs.Common.{◌∙◌, ◌++◌, List, ℕ, take, sym, ap, subst, arith, take-append-drop}
 use Rattle.std.proofs.lemmas.List.{take_rest}
-use Rattle.cobs.specs.Internal.Decoded.{DecodedSource}
+use Rattle.cobs.specs.Internal.DecodedUpTo.{DecodedSource}
 use Rattle.cobs.specs.Stream.{head}
 use Rattle.cobs.proofs.decoding.FlatLemmas.{put-back}
 use Rattle.cobs.proofs.decoding.InPlaceSteps.{full-moved}

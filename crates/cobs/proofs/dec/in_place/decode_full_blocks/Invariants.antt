@@ -1,5 +1,5 @@
 use Rattle.std.proofs.Common.{◌-◌, ◌≤◌, length}
-use Rattle.cobs.specs.Internal.Decoded.{DecodedSource}
+use Rattle.cobs.specs.Internal.DecodedUpTo.{DecodedSource}
 use Rattle.cobs.specs.Stream.{head}
 use Rattle.cobs.proofs.dec.in_place.decode_full_blocks.Given as goal
 

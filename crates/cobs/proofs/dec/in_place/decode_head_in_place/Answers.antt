@@ -1,5 +1,5 @@
 use Rattle.std.proofs.Common.{◌-◌, Ok, ap, sym, inl, ◌∙◌, arith, length-take-le}
-use Rattle.cobs.proofs.decoding.BlockSteps.{all-answer}
+use Rattle.cobs.proofs.decoding.BlockSteps.{all-result}
 use Rattle.cobs.proofs.decoding.InPlaceSteps.{first-end}
 use Rattle.cobs.proofs.decoding.SourceSteps.{all-buffer}
 use Rattle.cobs.proofs.dec.in_place.decode_head_in_place.Goals as goal
@@ -16,6 +16,6 @@ returns-then-decode_short_in_place c =
     (inl (omega arith)) in
     let t = length-take-le (c.args.end - 1) c.decode_short_in_place.new.buffer (omega arith) in
     record {
-      answer = ap Ok (sym t) ∙ all-answer _ _ _ d.blocks (omega arith);
+      returned = ap Ok (sym t) ∙ all-result _ _ _ d.blocks (omega arith);
       buffer = all-buffer _ _ _ _ _ d (omega arith);
     }

@@ -2,18 +2,18 @@ use Rattle.std.proofs.Common.{arith, length-take-le}
 use Rattle.std.proofs.lemmas.Bool.{eqb-false}
 use Rattle.cobs.proofs.decoding.HeadLemmas.{front_is_head}
 use Rattle.cobs.proofs.decoding.HeadlineLemmas.{in_place_reads, in_place_only}
-use Rattle.cobs.proofs.decoding.OutcomeSteps.{in_place_report-refused, in_place_report-decoded}
+use Rattle.cobs.proofs.decoding.OutcomeSteps.{in_place_report-rejected, in_place_report-decoded}
 use Rattle.cobs.proofs.dec.in_place.decode_in_place_report.Goals as goal
 
 pub returns-then-buf-eq-FULL_CODE-clause-reads : goal.returns-then-buf-eq-FULL_CODE-clause-reads
-returns-then-buf-eq-FULL_CODE-clause-reads c = in_place_reads _ _ _ c.decode_full_in_place.ensures.answer c.decode_full_in_place.ensures.buffer c.has_none.ensures.bytes
+returns-then-buf-eq-FULL_CODE-clause-reads c = in_place_reads _ _ _ c.decode_full_in_place.ensures.returned c.decode_full_in_place.ensures.buffer c.has_none.ensures.bytes
 
 pub returns-then-buf-eq-FULL_CODE-clause-only : goal.returns-then-buf-eq-FULL_CODE-clause-only
-returns-then-buf-eq-FULL_CODE-clause-only c = in_place_only _ _ _ c.decode_full_in_place.ensures.answer c.decode_full_in_place.ensures.buffer c.has_none.ensures.bytes
+returns-then-buf-eq-FULL_CODE-clause-only c = in_place_only _ _ _ c.decode_full_in_place.ensures.returned c.decode_full_in_place.ensures.buffer c.has_none.ensures.bytes
 
 pub returns-in_err-frame_size-clause-answer : goal.returns-in_err-frame_size-clause-answer
 returns-in_err-frame_size-clause-answer c =
-    grind (arith, eqb-false, front_is_head, in_place_report-refused)
+    grind (arith, eqb-false, front_is_head, in_place_report-rejected)
 
 pub returns-in_err-frame_size-clause-buffer : goal.returns-in_err-frame_size-clause-buffer
 returns-in_err-frame_size-clause-buffer c = grind (arith, front_is_head)

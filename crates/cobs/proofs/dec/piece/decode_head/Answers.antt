@@ -8,13 +8,13 @@ use Rattle.cobs.proofs.decoding.FrontSteps.{head-rest, finished-begins, finished
 use Rattle.cobs.proofs.dec.piece.decode_head.Goals as goal
 
 pub slice_bounds-decode_piece-end : goal.slice_bounds-decode_piece-end
-slice_bounds-decode_piece-end c = omega (arith, length-head c.args.source.now, c.decode_front-len.ensures.decoded.within)
+slice_bounds-decode_piece-end c = omega (arith, length-head c.args.source.now, c.decode_ahead-len.ensures.decoded.within)
 
 pub decode_piece-end-requires-clause-nonzero : goal.decode_piece-end-requires-clause-nonzero
 decode_piece-end-requires-clause-nonzero c =
     let source : List ℕ = c.args.source.now in
-    let e = c.decode_front-len.ensures in
-    rw (head-rest source c.decode_front-len.result.0.read _ e.end (omega (arith, e.decoded.within, e.end))) (All-drop (λ b. b ≢ 0) c.decode_front-len.result.0.read (head source) (head_nonzero source))
+    let e = c.decode_ahead-len.ensures in
+    rw (head-rest source c.decode_ahead-len.result.0.read _ e.end (omega (arith, e.decoded.within, e.end))) (All-drop (λ b. b ≢ 0) c.decode_ahead-len.result.0.read (head source) (head_nonzero source))
 
 pub decode_piece-end-requires-clause-room : goal.decode_piece-end-requires-clause-room
 decode_piece-end-requires-clause-room c = grind (arith, head-rest, take_rest, length-drop, output-le)

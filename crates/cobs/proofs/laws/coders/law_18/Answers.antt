@@ -12,5 +12,5 @@ returns c = record {
   taken_only = λ buffer buffer' f more phase phase' n count t idle piece below. taken-only buffer buffer' f more phase phase' idle piece n count t below;
   ends = λ buffer buffer' f more phase phase' result t idle piece. taken-piece buffer buffer' f more phase phase' idle piece result t;
   pushed = λ buffer buffer' bytes f m phase phase' result w idle is below r fits. (push_reads w below f m idle is (frame_piece r)).1 (r, fits);
-  pushed_only = λ buffer buffer' bytes f m phase phase' result w idle is below piece told. (push_reads w below f m idle is piece).0 told;
+  pushed_only = λ buffer buffer' bytes f m phase phase' result w idle is below piece stated. (push_reads w below f m idle is piece).0 stated;
 }

@@ -18,15 +18,15 @@ module _ {buffer buffer' : List ℕ} {phase phase' : Phase} {end : PieceEnd} {co
   left_behind : unended bytes ≡ unended (drop count bytes)
   left_behind = ap unended cut ∙ unended-append (take count bytes) (drop count bytes) ∙ ap (λ (x : List ℕ). unended (x ++ drop count bytes)) nothing_left
 
-  told_first : phase ≡ Idle → stream_outcomes bytes (length buffer) ≡ outcome_at end buffer' ∷ stream_outcomes (drop count bytes) (length buffer)
-  told_first idle =
+  reported_first : phase ≡ Idle → stream_outcomes bytes (length buffer) ≡ outcome_at end buffer' ∷ stream_outcomes (drop count bytes) (length buffer)
+  reported_first idle =
       ap (λ (x : List ℕ). stream_outcomes x (length buffer)) cut ∙ stream_outcomes-append (take count bytes) (drop count bytes) (length buffer)
       ∙ ap (λ (x : List Outcome). x ++ stream_outcomes (unended (take count bytes) ++ drop count bytes) (length buffer)) (sym (t.takes.outcomes [] (DecoderAfter-idle buffer phase idle)))
       ∙ ap (λ (x : List ℕ). outcome_at end buffer' ∷ stream_outcomes (x ++ drop count bytes) (length buffer)) nothing_left
 
 pub returns : goal.returns
 returns c = record {
-  outcomes = λ buffer buffer' bytes phase phase' end count t idle. told_first bytes t idle;
+  outcomes = λ buffer buffer' bytes phase phase' end count t idle. reported_first bytes t idle;
   left = λ buffer buffer' bytes phase phase' end count t. left_behind bytes t;
   none = λ buffer buffer' bytes phase phase' t idle. sym (t.takes.outcomes [] (DecoderAfter-idle buffer phase idle));
   after = λ buffer buffer' bytes phase phase' t idle. t.takes.after [] (DecoderAfter-idle buffer phase idle);

@@ -3,10 +3,10 @@ use Rattle.cobs.proofs.dec.state.DecoderState.feed.Goals as goal
 
 pub returns-clause-after : goal.returns-clause-after
 returns-clause-after c = λ p so_far s some.
-    rw (c.row-answer.ensures.answer, c.row-answer.ensures.state) (StateAfter-step c.args.self.now p so_far c.args.byte c.ranges.byte.fits s some)
+    rw (c.row-returned.ensures.returned, c.row-returned.ensures.state) (StateAfter-step c.args.self.now p so_far c.args.byte c.ranges.byte.fits s some)
 
 pub returns-clause-message : goal.returns-clause-message
-returns-clause-message c = λ p so_far m s zero. rw (c.row-answer.ensures.answer, zero) (StateAfter-end c.args.self.now p so_far m s)
+returns-clause-message c = λ p so_far m s zero. rw (c.row-returned.ensures.returned, zero) (StateAfter-end c.args.self.now p so_far m s)
 
 pub returns-clause-idle : goal.returns-clause-idle
-returns-clause-idle c = λ zero. rw (c.row-answer.ensures.state, zero, table_state-zero c.args.self.now) StateAfter-start
+returns-clause-idle c = λ zero. rw (c.row-returned.ensures.state, zero, table_state-zero c.args.self.now) StateAfter-start

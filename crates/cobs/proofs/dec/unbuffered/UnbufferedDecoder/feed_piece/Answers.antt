@@ -1,6 +1,6 @@
 use Rattle.std.proofs.Common.{◌≡◌, ◌≤◌, ◌+◌, ◌-◌, sym, arith, None, true, refl, length, drop, take, length-drop, length-take}
 use Rattle.std.proofs.lemmas.List.{take_all, take_rest}
-use Rattle.cobs.specs.Feed.{Over}
+use Rattle.cobs.specs.Feed.{Overlong}
 use Rattle.cobs.specs.FeedPiece.{TakesPiece}
 use Rattle.cobs.specs.Fields.Decoders.{phase_of}
 use Rattle.cobs.specs.declared.dec.unbuffered.UnbufferedDecoder.{UnbufferedDecoder}
@@ -9,7 +9,7 @@ use Rattle.cobs.proofs.streaming.RunLemmas.{piece-run, piece-over}
 use Rattle.cobs.proofs.dec.unbuffered.UnbufferedDecoder.feed_piece.Goals as goal
 use Rattle.cobs.proofs.dec.unbuffered.UnbufferedDecoder.feed_piece.Goals.{Joined-self, then-self, else-self}
 
-over_is : (decoder : UnbufferedDecoder) → decoder.over ≡ true → phase_of decoder ≡ Over
+over_is : (decoder : UnbufferedDecoder) → decoder.over ≡ true → phase_of decoder ≡ Overlong
 over_is decoder e = rw e refl
 
 -- behind the run
@@ -17,35 +17,35 @@ within : (c : Joined-self) → c.by_run.taken + c.if-self.taken ≤ length c.arg
 within c =
     let rest = length-take (length c.args.bytes.now - c.by_run.taken) (drop c.by_run.taken c.args.bytes.now) in
     let all = length-drop c.by_run.taken c.args.bytes.now in
-    elim c.if-self.branch [ then-self w ↦ omega (arith, w.taken-is, w.piece_len.ensures.within) | else-self w ↦ omega (arith, w.taken-is, w.take_run.ensures.within) ]
+    elim c.if-self.branch [ then-self w ↦ omega (arith, w.taken-is, w.len_before_zero.ensures.within) | else-self w ↦ omega (arith, w.taken-is, w.take_quiet.ensures.within) ]
 
 ran : (c : Joined-self) → TakesPiece c.args.dest.now (phase_of c.args.self.now) (take (c.by_run.taken + c.if-self.taken) c.args.bytes.now) None c.if-self.dest (phase_of c.if-self.self)
 ran c = elim c.if-self.branch [
   | then-self w ↦
       let over = over_is c.by_run.self w.if-self.true in
       rw (w.taken-is, w.dest-is, w.self-is, over)
-      (piece-over c.args.bytes.now c.by_run.taken _ (rw w.taken-is at (within c)) (rw (take_rest c.args.bytes.now c.by_run.taken) at w.piece_len.ensures.nonzero) (rw over at c.by_run.invariant.none_ended))
+      (piece-over c.args.bytes.now c.by_run.taken _ (rw w.taken-is at (within c)) (rw (take_rest c.args.bytes.now c.by_run.taken) at w.len_before_zero.ensures.nonzero) (rw over at c.by_run.invariant.none_ended))
   | else-self w ↦
       rw (w.taken-is, w.dest-is, w.self-is)
-      (piece-run c.args.bytes.now c.by_run.taken _ (rw w.taken-is at (within c)) c.by_run.invariant.none_ended (rw (take_rest c.args.bytes.now c.by_run.taken) at w.take_run.ensures.fed))
+      (piece-run c.args.bytes.now c.by_run.taken _ (rw w.taken-is at (within c)) c.by_run.invariant.none_ended (rw (take_rest c.args.bytes.now c.by_run.taken) at w.take_quiet.ensures.fed))
 ]
 
 pub by_run-init : goal.by_run-init
 by_run-init c = record { within = omega arith; none_ended = piece-nothing _ _ }
 
 pub returns-in-Some : goal.returns-in-Some
-returns-in-Some c = record { takes = piece-ended _ _ c.if-taken-bytes.true (ran (goal.at.returns-in-Some c).Joined-self) c.feed-answer.ensures.feeds _ c.if-byte-eq0.true (sym c.in-Some.ensures) }
+returns-in-Some c = record { takes = piece-ended _ _ c.if-taken-bytes.true (ran (goal.at.returns-in-Some c).Joined-self) c.feed-returned.ensures.feeds _ c.if-byte-eq0.true (sym c.in-Some.ensures) }
 
 pub by_run-preserved-in_default : goal.by_run-preserved-in_default
 by_run-preserved-in_default c = record {
   within = omega arith;
-  none_ended = piece-more _ _ c.if-taken-bytes.true (ran (goal.at.by_run-preserved-in_default c).Joined-self) c.feed-answer.ensures.feeds (λ _. sym c.in_default.ensures);
+  none_ended = piece-more _ _ c.if-taken-bytes.true (ran (goal.at.by_run-preserved-in_default c).Joined-self) c.feed-returned.ensures.feeds (λ _. sym c.in_default.ensures);
 }
 
 pub by_run-preserved-else-byte-eq0 : goal.by_run-preserved-else-byte-eq0
 by_run-preserved-else-byte-eq0 c = record {
   within = omega arith;
-  none_ended = piece-more _ _ c.if-taken-bytes.true (ran (goal.at.by_run-preserved-else-byte-eq0 c).Joined-self) c.feed-answer.ensures.feeds (λ z. absurd (c.if-byte-eq0.false z));
+  none_ended = piece-more _ _ c.if-taken-bytes.true (ran (goal.at.by_run-preserved-else-byte-eq0 c).Joined-self) c.feed-returned.ensures.feeds (λ z. absurd (c.if-byte-eq0.false z));
 }
 
 pub by_run-preserved : goal.by_run-preserved

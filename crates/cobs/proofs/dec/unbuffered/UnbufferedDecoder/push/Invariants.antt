@@ -3,7 +3,7 @@ use Rattle.cobs.specs.Fields.Decoders.{phase_of}
 use Rattle.cobs.proofs.streaming.PushLemmas.{Pushed}
 use Rattle.cobs.proofs.dec.unbuffered.UnbufferedDecoder.push.Given as goal
 
--- the bytes before `at` are taken, and each was answered by `Ok(None)`
+-- the bytes before `at` are taken, and each returned `Ok(None)`
 abbrev pub invariant-by_run : goal.invariant-by_run
 invariant-by_run l = record {
   within : l.at ≤ length l.bytes;

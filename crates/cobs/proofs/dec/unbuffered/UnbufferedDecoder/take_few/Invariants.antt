@@ -1,6 +1,6 @@
 use Rattle.std.proofs.Common.{◌≡◌, ◌≤◌, ◌-◌, false, length, take}
 use Rattle.cobs.specs.Fields.Decoders.{phase_of}
-use Rattle.cobs.specs.Internal.FedInTurn.{FedInTurn}
+use Rattle.cobs.specs.Internal.FeedsQuietly.{FeedsQuietly}
 use Rattle.cobs.proofs.dec.unbuffered.UnbufferedDecoder.take_few.Given as goal
 
 -- the run so far is taken
@@ -8,7 +8,7 @@ abbrev pub invariant-by_step : goal.invariant-by_step
 invariant-by_step l = record {
   within : l.run ≤ length l.bytes;
   going : l.here.over ≡ false;
-  taken : FedInTurn l.fn.dest (phase_of l.fn.self) (take l.run l.bytes) l.dest (phase_of l.here);
+  taken : FeedsQuietly l.fn.dest (phase_of l.fn.self) (take l.run l.bytes) l.dest (phase_of l.here);
 }
 
 abbrev pub decreases-by_step : goal.decreases-by_step

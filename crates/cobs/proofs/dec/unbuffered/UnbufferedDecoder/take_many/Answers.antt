@@ -1,12 +1,12 @@
 use Rattle.std.proofs.Common.{◌≤◌, ℕ, List, length, take, arith, length-drop, length-take}
 use Rattle.std.proofs.lemmas.List.{take-take, take_rest}
 use Rattle.cobs.specs.Feed.{Phase}
-use Rattle.cobs.specs.Internal.FedInTurn.{FedInTurn}
+use Rattle.cobs.specs.Internal.FeedsQuietly.{FeedsQuietly}
 use Rattle.cobs.proofs.streaming.StretchLemmas.{joined}
 use Rattle.cobs.proofs.dec.unbuffered.UnbufferedDecoder.take_many.Goals as goal
 
 -- some of the first bytes are fed
-some_fed : (bytes b b' : List ℕ) (p p' : Phase) (most run : ℕ) → run ≤ length (take most bytes) → FedInTurn b p (take run (take most bytes)) b' p' → FedInTurn b p (take run bytes) b' p'
+some_fed : (bytes b b' : List ℕ) (p p' : Phase) (most run : ℕ) → run ≤ length (take most bytes) → FeedsQuietly b p (take run (take most bytes)) b' p' → FeedsQuietly b p (take run bytes) b' p'
 some_fed bytes b b' p p' most run within f = rw (take-take run most bytes (omega (arith, length-take most bytes))) at f
 
 pub returns-then-self-ne0-clause-fed : goal.returns-then-self-ne0-clause-fed

@@ -1,0 +1,13 @@
+use Rattle.std.proofs.Common.{◌≤◌, ◌-◌, length}
+use Rattle.cobs.specs.Fields.Progress.{reached_at}
+use Rattle.cobs.specs.Internal.Taking.{TakesFront}
+use Rattle.cobs.proofs.enc.blocks.append_rest.Given as goal
+
+abbrev pub invariant-by_run : goal.invariant-by_run
+invariant-by_run l = record {
+  within : l.read ≤ length l.source;
+  taken : TakesFront l.fn.dest (reached_at l.fn.progress) l.source l.read l.dest (reached_at l.progress);
+}
+
+abbrev pub decreases-by_run : goal.decreases-by_run
+decreases-by_run l = length l.source - l.read

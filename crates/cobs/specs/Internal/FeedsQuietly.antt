@@ -1,0 +1,10 @@
+-- Several bytes of which none ends a piece or overflows the buffer, as the decoder under the streaming ones takes them.
+use Rattle.std.specs.Prelude.{◌≡◌, List, [], ◌∷◌, ℕ, length, Ok, None}
+use Rattle.cobs.specs.Feed.{Phase}
+use Rattle.cobs.specs.Step.{next_result, next_buffer, next_phase}
+
+-- the bytes are fed one after another, each returns `Ok(None)`, and that is what they lead to
+abbrev pub FeedsQuietly : List ℕ → Phase → List ℕ → List ℕ → Phase → Type 0
+FeedsQuietly buffer phase [] buffer' phase' = (buffer' ≡ buffer) × (phase' ≡ phase)
+FeedsQuietly buffer phase (byte ∷ bytes) buffer' phase' =
+    (next_result (length buffer) phase byte ≡ Ok None) × FeedsQuietly (next_buffer buffer phase byte) (next_phase (length buffer) phase byte) bytes buffer' phase'

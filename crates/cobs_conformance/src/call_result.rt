@@ -1,0 +1,192 @@
+//! What a call returns, in words.
+use crate::arguments::NONE;
+use cobs::{DecodeError, DecodeReport, DestBufTooSmallError, FrameOutcome};
+use std::alloc::{AllocError, Global};
+
+/// The words after the `->` of a case, as a call gave them.
+#[derive(Debug, Drop)]
+pub struct CallResult {
+    alloc: Global,
+    words: Vec<String>,
+}
+
+impl CallResult {
+    ghost use Rattle.std.specs.Prelude.{◌≡◌, ◌⊎◌, [], ◌∷◌, ◌++◌, OnOk, map, string_bytes};
+    ghost use Rattle.std.specs.Fmt.{decimal};
+    ghost use Rattle.cobs_conformance.specs.CallResult.{bytes_word, words_of};
+
+    /// No word yet.
+    pub fn new(alloc: Global) -> CallResult
+        ensures none { words_of result ≡ [] }
+    {
+        CallResult {
+            alloc,
+            words: Vec::new(alloc),
+        }
+    }
+
+    /// The words so far.
+    pub fn words(&self) -> &[String]
+        ensures words { map string_bytes result.now ≡ words_of self.now }
+    {
+        self.words.as_slice()
+    }
+
+    /// The words with single spaces between them.
+    pub fn text(&self) -> Result<String, AllocError> {
+        let mut text = String::new(self.alloc);
+        for (at, word) in self.words.iter().enumerate() {
+            if at > 0 {
+                text.push(' ')?;
+            }
+            text.push_str(word.as_str())?;
+        }
+        Ok(text)
+    }
+
+    /// Adds the words of another result.
+    pub fn append(&mut self, mut other: CallResult) -> Result<(), AllocError>
+        ensures words { OnOk result (words_of self.new ≡ words_of self.old ++ words_of other) }
+    {
+        self.words.append(&mut other.words)
+    }
+
+    /// Adds the words of another result if they aren't the same.
+    pub fn append_other(&mut self, other: CallResult) -> Result<(), AllocError>
+        ensures words { OnOk result ((words_of self.new ≡ words_of self.old)
+            ⊎ (words_of self.new ≡ words_of self.old ++ words_of other)) }
+    {
+        if self.words == other.words {
+            return Ok(());
+        }
+        self.append(other)
+    }
+
+    /// Adds the words of another result if they aren't those that are wanted of it.
+    pub fn append_unlike(
+        &mut self,
+        wanted: &CallResult,
+        other: CallResult,
+    ) -> Result<(), AllocError>
+        ensures words { OnOk result ((words_of self.new ≡ words_of self.old)
+            ⊎ (words_of self.new ≡ words_of self.old ++ words_of other)) }
+    {
+        if wanted.words == other.words {
+            return Ok(());
+        }
+        self.append(other)
+    }
+
+    /// Adds a word.
+    pub fn say(&mut self, word: &str) -> Result<(), AllocError>
+        ensures words { OnOk result (words_of self.new ≡ words_of self.old ++ word.now ∷ []) }
+    {
+        let word = String::from_str(self.alloc, word)?;
+        self.words.push(word)?;
+        Ok(())
+    }
+
+    /// Adds a decimal number.
+    pub fn say_number(&mut self, number: usize) -> Result<(), AllocError>
+        ensures words { OnOk result (words_of self.new ≡ words_of self.old ++ decimal number ∷ []) }
+    {
+        let word = number.to_string(self.alloc)?;
+        self.words.push(word)?;
+        Ok(())
+    }
+
+    /// Adds hexadecimal digits, or `-` where there is no byte.
+    pub fn say_bytes(&mut self, bytes: &[u8]) -> Result<(), AllocError>
+        ensures words { OnOk result (words_of self.new ≡ words_of self.old ++ bytes_word bytes.now ∷ []) }
+    {
+        if bytes.is_empty() {
+            return self.say(NONE);
+        }
+        let word = hex::encode(self.alloc, bytes)?;
+        self.words.push(word)?;
+        Ok(())
+    }
+
+    /// Adds `ok` and the length, or the error.
+    pub fn say_written(
+        &mut self,
+        written: &Result<usize, DestBufTooSmallError>,
+    ) -> Result<(), AllocError> {
+        match written {
+            Ok(len) => {
+                self.say("ok")?;
+                self.say_number(*len)
+            }
+            Err(DestBufTooSmallError) => {
+                self.say("too_small")?;
+                self.say(NONE)
+            }
+        }
+    }
+
+    /// Adds `ok` and the message's length, or the error and what it counts.
+    pub fn say_decoded(&mut self, decoded: &Result<usize, DecodeError>) -> Result<(), AllocError> {
+        match decoded {
+            Ok(len) => {
+                self.say("ok")?;
+                self.say_number(*len)
+            }
+            Err(error) => {
+                self.say(name_of(error))?;
+                self.say_count(error)
+            }
+        }
+    }
+
+    /// Adds `ok`, the bytes consumed and the message's length, or the error and what it counts.
+    pub fn say_report(
+        &mut self,
+        report: &Result<DecodeReport, DecodeError>,
+    ) -> Result<(), AllocError> {
+        match report {
+            Ok(report) => {
+                self.say("ok")?;
+                self.say_number(report.parsed_size())?;
+                self.say_number(report.frame_size())
+            }
+            Err(error) => {
+                self.say(name_of(error))?;
+                self.say(NONE)?;
+                self.say_count(error)
+            }
+        }
+    }
+
+    fn say_count(&mut self, error: &DecodeError) -> Result<(), AllocError> {
+        match error {
+            DecodeError::InvalidFrame { decoded_bytes } => self.say_number(*decoded_bytes),
+            _ => self.say(NONE),
+        }
+    }
+
+    /// Adds what became of a piece: its kind, and its message or count.
+    pub fn say_outcome(&mut self, outcome: &FrameOutcome) -> Result<(), AllocError> {
+        match outcome {
+            FrameOutcome::Message(message) => {
+                self.say("message")?;
+                self.say_bytes(message.as_slice())
+            }
+            FrameOutcome::Broken(count) => {
+                self.say("broken")?;
+                self.say_number(*count)
+            }
+            FrameOutcome::TooLong => {
+                self.say("too_long")?;
+                self.say(NONE)
+            }
+        }
+    }
+}
+
+fn name_of(error: &DecodeError) -> &'static str {
+    match error {
+        DecodeError::EmptyFrame => "empty",
+        DecodeError::InvalidFrame { .. } => "invalid",
+        DecodeError::TargetBufTooSmall => "too_small",
+    }
+}

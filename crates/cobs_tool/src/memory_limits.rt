@@ -1,0 +1,90 @@
+//! Out of memory in each mode.
+//!
+//! Each test here but the last passes whichever growth fails: a mode writes its whole output, or returns out of
+//! memory and writes nothing. The last one passes only if no growth fails. `tests/fail-alloc.sh` fails the
+//! growths one after another until that test passes.
+use crate::fault::ToolFault;
+use crate::mode::Mode;
+use crate::modes::run_mode;
+use std::alloc::Global;
+use std::io;
+use std::io::Write;
+use std::process::Abort;
+
+/// What was written, in memory of its own.
+#[derive(Drop)]
+struct Page {
+    bytes: [u8; 128],
+    len: usize,
+}
+
+impl Write for Page {
+    fn write(&mut self, buf: &[u8]) -> io::Result<usize> {
+        let Some(room) = self.bytes.as_mut_slice().get_mut(self.len..) else {
+            return Ok(0);
+        };
+        let count = buf.len().min(room.len());
+        room[..count].copy_from_slice(&buf[..count]);
+        self.len = self.len.saturating_add(count);
+        Ok(count)
+    }
+
+    fn flush(&mut self) -> io::Result<()> {
+        Ok(())
+    }
+}
+
+/// Runs the mode, and returns whether it wrote its output.
+fn writes(rt: &impl Abort, alloc: Global, mode: &Mode, input: &[u8], output: &[u8]) -> bool {
+    let mut left = input;
+    let mut page = Page {
+        bytes: [0; 128],
+        len: 0,
+    };
+    match run_mode(alloc, mode, &mut left, &mut page) {
+        Ok(()) => {
+            assert_eq!(rt; page.len, output.len());
+            assert!(rt; page.bytes.as_slice().starts_with(output));
+            true
+        }
+        Err(fault) => {
+            assert_eq!(rt; fault, ToolFault::OutOfMemory);
+            assert_eq!(rt; page.len, 0);
+            false
+        }
+    }
+}
+
+/// A message of two blocks, and what the modes for messages write of it.
+const MESSAGE: &[u8] = b"hello\0";
+
+const SHOWN: &[u8] = b"06 68 65 6c 6c 6f 01 00\n";
+
+const ENCODED: &[u8] = b"\x06hello\x01\0";
+
+/// A stream of a message, the empty message, a broken piece and an unfinished one, and what is written of it.
+const STREAM: &[u8] = b"\x06hello\0\x01\0\x03\x07\0\x02";
+
+const REPORT: &[u8] = b"message 5 68656c6c6f\nmessage 0\nbroken 1\nunfinished\n";
+
+#[test]
+fn show_writes_its_output_or_wants_memory(rt: HostRuntime) {
+    let _ = writes(&rt, rt.alloc(), &Mode::Show, MESSAGE, SHOWN);
+}
+
+#[test]
+fn encode_writes_its_output_or_wants_memory(rt: HostRuntime) {
+    let _ = writes(&rt, rt.alloc(), &Mode::Encode, MESSAGE, ENCODED);
+}
+
+#[test]
+fn decode_writes_its_output_or_wants_memory(rt: HostRuntime) {
+    let _ = writes(&rt, rt.alloc(), &Mode::Decode, STREAM, REPORT);
+}
+
+#[test]
+fn with_enough_memory_every_mode_writes_its_output(rt: HostRuntime) {
+    assert!(rt; writes(&rt, rt.alloc(), &Mode::Show, MESSAGE, SHOWN));
+    assert!(rt; writes(&rt, rt.alloc(), &Mode::Encode, MESSAGE, ENCODED));
+    assert!(rt; writes(&rt, rt.alloc(), &Mode::Decode, STREAM, REPORT));
+}
