@@ -1,6 +1,6 @@
 """What tests/docs.py checks in the documents as text: words, lengths, links, commands, names and versions.
 
-A document is each Markdown file of the repository. Of the sources the comments are read.
+A document is each Markdown file of the repository. Of the sources the comments are read, and the names in src/ and specs/.
 """
 import re
 import subprocess
@@ -33,6 +33,14 @@ EXCEPTIONS = {
     "only where ..": "a part of the headline",
     "each piece is answered by": "a part of the headline",
 }
+# Names say it plainly too: none of the parts of a name, between its underscores and capitals, is such a word.
+NAME_WORDS = re.compile(r"answer(s|ed)?|refus\w*|lack\w*|tell\w*|told", re.I)
+NAMED = re.compile(r"crates/[^/]+/(src|specs)/.*\.(rt|antt)")
+# The public names that stay, by the files that have them. The clauses `answer` and `refused` of public calls stay too.
+PUBLIC_NAMES = [
+    (r"crates/cobs(_abi|_live|_doc_vectors)?/", r"\blacking\b"),  # of `DecoderPhase` and `jcobs_decoder`
+    (r"crates/cobs_(abi|c|small)/", r"\bAnswer\b|(?:\bcrate::|\bdeclared\.|\bmod |\buse )answer\b"),  # `jcobs_answer`
+]
 LIMITS = {"README.md": 900}
 ALL_DOCUMENTS = 18_000
 DOCS = 16_000
@@ -87,7 +95,7 @@ def comments(name):
 
 
 SOURCES = re.compile(
-    r"crates/[^/]+/(src|specs)/.*\.(rt|antt)|bindings/c/include/.*|bindings/c/man/.*|bindings/c/examples/.*\.c(pp)?"
+    r"crates/[^/]+/(src|specs|proofs)/.*\.(rt|antt)|bindings/c/include/.*|bindings/c/man/.*|bindings/c/examples/.*\.c(pp)?"
     r"|bindings/rust/src/.*\.rs|bindings/python/src/.*\.(py|c|h)|bindings/web/(jcobs|machine)\.(js|d\.ts)"
     r"|bindings/web/(page/.*\.js|index\.html)|tests/.*\.(sh|py)"
 )
@@ -111,6 +119,30 @@ def unplain_words():
             for pattern, plain in WORDS:
                 for found in re.finditer(pattern, line, 0 if "Where (" in pattern else re.I):
                     yield f"{name}:{number}: '{found[0].strip()}': write {plain}"
+
+
+def code_lines(name):
+    """The lines of a source or a specification without comments and strings, and without the public names that stay."""
+    comment, is_public = r"(?:^|\s)--(?:\s.*)?$" if name.endswith(".antt") else r"//.*$", False
+    for line in (TOP / name).read_text().splitlines():
+        line = re.sub(comment, "", re.sub(r'"(\\.|[^"\\])*"', '""', line))
+        function = re.match(r' *(pub )?(?:pub\(crate\) )?(?:extern "C" )?fn ', line)
+        is_public = bool(function[1]) if function else is_public
+        if is_public and name.startswith("crates/cobs/"):
+            line = re.sub(r"^ *ensures (answer|refused) \{", "", line)
+        for files, names in PUBLIC_NAMES:
+            line = re.sub(names, "", line) if re.match(files, name) else line
+        yield line
+
+
+def unplain_names():
+    """A line for each name in the code of src/ and specs/ that is made of a word that has a plainer one."""
+    for name in filter(NAMED.fullmatch, files()):
+        for number, line in enumerate(code_lines(name), 1):
+            for found in dict.fromkeys(re.findall(r"[A-Za-z_]\w*", line)):
+                parts = re.findall(r"[A-Z]?[a-z]+|[A-Z]+(?![a-z])", found)
+                if any(NAME_WORDS.fullmatch(part) for part in parts):
+                    yield f"{name}:{number}: the name {found}: write it with result, returned, known, missing, rejected or the like"
 
 
 def count(text):
@@ -269,5 +301,5 @@ def unknown_names():
 
 def complaints():
     """Everything that is wrong in the documents as text."""
-    checks = (unplain_words, lengths, dead_links, dead_commands, other_versions, unknown_names)
+    checks = (unplain_words, unplain_names, lengths, dead_links, dead_commands, other_versions, unknown_names)
     return [line for check in checks for line in check()]
