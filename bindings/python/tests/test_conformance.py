@@ -61,7 +61,7 @@ def encode_vec_with_sentinel(sentinel, message):
 
 
 def written(frame, room):
-    """What a call answers that writes the frame to a buffer; None if there is no room."""
+    """What a call returns that writes the frame to a buffer; None if there is no room."""
     buffer = of_word(room)
     return [len(frame), word_of(frame + buffer[len(frame) :])] if len(frame) <= len(buffer) else None
 
@@ -80,8 +80,8 @@ def encode_with_sentinel(sentinel, message, room):
 
 def trying(call):
     def tried(*arguments):
-        answer = call(*arguments)
-        return answer and ["ok", *answer]
+        returned = call(*arguments)
+        return returned and ["ok", *returned]
 
     return tried
 
@@ -92,14 +92,14 @@ def encode_frames(*messages):
 
 def encoder(room, *pieces):
     message = b"".join(map(of_word, pieces))
-    answer = written(jcobs.encode(message), room)
-    if answer is None:
+    returned = written(jcobs.encode(message), room)
+    if returned is None:
         return None
     piecewise = jcobs.Encoder(len(message))
     for piece in pieces:
         piecewise.feed(of_word(piece))
     assert piecewise.finish() == jcobs.encode(message)
-    return [*answer, *["ok"] * len(pieces)]
+    return [*returned, *["ok"] * len(pieces)]
 
 
 def decoded(source, sentinel=0):
@@ -194,12 +194,12 @@ def next_frame(room, *reads):
         try:
             outcome = next(iter(reader), None)
         except OSError:
-            answer = "failed", "-"
+            returned = "failed", "-"
         else:
             ended = "unfinished" if reader.unfinished else "end"
-            answer = stream_words(outcome) if outcome else (ended, "-")
-        words += [file.count - before, *answer]
-        if answer[0] in ("end", "unfinished") and not file.words:
+            returned = stream_words(outcome) if outcome else (ended, "-")
+        words += [file.count - before, *returned]
+        if returned[0] in ("end", "unfinished") and not file.words:
             return words
 
 
@@ -219,18 +219,18 @@ CALLS.update({f"try_{name}": trying(CALLS[name]) for name in CALLS if name.start
 
 
 def repeats_dropped(arguments, wanted):
-    """The answers of a streaming decoder without a `too_small` at a byte that isn't a zero."""
+    """The results of a streaming decoder without a `too_small` at a byte that isn't a zero."""
     stream = b"".join(of_word(piece) for piece in arguments[1:] if piece != "reset")
     triples = [wanted[at : at + 3] for at in range(1, len(wanted), 3)]
     kept = [triple for triple in triples if triple[1] != "too_small" or stream[int(triple[0]) - 1] == 0]
     return [wanted[0], *itertools.chain.from_iterable(kept)]
 
 
-def differs(answer, wanted):
-    answer = list(map(str, answer))
-    return len(answer) != len(wanted) or any(
+def differs(returned, wanted):
+    returned = list(map(str, returned))
+    return len(returned) != len(wanted) or any(
         mine not in (its, "?") and its != "?" and not (its == "refused" and mine in ("invalid", "empty", "broken"))
-        for mine, its in zip(answer, wanted)
+        for mine, its in zip(returned, wanted)
     )
 
 
@@ -245,14 +245,14 @@ def test_cases(path):
         name, call, arguments, wanted = words[0], words[2], words[3:arrow], words[arrow + 1 :]
         if call in LEFT_OUT or (call == "encoder" and "too_small" in wanted):
             continue
-        answer = CALLS[call](*arguments)
-        if answer is None:
+        returned = CALLS[call](*arguments)
+        if returned is None:
             continue
         if call == "decoder":
             wanted = repeats_dropped(arguments, wanted)
         ran[call] += 1
-        if differs(answer, wanted):
-            wrong.append(f"{name}: {answer}, not {wanted}")
+        if differs(returned, wanted):
+            wrong.append(f"{name}: {returned}, not {wanted}")
     assert not wrong
     if path.stem not in ("in_place", "state"):
         assert sum(ran.values()) >= 25

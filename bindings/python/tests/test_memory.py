@@ -1,4 +1,4 @@
-"""Refused memory, and memory that is given back."""
+"""Allocations that fail, and memory that is given back."""
 
 import gc
 import sys
@@ -43,14 +43,14 @@ CALLS = {
 
 @only_extension
 @pytest.mark.parametrize("name", CALLS)
-def test_each_allocation_refused(name):
-    """Refuses the first allocation of the call, then the second, and so on, until none is left."""
-    testcapi = pytest.importorskip("_testcapi", reason="CPython's own test module refuses the memory")
+def test_each_allocation_fails(name):
+    """Lets the first allocation of the call fail, then the second, and so on, until none is left."""
+    testcapi = pytest.importorskip("_testcapi", reason="CPython's own test module makes allocations fail")
     call = CALLS[name]
     call()
     gc.collect()
     gc.disable()
-    refused = 0
+    failed = 0
     try:
         for start in range(400):
             done = False
@@ -59,7 +59,7 @@ def test_each_allocation_refused(name):
                 call()
                 done = True
             except MemoryError:
-                refused += 1
+                failed += 1
             finally:
                 testcapi.remove_mem_hooks()
             if done and start > 40:
@@ -68,16 +68,16 @@ def test_each_allocation_refused(name):
             pytest.fail("the call never got through")
     finally:
         gc.enable()
-    assert refused > 0 or name == "frame_kind"
+    assert failed > 0 or name == "frame_kind"
     call()
 
 
 @only_extension
-def test_decoder_after_refused_memory():
-    testcapi = pytest.importorskip("_testcapi", reason="CPython's own test module refuses the memory")
+def test_decoder_after_failed_allocation():
+    testcapi = pytest.importorskip("_testcapi", reason="CPython's own test module makes allocations fail")
     decoder = jcobs.Decoder(100)
     stream = b"\x03hi\0\x06hel\0\x03ho\0\x03h"
-    refused = 0
+    failed = 0
     for start in range(60):
         decoder.reset()
         testcapi.set_nomemory(start, start + 1)
@@ -85,13 +85,13 @@ def test_decoder_after_refused_memory():
             decoder.feed(stream)
         except MemoryError:
             testcapi.remove_mem_hooks()
-            refused += 1
+            failed += 1
             assert not decoder.unfinished
         finally:
             testcapi.remove_mem_hooks()
         decoder.reset()
         assert len(decoder.feed(stream)) == 3 and decoder.unfinished
-    assert refused > 5
+    assert failed > 5
 
 
 def test_no_room_for_a_buffer():

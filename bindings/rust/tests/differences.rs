@@ -1,4 +1,4 @@
-//! Where the answers are those of this library, and not those of `cobs` 0.5.1: a test for each row of the repository's
+//! Where the results are those of this library, and not those of `cobs` 0.5.1: a test for each row of the repository's
 //! `docs/DIFFERENCES.md` that a caller of this crate can meet.
 #![cfg(feature = "alloc")]
 
@@ -17,7 +17,7 @@ use jcobs::{
 const FULL: [u8; 254] = [7; 254];
 
 #[test]
-fn nothing_is_written_where_room_lacks() {
+fn nothing_is_written_without_room() {
     for room in 0..5 {
         let mut dest = vec![0xAA; room];
         assert_eq!(try_encode(b"a\0b\0", &mut dest), Err(DestBufTooSmallError));
@@ -34,7 +34,7 @@ fn nothing_is_written_where_room_lacks() {
 }
 
 #[test]
-fn last_code_alone_lacks_room() {
+fn last_code_alone_has_no_room() {
     assert_eq!(try_encode(&[], &mut []), Err(DestBufTooSmallError));
     assert_eq!(try_encode(&[0], &mut [0xAA]), Err(DestBufTooSmallError));
 
@@ -46,7 +46,7 @@ fn last_code_alone_lacks_room() {
 }
 
 #[test]
-fn calls_that_panic_where_room_lacks_write_nothing() {
+fn calls_that_panic_without_room_write_nothing() {
     let calls: [fn(&mut [u8]) -> usize; 3] = [
         |dest| encode(b"hello", dest),
         |dest| encode_including_sentinels(b"hello", dest),
@@ -77,8 +77,8 @@ fn message_in_its_own_buffer() {
             assert_eq!(buffer[end..], before[end..]);
         }
     }
-    let refused = panic::catch_unwind(|| encode_in_place(&mut [0; 6], 6));
-    assert!(refused.is_err());
+    let caught = panic::catch_unwind(|| encode_in_place(&mut [0; 6], 6));
+    assert!(caught.is_err());
     assert!(panic::catch_unwind(|| encode_in_place(&mut [0; 6], usize::MAX)).is_err());
 }
 
@@ -92,7 +92,7 @@ fn encoder_over_an_empty_slice() {
 }
 
 #[test]
-fn refused_push_changes_nothing() {
+fn rejected_push_changes_nothing() {
     let mut dest = [0xAA; 4];
     let mut encoder = CobsEncoder::new(&mut dest);
     encoder.push(b"a").unwrap();
@@ -178,7 +178,7 @@ fn heapless_default_has_its_room() {
 }
 
 #[test]
-fn overflow_is_answered_through_the_zero_and_costs_no_other_frame() {
+fn overflow_is_reported_through_the_zero_and_affects_no_other_frame() {
     let mut decoder = CobsDecoderOwned::new(2);
     for byte in *b"\x04ab" {
         assert_eq!(decoder.feed(byte), Ok(None));

@@ -166,8 +166,8 @@ def differences(source, crate, made):
     yield from (f"{name}: {text} isn't permitted" for text in attributes if not ATTRIBUTES.fullmatch(text))
     mapped = {here(path, crate) for path in imports if not NOT_IMPORTED.match(path)}
     yield from (f"{name}: it imports {path}" for path in set(imported) - mapped - {"alloc::vec::Vec"})
-    lacking = {path for path in mapped - set(imported) if path.split("::")[-1] in found}
-    yield from (f"{name}: it doesn't import {path}" for path in lacking)
+    missing = {path for path in mapped - set(imported) if path.split("::")[-1] in found}
+    yield from (f"{name}: it doesn't import {path}" for path in missing)
     expected = {word for word in modules if not LEFT_OUT.search(f"{crate}/src/{word}.rt")}
     if expected != {word for word in of_made if not word.startswith("cobs_")}:
         yield f"{name}: its modules are {of_made}"
@@ -199,8 +199,8 @@ def again():
             yield run.stderr.strip()
             return
         names = {path.relative_to(root) for root in (Path(folder), PROVED) for path in root.rglob("*.rs")}
-        _, differing, lacking = filecmp.cmpfiles(folder, PROVED, map(str, sorted(names)), shallow=False)
-        yield from (f"{name}: translate.py writes it otherwise" for name in [*differing, *lacking])
+        _, differing, missing = filecmp.cmpfiles(folder, PROVED, map(str, sorted(names)), shallow=False)
+        yield from (f"{name}: translate.py writes it otherwise" for name in [*differing, *missing])
 
 
 def main():

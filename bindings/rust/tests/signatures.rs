@@ -17,7 +17,7 @@ const fn borrowed(dest: &mut [u8]) -> CobsDecoder<'_> {
     CobsDecoder::new(dest)
 }
 
-type Refusable = Result<usize, DestBufTooSmallError>;
+type Fallible = Result<usize, DestBufTooSmallError>;
 type Decoded = Result<usize, DecodeError>;
 type Reported = Result<DecodeReport, DecodeError>;
 type Fed = Result<Option<usize>, DecodeError>;
@@ -26,7 +26,7 @@ type Pushed = Result<Option<DecodeReport>, DecodeError>;
 #[test]
 fn functions() {
     let _: [fn(&[u8], &mut [u8]) -> usize; 2] = [jcobs::encode, jcobs::encode_including_sentinels];
-    let _: [fn(&[u8], &mut [u8]) -> Refusable; 2] =
+    let _: [fn(&[u8], &mut [u8]) -> Fallible; 2] =
         [jcobs::try_encode, jcobs::try_encode_including_sentinels];
     let _: fn(&[u8], &mut [u8], u8) -> usize = jcobs::encode_with_sentinel;
     let _: [fn(&[u8]) -> Vec<u8>; 2] = [jcobs::encode_vec, jcobs::encode_vec_including_sentinels];

@@ -13,7 +13,7 @@ use jcobs::{
     PushResult, ReadFault,
 };
 
-/// The words of an answer, as the files have them.
+/// The words of a result, as the files have them.
 type Words = Vec<String>;
 
 #[test]
@@ -39,13 +39,13 @@ fn vectors() {
                 .map(written_out)
                 .collect::<Vec<_>>()
                 .join(" ");
-            let (case, expected) = line.split_once(" ->").expect("an answer");
+            let (case, expected) = line.split_once(" ->").expect("a result");
             let expected: Vec<_> = expected.split_whitespace().collect();
             let words: Vec<_> = case.split(' ').collect();
             let [name, level, call, arguments @ ..] = words.as_slice() else {
                 panic!("no case: {line}");
             };
-            let Some(answers) = answers(call, arguments) else {
+            let Some(results) = results(call, arguments) else {
                 assert!(
                     cfg!(not(feature = "alloc")) && call.contains("_vec"),
                     "{call}"
@@ -53,14 +53,14 @@ fn vectors() {
                 continue;
             };
             run += 1;
-            for answer in answers {
-                let expected = if answer.by_pushes {
+            for returned in results {
+                let expected = if returned.by_pushes {
                     expected_of_pushes(&expected, arguments)
                 } else {
                     expected.clone()
                 };
-                if !agrees(&answer.words, &expected, *level == "owed") {
-                    differing.push(format!("{name}: {}", answer.words.join(" ")));
+                if !agrees(&returned.words, &expected, *level == "owed") {
+                    differing.push(format!("{name}: {}", returned.words.join(" ")));
                 }
             }
         }
@@ -83,24 +83,24 @@ fn written_out(word: &str) -> String {
         .collect()
 }
 
-/// What a call answered, by one of the ways to make it.
-struct Answer {
+/// What a call returned, by one of the ways to make it.
+struct CallResult {
     words: Words,
     /// Whether a streaming decoder was given pieces, and not bytes.
     by_pushes: bool,
 }
 
 fn agrees(found: &[String], expected: &[&str], owed: bool) -> bool {
-    let refusals = ["empty", "invalid", "too_small", "broken", "too_long"];
+    let errors = ["empty", "invalid", "too_small", "broken", "too_long"];
     found.len() == expected.len()
         && expected.iter().zip(found).all(|(expected, found)| {
             *expected == "?"
                 || expected == found
-                || owed && *expected == "refused" && refusals.contains(&found.as_str())
+                || owed && *expected == "refused" && errors.contains(&found.as_str())
         })
 }
 
-/// What pushes answer, by what bytes one by one do: an overflow is answered once for each push, so only at the zero that
+/// What pushes return, by what bytes one by one do: an overflow is reported once for each push, so only at the zero that
 /// ends the frame, and where a piece ends.
 fn expected_of_pushes<'a>(expected: &[&'a str], arguments: &[&str]) -> Vec<&'a str> {
     let mut stream = Vec::new();
@@ -109,12 +109,12 @@ fn expected_of_pushes<'a>(expected: &[&'a str], arguments: &[&str]) -> Vec<&'a s
         stream.extend(bytes(piece));
         ends.push(stream.len());
     }
-    let (buffer, answers) = expected.split_first().expect("the buffer");
+    let (buffer, results) = expected.split_first().expect("the buffer");
     let mut kept = vec![*buffer];
-    for answer in answers.chunks(3) {
-        let place = number(answer[0]);
-        if answer[1] != "too_small" || stream[place - 1] == 0 || ends.contains(&place) {
-            kept.extend_from_slice(answer);
+    for returned in results.chunks(3) {
+        let place = number(returned[0]);
+        if returned[1] != "too_small" || stream[place - 1] == 0 || ends.contains(&place) {
+            kept.extend_from_slice(returned);
         }
     }
     kept
@@ -148,11 +148,11 @@ fn hex(bytes: &[u8]) -> String {
     })
 }
 
-/// What each way to make the call answers, or `None` where this crate lacks it.
-fn answers(call: &str, arguments: &[&str]) -> Option<Vec<Answer>> {
+/// What each way to make the call returns, or `None` if this crate hasn't the call.
+fn results(call: &str, arguments: &[&str]) -> Option<Vec<CallResult>> {
     let all_bytes = |ways: Vec<Words>| {
         ways.into_iter()
-            .map(|words| Answer {
+            .map(|words| CallResult {
                 words,
                 by_pushes: false,
             })
@@ -245,7 +245,7 @@ fn tried(
 fn encoder(buffer: &str, pieces: &[&str]) -> Words {
     let mut dest = bytes(buffer);
     let mut encoder = CobsEncoder::new(&mut dest);
-    let told: Vec<_> = pieces
+    let pushed: Vec<_> = pieces
         .iter()
         .map(|piece| match encoder.push(&bytes(piece)) {
             Ok(()) => "ok".to_owned(),
@@ -253,7 +253,7 @@ fn encoder(buffer: &str, pieces: &[&str]) -> Words {
         })
         .collect();
     let length = encoder.finalize();
-    [vec![length.to_string(), hex(&dest)], told].concat()
+    [vec![length.to_string(), hex(&dest)], pushed].concat()
 }
 
 fn decoding(call: &str, arguments: &[&str]) -> Option<Words> {
@@ -375,8 +375,8 @@ streaming!(CobsDecoder<'_>, [], |decoder| {
 streaming!(CobsDecoderOwned, [], |decoder| decoder.reset());
 streaming!(CobsDecoderHeapless<N>, [<const N: usize>], |decoder| decoder.reset());
 
-fn decoder(buffer: &[u8], pieces: &[&str]) -> Vec<Answer> {
-    let mut answers = Vec::new();
+fn decoder(buffer: &[u8], pieces: &[&str]) -> Vec<CallResult> {
+    let mut results = Vec::new();
     for by_pushes in [false, true] {
         let mut dest = buffer.to_vec();
         let mut borrowed = CobsDecoder::new(&mut dest);
@@ -394,17 +394,17 @@ fn decoder(buffer: &[u8], pieces: &[&str]) -> Vec<Answer> {
             decoders.push(&mut within);
         }
         for decoder in decoders {
-            answers.push(Answer {
-                words: told(decoder, pieces, by_pushes),
+            results.push(CallResult {
+                words: events(decoder, pieces, by_pushes),
                 by_pushes,
             });
         }
     }
-    answers
+    results
 }
 
-/// The buffer at the end, then three words for each answer but "nothing yet".
-fn told(decoder: &mut dyn Streaming, pieces: &[&str], by_pushes: bool) -> Words {
+/// The buffer at the end, then three words for each result but "nothing yet".
+fn events(decoder: &mut dyn Streaming, pieces: &[&str], by_pushes: bool) -> Words {
     let mut words = Vec::new();
     let mut taken = 0;
     for piece in pieces {
@@ -415,7 +415,7 @@ fn told(decoder: &mut dyn Streaming, pieces: &[&str], by_pushes: bool) -> Words 
         let piece = bytes(piece);
         let mut rest = piece.as_slice();
         while let Some(first) = rest.first() {
-            let answer = if by_pushes {
+            let returned = if by_pushes {
                 let report = decoder.push(rest);
                 report.map(|report| report.map(|report| report.frame_size()))
             } else {
@@ -423,12 +423,12 @@ fn told(decoder: &mut dyn Streaming, pieces: &[&str], by_pushes: bool) -> Words 
             };
             taken += decoder.parsed_size();
             rest = &rest[decoder.parsed_size()..];
-            let (status, length) = match answer {
+            let (status, length) = match returned {
                 Ok(None) => continue,
                 Ok(Some(length)) => ("message", length),
                 Err(DecodeError::InvalidFrame { decoded_bytes }) => ("broken", decoded_bytes),
                 Err(DecodeError::TargetBufTooSmall) => ("too_small", decoder.dest().len()),
-                Err(DecodeError::EmptyFrame) => panic!("no streaming decoder answers this"),
+                Err(DecodeError::EmptyFrame) => panic!("no streaming decoder returns this"),
             };
             words.extend([
                 taken.to_string(),
@@ -441,7 +441,7 @@ fn told(decoder: &mut dyn Streaming, pieces: &[&str], by_pushes: bool) -> Words 
     words
 }
 
-/// Two words for each piece of the stream. A piece that is too long is answered at its zero, where the bytes that were
+/// Two words for each piece of the stream. A piece that is too long is reported at its zero, where the bytes that were
 /// taken end with it.
 fn decode_stream(room: usize, pieces: &[&str]) -> Words {
     let mut dest = vec![0; room];
@@ -451,10 +451,10 @@ fn decode_stream(room: usize, pieces: &[&str]) -> Words {
         let piece = bytes(piece);
         let mut rest = piece.as_slice();
         while !rest.is_empty() {
-            let answer = decoder.push(rest);
+            let returned = decoder.push(rest);
             let (taken, behind) = rest.split_at(decoder.parsed_size());
             rest = behind;
-            match answer {
+            match returned {
                 Ok(Some(report)) => words.extend([
                     "message".to_owned(),
                     hex(&decoder.dest()[..report.frame_size()]),
@@ -599,10 +599,10 @@ fn decoder_state(state: &str, left: &str, next: u8) -> Words {
         Ok(DecodeResult::DataContinue(byte)) => ("data_continue", byte.to_string()),
         Err(_) => ("invalid", none()),
     };
-    let (name, lacking) = match state {
+    let (name, left) = match state {
         DecoderState::Idle => ("idle", none()),
-        DecoderState::Grab(lacking) => ("grab", lacking.to_string()),
-        DecoderState::GrabChain(lacking) => ("grab_chain", lacking.to_string()),
+        DecoderState::Grab(left) => ("grab", left.to_string()),
+        DecoderState::GrabChain(left) => ("grab_chain", left.to_string()),
     };
-    vec![result.to_owned(), byte, name.to_owned(), lacking]
+    vec![result.to_owned(), byte, name.to_owned(), left]
 }
