@@ -116,7 +116,7 @@ module _ (old : List ℕ) (end first : ℕ) (within : end ≤ length old) where
         (length old - 0) refl (omega arith) first-count
         (omega arith) begins rest (omega arith) (omega arith) other))
 
--- the head is what is read and what stands before the next zero
+-- the head is what is read and what is before the next zero
 pub head-end : (old buffer : List ℕ) (read written : ℕ) → DecodedSource (head old) old buffer read written → written ≤ read → (n : ℕ) → n ≤ length (take (length buffer - read) (drop read buffer))
     → HasNoZero (take n (take (length buffer - read) (drop read buffer)))
     → (n < length (take (length buffer - read) (drop read buffer)) → get_or (take (length buffer - read) (drop read buffer)) n 0 ≡ 0) → take (read + n) old ≡ head old
