@@ -21,7 +21,7 @@ IsFront front xs = (rest : List ℕ) × (xs ≡ front ++ rest)
 abbrev pub IsAtSentinel : List ℕ → Type 0
 IsAtSentinel t = (t ≡ []) ⊎ ((front : List ℕ) × (t ≡ front ++ 0 ∷ []))
 
--- what `law_9` says, for a lemma that takes it
+-- `law_9`: a stream may be cut anywhere. A lemma may take it whole
 pub record StreamLaw : Type 0 where
   pub cut : (x y : List ℕ) (n : ℕ) → stream_outcomes (x ++ y) n ≡ stream_outcomes x n ++ stream_outcomes (unended x ++ y) n
   pub left : (x y : List ℕ) → unended (x ++ y) ≡ unended (unended x ++ y)

@@ -16,13 +16,13 @@ ghost use Rattle.std.specs.Prelude.{◌≡◌, ◌≢◌, ◌↔◌, ◌<◌, �
 ghost use Rattle.cobs.specs.Decode.{leading_zeros};
 ghost use Rattle.cobs.specs.Feed.{DecoderAfter, Idle, Phase};
 ghost use Rattle.cobs.specs.Grammar.{HasNoZero, IsEncodedFrame, IsFrame, IsOpenFrame, Reads, joint, last_of, lone_block};
-ghost use Rattle.cobs.specs.Laws.{EndsAtBlock, IsAtSentinel, IsFrameFor, IsFront};
+ghost use Rattle.cobs.specs.Laws.{EndsAtBlock, IsAtSentinel, IsFrameFor, IsFront, StreamLaw};
 ghost use Rattle.cobs.specs.Length.{EndsInFullRun, encoded_len, max_encoded_len};
 ghost use Rattle.cobs.specs.OpenBlock.{CobsEncoderAfter, IsOpenOutput, OpenBlock, Reached, end_of};
 ghost use Rattle.cobs.specs.Piece.{IsWhole, output};
 ghost use Rattle.cobs.specs.Push.{last_piece};
 ghost use Rattle.cobs.specs.Sentinel.{IsFreeOf, xor_each};
-ghost use Rattle.cobs.specs.Stream.{Message, ended_pieces, first_piece, head, outcome_of, stream_outcomes, unended};
+ghost use Rattle.cobs.specs.Stream.{Message, first_piece, head, outcome_of, stream_outcomes, unended};
 
 mod blocks;
 mod coders;
@@ -268,15 +268,7 @@ pub fn law_8()
 ///     rw (first.outcomes [] c.requires, second, first.len, cut) refl
 /// ```
 pub fn law_9()
-    ensures cut { (x y : List ℕ) (n : ℕ) →
-        stream_outcomes (x ++ y) n ≡ stream_outcomes x n ++ stream_outcomes (unended x ++ y) n }
-    ensures left { (x y : List ℕ) → unended (x ++ y) ≡ unended (unended x ++ y) }
-    ensures ended { (x : List ℕ) → unended (x ++ 0 ∷ []) ≡ [] }
-    ensures begun { (x : List ℕ) → HasNoZero (unended x) }
-    ensures same { (x : List ℕ) → HasNoZero x → unended x ≡ x }
-    ensures none { (x : List ℕ) (n : ℕ) → HasNoZero x → stream_outcomes x n ≡ [] }
-    ensures pieces { (x y : List ℕ) → ended_pieces (x ++ y) ≡ ended_pieces x ++ ended_pieces (unended x ++ y) }
-    ensures piece { (x : List ℕ) → x ≢ [] → HasNoZero x → ended_pieces (x ++ 0 ∷ []) ≡ x ∷ [] }
+    ensures { StreamLaw }
 {}
 
 /// Damage between two sentinels stays between them: what is changed, lost or added there, sentinels too, leaves the

@@ -55,7 +55,7 @@ all_taken law source message (b ∷ p) message' result none left less result-is 
 
 pub returns-then-pushed-ne-MORE : goal.returns-then-pushed-ne-MORE
 returns-then-pushed-ne-MORE c =
-    let law : LeadLaw = record { stream = assumption c.law_9.ensures; one = c.law_10.ensures.one; piece = c.law_12.ensures.piece; head = c.law_12.ensures.head } in
+    let law : LeadLaw = record { stream = c.law_9.ensures; one = c.law_10.ensures.one; piece = c.law_12.ensures.piece; head = c.law_12.ensures.head } in
     let source : List ℕ = c.args.source.now in
     let message : List ℕ = c.args.message.now in
     let n : ℕ = length message in
@@ -88,7 +88,7 @@ returns-then-pushed-ne-MORE c =
 
 pub returns : goal.returns
 returns c =
-    let law : LeadLaw = record { stream = assumption c.law_9.ensures; one = c.law_10.ensures.one; piece = c.law_12.ensures.piece; head = c.law_12.ensures.head } in
+    let law : LeadLaw = record { stream = c.law_9.ensures; one = c.law_10.ensures.one; piece = c.law_12.ensures.piece; head = c.law_12.ensures.head } in
     let source : List ℕ = c.args.source.now in
     let message : List ℕ = c.args.message.now in
     let n : ℕ = length message in

@@ -20,7 +20,7 @@ by_piece-init c =
 pub slice_bounds-message-end : goal.slice_bounds-message-end
 slice_bounds-message-end c =
     let next = rw c.in-Ok-Message.field-0-is at c.in-Ok-Message.ensures.next in
-    let stated = message_reported (assumption c.law_9.ensures) _ _ _ _ _ next c.by_piece.invariant.idle (c.in-Ok-Message.ensures.len ∙ c.by_piece.invariant.buffer) in
+    let stated = message_reported c.law_9.ensures _ _ _ _ _ next c.by_piece.invariant.idle (c.in-Ok-Message.ensures.len ∙ c.by_piece.invariant.buffer) in
     let within = stated.1 in
     let buffer = ap length (c.dest.ensures.value ∙ ap owned_buffer c.decoder.ensures.value) in
     sym (length-take-le c.in-Ok-Message.len c.dest.result.now (omega arith))
@@ -28,14 +28,14 @@ slice_bounds-message-end c =
 pub by_piece-smaller-in-Continue-branch-2 : goal.by_piece-smaller-in-Continue-branch-2
 by_piece-smaller-in-Continue-branch-2 c =
     let next = rw c.in-Ok-Message.field-0-is at c.in-Ok-Message.ensures.next in
-    let stated = message_reported (assumption c.law_9.ensures) _ _ _ _ _ next c.by_piece.invariant.idle (c.in-Ok-Message.ensures.len ∙ c.by_piece.invariant.buffer) in
+    let stated = message_reported c.law_9.ensures _ _ _ _ _ next c.by_piece.invariant.idle (c.in-Ok-Message.ensures.len ∙ c.by_piece.invariant.buffer) in
     stated.0.fewer
 
 pub by_piece-preserved-in-Continue-branch-2 : goal.by_piece-preserved-in-Continue-branch-2
 by_piece-preserved-in-Continue-branch-2 c =
     let next = rw c.in-Ok-Message.field-0-is at c.in-Ok-Message.ensures.next in
     let len = c.in-Ok-Message.ensures.len ∙ c.by_piece.invariant.buffer in
-    let stated = message_reported (assumption c.law_9.ensures) _ _ _ _ _ next c.by_piece.invariant.idle len in
+    let stated = message_reported c.law_9.ensures _ _ _ _ _ next c.by_piece.invariant.idle len in
     let pushed = c.in_ok-push_message-in-Ok-Message.ensures in
     let message = ap (take c.in-Ok-Message.len) (c.dest.ensures.value ∙ ap owned_buffer c.decoder.ensures.value) in
     record {
@@ -48,14 +48,14 @@ by_piece-preserved-in-Continue-branch-2 c =
 pub by_piece-smaller-in-Continue-branch-3 : goal.by_piece-smaller-in-Continue-branch-3
 by_piece-smaller-in-Continue-branch-3 c =
     let next = rw c.in-Ok-Broken.field-0-is at c.in-Ok-Broken.ensures.next in
-    let stated = broken_reported (assumption c.law_9.ensures) _ _ _ _ _ next c.by_piece.invariant.idle (c.in-Ok-Broken.ensures.len ∙ c.by_piece.invariant.buffer) in
+    let stated = broken_reported c.law_9.ensures _ _ _ _ _ next c.by_piece.invariant.idle (c.in-Ok-Broken.ensures.len ∙ c.by_piece.invariant.buffer) in
     stated.fewer
 
 pub by_piece-preserved-in-Continue-branch-3 : goal.by_piece-preserved-in-Continue-branch-3
 by_piece-preserved-in-Continue-branch-3 c =
     let next = rw c.in-Ok-Broken.field-0-is at c.in-Ok-Broken.ensures.next in
     let len = c.in-Ok-Broken.ensures.len ∙ c.by_piece.invariant.buffer in
-    let stated = broken_reported (assumption c.law_9.ensures) _ _ _ _ _ next c.by_piece.invariant.idle len in
+    let stated = broken_reported c.law_9.ensures _ _ _ _ _ next c.by_piece.invariant.idle len in
     record {
       stated = text_more _ _ _ _ _ _ c.by_piece.invariant.stated stated.stated c.in_ok-push_broken-in-Ok-Broken.ensures;
       few = still_few _ _ _ _ _ _ stated c.by_piece.invariant.few;
@@ -66,14 +66,14 @@ by_piece-preserved-in-Continue-branch-3 c =
 pub by_piece-smaller : goal.by_piece-smaller
 by_piece-smaller c =
     let next = rw c.in-Ok-TooLong.field-0-is at c.in-Ok-TooLong.ensures.next in
-    let stated = too_long_reported (assumption c.law_9.ensures) _ _ _ _ next c.by_piece.invariant.idle (c.in-Ok-TooLong.ensures.len ∙ c.by_piece.invariant.buffer) in
+    let stated = too_long_reported c.law_9.ensures _ _ _ _ next c.by_piece.invariant.idle (c.in-Ok-TooLong.ensures.len ∙ c.by_piece.invariant.buffer) in
     stated.fewer
 
 pub by_piece-preserved : goal.by_piece-preserved
 by_piece-preserved c =
     let next = rw c.in-Ok-TooLong.field-0-is at c.in-Ok-TooLong.ensures.next in
     let len = c.in-Ok-TooLong.ensures.len ∙ c.by_piece.invariant.buffer in
-    let stated = too_long_reported (assumption c.law_9.ensures) _ _ _ _ next c.by_piece.invariant.idle len in
+    let stated = too_long_reported c.law_9.ensures _ _ _ _ next c.by_piece.invariant.idle len in
     record {
       stated = text_more _ _ _ _ _ _ c.by_piece.invariant.stated stated.stated c.in_ok-push_str-in-Ok-TooLong.ensures.bytes;
       few = still_few _ _ _ _ _ _ stated c.by_piece.invariant.few;

@@ -29,12 +29,12 @@ module _ (law : StreamLaw) where
 
 pub by_byte-init : goal.by_byte-init
 by_byte-init c =
-    let law : StreamLaw = assumption c.law_9.ensures in
+    let law : StreamLaw = c.law_9.ensures in
     rw (append-nil, c.new-found.ensures.items) (sym (no_piece law _ c.requires), sym (law.same _ c.requires))
 
 pub by_byte-preserved : goal.by_byte-preserved
 by_byte-preserved c =
-    let law : StreamLaw = assumption c.law_9.ensures in
+    let law : StreamLaw = c.law_9.ensures in
     let chunk : List ℕ = c.args.chunk.now in
     let i : ℕ = c.by_byte.byte-index in
     let t : List ℕ = c.args.begun.now.items ++ take i chunk in
