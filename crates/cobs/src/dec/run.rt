@@ -1,5 +1,5 @@
 //! What `push` takes at once: first bytes that each return `Ok(None)`, up to a zero.
-ghost use Rattle.std.specs.Prelude.{◌≡◌, ◌≢◌, ◌<◌, ◌≤◌, ◌+◌, ◌∷◌, [], length, take, slice_index, false};
+ghost use Rattle.std.specs.Prelude.{◌≡◌, ◌≢◌, ◌<◌, ◌≤◌, ◌+◌, ◌∷◌, [], length, take, false, List, ℕ};
 ghost use Rattle.cobs.specs.Fields.Decoders.{phase_of};
 ghost use Rattle.cobs.specs.Internal.FeedsQuietly.{FeedsQuietly};
 
@@ -13,32 +13,47 @@ use cobs_bytes::window::{WINDOW, is_all, write_row};
 const BY_BYTE_MAX: usize = 4;
 
 /// Behind this many bytes without a zero, those up to the next one are decoded as a whole: in a push of 64 KiB that is
-/// 1.4 to 1.7 times as fast where blocks are full, and 4 times for a zero after each byte.
+/// 1.2 to 1.7 times as fast where blocks are full, and 2.8 times where every second byte is a zero.
 const MANY: usize = 512;
 
-/// The codes of blocks that steps take faster, 1.3 to 1.6 times for runs of 20 to 45 and 5 % zeros: a step's copy needn't
-/// wait for the walk over the codes before it.
+/// The least code of blocks that steps take faster, 1.5 times for runs of 20 to 45: a step's copy needn't wait for the walk
+/// over the codes before it.
 const SHORT: u8 = 8;
 
+/// The greatest one.
 const LONG: u8 = 64;
 
 impl UnbufferedDecoder {
+    /// Takes a code that adds no zero to the output, a piece's first or one after a full block, and returns how many
+    /// bytes that is.
+    #[inline(always)]
+    fn take_code(&mut self, bytes: &[u8]) -> usize
+        requires going { self.old.over ≡ false }
+        ensures within { result ≤ length bytes.now }
+        ensures fed { (buffer : List ℕ) → FeedsQuietly buffer (phase_of self.old)
+            (take result bytes.now) buffer (phase_of self.new) }
+        ensures going { self.new.over ≡ false }
+    {
+        if self.left != 0 || self.code != FULL || bytes.is_empty() || bytes[0] == 0 {
+            return 0;
+        }
+        self.code = bytes[0];
+        self.left = bytes[0] - 1;
+        1
+    }
+
     /// Takes first bytes up to a zero, as many as one step can take, and returns how many: a code that nothing is joined
     /// to, a row of 32 blocks without bytes behind such a block, or up to 192 bytes in which no full block ends.
     #[inline(always)]
     fn take_part(&mut self, dest: &mut [u8], bytes: &[u8]) -> usize
         requires going { self.old.over ≡ false }
-        requires some { 0 < length bytes.now }
-        requires nonzero { slice_index bytes.now 0 ≢ 0 }
         ensures within { result ≤ length bytes.now }
         ensures fed { FeedsQuietly dest.old (phase_of self.old) (take result bytes.now)
             dest.new (phase_of self.new) }
         ensures going { self.new.over ≡ false }
     {
         if self.left == 0 && self.code == FULL {
-            self.code = bytes[0];
-            self.left = bytes[0] - 1;
-            return 1;
+            return self.take_code(bytes);
         }
         let at = self.dest_idx;
         let left = self.left as usize;
@@ -80,7 +95,7 @@ impl UnbufferedDecoder {
             code: self.code,
             over: false,
         };
-        let mut run = 0;
+        let mut run = here.take_code(bytes);
         'by_step: while run < bytes.len() && run < MANY && bytes[run] != 0 {
             let step = here.take_part(dest, &bytes[run..]);
             run += step;
