@@ -5,6 +5,7 @@
 """
 
 import binascii
+import datetime
 import json
 import os
 import pty
@@ -21,6 +22,7 @@ import time
 import tty
 import unicodedata
 import zlib
+import zoneinfo
 from pathlib import Path
 
 WATCH = sys.argv[1]
@@ -363,10 +365,10 @@ def json_lines():
     assert found == wanted + [{"kind": "unfinished"}], (found, wanted)
 
 
-def timed(words, gaps, clock):
+def timed(words, gaps, clock, **more):
     """The times in front of the lines of two frames that come after each gap, and the clock's: at the start, and as each pair is sent and shown."""
     start, found, sent, shown = clock(), [], [], []
-    with subprocess.Popen([WATCH, *words], stdin=subprocess.PIPE, stdout=subprocess.PIPE) as watch:
+    with subprocess.Popen([WATCH, *words], stdin=subprocess.PIPE, stdout=subprocess.PIPE, **more) as watch:
         for gap in gaps:
             time.sleep(gap)
             sent.append(clock())
@@ -401,18 +403,35 @@ def times():
         assert lies_between(sent[number] - shown[number - 1], last[2 * number], shown[number] - sent[number - 1]), last
     for number, _ in enumerate(gaps):
         assert lies_between(0, last[2 * number + 1], shown[number] - sent[number]), last
-    found, start, sent, shown = timed(["--time", "utc"], (0.1, 0.1), time.time)
-    for number, text in enumerate(found):
-        hours, minutes, seconds = text.split(":")
-        passed = (int(hours) * 3600 + int(minutes) * 60 + float(seconds) - start + 1) % 86400 - 1
-        # Both parts of the sum, the clock at the start and the time since, are cut to milliseconds.
-        low, high = sent[number // 2] - start, shown[number // 2] - start
-        assert len(text) == 12 and lies_between(low, passed, high, 0.002), text
     start = time.monotonic()
     seen = [json.loads(text) for text in run(["--json", "--time", "start"], STREAM).decode().splitlines()]
     passed = time.monotonic() - start
     plain = [json.loads(text) for text in run(["--json"], STREAM).decode().splitlines()]
     assert all(lies_between(0, item.pop("time"), passed) for item in seen[:-1]) and seen == plain, seen
+
+
+@part
+def dates():
+    # What TZ is, and how far it is ahead of UTC now: rules, a file, UTC, none that the system has, and zones by name.
+    zones = [("XYZ3:30", -12600), ("ABC-5:45", 20700), ("UTC0", 0), ("", 0), ("No/Where", 0), (":/etc/localtime", None)]
+    for name in ("Europe/Berlin", "America/St_Johns", "Asia/Kolkata"):
+        if os.path.exists(f"/usr/share/zoneinfo/{name}"):
+            zones.append((name, datetime.datetime.now(zoneinfo.ZoneInfo(name)).utcoffset().total_seconds()))
+    for clock, zone, ahead in [("utc", "XYZ3:30", 0)] + [("local", *zone) for zone in zones]:
+        found, _, sent, shown = timed(["--time", clock], (0.05, 0.05), time.time, env={**os.environ, "TZ": zone})
+        for number, text in enumerate(found):
+            date = datetime.datetime.fromisoformat(text)
+            offset = date.utcoffset().total_seconds()
+            assert ahead is None or offset == ahead, (zone, text)
+            sign, minutes = "+-"[offset < 0], abs(offset) // 60
+            mark = f"{sign}{minutes // 60:02.0f}:{minutes % 60:02.0f}" if offset else "Z"
+            assert re.fullmatch(r"\d{4}-\d\d-\d\dT\d\d:\d\d:\d\d\.\d{3}" + re.escape(mark), text), text
+            # Both parts of the sum, the clock at the start and the time since, are cut to milliseconds.
+            assert lies_between(sent[number // 2], date.timestamp(), shown[number // 2], 0.002), (zone, text)
+    begin = time.time()
+    item = json.loads(run(["--json", "--time", "local"], b"\x02a\0", env={**os.environ, "TZ": "XYZ3:30"}))
+    date = datetime.datetime.fromisoformat(item["time"])
+    assert item["time"].endswith("-03:30") and lies_between(begin, date.timestamp(), time.time(), 0.002), item
 
 
 @part

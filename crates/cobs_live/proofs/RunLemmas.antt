@@ -20,10 +20,11 @@ use Rattle.std.specs.List.{concat}
 use Rattle.cobs_live.proofs.ReadLemmas.{came-more, live-more, live-none}
 use Rattle.std.proofs.lemmas.List.Folds.{concat-append}
 use Rattle.cobs_live.specs.Reads.{IsLive, Read, ReadsOnce, came}
-use Rattle.cobs_live.specs.Live.{HasShownSoFar, HoldsText, IsLiveSoFar}
+use Rattle.cobs_live.specs.Live.{HasShownSoFar, HoldsText, IsLiveSoFar, ShowsNext}
 use Rattle.cobs_live.specs.Seen.{all_ended}
 use Rattle.cobs_live.specs.Shown.{shown_from, shown_pieces, shown_end}
 use Rattle.cobs_live.specs.Timed.{IsReadAt}
+use Rattle.cobs_live.specs.declared.clock.Moment.{Moment}
 use Rattle.cobs_live.specs.declared.clock.Times.{Times}
 use Rattle.cobs_live.specs.declared.show.Watch.{Watch}
 use Rattle.cobs_live.specs.declared.shown.Settings.{Settings}
@@ -41,7 +42,7 @@ begun-after (b ∷ bs) n phase false is idle = absurd (let e = sym (idle.0 refl)
 
 -- before the first read
 pub HasShownSoFar-start : (law : StreamLaw) (settings : Settings) (from before : Option (List ℕ)) (watch : Watch) → DecoderAfter watch.message.items (phase_of watch.decoder) []
-    → IsTallyOf settings.view.checksum watch.tally [] 0 → watch.clock.last ≡ 0 → length watch.message.items ≡ settings.length → watch.settings.now ≡ settings → watch.skipping ≡ settings.skip_first
+    → IsTallyOf settings.view.checksum watch.tally [] 0 → watch.clock.last.millis ≡ 0 → length watch.message.items ≡ settings.length → watch.settings.now ≡ settings → watch.skipping ≡ settings.skip_first
     → HasShownSoFar settings from from before before watch
 HasShownSoFar-start law settings from before watch idle none first len same skips =
     let no_zero = All-nil (λ (b : ℕ). b ≢ 0) in
@@ -49,14 +50,14 @@ HasShownSoFar-start law settings from before watch idle none first len same skip
     record {
       ended = record {
         bytes = [];
-        times = λ number. 0;
-        timeline = record { start = refl; rises = λ number. omega arith };
+        times = λ number. watch.clock.last;
+        timeline = record { start = first; rises = λ number. omega arith };
         read = Consumes-nil from;
-        written = rw (all_ended-none (begun settings.skip_first []) settings.length no_outcomes, shown_from-none settings.view (λ number. 0) 0) (Appends-nil before);
+        written = rw (all_ended-none (begun settings.skip_first []) settings.length no_outcomes, shown_from-none settings.view (λ number. watch.clock.last) 0) (Appends-nil before);
       };
       taken = rw (begun-none settings.skip_first, law.same [] no_zero) idle;
       tallied = rw no_outcomes none;
-      timed = first;
+      timed = refl;
       len = len;
       same = same;
       skips = skips ∙ sym (skips_on-none settings.skip_first);
@@ -146,24 +147,24 @@ module _ (law : StreamLaw) {settings : Settings} {from to before after : Option 
   known = length (stream_outcomes (stream_of settings s.ended.bytes) settings.length)
 
   -- the times of all pieces, if the next ones are read now
-  abbrev pub more-times : ℕ → ℕ → ℕ
+  abbrev pub more-times : Moment → ℕ → Moment
   more-times now = extended s.ended.times known now
 
-  pub more-read : (clock : Times) → clock.last ≡ watch.clock.last → IsReadAt (more-times clock.now) known clock
-  more-read clock same = IsReadAt-extended s.ended.times known clock.now clock (same ∙ s.timed) refl
+  pub more-read : (clock : Times) → clock.last ≡ watch.clock.last → IsReadAt (more-times clock.next) known clock
+  more-read clock same = IsReadAt-extended s.ended.times known clock.next clock (same ∙ s.timed) refl
 
-  pub more-timed : (clock : Times) (now : ℕ) (more : List ℕ)
+  pub more-timed : (clock : Times) (now : Moment) (more : List ℕ)
       → IsReadAt (more-times now) (length (stream_outcomes (stream_of settings s.ended.bytes) settings.length ++ stream_outcomes (unended (stream_of settings s.ended.bytes) ++ newly more) (length watch.message.items))) clock
       → clock.last ≡ more-times now (length (stream_outcomes (stream_of settings (s.ended.bytes ++ more)) settings.length))
   more-timed clock now more r = rw (more-outcomes more) r.last
 
-  abbrev pub more-ended : {to' after' : Option (List ℕ)} (more : List ℕ) (now : ℕ) → watch.clock.last ≤ now → Consumes to to' more
+  abbrev pub more-ended : {to' after' : Option (List ℕ)} (more : List ℕ) (now : Moment) → watch.clock.last.millis ≤ now.millis → Consumes to to' more
       → Appends after after' (shown_from watch.settings.now.view (more-times now) known (all_ended (unended (stream_of settings s.ended.bytes) ++ newly more) (length watch.message.items)))
       → HasWritten (λ times bytes. shown_pieces settings.view times settings.length (stream_of settings bytes)) from to' before after'
   more-ended {to' = to'} {after' = after'} more now later r written = record {
     bytes = s.ended.bytes ++ more;
     times = more-times now;
-    timeline = IsTimeline-extended s.ended.times known now s.ended.timeline (omega (arith, later, s.timed));
+    timeline = IsTimeline-extended s.ended.times known now s.ended.timeline (omega (arith, later, ap (λ (m : Moment). m.millis) s.timed));
     read = Consumes-trans from to to' s.ended.bytes more s.ended.read r;
     written = rw (more-pieces more, shown_from-append settings.view (more-times now) 0 (all_ended (stream_of settings s.ended.bytes) settings.length) (all_ended (unended (stream_of settings s.ended.bytes) ++ newly more) (length watch.message.items)), zero-add, length-all_ended (stream_of settings s.ended.bytes) settings.length, shown_from-extended s.ended.times known now settings.view 0 (all_ended (stream_of settings s.ended.bytes) settings.length) (omega (arith, length-all_ended (stream_of settings s.ended.bytes) settings.length)))
         (Appends-trans before after after' _ _ s.ended.written (subst (λ (w : Settings). Appends after after' (shown_from w.view (more-times now) known (all_ended (unended (stream_of settings s.ended.bytes) ++ newly more) (length watch.message.items)))) s.same written));
@@ -172,6 +173,10 @@ module _ (law : StreamLaw) {settings : Settings} {from to before after : Option 
   -- the next read failed
   pub shown-failed : {to' : Option (List ℕ)} → Keeps to to' → HasShown settings (Err ReadFailed) from to' before after
   shown-failed {to' = to'} kept = record { bytes = s.ended.bytes; times = s.ended.times; timeline = s.ended.timeline; read = Consumes-kept from to to' s.ended.bytes s.ended.read kept; written = s.ended.written }
+
+  pub next-failed : (to' : Option (List ℕ)) (result : Result Bool WatchFault) (fault : WatchFault) → IsErrAnd result (λ found. found ≡ fault) → fault ≡ ReadFailed → Keeps to to' → ShowsNext settings result from to' before after watch
+  next-failed to' (Err found) fault e is kept = subst (λ (f : WatchFault). HasShown settings (Err f) from to' before after) (sym (e ∙ is)) (shown-failed kept)
+  next-failed to' (Ok more) fault e is kept = absurd e
 
   -- the input has come to its end
   pub shown-all : {to' after' : Option (List ℕ)} (begun : Bool) → ((begun ≡ false) ↔ (phase_of watch.decoder ≡ Idle)) → Consumes to to' [] → IsAtEnd to'

@@ -11,13 +11,14 @@ use Rattle.cobs_live.specs.Live.{ShowsBytes}
 use Rattle.cobs_live.proofs.PartLemmas.{all_ended-append, all_ended-none, length-all_ended}
 use Rattle.cobs_live.specs.Seen.{Ended, Seen, all_ended, seen_piece}
 use Rattle.cobs_live.specs.Shown.{in_view, shown, shown_from}
-use Rattle.cobs_live.specs.Timed.{IsReadAt, time_of}
+use Rattle.cobs_live.specs.Timed.{IsReadAt}
+use Rattle.cobs_live.specs.declared.clock.Moment.{Moment}
 use Rattle.cobs_live.specs.declared.clock.Times.{Times}
 use Rattle.cobs_live.specs.declared.shown.View.{View}
 use Rattle.cobs_live.specs.declared.tally.Tally.{Tally}
 
 -- what is shown of outcomes, and of others behind them
-pub shown_from-append : (view : View) (times : ℕ → ℕ) (index : ℕ) (xs ys : List Ended) → shown_from view times index (xs ++ ys) ≡ shown_from view times index xs ++ shown_from view times (index + length xs) ys
+pub shown_from-append : (view : View) (times : ℕ → Moment) (index : ℕ) (xs ys : List Ended) → shown_from view times index (xs ++ ys) ≡ shown_from view times index xs ++ shown_from view times (index + length xs) ys
 unfolding shown_from
 shown_from-append view times index [] ys = ap (λ (k : ℕ). shown_from view times k ys) (omega arith)
 shown_from-append view times index (x ∷ xs) ys =
@@ -25,28 +26,28 @@ shown_from-append view times index (x ∷ xs) ys =
     ap (λ (l : List ℕ). shown view times index x ++ l) (shown_from-append view times (index + 1) xs ys ∙ ap (λ (k : ℕ). shown_from view times (index + 1) xs ++ shown_from view times k ys) next)
     ∙ sym (append_assoc (shown view times index x) (shown_from view times (index + 1) xs) (shown_from view times (index + length (x ∷ xs)) ys))
 
-pub shown_from-none : (view : View) (times : ℕ → ℕ) (index : ℕ) → shown_from view times index [] ≡ []
+pub shown_from-none : (view : View) (times : ℕ → Moment) (index : ℕ) → shown_from view times index [] ≡ []
 unfolding shown_from
 shown_from-none view times index = refl
 
-pub shown_from-one : (view : View) (times : ℕ → ℕ) (index : ℕ) (piece : Ended) → shown_from view times index (piece ∷ []) ≡ shown view times index piece
+pub shown_from-one : (view : View) (times : ℕ → Moment) (index : ℕ) (piece : Ended) → shown_from view times index (piece ∷ []) ≡ shown view times index piece
 unfolding shown_from
 shown_from-one view times index piece = append-nil (shown view times index piece)
 
 -- what is shown of a piece, given the tally that counts it too, and the clock before it
-pub shown_now : (view : View) (times : ℕ → ℕ) (tally : Tally) (clock : Times) (gone : List Outcome) (outcome : Outcome) (read : ℕ) (before after : Option (List ℕ)) (seen : Seen) (piece : Ended) → seen ≡ seen_piece view.checksum view.partial piece
+pub shown_now : (view : View) (times : ℕ → Moment) (tally : Tally) (clock : Times) (gone : List Outcome) (outcome : Outcome) (read : ℕ) (before after : Option (List ℕ)) (seen : Seen) (piece : Ended) → seen ≡ seen_piece view.checksum view.partial piece
     → IsTallyOf view.checksum tally (gone ++ outcome ∷ []) read → IsReadAt times (length gone) clock
-    → Appends before after (in_view view tally.pieces (time_of view.stamp clock.last clock.now) seen) → Appends before after (shown view times (length gone) piece)
+    → Appends before after (in_view view tally.pieces clock seen) → Appends before after (shown view times (length gone) piece)
 shown_now view times tally clock gone outcome read before after seen piece same t r written =
     let size : length (gone ++ outcome ∷ []) ≡ length gone + 1 = length-append gone (outcome ∷ []) in
     let is : tally.pieces ≡ counted (length gone + 1) = t.pieces ∙ ap counted size in
-    let now : clock.now ≡ times (length gone + 1) = sym (r.now (length gone + 1) (omega arith)) in
-    subst (λ (s : Seen). Appends before after (in_view view (counted (length gone + 1)) (time_of view.stamp (times (length gone)) (times (length gone + 1))) s)) same
-    (subst (λ (k : ℕ). Appends before after (in_view view (counted (length gone + 1)) (time_of view.stamp (times (length gone)) k) seen)) now
-    (subst (λ (k : ℕ). Appends before after (in_view view (counted (length gone + 1)) (time_of view.stamp k clock.now) seen)) r.last
-    (subst (λ (k : ℕ). Appends before after (in_view view k (time_of view.stamp clock.last clock.now) seen)) is written)))
+    let now : clock.next ≡ times (length gone + 1) = sym (r.now (length gone + 1) (omega arith)) in
+    subst (λ (s : Seen). Appends before after (in_view view (counted (length gone + 1)) (record { last = times (length gone); next = times (length gone + 1) }) s)) same
+    (subst (λ (k : Moment). Appends before after (in_view view (counted (length gone + 1)) (record { last = times (length gone); next = k }) seen)) now
+    (subst (λ (k : Moment). Appends before after (in_view view (counted (length gone + 1)) (record { last = k; next = clock.next }) seen)) r.last
+    (subst (λ (k : ℕ). Appends before after (in_view view k clock seen)) is written)))
 
-pub ShowsBytes-start : (law : StreamLaw) (view : View) (times : ℕ → ℕ) (p buffer : List ℕ) (phase : Phase) (gone : List Outcome) (read : ℕ) (before : Option (List ℕ)) (tally : Tally) (clock : Times) → DecoderAfter buffer phase p
+pub ShowsBytes-start : (law : StreamLaw) (view : View) (times : ℕ → Moment) (p buffer : List ℕ) (phase : Phase) (gone : List Outcome) (read : ℕ) (before : Option (List ℕ)) (tally : Tally) (clock : Times) → DecoderAfter buffer phase p
     → IsTallyOf view.checksum tally gone read → IsReadAt times (length gone) clock → ShowsBytes view times (length buffer) p [] gone read buffer phase before before tally clock
 ShowsBytes-start law view times p buffer phase gone read before tally clock d t r =
     let none : stream_outcomes (p ++ []) (length buffer) ≡ [] = ap (λ (l : List ℕ). stream_outcomes l (length buffer)) (append-nil p) ∙ law.none p (length buffer) d.phased.piece in
@@ -59,7 +60,7 @@ ShowsBytes-start law view times p buffer phase gone read before tally clock d t 
       len = refl;
     }
 
-module _ (law : StreamLaw) {view : View} {times : ℕ → ℕ} {n : ℕ} {p bytes : List ℕ} {gone : List Outcome} {read : ℕ} {buffer : List ℕ} {phase : Phase} {before after : Option (List ℕ)} {tally : Tally} {clock : Times}
+module _ (law : StreamLaw) {view : View} {times : ℕ → Moment} {n : ℕ} {p bytes : List ℕ} {gone : List Outcome} {read : ℕ} {buffer : List ℕ} {phase : Phase} {before after : Option (List ℕ)} {tally : Tally} {clock : Times}
     (s : ShowsBytes view times n p bytes gone read buffer phase before after tally clock) (rest : List ℕ) where
   left-on : unended (p ++ (bytes ++ rest)) ≡ unended (unended (p ++ bytes) ++ rest)
   left-on = ap unended (sym (append_assoc p bytes rest)) ∙ law.left (p ++ bytes) rest

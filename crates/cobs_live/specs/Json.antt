@@ -7,6 +7,7 @@ use Rattle.cobs_live.specs.Escaped.{text_escaped}
 use Rattle.cobs_live.specs.Seen.{Seen}
 use Rattle.cobs_live.specs.Timed.{json_time}
 use Rattle.cobs_live.specs.declared.clock.Stamp.{Stamp}
+use Rattle.cobs_live.specs.declared.clock.Times.{Times}
 use Rattle.cobs_live.specs.declared.seen.Kind.{Kind}
 use Rattle.cobs_live.specs.declared.seen.Kind.TheVariants.{Message, Broken, TooLong, BadCrc}
 
@@ -30,5 +31,5 @@ json_kind Broken len bytes = codes "\"broken\",\"length\":" ++ decimal len ++ js
 json_kind TooLong len bytes = codes "\"too-long\"" ++ json_partial bytes
 json_kind BadCrc len bytes = codes "\"bad-crc\"" ++ json_message len bytes
 
-abbrev pub json : ℕ → Stamp → ℕ → Seen → List ℕ
-json number stamp time seen = codes "{\"frame\":" ++ decimal number ++ json_time stamp time ++ codes ",\"kind\":" ++ json_kind seen.kind seen.len seen.bytes ++ codes "}\n"
+abbrev pub json : ℕ → Stamp → Times → Seen → List ℕ
+json number stamp times seen = codes "{\"frame\":" ++ decimal number ++ json_time stamp times ++ codes ",\"kind\":" ++ json_kind seen.kind seen.len seen.bytes ++ codes "}\n"

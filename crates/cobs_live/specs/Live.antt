@@ -12,6 +12,7 @@ use Rattle.cobs_live.specs.Watched.{HasShown, HasWritten, skips_on, stream_of}
 use Rattle.std.specs.List.{concat}
 use Rattle.cobs_live.specs.Reads.{IsLive, Read, came}
 use Rattle.cobs_live.specs.Timed.{IsReadAt, IsTimeline}
+use Rattle.cobs_live.specs.declared.clock.Moment.{Moment}
 use Rattle.cobs_live.specs.declared.clock.Times.{Times}
 use Rattle.cobs_live.specs.declared.fault.WatchFault.{WatchFault}
 use Rattle.cobs_live.specs.declared.show.Watch.{Watch}
@@ -32,7 +33,7 @@ pub record HasShownSoFar (settings : Settings) (from to before after : Option (L
 
 -- what was written is the text of every piece that ended in the bytes that came, chunk by chunk
 pub record HoldsText (settings : Settings) (before : Option (List ℕ)) (came : List (List ℕ)) (after : Option (List ℕ)) : Type 0 where
-  pub times : ℕ → ℕ
+  pub times : ℕ → Moment
   pub timeline : IsTimeline times
   pub written : Appends before after (shown_pieces settings.view times settings.length (stream_of settings (concat came)))
 
@@ -50,7 +51,7 @@ ShowsNext settings (Err fault) from to before after watch = HasShown settings (E
 
 -- a decoder over n bytes that had taken the front p of a piece has taken these bytes too; the pieces that ended in them,
 -- which these outcomes have gone before, are shown and counted
-pub record ShowsBytes (view : View) (times : ℕ → ℕ) (n : ℕ) (p bytes : List ℕ) (gone : List Outcome) (read : ℕ) (buffer : List ℕ) (phase : Phase) (before after : Option (List ℕ)) (tally : Tally) (clock : Times) : Type 0 where
+pub record ShowsBytes (view : View) (times : ℕ → Moment) (n : ℕ) (p bytes : List ℕ) (gone : List Outcome) (read : ℕ) (buffer : List ℕ) (phase : Phase) (before after : Option (List ℕ)) (tally : Tally) (clock : Times) : Type 0 where
   pub written : Appends before after (shown_from view times (length gone) (all_ended (p ++ bytes) n))
   pub taken : DecoderAfter buffer phase (unended (p ++ bytes))
   pub tallied : IsTallyOf view.checksum tally (gone ++ stream_outcomes (p ++ bytes) n) read

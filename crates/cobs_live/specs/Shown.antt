@@ -12,8 +12,10 @@ use Rattle.cobs_live.specs.Dump.{dump}
 use Rattle.cobs_live.specs.Json.{json}
 use Rattle.cobs_live.specs.Capture.{record_head}
 use Rattle.cobs_live.specs.Seen.{Ended, Seen, all_ended, heading, seen_piece}
-use Rattle.cobs_live.specs.Timed.{stamped, time_of}
+use Rattle.cobs_live.specs.Timed.{stamped}
+use Rattle.cobs_live.specs.declared.clock.Moment.{Moment}
 use Rattle.cobs_live.specs.declared.clock.Stamp.{Stamp}
+use Rattle.cobs_live.specs.declared.clock.Times.{Times}
 use Rattle.cobs_live.specs.declared.seen.Kind.{Kind}
 use Rattle.cobs_live.specs.declared.seen.Kind.TheVariants.{Message, Broken, TooLong, BadCrc}
 use Rattle.cobs_live.specs.declared.shown.Filter.{Filter}
@@ -41,46 +43,42 @@ text_line color seen = heading color seen ++ (if is_plain seen.bytes then spaced
 abbrev pub dump_lines : (color : Bool) → Seen → List ℕ
 dump_lines color seen = heading color seen ++ codes "\n" ++ dump seen.bytes
 
--- a message's bytes and a newline, and nothing of other pieces
-abbrev pub raw_of : Kind → List ℕ → List ℕ
-raw_of Message bytes = bytes ++ codes "\n"
-raw_of Broken bytes = []
-raw_of TooLong bytes = []
-raw_of BadCrc bytes = []
+-- what a style that shows messages alone makes of one: its bytes, with a newline behind them, or a record of a capture
+abbrev pub alone : Style → ℕ → List ℕ → List ℕ
+alone Hex time bytes = bytes
+alone Text time bytes = bytes
+alone Raw time bytes = bytes ++ codes "\n"
+alone Hexdump time bytes = bytes
+alone Json time bytes = bytes
+alone Bytes time bytes = bytes
+alone Pcap time bytes = record_head time (length bytes) ++ bytes
 
--- a message's bytes alone
-abbrev pub bytes_of : Kind → List ℕ → List ℕ
-bytes_of Message bytes = bytes
-bytes_of Broken bytes = []
-bytes_of TooLong bytes = []
-bytes_of BadCrc bytes = []
+-- nothing of other pieces than messages
+abbrev pub of_message : Kind → List ℕ → List ℕ
+of_message Message text = text
+of_message Broken text = []
+of_message TooLong text = []
+of_message BadCrc text = []
 
--- a message as a record of a capture
-abbrev pub captured : Kind → ℕ → List ℕ → List ℕ
-captured Message time bytes = record_head time (length bytes) ++ bytes
-captured Broken time bytes = []
-captured TooLong time bytes = []
-captured BadCrc time bytes = []
-
--- what a style makes of a piece that has this number and time; JSON and raw bytes have no colour
-abbrev pub styled : Style → (color : Bool) → ℕ → Stamp → ℕ → Seen → List ℕ
-styled Hex color number stamp time seen = hex_line color seen
-styled Text color number stamp time seen = text_line color seen
-styled Raw color number stamp time seen = raw_of seen.kind seen.bytes
-styled Hexdump color number stamp time seen = dump_lines color seen
-styled Json color number stamp time seen = json number stamp time seen
-styled Bytes color number stamp time seen = bytes_of seen.kind seen.bytes
-styled Pcap color number stamp time seen = captured seen.kind time seen.bytes
+-- what a style makes of a piece that has this number and these times; lines alone have colours
+abbrev pub styled : Style → (color : Bool) → ℕ → Stamp → Times → Seen → List ℕ
+styled Hex color number stamp times seen = hex_line color seen
+styled Text color number stamp times seen = text_line color seen
+styled Raw color number stamp times seen = of_message seen.kind (alone Raw times.next.millis seen.bytes)
+styled Hexdump color number stamp times seen = dump_lines color seen
+styled Json color number stamp times seen = json number stamp times seen
+styled Bytes color number stamp times seen = of_message seen.kind (alone Bytes times.next.millis seen.bytes)
+styled Pcap color number stamp times seen = of_message seen.kind (alone Pcap times.next.millis seen.bytes)
 
 -- the time of a piece in front of its line, which JSON has inside, and raw bytes haven't
-abbrev pub in_front : Style → Stamp → ℕ → List ℕ
-in_front Hex stamp time = stamped stamp time
-in_front Text stamp time = stamped stamp time
-in_front Raw stamp time = []
-in_front Hexdump stamp time = stamped stamp time
-in_front Json stamp time = []
-in_front Bytes stamp time = []
-in_front Pcap stamp time = []
+abbrev pub in_front : Style → Stamp → Times → List ℕ
+in_front Hex stamp times = stamped stamp times
+in_front Text stamp times = stamped stamp times
+in_front Raw stamp times = []
+in_front Hexdump stamp times = stamped stamp times
+in_front Json stamp times = []
+in_front Bytes stamp times = []
+in_front Pcap stamp times = []
 
 -- the number of a piece in front of its line
 abbrev pub numbered : Bool → ℕ → List ℕ
@@ -98,21 +96,21 @@ has_kind filter BadCrc = filter.bad_crc
 abbrev pub passes : Filter → Seen → Bool
 passes filter seen = has_kind filter seen.kind && (nat_le filter.min seen.len && (nat_le seen.len filter.max && starts_with (λ a b. a == b) seen.bytes filter.prefix.items))
 
--- what a view makes of a piece that has this number and time
-abbrev pub in_view : View → ℕ → ℕ → Seen → List ℕ
-in_view view number time seen = if passes view.filter seen then in_front view.style view.stamp time ++ numbered view.number number ++ styled view.style view.color number view.stamp time seen else []
+-- what a view makes of a piece that has this number and these times
+abbrev pub in_view : View → ℕ → Times → Seen → List ℕ
+in_view view number times seen = if passes view.filter seen then in_front view.style view.stamp times ++ numbered view.number number ++ styled view.style view.color number view.stamp times seen else []
 
 -- WHAT IS SHOWN OF A PIECE that this many others have gone before: the pieces are numbered from 1 on, and each has a time
-abbrev pub shown : View → (ℕ → ℕ) → ℕ → Ended → List ℕ
-shown view times index piece = in_view view (counted (index + 1)) (time_of view.stamp (times index) (times (index + 1))) (seen_piece view.checksum view.partial piece)
+abbrev pub shown : View → (ℕ → Moment) → ℕ → Ended → List ℕ
+shown view times index piece = in_view view (counted (index + 1)) (record { last = times index; next = times (index + 1) }) (seen_piece view.checksum view.partial piece)
 
 -- what is shown of pieces that this many others have gone before
-unfoldable pub shown_from : View → (ℕ → ℕ) → ℕ → List Ended → List ℕ
+unfoldable pub shown_from : View → (ℕ → Moment) → ℕ → List Ended → List ℕ
 shown_from view times index [] = []
 shown_from view times index (piece ∷ pieces) = shown view times index piece ++ shown_from view times (index + 1) pieces
 
 -- what is shown of all pieces that have ended in a stream, over a buffer of n bytes
-abbrev pub shown_pieces : View → (ℕ → ℕ) → ℕ → List ℕ → List ℕ
+abbrev pub shown_pieces : View → (ℕ → Moment) → ℕ → List ℕ → List ℕ
 shown_pieces view times n stream = shown_from view times 0 (all_ended stream n)
 
 -- that a piece has begun, by style
@@ -130,7 +128,7 @@ abbrev pub shown_end : View → Bool → List ℕ
 shown_end view begun = if begun && view.filter.unfinished then unfinished_in view.style else []
 
 -- what is shown of a stream that has come to its end
-abbrev pub shown_stream : View → (ℕ → ℕ) → ℕ → List ℕ → List ℕ
+abbrev pub shown_stream : View → (ℕ → Moment) → ℕ → List ℕ → List ℕ
 shown_stream view times n stream = shown_pieces view times n stream ++ shown_end view (is_nonempty (unended stream))
 
 -- the text of how much came; where messages are to end with checksums, how many were wrong too

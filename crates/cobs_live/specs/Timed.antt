@@ -1,26 +1,23 @@
--- When pieces were read, and how that is written. Times are in milliseconds.
-use Rattle.std.specs.Prelude.{ℕ, ◌≡◌, ◌≤◌, ◌<◌, ◌+◌, ◌-◌, ◌/◌, ◌%◌, ◌^◌, false, List, [], ◌++◌, codes}
+-- When pieces were read, and how that is written.
+use Rattle.std.specs.Prelude.{ℕ, ◌≡◌, ◌≤◌, ◌<◌, ◌+◌, ◌-◌, ◌/◌, ◌%◌, ◌^◌, false, List, [], ◌++◌, Some, pos, codes, if◌then◌else◌}
 use Rattle.std.specs.Fmt.{decimal, digits, padded_integral, format_spec}
+use Rattle.std.specs.Ordering.{int_eq}
+use Rattle.jiff_core.specs.declared.offset.Offset.{Offset}
+use Rattle.jiff_fmt.specs.Text.{datetime_text, offset_text}
+use Rattle.cobs_live.specs.declared.clock.Moment.{Moment}
 use Rattle.cobs_live.specs.declared.clock.Stamp.{Stamp}
-use Rattle.cobs_live.specs.declared.clock.Stamp.TheVariants.{Untimed, Start, Last, Utc}
+use Rattle.cobs_live.specs.declared.clock.Stamp.TheVariants.{Untimed, Start, Last, Date}
 use Rattle.cobs_live.specs.declared.clock.Times.{Times}
 
--- the time of each piece, by its number: it never goes back, and before the first piece it is 0 (the start, or of `Utc` 1970)
-pub record IsTimeline (times : ℕ → ℕ) : Type 0 where
-  pub start : times 0 ≡ 0
-  pub rises : (number : ℕ) → times number ≤ times (number + 1)
+-- the time of each piece, by its number: it never goes back, and before the first piece it is 0 (the start, or of `Date` 1970)
+pub record IsTimeline (times : ℕ → Moment) : Type 0 where
+  pub start : (times 0).millis ≡ 0
+  pub rises : (number : ℕ) → (times number).millis ≤ (times (number + 1)).millis
 
 -- the piece of this number was read last, and all that follow are read now
-pub record IsReadAt (times : ℕ → ℕ) (number : ℕ) (clock : Times) : Type 0 where
+pub record IsReadAt (times : ℕ → Moment) (number : ℕ) (clock : Times) : Type 0 where
   pub last : clock.last ≡ times number
-  pub now : (later : ℕ) → number < later → times later ≡ clock.now
-
--- the time that a stamp gives a piece, by when the one before it and the piece itself were read
-abbrev pub time_of : Stamp → ℕ → ℕ → ℕ
-time_of Untimed before now = now
-time_of Start before now = now
-time_of Last before now = now - before
-time_of Utc before now = now
+  pub now : (later : ℕ) → number < later → times later ≡ clock.next
 
 -- a number with zeros in front, up to a width
 abbrev pub padded : ℕ → ℕ → List ℕ
@@ -29,20 +26,31 @@ padded width n = padded_integral (format_spec 32 0 4 width (2 ^ 64 - 1)) false [
 abbrev pub seconds : ℕ → List ℕ
 seconds time = decimal (time / 1000) ++ codes "." ++ padded 3 (time % 1000)
 
--- hours, minutes and seconds of the day
-unfoldable pub time_of_day : ℕ → List ℕ
-time_of_day time = padded 2 (time / 3600000 % 24) ++ codes ":" ++ padded 2 (time / 60000 % 60) ++ codes ":" ++ padded 2 (time / 1000 % 60) ++ codes "." ++ padded 3 (time % 1000)
+-- how far a clock is ahead of UTC; UTC itself is Z
+abbrev pub zone_text : Offset → List ℕ
+zone_text offset = if int_eq offset.seconds (pos 0) then codes "Z" else offset_text offset
+
+-- date and time of day as RFC 3339 has them: in upper case, with a T (84) between them, and three decimals
+abbrev pub date_time : Moment → List ℕ
+date_time moment = datetime_text false 84 (Some 3) moment.civil ++ zone_text moment.offset
+
+-- the time that a stamp gives a piece, by when the one before it and the piece itself were read
+abbrev pub time_text : Stamp → Times → List ℕ
+time_text Untimed times = []
+time_text Start times = seconds times.next.millis
+time_text Last times = seconds (times.next.millis - times.last.millis)
+time_text Date times = date_time times.next
 
 -- the time in front of a line
-abbrev pub stamped : Stamp → ℕ → List ℕ
-stamped Untimed time = []
-stamped Start time = seconds time ++ codes " "
-stamped Last time = seconds time ++ codes " "
-stamped Utc time = time_of_day time ++ codes " "
+abbrev pub stamped : Stamp → Times → List ℕ
+stamped Untimed times = []
+stamped Start times = time_text Start times ++ codes " "
+stamped Last times = time_text Last times ++ codes " "
+stamped Date times = time_text Date times ++ codes " "
 
 -- the time as a member of an object of JSON: a number of seconds, or a string
-abbrev pub json_time : Stamp → ℕ → List ℕ
-json_time Untimed time = []
-json_time Start time = codes ",\"time\":" ++ seconds time
-json_time Last time = codes ",\"time\":" ++ seconds time
-json_time Utc time = codes ",\"time\":\"" ++ time_of_day time ++ codes "\""
+abbrev pub json_time : Stamp → Times → List ℕ
+json_time Untimed times = []
+json_time Start times = codes ",\"time\":" ++ time_text Start times
+json_time Last times = codes ",\"time\":" ++ time_text Last times
+json_time Date times = codes ",\"time\":\"" ++ time_text Date times ++ codes "\""

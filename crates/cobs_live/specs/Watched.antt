@@ -9,6 +9,7 @@ use Rattle.cobs.specs.Stream.{stream_outcomes}
 use Rattle.cobs_live.specs.Counted.{IsTallyOf}
 use Rattle.cobs_live.specs.Shown.{shown_pieces, shown_stream}
 use Rattle.cobs_live.specs.Timed.{IsTimeline}
+use Rattle.cobs_live.specs.declared.clock.Moment.{Moment}
 use Rattle.cobs_live.specs.declared.fault.WatchFault.{WatchFault}
 use Rattle.cobs_live.specs.declared.fault.WatchFault.TheVariants.{ReadFailed, WriteFailed, OutputClosed, OutOfMemory}
 use Rattle.cobs_live.specs.declared.shown.Settings.{Settings}
@@ -32,9 +33,9 @@ stream_of settings bytes = begun settings.skip_first (xor_each settings.sentinel
 
 -- these bytes were read from a reader that had `from` left and has `to` left, their pieces at these times, and what a
 -- writer holds grew by this text of them, from `before` to `after`
-pub record HasWritten (text : (ℕ → ℕ) → List ℕ → List ℕ) (from to before after : Option (List ℕ)) : Type 0 where
+pub record HasWritten (text : (ℕ → Moment) → List ℕ → List ℕ) (from to before after : Option (List ℕ)) : Type 0 where
   pub bytes : List ℕ
-  pub times : ℕ → ℕ
+  pub times : ℕ → Moment
   pub timeline : IsTimeline times
   pub read : Consumes from to bytes
   pub written : Appends before after (text times bytes)

@@ -29,11 +29,10 @@ impl Checksum {
         ensures params { result.params ≡ params }
         ensures order { result.little ≡ little }
     {
-        let words = table_of(params.poly);
         Checksum {
             params,
             little,
-            words,
+            words: table_of(params.poly),
         }
     }
 

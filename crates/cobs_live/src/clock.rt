@@ -1,11 +1,16 @@
 //! When pieces were read.
-ghost use Rattle.std.specs.Prelude.{◌≡◌, ◌≤◌, ◌-◌, ◌↔◌, OnOk, IfSome, IsTrue, None, false, if◌then◌else◌};
-ghost use Rattle.std.specs.Io.KnownBytes.{Appends};
-ghost use Rattle.cobs_live.specs.Timed.{json_time, seconds, stamped, time_of, time_of_day};
+ghost use Rattle.std.specs.Prelude.{◌≡◌, ◌≤◌, ◌*◌, ◌+ℤ◌, min, pos};
+ghost use Rattle.jiff_core.specs.DateTime.{civil_nanos};
+ghost use Rattle.jiff_core.specs.Timestamp.{nanos_of_seconds};
+ghost use Rattle.jiff_tz.specs.Zone.{offset_at};
 
+use jiff_core::civil::DateTime;
+use jiff_core::{Offset, Timestamp};
+use jiff_fmt::temporal::DateTimePrinter;
+use jiff_tz::TimeZone;
 use std::io::{self, Write};
 use std::rt::Clock;
-use std::time::{Instant, SystemTime, UNIX_EPOCH};
+use std::time::{Duration, Instant};
 
 /// Which time of each piece is shown.
 #[derive(Debug, PartialEq, Eq, Clone, Copy)]
@@ -19,174 +24,203 @@ pub enum Stamp {
     /// The time since the piece before it was read; of the first one, since the start.
     Last,
 
-    /// The UTC time of the day.
-    Utc,
+    /// Date and time of day in a time zone, and how far that is ahead of UTC.
+    Date,
 }
 
-/// A clock that runs from a start on, in milliseconds.
+/// A time, in milliseconds since the start, or for `Stamp::Date` since 1970.
+#[derive(Clone, Copy)]
+pub struct Moment {
+    pub millis: u64,
+
+    /// What clocks show then, if they are ahead of UTC by this offset.
+    pub civil: DateTime,
+    pub offset: Offset,
+
+    ghost shows: { civil_nanos civil ≡ pos (millis * 1_000_000) +ℤ nanos_of_seconds offset.seconds },
+}
+
+/// The last millisecond that every time zone has, in the year 9999.
+const LAST: u64 = 253_402_207_200_999;
+
+impl Moment {
+    ghost use Rattle.std.specs.Prelude.{OnOk};
+    ghost use Rattle.std.specs.Io.KnownBytes.{Appends};
+    ghost use Rattle.cobs_live.specs.Timed.{date_time};
+
+    /// Returns this many milliseconds after the start, or after 1970, in this zone; at most `LAST`.
+    fn new(millis: u64, zone: TimeZone<'_>) -> Self
+        ensures millis { result.millis ≡ min millis 253_402_207_200_999 }
+        ensures zone { result.offset.seconds ≡ offset_at zone.entry (pos (result.millis * 1_000_000)) }
+    {
+        let millis = millis.min(LAST);
+        let timestamp = Timestamp {
+            nanosecond: millis as i128 * 1_000_000,
+        };
+        let offset = zone.to_offset(timestamp);
+        let civil = offset.to_datetime(timestamp);
+        Moment {
+            millis,
+            civil,
+            offset,
+        }
+    }
+
+    /// Writes date and time of day as RFC 3339 has them, with three decimals.
+    fn write<W: Write>(&self, output: &mut W) -> io::Result<()>
+        ensures written { OnOk result
+            (Appends (W.contents output.old) (W.contents output.new) (date_time self.now)) }
+    {
+        let printer = DateTimePrinter::new().precision(Some(3));
+        output.write_all(printer.datetime_text(self.civil).as_bytes())?;
+        if self.offset.seconds == 0 {
+            return output.write_all(b"Z");
+        }
+        output.write_all(printer.offset_text(self.offset).as_bytes())
+    }
+}
+
+/// A clock that runs from a start on.
 #[derive(Drop)]
-pub struct Timer<C> {
+pub struct Timer<'a, C> {
     clock: C,
+    zone: TimeZone<'a>,
     start: Instant,
 
-    /// What it read at the start.
-    base: u64,
+    /// What it read at the start, in milliseconds.
+    pub base: u64,
 }
 
-impl<C: Clock + Drop> Timer<C> {
-    /// Starts at 0, or for `Stamp::Utc` at the time since 1970.
+impl<'a, C: Clock + Drop> Timer<'a, C> {
+    /// Starts at 0, or for `Stamp::Date` at the time since 1970.
     ///
     /// # Errors
     /// The error of a clock that can't be read.
-    pub fn new(clock: C, stamp: Stamp) -> io::Result<Self> {
-        let mut base = 0;
-        if stamp == Stamp::Utc {
-            let since = SystemTime::now(&clock)?.duration_since(UNIX_EPOCH);
-            base = since.map_or(
-                0,
-                |since| u64::try_from(since.as_millis()).unwrap_or(u64::MAX),
-            );
-        }
+    pub fn new(clock: C, stamp: Stamp, zone: TimeZone<'a>) -> io::Result<Self> {
+        let base = match stamp {
+            Stamp::Untimed | Stamp::Start | Stamp::Last => 0,
+            Stamp::Date => millis_of(clock.since_1970()?),
+        };
         let start = Instant::now(&clock)?;
-        Ok(Timer { clock, start, base })
+        Ok(Timer {
+            clock,
+            zone,
+            start,
+            base,
+        })
     }
 
     /// The time now. It never goes back: it is the last one where the clock did, or can't be read.
-    fn read(&self, last: u64) -> u64
-        ensures later { last ≤ result }
+    fn read(&self, last: Moment) -> Moment
+        ensures later { last.millis ≤ result.millis }
     {
-        match self.start.elapsed(&self.clock) {
-            Ok(since) => {
-                let passed = u64::try_from(since.as_millis()).unwrap_or(u64::MAX);
-                self.base.saturating_add(passed).max(last)
-            }
-            Err(_) => last,
-        }
+        let Ok(since) = self.start.elapsed(&self.clock) else {
+            return last;
+        };
+        let now = Moment::new(self.base.saturating_add(millis_of(since)), self.zone);
+        if now.millis < last.millis { last } else { now }
     }
+}
+
+/// A duration in whole milliseconds.
+fn millis_of(duration: Duration) -> u64 {
+    u64::try_from(duration.as_millis()).unwrap_or(u64::MAX)
 }
 
 /// When the last piece was read, and when the next one is.
 #[derive(Clone, Copy)]
 pub struct Times {
-    pub last: u64,
-    pub now: u64,
+    pub last: Moment,
+    pub next: Moment,
 }
 
 impl Times {
+    ghost use Rattle.std.specs.Prelude.{OnOk};
+    ghost use Rattle.std.specs.Io.KnownBytes.{Appends};
+    ghost use Rattle.cobs_live.specs.Timed.{json_time, seconds, stamped, time_text};
+
     /// No piece has been read.
     pub fn new() -> Self
-        ensures start { result.last ≡ 0 }
+        ensures start { result.last.millis ≡ 0 }
     {
-        Times { last: 0, now: 0 }
-    }
-
-    /// The clock was read at the start.
-    pub fn at_start<C: Clock + Drop>(timer: &Timer<C>) -> Self
-        ensures last { result.last ≡ 0 }
-    {
+        let start = Moment::new(0, TimeZone::UTC);
         Times {
-            last: 0,
-            now: timer.base,
+            last: start,
+            next: start,
         }
     }
 
     /// Reads the clock.
-    pub fn update<C: Clock + Drop>(&mut self, timer: &Timer<C>)
-        ensures later { self.old.last ≤ self.new.now }
+    pub fn update<C: Clock + Drop>(&mut self, timer: &Timer<'_, C>)
+        ensures later { self.old.last.millis ≤ self.new.next.millis }
         ensures last { self.new.last ≡ self.old.last }
     {
-        self.now = timer.read(self.last);
+        self.next = timer.read(self.last);
     }
 
-    /// Whether this many milliseconds, if a number is given, have passed since this was read. It is read now then.
-    pub fn is_over(&mut self, interval: Option<u64>, now: u64) -> bool
-        ensures unasked { interval ≡ None → result ≡ false }
-        ensures over { IfSome interval (λ interval. IsTrue result ↔ interval ≤ now - self.old.now) }
-        ensures now { self.new.now ≡ (if result then now else self.old.now) }
-        ensures last { self.new.last ≡ self.old.last }
+    /// Returns these times, and goes on to the piece behind it.
+    pub fn advance(&mut self) -> Times
+        ensures times { result ≡ self.old }
+        ensures last { self.new.last ≡ self.old.next }
+        ensures next { self.new.next ≡ self.old.next }
     {
-        let Some(interval) = interval else {
-            return false;
-        };
-        if now.saturating_sub(self.now) < interval {
-            return false;
-        }
-        self.now = now;
-        true
+        let times = *self;
+        self.last = self.next;
+        times
     }
 
-    /// The time of a piece that was read now.
-    pub fn next(&mut self, stamp: Stamp) -> u64
-        ensures time { result ≡ time_of stamp self.old.last self.old.now }
-        ensures last { self.new.last ≡ self.old.now }
-        ensures now { self.new.now ≡ self.old.now }
+    /// Writes the time of the piece in front of its line.
+    pub fn write_stamp<W: Write>(&self, output: &mut W, stamp: Stamp) -> io::Result<()>
+        ensures written { OnOk result
+            (Appends (W.contents output.old) (W.contents output.new) (stamped stamp self.now)) }
     {
-        let time = match stamp {
-            Stamp::Untimed | Stamp::Start | Stamp::Utc => self.now,
-            Stamp::Last => self.now.saturating_sub(self.last),
-        };
-        self.last = self.now;
-        time
-    }
-}
-
-/// Writes a time in front of a line.
-pub fn write_stamp<W: Write>(output: &mut W, stamp: Stamp, time: u64) -> io::Result<()>
-    ensures written { OnOk result (Appends (W.contents output.old) (W.contents output.new)
-        (stamped stamp time)) }
-{
-    match stamp {
-        Stamp::Untimed => Ok(()),
-        Stamp::Start | Stamp::Last => {
-            write_seconds(output, time)?;
-            output.write_all(b" ")
-        }
-        Stamp::Utc => {
-            write_time_of_day(output, time)?;
-            output.write_all(b" ")
+        match stamp {
+            Stamp::Untimed => Ok(()),
+            Stamp::Start | Stamp::Last | Stamp::Date => {
+                self.write_time(output, stamp)?;
+                output.write_all(b" ")
+            }
         }
     }
-}
 
-/// Writes a time as a member of an object of JSON.
-pub fn write_json_time<W: Write>(output: &mut W, stamp: Stamp, time: u64) -> io::Result<()>
-    ensures written { OnOk result (Appends (W.contents output.old) (W.contents output.new)
-        (json_time stamp time)) }
-{
-    match stamp {
-        Stamp::Untimed => Ok(()),
-        Stamp::Start | Stamp::Last => {
-            output.write_all(b",\"time\":")?;
-            write_seconds(output, time)
-        }
-        Stamp::Utc => {
-            output.write_all(b",\"time\":\"")?;
-            write_time_of_day(output, time)?;
-            output.write_all(b"\"")
+    /// Writes the time of the piece as a member of an object of JSON.
+    pub fn write_member<W: Write>(&self, output: &mut W, stamp: Stamp) -> io::Result<()>
+        ensures written { OnOk result
+            (Appends (W.contents output.old) (W.contents output.new) (json_time stamp self.now)) }
+    {
+        match stamp {
+            Stamp::Untimed => Ok(()),
+            Stamp::Start | Stamp::Last => {
+                output.write_all(b",\"time\":")?;
+                self.write_time(output, stamp)
+            }
+            Stamp::Date => {
+                output.write_all(b",\"time\":\"")?;
+                self.write_time(output, stamp)?;
+                output.write_all(b"\"")
+            }
         }
     }
-}
 
-/// Writes milliseconds as seconds with three decimals.
-fn write_seconds<W: Write>(output: &mut W, time: u64) -> io::Result<()>
-    ensures written { OnOk result
-        (Appends (W.contents output.old) (W.contents output.new) (seconds time)) }
-{
-    write!(output, "{}.{:03}", time / 1000, time % 1000)
-}
+    /// Writes the time of the piece.
+    fn write_time<W: Write>(&self, output: &mut W, stamp: Stamp) -> io::Result<()>
+        ensures written { OnOk result
+            (Appends (W.contents output.old) (W.contents output.new) (time_text stamp self.now)) }
+    {
+        let millis = self.next.millis;
+        match stamp {
+            Stamp::Untimed => Ok(()),
+            Stamp::Start => Self::write_seconds(output, millis),
+            Stamp::Last => Self::write_seconds(output, millis.saturating_sub(self.last.millis)),
+            Stamp::Date => self.next.write(output),
+        }
+    }
 
-/// Writes hours, minutes and seconds of the day, with three decimals.
-#[tactic(auto, unfolding(crate::specs::Timed::time_of_day))]
-fn write_time_of_day<W: Write>(output: &mut W, time: u64) -> io::Result<()>
-    ensures written { OnOk result
-        (Appends (W.contents output.old) (W.contents output.new) (time_of_day time)) }
-{
-    let hour = time / 3_600_000 % 24;
-    let minute = time / 60_000 % 60;
-    let second = time / 1000 % 60;
-    write!(
-        output,
-        "{hour:02}:{minute:02}:{second:02}.{:03}",
-        time % 1000
-    )
+    /// Writes milliseconds as seconds with three decimals.
+    fn write_seconds<W: Write>(output: &mut W, time: u64) -> io::Result<()>
+        ensures written { OnOk result
+            (Appends (W.contents output.old) (W.contents output.new) (seconds time)) }
+    {
+        write!(output, "{}.{:03}", time / 1000, time % 1000)
+    }
 }

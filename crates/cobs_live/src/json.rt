@@ -4,7 +4,7 @@ ghost use Rattle.std.specs.Io.KnownBytes.{Appends};
 ghost use Rattle.cobs_live.specs.Json.{json, json_kind, json_message, json_partial, json_text};
 ghost use Rattle.cobs_live.specs.Seen.{seen_in};
 
-use crate::clock::{Stamp, write_json_time};
+use crate::clock::{Stamp, Times};
 use crate::escape::write_escaped;
 use crate::seen::{Kind, Sight};
 use cobs_lines::write_digits;
@@ -16,14 +16,14 @@ pub fn write_json<W: Write>(
     output: &mut W,
     number: u64,
     stamp: Stamp,
-    time: u64,
+    times: &Times,
     piece: &Sight<'_>,
 ) -> io::Result<()>
     ensures written { OnOk result (Appends (W.contents output.old) (W.contents output.new)
-        (json number stamp time (seen_in piece.now))) }
+        (json number stamp times.now (seen_in piece.now))) }
 {
     write!(output, "{{\"frame\":{number}")?;
-    write_json_time(output, stamp, time)?;
+    times.write_member(output, stamp)?;
     output.write_all(b",\"kind\":")?;
     write_kind(output, piece)?;
     output.write_all(b"}\n")

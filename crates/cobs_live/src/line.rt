@@ -3,9 +3,10 @@ ghost use Rattle.std.specs.Prelude.{◌≡◌, OnOk, IfSome, IsSome, ◌↔◌, 
 ghost use Rattle.std.specs.Io.KnownBytes.{Appends};
 ghost use Rattle.cobs_lines.specs.Lines.{spaced_digits};
 ghost use Rattle.cobs_live.specs.Seen.{color_end, color_of, heading, mark, seen_in, title, titled};
-ghost use Rattle.cobs_live.specs.Shown.{bytes_of, captured, dump_lines, hex_line, is_plain, raw_of, spaced, styled, text_line};
+ghost use Rattle.cobs_live.specs.Shown.{alone, dump_lines, hex_line, is_plain, of_message, spaced, styled, text_line};
 
 use crate::capture::write_record_head;
+use crate::clock::Times;
 use crate::dump::write_dump;
 use crate::escape::is_hidden;
 use crate::json::write_json;
@@ -15,25 +16,26 @@ use cobs_lines::write_digits;
 use std::io::{self, Write};
 use std::str;
 
-/// Writes what a view's style makes of a piece that has this number and time.
+/// Writes what a view's style makes of a piece that has this number and these times.
 pub fn write_line<W: Write>(
     output: &mut W,
     view: &View,
     number: u64,
-    time: u64,
+    times: &Times,
     piece: &Sight<'_>,
 ) -> io::Result<()>
     ensures written { OnOk result (Appends (W.contents output.old) (W.contents output.new)
-        (styled view.now.style view.now.color number view.now.stamp time (seen_in piece.now))) }
+        (styled view.now.style view.now.color number view.now.stamp times.now (seen_in piece.now))) }
 {
     match view.style {
         Style::Hex => write_hex(output, view.color, piece),
         Style::Text => write_text(output, view.color, piece),
-        Style::Raw => write_raw(output, piece),
         Style::Hexdump => write_dumped(output, view.color, piece),
-        Style::Json => write_json(output, number, view.stamp, time, piece),
-        Style::Bytes => write_bytes(output, piece),
-        Style::Pcap => write_record(output, time, piece),
+        Style::Json => write_json(output, number, view.stamp, times, piece),
+        Style::Raw | Style::Bytes | Style::Pcap => match piece.kind {
+            Kind::Message => write_alone(output, view.style, times.next.millis, piece.bytes),
+            Kind::Broken | Kind::TooLong | Kind::BadCrc => Ok(()),
+        },
     }
 }
 
@@ -90,13 +92,8 @@ fn write_mark<W: Write>(output: &mut W, kind: Kind, bytes: &[u8]) -> io::Result<
         (Appends (W.contents output.old) (W.contents output.new) (mark kind bytes.now)) }
 {
     match kind {
-        Kind::Message | Kind::BadCrc => Ok(()),
-        Kind::Broken | Kind::TooLong => {
-            if bytes.len() > 0 {
-                output.write_all(b" partial")?;
-            }
-            Ok(())
-        }
+        Kind::Broken | Kind::TooLong if bytes.len() > 0 => output.write_all(b" partial"),
+        Kind::Message | Kind::Broken | Kind::TooLong | Kind::BadCrc => Ok(()),
     }
 }
 
@@ -154,42 +151,23 @@ fn plain_text(message: &[u8]) -> Option<&str>
     Some(text)
 }
 
-/// Writes the bytes of a message and a newline.
-fn write_raw<W: Write>(output: &mut W, piece: &Sight<'_>) -> io::Result<()>
-    ensures written { OnOk result (Appends (W.contents output.old) (W.contents output.new)
-        (raw_of (seen_in piece.now).kind (seen_in piece.now).bytes)) }
+/// Writes a message in a style that shows nothing else.
+fn write_alone<W: Write>(output: &mut W, style: Style, time: u64, bytes: &[u8]) -> io::Result<()>
+    ensures written { OnOk result
+        (Appends (W.contents output.old) (W.contents output.new) (alone style time bytes.now)) }
 {
-    match piece.kind {
-        Kind::Message => {
-            output.write_all(piece.bytes)?;
+    match style {
+        Style::Raw => {
+            output.write_all(bytes)?;
             output.write_all(b"\n")
         }
-        Kind::Broken | Kind::TooLong | Kind::BadCrc => Ok(()),
-    }
-}
-
-/// Writes the bytes of a message alone.
-fn write_bytes<W: Write>(output: &mut W, piece: &Sight<'_>) -> io::Result<()>
-    ensures written { OnOk result (Appends (W.contents output.old) (W.contents output.new)
-        (bytes_of (seen_in piece.now).kind (seen_in piece.now).bytes)) }
-{
-    match piece.kind {
-        Kind::Message => output.write_all(piece.bytes),
-        Kind::Broken | Kind::TooLong | Kind::BadCrc => Ok(()),
-    }
-}
-
-/// Writes a message as a record of a capture.
-fn write_record<W: Write>(output: &mut W, time: u64, piece: &Sight<'_>) -> io::Result<()>
-    ensures written { OnOk result (Appends (W.contents output.old) (W.contents output.new)
-        (captured (seen_in piece.now).kind time (seen_in piece.now).bytes)) }
-{
-    match piece.kind {
-        Kind::Message => {
-            write_record_head(output, time, piece.bytes.len())?;
-            output.write_all(piece.bytes)
+        Style::Pcap => {
+            write_record_head(output, time, bytes.len())?;
+            output.write_all(bytes)
         }
-        Kind::Broken | Kind::TooLong | Kind::BadCrc => Ok(()),
+        Style::Hex | Style::Text | Style::Hexdump | Style::Json | Style::Bytes => {
+            output.write_all(bytes)
+        }
     }
 }
 

@@ -20,7 +20,7 @@ pub struct Port<'a, C, F> {
 }
 
 impl<'a, C: Clock + Drop, F: Drop> Port<'a, C, F> {
-    ghost use Rattle.std.specs.Prelude.{◌≡◌};
+    ghost use Rattle.std.specs.Prelude.{◌≡◌, false, IsOk};
     ghost use Rattle.cobs_live.specs.Ports.{inner_of};
 
     /// This reader or writer, which waits by this clock.
@@ -34,8 +34,13 @@ impl<'a, C: Clock + Drop, F: Drop> Port<'a, C, F> {
         }
     }
 
-    /// Whether it is tried again after this error: it would have blocked, and a pause is over. Else the reason is noted.
-    fn is_over(&self, error: &io::Error) -> bool {
+    /// Whether to try again: it would have blocked, and a pause is over. The reason of another error is noted.
+    fn tries_again(&self, done: &io::Result<usize>) -> bool
+        ensures failed { IsOk done.now → result ≡ false }
+    {
+        let Err(error) = done else {
+            return false;
+        };
         if error.kind() == ErrorKind::WouldBlock {
             thread::sleep(&self.clock, Duration::from_millis(PAUSE));
             return true;
@@ -52,13 +57,9 @@ impl<C: Clock + Drop, R: Read + Drop> Read for Port<'_, C, R> {
 
     fn read(&mut self, buf: &mut [u8]) -> io::Result<usize> {
         'by_try: for _again in 0..usize::MAX {
-            match self.inner.read(buf) {
-                Ok(count) => return Ok(count),
-                Err(error) => {
-                    if !self.is_over(&error) {
-                        return Err(error);
-                    }
-                }
+            let done = self.inner.read(buf);
+            if !self.tries_again(&done) {
+                return done;
             }
         }
         Err(ErrorKind::WouldBlock.into())
@@ -72,13 +73,9 @@ impl<C: Clock + Drop, W: Write + Drop> Write for Port<'_, C, W> {
 
     fn write(&mut self, buf: &[u8]) -> io::Result<usize> {
         'by_try: for _again in 0..usize::MAX {
-            match self.inner.write(buf) {
-                Ok(count) => return Ok(count),
-                Err(error) => {
-                    if !self.is_over(&error) {
-                        return Err(error);
-                    }
-                }
+            let done = self.inner.write(buf);
+            if !self.tries_again(&done) {
+                return done;
             }
         }
         Err(ErrorKind::WouldBlock.into())
@@ -215,9 +212,7 @@ impl<W: Write + Drop, L: Write + Drop> Logged<W, L> {
             return;
         }
         if let Some(log) = &mut self.log {
-            if let Err(error) = log.write_all(bytes) {
-                self.failed = Some(error);
-            }
+            self.failed = log.write_all(bytes).err();
         }
     }
 }

@@ -99,32 +99,11 @@ fn send_text<W: Write + Drop>(
         → Keeps (W.contents (writer_inner output.old)) (W.contents (writer_inner output.new))) }
     ensures flushed { IsFlushed result (writer_buffer output.new) }
 {
-    if settings.hex {
-        send_digits(alloc, settings, text, output)
-    } else {
+    if !settings.hex {
         send_message(alloc, settings, text, output)?;
-        Ok(true)
+        return Ok(true);
     }
-}
-
-/// Sends the message whose hexadecimal digits the text has, and returns whether it has some.
-fn send_digits<W: Write + Drop>(
-    alloc: Global,
-    settings: &Settings,
-    text: &[u8],
-    output: &mut BufWriter<W>,
-) -> Result<bool, WatchFault>
-    requires flushed { writer_buffer output.old ≡ [] }
-    ensures sent { OnOk result ((bytes : List ℕ) × SendsAs true settings.now text.now bytes
-        × Appends (W.contents (writer_inner output.old)) (W.contents (writer_inner output.new)) bytes) }
-    ensures returned { IfOk result (λ sent. IsTrue sent ↔ IsOk (decode_of (digits_of text.now))) }
-    ensures fault { IfErr result (λ fault. fault ≢ WatchFault.ReadFailed) }
-    ensures unwritten { IfErr result (λ fault. fault ≡ WatchFault.OutOfMemory
-        → Keeps (W.contents (writer_inner output.old)) (W.contents (writer_inner output.new))) }
-    ensures flushed { IsFlushed result (writer_buffer output.new) }
-{
-    let digits = digits_of(alloc, text)?;
-    match hex::decode(alloc, &digits) {
+    match hex::decode(alloc, &digits_of(alloc, text)?) {
         Ok(message) => {
             send_message(alloc, settings, &message, output)?;
             Ok(true)

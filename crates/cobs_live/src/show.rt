@@ -7,6 +7,7 @@ ghost use Rattle.cobs.specs.Fields.Decoders.{phase_at, phase_of};
 ghost use Rattle.cobs.specs.Sentinel.{xor_each};
 ghost use Rattle.cobs.specs.Stream.{Outcome};
 ghost use Rattle.cobs_live.specs.Counted.{IsTallyOf};
+ghost use Rattle.cobs_live.specs.declared.clock.Moment.{Moment};
 ghost use Rattle.cobs_live.specs.declared.shown.Settings.{Settings};
 ghost use Rattle.cobs_live.specs.Live.{HoldsText, ShowsBytes};
 ghost use Rattle.cobs_live.specs.Reads.{IsLive, ReadsOnce, given};
@@ -45,7 +46,7 @@ pub fn run_show<C: Clock + Drop, S: LiveInput<W>, W: Write + Drop, E: Write>(
     alloc: Global,
     settings: &Settings,
     counting: Counting,
-    timer: &Timer<C>,
+    timer: &Timer<'_, C>,
     input: &mut S,
     output: &mut BufWriter<W>,
     errors: &mut E,
@@ -59,7 +60,7 @@ pub fn run_show<C: Clock + Drop, S: LiveInput<W>, W: Write + Drop, E: Write>(
 {
     let mut watch = Watch::new(alloc, settings)?;
     let mut chunk = vec![in alloc; 0; CHUNK_LEN]?;
-    let mut counted = Times::at_start(timer);
+    let mut counted = timer.base;
     'by_read: for _read in 0..usize::MAX {
         let next = watch.show_next(timer, &mut chunk, input, output);
         if counting.at_end && next != Ok(true) {
@@ -68,7 +69,9 @@ pub fn run_show<C: Clock + Drop, S: LiveInput<W>, W: Write + Drop, E: Write>(
         if !next? {
             return Ok(watch.tally);
         }
-        if counted.is_over(counting.every, watch.clock.now) {
+        let now = watch.clock.next.millis;
+        if counting.is_due(now.saturating_sub(counted)) {
+            counted = now;
             let _ = writeln!(errors, "{}", watch.tally);
         }
     }
@@ -128,7 +131,7 @@ impl<'a> Watch<'a> {
     /// `OutputClosed` if that was since nobody reads the output any more.
     pub fn show_next<C: Clock + Drop, S: LiveInput<W>, W: Write + Drop>(
         &mut self,
-        timer: &Timer<C>,
+        timer: &Timer<'_, C>,
         chunk: &mut [u8],
         input: &mut S,
         output: &mut BufWriter<W>,
@@ -270,7 +273,7 @@ fn show_bytes<W: Write>(
 ) -> Result<(), WatchFault>
     ensures shown { (p : List ℕ) → DecoderAfter message.old (phase_of decoder.old) p
         → (gone : List Outcome) (read : ℕ) → IsTallyOf view.now.checksum tally.old gone read
-        → (times : ℕ → ℕ) → IsReadAt times (length gone) clock.old → OnOk result
+        → (times : ℕ → Moment) → IsReadAt times (length gone) clock.old → OnOk result
         (ShowsBytes view.now times (length message.old) p bytes.now gone read message.new (phase_of decoder.new)
         (W.contents output.old) (W.contents output.new) tally.new clock.new) }
     ensures len { length message.new ≡ length message.old }
@@ -283,9 +286,9 @@ fn show_bytes<W: Write>(
     'by_piece: while let Some((end, count)) = decoder.feed_piece(message, &bytes[at..]) {
         let piece = sight_of(&view.checksum, end, message);
         tally.count_piece(piece.kind);
-        let time = clock.next(view.stamp);
+        let times = clock.advance();
         let piece = with_part(view.partial, &piece, message);
-        show_piece(output, view, tally.pieces, time, &piece)?;
+        show_piece(output, view, tally.pieces, &times, &piece)?;
         at += count;
     }
     Ok(())

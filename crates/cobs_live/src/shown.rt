@@ -9,7 +9,7 @@ ghost use Rattle.cobs_live.specs.Seen.{held, seen_in, seen_message, seen_of, who
 ghost use Rattle.cobs_live.specs.Shown.{has_kind, in_front, in_view, passes, shown_end};
 
 use crate::checksum::Checksum;
-use crate::clock::{Stamp, write_stamp};
+use crate::clock::{Stamp, Times};
 use crate::line::write_line;
 use crate::seen::{Kind, Sight};
 use cobs::PieceEnd;
@@ -204,34 +204,34 @@ impl Filter {
     }
 }
 
-/// Shows a piece that has this number and time.
+/// Shows a piece that has this number and these times.
 pub fn show_piece<W: Write>(
     output: &mut W,
     view: &View,
     number: u64,
-    time: u64,
+    times: &Times,
     piece: &Sight<'_>,
 ) -> io::Result<()>
     ensures shown { OnOk result (Appends (W.contents output.old) (W.contents output.new)
-        (in_view view.now number time (seen_in piece.now))) }
+        (in_view view.now number times.now (seen_in piece.now))) }
 {
     if !view.filter.passes(piece) {
         return Ok(());
     }
-    write_time(output, view, time)?;
+    write_time(output, view, times)?;
     if view.number {
         write!(output, "{number} ")?;
     }
-    write_line(output, view, number, time, piece)
+    write_line(output, view, number, times, piece)
 }
 
 /// Writes the time of a piece in front of its line, if the style has it there.
-fn write_time<W: Write>(output: &mut W, view: &View, time: u64) -> io::Result<()>
+fn write_time<W: Write>(output: &mut W, view: &View, times: &Times) -> io::Result<()>
     ensures written { OnOk result (Appends (W.contents output.old) (W.contents output.new)
-        (in_front view.now.style view.now.stamp time)) }
+        (in_front view.now.style view.now.stamp times.now)) }
 {
     match view.style {
-        Style::Hex | Style::Text | Style::Hexdump => write_stamp(output, view.stamp, time),
+        Style::Hex | Style::Text | Style::Hexdump => times.write_stamp(output, view.stamp),
         Style::Raw | Style::Json | Style::Bytes | Style::Pcap => Ok(()),
     }
 }

@@ -33,6 +33,21 @@ pub struct Counting {
     pub every: Option<u64>,
 }
 
+impl Counting {
+    ghost use Rattle.std.specs.Prelude.{◌≡◌, ◌≤◌, ◌↔◌, IfSome, IsTrue, None, false};
+
+    /// Returns whether the tally is to be written, given the milliseconds since it was.
+    pub fn is_due(&self, passed: u64) -> bool
+        ensures unasked { self.now.every ≡ None → result ≡ false }
+        ensures due { IfSome self.now.every (λ every. IsTrue result ↔ every ≤ passed) }
+    {
+        match self.every {
+            Some(every) => every <= passed,
+            None => false,
+        }
+    }
+}
+
 impl Tally {
     ghost use Rattle.std.specs.Prelude.{List, ℕ, [], ◌∷◌, ◌++◌, ◌+◌, ◌≡◌, Option, is_some};
 

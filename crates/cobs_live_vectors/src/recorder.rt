@@ -57,7 +57,7 @@ impl LiveLines<Vec<u8>> for Recorder<'_> {
 pub fn show_recorded<C: Clock + Drop>(
     alloc: Global,
     settings: &Settings,
-    timer: &Timer<C>,
+    timer: &Timer<'_, C>,
     input: &mut Recorder,
     output: &mut BufWriter<Vec<u8>>,
 ) -> Result<Tally, WatchFault>

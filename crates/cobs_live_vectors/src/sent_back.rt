@@ -6,6 +6,7 @@ ghost use Rattle.cobs_live.specs.Shown.{in_view};
 ghost use Rattle.cobs_live.specs.declared.seen.Kind.TheVariants.{Message};
 
 use cobs::PieceEnd;
+use cobs_live::clock::Times;
 use cobs_live::fault::WatchFault;
 use cobs_live::send::with_sum;
 use cobs_live::shown::{View, show_piece, sight_of, sum_law};
@@ -18,11 +19,11 @@ pub fn show_sent<W: Write>(
     output: &mut W,
     view: &View,
     number: u64,
-    time: u64,
+    times: &Times,
     message: &[u8],
 ) -> Result<(), WatchFault>
     ensures { IsSome view.now.checksum → OnOk result (Appends (W.contents output.old) (W.contents output.new)
-        (in_view view.now number time (whole Message message.now))) }
+        (in_view view.now number times.now (whole Message message.now))) }
 {
     sum_law();
     let Some(checksum) = &view.checksum else {
@@ -30,6 +31,6 @@ pub fn show_sent<W: Write>(
     };
     let sent = with_sum(alloc, checksum, message)?;
     let piece = sight_of(&view.checksum, PieceEnd::Message(sent.len()), &sent);
-    show_piece(output, view, number, time, &piece)?;
+    show_piece(output, view, number, times, &piece)?;
     Ok(())
 }

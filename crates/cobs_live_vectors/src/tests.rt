@@ -11,6 +11,8 @@ use cobs_live::input::AnyInput;
 use cobs_live::show::run_show;
 use cobs_live::shown::{Filter, Settings, Style, View};
 use cobs_live::tally::{Counting, Tally};
+use jiff_core::Offset;
+use jiff_tz::TimeZone;
 use std::alloc::Global;
 use std::cell::Cell;
 use std::io::{self, BufWriter, ErrorKind, Read};
@@ -76,7 +78,7 @@ const COLORED: [(Style, &[u8]); 3] = [
     ),
 ];
 
-/// The same with the time of each piece, if a byte is read every 250 ms from 23:59:58.123 on.
+/// The same with the time of each piece, if a byte is read every 250 ms from 23:59:58.123 on, in UTC.
 const TIMED: [(Style, Stamp, &[u8]); 4] = [
     (
         Style::Hex,
@@ -90,9 +92,9 @@ const TIMED: [(Style, Stamp, &[u8]); 4] = [
     ),
     (
         Style::Hex,
-        Stamp::Utc,
-        b"23:59:59.373 message 2 0708\n00:00:00.123 broken 1\n00:00:01.873 too long\n\
-        00:00:02.873 message 2 6869\nunfinished\n",
+        Stamp::Date,
+        b"1972-09-27T23:59:59.373Z message 2 0708\n1972-09-28T00:00:00.123Z broken 1\n\
+        1972-09-28T00:00:01.873Z too long\n1972-09-28T00:00:02.873Z message 2 6869\nunfinished\n",
     ),
     (
         Style::Json,
@@ -199,12 +201,17 @@ impl Clock for StepClock {
     }
 }
 
-fn timer(stamp: Stamp) -> io::Result<Timer<StepClock>> {
+fn timer(stamp: Stamp) -> io::Result<Timer<'static, StepClock>> {
+    timer_in(stamp, TimeZone::UTC)
+}
+
+fn timer_in(stamp: Stamp, zone: TimeZone<'_>) -> io::Result<Timer<'_, StepClock>> {
     Timer::new(
         StepClock {
             readings: Cell::new(3),
         },
         stamp,
+        zone,
     )
 }
 
@@ -329,7 +336,7 @@ fn counts_are_written_after_each_interval(rt: HostRuntime) -> Result<(), Fail> {
             at_end: true,
             every: Some(1_000),
         },
-        &timer(Stamp::Utc)?,
+        &timer(Stamp::Date)?,
         &mut input,
         &mut output,
         &mut errors,
@@ -363,6 +370,32 @@ fn each_piece_has_its_time(rt: HostRuntime) -> Result<(), Fail> {
         assert!(rt; done.is_ok());
         assert_eq!(rt; output.get_ref().as_slice(), shown);
     }
+    Ok(())
+}
+
+#[test]
+fn a_date_has_the_offset_of_its_zone(rt: HostRuntime) -> Result<(), Fail> {
+    let alloc = rt.alloc();
+    let settings = settings(alloc, Style::Json, Stamp::Date);
+    let mut input = AnyInput::new(reader(b"\x02a\x00", usize::MAX, ErrorKind::Other));
+    let mut output = BufWriter::new(alloc, Vec::new(alloc))?;
+    let newfoundland = TimeZone::Fixed(Offset { seconds: -12_600 });
+    let done = run_show(
+        alloc,
+        &settings,
+        SILENT,
+        &timer_in(Stamp::Date, newfoundland)?,
+        &mut input,
+        &mut output,
+        &mut Vec::new(alloc),
+    );
+    assert!(rt; done.is_ok());
+    assert_eq!(rt;
+        output.get_ref().as_slice(),
+        b"{\"frame\":1,\"time\":\"1972-09-27T20:29:58.873-03:30\",\"kind\":\"message\",\"length\":1,\
+        \"hex\":\"61\",\"text\":\"a\"}\n"
+            .as_slice(),
+    );
     Ok(())
 }
 

@@ -1,27 +1,19 @@
 //! Frames on a live line.
 //!
-//! `cobs_watch` reads a stream of frames from standard input for as long as bytes come, and shows each piece the moment
-//! that its sentinel has come:
-//!
-//! | piece | line |
-//! |---|---|
-//! | a frame of a message of N bytes | `message N` and the bytes as hexadecimal digits |
-//! | one that breaks off inside a block and decodes to N bytes | `broken N` |
-//! | one that decodes to more bytes than are held | `too long` |
-//!
-//! Options colour the lines, show messages as text, as bytes, as `hexdump -C` does or as JSON, number the pieces, and hold some of them
-//! back. `cobs_watch --help` lists them. With a path, the line there is shown in place of standard input.
-//!
-//! `cobs_watch send` reads lines and sends each one as a frame and its sentinel.
+//! `cobs_watch` shows each piece of a stream of frames the moment that its sentinel has come: `message N` with the N bytes
+//! as hexadecimal digits, `broken N` for one that breaks off inside a block, `too long` for one that decodes to more bytes
+//! than are held. It reads the line that has a path, or standard input, for as long as bytes come. Options change what is
+//! shown; `cobs_watch --help` lists them. `cobs_watch send` reads lines and sends each one as a frame and its sentinel.
 //!
 //! At the end of the input `unfinished` says that a piece has begun that no sentinel ended. The status is then 0. It is
-//! 1 where a read or a write failed or memory ran out, with a line on standard error, and 2 for wrong arguments, with
-//! the usage. Where nobody reads the output any more, the program ends with status 0.
+//! 1 if a read or a write failed or memory ran out, with a line on standard error, and 2 for wrong arguments, with
+//! the usage. If nobody reads the output any more, the program ends with status 0.
 #![tactic(auto)]
 
 ghost use Rattle.std.specs.Prelude.{◌≡◌, [], OnOk};
 ghost use Rattle.std.specs.Io.Buffered.{writer_buffer};
 
+mod help;
 mod options;
 mod values;
 
@@ -33,7 +25,7 @@ use cobs_live::port::{Logged, Opener, Port, Reopened};
 use cobs_live::send::{self, run_send};
 use cobs_live::show::run_show;
 use cobs_live::shown::Style;
-use cobs_live::tally::Tally;
+use jiff_tz::{SystemTimeZone, TimeZone, TimeZoneDatabase};
 use options::{ShowTask, Task, task_of};
 use std::cell::Cell;
 use std::env::{self, VarError};
@@ -50,17 +42,16 @@ type Reason = Cell<Option<i32>>;
 fn main(rt: HostRuntime) -> anyhow::Result<ExitCode> {
     let words: Vec<String> = env::args(&rt)?.collect(rt.alloc())?;
     match task_of(rt.alloc(), &words, auto_color(&rt)) {
-        Ok(Task::Show(task)) => show(&rt, &task),
+        Ok(Task::Show(task)) if task.local => show_local(&rt, &task),
+        Ok(Task::Show(task)) => show(&rt, &task, TimeZone::UTC),
         Ok(Task::Send(settings)) => send(&rt, &settings),
         Err(error) => {
             let status = ExitCode::from(error.exit_code() as u8);
-            match error.print(&rt) {
-                Ok(()) => Ok(status),
-                Err(error) => {
-                    let reason = error.raw_os_error();
-                    Ok(faulted(&rt, error.into(), reason))
-                }
-            }
+            let Err(error) = error.print(&rt) else {
+                return Ok(status);
+            };
+            let reason = error.raw_os_error();
+            Ok(faulted(&rt, error.into(), reason))
         }
     }
 }
@@ -79,8 +70,22 @@ fn auto_color(rt: &HostRuntime) -> bool {
     !no_color && !dumb && rt.stdout().is_terminal()
 }
 
-/// Shows standard input, or the line that has a path, and returns the status.
-fn show(rt: &HostRuntime, task: &ShowTask) -> anyhow::Result<ExitCode> {
+/// Shows a stream with dates in the system's time zone, or in UTC if that can't be read. Dates show which it is.
+fn show_local(rt: &HostRuntime, task: &ShowTask<'_>) -> anyhow::Result<ExitCode> {
+    let Ok(system) = SystemTimeZone::read(rt) else {
+        return show(rt, task, TimeZone::UTC);
+    };
+    // All zones of the system are read only for one that is given by its name.
+    let mut zones = TimeZoneDatabase::new(rt.alloc());
+    if system.time_zone(&zones).is_err() {
+        zones = TimeZoneDatabase::from_env(rt)?;
+    }
+    let zone = system.time_zone(&zones).unwrap_or(TimeZone::UTC);
+    show(rt, task, zone)
+}
+
+/// Shows standard input, or the line that has a path, and returns the status. Dates are in this zone.
+fn show(rt: &HostRuntime, task: &ShowTask<'_>, zone: TimeZone<'_>) -> anyhow::Result<ExitCode> {
     let reason = Cell::new(None);
     let log = match &task.log {
         None => None,
@@ -95,14 +100,14 @@ fn show(rt: &HostRuntime, task: &ShowTask) -> anyhow::Result<ExitCode> {
         return Ok(faulted(rt, error.into(), reason.get()));
     }
     match &task.path {
-        None => show_input(rt, task, rt.stdin(), &reason, &mut output),
+        None => show_input(rt, task, zone, rt.stdin(), &reason, &mut output),
         Some(path) => match File::open(rt, path) {
             Ok(file) if task.reconnect => {
                 let sentinel = task.settings.sentinel;
                 let line = Reopened::new(rt, Device { rt, path }, sentinel, file);
-                show_input(rt, task, line, &reason, &mut output)
+                show_input(rt, task, zone, line, &reason, &mut output)
             }
-            Ok(file) => show_input(rt, task, file, &reason, &mut output),
+            Ok(file) => show_input(rt, task, zone, file, &reason, &mut output),
             Err(error) => Ok(not_opened(rt, path, &error)),
         },
     }
@@ -130,22 +135,22 @@ fn begin<W: Write + Drop>(output: &mut BufWriter<W>, style: Style) -> io::Result
         return Ok(());
     }
     write_capture_head(output)?;
-    output.flush()?;
-    Ok(())
+    output.flush()
 }
 
 /// Shows what a reader gives, and returns the status.
 fn show_input<R: Read + Drop, W: Write + Drop>(
     rt: &HostRuntime,
-    task: &ShowTask,
+    task: &ShowTask<'_>,
+    zone: TimeZone<'_>,
     input: R,
     reason: &Reason,
     output: &mut BufWriter<W>,
 ) -> anyhow::Result<ExitCode>
     requires flushed { writer_buffer output.old ≡ [] }
 {
-    let timer = Timer::new(rt, task.settings.view.stamp)?;
-    let shown = run_show(
+    let timer = Timer::new(rt, task.settings.view.stamp, zone)?;
+    match run_show(
         rt.alloc(),
         &task.settings,
         task.counting,
@@ -153,15 +158,9 @@ fn show_input<R: Read + Drop, W: Write + Drop>(
         &mut AnyInput::new(Port::new(rt, input, reason)),
         output,
         &mut rt.stderr(),
-    );
-    Ok(show_ended(rt, shown, reason))
-}
-
-/// The status of a run of `show` that ended so.
-fn show_ended(rt: &HostRuntime, shown: Result<Tally, WatchFault>, reason: &Reason) -> ExitCode {
-    match shown {
-        Ok(_) => ExitCode::SUCCESS,
-        Err(fault) => faulted(rt, fault, reason.get()),
+    ) {
+        Ok(_) => Ok(ExitCode::SUCCESS),
+        Err(fault) => Ok(faulted(rt, fault, reason.get())),
     }
 }
 

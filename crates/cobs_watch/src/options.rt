@@ -1,7 +1,9 @@
 //! What the command line asks for.
-ghost use Rattle.std.specs.Prelude.{◌≡◌, ◌≤◌, IfOk};
-ghost use Rattle.cobs_watch.specs.Options.{IsOffered};
+ghost use Rattle.std.specs.Prelude.{◌≡◌, ◌≤◌, IfOk, codes};
+ghost use Rattle.clap.specs.Matches.{first_value, found_of};
+ghost use Rattle.cobs_watch.specs.Options.{HasPaths, IsOffered};
 
+use crate::help;
 use crate::values::{checksum_of, filter_of, number_of, sentinel_of};
 use clap::{Arg, ArgAction, ArgMatches, Command, Error};
 use cobs_live::clock::Stamp;
@@ -13,44 +15,14 @@ use std::alloc::{AllocError, Global};
 /// The length in bytes of the longest message that may be asked for, 16 MiB.
 const MAX_LENGTH: u64 = 16_777_216;
 
-/// The most seconds between two counts.
-const MAX_SECONDS: u64 = 4_294_967_295;
-
-/// The length in bytes of the longest message, where none is asked for.
-const LENGTH: &str = "65536";
-
-/// What help says of the checksum.
-const CRC_HELP: &str =
-    "The checksum at the end of each message: crc-8, crc-16-ccitt-false, crc-16-modbus, \
-    crc-16-xmodem, crc-16-kermit, crc-16-arc, crc-32, crc-32c, or its parameters, \
-    as poly=0x1021,init=0xffff with width=32, xorout=N and reflected where they are so";
-
-/// The kinds of pieces.
-const KINDS: [&str; 5] = ["message", "broken", "too-long", "bad-crc", "unfinished"];
-
 /// The version of the release, that of the file VERSION.
 const VERSION: &str = "1.0.0";
 
-/// Examples of `show`, below the options.
-const SHOW_EXAMPLES: &str = "Examples:
-  cobs_watch --time utc --number /dev/ttyUSB0
-  cobs_watch --json --only message /dev/ttyUSB0 > log.json
-  cobs_watch --crc crc-16-modbus --only bad-crc --hexdump < /dev/ttyUSB0
-
-Set a serial line first: stty -F /dev/ttyUSB0 raw -echo 115200
-A second program sends while the first one shows: cobs_watch send > /dev/ttyUSB0";
-
-/// Examples of `send`, below the options.
-const SEND_EXAMPLES: &str = "Examples:
-  printf 'ping\\n' | cobs_watch send > /dev/ttyUSB0
-  cobs_watch send --crc crc-16-modbus < lines.txt > /dev/ttyUSB0
-  echo '00 ff' | cobs_watch send --hex > /dev/ttyUSB0";
-
 /// What the program is to do.
 #[derive(Debug, PartialEq, Eq, Drop)]
-pub(crate) enum Task {
+pub(crate) enum Task<'a> {
     /// Show a stream.
-    Show(ShowTask),
+    Show(ShowTask<'a>),
 
     /// Send lines as frames.
     Send(send::Settings),
@@ -58,41 +30,41 @@ pub(crate) enum Task {
 
 /// What is shown, and how.
 #[derive(Debug, PartialEq, Eq, Drop)]
-pub(crate) struct ShowTask {
+pub(crate) struct ShowTask<'a> {
     pub(crate) settings: Settings,
     pub(crate) counting: Counting,
 
+    /// Whether dates are in the system's time zone.
+    pub(crate) local: bool,
+
     /// The path of what is shown, if that isn't standard input.
-    pub(crate) path: Option<String>,
+    pub(crate) path: Option<&'a str>,
 
     /// Whether it is opened again after a hang-up.
     pub(crate) reconnect: bool,
 
     /// The path of a file that gets what is shown too.
-    pub(crate) log: Option<String>,
+    pub(crate) log: Option<&'a str>,
 }
 
 /// The task that the words ask for, the program's own name among them. `auto_color` says whether lines have colours if the
 /// words leave that open.
 ///
 /// An error is also how help and the version are asked for: it has the text to print and the status to end with.
-pub(crate) fn task_of(alloc: Global, words: &[String], auto_color: bool) -> Result<Task, Error>
+pub(crate) fn task_of<'a>(
+    alloc: Global,
+    words: &'a [String],
+    auto_color: bool,
+) -> Result<Task<'a>, Error>
     ensures offered { IfOk result IsOffered }
 {
-    let show = with_show_options(
-        alloc,
-        Command::new(alloc, "show").about("Show the frames that come on standard input"),
-    )?;
-    let digits = flag(
-        alloc,
-        "hex",
-        "Each line is the hexadecimal digits of a message",
-    );
+    let show = Command::new(alloc, "show").about("Show the frames that come on standard input");
+    let show = with_show_options(alloc, show)?;
     let send = Command::new(alloc, "send")
         .about("Send each line of standard input as a frame")
-        .after_help(SEND_EXAMPLES)
-        .arg(digits)?
-        .arg(sentinel_option(alloc))?;
+        .after_help(help::SEND_EXAMPLES)
+        .arg(flag(alloc, "hex"))?
+        .arg(option(alloc, "sentinel", "B").default_value("0"))?;
     let send = with_checksum(alloc, send)?;
     let command = with_show_options(alloc, Command::new(alloc, "cobs_watch"))?
         .about("Watch COBS frames on a live line")
@@ -108,271 +80,146 @@ pub(crate) fn task_of(alloc: Global, words: &[String], auto_color: bool) -> Resu
             sentinel: sentinel_of(alloc, sent)?,
         }));
     }
-    match matches.subcommand_matches("show") {
-        Some(shown) => show_task(alloc, shown, auto_color),
-        None => show_task(alloc, &matches, auto_color),
-    }
+    let shown = matches.subcommand_matches("show").unwrap_or(&matches);
+    show_task(alloc, shown, auto_color)
 }
 
-/// The option that names the sentinel.
-fn sentinel_option<'a>(alloc: Global) -> Arg<'a> {
-    Arg::new(alloc, "sentinel")
-        .long("sentinel")
-        .value_name("B")
-        .default_value("0")
-        .help("The byte that ends each frame")
+/// An option without a value.
+fn flag<'a>(alloc: Global, name: &'a str) -> Arg<'a> {
+    Arg::new(alloc, name)
+        .long(name)
+        .action(ArgAction::SetTrue)
+        .help(help::of(name))
+}
+
+/// An option with a value.
+fn option<'a>(alloc: Global, name: &'a str, value: &'a str) -> Arg<'a> {
+    Arg::new(alloc, name)
+        .long(name)
+        .value_name(value)
+        .help(help::of(name))
+}
+
+/// A style, of which there can be one.
+fn style<'a>(alloc: Global, name: &'a str) -> Result<Arg<'a>, AllocError> {
+    flag(alloc, name).group("style")
+}
+
+/// A style that writes messages alone.
+fn bare_style<'a>(alloc: Global, name: &'a str) -> Result<Arg<'a>, AllocError> {
+    style(alloc, name)?.conflicts_with_all(["number", "time", "partial"].as_slice())
 }
 
 /// The command with the options of `show`, by topics, and its examples.
 fn with_show_options<'a>(alloc: Global, command: Command<'a>) -> Result<Command<'a>, Error> {
-    let length = number_option(alloc, "length", "The longest message, in bytes").default_value(
-        LENGTH,
-    );
-    let skip_first = flag(
-        alloc,
-        "skip-first",
-        "Skip all bytes up to the first sentinel: the line may be in the middle of a frame",
-    );
-    let number = flag(
-        alloc,
-        "number",
-        "Begin each line with the number of its piece; those that aren't shown are counted too",
-    )
-    .short('n');
-    let command = with_styles(alloc, command.next_help_heading("Styles"))?
-        .arg(number)?
-        .arg(partial_option(alloc)?)?
-        .arg(time_option(alloc)?)?
-        .arg(color_option(alloc))?;
+    let command = with_styles(alloc, command.next_help_heading("Styles"))?;
+    let command = with_columns(alloc, command)?;
     let command = with_filters(alloc, command.next_help_heading("Filters"))?;
     let command = with_checksum(alloc, command)?;
-    let command = command
-        .after_help(SHOW_EXAMPLES)
-        .next_help_heading("The stream")
-        .arg(length)?
-        .arg(sentinel_option(alloc))?
-        .arg(skip_first)?;
-    with_line(alloc, with_counts(alloc, command)?)
+    let command = with_stream(alloc, command.next_help_heading("The stream"))?;
+    Ok(with_line(alloc, command)?.after_help(help::SHOW_EXAMPLES))
 }
 
-/// The command with the options of the line that is opened, and of the log.
-fn with_line<'a>(alloc: Global, command: Command<'a>) -> Result<Command<'a>, Error> {
-    let path = Arg::new(alloc, "path").value_name("PATH").help(
-        "The device, FIFO or file that is shown, in place of standard input",
-    );
-    let reconnect = flag(
-        alloc,
-        "reconnect",
-        "After a hang-up of the device or FIFO, wait and open it again",
-    )
-    .requires_arg("path")?;
-    let log = Arg::new(alloc, "log")
-        .long("log")
-        .value_name("FILE")
-        .help("Append what is shown to this file too");
-    Ok(command.arg(path)?.arg(reconnect)?.arg(log)?)
-}
-
-/// The command with the options that count.
-fn with_counts<'a>(alloc: Global, command: Command<'a>) -> Result<Command<'a>, Error> {
-    let count = flag(
-        alloc,
-        "count",
-        "At the end, also at a fault, count messages, broken pieces, too long ones and bytes on standard error",
-    );
-    let count_every = Arg::new(alloc, "count-every")
-        .long("count-every")
-        .value_name("SECONDS")
-        .help("Count what came so far, each time that bytes come SECONDS after the last count");
-    Ok(command.arg(count)?.arg(count_every)?)
-}
-
-/// The option that shows what was decoded of other pieces than messages.
-fn partial_option<'a>(alloc: Global) -> Result<Arg<'a>, Error> {
-    let partial = flag(
-        alloc,
-        "partial",
-        "Show what was decoded of broken and too long pieces, behind the word partial",
-    );
-    Ok(partial.conflicts_with("raw")?)
-}
-
-/// The option that says whether lines have colours.
-fn color_option<'a>(alloc: Global) -> Arg<'a> {
-    Arg::new(alloc, "color")
-        .long("color")
-        .value_name("WHEN")
-        .value_parser(["auto", "always", "never"].as_slice())
-        .default_value("auto")
-        .help(
-            "Colour what becomes of each piece; auto: on a terminal, unless NO_COLOR is set or TERM is dumb",
-        )
-}
-
-/// Whether lines have colours.
-fn color_of(matches: &ArgMatches<'_>, auto_color: bool) -> bool {
-    match matches.get_str("color") {
-        Some("always") => true,
-        Some("never") => false,
-        Some(_) | None => auto_color,
-    }
-}
-
-/// The option that says which time of each piece is shown.
-fn time_option<'a>(alloc: Global) -> Result<Arg<'a>, Error> {
-    Ok(
-        Arg::new(alloc, "time")
-            .long("time")
-            .short('t')
-            .value_name("CLOCK")
-            .value_parser(["start", "last", "utc"].as_slice())
-            .help(
-                "Begin each line with the time at which it came: since the start, since the piece before it, or UTC",
-            )
-            .conflicts_with("raw")?,
-    )
-}
-
-/// The time that was asked for.
-fn stamp_of(matches: &ArgMatches<'_>) -> Stamp {
-    match matches.get_str("time") {
-        Some("start") => Stamp::Start,
-        Some("last") => Stamp::Last,
-        Some("utc") => Stamp::Utc,
-        Some(_) | None => {
-            if matches.get_flag("pcap") {
-                Stamp::Utc
-            } else {
-                Stamp::Untimed
-            }
-        }
-    }
-}
-
-/// The command with the options of the checksum of messages.
-fn with_checksum<'a>(alloc: Global, command: Command<'a>) -> Result<Command<'a>, Error> {
-    let crc = Arg::new(alloc, "crc")
-        .long("crc")
-        .value_name("CHECK")
-        .help(CRC_HELP);
-    let order = Arg::new(alloc, "crc-order")
-        .long("crc-order")
-        .value_name("ORDER")
-        .value_parser(["big", "little"].as_slice())
-        .requires_arg("crc")?
-        .help(
-            "Its first byte: the highest (big) or the lowest (little, as without this where it is reflected)",
-        );
-    let command = command.next_help_heading("Checksums");
-    Ok(command.arg(crc)?.arg(order)?)
-}
-
-/// An option without a value.
-fn flag<'a>(alloc: Global, name: &'a str, help: &'a str) -> Arg<'a> {
-    Arg::new(alloc, name)
-        .long(name)
-        .action(ArgAction::SetTrue)
-        .help(help)
-}
-
-/// An option whose value is a number.
-fn number_option<'a>(alloc: Global, name: &'a str, help: &'a str) -> Arg<'a> {
-    Arg::new(alloc, name).long(name).value_name("N").help(help)
-}
-
-/// The command with the options that say how pieces are shown.
+/// The command with the styles.
 fn with_styles<'a>(alloc: Global, command: Command<'a>) -> Result<Command<'a>, Error> {
-    let text = flag(
-        alloc,
-        "text",
-        "Show messages as text if they are UTF-8 without hidden characters",
-    )
-    .conflicts_with("raw")?
-    .conflicts_with("hexdump")?
-    .conflicts_with("json")?;
-    let raw = flag(
-        alloc,
-        "raw",
-        "Write the bytes of messages, each followed by a newline, and nothing else",
-    )
-    .conflicts_with("hexdump")?
-    .conflicts_with("json")?
-    .conflicts_with("number")?;
-    let hexdump = flag(
-        alloc,
-        "hexdump",
-        "Show messages as `hexdump -C` does: offset, bytes, characters",
-    )
-    .short('x')
-    .conflicts_with("json")?;
-    let json = flag(
-        alloc,
-        "json",
-        "Show each piece as an object of JSON, on a line",
-    )
-    .short('j')
-    .conflicts_with("number")?;
-    let command = command.arg(text)?.arg(raw)?.arg(hexdump)?.arg(json)?;
-    with_bare_styles(alloc, command)
+    let hexdump = style(alloc, "hexdump")?.short('x');
+    let json = style(alloc, "json")?.short('j').conflicts_with("number")?;
+    let command = command
+        .arg(style(alloc, "text")?)?
+        .arg(bare_style(alloc, "raw")?)?
+        .arg(hexdump)?
+        .arg(json)?;
+    let bytes = bare_style(alloc, "bytes")?;
+    Ok(command.arg(bytes)?.arg(bare_style(alloc, "pcap")?)?)
 }
 
-/// With the styles that write messages alone.
-fn with_bare_styles<'a>(alloc: Global, command: Command<'a>) -> Result<Command<'a>, Error> {
-    let bytes = flag(
-        alloc,
-        "bytes",
-        "Write the bytes of messages, and nothing else",
-    );
-    let pcap = flag(
-        alloc,
-        "pcap",
-        "Write messages as a capture of libpcap, of the type USER0, with UTC times",
-    );
-    Ok(
-        command
-            .arg(alone(bytes)?)?
-            .arg(alone(pcap)?.conflicts_with("bytes")?)?,
-    )
-}
-
-/// A style that has no lines.
-fn alone<'a>(style: Arg<'a>) -> Result<Arg<'a>, AllocError> {
-    style.conflicts_with_all([
-        "text", "raw", "hexdump", "json", "number", "time", "partial",
-    ]
-    .as_slice())
+/// The command with the options that say what else lines have.
+fn with_columns<'a>(alloc: Global, command: Command<'a>) -> Result<Command<'a>, Error> {
+    let time = option(alloc, "time", "CLOCK")
+        .short('t')
+        .value_parser(["start", "last", "utc", "local"].as_slice());
+    let color = option(alloc, "color", "WHEN")
+        .value_parser(["auto", "always", "never"].as_slice())
+        .default_value("auto");
+    let command = command
+        .arg(flag(alloc, "number").short('n'))?
+        .arg(flag(alloc, "partial"))?;
+    Ok(command.arg(time)?.arg(color)?)
 }
 
 /// The command with the options that say which pieces are shown.
 fn with_filters<'a>(alloc: Global, command: Command<'a>) -> Result<Command<'a>, Error> {
-    let only = Arg::new(alloc, "only")
-        .long("only")
+    let only = option(alloc, "only", "KIND")
         .short('o')
-        .value_name("KIND")
         .action(ArgAction::Append)
         .value_delimiter(',')
-        .value_parser(KINDS.as_slice())
-        .help("Show pieces of this kind, or of these with commas between them");
-    let min = number_option(alloc, "min", "Show pieces of at least N decoded bytes");
-    let max = number_option(alloc, "max", "Show pieces of at most N decoded bytes");
-    let prefix = Arg::new(alloc, "prefix")
-        .long("prefix")
-        .value_name("HEX")
-        .help("Show messages that begin with these bytes; with --partial also other pieces");
-    Ok(command.arg(only)?.arg(min)?.arg(max)?.arg(prefix)?)
+        .value_parser(["message", "broken", "too-long", "bad-crc", "unfinished"].as_slice());
+    let command = command
+        .arg(only)?
+        .arg(option(alloc, "min", "N"))?
+        .arg(option(alloc, "max", "N"))?;
+    Ok(command.arg(option(alloc, "prefix", "HEX"))?)
+}
+
+/// The command with the options of the checksum of messages.
+fn with_checksum<'a>(alloc: Global, command: Command<'a>) -> Result<Command<'a>, Error> {
+    let order = option(alloc, "crc-order", "ORDER")
+        .value_parser(["big", "little"].as_slice())
+        .requires_arg("crc")?;
+    let command = command.next_help_heading("Checksums");
+    Ok(command.arg(option(alloc, "crc", "CHECK"))?.arg(order)?)
+}
+
+/// The command with the options of the stream.
+fn with_stream<'a>(alloc: Global, command: Command<'a>) -> Result<Command<'a>, Error> {
+    let length = option(alloc, "length", "N").default_value("65536");
+    let command = command
+        .arg(length)?
+        .arg(option(alloc, "sentinel", "B").default_value("0"))?
+        .arg(flag(alloc, "skip-first"))?
+        .arg(flag(alloc, "count"))?;
+    Ok(command.arg(option(alloc, "count-every", "SECONDS"))?)
+}
+
+/// The command with the options of the line that is opened, and of the log.
+fn with_line<'a>(alloc: Global, command: Command<'a>) -> Result<Command<'a>, Error> {
+    let path = Arg::new(alloc, "path")
+        .value_name("PATH")
+        .help(help::of("path"));
+    let reconnect = flag(alloc, "reconnect").requires_arg("path")?;
+    let log = option(alloc, "log", "FILE");
+    Ok(command.arg(path)?.arg(reconnect)?.arg(log)?)
+}
+
+/// The time that was asked for; a capture has dates.
+fn stamp_of(matches: &ArgMatches<'_>) -> Stamp {
+    match matches.get_str("time") {
+        Some("start") => Stamp::Start,
+        Some("last") => Stamp::Last,
+        Some(_) => Stamp::Date,
+        None if matches.get_flag("pcap") => Stamp::Date,
+        None => Stamp::Untimed,
+    }
 }
 
 /// The task of showing a stream, by its options.
-fn show_task(alloc: Global, matches: &ArgMatches<'_>, auto_color: bool) -> Result<Task, Error>
+fn show_task<'a>(
+    alloc: Global,
+    matches: &ArgMatches<'a>,
+    auto_color: bool,
+) -> Result<Task<'a>, Error>
     ensures offered { IfOk result IsOffered }
+    ensures paths { IfOk result (HasPaths (first_value (found_of matches.now) (codes "path"))
+        (first_value (found_of matches.now) (codes "log"))) }
 {
     let length = number_of(alloc, matches, "length", MAX_LENGTH)?.unwrap_or(0);
-    let every = number_of(alloc, matches, "count-every", MAX_SECONDS)?;
+    let color = matches.get_str("color");
+    let every = number_of(alloc, matches, "count-every", u32::MAX.into())?;
     Ok(Task::Show(ShowTask {
         settings: Settings {
             view: View {
                 style: style_of(matches),
-                color: color_of(matches, auto_color),
+                color: color == Some("always") || auto_color && color != Some("never"),
                 number: matches.get_flag("number"),
                 stamp: stamp_of(matches),
                 filter: filter_of(alloc, matches)?,
@@ -387,39 +234,22 @@ fn show_task(alloc: Global, matches: &ArgMatches<'_>, auto_color: bool) -> Resul
             at_end: matches.get_flag("count"),
             every: every.map(|seconds| seconds.saturating_mul(1_000)),
         },
-        path: owned(alloc, matches, "path")?,
+        local: matches.get_str("time") == Some("local"),
+        path: matches.get_str("path"),
         reconnect: matches.get_flag("reconnect"),
-        log: owned(alloc, matches, "log")?,
+        log: matches.get_str("log"),
     }))
-}
-
-/// The text of an option, if it was given.
-fn owned(
-    alloc: Global,
-    matches: &ArgMatches<'_>,
-    name: &str,
-) -> Result<Option<String>, AllocError> {
-    match matches.get_str(name) {
-        Some(text) => Ok(Some(String::from_str(alloc, text)?)),
-        None => Ok(None),
-    }
 }
 
 /// The style that was asked for.
 fn style_of(matches: &ArgMatches<'_>) -> Style {
-    if matches.get_flag("raw") {
-        Style::Raw
-    } else if matches.get_flag("text") {
-        Style::Text
-    } else if matches.get_flag("hexdump") {
-        Style::Hexdump
-    } else if matches.get_flag("json") {
-        Style::Json
-    } else if matches.get_flag("bytes") {
-        Style::Bytes
-    } else if matches.get_flag("pcap") {
-        Style::Pcap
-    } else {
-        Style::Hex
+    match matches.get_str("style") {
+        Some("text") => Style::Text,
+        Some("raw") => Style::Raw,
+        Some("hexdump") => Style::Hexdump,
+        Some("json") => Style::Json,
+        Some("bytes") => Style::Bytes,
+        Some("pcap") => Style::Pcap,
+        Some(_) | None => Style::Hex,
     }
 }

@@ -1,5 +1,5 @@
 //! The values of options.
-ghost use Rattle.std.specs.Prelude.{◌<◌, ◌≤◌, IfOk, IfSome};
+ghost use Rattle.std.specs.Prelude.{◌<◌, ◌≤◌, IfOk, IfSome, IsErr};
 
 use clap::error::ErrorKind;
 use clap::{ArgMatches, Command, Error};
@@ -9,8 +9,10 @@ use cobs_live::shown::Filter;
 use std::alloc::Global;
 
 /// An error of the command line.
-fn wrong(alloc: Global, message: &str) -> Result<Error, Error> {
-    Ok(Command::new(alloc, "cobs_watch").error(ErrorKind::ValueValidation, message)?)
+fn wrong<T>(alloc: Global, message: &str) -> Result<T, Error>
+    ensures error { IsErr result }
+{
+    Err(Command::new(alloc, "cobs_watch").error(ErrorKind::ValueValidation, message)?)
 }
 
 /// The number that an option was given, decimal or behind `0x` hexadecimal.
@@ -28,12 +30,12 @@ pub(crate) fn number_of(
     };
     match parsed(text) {
         Some(number) if number <= max => Ok(Some(number)),
-        Some(_) | None => Err(wrong(
+        Some(_) | None => wrong(
             alloc,
             &format!(in alloc;
                 "the value '{text}' of '--{name}' isn't a number from 0 to {max}, decimal or behind 0x"
             )?,
-        )?),
+        ),
     }
 }
 
@@ -135,20 +137,20 @@ fn params_of(alloc: Global, text: &str) -> Result<Params, Error>
     };
     for part in text.split(',') {
         if !written.take(part) {
-            return Err(wrong(
+            return wrong(
                 alloc,
                 &format!(in alloc;
                     "'{part}' of '--crc' is neither the name of a checksum nor poly=N, width=N, init=N, xorout=N or reflected"
                 )?,
-            )?);
+            );
         }
     }
     match sized(&written) {
         Some(params) => Ok(params),
-        None => Err(wrong(
+        None => wrong(
             alloc,
             "'--crc' needs a poly above 0 and a width of 8, 16, 24 or 32 bits, in which poly, init and xorout fit",
-        )?),
+        ),
     }
 }
 
@@ -156,7 +158,13 @@ fn params_of(alloc: Global, text: &str) -> Result<Params, Error>
 fn sized(written: &Written) -> Option<Params>
     ensures sized { IfSome result (λ params. (0 < params.size) × (params.size ≤ 4)) }
 {
-    let size = size_of(written.width)?;
+    let size: usize = match written.width {
+        8 => 1,
+        16 => 2,
+        24 => 3,
+        32 => 4,
+        _ => return None,
+    };
     let spare = 32 - 8 * size;
     let poly = u32::try_from(written.poly).ok()?;
     let init = u32::try_from(written.init).ok()?;
@@ -174,19 +182,6 @@ fn sized(written: &Written) -> Option<Params>
     })
 }
 
-/// How many bytes a checksum of this many bits has.
-fn size_of(width: u64) -> Option<usize>
-    ensures sized { IfSome result (λ size. (0 < size) × (size ≤ 4)) }
-{
-    match width {
-        8 => Some(1),
-        16 => Some(2),
-        24 => Some(3),
-        32 => Some(4),
-        _ => None,
-    }
-}
-
 /// The filter that was asked for.
 ///
 /// # Errors
@@ -196,18 +191,18 @@ pub(crate) fn filter_of(alloc: Global, matches: &ArgMatches<'_>) -> Result<Filte
     let kinds = matches.get_strs("only").unwrap_or(&[]);
     let prefix = matches.get_str("prefix").unwrap_or("");
     let Ok(prefix) = hex::decode(alloc, prefix) else {
-        return Err(wrong(
+        return wrong(
             alloc,
             "the value of '--prefix <HEX>' isn't pairs of hexadecimal digits",
-        )?);
+        );
     };
     let min = number_of(alloc, matches, "min", u64::MAX)?.unwrap_or(0);
     let max = number_of(alloc, matches, "max", u64::MAX)?.unwrap_or(u64::MAX);
     if max < min {
-        return Err(wrong(
+        return wrong(
             alloc,
             "the value of '--min <N>' is above that of '--max <N>'",
-        )?);
+        );
     }
     let is_whole = min == 0 && max == u64::MAX && prefix.is_empty();
     Ok(Filter {

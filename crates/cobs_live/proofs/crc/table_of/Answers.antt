@@ -1,6 +1,6 @@
-use Rattle.std.proofs.Common.{◌≡◌, ◌≢◌, ◌<◌, ◌+◌, ℕ, List, length, ap, arith, sym, ◌∙◌, length-set, refl}
+use Rattle.std.proofs.Common.{◌≡◌, ◌<◌, ℕ, List, length, arith, ◌∙◌, length-set, refl}
 use Rattle.std.proofs.Math.ListN.{set}
-use Rattle.std.proofs.lemmas.Grind.{common_steps, get_or-set_at}
+use Rattle.std.proofs.lemmas.Grind.{get_or-set_at}
 use Rattle.std.proofs.lemmas.List.{get_or-set_other}
 use Rattle.std.specs.Prelude.{get_or}
 use Rattle.cobs_live.specs.Crc.{word_of}

@@ -1,4 +1,4 @@
-use Rattle.std.proofs.Common.{◌≡◌, IsTrue, get_or, arith, rules}
+use Rattle.std.proofs.Common.{IsTrue, get_or, arith, rules}
 use Rattle.std.proofs.lemmas.List.Elements.{All-more}
 use Rattle.std.proofs.lemmas.Str.{IsCharBoundary-after_ascii, IsCharBoundary-start}
 use Rattle.cobs_live.specs.Escaped.{is_plain_byte}

@@ -1,4 +1,4 @@
-use Rattle.std.proofs.Common.{◌≡◌, ◌≤◌, ◌-◌, ℕ, Bool, true, false, List, ◌++◌, length, take, reverse, refl, sym, ap, ◌∙◌, arith, length-append, length-take-le, Some}
+use Rattle.std.proofs.Common.{◌≡◌, ◌-◌, ℕ, Bool, true, false, List, ◌++◌, length, take, reverse, refl, sym, ap, ◌∙◌, arith, length-append, length-take-le, Some}
 use Rattle.std.proofs.lemmas.List.{length-reverse, take_all, take-append-le}
 use Rattle.std.proofs.lemmas.Bool.Decides.{Decides-eqb}
 use Rattle.std.proofs.lemmas.Slice.Eq.{ends_is}

@@ -1,9 +1,9 @@
-use Rattle.std.proofs.Common.{rules, ◌≡◌, ◌<◌, ◌≤◌, ℕ, ◌+◌, ◌-◌, ◌*◌, ◌/◌, ◌%◌, arith, ap, sym, ◌∙◌}
+use Rattle.std.proofs.Common.{rules, ◌≡◌, ◌<◌, ℕ, ◌*◌, ◌/◌, ◌%◌, arith, ap, sym, ◌∙◌}
 use Rattle.std.specs.Prelude.{◌^◌, if◌then◌else◌}
 use Rattle.std.specs.Int.{reverse_bits, w8}
 use Rattle.std.specs.Int.Bits.{bit_xor}
 use Rattle.std.proofs.lemmas.Nat.{xor_lt}
-use Rattle.cobs_live.specs.Crc.{after_bits, after_byte}
+use Rattle.cobs_live.specs.Crc.{after_bits}
 use Rattle.cobs_live.proofs.TableLemmas.{table_step}
 use Rattle.cobs_live.proofs.checksum.Checksum.after_byte.Goals as goal
 use Rattle.cobs_live.proofs.checksum.Checksum.after_byte.Goals.{then-self, else-self}

@@ -1,4 +1,4 @@
-use Rattle.std.proofs.Common.{◌≡◌, ℕ, ◌++◌, List, length, take, drop, ap, ◌∙◌, sym, arith, length-take-le}
+use Rattle.std.proofs.Common.{◌≡◌, ℕ, ◌++◌, List, length, take, drop, ap, ◌∙◌, sym, arith, length-take-le, rules}
 use Rattle.std.proofs.Math.Seq.{take-append_seam}
 use Rattle.std.proofs.KnownBytes.{Appends-kept}
 use Rattle.cobs.specs.Feed.{DecoderAfter}
@@ -6,7 +6,7 @@ use Rattle.cobs.specs.Fields.Decoders.{phase_of}
 use Rattle.cobs.specs.Sentinel.{xor_each}
 use Rattle.cobs.specs.Stream.{unended}
 use Rattle.cobs_live.specs.Watched.{begun, skips_on, stream_of}
-use Rattle.cobs_live.proofs.RunLemmas.{flushed-Appends, more-ended, more-left, more-read, more-skips, more-tallied, more-timed, given-next, live-next, newly, same-tallied, shown-all}
+use Rattle.cobs_live.proofs.RunLemmas.{flushed-Appends, more-ended, more-left, more-read, more-skips, more-tallied, more-timed, given-next, next-failed, live-next, newly, same-tallied, shown-all}
 use Rattle.cobs_live.proofs.show.Watch.show_next.Goals as goal
 
 pub returns-then-count-eq0-clause-shown : goal.returns-then-count-eq0-clause-shown
@@ -30,9 +30,9 @@ returns-clause-shown g c = λ settings from before s.
     let message : List ℕ = c.show_bytes.new.message in
     let same_len : length message ≡ length c.args.self.now.message.items = c.in_ok-show_bytes.ensures.len ∙ ap length value in
     let whole : take c.args.self.now.message.len (message ++ drop (length message) c.args.self.now.message.items) ≡ message =
-    ap (λ (k : ℕ). take k (message ++ drop (length message) c.args.self.now.message.items)) (omega (arith, same_len, c.args.self.now.message.ok.0)) ∙ take-append_seam message _ in
+    ap (λ (k : ℕ). take k (message ++ drop (length message) c.args.self.now.message.items)) (c.args.self.now.message.ok.0 ∙ sym same_len) ∙ take-append_seam message _ in
     record {
-      ended = more-ended (assumption c.law_9.ensures) s more clock.now c.update.ensures.later c.in_ok-count.ensures.read
+      ended = more-ended (assumption c.law_9.ensures) s more clock.next c.update.ensures.later c.in_ok-count.ensures.read
           (flushed-Appends _ _ _ _ _ c.requires.flushed c.in_ok-flush-2.ensures.ok (Appends-kept _ _ _ _ shows.written c.in_ok-flush-2.ensures.bytes));
       taken = rw (whole, more-left (assumption c.law_9.ensures) s more) shows.taken;
       tallied = more-tallied (assumption c.law_9.ensures) s _ more shows.tallied;
@@ -41,6 +41,10 @@ returns-clause-shown g c = λ settings from before s.
       same = s.same;
       skips = c.behind_first-bytes.ensures.skips ∙ ap (skips_on c.args.self.now.skipping) changed ∙ more-skips (assumption c.law_9.ensures) s more;
     }
+
+pub returns-in_err-count-clause-shown : goal.returns-in_err-count-clause-shown
+returns-in_err-count-clause-shown g c = λ settings from before s.
+    next-failed (assumption c.law_9.ensures) s _ c.from_residual.result c.in_err-count.field-0.0 (search rules) c.in_err-count.ensures.failed.0 c.in_err-count.ensures.failed.1
 
 pub returns-clause-goes_on : goal.returns-clause-goes_on
 unfolding returns-clause-shown
