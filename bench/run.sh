@@ -44,9 +44,11 @@ cc -O3 -march=x86-64-v2 -Wall -Wextra -c "$here/rivals.c" -o "$out/rivals.o"
 ar rcs "$out/librivals.a" "$out/rivals.o"
 memchr=$(ls -d /usr/share/cargo/registry/memchr-2.* 2>/dev/null | tail -1)
 [ -n "$memchr" ] || { echo "bench/run.sh needs the crate memchr: apt-get install librust-memchr-dev" >&2; exit 1; }
+# What the build script of this version asks for on x86-64.
+vectors="--cfg memchr_runtime_simd --cfg memchr_runtime_sse2 --cfg memchr_runtime_sse42 --cfg memchr_runtime_avx"
 # shellcheck disable=SC2086 # the flags are words
 {
-    rustc --edition 2021 $flags --crate-type rlib --crate-name memchr --out-dir "$out" --cap-lints allow \
+    rustc --edition 2021 $flags $vectors --crate-type rlib --crate-name memchr --out-dir "$out" --cap-lints allow \
         --cfg 'feature="std"' --cfg 'feature="alloc"' "$memchr/src/lib.rs"
     rustc --edition 2021 $flags --crate-type rlib --crate-name jcobs --out-dir "$out" --cap-lints allow \
         --cfg 'feature="alloc"' --cfg 'feature="std"' --extern "memchr=$out/libmemchr.rlib" "$top/bindings/rust/src/lib.rs"

@@ -44,7 +44,11 @@ macro_rules! calls_of {
                     let mut decoder = $by::CobsDecoder::new(room);
                     black_box(&*stream).iter().map(|b| decoder.feed(*b).unwrap().unwrap_or(0)).sum()
                 }
-                "push 1" | "push 8" | "push 64" | "push whole" => {
+                "push 1" => {
+                    let mut decoder = $by::CobsDecoder::new(room);
+                    black_box(&*stream).iter().map(|b| decoder.push(&[*b]).unwrap().map_or(0, |r| r.frame_size())).sum()
+                }
+                "push 8" | "push 64" | "push whole" => {
                     let mut decoder = $by::CobsDecoder::new(room);
                     through(stream, chunk, |piece| match decoder.push(piece).unwrap() {
                         Some(report) => (report.parsed_size(), Some(report.frame_size())),
