@@ -4,7 +4,7 @@
 #
 #     bench/run.sh [--crate FOLDER] [--quick] [--docs]   prints the tables of the documents
 #     bench/run.sh [--crate FOLDER] check                compares what each makes of 6,000 messages, and measures nothing
-#     bench/run.sh --old FOLDER [--docs]                 times and instructions of libjcobs, beside those of another version
+#     bench/run.sh --old FOLDER                          times and instructions of libjcobs, beside those of another version
 #
 # --crate FOLDER: the sources of the crate `cobs` 0.5.1, as cargo downloads them; without them the Rust tables are left out.
 # --old FOLDER:   a checkout of another version of this repository, whose prebuilt library is taken.
@@ -96,10 +96,6 @@ if [ -n "$old" ]; then
     } >"$out/before.txt"
     "$out/driver-new" before "$out/old.csv" "$out/new.csv" >"$out/before.md"
     cat "$out/before.txt" "$out/before.md"
-    if [ -n "$docs" ]; then
-        cp "$out/before.txt" "$here/results"
-        put docs/PERFORMANCE.md before
-    fi
     exit 0
 fi
 for place in $places; do
