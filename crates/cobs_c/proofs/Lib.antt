@@ -1,3 +1,4 @@
 mod BufferLemmas
+mod HeadLemmas
 mod InPlaceLemmas
 mod SourceLemmas

@@ -1,5 +1,5 @@
 //! Whole frames to messages.
-ghost use Rattle.std.specs.Prelude.{◌≡◌, ◌≢◌, ◌≤◌, ◌<◌, ℕ, List, length, take, slice_index, IfSome, Some, None};
+ghost use Rattle.std.specs.Prelude.{◌≡◌, ◌≢◌, ◌+◌, ◌≤◌, ◌<◌, ℕ, List, length, min, take, slice_index, IfSome, Some, None};
 ghost use Rattle.std.specs.List.{All};
 ghost use Rattle.cobs.specs.Decode.{len_through_piece, leading_zeros};
 ghost use Rattle.cobs.specs.Sentinel.{xor_each};
@@ -7,8 +7,8 @@ ghost use Rattle.cobs.specs.Stream.{first_piece};
 ghost use Rattle.cobs_abi.specs.Answer.{head_end};
 ghost use Rattle.cobs_abi.specs.Decode.{Decodes, DecodesFor, DecodesInPlace, DecodesInPlaceFor, IsKindOf};
 
-use cobs::FrameKind;
 use cobs::laws::{law_1, law_6, law_12};
+use cobs::{DecodeError, FrameKind};
 use cobs_abi::{Answer, CANONICAL, EMPTY, LONGER, NOT_A_FRAME, done, result_by};
 use memchr::memchr;
 
@@ -100,14 +100,34 @@ pub extern "C" fn jcobs_decode_with_sentinel(
     )
 }
 
+/// How many of `len` bytes there are up to this end, with the zero after it if there is one.
+fn with_zero(end: usize, len: usize) -> usize
+    ensures { result ≡ min len (end + 1) }
+{
+    if end < len { end + 1 } else { len }
+}
+
 /// The frame at the front of the buffer, decoded in its own place.
 #[unsafe(no_mangle)]
 pub extern "C" fn jcobs_decode_in_place(buffer: &mut [u8]) -> Answer
     ensures decodes { DecodesInPlace buffer.old result buffer.new }
 {
+    law_1();
+    law_12();
     let room = buffer.len();
-    let consumed = head_end(buffer, 0);
-    result_by(consumed, room, cobs::decode_in_place(buffer))
+    match cobs::decode_in_place_report(buffer) {
+        Ok(report) => {
+            let consumed = with_zero(report.parsed_size(), room);
+            result_by(consumed, room, Ok(report.frame_size()))
+        }
+        Err(DecodeError::InvalidFrame { decoded_bytes }) => {
+            // The frame's end is behind the bytes that were decoded, and nothing there has changed.
+            let end = decoded_bytes + first_sentinel(&buffer[decoded_bytes..], 0);
+            let error = DecodeError::InvalidFrame { decoded_bytes };
+            result_by(with_zero(end, room), room, Err(error))
+        }
+        Err(error) => result_by(0, room, Err(error)),
+    }
 }
 
 /// The frame at the front of the buffer, for this sentinel, decoded in its own place.

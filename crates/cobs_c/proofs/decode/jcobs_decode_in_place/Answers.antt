@@ -1,16 +1,41 @@
-use Rattle.std.proofs.Common.{ℕ, ap, ◌∙◌, length}
+use Rattle.std.proofs.Common.{◌≡◌, ◌∙◌, ◌+◌, ◌-◌, ℕ, List, Err, length, min, drop, take, sym, ap, arith, length-drop, length-take-le, take_all}
+use Rattle.cobs.specs.Decode.{in_place, result_in_place}
+use Rattle.cobs.specs.Stream.{head}
+use Rattle.cobs.specs.declared.DecodeError.TheVariants.{InvalidFrame}
 use Rattle.cobs_abi.specs.Answer.{result_by, head_end}
-use Rattle.cobs_abi.proofs.FinishLemmas.{xor_each-zero}
+use Rattle.cobs_c.proofs.HeadLemmas.{behind-kept, broken-within, head-drop, reported}
 use Rattle.cobs_c.proofs.decode.jcobs_decode_in_place.Goals as goal
 
-pub returns : goal.returns
-returns c =
-    let n : ℕ = length c.args.buffer.now in
+pub slice_bounds-first_sentinel-count : goal.slice_bounds-first_sentinel-count
+slice_bounds-first_sentinel-count c =
+    let b = broken-within c.law_1.ensures.within c.args.buffer.now c.in-Err-InvalidFrame.decoded_bytes (ap Err (sym c.in-Err-InvalidFrame.field-0-is) ∙ sym c.in-Err-InvalidFrame.is ∙ c.decode_in_place_report.ensures.answer) in
+    omega (arith, b.1, b.2)
+
+pub slice_bounds-first_sentinel-start : goal.slice_bounds-first_sentinel-start
+slice_bounds-first_sentinel-start c =
+    let b = broken-within c.law_1.ensures.within c.args.buffer.now c.in-Err-InvalidFrame.decoded_bytes (ap Err (sym c.in-Err-InvalidFrame.field-0-is) ∙ sym c.in-Err-InvalidFrame.is ∙ c.decode_in_place_report.ensures.answer) in
+    omega (arith, b.1, b.2)
+
+pub returns-in-Err-InvalidFrame : goal.returns-in-Err-InvalidFrame
+returns-in-Err-InvalidFrame c =
+    let old : List ℕ = c.args.buffer.now in
+    let d : ℕ = c.in-Err-InvalidFrame.decoded_bytes in
+    let is = ap Err (sym c.in-Err-InvalidFrame.field-0-is) ∙ sym c.in-Err-InvalidFrame.is ∙ c.decode_in_place_report.ensures.answer in
+    let b = broken-within c.law_1.ensures.within old d is in
+    let same : drop d c.decode_in_place_report.new.buf ≡ drop d old = ap (drop d) c.decode_in_place_report.ensures.buffer ∙ behind-kept c.law_1.ensures.within old d b.0 (omega (arith, b.1, b.2)) in
+    let f = c.first_sentinel.ensures in
+    let new : List ℕ = c.decode_in_place_report.new.buf in
+    let rest : List ℕ = take (length new - d) (drop d new) in
+    let all : take (length new - d) (drop d new) ≡ drop d new = take_all (length new - d) (drop d new) (omega (arith, length-drop d new)) in
+    let found = c.law_12.ensures.head rest c.first_sentinel.result f.within f.before f.stop in
+    let len : c.first_sentinel.result ≡ length (head (drop d old)) =
+    sym (length-take-le c.first_sentinel.result rest f.within) ∙ ap length found ∙ ap (λ (x : List ℕ). length (head x)) (all ∙ same) in
+    let end : min (length old) (d + c.first_sentinel.result + 1) ≡ head_end old = omega (arith, len, head-drop d old b.1) in
     record {
       decodes = record {
-        returned = c.result_by.ensures
-            ∙ ap (λ (k : ℕ). result_by k n c.decode_in_place.result) (c.head_end-consumed.ensures.end ∙ ap head_end (xor_each-zero c.args.buffer.now))
-            ∙ ap (result_by (head_end c.args.buffer.now) n) c.decode_in_place.ensures.answer;
-        buffer = c.decode_in_place.ensures.buffer;
+        returned = c.result_by-in-Err-InvalidFrame.ensures
+            ∙ ap (λ (k : ℕ). result_by k (length old) (Err (InvalidFrame d))) (c.with_zero.ensures ∙ end)
+            ∙ ap (result_by (head_end old) (length old)) (reported (length (head old)) (result_in_place old) (InvalidFrame d) is);
+        buffer = c.decode_in_place_report.ensures.buffer;
       };
     }

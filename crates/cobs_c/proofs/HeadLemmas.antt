@@ -1,0 +1,57 @@
+-- What is in front of the first zero of a buffer, found behind the bytes that were decoded in their own place.
+use Rattle.std.proofs.Common.{◌≡◌, ◌≤◌, ◌+◌, ◌++◌, ◌∙◌, ℕ, zero, suc, List, [], ◌∷◌, Result, Ok, Err, length, drop, sym, ap, arith, take_all}
+use Rattle.std.proofs.lemmas.Bool.{cases_Bool, ne_eqb}
+use Rattle.std.proofs.lemmas.List.{length-take}
+use Rattle.std.proofs.lemmas.List.Splits.{slice_split-cons_no}
+use Rattle.std.proofs.Math.Seq.{drop-append_seam}
+use Rattle.cobs.specs.Decode.{head_result, in_place, in_place_report, report_result}
+use Rattle.cobs.specs.Piece.{kept_output, output}
+use Rattle.cobs.specs.Stream.{head}
+use Rattle.cobs.specs.declared.DecodeError.{DecodeError}
+use Rattle.cobs.specs.declared.DecodeError.TheVariants.{InvalidFrame}
+
+head-cons : (b : ℕ) (t : List ℕ) → head (suc b ∷ t) ≡ suc b ∷ head t
+unfolding head
+head-cons b t = grind (arith, slice_split-cons_no, ne_eqb)
+
+-- behind some of its bytes the head goes on
+pub head-drop : (k : ℕ) (t : List ℕ) → k ≤ length (head t) → length (head t) ≡ k + length (head (drop k t))
+unfolding head
+head-drop zero t within = omega arith
+head-drop (suc k) [] within = absurd (omega (arith, within))
+head-drop (suc k) (zero ∷ t) within = absurd (omega (arith, within))
+head-drop (suc k) (suc b ∷ t) within = let e = ap length (head-cons b t) in omega (arith, e, head-drop k t (omega (arith, e, within)))
+
+head-within : (t : List ℕ) → length (head t) ≤ length t
+unfolding head
+head-within [] = omega arith
+head-within (zero ∷ t) = omega arith
+head-within (suc b ∷ t) = omega (arith, ap length (head-cons b t), head-within t)
+
+count-of : (n : ℕ) (h : List ℕ) (d : ℕ) → Err (InvalidFrame d) ≡ report_result n (head_result h) → d ≡ length (kept_output h)
+count-of n [] d e = absurd cc
+count-of n (x ∷ h) d e = grind (arith, cases_Bool)
+
+-- an error is reported as it is
+pub reported : (n : ℕ) (x : Result ℕ DecodeError) (error : DecodeError) → Err error ≡ report_result n x → Err error ≡ x
+reported n (Ok size) error e = absurd cc
+reported n (Err other) error e = cc
+
+-- a broken frame, whose whole blocks gave d bytes
+module _ (shorter : (p : List ℕ) → length (output p) ≤ length p) where
+  kept-within : (p : List ℕ) → length (kept_output p) ≤ length p
+  unfolding kept_output
+  kept-within p = let l = shorter p in grind (arith, cases_Bool, length-take)
+
+  pub broken-within : (t : List ℕ) (d : ℕ) → Err (InvalidFrame d) ≡ in_place_report t → (d ≡ length (kept_output (head t))) × (d ≤ length (head t)) × (length (head t) ≤ length t)
+  broken-within [] d e = absurd cc
+  broken-within (b ∷ t) d e =
+      let count = count-of (length (head (b ∷ t))) (head (b ∷ t)) d e in
+      (count, omega (arith, count, kept-within (head (b ∷ t))), head-within (b ∷ t))
+
+  -- behind them the buffer is as it was
+  pub behind-kept : (t : List ℕ) (d : ℕ) → d ≡ length (kept_output (head t)) → d ≤ length t → drop d (in_place t) ≡ drop d t
+  behind-kept t d is within =
+      let kept : List ℕ = kept_output (head t) in
+      ap (λ (x : List ℕ). drop d (x ++ drop (length kept) t)) (take_all (length t) kept (omega (arith, is, within)))
+      ∙ ap (λ (k : ℕ). drop k (kept ++ drop (length kept) t)) is ∙ drop-append_seam kept (drop (length kept) t) ∙ ap (λ (k : ℕ). drop k t) (sym is)
