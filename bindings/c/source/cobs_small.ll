@@ -136,30 +136,30 @@ after.7.i:                                        ; preds = %then.11.i, %join.12
 arm.2.i:                                          ; preds = %loop.3.i
   %r6.i21 = load i8, ptr %r15.i, align 1
   %r8.not.i = icmp eq i8 %r6.i21, 0
-  br i1 %r8.not.i, label %else.2.i, label %"cobs_abi::decoding::answer_of.exit"
+  br i1 %r8.not.i, label %else.2.i, label %"cobs_abi::decoding::result_of.exit"
 
 else.2.i:                                         ; preds = %arm.2.i
   %r12.i = load i64, ptr %a1, align 8
   %a1.a0.i = tail call i64 @llvm.umin.i64(i64 %a3, i64 %r12.i)
-  br label %"cobs_abi::decoding::answer_of.exit"
+  br label %"cobs_abi::decoding::result_of.exit"
 
 arm.5.i:                                          ; preds = %join.9.i10, %then.11.i
   %r68.i48 = add nuw i64 %r5.0.i, 1
   tail call void @llvm.memset.p0.i64(ptr noundef nonnull align 1 dereferenceable(16) %a1, i8 0, i64 16, i1 false)
-  br label %"cobs_abi::decoding::answer_of.exit"
+  br label %"cobs_abi::decoding::result_of.exit"
 
 arm.6.i:                                          ; preds = %join.3.i4
   %r68.i = add nuw i64 %r5.0.i, 1
   tail call void @llvm.memset.p0.i64(ptr noundef nonnull align 1 dereferenceable(16) %a1, i8 0, i64 16, i1 false)
   %a1.a0.i25 = tail call i64 @llvm.umin.i64(i64 %a3, i64 %r57.i)
-  br label %"cobs_abi::decoding::answer_of.exit"
+  br label %"cobs_abi::decoding::result_of.exit"
 
 arm.7.i:                                          ; preds = %join.6.i8, %else.9.i
   %r68.i60 = add nuw i64 %r5.0.i, 1
   tail call void @llvm.memset.p0.i64(ptr noundef nonnull align 1 dereferenceable(16) %a1, i8 0, i64 16, i1 false)
-  br label %"cobs_abi::decoding::answer_of.exit"
+  br label %"cobs_abi::decoding::result_of.exit"
 
-"cobs_abi::decoding::answer_of.exit":             ; preds = %arm.5.i, %arm.6.i, %arm.7.i, %else.2.i, %arm.2.i
+"cobs_abi::decoding::result_of.exit":             ; preds = %arm.5.i, %arm.6.i, %arm.7.i, %else.2.i, %arm.2.i
   %r0.i.sroa.0.0 = phi i32 [ 1, %else.2.i ], [ 1, %arm.2.i ], [ 0, %arm.5.i ], [ 3, %arm.6.i ], [ 2, %arm.7.i ]
   %r0.i.sroa.8.0 = phi i64 [ %a5, %else.2.i ], [ %a5, %arm.2.i ], [ %r68.i48, %arm.5.i ], [ %r68.i, %arm.6.i ], [ %r68.i60, %arm.7.i ]
   %r0.i.sroa.10.0 = phi i64 [ %a1.a0.i, %else.2.i ], [ %a3, %arm.2.i ], [ %r57.i, %arm.5.i ], [ %a1.a0.i25, %arm.6.i ], [ %a3, %arm.7.i ]
@@ -171,68 +171,6 @@ arm.7.i:                                          ; preds = %join.6.i8, %else.9.
   %r0.sroa.5.0.a0.sroa_idx = getelementptr inbounds nuw i8, ptr %a0, i64 16
   store i64 %r0.i.sroa.10.0, ptr %r0.sroa.5.0.a0.sroa_idx, align 1
   ret void
-}
-
-define void @jcobs_decode(ptr noundef writeonly captures(none) initializes((0, 24)) %a0, ptr noundef readonly captures(none) %a1, i64 noundef %a2, ptr noundef writeonly captures(none) %a3, i64 noundef %a4) {
-start:
-  %r5 = alloca [16 x i8], align 8
-  %r6 = alloca [24 x i8], align 8
-  call void @llvm.memset.p0.i64(ptr noundef nonnull align 8 dereferenceable(24) %r6, i8 0, i64 24, i1 false)
-  %r7.sroa.3.0.r5.sroa_idx = getelementptr inbounds nuw i8, ptr %r5, i64 8
-  %r7.sroa.4.0.r5.sroa_idx = getelementptr inbounds nuw i8, ptr %r5, i64 9
-  call void @llvm.memset.p0.i64(ptr noundef nonnull align 8 dereferenceable(16) %r5, i8 0, i64 16, i1 false)
-  call void @jcobs_decoder_push(ptr nonnull %r6, ptr nonnull %r5, ptr %a3, i64 %a4, ptr %a1, i64 %a2)
-  %r32 = load i32, ptr %r6, align 8
-  %r33.not = icmp eq i32 %r32, 1
-  br i1 %r33.not, label %join.3, label %then.1
-
-common.ret:                                       ; preds = %join.3, %join.6.i, %join.9.i, %join.3.i, %then.1
-  %r0.sroa.0.0.sink = phi i32 [ %r32, %then.1 ], [ %spec.select, %join.9.i ], [ 2, %join.6.i ], [ 2, %join.3 ], [ 3, %join.3.i ]
-  %.sink = phi i32 [ %r0.sroa.6.0.copyload, %then.1 ], [ 0, %join.9.i ], [ 0, %join.6.i ], [ 0, %join.3 ], [ 0, %join.3.i ]
-  %a2.sink = phi i64 [ %r0.sroa.8.0.copyload, %then.1 ], [ %a2, %join.9.i ], [ %a2, %join.6.i ], [ %a2, %join.3 ], [ %a2, %join.3.i ]
-  %r0.sroa.10.0.sink = phi i64 [ %r0.sroa.10.0.copyload, %then.1 ], [ %spec.select44, %join.9.i ], [ %a4, %join.6.i ], [ %a4, %join.3 ], [ %r57.i, %join.3.i ]
-  store i32 %r0.sroa.0.0.sink, ptr %a0, align 1
-  %r0.sroa.6.0.a0.sroa_idx18 = getelementptr inbounds nuw i8, ptr %a0, i64 4
-  store i32 %.sink, ptr %r0.sroa.6.0.a0.sroa_idx18, align 1
-  %r0.sroa.8.0.a0.sroa_idx21 = getelementptr inbounds nuw i8, ptr %a0, i64 8
-  store i64 %a2.sink, ptr %r0.sroa.8.0.a0.sroa_idx21, align 1
-  %r0.sroa.10.0.a0.sroa_idx24 = getelementptr inbounds nuw i8, ptr %a0, i64 16
-  store i64 %r0.sroa.10.0.sink, ptr %r0.sroa.10.0.a0.sroa_idx24, align 1
-  ret void
-
-then.1:                                           ; preds = %start
-  %r0.sroa.6.0.r6.sroa_idx = getelementptr inbounds nuw i8, ptr %r6, i64 4
-  %r0.sroa.6.0.copyload = load i32, ptr %r0.sroa.6.0.r6.sroa_idx, align 4
-  %r0.sroa.8.0.r6.sroa_idx = getelementptr inbounds nuw i8, ptr %r6, i64 8
-  %r0.sroa.8.0.copyload = load i64, ptr %r0.sroa.8.0.r6.sroa_idx, align 8
-  %r0.sroa.10.0.r6.sroa_idx = getelementptr inbounds nuw i8, ptr %r6, i64 16
-  %r0.sroa.10.0.copyload = load i64, ptr %r0.sroa.10.0.r6.sroa_idx, align 8
-  br label %common.ret
-
-join.3:                                           ; preds = %start
-  %r7.sroa.5.0.r5.sroa_idx = getelementptr inbounds nuw i8, ptr %r5, i64 10
-  %r15.i = load i8, ptr %r7.sroa.5.0.r5.sroa_idx, align 2
-  %r17.not.i = icmp eq i8 %r15.i, 0
-  br i1 %r17.not.i, label %join.3.i, label %common.ret
-
-join.3.i:                                         ; preds = %join.3
-  %r35.i = load i8, ptr %r7.sroa.3.0.r5.sroa_idx, align 8
-  %r37.not.i = icmp eq i8 %r35.i, 0
-  %r57.i = load i64, ptr %r5, align 8
-  br i1 %r37.not.i, label %join.6.i, label %common.ret
-
-join.6.i:                                         ; preds = %join.3.i
-  %r59.i = icmp ult i64 %a4, %r57.i
-  br i1 %r59.i, label %common.ret, label %join.9.i
-
-join.9.i:                                         ; preds = %join.6.i
-  %r78.i = icmp eq i64 %r57.i, 0
-  %r83.i = load i8, ptr %r7.sroa.4.0.r5.sroa_idx, align 1
-  %r85.i = icmp eq i8 %r83.i, 0
-  %or.cond = select i1 %r78.i, i1 %r85.i, i1 false
-  %spec.select = select i1 %or.cond, i32 4, i32 0
-  %spec.select44 = select i1 %or.cond, i64 0, i64 %r57.i
-  br label %common.ret
 }
 
 define void @jcobs_decoder_feed(ptr noundef writeonly captures(none) initializes((0, 24)) %a0, ptr noundef captures(none) %a1, ptr noundef writeonly captures(none) %a2, i64 noundef %a3, i8 noundef %a4) {
@@ -850,12 +788,12 @@ join.5:                                           ; preds = %join.5.i, %loop.13.
 define void @jcobs_decode_in_place(ptr noundef writeonly captures(none) %a0, ptr noundef captures(none) %a1, i64 noundef %a2) {
 start:
   %r7.i = icmp eq i64 %a2, 0
-  br i1 %r7.i, label %"cobs_abi::answer::answer_by.exit", label %loop.2.i
+  br i1 %r7.i, label %"cobs_abi::answer::result_by.exit", label %loop.2.i
 
-common.ret:                                       ; preds = %"cobs_abi::answer::answer_by.exit32", %"cobs_abi::answer::answer_by.exit"
+common.ret:                                       ; preds = %"cobs_abi::answer::result_by.exit32", %"cobs_abi::answer::result_by.exit"
   ret void
 
-"cobs_abi::answer::answer_by.exit":               ; preds = %start
+"cobs_abi::answer::result_by.exit":               ; preds = %start
   store i32 4, ptr %a0, align 1
   %r0.sroa.5.0.a0.sroa_idx = getelementptr inbounds nuw i8, ptr %a0, i64 4
   tail call void @llvm.memset.p0.i64(ptr noundef nonnull align 1 dereferenceable(20) %r0.sroa.5.0.a0.sroa_idx, i8 0, i64 20, i1 false)
@@ -884,7 +822,7 @@ loop.2.i7:                                        ; preds = %loop.2.i7.backedge,
   %r4.0.i = phi i64 [ 0, %"cobs_small::decode::len_to_zero.exit" ], [ %r4.0.i.be, %loop.2.i7.backedge ]
   %r3.0.i8 = phi i64 [ 0, %"cobs_small::decode::len_to_zero.exit" ], [ %r78.i, %loop.2.i7.backedge ]
   %r21.i = icmp ult i64 %r3.0.i8, %common.ret.op.i
-  br i1 %r21.i, label %join.5.i9, label %"cobs_abi::answer::answer_by.exit32"
+  br i1 %r21.i, label %join.5.i9, label %"cobs_abi::answer::result_by.exit32"
 
 join.5.i9:                                        ; preds = %loop.2.i7
   %r27.i = getelementptr i8, ptr %a1, i64 %r3.0.i8
@@ -892,7 +830,7 @@ join.5.i9:                                        ; preds = %loop.2.i7
   %r31.i = zext i8 %r29.i10 to i64
   %r33.i = sub nuw i64 %common.ret.op.i, %r3.0.i8
   %r36.i = icmp ult i64 %r33.i, %r31.i
-  br i1 %r36.i, label %"cobs_abi::answer::answer_by.exit32", label %join.8.i11
+  br i1 %r36.i, label %"cobs_abi::answer::result_by.exit32", label %join.8.i11
 
 join.8.i11:                                       ; preds = %join.5.i9
   %r55.i = getelementptr i8, ptr %a1, i64 %r4.0.i
@@ -931,7 +869,7 @@ loop.2.i7.backedge:                               ; preds = %then.13.i, %"cobs_s
   %r4.0.i.be = phi i64 [ %r102.i, %then.13.i ], [ %r83.i, %"cobs_small::in_place::move_to_front.exit" ]
   br label %loop.2.i7
 
-"cobs_abi::answer::answer_by.exit32":             ; preds = %join.5.i9, %loop.2.i7
+"cobs_abi::answer::result_by.exit32":             ; preds = %join.5.i9, %loop.2.i7
   %r13.sroa.0.0.i25 = phi i32 [ 0, %loop.2.i7 ], [ 3, %join.5.i9 ]
   %r5646 = add i64 %common.ret.op.i, 1
   %a1.a0.i48 = tail call i64 @llvm.umin.i64(i64 %r5646, i64 %a2)
@@ -942,5 +880,67 @@ loop.2.i7.backedge:                               ; preds = %then.13.i, %"cobs_s
   store i64 %a1.a0.i48, ptr %r0.sroa.7.0.a0.sroa_idx36, align 1
   %r0.sroa.9.0.a0.sroa_idx38 = getelementptr inbounds nuw i8, ptr %a0, i64 16
   store i64 %r4.0.i, ptr %r0.sroa.9.0.a0.sroa_idx38, align 1
+  br label %common.ret
+}
+
+define void @jcobs_decode(ptr noundef writeonly captures(none) initializes((0, 24)) %a0, ptr noundef readonly captures(none) %a1, i64 noundef %a2, ptr noundef writeonly captures(none) %a3, i64 noundef %a4) {
+start:
+  %r5 = alloca [16 x i8], align 8
+  %r6 = alloca [24 x i8], align 8
+  call void @llvm.memset.p0.i64(ptr noundef nonnull align 8 dereferenceable(24) %r6, i8 0, i64 24, i1 false)
+  %r7.sroa.3.0.r5.sroa_idx = getelementptr inbounds nuw i8, ptr %r5, i64 8
+  %r7.sroa.4.0.r5.sroa_idx = getelementptr inbounds nuw i8, ptr %r5, i64 9
+  call void @llvm.memset.p0.i64(ptr noundef nonnull align 8 dereferenceable(16) %r5, i8 0, i64 16, i1 false)
+  call void @jcobs_decoder_push(ptr nonnull %r6, ptr nonnull %r5, ptr %a3, i64 %a4, ptr %a1, i64 %a2)
+  %r32 = load i32, ptr %r6, align 8
+  %r33.not = icmp eq i32 %r32, 1
+  br i1 %r33.not, label %join.3, label %then.1
+
+common.ret:                                       ; preds = %join.3, %join.6.i, %join.9.i, %join.3.i, %then.1
+  %r0.sroa.0.0.sink = phi i32 [ %r32, %then.1 ], [ %spec.select, %join.9.i ], [ 2, %join.6.i ], [ 2, %join.3 ], [ 3, %join.3.i ]
+  %.sink = phi i32 [ %r0.sroa.6.0.copyload, %then.1 ], [ 0, %join.9.i ], [ 0, %join.6.i ], [ 0, %join.3 ], [ 0, %join.3.i ]
+  %a2.sink = phi i64 [ %r0.sroa.8.0.copyload, %then.1 ], [ %a2, %join.9.i ], [ %a2, %join.6.i ], [ %a2, %join.3 ], [ %a2, %join.3.i ]
+  %r0.sroa.10.0.sink = phi i64 [ %r0.sroa.10.0.copyload, %then.1 ], [ %spec.select44, %join.9.i ], [ %a4, %join.6.i ], [ %a4, %join.3 ], [ %r57.i, %join.3.i ]
+  store i32 %r0.sroa.0.0.sink, ptr %a0, align 1
+  %r0.sroa.6.0.a0.sroa_idx18 = getelementptr inbounds nuw i8, ptr %a0, i64 4
+  store i32 %.sink, ptr %r0.sroa.6.0.a0.sroa_idx18, align 1
+  %r0.sroa.8.0.a0.sroa_idx21 = getelementptr inbounds nuw i8, ptr %a0, i64 8
+  store i64 %a2.sink, ptr %r0.sroa.8.0.a0.sroa_idx21, align 1
+  %r0.sroa.10.0.a0.sroa_idx24 = getelementptr inbounds nuw i8, ptr %a0, i64 16
+  store i64 %r0.sroa.10.0.sink, ptr %r0.sroa.10.0.a0.sroa_idx24, align 1
+  ret void
+
+then.1:                                           ; preds = %start
+  %r0.sroa.6.0.r6.sroa_idx = getelementptr inbounds nuw i8, ptr %r6, i64 4
+  %r0.sroa.6.0.copyload = load i32, ptr %r0.sroa.6.0.r6.sroa_idx, align 4
+  %r0.sroa.8.0.r6.sroa_idx = getelementptr inbounds nuw i8, ptr %r6, i64 8
+  %r0.sroa.8.0.copyload = load i64, ptr %r0.sroa.8.0.r6.sroa_idx, align 8
+  %r0.sroa.10.0.r6.sroa_idx = getelementptr inbounds nuw i8, ptr %r6, i64 16
+  %r0.sroa.10.0.copyload = load i64, ptr %r0.sroa.10.0.r6.sroa_idx, align 8
+  br label %common.ret
+
+join.3:                                           ; preds = %start
+  %r7.sroa.5.0.r5.sroa_idx = getelementptr inbounds nuw i8, ptr %r5, i64 10
+  %r15.i = load i8, ptr %r7.sroa.5.0.r5.sroa_idx, align 2
+  %r17.not.i = icmp eq i8 %r15.i, 0
+  br i1 %r17.not.i, label %join.3.i, label %common.ret
+
+join.3.i:                                         ; preds = %join.3
+  %r35.i = load i8, ptr %r7.sroa.3.0.r5.sroa_idx, align 8
+  %r37.not.i = icmp eq i8 %r35.i, 0
+  %r57.i = load i64, ptr %r5, align 8
+  br i1 %r37.not.i, label %join.6.i, label %common.ret
+
+join.6.i:                                         ; preds = %join.3.i
+  %r59.i = icmp ult i64 %a4, %r57.i
+  br i1 %r59.i, label %common.ret, label %join.9.i
+
+join.9.i:                                         ; preds = %join.6.i
+  %r78.i = icmp eq i64 %r57.i, 0
+  %r83.i = load i8, ptr %r7.sroa.4.0.r5.sroa_idx, align 1
+  %r85.i = icmp eq i8 %r83.i, 0
+  %or.cond = select i1 %r78.i, i1 %r85.i, i1 false
+  %spec.select = select i1 %or.cond, i32 4, i32 0
+  %spec.select44 = select i1 %or.cond, i64 0, i64 %r57.i
   br label %common.ret
 }

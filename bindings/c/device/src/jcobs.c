@@ -132,55 +132,6 @@ at_1:
     return answer;
 }
 
-/* Decodes the first frame of the source to the front of message.
- * Proved, in decode.rt:
- *     ensures decodes { Decodes source.now message.old result message.new } */
-jcobs_answer jcobs_decode(const void *source, size_t source_len, void *message, size_t message_len)
-{
-    jcobs_answer answer, pushed;
-    jcobs_decoder decoder;
-    JCOBS_STATUS status;
-    size_t written;
-    int is;
-
-    decoder.written = 0;
-    decoder.lacking = 0;
-    decoder.joint = 0;
-    decoder.too_long = 0;
-    pushed = jcobs_decoder_push(&decoder, message, message_len, source, source_len);
-    status = pushed.status;
-    if (status == JCOBS_MORE) {
-        if (decoder.too_long == 0) {
-            written = decoder.written;
-            if (decoder.lacking == 0) {
-                if (message_len < written) {
-                    answer.status = JCOBS_TOO_SMALL;
-                    answer.consumed = source_len;
-                    answer.length = message_len;
-                    return answer;
-                }
-                is = written == 0 && decoder.joint == 0;
-                answer.status = is ? JCOBS_EMPTY : JCOBS_OK;
-                answer.consumed = source_len;
-                answer.length = is ? 0 : written;
-                return answer;
-            }
-            answer.status = JCOBS_BROKEN;
-            answer.consumed = source_len;
-            answer.length = written;
-            return answer;
-        }
-        answer.status = JCOBS_TOO_SMALL;
-        answer.consumed = source_len;
-        answer.length = message_len;
-        return answer;
-    }
-    answer.status = status;
-    answer.consumed = pushed.consumed;
-    answer.length = pushed.length;
-    return answer;
-}
-
 /* Takes one byte of the stream, as a push of that byte.
  * Proved, in decoder.rt:
  *     ensures decodes { DecodesNext decoder.old buffer.old (byte :: []) result decoder.new buffer.new } */
@@ -758,6 +709,55 @@ jcobs_answer jcobs_decode_in_place(void *buffer, size_t buffer_len)
     answer.status = status;
     answer.consumed = n7 < buffer_len ? n7 : buffer_len;
     answer.length = i2;
+    return answer;
+}
+
+/* Decodes the first frame of the source to the front of message.
+ * Proved, in decode.rt:
+ *     ensures decodes { Decodes source.now message.old result message.new } */
+jcobs_answer jcobs_decode(const void *source, size_t source_len, void *message, size_t message_len)
+{
+    jcobs_answer answer, pushed;
+    jcobs_decoder decoder;
+    JCOBS_STATUS status;
+    size_t written;
+    int is;
+
+    decoder.written = 0;
+    decoder.lacking = 0;
+    decoder.joint = 0;
+    decoder.too_long = 0;
+    pushed = jcobs_decoder_push(&decoder, message, message_len, source, source_len);
+    status = pushed.status;
+    if (status == JCOBS_MORE) {
+        if (decoder.too_long == 0) {
+            written = decoder.written;
+            if (decoder.lacking == 0) {
+                if (message_len < written) {
+                    answer.status = JCOBS_TOO_SMALL;
+                    answer.consumed = source_len;
+                    answer.length = message_len;
+                    return answer;
+                }
+                is = written == 0 && decoder.joint == 0;
+                answer.status = is ? JCOBS_EMPTY : JCOBS_OK;
+                answer.consumed = source_len;
+                answer.length = is ? 0 : written;
+                return answer;
+            }
+            answer.status = JCOBS_BROKEN;
+            answer.consumed = source_len;
+            answer.length = written;
+            return answer;
+        }
+        answer.status = JCOBS_TOO_SMALL;
+        answer.consumed = source_len;
+        answer.length = message_len;
+        return answer;
+    }
+    answer.status = status;
+    answer.consumed = pushed.consumed;
+    answer.length = pushed.length;
     return answer;
 }
 
