@@ -1,5 +1,5 @@
 -- Lemmas on text as a string of JSON has it.
-use Rattle.std.proofs.Common.{◌≡◌, ◌<◌, ◌==◌, ◌||◌, nat_lt, true, false, ℕ, List, [], ◌∷◌, ◌++◌, All, IsTrue, Option, length, take, drop, refl, sym, ap, subst, ◌∙◌, arith, chars, IsUtf8, rules, append_assoc, append-nil}
+use Rattle.std.proofs.Common.{◌≡◌, ◌<◌, ◌==◌, ◌||◌, nat_lt, true, false, ℕ, List, [], ◌∷◌, ◌++◌, All, IsTrue, Option, length, take, drop, refl, sym, ap, subst, ◌∙◌, arith, chars, IsUtf8, append_assoc, append-nil}
 use Rattle.std.specs.Io.KnownBytes.{Appends}
 use Rattle.std.proofs.KnownBytes.{Appends-trans}
 use Rattle.std.proofs.lemmas.List.{nil_from_length, take-append-drop}
