@@ -1,5 +1,5 @@
 use Rattle.std.proofs.Common.{◌≡◌, ◌∙◌, ◌+◌, ◌-◌, ℕ, List, Err, length, min, drop, take, sym, ap, arith, length-drop, length-take-le, take_all}
-use Rattle.cobs.specs.Decode.{in_place, result_in_place}
+use Rattle.cobs.specs.Decode.{result_in_place}
 use Rattle.cobs.specs.Stream.{head}
 use Rattle.cobs.specs.declared.DecodeError.TheVariants.{InvalidFrame}
 use Rattle.cobs_abi.specs.Answer.{result_by, head_end}
