@@ -2,10 +2,10 @@
 use Rattle.std.specs.Prelude.{ℕ, ◌≡◌, ◌≤◌, List, [], ◌∷◌, ◌++◌, length, take, drop, Option, Some, None, Result, Ok, Err, IfSome}
 use Rattle.std.specs.List.{Contains}
 use Rattle.cobs.specs.Stream.{Outcome, Message, Broken, TooLong, stream_outcomes, unended}
-use Rattle.cobs.specs.Feed.{Phase, Idle, PhaseAfter, DecoderAfter}
+use Rattle.cobs.specs.Feed.{Phase, Idle, PhaseAfter, DecoderAfter, Feeds}
 use Rattle.cobs.specs.Overwritten.{overwritten}
 use Rattle.cobs.specs.Piece.{output}
-use Rattle.cobs.specs.Push.{FeedsEach, last_piece}
+use Rattle.cobs.specs.Push.{last_piece}
 use Rattle.cobs.specs.declared.dec.DecodeError.{DecodeError}
 use Rattle.cobs.specs.declared.dec.DecodeError.TheVariants.{EmptyFrame, InvalidFrame, TargetBufTooSmall}
 use Rattle.cobs.specs.declared.dec.frame_decoder.PieceEnd.{PieceEnd}
@@ -26,12 +26,19 @@ AreAlikeAtFirst [] (y ∷ ys) = ⊥
 AreAlikeAtFirst (x ∷ xs) [] = ⊥
 AreAlikeAtFirst (x ∷ xs) (y ∷ ys) = AreAlike x y × (xs ≡ ys)
 
+-- the bytes are fed one after another, from the one buffer and phase to the other, whatever each returns
+abbrev pub FeedsEach : List ℕ → Phase → List ℕ → List ℕ → Phase → Type 0
+FeedsEach buffer phase [] buffer' phase' = (buffer' ≡ buffer) × (phase' ≡ phase)
+FeedsEach buffer phase (byte ∷ bytes) buffer' phase' =
+    (returned : Result (Option ℕ) DecodeError) × (between : List ℕ) × (phase_between : Phase) × Feeds buffer phase byte returned between phase_between
+    × FeedsEach between phase_between bytes buffer' phase'
+
 -- a decoder that takes these bytes goes from the one buffer and phase to the other, and reports these outcomes of the
 -- pieces that end in them
 pub record TakesBytes (buffer : List ℕ) (phase : Phase) (bytes : List ℕ) (given : List Outcome) (buffer' : List ℕ) (phase' : Phase) : Type 0 where
   pub len : length buffer' ≡ length buffer
   -- in every phase
-  pub feeds : (results : List (Result (Option ℕ) DecodeError)) × FeedsEach buffer phase bytes results buffer' phase'
+  pub feeds : FeedsEach buffer phase bytes buffer' phase'
   pub after : (p : List ℕ) → DecoderAfter buffer phase p → DecoderAfter buffer' phase' (unended (p ++ bytes))
   pub outcomes : (p : List ℕ) → DecoderAfter buffer phase p → given ≡ stream_outcomes (p ++ bytes) (length buffer)
   -- where the buffer was written to inside p, the same but for the bytes of the first message

@@ -1,5 +1,5 @@
 -- What a push of bytes to a streaming decoder returns, and how it leaves the decoder.
-use Rattle.std.specs.Prelude.{ℕ, ◌≡◌, ◌+◌, ◌-◌, ◌<◌, ◌≤◌, ◌==◌, List, [], ◌∷◌, ◌++◌, length, take, drop, filter, replicate, slice_index, Option, Some, None, Result, Ok, Err, IfOk, IfSome, if◌then◌else◌}
+use Rattle.std.specs.Prelude.{ℕ, ◌≡◌, ◌+◌, ◌-◌, ◌<◌, ◌≤◌, ◌==◌, List, [], ◌∷◌, ◌++◌, length, take, drop, filter, slice_index, Option, Some, None, Result, Ok, Err, IfOk, IfSome, if◌then◌else◌}
 use Rattle.cobs.specs.Grammar.{last_of}
 use Rattle.cobs.specs.Piece.{output}
 use Rattle.cobs.specs.Stream.{stretches, is_nonempty, unended, Outcome, Message, Broken, TooLong, stream_outcomes}
@@ -62,20 +62,20 @@ pushed_outcomes bytes (Ok (Some report)) buffer = Message (take (frame_size_of r
 pushed_outcomes bytes (Err failure) buffer =
     if slice_index bytes (failure.parsed_size - 1) == 0 then error_outcomes failure.error else []
 
--- the bytes are fed one after another, from the one buffer and phase to the other, and these are their results
-abbrev pub FeedsEach : List ℕ → Phase → List ℕ → List (Result (Option ℕ) DecodeError) → List ℕ → Phase → Type 0
-FeedsEach buffer phase [] [] buffer' phase' = (buffer' ≡ buffer) × (phase' ≡ phase)
-FeedsEach buffer phase [] (result ∷ results) buffer' phase' = ⊥
-FeedsEach buffer phase (byte ∷ bytes) [] buffer' phase' = ⊥
-FeedsEach buffer phase (byte ∷ bytes) (result ∷ results) buffer' phase' =
-    (between : List ℕ) × (phase_between : Phase) × Feeds buffer phase byte result between phase_between
-    × FeedsEach between phase_between bytes results buffer' phase'
+-- the bytes are fed one after another, from the one buffer and phase to the other: each but the last returns
+-- `Ok(None)`, and the last one so
+abbrev pub FeedsInTurn : List ℕ → Phase → List ℕ → Result (Option ℕ) DecodeError → List ℕ → Phase → Type 0
+FeedsInTurn buffer phase [] returned buffer' phase' = (returned ≡ Ok None) × (buffer' ≡ buffer) × (phase' ≡ phase)
+FeedsInTurn buffer phase (byte ∷ []) returned buffer' phase' = Feeds buffer phase byte returned buffer' phase'
+FeedsInTurn buffer phase (byte ∷ next ∷ bytes) returned buffer' phase' =
+    (between : List ℕ) × (phase_between : Phase) × Feeds buffer phase byte (Ok None) between phase_between
+    × FeedsInTurn between phase_between (next ∷ bytes) returned buffer' phase'
 
--- what `feed` returns for each byte that a push consumed: `Ok(None)`, but for the last where the push stopped there
-abbrev pub consumed_results : List ℕ → Result (Option DecodeReport) PushError → List (Result (Option ℕ) DecodeError)
-consumed_results bytes (Ok None) = replicate (length bytes) (Ok None)
-consumed_results bytes (Ok (Some report)) = replicate (parsed_size_of report - 1) (Ok None) ++ Ok (Some (frame_size_of report)) ∷ []
-consumed_results bytes (Err failure) = replicate (failure.parsed_size - 1) (Ok None) ++ Err failure.error ∷ []
+-- what `feed` returns for the last byte that a push consumed
+abbrev pub last_result : Result (Option DecodeReport) PushError → Result (Option ℕ) DecodeError
+last_result (Ok None) = Ok None
+last_result (Ok (Some report)) = Ok (Some (frame_size_of report))
+last_result (Err failure) = Err failure.error
 
 -- a push of the bytes takes a decoder from the one buffer and phase to the other, and this is its result
 pub record PushesBytes (buffer : List ℕ) (phase : Phase) (bytes : List ℕ)
@@ -94,7 +94,7 @@ pub record PushesBytes (buffer : List ℕ) (phase : Phase) (bytes : List ℕ)
   pub outcomes : (p : List ℕ) → DecoderAfter buffer phase p
       → stream_outcomes (p ++ consumed bytes result) (length buffer) ≡ pushed_outcomes bytes result buffer'
   -- in every phase: it feeds the bytes that were consumed
-  pub feeds : FeedsEach buffer phase (consumed bytes result) (consumed_results bytes result) buffer' phase'
+  pub feeds : FeedsInTurn buffer phase (consumed bytes result) (last_result result) buffer' phase'
   pub within : consumed_size bytes result ≤ length bytes
   pub bound : IfOk result (λ found. IfSome found (λ report. frame_size_of report ≤ length buffer))
   pub zero_idle : (front : List ℕ) → consumed bytes result ≡ front ++ 0 ∷ [] → phase' ≡ Idle

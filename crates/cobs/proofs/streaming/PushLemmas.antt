@@ -1,16 +1,16 @@
 -- A push so far, and where it ends.
-use Rattle.std.proofs.Common.{◌≡◌, ℕ, ◌+◌, ◌<◌, cond, eqb, List, [], ◌∷◌, ◌++◌, length, take, replicate, get_or, refl, sym, ap, ◌∙◌, subst, arith, Option, Some, None, Result, Ok, Err}
-use Rattle.std.proofs.lemmas.List.{take_more, length_push, replicate_more, same_from_push}
+use Rattle.std.proofs.Common.{◌≡◌, ℕ, ◌+◌, ◌<◌, cond, eqb, List, [], ◌∷◌, ◌++◌, length, take, get_or, refl, sym, ap, ◌∙◌, arith, Option, Some, None, Result, Ok, Err}
+use Rattle.std.proofs.lemmas.List.{take_more, length_push, same_from_push}
 use Rattle.std.proofs.lemmas.Bool.{ne_eqb, eq-eqb}
 use borrow.Author.Count.{below_more}
 use Rattle.cobs.specs.Stream.{unended}
 use Rattle.cobs.specs.Feed.{Phase, Idle, PhaseAfter, result_for, Feeds}
 use Rattle.cobs.specs.FeedPiece.{TakesBytes, TakesPiece, end_reported}
-use Rattle.cobs.specs.Push.{FeedsEach, result_at, IsQuiet, StopsAfter, error_outcomes, PushesBytes}
+use Rattle.cobs.specs.Push.{FeedsInTurn, result_at, IsQuiet, StopsAfter, error_outcomes, PushesBytes}
 use Rattle.cobs.specs.Fields.Report.{report_of}
 use Rattle.cobs.specs.declared.dec.DecodeError.{DecodeError}
 use Rattle.cobs.proofs.streaming.ByByteLemmas.{piece-nothing, piece-more, takes_behind, holds_behind, untouched_behind}
-use Rattle.cobs.proofs.streaming.SoFar.{FeedsEach-append, here, reported_by}
+use Rattle.cobs.proofs.streaming.SoFar.{here, reported_by}
 
 -- a byte that is no zero returns no message
 no_message : (q : List ℕ) (b n k : ℕ) → result_for q b n ≡ Ok (Some k) → b ≡ 0
@@ -22,10 +22,17 @@ pub record Pushed (buffer₀ : List ℕ) (phase₀ : Phase) (buffer : List ℕ) 
   pub piece : TakesPiece buffer₀ phase₀ (take i bytes) None buffer phase
   pub quiet : (p : List ℕ) → PhaseAfter (length buffer₀) phase₀ p → IsQuiet p bytes (length buffer₀) i
   pub zero_idle : (front : List ℕ) → take i bytes ≡ front ++ 0 ∷ [] → phase ≡ Idle
-  pub feeds : FeedsEach buffer₀ phase₀ (take i bytes) (replicate i (Ok None)) buffer phase
+  pub feeds : FeedsInTurn buffer₀ phase₀ (take i bytes) (Ok None) buffer phase
+
+-- one more byte is fed
+FeedsInTurn-push : (xs buffer₀ : List ℕ) (phase₀ : Phase) {buffer buffer' : List ℕ} {phase phase' : Phase} {byte : ℕ} {returned : Result (Option ℕ) DecodeError}
+    → FeedsInTurn buffer₀ phase₀ xs (Ok None) buffer phase → Feeds buffer phase byte returned buffer' phase' → FeedsInTurn buffer₀ phase₀ (xs ++ byte ∷ []) returned buffer' phase'
+FeedsInTurn-push [] buffer₀ phase₀ {buffer} {buffer'} {phase} {phase'} {byte} {returned} f g = grind arith
+FeedsInTurn-push (x ∷ []) buffer₀ phase₀ {buffer} {buffer'} {phase} f g = (buffer, phase, f, g)
+FeedsInTurn-push (x ∷ y ∷ xs) buffer₀ phase₀ (between, phase_between, f, more) g = grind (arith, FeedsInTurn-push (y ∷ xs) between phase_between more g)
 
 pub Pushed-start : (buffer : List ℕ) (phase : Phase) (bytes : List ℕ) → Pushed buffer phase buffer phase bytes 0
-Pushed-start buffer phase bytes = record { piece = piece-nothing buffer phase; quiet = λ p h place below. absurd (omega arith); zero_idle = λ front e. absurd (omega (arith, ap length e, length_push front 0)); feeds = (refl, refl) }
+Pushed-start buffer phase bytes = record { piece = piece-nothing buffer phase; quiet = λ p h place below. absurd (omega arith); zero_idle = λ front e. absurd (omega (arith, ap length e, length_push front 0)); feeds = (refl, refl, refl) }
 
 module _ {buffer₀ buffer buffer' : List ℕ} {phase₀ phase phase' : Phase} {result : Result (Option ℕ) DecodeError} (bytes : List ℕ) (i : ℕ) (within : i < length bytes)
     (s : Pushed buffer₀ phase₀ buffer phase bytes i) (f : Feeds buffer phase (get_or bytes i 0) result buffer' phase') where
@@ -35,9 +42,8 @@ module _ {buffer₀ buffer buffer' : List ℕ} {phase₀ phase phase' : Phase} {
   zero_behind : (front : List ℕ) → take (i + 1) bytes ≡ front ++ 0 ∷ [] → phase' ≡ Idle
   zero_behind front e = f.zero_idle (same_from_push (take i bytes) front (get_or bytes i 0) 0 (sym (take_more bytes i 0 within) ∙ e)).1
 
-  feeds_behind : (r : Result (Option ℕ) DecodeError) → result ≡ r → (k : ℕ) → k ≡ i → FeedsEach buffer₀ phase₀ (take (i + 1) bytes) (replicate k (Ok None) ++ r ∷ []) buffer' phase'
-  feeds_behind r e k same =
-      rw (take_more bytes i 0 within, same, ← e) (FeedsEach-append (take i bytes) (get_or bytes i 0 ∷ []) _ _ _ _ _ _ (replicate i (Ok None)) (result ∷ []) s.feeds (buffer', phase', f, (refl, refl)))
+  feeds_behind : FeedsInTurn buffer₀ phase₀ (take (i + 1) bytes) result buffer' phase'
+  feeds_behind = rw (take_more bytes i 0 within) (FeedsInTurn-push (take i bytes) buffer₀ phase₀ s.feeds f)
 
   -- the push goes on
   pub Pushed-more : result ≡ Ok None → Pushed buffer₀ phase₀ buffer' phase' bytes (i + 1)
@@ -45,7 +51,7 @@ module _ {buffer₀ buffer buffer' : List ℕ} {phase₀ phase phase' : Phase} {
     piece = piece-more bytes i within s.piece f (λ z. ap end_reported e);
     quiet = λ p h. below_more (λ j. result_at p bytes (length buffer₀) j ≡ Ok None) i (s.quiet p h) (result_here p h ∙ e);
     zero_idle = zero_behind;
-    feeds = subst (λ rs. FeedsEach buffer₀ phase₀ (take (i + 1) bytes) rs buffer' phase') (replicate_more i (Ok None)) (feeds_behind (Ok None) e i refl);
+    feeds = rw e at feeds_behind;
   }
 
   -- THE PUSH ENDS
@@ -68,7 +74,7 @@ module _ {buffer₀ buffer buffer' : List ℕ} {phase₀ phase phase' : Phase} {
     within = omega arith;
     bound = rw (← s.piece.takes.len) (rw e at f.bound);
     zero_idle = zero_behind;
-    feeds = feeds_behind (Ok (Some n)) e _ (omega arith);
+    feeds = rw e at feeds_behind;
     len = takes.len;
   }
 
@@ -84,12 +90,10 @@ module _ {buffer₀ buffer buffer' : List ℕ} {phase₀ phase phase' : Phase} {
     within = omega arith;
     bound = tt;
     zero_idle = zero_behind;
-    feeds = feeds_behind (Err e) is _ (omega arith);
+    feeds = rw is at feeds_behind;
     len = takes.len;
   }
 
 -- no byte is left
 pub pushed_none : {buffer₀ buffer : List ℕ} {phase₀ phase : Phase} (bytes : List ℕ) (i : ℕ) → i ≡ length bytes → Pushed buffer₀ phase₀ buffer phase bytes i → PushesBytes buffer₀ phase₀ bytes (Ok None) buffer phase
-pushed_none {buffer₀} {buffer} {phase₀} {phase} bytes i all s =
-    let w = subst (Pushed buffer₀ phase₀ buffer phase bytes) all s in
-    record { push_returns = w.quiet; phased = w.piece.takes.phased; after = w.piece.takes.after; holds = w.piece.holds; untouched = w.piece.untouched; outcomes = λ p h. sym (w.piece.takes.outcomes p h); feeds = w.feeds; within = omega arith; bound = tt; zero_idle = w.zero_idle; len = w.piece.takes.len }
+pushed_none {buffer₀} {buffer} {phase₀} {phase} bytes i all s = grind arith

@@ -8,8 +8,8 @@ use Rattle.std.proofs.Math.Seq.{take-add}
 use Rattle.cobs.specs.Grammar.{HasNoZero}
 use Rattle.cobs.specs.Stream.{ended_pieces, unended, Outcome, Message, Broken, outcome_of, stream_outcomes}
 use Rattle.cobs.specs.Feed.{Phase, PhaseAfter, DecoderAfter, Feeds, fed, result_for, result_at_end}
-use Rattle.cobs.specs.Push.{FeedsEach, error_outcomes}
-use Rattle.cobs.specs.FeedPiece.{AreAlikeAtFirst, TakesBytes, TakesPiece, outcome_at, IsWithin, IsCountWithin}
+use Rattle.cobs.specs.Push.{error_outcomes}
+use Rattle.cobs.specs.FeedPiece.{AreAlikeAtFirst, FeedsEach, TakesBytes, TakesPiece, outcome_at, IsWithin, IsCountWithin}
 use Rattle.cobs.specs.declared.dec.frame_decoder.PieceEnd.{PieceEnd}
 use Rattle.cobs.specs.declared.dec.DecodeError.{DecodeError}
 use Rattle.cobs.proofs.streaming.FeedLemmas.{DecoderAfter-idle}
@@ -82,16 +82,13 @@ count-within end buffer t n h e = grind (arith, fits-stream)
 
 -- THE STEPS
 
--- more bytes are fed
-pub FeedsEach-append : (done more buffer₀ buffer buffer' : List ℕ) (phase₀ phase phase' : Phase) (results later : List (Result (Option ℕ) DecodeError)) → FeedsEach buffer₀ phase₀ done results buffer phase
-    → FeedsEach buffer phase more later buffer' phase' → FeedsEach buffer₀ phase₀ (done ++ more) (results ++ later) buffer' phase'
-FeedsEach-append [] more buffer₀ buffer buffer' phase₀ phase phase' [] later f g = rw (← f.0, ← f.1) g
-FeedsEach-append [] more buffer₀ buffer buffer' phase₀ phase phase' (result ∷ results) later f g = absurd f
-FeedsEach-append (byte ∷ done) more buffer₀ buffer buffer' phase₀ phase phase' [] later f g = absurd f
-FeedsEach-append (byte ∷ done) more buffer₀ buffer buffer' phase₀ phase phase' (result ∷ results) later f g =
-    (f.0, f.1, f.2, FeedsEach-append done more f.0 buffer buffer' f.1 phase phase' results later f.3 g)
-
 -- before any byte
+FeedsEach-append : (done more buffer₀ buffer buffer' : List ℕ) (phase₀ phase phase' : Phase) → FeedsEach buffer₀ phase₀ done buffer phase → FeedsEach buffer phase more buffer' phase'
+    → FeedsEach buffer₀ phase₀ (done ++ more) buffer' phase'
+FeedsEach-append [] more buffer₀ buffer buffer' phase₀ phase phase' f g = subst (λ (b : List ℕ). FeedsEach b phase₀ more buffer' phase') f.0 (subst (λ (q : Phase). FeedsEach buffer q more buffer' phase') f.1 g)
+FeedsEach-append (byte ∷ done) more buffer₀ buffer buffer' phase₀ phase phase' f g =
+    (f.0, f.1, f.2, f.3, FeedsEach-append done more f.1 buffer buffer' f.2 phase phase' f.4 g)
+
 pub SoFar-start : (buffer : List ℕ) (phase : Phase) → SoFar buffer phase buffer phase [] []
 SoFar-start buffer phase = grind (arith, append-nil, unended-no_zero, stream_outcomes-no_zero)
 
@@ -113,7 +110,7 @@ module _ {buffer buffer' : List ℕ} {phase phase' : Phase} {byte : ℕ} {result
   pub TakesBytes-byte : TakesBytes buffer phase (byte ∷ []) (reported_by byte result buffer') buffer' phase'
   TakesBytes-byte = record {
     len = f.len;
-    feeds = (result ∷ [], (buffer', phase', f, (refl, refl)));
+    feeds = (result, buffer', phase', f, (refl, refl));
     phased = λ p h. rw (unended_byte p h.piece) (f.phased p h);
     after = λ p h. rw (unended_byte p h.phased.piece) (f.after p h);
     outcomes = λ p h. reported_byte p h ∙ sym (outcomes_byte p h.phased.piece);
@@ -145,7 +142,7 @@ module _ {buffer₀ buffer buffer' : List ℕ} {phase₀ phase phase' : Phase} {
   pub SoFar-more : SoFar buffer₀ phase₀ buffer phase done found → TakesBytes buffer phase more stated buffer' phase' → SoFar buffer₀ phase₀ buffer' phase' (done ++ more) (found ++ stated)
   SoFar-more s t = record {
     len = t.len ∙ s.len;
-    feeds = (s.feeds.0 ++ t.feeds.0, FeedsEach-append done more _ _ _ _ _ _ s.feeds.0 t.feeds.0 s.feeds.1 t.feeds.1);
+    feeds = FeedsEach-append done more buffer₀ buffer buffer' phase₀ phase phase' s.feeds t.feeds;
     phased = λ p h. rw (unended_more p done more) (subst (λ n. PhaseAfter n phase' (unended (unended (p ++ done) ++ more))) s.len (t.phased _ (here s p h)));
     after = λ p h. rw (unended_more p done more) (t.after _ (s.after p h));
     outcomes = λ p h. rw (outcomes_more p done more (length buffer₀), ← s.outcomes p h, reported_more s t p (s.after p h)) refl;

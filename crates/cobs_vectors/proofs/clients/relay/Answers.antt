@@ -1,11 +1,18 @@
-use Rattle.std.proofs.Common.{◌≡◌, ◌-◌, ℕ, List, [], ◌∷◌, ◌++◌, length, drop, ◌∙◌, arith, append_assoc, append-nil, length-take, length-drop}
+use Rattle.std.proofs.Common.{◌≡◌, ◌+◌, ◌-◌, ℕ, List, [], ◌∷◌, ◌++◌, length, take, drop, refl, ap, sym, ◌∙◌, arith, append_assoc, length-take, length-drop}
 use Rattle.std.proofs.lemmas.List.{drop-drop, take_rest}
-use Rattle.cobs.specs.Stream.{Outcome}
+use Rattle.cobs.specs.Stream.{Outcome, Message, Broken, TooLong}
 use Rattle.cobs_vectors.specs.Relayed.{messages_of}
 use Rattle.cobs_vectors.proofs.clients.relay.Goals as goal
 
+first : (o : Outcome) (more : List Outcome) → messages_of (o ∷ []) ++ messages_of more ≡ messages_of (o ∷ more)
+first (Message message) more = refl
+first (Broken count) more = refl
+first TooLong more = refl
+
 relayed : (out out' found more all : List Outcome) (o : Outcome) → out ++ messages_of found ≡ all → found ≡ o ∷ more → out' ≡ out ++ messages_of (o ∷ []) → out' ++ messages_of more ≡ all
-relayed out out' found more all o so_far one reported = grind (arith, append_assoc)
+relayed out out' found more all o so_far one reported =
+    ap (λ (x : List Outcome). x ++ messages_of more) reported ∙ append_assoc out (messages_of (o ∷ [])) (messages_of more)
+    ∙ ap (λ (x : List Outcome). out ++ x) (first o more ∙ ap messages_of (sym one)) ∙ so_far
 
 pub by_piece-preserved : goal.by_piece-preserved
 by_piece-preserved g c =
@@ -22,9 +29,3 @@ by_piece-preserved g c =
       idle = t.idle;
       len = len;
     }
-
-pub returns-clause-messages : goal.returns-clause-messages
-returns-clause-messages g c =
-    let inv = c.by_piece.invariant in
-    let none = rw (take_rest c.args.stream.now c.by_piece.at, inv.len) at (c.law_21.ensures.none _ _ _ _ _ c.in_default.ensures.takes inv.idle) in
-    rw (none, append-nil) at inv.reported
