@@ -41,6 +41,7 @@ MORE_DERIVES = {
     "PushResult": DERIVES,
     "DecodeResult": DERIVES,
     "DecoderState": ("Clone", "PartialEq", "Eq"),
+    "UnbufferedDecoder": ("Clone",),
     "Recorded": ("Debug",),
     "FrameReader": ("Debug",),
 }
