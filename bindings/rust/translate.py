@@ -41,7 +41,6 @@ MORE_DERIVES = {
     "PushResult": DERIVES,
     "DecodeResult": DERIVES,
     "DecoderState": ("Clone", "PartialEq", "Eq"),
-    "UnbufferedDecoder": ("Clone",),
     "Recorded": ("Debug",),
     "FrameReader": ("Debug",),
 }

@@ -59,25 +59,20 @@ fn feed_each(
     dest: &mut [u8],
     data: &[u8],
 ) -> Result<Option<DecodeReport>, PushError> {
-    // A copy, so that it stays in registers.
-    let mut here = decoder.clone();
-    let mut pushed = Ok(None);
     for (i, &byte) in data.iter().enumerate() {
         let parsed_size = i + 1;
-        match here.feed(dest, byte) {
-            Ok(None) => continue,
+        match decoder.feed(dest, byte) {
+            Ok(None) => {}
             Ok(Some(frame_size)) => {
-                pushed = Ok(Some(DecodeReport {
+                return Ok(Some(DecodeReport {
                     parsed_size,
                     frame_size,
                 }));
             }
-            Err(error) => pushed = Err(PushError { error, parsed_size }),
+            Err(error) => return Err(PushError { error, parsed_size }),
         }
-        break;
     }
-    *decoder = here;
-    pushed
+    Ok(None)
 }
 
 /// Takes bytes of a stream, and returns how many; of a message that is too long, all through its zero.

@@ -68,7 +68,7 @@ pub enum DecoderPhase {
 // No field says whether a piece has begun: a code at its front is taken as one after a full block is, which no zero
 // joins to anything. So a nonzero byte asks how much of its block is missing and, if it is a code, whether the block
 // before it was full, and nothing else.
-#[derive(Debug, Clone)]
+#[derive(Debug)]
 pub struct UnbufferedDecoder {
     /// How many bytes of this piece's output are written.
     pub(crate) dest_idx: usize,
