@@ -4,7 +4,7 @@
 # usage: tests/fail-alloc.sh [--rounds N] [FIRST]
 #
 # Two files of tests run again and again, unproved: crates/cobs_frame_vectors/src/memory.rt and
-# crates/cobs_tool/src/refused_memory.rt. At round N the Nth growth that a test asks for fails. All of a file's
+# crates/cobs_tool/src/memory_limits.rt. At round N the Nth growth that a test asks for fails. All of a file's
 # tests but the last have to pass in each round. The last one, which makes every call and wants its value, fails as long
 # as a growth of its own fails; the first round in which it passes has met no failure, and is that file's last.
 # With --rounds, each file gets at most N rounds, from the first growth on or from FIRST on. A round takes about a quarter
@@ -85,6 +85,6 @@ copy cobs ''
 copy cobs_lines ''
 copy cobs_vectors ''
 copy cobs_frame_vectors 'memory|messages|slices'
-copy cobs_tool 'refused_memory'
-fail_growths cobs_tool refused_memory::without_a_refusal_every_mode_writes_its_output
-fail_growths cobs_frame_vectors memory::without_a_refusal_every_call_gives_its_value
+copy cobs_tool 'memory_limits'
+fail_growths cobs_tool memory_limits::with_enough_memory_every_mode_writes_its_output
+fail_growths cobs_frame_vectors memory::with_enough_memory_every_call_gives_its_value
