@@ -18,10 +18,10 @@ fi
 tests=$(cd "$1" && pwd)
 here=$(cd "$(dirname "$0")" && pwd)
 for tool in cargo awk; do
-    command -v "$tool" >/dev/null || { echo "skipped: lacks $tool"; exit 0; }
+    command -v "$tool" >/dev/null || { echo "skipped: needs $tool"; exit 0; }
 done
 if ! ls -d /usr/share/cargo/registry/quickcheck-1.* >/dev/null 2>&1; then
-    echo "skipped: lacks quickcheck (Debian package librust-quickcheck-dev)"
+    echo "skipped: needs quickcheck (Debian package librust-quickcheck-dev)"
     exit 0
 fi
 work=$(mktemp -d)
@@ -85,8 +85,8 @@ if ! grep -q '^test result: ' said; then
 fi
 sed -n 's/^test \([a-z0-9_:]*\).* \.\.\. FAILED$/\1/p' said | sort >found
 # shellcheck disable=SC2016
-sed -n '/^## The tests of the crate/,/^## /s/^| `\([a-z0-9_:]*\)` |.*/\1/p' "$here/README.md" | sort >told
-if ! diff told found >differ; then
+sed -n '/^## The tests of the crate/,/^## /s/^| `\([a-z0-9_:]*\)` |.*/\1/p' "$here/README.md" | sort >listed
+if ! diff listed found >differ; then
     echo "FAILED: the table (<) and the tests that don't pass (>) differ" >&2
     cat differ said >&2
     exit 1

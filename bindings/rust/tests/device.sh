@@ -21,7 +21,7 @@ version=$("$compiler" --version 2>/dev/null | sed -n 's/^rustc \([0-9.]*\).*/\1/
 library=${RUST_SRC:-/usr/src/rustc-web-$version/library}
 memchr=$(find /usr/share/cargo/registry -maxdepth 1 -name 'memchr-2.*' 2>/dev/null | tail -1)
 if [ ! -f "$library/core/src/lib.rs" ] || [ -z "$memchr" ]; then
-    skip 'the crate on devices' "lacks Debian's rustc-web with rust-web-src of its version, or librust-memchr-dev"
+    skip 'the crate on devices' "needs Debian's rustc-web with rust-web-src of its version, or librust-memchr-dev"
     finish
 fi
 

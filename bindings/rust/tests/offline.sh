@@ -8,7 +8,7 @@ here=$(cd "$(dirname "$0")" && pwd)
 registry=/usr/share/cargo/registry
 for package in memchr serde serde_derive; do
     if ! ls -d "$registry/$package"-[0-9]* >/dev/null 2>&1; then
-        echo "lacks Debian's librust-$(echo "$package" | tr _ -)-dev"
+        echo "needs Debian's librust-$(echo "$package" | tr _ -)-dev"
         exit 1
     fi
 done

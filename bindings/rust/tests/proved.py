@@ -208,7 +208,7 @@ def main():
     if shutil.which("rustfmt"):
         found += again()
     else:
-        print("skipped: the translation again: lacks rustfmt")
+        print("skipped: the translation again: needs rustfmt")
     for line in found:
         print(line)
     sys.exit(1 if found else 0)

@@ -1,7 +1,7 @@
 #!/bin/sh
 # Builds the Rust crate and runs its tests.
 #
-# Prints a line for each part: 'ok', 'FAILED' with what it said, or 'skipped' with what it lacks. The last line counts
+# Prints a line for each part: 'ok', 'FAILED' with what it said, or 'skipped' with what it needs. The last line counts
 # them; the status is 0 only if nothing failed. No network is used: offline.sh says what stands for crates.io. COBS_TESTS
 # names a folder with the sources of the crate `cobs`, if they are at hand.
 #
@@ -17,12 +17,12 @@ export PATH
 
 has python3 python3 'the functions are the proved ones' && part 'the functions are the proved ones' "$rust/tests/proved.py"
 if ! command -v cargo >/dev/null; then
-    skip 'bindings/rust' 'lacks cargo (rustup, or Debian package cargo, from Rust 1.83 on)'
+    skip 'bindings/rust' 'needs cargo (rustup, or Debian package cargo, from Rust 1.83 on)'
     finish
 fi
 version=$(rustc --version | sed -n 's/^rustc 1\.\([0-9]*\)\..*/\1/p')
 if [ "${version:-0}" -lt 83 ]; then
-    skip 'bindings/rust' "lacks Rust 1.83: this is $(rustc --version)"
+    skip 'bindings/rust' "needs Rust 1.83: this is $(rustc --version)"
     finish
 fi
 if ! lacking=$("$rust/tests/offline.sh" "$work"); then
@@ -121,17 +121,17 @@ part 'the package, tested alone' packaged
 if cargo fmt --version >/dev/null 2>&1; then
     part 'layout' cargo fmt --check
 else
-    skip 'layout' 'lacks rustfmt'
+    skip 'layout' 'needs rustfmt'
 fi
 if cargo clippy --version >/dev/null 2>&1; then
     part 'clippy' cargo clippy --all-targets -- -D warnings
     part 'clippy, byte by byte' cargo clippy --features small -- -D warnings
 else
-    skip 'clippy' 'lacks clippy'
+    skip 'clippy' 'needs clippy'
 fi
 if [ -n "${COBS_TESTS:-}" ]; then
     part 'tests of the crate cobs' ./upstream-tests.sh "$COBS_TESTS"
 else
-    skip 'tests of the crate cobs' 'lacks them: COBS_TESTS names no folder'
+    skip 'tests of the crate cobs' 'needs them: COBS_TESTS names no folder'
 fi
 finish
