@@ -18,8 +18,8 @@ def cases():
 
 
 def lines_of(kind, suffix):
-    """The lines of a folder of crates/cobs."""
-    paths = (TOP / "crates/cobs" / kind).rglob(f"*{suffix}")
+    """The lines of a folder of `cobs` and of `cobs_bytes`, which it is built on."""
+    paths = [path for crate in ("cobs", "cobs_bytes") for path in (TOP / "crates" / crate / kind).rglob(f"*{suffix}")]
     return sum(len(path.read_text().splitlines()) for path in paths)
 
 

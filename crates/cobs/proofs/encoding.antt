@@ -1,10 +1,9 @@
--- The encoders: the open block, windows and rows of zeros, and the room that a frame takes.
+-- The encoders: the open block, windows, and the room that a frame takes.
 pub mod OpenLemmas
 pub mod OpenedLemmas
 pub mod OpenLenLemmas
 pub mod ReachLemmas
 pub mod MarkLemmas
-pub mod RowLemmas
 pub mod AfterLemmas
 pub mod CoreLemmas
 pub mod ShortSteps

@@ -3,6 +3,8 @@ pub mod LastPiece
 pub mod FeedLemmas
 pub mod PushLemmas
 pub mod RunLemmas
+pub mod KeptQuiet
+pub mod QuietLemmas
 pub mod SoFar
 pub mod ReadingLemmas
 pub mod StretchLemmas

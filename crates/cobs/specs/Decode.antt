@@ -6,11 +6,11 @@ use Rattle.cobs.specs.Overwritten.{overwritten}
 use Rattle.cobs.specs.Piece.{output, kept_output, is_whole}
 use Rattle.cobs.specs.Stream.{Outcome, Message, Broken, TooLong, outcome_of, first_piece, head}
 use Rattle.cobs.specs.Fields.Report.{report_of}
-use Rattle.cobs.specs.declared.dec.DecodeReport.{DecodeReport}
-use Rattle.cobs.specs.declared.dec.DecodeError.{DecodeError}
-use Rattle.cobs.specs.declared.dec.DecodeError.TheVariants.{EmptyFrame, InvalidFrame, TargetBufTooSmall}
-use Rattle.cobs.specs.declared.dec.DecodeVecError.{DecodeVecError}
-use Rattle.cobs.specs.declared.dec.DecodeVecError.TheVariants.{Decode, Memory}
+use Rattle.cobs.specs.declared.error.DecodeReport.{DecodeReport}
+use Rattle.cobs.specs.declared.error.DecodeError.{DecodeError}
+use Rattle.cobs.specs.declared.error.DecodeError.TheVariants.{EmptyFrame, InvalidFrame, TargetBufTooSmall}
+use Rattle.cobs.specs.declared.error.DecodeVecError.{DecodeVecError}
+use Rattle.cobs.specs.declared.error.DecodeVecError.TheVariants.{Decode, Memory}
 
 -- how many zeros a source begins with
 abbrev pub leading_zeros : List ℕ → ℕ

@@ -6,12 +6,12 @@ use Rattle.cobs.specs.Piece.{output, last_part, missing}
 use Rattle.cobs.specs.Table.{data_of, table_result, table_state}
 use Rattle.cobs.specs.Stream.{Outcome, outcome_of}
 use Rattle.cobs.specs.Decode.{outcome_result}
-use Rattle.cobs.specs.declared.dec.DecodeError.{DecodeError}
+use Rattle.cobs.specs.declared.error.DecodeError.{DecodeError}
 use Rattle.cobs.specs.declared.dec.state.DecoderState.{DecoderState}
 use Rattle.cobs.specs.declared.dec.state.DecoderState.TheVariants as states
 use Rattle.cobs.specs.declared.dec.state.DecodeResult.{DecodeResult}
 use Rattle.cobs.specs.declared.dec.state.DecodeResult.TheVariants.{NoData, DataStart, DataComplete, DataContinue}
-use Rattle.cobs.specs.declared.dec.DecodeError.TheVariants.{InvalidFrame, TargetBufTooSmall}
+use Rattle.cobs.specs.declared.error.DecodeError.TheVariants.{InvalidFrame, TargetBufTooSmall}
 
 -- how a streaming decoder reports an outcome: as the free decoders do, in an option
 abbrev pub fed_result : Outcome → Result (Option ℕ) DecodeError

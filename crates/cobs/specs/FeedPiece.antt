@@ -6,8 +6,8 @@ use Rattle.cobs.specs.Feed.{Phase, Idle, PhaseAfter, DecoderAfter, Feeds}
 use Rattle.cobs.specs.Overwritten.{overwritten}
 use Rattle.cobs.specs.Piece.{output}
 use Rattle.cobs.specs.Push.{last_piece}
-use Rattle.cobs.specs.declared.dec.DecodeError.{DecodeError}
-use Rattle.cobs.specs.declared.dec.DecodeError.TheVariants.{EmptyFrame, InvalidFrame, TargetBufTooSmall}
+use Rattle.cobs.specs.declared.error.DecodeError.{DecodeError}
+use Rattle.cobs.specs.declared.error.DecodeError.TheVariants.{EmptyFrame, InvalidFrame, TargetBufTooSmall}
 use Rattle.cobs.specs.declared.dec.frame_decoder.PieceEnd.{PieceEnd}
 use Rattle.cobs.specs.declared.dec.frame_decoder.PieceEnd.TheVariants as ends
 

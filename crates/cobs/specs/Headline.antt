@@ -2,11 +2,11 @@
 use Rattle.std.specs.Prelude.{◌≡◌, ◌≢◌, ℕ, List, [], length, take, Option, Result, IsOkAnd, IsSomeAnd, IfErr, ⊤}
 use Rattle.cobs.specs.Grammar.{HasNoZero}
 use Rattle.cobs.specs.Fields.Report.{frame_size_of}
-use Rattle.cobs.specs.declared.dec.DecodeReport.{DecodeReport}
-use Rattle.cobs.specs.declared.dec.DecodeError.{DecodeError}
-use Rattle.cobs.specs.declared.dec.PushError.{PushError}
-use Rattle.cobs.specs.declared.dec.DecodeVecError.{DecodeVecError}
-use Rattle.cobs.specs.declared.dec.DecodeVecError.TheVariants.{Decode, Memory}
+use Rattle.cobs.specs.declared.error.DecodeReport.{DecodeReport}
+use Rattle.cobs.specs.declared.error.DecodeError.{DecodeError}
+use Rattle.cobs.specs.declared.error.PushError.{PushError}
+use Rattle.cobs.specs.declared.error.DecodeVecError.{DecodeVecError}
+use Rattle.cobs.specs.declared.error.DecodeVecError.TheVariants.{Decode, Memory}
 
 -- a list that may be a frame: it isn't empty, and the sentinel 0 isn't in it
 abbrev pub IsPiece : List ℕ → Type 0

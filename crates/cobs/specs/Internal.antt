@@ -1,5 +1,4 @@
 -- Words that contracts of private functions alone cite.
 pub mod Taking
-pub mod DecodedUpTo
 pub mod FeedsQuietly
 pub mod KeptBytes

@@ -1,9 +1,21 @@
 -- Words of the laws.
-use Rattle.std.specs.Prelude.{◌≡◌, ◌≢◌, ℕ, List, [], ◌∷◌, ◌++◌, ◌⊎◌}
+use Rattle.std.specs.Prelude.{◌≡◌, ◌≢◌, ◌<◌, ◌≤◌, ◌+◌, ℕ, List, [], ◌∷◌, ◌++◌, ◌⊎◌, length, take, slice_index, slice_set, true, false, All, Option, Some, None, Ok, Result}
 use Rattle.std.specs.List.{concat}
-use Rattle.cobs.specs.Grammar.{HasNoZero, lone_block, IsEncodedFrame}
-use Rattle.cobs.specs.Length.{EndsInFullRun}
-use Rattle.cobs.specs.Stream.{ended_pieces, stream_outcomes, unended}
+use Rattle.cobs.specs.Feed.{DecoderAfter, Feeds, Idle, Phase}
+use Rattle.cobs.specs.FeedPiece.{TakesPiece, end_reported, outcome_at}
+use Rattle.cobs.specs.Fields.Encoders.{IsPlaceIn}
+use Rattle.cobs.specs.Grammar.{HasNoZero, lone_block, IsEncodedFrame, Reads}
+use Rattle.cobs.specs.Headline.{IsPiece, PushesMessage}
+use Rattle.cobs.specs.Length.{EndsInFullRun, encoded_len}
+use Rattle.cobs.specs.OpenBlock.{CobsEncoderAfter, Reached, next_of, place_at}
+use Rattle.cobs.specs.Push.{PushesBytes}
+use Rattle.cobs.specs.Step.{next_result, next_buffer, next_phase}
+use Rattle.cobs.specs.Stream.{ended_pieces, outcome_of, stream_outcomes, unended}
+use Rattle.cobs.specs.declared.error.DecodeError.{DecodeError}
+use Rattle.cobs.specs.declared.error.DecodeReport.{DecodeReport}
+use Rattle.cobs.specs.declared.error.PushError.{PushError}
+use Rattle.cobs.specs.declared.dec.frame_decoder.PieceEnd.{PieceEnd}
+use Rattle.cobs.specs.declared.dec.frame_decoder.PieceEnd.TheVariants.{Message}
 
 -- f is the encoded frame of m or, where m ends in a full run, that frame and the lone block after it
 abbrev pub IsFrameFor : List ℕ → List ℕ → Type 0
@@ -31,3 +43,31 @@ pub record StreamLaw : Type 0 where
   pub none : (x : List ℕ) (n : ℕ) → HasNoZero x → stream_outcomes x n ≡ []
   pub pieces : (x y : List ℕ) → ended_pieces (x ++ y) ≡ ended_pieces x ++ ended_pieces (unended x ++ y)
   pub piece : (x : List ℕ) → x ≢ [] → HasNoZero x → ended_pieces (x ++ 0 ∷ []) ≡ x ∷ []
+
+-- `law_16`: an encoder over a slice, byte by byte
+pub record EncoderLaw : Type 0 where
+  pub nothing : (slice : List ℕ) → 0 < length slice → CobsEncoderAfter slice (place_at 0 1 false) []
+  pub place : (slice m : List ℕ) (reached : Reached) → CobsEncoderAfter slice reached m → IsPlaceIn (length slice) reached
+  pub goes_on : (slice m a bytes : List ℕ) (reached : Reached) → CobsEncoderAfter slice reached m → HasNoZero a → length a + 1 ≡ reached.block.code → bytes ≢ [] → encoded_len (m ++ bytes) ≡ reached.block.index + encoded_len (a ++ bytes)
+  pub joins : (slice m : List ℕ) (reached : Reached) (byte : ℕ) → CobsEncoderAfter slice reached m → byte ≢ 0 → reached.block.code < 254 → next_of reached < length slice → CobsEncoderAfter (slice_set slice (next_of reached) byte) (place_at reached.block.index (reached.block.code + 1) false) (m ++ byte ∷ [])
+  pub fills : (slice m : List ℕ) (reached : Reached) (byte : ℕ) → CobsEncoderAfter slice reached m → byte ≢ 0 → reached.block.code ≡ 254 → next_of reached < length slice → CobsEncoderAfter (slice_set (slice_set slice (next_of reached) byte) reached.block.index 255) (place_at (reached.block.index + 255) 1 true) (m ++ byte ∷ [])
+  pub closes : (slice m : List ℕ) (reached : Reached) → CobsEncoderAfter slice reached m → next_of reached < length slice → CobsEncoderAfter (slice_set slice reached.block.index reached.block.code) (place_at (next_of reached) 1 false) (m ++ 0 ∷ [])
+  pub frame : (slice m : List ℕ) (reached : Reached) → CobsEncoderAfter slice reached m → reached.full ≡ false → IsEncodedFrame (take (next_of reached) (slice_set slice reached.block.index reached.block.code)) m
+  pub full_frame : (slice m : List ℕ) (reached : Reached) → CobsEncoderAfter slice reached m → reached.full ≡ true → IsEncodedFrame (take reached.block.index slice) m
+
+-- `law_17`: a decoder, byte by byte
+pub record DecoderLaw : Type 0 where
+  pub step : (buffer : List ℕ) (phase : Phase) (byte : ℕ) → let n = length buffer in Feeds buffer phase byte (next_result n phase byte) (next_buffer buffer phase byte) (next_phase n phase byte)
+  pub nothing : (buffer : List ℕ) (phase : Phase) → TakesPiece buffer phase [] None buffer phase
+  pub byte : (bytes buffer between buffer' : List ℕ) (phase phase_between phase' : Phase) (result : Result (Option ℕ) DecodeError) (i : ℕ) → i < length bytes → TakesPiece buffer phase (take i bytes) None between phase_between → Feeds between phase_between (slice_index bytes i) result buffer' phase' → (slice_index bytes i ≡ 0 → end_reported result ≡ None) → TakesPiece buffer phase (take (i + 1) bytes) None buffer' phase'
+  pub end : (bytes buffer between buffer' : List ℕ) (phase phase_between phase' : Phase) (result : Result (Option ℕ) DecodeError) (end : PieceEnd) (i : ℕ) → i < length bytes → TakesPiece buffer phase (take i bytes) None between phase_between → Feeds between phase_between (slice_index bytes i) result buffer' phase' → slice_index bytes i ≡ 0 → end_reported result ≡ Some end → TakesPiece buffer phase bytes (Some (end, i + 1)) buffer' phase'
+
+-- `law_18`: what the streaming decoders make of a frame
+pub record FrameLaw : Type 0 where
+  pub fed : (buffer buffer' f m : List ℕ) (phase phase' : Phase) (result : Result (Option ℕ) DecodeError) → Feeds buffer phase 0 result buffer' phase' → DecoderAfter buffer phase f → Reads f m → length m ≤ length buffer → (result ≡ Ok (Some (length m))) × (take (length m) buffer' ≡ m)
+  pub fed_only : (buffer buffer' f : List ℕ) (phase phase' : Phase) (n : ℕ) → Feeds buffer phase 0 (Ok (Some n)) buffer' phase' → DecoderAfter buffer phase f → All (λ byte. byte < 256) f → Reads f (take n buffer')
+  pub taken : (buffer buffer' f more m : List ℕ) (phase phase' : Phase) (result : Option (PieceEnd × ℕ)) → TakesPiece buffer phase (f ++ 0 ∷ more) result buffer' phase' → phase ≡ Idle → Reads f m → length m ≤ length buffer → (result ≡ Some (Message (length m), length f + 1)) × (take (length m) buffer' ≡ m)
+  pub taken_only : (buffer buffer' f more : List ℕ) (phase phase' : Phase) (n count : ℕ) → TakesPiece buffer phase (f ++ 0 ∷ more) (Some (Message n, count)) buffer' phase' → phase ≡ Idle → IsPiece f → All (λ byte. byte < 256) f → Reads f (take n buffer')
+  pub ends : (buffer buffer' f more : List ℕ) (phase phase' : Phase) (result : Option (PieceEnd × ℕ)) → TakesPiece buffer phase (f ++ 0 ∷ more) result buffer' phase' → phase ≡ Idle → IsPiece f → (end : PieceEnd) × (result ≡ Some (end, length f + 1)) × (outcome_at end buffer' ≡ outcome_of f (length buffer))
+  pub pushed : (buffer buffer' bytes f m : List ℕ) (phase phase' : Phase) (result : Result (Option DecodeReport) PushError) → PushesBytes buffer phase bytes result buffer' phase' → phase ≡ Idle → bytes ≡ f ++ 0 ∷ [] → All (λ byte. byte < 256) bytes → Reads f m → length m ≤ length buffer → PushesMessage result buffer' m
+  pub pushed_only : (buffer buffer' bytes f m : List ℕ) (phase phase' : Phase) (result : Result (Option DecodeReport) PushError) → PushesBytes buffer phase bytes result buffer' phase' → phase ≡ Idle → bytes ≡ f ++ 0 ∷ [] → All (λ byte. byte < 256) bytes → IsPiece f → PushesMessage result buffer' m → Reads f m × (length m ≤ length buffer)

@@ -2,8 +2,8 @@
 -- `feed` rests on it, and `law_17` ties it to `Feeds`, which says what a byte means after the front of a piece.
 use Rattle.std.specs.Prelude.{ℕ, zero, suc, ◌+◌, ◌-◌, ◌==◌, nat_lt, nat_le, Bool, true, false, List, slice_set, Option, Some, None, Result, Ok, Err, if◌then◌else◌}
 use Rattle.cobs.specs.Feed.{Phase, Idle, Within, Overlong}
-use Rattle.cobs.specs.declared.dec.DecodeError.{DecodeError}
-use Rattle.cobs.specs.declared.dec.DecodeError.TheVariants.{InvalidFrame, TargetBufTooSmall}
+use Rattle.cobs.specs.declared.error.DecodeError.{DecodeError}
+use Rattle.cobs.specs.declared.error.DecodeError.TheVariants.{InvalidFrame, TargetBufTooSmall}
 
 -- one more byte in the buffer, where it has room
 abbrev pub grows : ℕ → Bool → ℕ → ℕ → Phase

@@ -1,148 +1,23 @@
 //! Decoding: from frames to messages.
-ghost use Rattle.std.specs.Prelude.{◌≡◌};
-ghost use Rattle.cobs.specs.Fields.Report.{frame_size_of, parsed_size_of};
 
-mod blocks;
 mod buffered;
-mod find;
 mod forms;
 mod frame_decoder;
-mod front;
 mod heapless;
 mod in_place;
-mod piece;
+mod kind;
 mod run;
 mod state;
+mod stretch;
 mod unbuffered;
 mod whole;
 
-pub use blocks::{FrameKind, frame_kind};
 pub use buffered::{CobsDecoder, CobsDecoderOwned};
 pub use forms::{decode_vec, decode_vec_with_sentinel, decode_with_sentinel};
-pub(crate) use frame_decoder::piece_end;
 pub use frame_decoder::{FrameDecoder, PieceEnd, WriteBuffer};
 pub use heapless::CobsDecoderHeapless;
 pub use in_place::{decode_in_place, decode_in_place_report, decode_in_place_with_sentinel};
-use serde::{Deserialize, Serialize};
+pub use kind::{FrameKind, frame_kind};
 pub use state::{DecodeResult, DecoderState};
-use std::alloc::AllocError;
-use thiserror::Error;
 pub use unbuffered::{DecoderPhase, UnbufferedDecoder};
 pub use whole::decode;
-
-/// Why a frame is rejected. The names are those of the crate `cobs`.
-///
-/// ```
-/// assert_eq!(rt; decode(&[], &mut [0; 4]), Err(DecodeError::EmptyFrame));
-/// assert_eq!(rt;
-///     decode(&[3, 1, 2], &mut [0; 1]),
-///     Err(DecodeError::TargetBufTooSmall)
-/// );
-/// ```
-#[derive(Debug, Drop, PartialEq, Eq, Error, Serialize, Deserialize)]
-pub enum DecodeError {
-    /// There was no byte to decode.
-    #[error("empty input frame")]
-    EmptyFrame,
-
-    /// The frame breaks off inside a block, or no frame is there.
-    #[error("frame with invalid format, written {decoded_bytes} to decoded buffer")]
-    InvalidFrame {
-        /// How many decoded bytes are at the front of the buffer.
-        decoded_bytes: usize,
-    },
-
-    /// The buffer is shorter than what the frame decodes to.
-    #[error("target buffer too small")]
-    TargetBufTooSmall,
-}
-
-/// Why a `push` of a streaming decoder found no message, and after how many bytes. (A choice of this library.)
-///
-/// The decoder has taken these bytes and none after them, so the caller goes on by pushing the others.
-///
-/// ```
-/// let mut buffer = [0; 4];
-/// let mut decoder = CobsDecoder::new(&mut buffer);
-/// let rejected = PushError {
-///     error: DecodeError::InvalidFrame { decoded_bytes: 1 },
-///     parsed_size: 3,
-/// };
-/// assert_eq!(rt; decoder.push(&[3, 7, 0, 2, 9, 0]), Err(rejected));
-/// ```
-#[derive(Debug, Drop, PartialEq, Eq, Error)]
-#[error("{error}")]
-pub struct PushError {
-    /// The result for the last byte that was consumed.
-    pub error: DecodeError,
-
-    /// How many bytes were consumed, the one that raised the error included.
-    pub parsed_size: usize,
-}
-
-/// Why a source gave no vector. (A choice of this library: memory may run out, and nothing aborts.)
-///
-/// ```
-/// let rejected = decode_vec(alloc, &[]);
-/// assert_eq!(rt;
-///     rejected,
-///     Err(DecodeVecError::Decode(DecodeError::EmptyFrame))
-/// );
-/// ```
-#[derive(Debug, Drop, PartialEq, Eq, Error)]
-pub enum DecodeVecError {
-    /// The source has no message.
-    #[error("{0}")]
-    Decode(DecodeError),
-
-    /// There was no memory for the vector.
-    #[error("out of memory")]
-    Memory(AllocError),
-}
-
-/// The sizes of a decoded message: how many bytes were consumed for it, and how many it has. The names are those of the
-/// crate `cobs`.
-///
-/// ```
-/// let report = decode(&[0, 3, 1, 2, 0, 1], &mut [0; 4])?;
-/// assert_eq!(rt; report.parsed_size(), 5);
-/// assert_eq!(rt; report.frame_size(), 2);
-/// ```
-#[derive(Clone, Copy, Debug, PartialEq, Eq, Serialize, Deserialize)]
-pub struct DecodeReport {
-    pub(crate) parsed_size: usize,
-    pub(crate) frame_size: usize,
-}
-
-impl DecodeReport {
-    /// Returns how many bytes of the source were consumed. The call that made the report says whether leading sentinels
-    /// and the one after the frame are among them.
-    ///
-    /// ```
-    /// assert_eq!(rt; decode(&[0, 1, 0], &mut [])?.parsed_size(), 3);
-    /// ```
-    pub fn parsed_size(&self) -> usize
-        ensures size { result ≡ parsed_size_of self.now }
-    {
-        self.parsed_size
-    }
-
-    /// Returns how many bytes the message has; they are at the front of the buffer.
-    ///
-    /// ```
-    /// assert_eq!(rt; decode(&[0, 2, 7], &mut [0; 4])?.frame_size(), 1);
-    /// ```
-    pub fn frame_size(&self) -> usize
-        ensures size { result ≡ frame_size_of self.now }
-    {
-        self.frame_size
-    }
-}
-
-/// The name that [`DecodeReport`] had. It is deprecated since version 0.5.0: use `DecodeReport`.
-///
-/// ```
-/// let report: DecodingResult = decode(&[2, 7, 0], &mut [0; 4])?;
-/// assert_eq!(rt; report.parsed_size(), 3);
-/// ```
-pub type DecodingResult = DecodeReport;

@@ -5,7 +5,6 @@ ghost use Rattle.cobs.specs.Length.{encoded_len};
 
 mod blocks;
 mod encoder;
-mod error;
 mod in_place;
 mod progress;
 mod room;
@@ -14,16 +13,15 @@ mod state;
 mod unbuffered;
 mod vector;
 
-pub(crate) use blocks::FULL_CODE;
-use blocks::{append_rest_and_close, append_short, append_windows, close, fits_window_and_block};
+use crate::block::FULL_CODE;
+use crate::error::DestBufTooSmallError;
+use blocks::{append, append_short, close};
 use cobs_bytes::window::WINDOW;
 pub use encoder::CobsEncoder;
-pub use error::DestBufTooSmallError;
 pub use in_place::encode_in_place;
 pub use progress::EncoderProgress;
 use progress::START;
 use room::try_append;
-pub(crate) use sentinel::xor_bytes;
 pub use sentinel::{
     encode_including_sentinels, encode_with_sentinel, try_encode_including_sentinels,
     try_encode_with_sentinel,
@@ -73,26 +71,10 @@ fn encode_long(source: &[u8], dest: &mut [u8]) -> usize
     ensures len { result ≡ encoded_len source.now }
     ensures rest { drop result dest.new ≡ drop result dest.old }
 {
-    if source.len() <= WINDOW {
-        return append_rest_and_close(source, dest, START);
+    if source.is_empty() {
+        return close(dest, START);
     }
-    let (read, progress) = append_windows(source, dest, START);
-    let left = &source[read..];
-    if !fits_window_and_block(progress, left.len()) {
-        // Anew from its fields, so that the short way keeps them in registers.
-        let EncoderProgress {
-            index,
-            code,
-            is_full,
-        } = progress;
-        let behind = EncoderProgress {
-            index,
-            code,
-            is_full,
-        };
-        return append_rest_and_close(left, dest, behind);
-    }
-    let progress = append_short(left, dest, progress, false);
+    let progress = append(source, dest, START);
     close(dest, progress)
 }
 

@@ -24,11 +24,9 @@ ghost use Rattle.cobs.specs.Push.{last_piece};
 ghost use Rattle.cobs.specs.Sentinel.{IsFreeOf, xor_each};
 ghost use Rattle.cobs.specs.Stream.{Message, first_piece, head, outcome_of, stream_outcomes, unended};
 
-mod blocks;
 mod coders;
 
-pub use blocks::{law_19, law_20};
-pub use coders::{law_15, law_16, law_17, law_18, law_21};
+pub use coders::{law_15, law_16, law_17, law_18, law_19, law_20, law_21};
 
 /// A frame reads as its output: bytes read as a message exactly if there are some, none is a zero, their last
 /// block has all the bytes that its code counts, and the message is what they decode to. No output is longer than its

@@ -60,24 +60,29 @@
 ghost use Rattle.std.specs.Prelude.{◌≡◌, ◌<◌, ◌^◌};
 ghost use Rattle.cobs.specs.Length.{max_overhead, max_encoded_len};
 
+mod block;
 mod dec;
 mod enc;
+mod error;
+mod find;
 mod framed;
 pub mod laws;
 mod stream;
 
 pub use dec::{
-    CobsDecoder, CobsDecoderHeapless, CobsDecoderOwned, DecodeError, DecodeReport, DecodeResult,
-    DecodeVecError, DecoderPhase, DecoderState, DecodingResult, FrameDecoder, FrameKind, PieceEnd,
-    PushError, UnbufferedDecoder, WriteBuffer, decode, decode_in_place, decode_in_place_report,
-    decode_in_place_with_sentinel, decode_vec, decode_vec_with_sentinel, decode_with_sentinel,
-    frame_kind,
+    CobsDecoder, CobsDecoderHeapless, CobsDecoderOwned, DecodeResult, DecoderPhase, DecoderState,
+    FrameDecoder, FrameKind, PieceEnd, UnbufferedDecoder, WriteBuffer, decode, decode_in_place,
+    decode_in_place_report, decode_in_place_with_sentinel, decode_vec, decode_vec_with_sentinel,
+    decode_with_sentinel, frame_kind,
 };
 pub use enc::{
-    CobsEncoder, DestBufTooSmallError, EncoderProgress, EncoderState, PushResult,
-    UnbufferedEncoder, encode, encode_in_place, encode_including_sentinels, encode_vec,
-    encode_vec_including_sentinels, encode_vec_with_sentinel, encode_with_sentinel, try_encode,
-    try_encode_including_sentinels, try_encode_with_sentinel,
+    CobsEncoder, EncoderProgress, EncoderState, PushResult, UnbufferedEncoder, encode,
+    encode_in_place, encode_including_sentinels, encode_vec, encode_vec_including_sentinels,
+    encode_vec_with_sentinel, encode_with_sentinel, try_encode, try_encode_including_sentinels,
+    try_encode_with_sentinel,
+};
+pub use error::{
+    DecodeError, DecodeReport, DecodeVecError, DecodingResult, DestBufTooSmallError, PushError,
 };
 pub use framed::{FrameReader, FrameSource, Next, ReadFault, Recorded};
 pub use stream::{FrameOutcome, decode_stream, encode_frames, encode_frames_room};

@@ -1,15 +1,24 @@
-//! The examples in the documentation of the calls of `cobs` that decode a whole frame, and of its state machine, as tests.
+//! The examples in the documentation of the calls of `cobs` that decode a whole frame, of its state machine and of its
+//! errors, as tests.
 //!
-//! Below the imports all is written by `tests/docs.py --write` from the doc comments of `crates/cobs/src/dec.rt` and
+//! Below the imports all is written by `tests/docs.py --write` from the doc comments of `crates/cobs/src/error.rt` and
 //! `dec/`. An example is changed there.
 
 use cobs::{
     CobsDecoder, DecodeError, DecodeResult, DecodeVecError, DecoderState, DecodingResult,
-    FrameKind, PushError, decode, decode_in_place, decode_in_place_report,
+    DestBufTooSmallError, FrameKind, PushError, decode, decode_in_place, decode_in_place_report,
     decode_in_place_with_sentinel, decode_vec, decode_vec_with_sentinel, decode_with_sentinel,
     frame_kind,
 };
 use std::test::Fail;
+
+#[test]
+fn dest_buf_too_small_error_example(rt: HostRuntime) -> Result<(), Fail> {
+    let alloc = rt.alloc();
+    let text = DestBufTooSmallError.to_string(alloc)?;
+    assert_eq!(rt; text.as_str(), "out of bounds error during encoding");
+    Ok(())
+}
 
 #[test]
 fn decode_error_example(rt: HostRuntime) {
@@ -69,23 +78,6 @@ fn decoding_result_example(rt: HostRuntime) -> Result<(), Fail> {
 }
 
 #[test]
-fn frame_kind_example(rt: HostRuntime) {
-    assert_eq!(rt; frame_kind(&[]), FrameKind::NotAFrame);
-    assert_eq!(rt; frame_kind(&[1]), FrameKind::Canonical);
-}
-
-#[test]
-fn frame_kind_example_2(rt: HostRuntime) {
-    assert_eq!(rt; frame_kind(b"\x06hello"), FrameKind::Canonical);
-    assert_eq!(rt; frame_kind(b"\x07hello"), FrameKind::NotAFrame);
-
-    let mut longer = [1; 256];
-    longer[0] = 255;
-    assert_eq!(rt; frame_kind(&longer), FrameKind::Longer);
-    assert_eq!(rt; frame_kind(&longer[..255]), FrameKind::Canonical);
-}
-
-#[test]
 fn decode_with_sentinel_example(rt: HostRuntime) {
     let mut dest = [170; 5];
     let len = decode_with_sentinel(&[252, 245, 244, 253, 243, 255], &mut dest, 255);
@@ -134,6 +126,23 @@ fn decode_in_place_with_sentinel_example(rt: HostRuntime) {
     let mut buff = [252, 245, 244, 253, 243];
     assert_eq!(rt; decode_in_place_with_sentinel(&mut buff, 255), Ok(4));
     assert_eq!(rt; buff, [10, 11, 0, 12, 12]);
+}
+
+#[test]
+fn frame_kind_example(rt: HostRuntime) {
+    assert_eq!(rt; frame_kind(&[]), FrameKind::NotAFrame);
+    assert_eq!(rt; frame_kind(&[1]), FrameKind::Canonical);
+}
+
+#[test]
+fn frame_kind_example_2(rt: HostRuntime) {
+    assert_eq!(rt; frame_kind(b"\x06hello"), FrameKind::Canonical);
+    assert_eq!(rt; frame_kind(b"\x07hello"), FrameKind::NotAFrame);
+
+    let mut longer = [1; 256];
+    longer[0] = 255;
+    assert_eq!(rt; frame_kind(&longer), FrameKind::Longer);
+    assert_eq!(rt; frame_kind(&longer[..255]), FrameKind::Canonical);
 }
 
 #[test]

@@ -109,14 +109,6 @@ fn cobs_encoder_finalize_example(rt: HostRuntime) -> Result<(), Fail> {
 }
 
 #[test]
-fn dest_buf_too_small_error_example(rt: HostRuntime) -> Result<(), Fail> {
-    let alloc = rt.alloc();
-    let text = DestBufTooSmallError.to_string(alloc)?;
-    assert_eq!(rt; text.as_str(), "out of bounds error during encoding");
-    Ok(())
-}
-
-#[test]
 fn encode_in_place_example(rt: HostRuntime) {
     let mut buffer = *b"\0hello..";
     assert_eq!(rt; encode_in_place(&mut buffer, 5), 6);

@@ -187,26 +187,6 @@ pub fn reader_after_zero(mut decoder: CobsDecoderOwned) -> FrameReader<CobsDecod
     FrameReader::new(decoder)
 }
 
-/// The example of `law_19`.
-pub fn is_canonical_behind(block: &[u8], frame: &[u8]) -> bool
-    requires block { IsBlock block.now }
-    requires not_full { IsFull block.now → ⊥ }
-    requires some { frame.now ≢ [] }
-    ensures { IsTrue result → IsCanonical (block.now ++ frame.now) }
-{
-    law_19();
-    frame_kind(frame) == FrameKind::Canonical
-}
-
-/// The example of `law_20`.
-pub fn decode_block<'a>(block: &'a [u8]) -> &'a [u8]
-    requires { IsBlock block.now }
-    ensures { result.now ≡ output block.now }
-{
-    law_20();
-    &block[1..]
-}
-
 /// The example of `law_15`.
 pub fn encode_short(message: &[u8], dest: &mut [u8]) -> usize
     requires nonzero { HasNoZero message.now }
@@ -248,6 +228,26 @@ pub fn end_frame(decoder: &mut CobsDecoderOwned) -> Result<Option<usize>, Decode
 {
     law_18();
     decoder.feed(0)
+}
+
+/// The example of `law_19`.
+pub fn is_canonical_behind(block: &[u8], frame: &[u8]) -> bool
+    requires block { IsBlock block.now }
+    requires not_full { IsFull block.now → ⊥ }
+    requires some { frame.now ≢ [] }
+    ensures { IsTrue result → IsCanonical (block.now ++ frame.now) }
+{
+    law_19();
+    frame_kind(frame) == FrameKind::Canonical
+}
+
+/// The example of `law_20`.
+pub fn decode_block<'a>(block: &'a [u8]) -> &'a [u8]
+    requires { IsBlock block.now }
+    ensures { result.now ≡ output block.now }
+{
+    law_20();
+    &block[1..]
 }
 
 /// The example of `law_21`.

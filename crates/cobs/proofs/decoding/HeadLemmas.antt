@@ -17,6 +17,11 @@ front_is_head (byte ∷ t) (suc n) within none stop =
     ap (λ (x : List ℕ). byte ∷ x) (front_is_head t n (omega arith) (All-tail (λ b. b ≢ 0) byte (take n t) none) (λ more. stop (omega arith)))
     ∙ sym (head-cons byte t (All-head (λ b. b ≢ 0) byte (take n t) none))
 
+-- a list that begins with a code has one in front of its first zero
+pub head_some : (t : List ℕ) → 0 < length t → get_or t 0 0 ≢ 0 → 0 < length (head t)
+head_some [] some other = absurd (omega arith)
+head_some (byte ∷ t) some other = omega (arith, ap length (head-cons byte t other))
+
 leading_zeros-none : (b : ℕ) (t : List ℕ) → b ≢ 0 → leading_zeros (b ∷ t) ≡ 0
 leading_zeros-none b t some = ap (λ (v : Bool). cond v (1 + leading_zeros t) 0) (ne_eqb b 0 some)
 

@@ -10,9 +10,9 @@ use Rattle.cobs.specs.Piece.{output, kept_output, is_whole, IsWhole}
 use Rattle.cobs.specs.Stream.{Broken, TooLong, outcome_of, head}
 use Rattle.cobs.specs.Decode.{outcome_result, report_result, len_through_piece, result_of_decode, first_output, head_result, head_result_within, in_place, result_in_place, in_place_report, result_of_sentinel_decode, output_of, result_by_piece}
 use Rattle.cobs.specs.Headline.{IsPiece, BeginsWith, ReturnsMessage, ReportsMessage}
-use Rattle.cobs.specs.declared.dec.DecodeReport.{DecodeReport}
-use Rattle.cobs.specs.declared.dec.DecodeError.{DecodeError}
-use Rattle.cobs.specs.declared.dec.DecodeError.TheVariants.{InvalidFrame, TargetBufTooSmall}
+use Rattle.cobs.specs.declared.error.DecodeReport.{DecodeReport}
+use Rattle.cobs.specs.declared.error.DecodeError.{DecodeError}
+use Rattle.cobs.specs.declared.error.DecodeError.TheVariants.{InvalidFrame, TargetBufTooSmall}
 use Rattle.cobs.proofs.format.FrameLemmas.{frame_whole, frame_output, reads_output}
 use Rattle.cobs.proofs.decoding.KeptLemmas.{all-kept}
 use Rattle.cobs.proofs.decoding.OutcomeLemmas.{outcome_of_whole, first_piece_alone, head_alone, length-head, output_within}

@@ -1,14 +1,14 @@
 -- What `decode` returns: an outcome by the counts of a piece, and a source's result by its first piece.
-use Rattle.std.proofs.Common.{◌≡◌, ◌≢◌, ℕ, ◌<◌, ◌≤◌, Bool, List, [], length, None, Result, Ok, Err, if◌then◌else◌, sym, ap, arith}
+use Rattle.std.proofs.Common.{◌≡◌, ◌≢◌, ℕ, ◌<◌, ◌≤◌, Bool, List, [], length, take, drop, None, Result, Ok, Err, if◌then◌else◌, sym, ap, arith, length-take-le, take-append-drop, take_all}
 use Rattle.std.proofs.lemmas.Bool.{le-leb, lt-leb, ne_eqb, eq-eqb}
 use Rattle.cobs.specs.Piece.{output, last_part, missing, is_whole}
 use Rattle.cobs.specs.Stream.{Message, Broken, TooLong, outcome_of, first_piece, head}
 use Rattle.cobs.specs.Overwritten.{overwritten}
 use Rattle.cobs.specs.Fields.Report.{report_of}
 use Rattle.cobs.specs.Decode.{outcome_result, result_of_decode, head_result, in_place_report}
-use Rattle.cobs.specs.declared.dec.DecodeReport.{DecodeReport}
-use Rattle.cobs.specs.declared.dec.DecodeError.{DecodeError}
-use Rattle.cobs.specs.declared.dec.DecodeError.TheVariants.{InvalidFrame, TargetBufTooSmall}
+use Rattle.cobs.specs.declared.error.DecodeReport.{DecodeReport}
+use Rattle.cobs.specs.declared.error.DecodeError.{DecodeError}
+use Rattle.cobs.specs.declared.error.DecodeError.TheVariants.{InvalidFrame, TargetBufTooSmall}
 use Rattle.cobs.proofs.decoding.PieceCuts.{is_whole-of}
 
 module _ (p : List ℕ) (n : ℕ) where
@@ -34,6 +34,10 @@ result_of_decode-none source n h e = grind arith
 -- a buffer over which nothing is written
 pub overwritten-none : (buffer : List ℕ) → overwritten buffer [] ≡ buffer
 overwritten-none buffer = grind arith
+
+-- a buffer whose front is exactly what was to be written
+pub overwritten-front : (old new bytes : List ℕ) (written : ℕ) → length new ≡ length old → written ≤ length old → drop written new ≡ drop written old → take written new ≡ bytes → new ≡ overwritten old bytes
+overwritten-front old new bytes written same within rest is = grind (arith, length-take-le, take-append-drop, take_all)
 
 module _ (buffer h : List ℕ) (some : 0 < length buffer) (is : h ≡ head buffer) (result : Result ℕ DecodeError) (result-is : result ≡ head_result h) where
   pub in_place_report-rejected : (error : DecodeError) → result ≡ Err error → Err error ≡ in_place_report buffer

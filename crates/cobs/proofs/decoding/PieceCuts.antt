@@ -1,6 +1,5 @@
 -- A piece is its first part and what follows it: what that says of its output and of its last part.
-use Rattle.std.proofs.Common.{◌≡◌, ◌≢◌, ℕ, zero, suc, ◌+◌, ◌-◌, ◌/◌, ◌⊎◌, ◌<◌, ◌≤◌, eqb, List, [], ◌∷◌, ◌++◌, length, take, drop, replicate, if◌then◌else◌, ◌==◌, refl, sym, ap, ◌∙◌, arith, length-append, take_all, length-take-le, length-drop, get_or, inl, inr}
-use Rattle.std.proofs.lemmas.List.{drop-drop, drop_more}
+use Rattle.std.proofs.Common.{◌≡◌, ◌≢◌, ℕ, zero, suc, ◌+◌, ◌-◌, ◌/◌, ◌⊎◌, ◌<◌, ◌≤◌, eqb, List, [], ◌∷◌, ◌++◌, length, take, drop, if◌then◌else◌, ◌==◌, refl, ap, ◌∙◌, arith, length-append, take_all, length-take-le, length-drop, inl, inr}
 use Rattle.std.proofs.lemmas.Bool.{cases_lt, cases_eq, ne_eqb, eq-eqb}
 use Rattle.cobs.specs.Grammar.{bytes_of, joint, message_of, last_of}
 use Rattle.cobs.specs.Piece.{last_part, is_whole, missing, parts, parts_after, output}
@@ -51,10 +50,6 @@ pub is_whole-of : (p : List ℕ) → 0 < length p → is_whole p ≡ eqb (missin
 unfolding is_whole
 is_whole-of p h = grind arith
 
-pub last_part-ones : (n : ℕ) (p : List ℕ) → 0 < length p → last_part (replicate n 1 ++ p) ≡ last_part p
-last_part-ones zero p some = refl
-last_part-ones (suc n) p some = grind (arith, length-append, last_part-more, last_part-ones n p some)
-
 -- an output is shorter than its piece, by one byte and at most one in 255
 record Shorter (p : List ℕ) : Type 0 where
   less : length (output p) + 1 ≤ length p
@@ -74,41 +69,6 @@ shorter_by (suc n) (code ∷ bytes) h some = elim (cases_lt (code - 1) (length b
   | inr last ↦ let o = ap length (output-last code bytes last) in record { less = omega arith; long = omega arith }
 ]
 
-pub output-le : (p : List ℕ) → 0 < length p → length (output p) + 1 ≤ length p
-output-le p some = (shorter_by (length p) p (omega arith) some).less
-
 -- a short piece has no full part before its last one
 pub output_short : (p : List ℕ) → 0 < length p → length p < 255 → length (output p) + 1 ≡ length p
 output_short p some few = let s = shorter_by (length p) p (omega arith) some in omega arith
-
-pub output-long : (n : ℕ) (p : List ℕ) → n < length p → n < 254 → n ≤ length (output p)
-output-long n p h few = let s = shorter_by (length p) p (omega arith) (omega arith) in omega arith
-
--- parts of a code alone
-pub output-ones : (n : ℕ) (p : List ℕ) → 0 < length p → output (replicate n 1 ++ p) ≡ replicate n 0 ++ output p
-output-ones zero p some = refl
-output-ones (suc n) p some = grind (arith, length-append, output-more, (output-ones n p some))
-
--- how long the output of what is left of a piece is, where one part is left
-pub length-output-last : (piece : List ℕ) (read : ℕ) → read < length piece → length piece - read ≤ get_or piece read 0 → length (output (drop read piece)) + 1 ≡ length piece - read
-length-output-last piece read within last = grind (arith, length-drop, drop_more, output-last)
-
--- the part of a piece at a place
-module _ (piece : List ℕ) (read code : ℕ) (within : read < length piece) (is : code ≡ get_or piece read 0) where
-  pub part-cons : drop read piece ≡ code ∷ drop (read + 1) piece
-  part-cons = drop_more piece read 0 within ∙ ap (λ (k : ℕ). k ∷ drop (read + 1) piece) (sym is)
-
-  -- and where more parts follow
-  module _ (some : 0 < code) (more : read + code < length piece) where
-    pub part-next : drop (code - 1) (drop (read + 1) piece) ≡ drop (read + code) piece
-    part-next = drop-drop (code - 1) (read + 1) piece ∙ ap (λ (k : ℕ). drop k piece) (omega arith)
-
-    pub part-output : output (drop read piece) ≡ (take (code - 1) (drop (read + 1) piece) ++ joint_of code) ++ output (drop (read + code) piece)
-    part-output = grind (arith, length-drop, part-cons, output-more, joint_of, part-next)
-
-    pub part-length : length (output (drop read piece)) ≡ code - 1 + length (joint_of code) + length (output (drop (read + code) piece))
-    part-length = grind (arith, part-output, length-append, joint_of, length-drop, length-take-le)
-
-pub length-output-more : (piece : List ℕ) (read : ℕ) → read < length piece → 0 < get_or piece read 0 → get_or piece read 0 < length piece - read
-    → length (output (drop read piece)) ≡ get_or piece read 0 - 1 + length (joint_of (get_or piece read 0)) + length (output (drop (read + get_or piece read 0) piece))
-length-output-more piece read within some more = part-length piece read _ within refl some (omega arith)

@@ -57,7 +57,7 @@ pub output-push_more : (p : List ℕ) (b : ℕ) → 0 < missing (last_part p) �
 output-push_more [] b h = absurd (omega (arith, last_part-empty))
 output-push_more (c ∷ p) b h = (grown c p b).more_output h
 
-last_part-push_more : (p : List ℕ) (b : ℕ) → 0 < missing (last_part p) → last_part (p ++ b ∷ []) ≡ last_part p ++ b ∷ []
+pub last_part-push_more : (p : List ℕ) (b : ℕ) → 0 < missing (last_part p) → last_part (p ++ b ∷ []) ≡ last_part p ++ b ∷ []
 last_part-push_more [] b h = absurd (omega (arith, last_part-empty))
 last_part-push_more (c ∷ p) b h = (grown c p b).more_last h
 

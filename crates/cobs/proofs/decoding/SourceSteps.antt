@@ -1,8 +1,8 @@
--- A source for any sentinel that is decoded into a buffer of its own, so far.
-use Rattle.std.proofs.Common.{◌≡◌, ◌≢◌, ℕ, ◌-◌, ◌<◌, ◌≤◌, Bool, cond, All, List, [], ◌∷◌, ◌++◌, length, take, get_or, bit_xor, Err, Ok, sym, ap, ◌∙◌, subst, arith, length-append, length-take-le, take_at, append-nil}
+-- A source for any sentinel: what is before its first one, and the result for that.
+use Rattle.std.proofs.Common.{◌≡◌, ◌≢◌, ℕ, ◌<◌, ◌≤◌, Bool, cond, All, List, [], ◌∷◌, length, take, get_or, bit_xor, Err, sym, ap, ◌∙◌, subst, arith}
 use Rattle.std.specs.Int.Bits.{xor_self}
 use Rattle.std.proofs.lemmas.Bool.{le-leb, lt-leb}
-use Rattle.std.proofs.lemmas.List.{drop_all, get_or-map, length-map, take-map}
+use Rattle.std.proofs.lemmas.List.{get_or-map, length-map, take-map}
 use Rattle.std.proofs.lemmas.List.Elements.{All-map, All-weaker}
 use Rattle.cobs.specs.Overwritten.{overwritten}
 use Rattle.cobs.specs.Grammar.{HasNoZero}
@@ -10,13 +10,11 @@ use Rattle.cobs.specs.Piece.{kept_output}
 use Rattle.cobs.specs.Sentinel.{xor_each}
 use Rattle.cobs.specs.Stream.{head}
 use Rattle.cobs.specs.Decode.{head_result, head_result_within, result_of_sentinel_decode}
-use Rattle.cobs.specs.Internal.DecodedUpTo.{DecodedSource}
-use Rattle.cobs.specs.declared.dec.DecodeError.TheVariants.{InvalidFrame, TargetBufTooSmall}
+use Rattle.cobs.specs.declared.error.DecodeError.TheVariants.{TargetBufTooSmall}
 use Rattle.cobs.proofs.format.SentinelLemmas.{xor_twice}
 use Rattle.cobs.proofs.decoding.HeadLemmas.{front_is_head}
 use Rattle.cobs.proofs.decoding.KeptLemmas.{kept_output-empty}
 use Rattle.cobs.proofs.decoding.OutcomeSteps.{overwritten-none}
-use Rattle.cobs.proofs.decoding.BlockSteps.{all-kept, all-result, broken-kept, broken-result, overwritten-front}
 
 -- RESULTS BY THE KEPT OUTPUT
 
@@ -28,10 +26,6 @@ module _ (h : List ℕ) (n : ℕ) where
   -- where it is too long
   pub result-too_long : n < length (kept_output h) → Err TargetBufTooSmall ≡ head_result_within h n
   result-too_long long = sym (ap (λ (t : Bool). cond t (head_result h) (Err TargetBufTooSmall)) (lt-leb (length (kept_output h)) n long))
-
--- a buffer that is the front of what was to be written
-pub overwritten-full : (old new bytes more : List ℕ) → length new ≡ length old → bytes ≡ new ++ more → new ≡ overwritten old bytes
-overwritten-full old new bytes more same is = grind (arith, length-append, drop_all, append-nil, take_at)
 
 -- THE SOURCE BEFORE ITS FIRST SENTINEL
 
@@ -62,35 +56,3 @@ pub nothing_kept : (source dest : List ℕ) (s : ℕ) → length source ≡ 0 �
 unfolding head
 nothing_kept [] dest s e = sym (ap (overwritten dest) kept_output-empty ∙ overwritten-none dest)
 nothing_kept (byte ∷ source) dest s e = absurd (omega arith)
-
--- BLOCKS THAT ARE DECODED TO THE FRONT OF A BUFFER
-
-module _ (h old dest : List ℕ) (read written : ℕ) (d : DecodedSource h old dest read written) where
-  done-long : length (take written dest) ≡ written
-  done-long = length-take-le written dest (let r = d.room in let l = d.len in omega arith)
-
-  module _ (past : length h ≤ read) where
-    kept : kept_output h ≡ take written dest
-    kept = all-kept h (take written dest) read d.blocks past
-
-    pub all-buffer : dest ≡ overwritten old (kept_output h)
-    all-buffer = overwritten-front old dest (kept_output h) written d.len d.room d.rest kept
-
-    pub all-long : written ≡ length (kept_output h)
-    all-long = sym (ap length kept ∙ done-long)
-
-    pub all-count : Ok written ≡ head_result_within h (length old)
-    all-count = grind (arith, done-long, all-result, result-fits, kept)
-
-  module _ (code : ℕ) (here : read < length h) (is : code ≡ get_or h read 0) (broken : length h - read < code) where
-    kept-is : kept_output h ≡ take written dest
-    kept-is = broken-kept h (take written dest) read d.blocks code here is broken
-
-    pub broken-buffer : dest ≡ overwritten old (kept_output h)
-    broken-buffer = overwritten-front old dest (kept_output h) written d.len d.room d.rest kept-is
-
-    pub broken-long : written ≡ length (kept_output h)
-    broken-long = sym (ap length kept-is ∙ done-long)
-
-    pub broken-count : Err (InvalidFrame written) ≡ head_result_within h (length old)
-    broken-count = grind (arith, done-long, broken-result, result-fits, kept-is)

@@ -5,8 +5,8 @@ use Rattle.cobs.specs.Grammar.{Reads}
 use Rattle.cobs.specs.Piece.{output, kept_output, is_whole}
 use Rattle.cobs.specs.Decode.{decoded, decoded_head, message_of_piece, message_of_head}
 use Rattle.cobs.specs.Headline.{IsPiece}
-use Rattle.cobs.specs.declared.dec.DecodeError.{DecodeError}
-use Rattle.cobs.specs.declared.dec.DecodeError.TheVariants.{InvalidFrame}
+use Rattle.cobs.specs.declared.error.DecodeError.{DecodeError}
+use Rattle.cobs.specs.declared.error.DecodeError.TheVariants.{InvalidFrame}
 use Rattle.cobs.proofs.format.FrameLemmas.{frame_whole, frame_output, reads_output}
 use Rattle.cobs.proofs.decoding.OutcomeLemmas.{first_piece_alone, head_alone}
 

@@ -6,9 +6,9 @@ use Rattle.cobs.specs.Piece.{output, is_whole, kept_output}
 use Rattle.cobs.specs.Stream.{outcome_of, first_piece, head}
 use Rattle.cobs.specs.Fields.Report.{frame_size_of}
 use Rattle.cobs.specs.Decode.{outcome_result, result_of_decode, result_by_piece, output_of, first_output, message_of_piece, decoded, head_result, result_of_sentinel_decode, message_of_head, decoded_head}
-use Rattle.cobs.specs.declared.dec.DecodeReport.{DecodeReport}
-use Rattle.cobs.specs.declared.dec.DecodeError.{DecodeError}
-use Rattle.cobs.specs.declared.dec.DecodeError.TheVariants.{InvalidFrame, TargetBufTooSmall}
+use Rattle.cobs.specs.declared.error.DecodeReport.{DecodeReport}
+use Rattle.cobs.specs.declared.error.DecodeError.{DecodeError}
+use Rattle.cobs.specs.declared.error.DecodeError.TheVariants.{InvalidFrame, TargetBufTooSmall}
 use Rattle.cobs.proofs.decoding.OutcomeLemmas.{output_within, first_piece_head, length-head}
 use Rattle.cobs.proofs.decoding.SourceSteps.{result-fits}
 

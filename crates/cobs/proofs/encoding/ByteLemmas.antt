@@ -1,15 +1,16 @@
 -- What an encoder over a slice has taken after one byte more.
-use Rattle.std.proofs.Common.{◌≡◌, ◌≢◌, ℕ, ◌+◌, ◌-◌, ◌<◌, true, false, List, [], ◌∷◌, ◌++◌, length, take, replicate, refl, ap, ◌∙◌, arith, append-nil}
+use Rattle.std.proofs.Common.{◌≡◌, ◌≢◌, ℕ, ◌+◌, ◌-◌, ◌<◌, ◌≤◌, true, false, List, [], ◌∷◌, ◌++◌, length, get_or, replicate, refl, ap, ◌∙◌, arith}
 use Rattle.std.proofs.Math.ListN.{set}
-use Rattle.std.proofs.lemmas.List.{drop-set, length-set, take-set-le}
-use Rattle.std.proofs.lemmas.List.Elements.{All-cons, All-nil}
+use Rattle.std.proofs.lemmas.List.{length-set}
 use Rattle.cobs.specs.Grammar.{HasNoZero}
 use Rattle.cobs.specs.Length.{encoded_len}
-use Rattle.cobs.specs.OpenBlock.{CobsEncoderAfter, Reached, next_of, place_at}
-use Rattle.cobs.proofs.encoding.AfterLemmas.{from_after, to_after}
+use Rattle.cobs.specs.OpenBlock.{CobsEncoderAfter, IsPlaceIn, Reached, end_after, next_of, place_at}
+use Rattle.cobs.specs.Internal.Taking.{TakesFront}
+use Rattle.cobs.proofs.encoding.AfterLemmas.{at}
 use Rattle.cobs.proofs.encoding.CoreLemmas.{after-len}
 use Rattle.cobs.proofs.encoding.OpenLenLemmas.{length-ones, ones, same_start}
-use Rattle.cobs.proofs.encoding.OpenedLemmas.{Opened, Opened-close, Opened-join, Opened-same}
+use Rattle.cobs.proofs.encoding.ReachLemmas.{Reaches, Reaches-at, Reaches-weaker, Reaches-zero}
+use Rattle.cobs.proofs.encoding.TakingLemmas.{after-place, front-filled, front-taken, joined, reaches-start, short_room}
 
 -- how long the frame of a longer message is
 pub after-more : (slice m a bytes : List ℕ) (r : Reached) → CobsEncoderAfter slice r m → HasNoZero a → length a + 1 ≡ r.block.code → bytes ≢ [] → encoded_len (m ++ bytes) ≡ r.block.index + encoded_len (a ++ bytes)
@@ -17,46 +18,56 @@ after-more slice m a bytes r h nonzero long some =
     let k = length-ones (r.block.code - 1) in
     after-len slice m bytes r some h ∙ ap (λ (n : ℕ). r.block.index + n) (same_start (replicate (r.block.code - 1) 1) a bytes (ones (r.block.code - 1)) nonzero (omega arith))
 
-module _ (slice m : List ℕ) (r : Reached) (h : CobsEncoderAfter slice r m) (fits : next_of r < length slice) where
-  opened : Opened slice m r.block.index (next_of r) r.full
-  opened = from_after slice m r h
+-- the first byte of a source is taken
+module _ (source slice : List ℕ) (r : Reached) (some : 0 < length source) (place : IsPlaceIn (length slice) r) (fits : end_after r source ≤ length slice) where
+  start : Reaches (CobsEncoderAfter slice r) source slice slice (end_after r source) 0 r.block.index (next_of r) (λ _. Unit {0})
+  start = reaches-start source slice r some place.some place.not_full
 
-  -- a nonzero byte that is written behind the open block's bytes joins them
-  joined : (byte : ℕ) → byte ≢ 0 → r.block.code < 255 → Opened (set slice (next_of r) byte) (m ++ byte ∷ []) r.block.index (next_of r + 1) false
-  joined byte nz short =
-      let next : ℕ = next_of r in
-      let l = length-set slice next byte in
-      let same : take next _ ≡ take next slice = take-set-le next slice next byte (omega arith) in
-      grind (arith, drop-set, All-cons, All-nil, Opened-join, Opened-same, opened)
+  -- a zero closes the open block
+  pub byte-zero : {r' : Reached} → get_or source 0 0 ≡ 0 → r' ≡ at (next_of r) (next_of r + 1 - next_of r) false → TakesFront slice r source 1 (set slice r.block.index r.block.code) r'
+  byte-zero zero is =
+      let closed = Reaches-zero _ _ _ _ _ _ _ _ _ (λ full. full ≡ false) some zero (omega (arith, place.not_full)) fits refl start in
+      let code : set slice r.block.index (next_of r - r.block.index) ≡ set slice r.block.index r.block.code = ap (λ (x : ℕ). set slice r.block.index x) (omega arith) in
+      let n = length-set slice r.block.index r.block.code in
+      front-taken (omega arith) {full = false} (Reaches-at code refl refl refl (λ full p. p) closed) (omega arith) (λ all. refl) is
 
-pub after-byte : (slice m : List ℕ) (r : Reached) (byte : ℕ) → CobsEncoderAfter slice r m → byte ≢ 0 → r.block.code < 254 → next_of r < length slice
-    → CobsEncoderAfter (set slice (next_of r) byte) (place_at r.block.index (r.block.code + 1) false) (m ++ byte ∷ [])
-after-byte slice m r byte h nz short fits =
-    let l = length-set slice (next_of r) byte in
-    to_after (set slice (next_of r) byte) (m ++ byte ∷ []) r.block.index (next_of r + 1) (r.block.code + 1) false (omega arith) (omega arith) (omega arith)
-    (joined slice m r h fits byte nz (omega arith))
+  -- another byte joins it
+  more : get_or source 0 0 ≢ 0 → Reaches (CobsEncoderAfter slice r) source slice (set slice (next_of r) (get_or source 0 0)) (end_after r source) 1 r.block.index (next_of r + 1) (λ full. 0 < 1 → full ≡ false)
+  more other = joined _ _ _ _ _ _ _ _ _ _ some start refl other (omega (arith, place.not_full)) fits
 
--- the 254th fills the block, which is closed
-pub after-filled : (slice m : List ℕ) (r : Reached) (byte : ℕ) → CobsEncoderAfter slice r m → byte ≢ 0 → r.block.code ≡ 254 → next_of r < length slice
-    → CobsEncoderAfter (set (set slice (next_of r) byte) r.block.index 255) (place_at (r.block.index + 255) 1 true) (m ++ byte ∷ [])
-after-filled slice m r byte h nz is fits =
-    let next : ℕ = next_of r in
-    let after : List ℕ = set slice next byte in
-    let l = length-set slice next byte in
-    let k = length-set after r.block.index 255 in
-    let o = joined slice m r h fits byte nz (omega arith) in
-    let closed = Opened-close after (m ++ byte ∷ []) r.block.index (next + 1) 255 false (omega arith) (omega arith) o in
-    let sum : next + 1 ≡ r.block.index + 255 = omega arith in
-    grind (arith, to_after, append-nil)
+  pub byte-joins : {r' : Reached} → get_or source 0 0 ≢ 0 → r.block.code ≢ 254 → r' ≡ at r.block.index (next_of r + 1 - r.block.index) false → TakesFront slice r source 1 (set slice (next_of r) (get_or source 0 0)) r'
+  byte-joins other open' is =
+      let n = length-set slice (next_of r) (get_or source 0 0) in
+      front-taken (omega arith) {full = false} (Reaches-at refl refl refl refl (λ full p. p (omega arith)) (more other)) (omega (arith, place.not_full)) (λ all. refl) is
 
--- a zero closes the block
-pub after-zero : (slice m : List ℕ) (r : Reached) → CobsEncoderAfter slice r m → next_of r < length slice
-    → CobsEncoderAfter (set slice r.block.index r.block.code) (place_at (next_of r) 1 false) (m ++ 0 ∷ [])
-after-zero slice m r h fits =
-    let code : ℕ = r.block.code in
-    let l = length-set slice r.block.index code in
-    let closed = Opened-close slice m r.block.index (next_of r) code r.full (omega arith) refl (opened slice m r h fits) in
-    grind (arith, to_after)
+  -- and fills it, if it is the 254th
+  pub byte-fills : {r' : Reached} → get_or source 0 0 ≢ 0 → r.block.code ≡ 254 → r' ≡ at (next_of r + 1) (next_of r + 2 - (next_of r + 1)) true
+      → TakesFront slice r source 1 (set (set slice (next_of r) (get_or source 0 0)) r.block.index 255) r'
+  byte-fills other last is =
+      let n = length-set slice (next_of r) (get_or source 0 0) in
+      front-filled (omega arith) (omega arith) (Reaches-weaker (λ full p. tt) (more other)) (is ∙ ap (λ (x : ℕ). at (next_of r + 1) x true) (omega arith))
 
--- for the tactics of `append_byte`
-pub ruleset byte_steps = (after-byte, after-filled, after-zero)
+-- there is room for a byte
+fits-byte : (slice : List ℕ) (r : Reached) (byte : ℕ) → 0 < r.block.code → r.block.code < 255 → next_of r < length slice → end_after r (byte ∷ []) ≤ length slice
+fits-byte slice r byte some short room = grind (arith, short_room)
+
+-- the same of what it has taken
+module _ (slice m : List ℕ) (r : Reached) where
+  pub after-byte : (byte : ℕ) → CobsEncoderAfter slice r m → byte ≢ 0 → r.block.code < 254 → next_of r < length slice
+      → CobsEncoderAfter (set slice (next_of r) byte) (place_at r.block.index (r.block.code + 1) false) (m ++ byte ∷ [])
+  after-byte byte h other short room =
+      let place = after-place slice m r h in
+      (byte-joins (byte ∷ []) slice r (omega arith) place (fits-byte slice r byte place.some place.not_full room) other (omega arith) (ap (λ (x : ℕ). at r.block.index x false) (omega arith))).after m h
+
+  pub after-filled : (byte : ℕ) → CobsEncoderAfter slice r m → byte ≢ 0 → r.block.code ≡ 254 → next_of r < length slice
+      → CobsEncoderAfter (set (set slice (next_of r) byte) r.block.index 255) (place_at (r.block.index + 255) 1 true) (m ++ byte ∷ [])
+  after-filled byte h other last room =
+      let place = after-place slice m r h in
+      let full : r.block.index + 255 ≡ next_of r + 1 = omega arith in
+      let one : 1 ≡ next_of r + 2 - (next_of r + 1) = omega arith in
+      (byte-fills (byte ∷ []) slice r (omega arith) place (fits-byte slice r byte place.some place.not_full room) other last (ap (λ (x : ℕ). at x 1 true) full ∙ ap (λ (x : ℕ). at (next_of r + 1) x true) one)).after m h
+
+  pub after-zero : CobsEncoderAfter slice r m → next_of r < length slice → CobsEncoderAfter (set slice r.block.index r.block.code) (place_at (next_of r) 1 false) (m ++ 0 ∷ [])
+  after-zero h room =
+      let place = after-place slice m r h in
+      (byte-zero (0 ∷ []) slice r (omega arith) place (fits-byte slice r 0 place.some place.not_full room) refl (ap (λ (x : ℕ). at (next_of r) x false) (omega arith))).after m h

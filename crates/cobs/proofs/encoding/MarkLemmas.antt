@@ -66,7 +66,7 @@ module _ {H : List ℕ → Type 0} {source old slice after : List ℕ} {end read
   pub length-window : length (take len (drop read source)) ≡ len
   length-window = length-take-le len (drop read source) (let l = length-drop read source in omega arith)
 
-  copied-reaches : Reaches H source old after end read index next (λ _. Unit {0})
+  pub copied-reaches : Reaches H source old after end read index next (λ _. Unit {0})
   copied-reaches =
       let l = least' in
       Reaches-same H source old slice end read index next (λ _. Unit {0}) (λ _. Unit {0}) after
@@ -185,46 +185,44 @@ marks-end {H} {source} {old} {slice} {end} {read} {len} {index} {next} {zeros} {
     grind (arith, Reaches-at, joined)
 
 -- n zeros, in whose place ones are written
-pub row-taken : {H : List ℕ → Type 0} {source old slice copied after : List ℕ} {end read len index next zeros : ℕ} → Copied H source old slice copied end read len index next zeros → (n : ℕ)
+pub row-taken : {H : List ℕ → Type 0} {source old slice after : List ℕ} {end read index next : ℕ} {P : Bool → Type 0} → Reaches H source old slice end read index next P → next < index + 255 → end ≤ length slice → (n : ℕ)
     → 0 < n → read + n ≤ length source
-    → take n (drop read source) ≡ replicate n 0 → after ≡ take next (set copied index (next - index)) ++ (replicate n 1 ++ drop (next + n) (set copied index (next - index)))
+    → take n (drop read source) ≡ replicate n 0 → after ≡ take next (set slice index (next - index)) ++ (replicate n 1 ++ drop (next + n) (set slice index (next - index)))
     → WindowTaken H source old after end read n (next + n - 1) next
-row-taken {H} {source} {old} {slice} {copied} {after} {end} {read} {len} {index} {next} w n some inside zeros is =
-    let r = copied-reaches w in
-    let fits = length-after w in
-    let short = w.short in
+row-taken {H} {source} {old} {slice} {after} {end} {read} {index} {next} {P} r short fits n some inside zeros is =
     let room = least source end read index next r.ordered r.within r.room in
     let m : ℕ = n - 1 in
-    let coded : List ℕ = set copied index (next - index) in
-    let l = length-set copied index (next - index) in
+    let coded : List ℕ = set slice index (next - index) in
+    let l = length-set slice index (next - index) in
     let ones : length {A = ℕ} (replicate n 1) ≡ n = length-replicate n 1 in
     let long : length (take next coded) ≡ next = length-take-le next coded (omega arith) in
     let front : take (next + m) after ≡ take next coded ++ replicate m 1 = grind (arith, take-append-add, take-append-le, take-replicate) in
     let back : drop end after ≡ drop end old = grind (arith, behind-three, drop-set-lt) in
     let sum : suc m ≡ n = omega arith in
     let w : take (suc m) (drop read source) ≡ replicate (suc m) 0 = grind arith in
-    let z = Reaches-zeros m H source old copied after end read index next (λ _. Unit {0}) (omega arith) w fits short front back r in
+    let z = Reaches-zeros m H source old slice after end read index next P (omega arith) w fits short front back r in
     record { ordered = omega arith; open' = omega arith; reaches = grind (arith, Reaches-at) }
 
--- k bytes of a run of nonzero bytes, copied as one slice, join the open block
-pub slice-joined : (H : List ℕ → Type 0) (source old slice : List ℕ) (end read index next k n m : ℕ) (P : Bool → Type 0) → Reaches H source old slice end read index next P
-    → (run : ℕ) → HasNoZero (take run source) → read + k ≤ run → run ≤ length source → end ≤ length slice → 0 < k → next + k ≤ index + 255 → n ≡ k → m ≡ k
-    → (part : List ℕ) → part ≡ take m (drop read source) → Reaches H source old (put_mid next n slice part) end (read + k) index (next + k) IsNotFull
-slice-joined H source old slice end read index next k n m P r run clear le within fits some short n-is m-is part part-is =
-    let l = least source end read index next r.ordered r.within r.room in
-    let d = length-drop read source in
-    let is : part ≡ take k (drop read source) = cc in
-    let long : length part ≡ k = ap length is ∙ length-take-le k (drop read source) (omega arith) in
+-- the next bytes of a run of nonzero bytes
+pub run-nonzero : (source : List ℕ) (run read k : ℕ) → HasNoZero (take run source) → read + k ≤ run → HasNoZero (take k (drop read source))
+run-nonzero source run read k clear le =
     let sum : run ≡ read + (run - read) = omega arith in
-    let behind : HasNoZero (drop read (take run source)) = All-drop (λ byte. byte ≢ 0) read (take run source) clear in
     let stretch : drop read (take run source) ≡ take (run - read) (drop read source) = ap (λ (i : ℕ). drop read (take i source)) sum ∙ drop-take read (run - read) source in
-    let front : take k (drop read (take run source)) ≡ take k (drop read source) = ap (take k) stretch ∙ take-take k (run - read) (drop read source) (omega arith) in
-    let nonzero : HasNoZero (take k (drop read source)) = subst HasNoZero front (All-take (λ byte. byte ≢ 0) k (drop read (take run source)) behind) in
+    subst HasNoZero (ap (take k) stretch ∙ take-take k (run - read) (drop read source) (omega arith)) (All-take (λ byte. byte ≢ 0) k (drop read (take run source)) (All-drop (λ byte. byte ≢ 0) read (take run source) clear))
+
+-- the first k bytes, which aren't zeros and are copied as one slice, join the open block
+pub slice-joined : (H : List ℕ → Type 0) (source old slice : List ℕ) (end index next k n m : ℕ) (P : Bool → Type 0) → Reaches H source old slice end 0 index next P
+    → HasNoZero (take k source) → k ≤ length source → end ≤ length slice → 0 < k → next + k ≤ index + 255 → n ≡ k → m ≡ k
+    → (part : List ℕ) → part ≡ take m source → Reaches H source old (put_mid next n slice part) end k index (next + k) IsNotFull
+slice-joined H source old slice end index next k n m P r nonzero within fits some short n-is m-is part part-is =
+    let l = least source end 0 index next r.ordered r.within r.room in
+    let is : part ≡ take k source = cc in
+    let long : length part ≡ k = ap length is ∙ length-take-le k source within in
     let after : List ℕ = put_mid next n slice part in
     let three : after ≡ take next slice ++ (part ++ drop (next + k) slice) = grind (arith, drop-drop) in
-    let same = Reaches-same H source old slice end read index next P P after
+    let same = Reaches-same H source old slice end 0 index next P P after
     (ap (take next) three ∙ front-three slice part next k long (omega arith))
     (ap (drop end) three ∙ behind-three slice part next k long (omega arith) end (omega arith)) r in
-    let here : take k (drop next after) ≡ take k (drop read source) = ap (λ (x : List ℕ). take k (drop next x)) three ∙ mid-three slice part next k long (omega arith) ∙ is in
+    let here : take k (drop next after) ≡ take k source = ap (λ (x : List ℕ). take k (drop next x)) three ∙ mid-three slice part next k long (omega arith) ∙ is in
     let long' : end ≤ length after = grind (arith, length-append, length-take-le, length-drop) in
-    Reaches-join H source old after end read index next P IsNotFull k (omega arith) short long' nonzero here (λ full z p. absurd (omega arith)) (λ z. refl) same
+    Reaches-at refl (omega arith) refl refl (λ full p. p) (Reaches-join H source old after end 0 index next P IsNotFull k (omega arith) short long' nonzero here (λ full z p. absurd (omega arith)) (λ z. refl) same)

@@ -1,5 +1,5 @@
 -- How far the core of the encoder has come with some bytes: `pos` of them are taken into the open block and those before it.
-use Rattle.std.proofs.Common.{◌≡◌, ◌≢◌, ℕ, ◌+◌, ◌-◌, ◌<◌, ◌≤◌, ◌==◌, Bool, true, false, if◌then◌else◌, List, ◌∷◌, ◌++◌, length, drop, take, get_or, replicate, zero, suc, refl, sym, ap, ◌∙◌, arith, inl, inr, ◌⊎◌, append-nil, append_assoc, length-take-le, length-drop, take-append-drop, take_all}
+use Rattle.std.proofs.Common.{◌≡◌, ◌≢◌, ℕ, ◌+◌, ◌-◌, ◌<◌, ◌≤◌, ◌==◌, Bool, true, false, List, ◌∷◌, ◌++◌, length, drop, take, get_or, replicate, zero, suc, refl, sym, ap, ◌∙◌, arith, inl, inr, ◌⊎◌, append-nil, append_assoc, length-take-le, length-drop, take-append-drop, take_all}
 use Rattle.std.proofs.Math.ListN.{set}
 use Rattle.std.proofs.Math.Seq.{take-add}
 use Rattle.std.proofs.lemmas.Bool.{cases_eq, ne_eqb}
@@ -120,22 +120,9 @@ module _ (H : List ℕ → Type 0) (source old slice : List ℕ) (end pos index 
   pub ends-open : pos ≡ length source → Reaches H source old slice end pos index next P → end ≡ next
   ends-open last r = grind (arith, drop_all, length-ones, append-nil, encoded_len-last, ones)
 
--- where the core begins, with what is noted of the last block
-pub Reaches-noted : (H : List ℕ → Type 0) (source old : List ℕ) (end index next : ℕ) (full : Bool) → index < next → next < index + 255 → index + open_len (next - index) source ≡ end
-    → ((m : List ℕ) → H m → Opened old m index next full) → Reaches H source old old end 0 index next (λ noted. noted ≡ full)
-Reaches-noted H source old end index next full ordered short room opens = grind (arith, append-nil)
-
 -- what is known of the last block behind a step: it isn't full
 abbrev pub IsNotFull : Bool → Type 0
 IsNotFull full = full ≡ false
-
--- what is known of it where windows that begin before `last` are taken: without one it is as it was, and else it isn't full
-abbrev pub IsNotedAt : Bool → ℕ → ℕ → Bool → Type 0
-IsNotedAt full last read noted = last ≤ read → noted ≡ (if last == 0 then full else false)
-
-pub Reaches-open : {H : List ℕ → Type 0} {source old slice : List ℕ} {end pos index next : ℕ} (full : Bool) (last : ℕ) → 0 < last → Reaches H source old slice end pos index next IsNotFull
-    → Reaches H source old slice end pos index next (IsNotedAt full last pos)
-Reaches-open full last some r = grind (arith, ne_eqb)
 
 -- n blocks of no bytes behind a closed one
 pub Reaches-ones : (n : ℕ) (H : List ℕ → Type 0) (source old slice after : List ℕ) (end pos index : ℕ) → pos + n ≤ length source → take n (drop pos source) ≡ replicate n 0 → end ≤ length slice

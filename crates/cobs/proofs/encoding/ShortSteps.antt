@@ -1,18 +1,17 @@
 -- The steps of the encoder through a source that can't fill the open block: zeros marked without asking whether there are any.
-use Rattle.std.proofs.Common.{◌≡◌, ◌≢◌, ℕ, ◌+◌, ◌-◌, ◌%◌, ◌^◌, ◌<◌, ◌≤◌, false, List, ◌++◌, length, drop, take, replicate, refl, sym, ap, ◌∙◌, subst, inl, inr, arith, length-append, length-take-le, length-drop}
+use Rattle.std.proofs.Common.{◌≡◌, ◌≢◌, ℕ, ◌+◌, ◌-◌, ◌%◌, ◌^◌, ◌<◌, ◌≤◌, false, List, ◌++◌, length, drop, take, replicate, refl, sym, ap, ◌∙◌, subst, inl, inr, arith, length-append, length-take-le, length-drop, take_all}
 use Rattle.std.proofs.Math.ListN.{set}
 use Rattle.std.proofs.Math.Seq.{take-set-lt}
 use Rattle.std.proofs.lemmas.Bool.{cases_eq}
-use Rattle.std.proofs.lemmas.List.{drop-set-lt, length-set, take-set, length-replicate, take-replicate}
+use Rattle.std.proofs.lemmas.List.{drop-set-lt, length-set, take-set, length-replicate}
 use Rattle.std.proofs.Math.Nat.{pow-le-pow_right}
 use Rattle.std.proofs.lemmas.Nat.{and_le_l}
 use Rattle.std.specs.Int.Count.{count_trailing_zeros, trailing_of_zero}
 use Rattle.std.specs.Int.Bits.{bit_and}
-use Rattle.std.proofs.lemmas.Grind.{common_steps}
 use Rattle.cobs_bytes.specs.Mask.{zero_mask}
-use Rattle.cobs_bytes.proofs.bytes.MaskLemmas.{zero_mask-all, zero_mask-lt, lowest_bit, lowest-ordered, lowest-within, nonzero_len}
+use Rattle.cobs_bytes.proofs.bytes.MaskLemmas.{zero_mask-lt, lowest-ordered, lowest-within}
 use Rattle.cobs.proofs.encoding.ReachLemmas.{least}
-use Rattle.cobs.proofs.encoding.MarkLemmas.{Copied, Marks, length-after, marks-start, marks-step, marks-end, place-le, place-lt, WindowTaken, WindowTaken-at, row-taken}
+use Rattle.cobs.proofs.encoding.MarkLemmas.{Copied, Marks, length-after, marks-start, marks-step, marks-end, place-le, place-lt, WindowTaken, WindowTaken-at}
 use Rattle.cobs.specs.Internal.Taking.{MarksZeros, none_left, first_marked, TakesFront}
 use Rattle.cobs.proofs.encoding.AfterLemmas.{at}
 use Rattle.cobs.proofs.encoding.TakingLemmas.{front-taken, reaches-start}
@@ -103,34 +102,6 @@ marks-zeros {next = next} (first_marked mask index slice some left) m fits =
     let l = length-set slice index ((next + k - index) % 256) in
     marks-zeros left (first-marked m after (next + k, bit_and mask (mask - 1)) fits refl (λ e. absurd (some e)) (λ _. refl)) (omega arith)
 
--- a window of zeros alone, whose first two were marked before
-module _ {H : List ℕ → Type 0} {source old before slice : List ℕ} {end read len index next zeros : ℕ} (w : Copied H source old before slice end read len index next zeros)
-    (all : zeros + 1 ≡ 2 ^ len) where
-  window-is : take len (drop read source) ≡ replicate len 0
-  window-is = grind (arith, common_steps, all, length-take-le, length-drop, zero_mask-all, replicate)
-
-  some_bits : zeros ≢ 0
-  some_bits e = let a = all in let most : 2 ^ 1 ≤ 2 ^ len = pow-le-pow_right {n = 2} (omega arith) {i = 1} {j = len} w.some in omega arith
-
-  first-none : count_trailing_zeros 64 zeros ≡ 0
-  first-none = grind (arith, window-is, length-replicate, nonzero_len, lowest_bit, some_bits)
-
-  -- what the first two zeros left is no matter
-  pub all-taken : {one two after : List ℕ} {p : ℕ × ℕ} (byte : ℕ) → one ≡ set slice index ((next + count_trailing_zeros 64 zeros - index) % 256)
-      → (zeros ≢ 0 → p ≡ (next + count_trailing_zeros 64 zeros, bit_and zeros (zeros - 1))) → two ≡ set one p.0 byte
-      → after ≡ take next two ++ (take len (replicate 32 1) ++ drop (next + len) two) → WindowTaken H source old after end read len (next + len - 1) next
-  all-taken {one} {two} {after} {p} byte one-is place two-is is =
-      let k = first-none in
-      let o = w.reaches.ordered in
-      let i : p.0 ≡ next = ap (λ (x : ℕ × ℕ). x.0) (place some_bits) ∙ omega arith in
-      let coded : List ℕ = set slice index (next - index) in
-      let code : (next + count_trailing_zeros 64 zeros - index) % 256 ≡ next - index = omega arith in
-      let two-coded : two ≡ set coded next byte = cc in
-      let front : take next two ≡ take next coded = ap (take next) two-coded ∙ take-set coded next byte in
-      let back : drop (next + len) two ≡ drop (next + len) coded = ap (drop (next + len)) two-coded ∙ drop-set-lt (next + len) coded next byte (omega arith) in
-      let row : after ≡ take next two ++ (replicate len 1 ++ drop (next + len) two) = is ∙ ap (λ (x : List ℕ). take next two ++ (x ++ drop (next + len) two)) (take-replicate len 32 1 w.few) in
-      row-taken w len w.some w.inside window-is cc
-
 -- a window that can't fill the open block, and whose first two zeros are marked
 module _ {H : List ℕ → Type 0} {source old before slice : List ℕ} {end read len index next zeros : ℕ} (w : Copied H source old before slice end read len index next zeros)
     (open' : next + len < index + 255)
@@ -149,19 +120,20 @@ module _ {H : List ℕ → Type 0} {source old before slice : List ℕ} {end rea
 
 -- a source that can't fill the open block, copied
 pub short-copied : (source old slice : List ℕ) (r : Reached) (mask : ℕ) → 0 < r.block.code → 0 < length source → length source ≤ 32 → r.block.code + length source < 255
-    → end_after r source ≤ length old
-    → slice ≡ take (next_of r) old ++ (take (length source) (drop 0 source) ++ drop (next_of r + length source) old) → mask ≡ zero_mask (take (length source) (drop 0 source))
+    → end_after r source ≤ length old → slice ≡ take (next_of r) old ++ (source ++ drop (next_of r + length source) old) → mask ≡ zero_mask source
     → Copied (CobsEncoderAfter old r) source old old slice (end_after r source) 0 (length source) r.block.index (next_of r) mask
-short-copied source old slice r mask code some few short fits is bits = record {
-  some = some;
-  few = few;
-  inside = omega arith;
-  fits = fits;
-  short = omega arith;
-  reaches = reaches-start source old r some code (omega arith);
-  is = is;
-  bits = bits;
-}
+short-copied source old slice r mask code some few short fits is bits =
+    let all : source ≡ take (length source) source = sym (take_all (length source) source (omega arith)) in
+    record {
+      some = some;
+      few = few;
+      inside = omega arith;
+      fits = fits;
+      short = omega arith;
+      reaches = reaches-start source old r some code (omega arith);
+      is = is ∙ ap (λ (x : List ℕ). take (next_of r) old ++ (x ++ drop (next_of r + length source) old)) all;
+      bits = bits ∙ ap zero_mask all;
+    }
 
 -- with its last window the whole source is taken
 pub window-front : {source old slice : List ℕ} {r r' : Reached} {read len index next : ℕ} → end_after r source ≤ length slice

@@ -14,7 +14,8 @@ use Rattle.cobs.proofs.encoding.AfterLemmas.{at, end-is, from_after}
 use Rattle.cobs.proofs.encoding.OpenLemmas.{All-front}
 use Rattle.cobs.proofs.encoding.CoreLemmas.{after-fits, after-nothing, after-len, after-so-far, full-after, full-end, full-rest}
 use Rattle.cobs.proofs.encoding.OpenLenLemmas.{open_len-least, open_len-most}
-use Rattle.cobs.proofs.encoding.ReachLemmas.{Reaches, Reaches-join, Reaches-noted, Reaches-same, Reaches-weaker, ends-open, least}
+use Rattle.cobs.proofs.encoding.ReachLemmas.{Reaches, Reaches-at, Reaches-full, Reaches-join, Reaches-same, ends-open, least}
+use Rattle.cobs.proofs.encoding.OpenedLemmas.{Opened}
 
 pub after-some : (r : Reached) (bytes : List ℕ) → 0 < length bytes → end_after r bytes ≡ r.block.index + open_len r.block.code bytes
 after-some r bytes h = grind arith
@@ -40,15 +41,17 @@ after-end slice m (b ∷ bytes) r h = after-len slice m (b ∷ bytes) r (λ e. c
 pub next-least : (r : Reached) (source : List ℕ) → 0 < r.block.code → 0 < length source → next_of r + length source ≤ end_after r source
 next-least r source code some = let e = after-some r source some in let l = open_len-least r.block.code source code in omega arith
 
-module _ (source old : List ℕ) (r : Reached) (some : 0 < length source) (code : 0 < r.block.code) (short : r.block.code < 255) where
-  pub reaches-noted : Reaches (CobsEncoderAfter old r) source old old (end_after r source) 0 r.block.index (next_of r) (λ noted. noted ≡ r.full)
-  reaches-noted =
-      let coded : next_of r - r.block.index ≡ r.block.code = omega arith in
-      Reaches-noted (CobsEncoderAfter old r) source old (end_after r source) r.block.index (next_of r) r.full (omega arith) (omega arith)
-      (ap (λ (n : ℕ). r.block.index + open_len n source) coded ∙ sym (after-some r source some)) (λ m h. from_after old m r h)
-
-  pub reaches-start : Reaches (CobsEncoderAfter old r) source old old (end_after r source) 0 r.block.index (next_of r) (λ _. Unit {0})
-  reaches-start = Reaches-weaker (λ noted p. tt) reaches-noted
+pub reaches-start : (source old : List ℕ) (r : Reached) → 0 < length source → 0 < r.block.code → r.block.code < 255 → Reaches (CobsEncoderAfter old r) source old old (end_after r source) 0 r.block.index (next_of r) (λ _. Unit {0})
+reaches-start source old r some code short =
+    let coded : next_of r - r.block.index ≡ r.block.code = omega arith in
+    record {
+      ordered = omega arith;
+      short = omega arith;
+      within = omega arith;
+      room = ap (λ (n : ℕ). r.block.index + open_len n source) coded ∙ sym (after-some r source some);
+      rest = refl;
+      taken = λ m h. (r.full, tt, subst (λ (x : List ℕ). Opened old x r.block.index (next_of r) r.full) (sym (append-nil m)) (from_after old m r h));
+    }
 
 -- a byte is written behind the open block's
 module _ (H : List ℕ → Type 0) (source old slice : List ℕ) (end read index next byte : ℕ) (P : Bool → Type 0) (more : read < length source) (r : Reaches H source old slice end read index next P) where
@@ -95,7 +98,7 @@ module _ {source old slice : List ℕ} {r r' : Reached} (fits : end_after r sour
       })
 
   -- the last byte filled its block
-  pub front-full : {pos index : ℕ} → Reaches (CobsEncoderAfter old r) source old slice (end_after r source) pos index (index + 255) (λ _. Unit {0}) → pos ≡ length source
+  front-full : {pos index : ℕ} → Reaches (CobsEncoderAfter old r) source old slice (end_after r source) pos index (index + 255) (λ _. Unit {0}) → pos ≡ length source
       → r' ≡ at (index + 255) 1 true → TakesFront old r source pos (set slice index 255) r'
   front-full {pos} {index} s last is =
       let l = length-set slice index 255 in
@@ -108,6 +111,17 @@ module _ {source old slice : List ℕ} {r r' : Reached} (fits : end_after r sour
         end = ap (end_after (at (index + 255) 1 true)) (drop_all pos source (omega arith)) ∙ sym e;
         rest = subst (λ (n : ℕ). drop n (set slice index 255) ≡ drop n old) (sym e) (full-rest (CobsEncoderAfter old r) source old slice (end_after r source) pos index s fits last);
       })
+
+-- a byte filled the open block
+pub front-filled : {source old slice : List ℕ} {r r' : Reached} {pos index next : ℕ} → end_after r source ≤ length slice → next ≡ index + 255 → Reaches (CobsEncoderAfter old r) source old slice (end_after r source) pos index next (λ _. Unit {0})
+    → r' ≡ at next (next + 1 - next) true → TakesFront old r source pos (set slice index 255) r'
+front-filled {source} {old} {slice} {r} {r'} {pos} {index} {next} fits full s is =
+    let n = length-set slice index 255 in
+    let place : at next (next + 1 - next) true ≡ at (index + 255) 1 true = grind arith in
+    elim (cases_lt pos (length source)) [
+      | inl more ↦ front-taken (omega arith) (Reaches-full _ _ _ _ _ _ index next _ (λ noted. noted ≡ true) more full fits refl s) (omega arith) (λ all. absurd (omega arith)) is
+      | inr none ↦ (let w = s.within in front-full fits (Reaches-at refl refl refl full (λ full p. p) s) (omega arith) (is ∙ place))
+    ]
 
 -- nothing is taken
 pub front-none : (slice : List ℕ) (r : Reached) (source : List ℕ) → IsPlaceIn (length slice) r → TakesFront slice r source 0 slice r

@@ -1,8 +1,8 @@
 -- Lemmas on frames for another sentinel, and on frames between sentinels.
-use Rattle.std.proofs.Common.{rules, get_or, ◌≡◌, ◌≢◌, ℕ, length-append, ◌+◌, ◌<◌, ◌≤◌, List, [], ◌∷◌, length, drop, take, set, refl, sym, ap, ◌∙◌, subst, arith, take_at}
+use Rattle.std.proofs.Common.{rules, get_or, ◌≡◌, ◌≢◌, ℕ, zero, suc, length-append, ◌+◌, ◌-◌, ◌<◌, ◌≤◌, List, [], ◌∷◌, length, drop, take, replicate, set, refl, sym, ap, ◌∙◌, subst, arith, take_at}
 use borrow.Rule.Slice.PartMut.{put_mid}
 use Rattle.std.specs.Int.Bits.{bit_xor, xor_assoc, xor_self, xor_zero_r}
-use Rattle.std.proofs.lemmas.List.{same_lists, places}
+use Rattle.std.proofs.lemmas.List.{same_lists, places, take-map, take-take, drop-map, take_rest}
 use Rattle.std.proofs.lemmas.List.Elements.{All-map, All-weaker}
 use Rattle.cobs.specs.Grammar.{HasNoZero, IsEncodedFrame, IsFrame}
 use Rattle.cobs.specs.Sentinel.{xor_each, IsEncodedFrameFor, IsDelimitedFrame, IsFreeOf, between_ends}
@@ -20,6 +20,28 @@ xor_each-twice s (b ∷ f) = ap (λ (x : ℕ). x ∷ xor_each s (xor_each s f)) 
 pub xor_each-zero : (f : List ℕ) → xor_each 0 f ≡ f
 xor_each-zero [] = refl
 xor_each-zero (b ∷ f) = ap (λ (x : ℕ). x ∷ xor_each 0 f) (xor_zero_r b) ∙ ap (λ (l : List ℕ). b ∷ l) (xor_each-zero f)
+
+-- parts of some bytes, XORed
+module _ (bytes : List ℕ) (s : ℕ) where
+  pub front_xored : (n : ℕ) → xor_each s (take n bytes) ≡ take n (xor_each s bytes)
+  front_xored n = sym (take-map (λ b. bit_xor b s) n bytes)
+
+  pub rest_xored : (i : ℕ) → xor_each s (take (length bytes - i) (drop i bytes)) ≡ drop i (xor_each s bytes)
+  rest_xored i = ap (xor_each s) (take_rest bytes i) ∙ sym (drop-map (λ b. bit_xor b s) i bytes)
+
+  pub part_xored : (n k : ℕ) → n ≤ k → take n (xor_each s (take k bytes)) ≡ take n (xor_each s bytes)
+  part_xored n k few = ap (take n) (front_xored k) ∙ take-take n k (xor_each s bytes) few
+
+  pub ones_xored : (n : ℕ) → take n bytes ≡ replicate n (bit_xor 1 s) → take n (xor_each s bytes) ≡ replicate n 1
+  ones_xored n e = sym (front_xored n) ∙ ap (xor_each s) e ∙ xored_ones n
+    where
+      xored_ones : (n : ℕ) → xor_each s (replicate n (bit_xor 1 s)) ≡ replicate n 1
+      xored_ones zero = refl
+      xored_ones (suc n) = ap (λ (x : ℕ). x ∷ xor_each s (replicate n (bit_xor 1 s))) (xor_twice 1 s) ∙ ap (λ (l : List ℕ). 1 ∷ l) (xored_ones n)
+
+pub first_xored : (bytes : List ℕ) (s : ℕ) → 0 < length bytes → take 1 (xor_each s bytes) ≡ bit_xor (get_or bytes 0 0) s ∷ []
+first_xored [] s some = absurd (omega arith)
+first_xored (b ∷ bytes) s some = refl
 
 -- behind a frame and two sentinels a slice is as it was, where the part between its ends is behind the frame
 pub behind_sentinels : (dest part : List ℕ) (k n : ℕ) → n ≤ k → length part ≡ k → k < length dest → drop n part ≡ drop n (take k (drop 1 dest))

@@ -8,7 +8,7 @@ use Rattle.cobs.specs.Stream.{unended, stream_outcomes}
 use Rattle.cobs.specs.Push.{last_piece}
 use Rattle.cobs.specs.Overwritten.{overwritten}
 use Rattle.cobs.specs.Piece.{output}
-use Rattle.cobs.specs.declared.dec.DecodeError.{DecodeError}
+use Rattle.cobs.specs.declared.error.DecodeError.{DecodeError}
 use Rattle.cobs.specs.declared.dec.frame_decoder.PieceEnd.{PieceEnd}
 use Rattle.cobs.proofs.format.StreamLemmas.{fed-nonzero, unended-push, unended-no_zero, ended_pieces-no_zero}
 use Rattle.cobs.proofs.streaming.LastPiece.{begun, drop-later, output-longer, last_piece-unended, last_piece-zero, ended_pieces-nonzero}

@@ -8,8 +8,8 @@ use Rattle.cobs.specs.Piece.{missing, output, last_part, is_whole}
 use Rattle.cobs.specs.Stream.{outcome_of, TooLong}
 use Rattle.cobs.specs.Feed.{Phase, Idle, Within, Overlong, phase_after, PhaseAfter, DecoderAfter, fed, result_at_end, result_for, Feeds}
 use Rattle.cobs.specs.Step.{grows, next_phase, next_buffer, error_if_overlong, end_result, next_result}
-use Rattle.cobs.specs.declared.dec.DecodeError.{DecodeError}
-use Rattle.cobs.specs.declared.dec.DecodeError.TheVariants.{TargetBufTooSmall}
+use Rattle.cobs.specs.declared.error.DecodeError.{DecodeError}
+use Rattle.cobs.specs.declared.error.DecodeError.TheVariants.{TargetBufTooSmall}
 use Rattle.std.specs.Prelude.{IfOk, IfSome}
 use Rattle.std.proofs.lemmas.Grind.{common_steps}
 use Rattle.cobs.proofs.format.StreamLemmas.{fed-nonzero}

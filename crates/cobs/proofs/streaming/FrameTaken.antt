@@ -8,7 +8,7 @@ use Rattle.cobs.specs.Stream.{Outcome, Message, outcome_of, stream_outcomes, une
 use Rattle.cobs.specs.Feed.{Phase, Idle, DecoderAfter, Feeds, result_at_end, result_for, fed_result}
 use Rattle.cobs.specs.FeedPiece.{IsWithin, TakesPiece, outcome_at}
 use Rattle.cobs.specs.Headline.{IsPiece}
-use Rattle.cobs.specs.declared.dec.DecodeError.{DecodeError}
+use Rattle.cobs.specs.declared.error.DecodeError.{DecodeError}
 use Rattle.cobs.specs.declared.dec.frame_decoder.PieceEnd.{PieceEnd}
 use Rattle.cobs.specs.declared.dec.frame_decoder.PieceEnd.TheVariants as ends
 use Rattle.cobs.proofs.format.FrameLemmas.{frame_output}

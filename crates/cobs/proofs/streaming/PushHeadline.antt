@@ -10,8 +10,8 @@ use Rattle.cobs.specs.Feed.{Phase, Idle, result_for}
 use Rattle.cobs.specs.Fields.Report.{parsed_size_of, frame_size_of}
 use Rattle.cobs.specs.Push.{result_at, PushesBytes, pushed_outcomes}
 use Rattle.cobs.specs.Headline.{IsPiece, PushesMessage}
-use Rattle.cobs.specs.declared.dec.DecodeReport.{DecodeReport}
-use Rattle.cobs.specs.declared.dec.PushError.{PushError}
+use Rattle.cobs.specs.declared.error.DecodeReport.{DecodeReport}
+use Rattle.cobs.specs.declared.error.PushError.{PushError}
 use Rattle.cobs.proofs.streaming.FeedLemmas.{DecoderAfter-idle}
 use Rattle.cobs.proofs.streaming.LastPiece.{output-grows}
 use Rattle.cobs.proofs.format.StreamLemmas.{stream_outcomes-no_zero, stream_outcomes-one, unended-no_zero}

@@ -8,7 +8,7 @@ use Rattle.cobs.specs.Feed.{Phase, Idle, PhaseAfter, result_for, Feeds}
 use Rattle.cobs.specs.FeedPiece.{TakesBytes, TakesPiece, end_reported}
 use Rattle.cobs.specs.Push.{FeedsInTurn, result_at, IsQuiet, StopsAfter, error_outcomes, PushesBytes}
 use Rattle.cobs.specs.Fields.Report.{report_of}
-use Rattle.cobs.specs.declared.dec.DecodeError.{DecodeError}
+use Rattle.cobs.specs.declared.error.DecodeError.{DecodeError}
 use Rattle.cobs.proofs.streaming.ByByteLemmas.{piece-nothing, piece-more, takes_behind, holds_behind, untouched_behind}
 use Rattle.cobs.proofs.streaming.SoFar.{here, reported_by}
 

@@ -1,12 +1,12 @@
 -- Bytes of a block, taken at once, are as many feeds.
 use Rattle.std.proofs.Common.{◌≡◌, ◌≢◌, ℕ, zero, suc, ◌+◌, ◌-◌, ◌<◌, ◌≤◌, Bool, false, cond, eqb, List, [], ◌∷◌, ◌++◌, length, take, drop, replicate, set, get_or, sym, ap, ◌∙◌, subst, refl, arith, append_assoc, None, Ok}
-use Rattle.std.proofs.lemmas.List.{length-replicate, set-append_right, length_push, drop_more, take_more_set, drop-set-lt, length-set, take-append-drop, length-take-le}
+use Rattle.std.proofs.lemmas.List.{length-replicate, set-append_right, length_push, drop_more, take_more_set, drop-set-lt, length-set, take-append-drop, length-take-le, take-take, drop-take, drop-drop}
 use Rattle.std.proofs.Math.Seq.{set-append_seam}
 use Rattle.cobs.specs.declared.dec.unbuffered.UnbufferedDecoder.{UnbufferedDecoder}
-use Rattle.std.proofs.lemmas.List.Elements.{All-head, All-tail}
-use Rattle.std.proofs.lemmas.Bool.{ne_eqb, lt-ltb}
+use Rattle.std.proofs.lemmas.List.Elements.{All-head, All-tail, All-take, All-drop}
+use Rattle.std.proofs.lemmas.Bool.{ne_eqb, lt-ltb, cases_lt}
 use Rattle.cobs.specs.Grammar.{HasNoZero}
-use Rattle.cobs.specs.Feed.{Phase, Within, Overlong}
+use Rattle.cobs.specs.Feed.{Phase, Within, Overlong, written_in}
 use Rattle.cobs.specs.FeedPiece.{TakesPiece, end_reported}
 use Rattle.cobs.specs.Fields.Decoders.{phase_of, phase_with}
 use Rattle.cobs.specs.Internal.FeedsQuietly.{FeedsQuietly}
@@ -97,9 +97,49 @@ pub begun : (full : Bool) (left count : ℕ) → 0 < left + count → phase_with
 begun full left count h = grind arith
 
 -- bytes of the open block that fit, written behind what was written
-pub run_written : (full : Bool) (left count run : ℕ) (dest bytes : List ℕ) → 0 < run → run ≤ left → count + run ≤ length dest → run ≤ length bytes → HasNoZero (take run bytes)
+pub run_written : (full : Bool) (left count run : ℕ) (dest bytes : List ℕ) → 0 < left → run ≤ left → count + run ≤ length dest → run ≤ length bytes → HasNoZero (take run bytes)
     → FeedsQuietly dest (phase_with full left count) (take run bytes) (over count dest (take run bytes)) (phase_with full (left - run) (count + run))
 run_written full left count run dest bytes some most room within nz = grind (arith, length-take-le, FeedsQuietly-within, begun)
+
+-- the bytes behind what was written stay
+quiet_step : (buffer : List ℕ) (phase : Phase) (x : ℕ) → x ≢ 0 → next_result (length buffer) phase x ≡ Ok None → let n = written_in (next_phase (length buffer) phase x) in
+    (written_in phase ≤ n) × ((k : ℕ) → n ≤ k → drop k (next_buffer buffer phase x) ≡ drop k buffer)
+quiet_step buffer phase x nz quiet = grind (arith, ne_eqb, cases_lt, drop-set-lt)
+
+quiet_rest : (xs buffer buffer' : List ℕ) (phase phase' : Phase) → HasNoZero xs → FeedsQuietly buffer phase xs buffer' phase' →
+    (written_in phase ≤ written_in phase') × ((k : ℕ) → written_in phase' ≤ k → drop k buffer' ≡ drop k buffer)
+quiet_rest [] buffer buffer' phase phase' nz f = (omega (arith, ap written_in f.1), λ k _. ap (drop k) f.0)
+quiet_rest (x ∷ xs) buffer buffer' phase phase' nz f =
+    let one = quiet_step buffer phase x (All-head (λ b. b ≢ 0) x xs nz) f.0 in
+    let more = quiet_rest xs (next_buffer buffer phase x) buffer' (next_phase (length buffer) phase x) phase' (All-tail (λ b. b ≢ 0) x xs nz) f.1 in
+    (omega (arith, one.0, more.0), λ k past. more.1 k past ∙ one.1 k (omega (arith, more.0)))
+
+written_by : (inner : UnbufferedDecoder) → written_in (phase_of inner) ≤ inner.dest_idx
+written_by inner = grind arith
+
+pub rest_kept : (xs buffer buffer' : List ℕ) (inner inner' : UnbufferedDecoder) (k : ℕ) → HasNoZero xs → FeedsQuietly buffer (phase_of inner) xs buffer' (phase_of inner') → inner'.dest_idx ≤ k → drop k buffer' ≡ drop k buffer
+rest_kept xs buffer buffer' inner inner' k nz f past = (quiet_rest xs buffer buffer' (phase_of inner) (phase_of inner') nz f).1 k (omega (arith, written_by inner'))
+
+-- part of some bytes
+pub part_nonzero : (i n m : ℕ) (bytes : List ℕ) → HasNoZero (take m bytes) → i + n ≤ m → HasNoZero (take n (drop i bytes))
+part_nonzero i n m bytes nz fewer = subst HasNoZero (drop-take i n bytes) (All-drop (λ b. b ≢ 0) i (take (i + n) bytes) (subst HasNoZero (take-take (i + n) m bytes fewer) (All-take (λ b. b ≢ 0) (i + n) (take m bytes) nz)))
+
+-- so do those from a place on, when a decoder has read those before it, from another place on
+pub rest_read : (buffer buffer' : List ℕ) (inner inner' : UnbufferedDecoder) (read at end : ℕ) → read ≤ at → at ≤ end → HasNoZero (take (end - read) (drop read buffer))
+    → FeedsQuietly buffer (phase_of inner) (take (at - read) (drop read buffer)) buffer' (phase_of inner') → inner'.dest_idx ≤ at → drop at buffer' ≡ drop (at - read) (drop read buffer)
+rest_read buffer buffer' inner inner' read at end order within nz f past =
+    rest_kept _ buffer buffer' inner inner' at (part_nonzero 0 (at - read) (end - read) (drop read buffer) nz (omega arith)) f past
+    ∙ ap (λ (k : ℕ). drop k buffer) (omega arith) ∙ sym (drop-drop (at - read) read buffer)
+
+-- bytes of the open block, which a decoder put behind what it wrote
+pub block_fed : (inner : UnbufferedDecoder) (run : ℕ) (dest bytes new : List ℕ) → inner.over ≡ false → run ≤ inner.left → inner.dest_idx + run ≤ length dest → run ≤ length bytes
+    → HasNoZero (take run bytes) → new ≡ take inner.dest_idx dest ++ (take run bytes ++ drop (inner.dest_idx + run) dest)
+    → FeedsQuietly dest (phase_of inner) (take run bytes) new (phase_of (record { dest_idx = inner.dest_idx + run; left = inner.left - run; code = inner.code; over = inner.over }))
+block_fed inner zero dest bytes new going most room within nz is = (is ∙ ap (λ (k : ℕ). take inner.dest_idx dest ++ drop k dest) (omega arith) ∙ take-append-drop inner.dest_idx dest, grind arith)
+block_fed inner (suc run) dest bytes new going most room within nz is =
+    let put : new ≡ over inner.dest_idx dest (take (suc run) bytes)
+    = is ∙ ap (λ (k : ℕ). take inner.dest_idx dest ++ (take (suc run) bytes ++ drop (inner.dest_idx + k) dest)) (sym (length-take-le (suc run) bytes within)) in
+    rw (put, going) (run_written (eqb inner.code 255) inner.left inner.dest_idx (suc run) dest bytes (omega arith) most room within nz)
 
 -- a row of n blocks without bytes
 pub row_fed : (n : ℕ) (inner : UnbufferedDecoder) (dest bytes new : List ℕ) → inner.over ≡ false → inner.left ≡ 0 → inner.code ≡ 1 → inner.dest_idx + n ≤ length dest → take n bytes ≡ replicate n 1

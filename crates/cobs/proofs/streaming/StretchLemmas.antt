@@ -1,13 +1,12 @@
 -- A stretch without zeros behind a block boundary, fed as a whole: its output is written, and the phase is that of its last part.
-use Rattle.std.proofs.Common.{◌≡◌, ◌≢◌, ℕ, zero, suc, ◌+◌, ◌-◌, ◌<◌, ◌≤◌, Bool, true, false, cond, eqb, List, [], ◌∷◌, ◌++◌, length, take, drop, get_or, refl, sym, ap, ◌∙◌, subst, arith, append_assoc, inl, inr, length-append, length-drop, None, Ok}
+use Rattle.std.proofs.Common.{◌≡◌, ◌≢◌, ℕ, zero, suc, ◌+◌, ◌-◌, ◌<◌, ◌≤◌, Bool, true, false, cond, eqb, List, [], ◌∷◌, ◌++◌, length, take, drop, refl, sym, ap, ◌∙◌, subst, arith, append_assoc, length-append, length-drop, None, Ok}
 use Rattle.std.proofs.lemmas.List.{append-nil, length_push, length-take-le, take-append-drop, drop_all, drop-drop, take_rest, take-take}
 use Rattle.std.proofs.Math.Seq.{drop-append_seam, take-add, take-append_seam}
-use Rattle.std.proofs.lemmas.List.Elements.{All-cons, All-head, All-tail, All-drop}
+use Rattle.std.proofs.lemmas.List.Elements.{All-cons, All-head, All-tail}
 use Rattle.std.proofs.lemmas.Bool.{ne_eqb, eqb-true, lt-ltb, cases_lt}
-use Rattle.std.specs.List.{All}
 use borrow.Rule.Slice.PartMut.{put_mid}
 use Rattle.cobs.specs.Grammar.{HasNoZero, code_of, is_full}
-use Rattle.cobs.specs.Piece.{output, last_part, missing, parts, parts_after}
+use Rattle.cobs.specs.Piece.{output, last_part, missing}
 use Rattle.cobs.specs.Feed.{Phase, Within, Overlong}
 use Rattle.cobs.specs.declared.dec.unbuffered.UnbufferedDecoder.{UnbufferedDecoder}
 use Rattle.cobs.specs.Fields.Decoders.{phase_of, phase_with}
@@ -96,44 +95,6 @@ put_over : (at written : ℕ) (dest ys out : List ℕ) → at + length out ≤ l
     → put_mid at (length dest - at) dest ys ≡ over at dest out
 put_over at written dest ys out room long front rest = grind (arith, drop_all, length-drop, take-append-drop, take_rest, drop-drop, append-nil)
 
--- the last part of a piece of bytes has a code below 256, and fewer bytes are missing
-last_by : (n : ℕ) (p : List ℕ) → length p ≤ n → All (λ b. b < 256) p → code_of (last_part p) < 256
-unfolding last_part parts parts_after
-last_by n [] h small = omega arith
-last_by zero (code ∷ bytes) h small = absurd (omega arith)
-last_by (suc n) (code ∷ bytes) h small = elim (cases_lt (code - 1) (length bytes)) [
-  | inl more ↦ rw (last_part-more code bytes more) (last_by n (drop (code - 1) bytes) (omega (arith, length-drop (code - 1) bytes)) (All-drop (λ b. b < 256) (code - 1) bytes (All-tail (λ b. b < 256) code bytes small)))
-  | inr short ↦ rw (last_part-last code bytes short) (All-head (λ b. b < 256) code bytes small)
-]
-
-pub code_small : (p : List ℕ) → All (λ b. b < 256) p → code_of (last_part p) < 256
-code_small p small = last_by (length p) p (omega arith) small
-
--- A PIECE, of which the code was fed before all of its output is written
-pub code_phase : (inner : UnbufferedDecoder) (code : ℕ) → inner.over ≡ false → inner.code ≡ code → inner.left + 1 ≡ code → phase_of inner ≡ phase_at inner.dest_idx (code ∷ [])
-code_phase inner code going is left =
-    let one = last_part-one code in
-    ap (λ (v : Bool). cond v Overlong (phase_with (eqb inner.code 255) inner.left inner.dest_idx)) going
-    ∙ ap (λ (k : ℕ). phase_with (eqb inner.code 255) inner.left k) {y = inner.dest_idx + length (output (code ∷ []))} (omega (arith, ap length (output-one code)))
-    ∙ phase_with-at inner.dest_idx (code ∷ []) (eqb inner.code 255) inner.left (omega arith) (ap is_full one ∙ ap (λ (k : ℕ). eqb k 255) (sym is)) (ap missing one ∙ omega arith)
-    ∙ within_same _ _ _ _ _ _ (ap (λ (k : ℕ). eqb k 255) is ∙ sym (ap is_full one)) (omega (arith, ap missing one)) refl
-
-pub piece_fed : (before dest ys p : List ℕ) (phase phase' : Phase) (at code left count : ℕ) → 0 < length p → FeedsQuietly before phase (get_or p 0 0 ∷ []) dest phase'
-    → phase' ≡ phase_at at (get_or p 0 0 ∷ []) → HasNoZero p → at + length (output p) ≤ length dest → count ≡ length (output p) → take count ys ≡ output p
-    → drop count ys ≡ drop count (take (length dest - at) (drop at dest)) → code ≡ code_of (last_part p) → left ≡ missing (last_part p)
-    → FeedsQuietly before phase p (put_mid at (length dest - at) dest ys) (phase_with (eqb code 255) left (at + count))
-piece_fed before dest ys [] phase phase' at code left count some first from nz room long front rest code-is left-is = absurd (omega arith)
-piece_fed before dest ys (byte ∷ q) phase phase' at code left count some first from nz room long front rest code-is left-is =
-    let p : List ℕ = byte ∷ q in
-    let fed : FeedsQuietly dest (phase_at at (byte ∷ [])) q (over at dest (output p)) (phase_at at p)
-    = rw (over-start at byte dest) at (FeedsQuietly-on at dest byte [] q (All-tail (λ b. b ≢ 0) byte q nz) room) in
-    let written : put_mid at (length dest - at) dest ys ≡ over at dest (output p) = put_over at count dest ys (output p) room long front rest in
-    let to : phase_with (eqb code 255) left (at + count) ≡ phase_at at p
-    = ap (λ (k : ℕ). phase_with (eqb code 255) left (at + k)) long
-    ∙ phase_with-at at p (eqb code 255) left some (ap (λ (k : ℕ). eqb k 255) (sym code-is)) (sym left-is)
-    ∙ within_same _ _ _ _ _ _ (ap (λ (k : ℕ). eqb k 255) code-is) left-is refl in
-    rw (written, to) (FeedsQuietly-append (byte ∷ []) q before dest (over at dest (output p)) phase (phase_at at (byte ∷ [])) (phase_at at p) (rw from at first) fed)
-
 -- THE OPEN BLOCK
 
 module _ (base : ℕ) (buffer xs : List ℕ) (room : base + length xs ≤ length buffer) where
@@ -175,9 +136,8 @@ module _ (inner : UnbufferedDecoder) (len : ℕ) (before dest xs : List ℕ) (lo
       ap (λ (k : ℕ). (inner.left + 1) ∷ take k copy) (omega arith) ∙ ap (λ (l : List ℕ). (inner.left + 1) ∷ take (length xs) (take (length l - inner.dest_idx) (drop inner.dest_idx l))) dest-is
       ∙ ap (λ (l : List ℕ). (inner.left + 1) ∷ l) (over-stretch inner.dest_idx before xs (omega arith))
 
-  -- its code is a byte
-  pub open_small : inner.left < 255 → All (λ b. b < 256) xs → code_of (last_part piece) < 256
-  open_small fits below = subst (λ (p : List ℕ). code_of (last_part p) < 256) (sym piece-is) (code_small ((inner.left + 1) ∷ xs) (All-cons (λ b. b < 256) (inner.left + 1) xs (omega arith) below))
+  pub open_nonzero : HasNoZero xs → HasNoZero piece
+  open_nonzero nz = subst HasNoZero (sym piece-is) (All-cons (λ b. b ≢ 0) (inner.left + 1) xs (omega arith) nz)
 
   pub open_fed : (code left : ℕ) (ys : List ℕ) → inner.over ≡ false → inner.code ≢ 255 → HasNoZero xs → inner.left < len → len < 254
       → take (len + 1 - 1) ys ≡ output piece → drop (len + 1 - 1) ys ≡ drop (len + 1 - 1) copy → code ≡ code_of (last_part piece) → left ≡ missing (last_part piece)

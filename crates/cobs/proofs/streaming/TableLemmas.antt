@@ -13,7 +13,7 @@ use Rattle.cobs.specs.Feed.{Phase, Within, Overlong, counted, state_in, written_
 use Rattle.cobs.specs.Feed as phases
 use Rattle.cobs.specs.Step.{next_result, next_phase}
 use Rattle.cobs.specs.declared.dec.state.DecodeResult.TheVariants.{DataComplete}
-use Rattle.cobs.specs.declared.dec.DecodeError.TheVariants.{InvalidFrame, TargetBufTooSmall}
+use Rattle.cobs.specs.declared.error.DecodeError.TheVariants.{InvalidFrame, TargetBufTooSmall}
 use Rattle.cobs.proofs.decoding.OutcomeLemmas.{reads_iff}
 use Rattle.cobs.proofs.decoding.PieceLemmas.{output-one, last_part-one, output-push_more, output-push_next, last_part-push_next, missing-push_more, is_full-push_more}
 

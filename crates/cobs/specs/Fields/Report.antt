@@ -1,6 +1,6 @@
 -- What a report of a decoded message says.
 use Rattle.std.specs.Prelude.{ℕ}
-use Rattle.cobs.specs.declared.dec.DecodeReport.{DecodeReport}
+use Rattle.cobs.specs.declared.error.DecodeReport.{DecodeReport}
 
 -- how many bytes of the source were consumed
 abbrev pub parsed_size_of : DecodeReport → ℕ

@@ -9,7 +9,7 @@ ghost use Rattle.cobs.specs.Fields.Decoders.{borrowed_buffer, borrowed_phase, bo
 
 use crate::dec::frame_decoder::{FrameDecoder, PieceEnd, WriteBuffer};
 use crate::dec::unbuffered::UnbufferedDecoder;
-use crate::dec::{DecodeError, DecodeReport, PushError};
+use crate::error::{DecodeError, DecodeReport, PushError};
 use std::alloc::{AllocError, Global};
 
 /// Decodes a stream of frames, each ended by a zero, into a slice that it borrows.
@@ -230,10 +230,7 @@ impl CobsDecoderOwned {
         })
     }
 
-    /// Takes the next byte of the stream, as [`CobsDecoder::feed`](crate::CobsDecoder::feed) does.
-    ///
-    /// # Errors
-    /// `InvalidFrame` and `TargetBufTooSmall`, as there.
+    /// Takes the next byte of the stream, as [`CobsDecoder::feed`](crate::CobsDecoder::feed) does, with its errors.
     ///
     /// ```
     /// let mut decoder = CobsDecoderOwned::new(alloc, 0)?;
@@ -249,10 +246,7 @@ impl CobsDecoderOwned {
     }
 
     /// Takes bytes of the stream up to the first one whose result by `feed` isn't `Ok(None)`, as
-    /// [`CobsDecoder::push`](crate::CobsDecoder::push) does.
-    ///
-    /// # Errors
-    /// A `PushError` has the error of `feed` and how many bytes were taken, the one that raised it included.
+    /// [`CobsDecoder::push`](crate::CobsDecoder::push) does, with its errors.
     ///
     /// ```
     /// let mut decoder = CobsDecoderOwned::new(alloc, 8)?;

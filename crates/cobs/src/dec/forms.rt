@@ -1,103 +1,39 @@
 //! The other decode forms from a source that stays as it is: for any sentinel, and into a vector.
-ghost use Rattle.std.specs.Prelude.{◌≡◌, IsTrue, false, ◌≢◌, ◌+◌, ◌-◌, ◌++◌, ◌≤◌, length, take, drop, List, ℕ, [], IfOk, IfErr, IsOkAnd};
+ghost use Rattle.std.specs.Prelude.{◌≡◌, ◌≢◌, ◌≤◌, length, List, ℕ, [], IfOk, IfErr, IsOkAnd};
 ghost use Rattle.cobs.specs.Overwritten.{overwritten};
 ghost use Rattle.cobs.specs.Decode.{head_result_within, result_of_sentinel_decode, decoded, decoded_head, IsErrorFor};
 ghost use Rattle.cobs.specs.Grammar.{HasNoZero, Reads};
 ghost use Rattle.cobs.specs.Headline.{ReturnsMessage, IsPiece, FoundMemory};
-ghost use Rattle.cobs.specs.Piece.{kept_output, output};
-ghost use Rattle.cobs.specs.Internal.DecodedUpTo.{IsFlat};
+ghost use Rattle.cobs.specs.Piece.{kept_output};
 ghost use Rattle.cobs.specs.Sentinel.{xor_each};
 ghost use Rattle.cobs.specs.Stream.{head};
-ghost use Rattle.cobs.specs.declared.dec.DecodeError.TheVariants.{EmptyFrame, TargetBufTooSmall};
+ghost use Rattle.cobs.specs.declared.error.DecodeError.TheVariants.{EmptyFrame, TargetBufTooSmall};
 
-use crate::dec::blocks::{first_stretch, write_zeros_at_codes};
-use crate::dec::find::position_or_len;
-use crate::dec::piece::copy_few;
-use crate::dec::{DecodeError, DecodeVecError, decode};
-use cobs_bytes::lanes::copy_xored_short;
+use crate::block::FULL_BLOCK_BYTES;
+use crate::dec::stretch::{decode_short, kept_len, message_len};
+use crate::dec::{UnbufferedDecoder, decode};
+use crate::error::{DecodeError, DecodeVecError};
+use crate::find::{len_without_end, position_or_len};
 use cobs_bytes::window::WIDE_WINDOW;
 use std::alloc::Global;
 
-/// Writes the bytes of the source, each XORed with the sentinel, to the front of `dest`.
-#[inline(never)]
-fn xor_into(source: &[u8], dest: &mut [u8], sentinel: u8)
-    requires { length source.now ≤ length dest.old }
-    ensures { dest.new ≡ xor_each sentinel source.now ++ drop (length source.now) dest.old }
-{
-    'by_byte: for i in 0..source.len() {
-        dest[i] = source[i] ^ sentinel;
-    }
-}
-
 /// Decodes the blocks of a source that has no sentinel, and returns how many bytes they give.
-///
-/// The whole blocks through each full one are decoded by one copy, and a zero at each code; if their bytes don't fit,
-/// those of them that do. The bytes of `dest` after that stay as they were.
-fn decode_xored_stretches(
-    source: &[u8],
-    dest: &mut [u8],
-    sentinel: u8,
-) -> Result<usize, DecodeError>
+fn decode_blocks(source: &[u8], dest: &mut [u8], sentinel: u8) -> Result<usize, DecodeError>
     requires { HasNoZero (xor_each sentinel source.now) }
     ensures returned { result ≡ head_result_within (xor_each sentinel source.now) (length dest.old) }
     ensures buffer { dest.new ≡ overwritten dest.old (kept_output (xor_each sentinel source.now)) }
 {
-    let mut read = 0;
-    let mut written = 0;
-    'by_front: while read < source.len() {
-        let (len, full) = first_stretch(&source[read..], sentinel);
-        if len == 0 {
-            return Err(DecodeError::InvalidFrame {
-                decoded_bytes: written,
-            });
-        }
-        let fit = len.min(dest.len() - written + 1);
-        let place = &mut dest[written..];
-        xor_into(&source[read + 1..read + fit], place, sentinel);
-        write_zeros_at_codes(place, (source[read] ^ sentinel) as usize, fit, true);
-        if fit < len {
-            return Err(DecodeError::TargetBufTooSmall);
-        }
-        read += len;
-        written += fit - 1;
-        if !full && read < source.len() {
-            if written == dest.len() {
-                return Err(DecodeError::TargetBufTooSmall);
-            }
-            dest[written] = 0;
-            written += 1;
-        }
+    // A block that begins before the last 254 bytes is whole.
+    let tail = source.len().saturating_sub(FULL_BLOCK_BYTES);
+    let mut decoder = UnbufferedDecoder::new();
+    if decoder.take_run(dest, &source[..tail], sentinel) < tail {
+        return Err(DecodeError::TargetBufTooSmall);
     }
-    Ok(written)
-}
-
-/// Decodes a source of 2 to 65 bytes, if these are whole blocks without a sentinel that fit; says whether it did. Each
-/// byte after what they give stays, or where it did not every byte.
-fn decode_xored_short(source: &[u8], dest: &mut [u8], sentinel: u8) -> bool
-    ensures nonzero { IsTrue result → HasNoZero (xor_each sentinel source.now) }
-    ensures flat { IsTrue result → IsFlat (xor_each sentinel source.now) }
-    ensures room { IsTrue result → length source.now ≤ length dest.old + 1 }
-    ensures begins { IsTrue result → take (length source.now - 1) dest.new
-        ≡ output (xor_each sentinel source.now) }
-    ensures rest { drop (length source.now - 1) dest.new ≡ drop (length source.now - 1) dest.old }
-    ensures kept { result ≡ false → dest.new ≡ dest.old }
-{
-    let len = source.len();
-    if len < 2 || WIDE_WINDOW + 1 < len || dest.len() < len - 1 || source[0] == sentinel {
-        return false;
+    let (len, whole) = kept_len(&source[tail..], decoder.left as usize, sentinel);
+    if decoder.take_run(dest, &source[tail..tail + len], sentinel) < len {
+        return Err(DecodeError::TargetBufTooSmall);
     }
-    // One walk that writes, and bytes put back if the last block is broken, cost less than a walk before it that looks.
-    let mut old = [0; WIDE_WINDOW];
-    copy_few(&dest[..len - 1], &mut old);
-    if !copy_xored_short(&source[1..], dest, sentinel) {
-        return false;
-    }
-    let (_, left) = write_zeros_at_codes(dest, (source[0] ^ sentinel) as usize, len, true);
-    if left > 0 {
-        dest[..len - 1].copy_from_slice(&old[..len - 1]);
-        return false;
-    }
-    true
+    message_len(decoder.dest_idx, whole)
 }
 
 /// Decodes the frame at the front of the source, where the sentinel may be any byte, and returns the message's length.
@@ -139,17 +75,15 @@ pub fn decode_with_sentinel(
     if source.is_empty() {
         return Err(DecodeError::EmptyFrame);
     }
-    let last = source.len() - 1;
-    let len = if source[last] == sentinel {
-        last
-    } else {
-        source.len()
-    };
-    if decode_xored_short(&source[..len], dest, sentinel) {
+    let len = len_without_end(source, sentinel);
+    // A broken frame is not to change the bytes behind what it gives, so a short one is decoded beside.
+    let mut short = [0; WIDE_WINDOW];
+    if len <= dest.len() + 1 && decode_short(&source[..len], &mut short, sentinel) == Some(0) {
+        dest[..len - 1].copy_from_slice(&short[..len - 1]);
         return Ok(len - 1);
     }
     let end = position_or_len(source, sentinel);
-    decode_xored_stretches(&source[..end], dest, sentinel)
+    decode_blocks(&source[..end], dest, sentinel)
 }
 
 /// Returns the message of the first frame of the source, in a vector of exactly its bytes.
@@ -193,13 +127,7 @@ pub fn decode_vec(alloc: Global, source: &[u8]) -> Result<Vec<u8>, DecodeVecErro
 /// exactly its bytes.
 ///
 /// The frame is read as by [`decode_with_sentinel`], up to the first sentinel or the source's end; a leading sentinel
-/// gives an empty vector. Memory is allocated once, for as many bytes as the source has, so a message always fits and
-/// `TargetBufTooSmall` never comes.
-///
-/// # Errors
-///
-/// `Decode(EmptyFrame)` if the source is empty, and then nothing is allocated; else `Memory` if memory ran
-/// out; else `Decode` with the error of [`decode_with_sentinel`].
+/// gives an empty vector. Memory is allocated, and errors are returned, as by [`decode_vec`].
 ///
 /// ```
 /// let message = decode_vec_with_sentinel(alloc, &[252, 245, 244, 253, 243], 255)?;

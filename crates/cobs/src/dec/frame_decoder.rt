@@ -6,7 +6,7 @@ ghost use Rattle.std.specs.Borrow.{sem};
 ghost use Rattle.cobs.specs.Overwritten.{written_at};
 ghost use Rattle.cobs.specs.Fields.Decoders.{LendsBytes};
 
-use crate::dec::DecodeError;
+use crate::error::DecodeError;
 
 /// How a piece of a stream ended. (The names are this library's own.)
 ///
@@ -60,10 +60,7 @@ pub trait FrameDecoder {
     /// Which slice its buffer is, where it borrows one.
     ghost loan: { Self → ℕ };
 
-    /// Takes the next byte of the stream, as [`CobsDecoder::feed`](crate::CobsDecoder::feed) does.
-    ///
-    /// # Errors
-    /// `InvalidFrame` and `TargetBufTooSmall`, as there.
+    /// Takes the next byte of the stream, as [`CobsDecoder::feed`](crate::CobsDecoder::feed) does, with its errors.
     ///
     /// ```
     /// let mut decoder = CobsDecoderHeapless::<1>::new();

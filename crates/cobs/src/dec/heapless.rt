@@ -9,7 +9,7 @@ ghost use Rattle.cobs.specs.Push.{PushesBytes};
 
 use crate::dec::frame_decoder::{FrameDecoder, PieceEnd, WriteBuffer};
 use crate::dec::unbuffered::UnbufferedDecoder;
-use crate::dec::{DecodeError, DecodeReport, PushError};
+use crate::error::{DecodeError, DecodeReport, PushError};
 use arrayvec::ArrayVec;
 
 /// Decodes a stream of frames, each ended by a zero, into a buffer of `N` bytes that lies in the value itself.
@@ -72,10 +72,7 @@ impl<const N: usize> CobsDecoderHeapless<N> {
         }
     }
 
-    /// Takes the next byte of the stream, as [`CobsDecoder::feed`](crate::CobsDecoder::feed) does.
-    ///
-    /// # Errors
-    /// `InvalidFrame` and `TargetBufTooSmall`, as there.
+    /// Takes the next byte of the stream, as [`CobsDecoder::feed`](crate::CobsDecoder::feed) does, with its errors.
     ///
     /// ```
     /// let mut decoder = CobsDecoderHeapless::<4>::new();
@@ -92,10 +89,7 @@ impl<const N: usize> CobsDecoderHeapless<N> {
     }
 
     /// Takes bytes of the stream up to the first one whose result by `feed` isn't `Ok(None)`, as
-    /// [`CobsDecoder::push`](crate::CobsDecoder::push) does.
-    ///
-    /// # Errors
-    /// A `PushError` has the error of `feed` and how many bytes were taken, the one that raised it included.
+    /// [`CobsDecoder::push`](crate::CobsDecoder::push) does, with its errors.
     ///
     /// ```
     /// let mut decoder = CobsDecoderHeapless::<8>::new();

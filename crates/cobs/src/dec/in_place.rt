@@ -1,196 +1,142 @@
 //! Decoding a frame in its own buffer.
-ghost use Rattle.std.specs.Prelude.{All, ◌≡◌, ◌≢◌, ◌↔◌, ◌+◌, ◌-◌, ◌<◌, ◌≤◌, ◌∷◌, ℕ, IsTrue, false, List, length, take, drop, slice_index, IfErr};
+ghost use Rattle.std.specs.Prelude.{All, ◌≡◌, ◌≢◌, ◌↔◌, ◌+◌, ◌-◌, ◌<◌, ◌≤◌, ◌++◌, ℕ, IsTrue, false, List, Ok, length, take, drop, IfErr};
 ghost use Rattle.cobs.specs.Overwritten.{overwritten};
 ghost use Rattle.cobs.specs.Decode.{head_result, in_place, result_in_place, in_place_report};
-ghost use Rattle.cobs.specs.Grammar.{HasNoZero, Reads, code_of};
+ghost use Rattle.cobs.specs.Grammar.{HasNoZero, Reads};
 ghost use Rattle.cobs.specs.Headline.{ReturnsMessage, IsPiece, ReportsMessage};
-ghost use Rattle.cobs.specs.Piece.{kept_output, last_part, output};
-ghost use Rattle.cobs.specs.Stream.{head};
-ghost use Rattle.cobs.specs.Internal.DecodedUpTo.{DecodedSource, IsFlat, whole_left};
+ghost use Rattle.cobs.specs.Piece.{kept_output};
+ghost use Rattle.cobs.specs.Fields.Decoders.{phase_of};
+ghost use Rattle.cobs.specs.Internal.FeedsQuietly.{FeedsQuietly};
 ghost use Rattle.cobs.specs.Sentinel.{xor_each};
-ghost use Rattle.cobs.specs.declared.dec.DecodeError.TheVariants.{TargetBufTooSmall};
+ghost use Rattle.cobs.specs.declared.error.DecodeError.TheVariants.{TargetBufTooSmall};
 
-use crate::dec::blocks::{first_stretch, write_zeros_at_codes};
-use crate::dec::find::len_before_zero;
-use crate::dec::piece::copy_few;
-use crate::dec::{DecodeError, DecodeReport};
-use crate::enc::{FULL_CODE, xor_bytes};
-use cobs_bytes::lanes::{move_nonzero, move_to_front};
+use crate::block::FULL_BLOCK_BYTES;
+use crate::dec::stretch::{decode_short, kept_len, message_len, write_zeros_at_codes};
+use crate::dec::unbuffered::{FULL, UnbufferedDecoder};
+use crate::error::{DecodeError, DecodeReport};
+use crate::find::{len_without_end, position_or_len};
+use cobs_bytes::lanes::{move_to_front, xor_bytes};
 use cobs_bytes::window::{WIDE_WINDOW, WINDOW, is_all, write_row};
 
-/// Writes a zero over each code but the first of the first whole blocks of a piece, through the first full one; returns
-/// how many bytes these blocks have, and the code of the last of them. `rest` begins with what follows the first code.
-///
-/// A code is overwritten only if the block that it begins is whole. Rows of empty blocks go by 32 at a time, and two
-/// codes that take turns by a loop of their own, which needn't wait for each.
+/// Moves the `len` bytes from `read` on to where `at` is, before them; each other byte there stays.
 #[inline(always)]
-fn write_zeros_through_full(first: usize, rest: &mut [u8], len: usize) -> (usize, usize)
-    requires room { len ≤ length rest.old + 1 }
-    requires nonzero { HasNoZero (first ∷ take (len - 1) rest.old) }
-    requires whole { first ≤ len }
-    ensures some { 0 < result.0 }
-    ensures within { result.0 ≤ len }
-    ensures flat { IsFlat (first ∷ take (result.0 - 1) rest.old) }
-    ensures code { result.1 ≡ code_of (last_part (first ∷ take (result.0 - 1) rest.old)) }
-    ensures begins { take (result.0 - 1) rest.new ≡ output (first ∷ take (result.0 - 1) rest.old) }
-    ensures rest { drop (result.0 - 1) rest.new ≡ drop (result.0 - 1) rest.old }
-    ensures empty { result.1 ≡ 1 → slice_index (first ∷ rest.old) (result.0 - 1) ≡ 1 }
-    ensures last { result.1 ≢ 1 → slice_index (first ∷ rest.new) (result.0 - 1)
-        ≡ slice_index (first ∷ rest.old) (result.0 - 1) }
+fn move_back(buffer: &mut [u8], at: usize, read: usize, len: usize)
+    requires behind { at ≤ read }
+    requires within { read + len ≤ length buffer.old }
+    ensures { buffer.new ≡ take at buffer.old ++ (take len (drop read buffer.old) ++ drop (at + len) buffer.old) }
 {
-    let mut before = 0;
-    let mut code = first;
-    let mut read = 0;
-    'by_code: while code < len - read && code != FULL_CODE {
-        if code == 1 && len - read > WINDOW && is_all(rest, read, 1) {
-            write_row(rest, read, 0);
-            read += WINDOW;
-        } else {
-            let at = read + (code - 1);
-            let next = rest[at] as usize;
-            if len - read - code < next {
-                break;
-            }
-            rest[at] = 0;
-            read += code;
-            let both = code + next;
-            'in_turn: while next == before
-                && next != FULL_CODE
-                && both <= len - read - next
-                && rest[read + (next - 1)] as usize == code
-                && rest[read + (both - 1)] as usize == next
-            {
-                rest[read + (next - 1)] = 0;
-                rest[read + (both - 1)] = 0;
-                read += both;
-            }
-            before = code;
-            code = next;
-        }
-    }
-    (read + code, code)
+    move_to_front(&mut buffer[at..], read - at, len);
 }
 
-/// Decodes the blocks in the first `end` bytes of the buffer from `first` on, where those before it have become the first
-/// `start` bytes; returns how many bytes all blocks give, and whether the last is whole too. Every other byte is as it
-/// was. `old` is the buffer before any block was decoded.
-///
-/// The blocks are walked over first, as far as the next full one, since the bytes behind the message must stay. Then all
-/// their bytes are moved at once, and a zero is written at each code.
-#[inline(never)]
-fn decode_rest_in_place(buffer: &mut [u8], end: usize, first: usize, start: usize) -> (usize, bool)
-    ghost old: { List ℕ }
-    requires nonzero { HasNoZero (take end old) }
-    requires within { end ≤ length buffer.old }
-    requires decoded { DecodedSource (take end old) old buffer.old first start }
-    requires order { start ≤ first }
-    ensures count { result.0 ≡ length (kept_output (take end old)) }
-    ensures whole { result.1 ≡ whole_left (take end old) }
-    ensures buffer { buffer.new ≡ overwritten old (kept_output (take end old)) }
-{
-    let mut read = first;
-    let mut written = start;
-    'by_front: while read < end {
-        let (front, full) = first_stretch(&buffer[read..end], 0);
-        if front == 0 {
-            return (written, false);
+impl UnbufferedDecoder {
+    /// Takes bytes of the buffer that it writes to, from `read` to `end`, as many as one step can take, and returns how
+    /// many: as `take_part`, and a block's first bytes with its code.
+    #[inline(always)]
+    fn take_part_in_place(&mut self, buffer: &mut [u8], read: usize, end: usize) -> usize
+        requires going { self.old.over ≡ false }
+        requires behind { self.old.dest_idx ≤ read }
+        requires joint { self.old.code ≢ 255 → self.old.dest_idx < read }
+        requires some { read < end }
+        requires within { end ≤ length buffer.old }
+        requires nonzero { HasNoZero (take (end - read) (drop read buffer.old)) }
+        ensures some { 0 < result }
+        ensures within { read + result ≤ end }
+        ensures fed { FeedsQuietly buffer.old (phase_of self.old)
+            (take result (drop read buffer.old)) buffer.new (phase_of self.new) }
+        ensures going { self.new.over ≡ false }
+        ensures behind { self.new.dest_idx ≤ read + result }
+        ensures joint { self.new.code ≢ 255 → self.new.dest_idx < read + result }
+    {
+        let code = buffer[read];
+        let left = self.left as usize;
+        if left == 0 && (self.code == FULL || code as usize > WIDE_WINDOW) {
+            self.take_joint(buffer, code);
+            let at = self.dest_idx;
+            let len = (self.left as usize).min(end - read - 1);
+            move_back(buffer, at, read + 1, len);
+            self.dest_idx = at + len;
+            self.left -= len as u8;
+            return 1 + len;
         }
-        let place = &mut buffer[written..];
-        let code = place[read - written] as usize;
-        move_to_front(place, read - written + 1, front - 1);
-        write_zeros_at_codes(place, code, front, true);
-        read += front;
-        written += front - 1;
-        if !full && read < end {
-            buffer[written] = 0;
-            written += 1;
+        let at = self.dest_idx;
+        let most = self.stretch_len((end - read).min(3 * WIDE_WINDOW));
+        if left == 0 && self.code == 1 && WINDOW <= most && is_all(buffer, read, 1) {
+            write_row(buffer, at, 0);
+            self.dest_idx = at + WINDOW;
+            return WINDOW;
+        }
+        move_back(buffer, at, read, most);
+        self.dest_idx = at + most;
+        if most <= left {
+            self.left -= most as u8;
+        } else {
+            // What the open block is missing is what a code of one more would open.
+            let (code, left) = write_zeros_at_codes(&mut buffer[at..], self.left + 1, most + 1);
+            self.code = code;
+            self.left = left as u8;
+        }
+        most
+    }
+
+    /// Takes the bytes of the buffer that it writes to, from `read` to `end`.
+    #[inline(always)]
+    fn take_in_place(&mut self, buffer: &mut [u8], read: usize, end: usize)
+        requires going { self.old.over ≡ false }
+        requires behind { self.old.dest_idx ≤ read }
+        requires joint { self.old.code ≢ 255 → self.old.dest_idx < read }
+        requires order { read ≤ end }
+        requires within { end ≤ length buffer.old }
+        requires nonzero { HasNoZero (take (end - read) (drop read buffer.old)) }
+        ensures fed { FeedsQuietly buffer.old (phase_of self.old)
+            (take (end - read) (drop read buffer.old)) buffer.new (phase_of self.new) }
+        ensures going { self.new.over ≡ false }
+        ensures behind { self.new.dest_idx ≤ end }
+        ensures joint { self.new.code ≢ 255 → self.new.dest_idx < end }
+    {
+        let mut at = read;
+        'by_step: while at < end {
+            at += self.take_part_in_place(buffer, at, end);
         }
     }
-    (written, true)
 }
 
 /// Decodes the blocks in the first `end` bytes of the buffer, and returns how many bytes they give.
-///
-/// The blocks through the first full one are one walk, which writes a zero over each code, and one move. Most frames
-/// have no others.
-#[inline(always)]
+#[inline(never)]
 fn decode_blocks_in_place(buffer: &mut [u8], end: usize) -> Result<usize, DecodeError>
-    ghost old: { List ℕ }
     requires within { end ≤ length buffer.old }
+    requires bytes { All (λ byte. byte < 256) buffer.old }
     requires nonzero { HasNoZero (take end buffer.old) }
-    requires old { buffer.old ≡ old }
     ensures returned { result ≡ head_result (take end buffer.old) }
     ensures buffer { buffer.new ≡ overwritten buffer.old (kept_output (take end buffer.old)) }
 {
-    if end == 0 {
-        return Ok(0);
-    }
-    let code = buffer[0] as usize;
-    if end < code {
-        return Err(DecodeError::InvalidFrame { decoded_bytes: 0 });
-    }
-    let (first, last) = write_zeros_through_full(code, &mut buffer[1..], end);
-    let mut written = first - 1;
-    move_to_front(buffer, 1, written);
-    if last == 1 {
-        // The code of an empty block at the end, which the walk may have overwritten, is no part of the message.
-        buffer[written] = 1;
-    }
-    if first == end {
-        return Ok(written);
-    }
-    if last != FULL_CODE {
-        buffer[written] = 0;
-        written += 1;
-    }
-    let (decoded_bytes, whole) = decode_rest_in_place(buffer, end, first, written);
-    if whole {
-        Ok(decoded_bytes)
-    } else {
-        Err(DecodeError::InvalidFrame { decoded_bytes })
-    }
+    // A block that begins before the last 254 bytes is whole.
+    let tail = end.saturating_sub(FULL_BLOCK_BYTES);
+    let mut decoder = UnbufferedDecoder::new();
+    decoder.take_in_place(buffer, 0, tail);
+    let (len, whole) = kept_len(&buffer[tail..end], decoder.left as usize, 0);
+    decoder.take_in_place(buffer, tail, tail + len);
+    message_len(decoder.dest_idx, whole)
 }
 
-/// Decodes the blocks in the first `end` bytes of the buffer, if these are 2 to 65 and the blocks are whole; says whether
-/// it did. If not, every byte stays.
+/// Decodes the first `len` bytes of the buffer, if these are 2 to 65 and a frame, and says whether it did. If not, every byte
+/// stays.
 ///
-/// Their bytes are loaded before the first is stored: a walk that wrote zeros before the move would let it wait for them.
+/// A broken frame is not to change the bytes behind what it gives, so it is decoded beside.
 #[inline(always)]
-fn decode_short_in_place(buffer: &mut [u8], end: usize) -> bool
-    requires within { end ≤ length buffer.old }
-    requires nonzero { HasNoZero (take end buffer.old) }
-    ensures flat { IsTrue result → IsFlat (take end buffer.old) }
-    ensures begins { IsTrue result → take (end - 1) buffer.new ≡ output (take end buffer.old) }
-    ensures rest { drop (end - 1) buffer.new ≡ drop (end - 1) buffer.old }
+fn decode_short_in_place(buffer: &mut [u8], len: usize) -> bool
+    requires within { len ≤ length buffer.old }
+    ensures nonzero { IsTrue result → HasNoZero (take len buffer.old) }
+    ensures some { IsTrue result → 0 < len }
+    ensures returned { IsTrue result → Ok (len - 1) ≡ head_result (take len buffer.old) }
+    ensures buffer { IsTrue result → buffer.new ≡ overwritten buffer.old (kept_output (take len buffer.old)) }
     ensures kept { result ≡ false → buffer.new ≡ buffer.old }
 {
-    if end < 2 || WIDE_WINDOW + 1 < end {
+    let mut short = [0; WIDE_WINDOW];
+    if decode_short(&buffer[..len], &mut short, 0) != Some(0) {
         return false;
     }
-    let mut old = [0; WIDE_WINDOW];
-    copy_few(&buffer[..end - 1], &mut old);
-    let code = buffer[0] as usize;
-    move_to_front(buffer, 1, end - 1);
-    let (_, left) = write_zeros_at_codes(buffer, code, end, false);
-    if left > 0 {
-        buffer[..end - 1].copy_from_slice(&old[..end - 1]);
-        return false;
-    }
+    buffer[..len - 1].copy_from_slice(&short[..len - 1]);
     true
-}
-
-/// Decodes the blocks in the first `end` bytes of the buffer, and returns how many bytes they give.
-#[inline(always)]
-fn decode_head_in_place(buffer: &mut [u8], end: usize) -> Result<usize, DecodeError>
-    requires within { end ≤ length buffer.old }
-    requires nonzero { HasNoZero (take end buffer.old) }
-    ensures returned { result ≡ head_result (take end buffer.old) }
-    ensures buffer { buffer.new ≡ overwritten buffer.old (kept_output (take end buffer.old)) }
-{
-    if decode_short_in_place(buffer, end) {
-        return Ok(end - 1);
-    }
-    decode_blocks_in_place(buffer, end)
 }
 
 /// Whether a buffer is empty. `bytes` restates that elements are below 256, for callers that later overwrite it.
@@ -200,52 +146,6 @@ fn has_none(buffer: &[u8]) -> bool
     ensures bytes { All (λ byte. byte < 256) buffer.now }
 {
     buffer.is_empty()
-}
-
-/// Decodes the full blocks at the front of the buffer, as far as they are whole; returns how many bytes they have, and how
-/// many they give. Every other byte is as it was.
-///
-/// Each is searched for a zero and moved, so the frame's end needn't be known.
-#[inline(never)]
-fn decode_full_blocks(buffer: &mut [u8]) -> (usize, usize)
-    ensures within { result.0 ≤ length buffer.old }
-    ensures decoded { DecodedSource (head buffer.old) buffer.old buffer.new result.0 result.1 }
-    ensures order { result.1 ≤ result.0 }
-{
-    let mut read = 0;
-    let mut written = 0;
-    'by_block: while buffer.len() - read >= FULL_CODE
-        && buffer[read] as usize == FULL_CODE
-        && move_nonzero(&mut buffer[written..], read - written + 1, FULL_CODE - 1)
-    {
-        read += FULL_CODE;
-        written += FULL_CODE - 1;
-    }
-    (read, written)
-}
-
-/// Decodes a frame as [`decode_in_place_report`] does, where it begins with a full block: its end is sought behind the
-/// full blocks.
-#[inline(always)]
-fn decode_full_in_place(buffer: &mut [u8]) -> Result<DecodeReport, DecodeError>
-    ghost old: { List ℕ }
-    requires some { 0 < length buffer.old }
-    requires old { buffer.old ≡ old }
-    ensures returned { result ≡ in_place_report buffer.old }
-    ensures buffer { buffer.new ≡ in_place buffer.old }
-{
-    let (read, written) = decode_full_blocks(buffer);
-    let end = read + len_before_zero(&buffer[read..]);
-    let (frame_size, whole) = decode_rest_in_place(buffer, end, read, written);
-    if !whole {
-        return Err(DecodeError::InvalidFrame {
-            decoded_bytes: frame_size,
-        });
-    }
-    Ok(DecodeReport {
-        parsed_size: end,
-        frame_size,
-    })
 }
 
 /// Decodes the frame at the front of the buffer in its own place, up to the first zero or the buffer's end, and returns
@@ -284,11 +184,15 @@ pub fn decode_in_place_report(buf: &mut [u8]) -> Result<DecodeReport, DecodeErro
     if has_none(buf) {
         return Err(DecodeError::EmptyFrame);
     }
-    if buf.len() > WIDE_WINDOW && buf[0] as usize == FULL_CODE {
-        return decode_full_in_place(buf);
+    let len = len_without_end(buf, 0);
+    if decode_short_in_place(buf, len) {
+        return Ok(DecodeReport {
+            parsed_size: len,
+            frame_size: len - 1,
+        });
     }
-    let end = len_before_zero(buf);
-    let frame_size = decode_head_in_place(buf, end)?;
+    let end = position_or_len(buf, 0);
+    let frame_size = decode_blocks_in_place(buf, end)?;
     Ok(DecodeReport {
         parsed_size: end,
         frame_size,
@@ -299,10 +203,7 @@ pub fn decode_in_place_report(buf: &mut [u8]) -> Result<DecodeReport, DecodeErro
 /// the message's length.
 ///
 /// The message is then at the front of the buffer, and every byte after it is as it was. Unlike `decode`, this
-/// reads a leading zero as an empty message.
-///
-/// # Errors
-/// `EmptyFrame` and `InvalidFrame`, as of [`decode_in_place_report`]. `TargetBufTooSmall` never comes.
+/// reads a leading zero as an empty message. The errors are those of [`decode_in_place_report`].
 ///
 /// ```
 /// let mut buff = [3, 10, 11, 2, 12, 0];
@@ -325,12 +226,9 @@ pub fn decode_in_place(buff: &mut [u8]) -> Result<usize, DecodeError>
 
 /// Decodes the frame at the front of the buffer in its own place, where the sentinel is another byte than 0.
 ///
-/// First every byte of the buffer is XORed with the sentinel, those after the frame too; then it is
-/// decoded as by [`decode_in_place`]. So the frame ends at the first sentinel or with the buffer, and a leading
+/// First every byte of the buffer is XORed with the sentinel, those after the frame too; then it is decoded as by
+/// [`decode_in_place`], with its errors. So the frame ends at the first sentinel or with the buffer, and a leading
 /// sentinel is read as an empty message. Frames for another sentinel than 0 are Cheshire and Baker's.
-///
-/// # Errors
-/// `EmptyFrame` and `InvalidFrame`, as of [`decode_in_place_report`]. `TargetBufTooSmall` never comes.
 ///
 /// ```
 /// let mut buff = [252, 245, 244, 253, 243];

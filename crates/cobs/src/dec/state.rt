@@ -4,7 +4,7 @@ ghost use Rattle.cobs.specs.Grammar.{Reads};
 ghost use Rattle.cobs.specs.Table.{data_of, opened_by, table_result, table_state, StateAfter};
 ghost use Rattle.cobs.specs.declared.dec.state.DecodeResult.TheVariants.{DataComplete};
 
-use crate::dec::DecodeError;
+use crate::error::DecodeError;
 
 /// A decoder's state within a frame.
 ///

@@ -1,16 +1,16 @@
 //! The streaming decoder whose buffer is passed to each call. The three others are built on it.
 ghost use Rattle.std.specs.Prelude.{◌≡◌, ◌<◌, ◌≤◌, ◌+◌, ℕ, false, List, [], length, take, Err, IfOk, IfSome, ◌++◌};
 ghost use Rattle.cobs.specs.Feed.{DecoderAfter, Feeds, Idle, Overlong, Phase};
-ghost use Rattle.cobs.specs.declared.dec.DecodeError.TheVariants.{TargetBufTooSmall};
+ghost use Rattle.cobs.specs.declared.error.DecodeError.TheVariants.{TargetBufTooSmall};
 ghost use Rattle.cobs.specs.Fields.Decoders.{phase_at, phase_of};
 ghost use Rattle.cobs.specs.Step.{next_phase, next_buffer, next_result, end_result};
 ghost use Rattle.cobs.specs.Push.{PushesBytes};
 ghost use Rattle.cobs.specs.FeedPiece.{TakesPiece};
 
-use crate::dec::find::len_before_zero;
+use crate::block::FULL_CODE;
 use crate::dec::frame_decoder::{PieceEnd, piece_end};
-use crate::dec::{DecodeError, DecodeReport, PushError};
-use crate::enc::FULL_CODE;
+use crate::error::{DecodeError, DecodeReport, PushError};
+use crate::find::position_or_len;
 use std::mem;
 
 /// The code of a full block, as a byte.
@@ -205,10 +205,8 @@ impl UnbufferedDecoder {
         *self = UnbufferedDecoder::new();
     }
 
-    /// Takes the next byte of the stream, over this buffer, as [`CobsDecoder::feed`](crate::CobsDecoder::feed) does.
-    ///
-    /// # Errors
-    /// `InvalidFrame` and `TargetBufTooSmall`, as there.
+    /// Takes the next byte of the stream, over this buffer, as [`CobsDecoder::feed`](crate::CobsDecoder::feed) does, with its
+    /// errors.
     ///
     /// ```
     /// let mut buffer = [0; 2];
@@ -253,10 +251,7 @@ impl UnbufferedDecoder {
     }
 
     /// Takes bytes of the stream, over this buffer, up to the first one whose result by `feed` isn't `Ok(None)`, as
-    /// [`CobsDecoder::push`](crate::CobsDecoder::push) does.
-    ///
-    /// # Errors
-    /// A `PushError` has the error of `feed` and how many bytes were taken, the one that raised it included.
+    /// [`CobsDecoder::push`](crate::CobsDecoder::push) does, with its errors.
     ///
     /// ```
     /// let mut buffer = [0; 2];
@@ -312,7 +307,7 @@ impl UnbufferedDecoder {
         'by_run: while taken < bytes.len() {
             // Of a piece that is too long for the buffer, all in front of its zero is taken.
             taken += if self.over {
-                len_before_zero(&bytes[taken..])
+                position_or_len(&bytes[taken..], 0)
             } else {
                 self.take_quiet(dest, &bytes[taken..])
             };

@@ -1,5 +1,5 @@
 //! Decoding a whole frame into another buffer.
-ghost use Rattle.std.specs.Prelude.{◌≡◌, ◌<◌, ◌≤◌, List, length, ℕ};
+ghost use Rattle.std.specs.Prelude.{◌≡◌, ◌<◌, ◌≤◌, List, length, ℕ, IfOk};
 ghost use Rattle.cobs.specs.Overwritten.{overwritten};
 ghost use Rattle.cobs.specs.Decode.{result_of_decode, first_output, outcome_result};
 ghost use Rattle.cobs.specs.Grammar.{Reads};
@@ -7,44 +7,31 @@ ghost use Rattle.cobs.specs.Headline.{IsPiece, ReportsMessage};
 ghost use Rattle.cobs.specs.Piece.{output};
 ghost use Rattle.cobs.specs.Stream.{head, outcome_of};
 
-use crate::dec::blocks::write_zeros_at_codes;
-use crate::dec::find::leading_zeros;
-use crate::dec::front::decode_ahead;
-use crate::dec::piece::decode_rest;
-use crate::dec::{DecodeError, DecodeReport};
-use cobs_bytes::lanes::copy_xored_short;
-use cobs_bytes::window::WIDE_WINDOW;
+use crate::dec::UnbufferedDecoder;
+use crate::dec::stretch::{decode_short, message_len};
+use crate::error::{DecodeError, DecodeReport};
+use crate::find::leading_zeros;
 
-/// Decodes what a source has in front of its first zero, where that begins with a code; returns how many bytes that is,
-/// and its message's length.
+/// Decodes what a source has in front of its first zero, where that begins with a code: returns how many bytes that is,
+/// if its output has room, and the result for it.
 #[inline(always)]
 fn decode_at_code(source: &[u8], dest: &mut [u8]) -> (usize, Result<usize, DecodeError>)
     requires begun { 0 < length (head source.now) }
-    ensures len { result.0 ≡ length (head source.now) }
+    ensures within { result.0 ≤ length source.now }
+    ensures len { IfOk result.1 (λ size. result.0 ≡ length (head source.now)) }
     ensures returned { result.1 ≡ outcome_result (outcome_of (head source.now) (length dest.old)) }
     ensures buffer { dest.new ≡ overwritten dest.old (output (head source.now)) }
 {
-    let most = source.len() - 1;
-    if 0 < most
-        && most <= WIDE_WINDOW
-        && most <= dest.len()
-        && copy_xored_short(&source[1..], dest, 0)
-    {
-        let (_, left) = write_zeros_at_codes(dest, source[0] as usize, source.len(), false);
-        let decoded = if left == 0 {
-            Ok(most)
-        } else {
-            Err(DecodeError::InvalidFrame {
-                decoded_bytes: most,
-            })
-        };
-        return (source.len(), decoded);
+    if let Some(left) = decode_short(source, dest, 0) {
+        let len = source.len();
+        return (len, message_len(len - 1, left == 0));
     }
-    let (front, len) = decode_ahead(source, dest);
-    (
-        len,
-        decode_rest(&source[..len], dest, front.read, front.written),
-    )
+    let mut decoder = UnbufferedDecoder::new();
+    let len = decoder.take_run(dest, source, 0);
+    if len < source.len() && source[len] != 0 {
+        return (len, Err(DecodeError::TargetBufTooSmall));
+    }
+    (len, message_len(decoder.dest_idx, decoder.left == 0))
 }
 
 /// Decodes the first frame of the source into `dest`, and returns how many bytes were consumed and how many the
@@ -90,9 +77,9 @@ pub fn decode(source: &[u8], dest: &mut [u8]) -> Result<DecodeReport, DecodeErro
     if start == source.len() {
         return Err(DecodeError::InvalidFrame { decoded_bytes: 0 });
     }
-    let (len, decoded) = decode_at_code(&source[start..], dest);
+    let (len, result) = decode_at_code(&source[start..], dest);
     let parsed_size = (start + len + 1).min(source.len());
-    decoded.map(|frame_size| DecodeReport {
+    result.map(|frame_size| DecodeReport {
         parsed_size,
         frame_size,
     })

@@ -3,8 +3,9 @@ ghost use Rattle.std.specs.Prelude.{length};
 ghost use Rattle.cobs.specs.OpenBlock.{IsPlaceIn};
 ghost use Rattle.cobs.specs.Fields.Progress.{reached_by};
 
+use crate::enc::UnbufferedEncoder;
 use crate::enc::blocks::close;
-use crate::enc::{DestBufTooSmallError, UnbufferedEncoder};
+use crate::error::DestBufTooSmallError;
 
 /// Encodes a message that comes in pieces, straight into a slice of the caller's.
 ///

@@ -6,53 +6,10 @@ ghost use Rattle.cobs.specs.OpenBlock.{CobsEncoderAfter, end_of};
 ghost use Rattle.cobs.specs.Overwritten.{message_in};
 ghost use Rattle.cobs.specs.Fields.Progress.{reached_at};
 
-use crate::enc::blocks::{FULL_BLOCK_BYTES, FULL_CODE, close};
+use crate::block::{FULL_BLOCK_BYTES, FULL_CODE};
+use crate::enc::blocks::{append_byte, close};
 use crate::enc::progress::{EncoderProgress, START};
 use crate::max_encoding_overhead;
-
-/// Takes one byte, and returns how far the frame has come then. Its next byte goes one place further on, and after a byte
-/// that has filled a block two places.
-#[inline(always)]
-#[tactic(auto, using(crate::proofs::encoding::ByteLemmas::byte_steps))]
-fn append_byte(buffer: &mut [u8], start: EncoderProgress, byte: u8) -> EncoderProgress
-    requires code { 0 < start.code }
-    requires open_block { start.code < 255 }
-    requires room { start.index + start.code < length buffer.old }
-    ensures taken { (m : List ℕ) → CobsEncoderAfter buffer.old (reached_at start) m
-        → CobsEncoderAfter buffer.new (reached_at result) (m ++ byte ∷ []) }
-    ensures code { 0 < result.code }
-    ensures open_block { result.code < 255 }
-    ensures onward { end_of (reached_at start) ≤ end_of (reached_at result) }
-    ensures rest { drop (end_of (reached_at result)) buffer.new
-        ≡ drop (end_of (reached_at result)) buffer.old }
-    ensures pace { 254 * (result.index + result.code) + result.code
-        ≤ 254 * (start.index + start.code) + start.code + 255 }
-{
-    let EncoderProgress { index, code, .. } = start;
-    let next = index + code as usize;
-    if byte == 0 {
-        buffer[index] = code;
-        return EncoderProgress {
-            index: next,
-            code: 1,
-            is_full: false,
-        };
-    }
-    buffer[next] = byte;
-    if (code as usize) < FULL_BLOCK_BYTES {
-        return EncoderProgress {
-            index,
-            code: code + 1,
-            is_full: false,
-        };
-    }
-    buffer[index] = FULL_CODE as u8;
-    EncoderProgress {
-        index: next + 1,
-        code: 1,
-        is_full: true,
-    }
-}
 
 /// Encodes a message in its own buffer, and returns the length of its frame in bytes.
 ///
@@ -79,7 +36,7 @@ pub fn encode_in_place(buffer: &mut [u8], len: usize) -> usize
     let mut progress = START;
     'by_byte: for taken in 0..len {
         let byte = buffer[before + taken];
-        progress = append_byte(buffer, progress, byte);
+        progress = append_byte(&[byte], buffer, progress);
     }
     close(buffer, progress)
 }

@@ -5,8 +5,10 @@ ghost use Rattle.cobs.specs.OpenBlock.{IsPlaceIn, end_after};
 ghost use Rattle.cobs.specs.Fields.Progress.{reached_at};
 ghost use Rattle.cobs.specs.Internal.Taking.{IsFirstRun, TakesFront};
 
-use crate::enc::blocks::{FULL_BLOCK_BYTES, append, append_rest, run_len};
+use crate::block::FULL_BLOCK_BYTES;
+use crate::enc::blocks::{append, append_rest};
 use crate::enc::progress::EncoderProgress;
+use crate::find::position_or_len;
 use memchr::memrchr;
 
 /// Whether `room` bytes, counted from the index of an open block with this code, are enough for the frame once the
@@ -37,7 +39,7 @@ fn fits(code: usize, source: &[u8], room: usize) -> Option<usize>
         if let Some(zero) = memrchr(0, &source[read..end]) {
             read += zero + 1;
         } else {
-            let more = run_len(&source[read..]);
+            let more = position_or_len(&source[read..], 0);
             if read == 0 {
                 first = more;
             }
@@ -76,11 +78,7 @@ pub(crate) fn try_append(source: &[u8], dest: &mut [u8], progress: &mut EncoderP
         → (dest.new ≡ dest.old) × (reached_at progress.new ≡ reached_at progress.old) }
 {
     // Field by field, here and below: fields that were stored one by one can't be loaded at once without waiting.
-    let start = EncoderProgress {
-        index: progress.index,
-        code: progress.code,
-        is_full: progress.is_full,
-    };
+    let start = EncoderProgress { ..*progress };
     let room = dest.len() - start.index;
     let code = start.code as usize;
     let most = code + source.len();
@@ -96,8 +94,6 @@ pub(crate) fn try_append(source: &[u8], dest: &mut [u8], progress: &mut EncoderP
     } else {
         append_rest(source, run, dest, start)
     };
-    progress.index = behind.index;
-    progress.code = behind.code;
-    progress.is_full = behind.is_full;
+    *progress = EncoderProgress { ..behind };
     true
 }

@@ -4,8 +4,9 @@ ghost use Rattle.cobs.specs.Length.{encoded_len};
 ghost use Rattle.cobs.specs.Grammar.{HasNoZero};
 ghost use Rattle.cobs.specs.Sentinel.{xor_each, IsEncodedFrameFor, IsDelimitedFrame, IsFreeOf, between_ends};
 
-use crate::enc::error::DestBufTooSmallError;
 use crate::enc::{encode, try_encode};
+use crate::error::DestBufTooSmallError;
+use cobs_bytes::lanes::xor_bytes;
 
 /// Writes the encoded frame of `source` for this sentinel to the front of `dest`, and returns its length in bytes.
 ///
@@ -61,15 +62,6 @@ pub fn try_encode_with_sentinel(
     let written = try_encode(source, dest)?;
     xor_bytes(&mut dest[..written], sentinel);
     Ok(written)
-}
-
-/// XORs each byte with `sentinel`.
-pub(crate) fn xor_bytes(bytes: &mut [u8], sentinel: u8)
-    ensures changed { bytes.new ≡ xor_each sentinel bytes.old }
-{
-    for byte in bytes.iter_mut() {
-        *byte ^= sentinel;
-    }
 }
 
 /// Writes 0, the encoded frame of `source` and 0 to the front of `dest`, and returns the length of the three in bytes.

@@ -6,10 +6,11 @@ ghost use Rattle.cobs.specs.OpenBlock.{CobsEncoderAfter, HasRoomFor, IsPlaceIn, 
 ghost use Rattle.cobs.specs.Fields.Progress.{reached_at, reached_by};
 ghost use Rattle.cobs.specs.Internal.Taking.{TakesFront};
 
-use crate::enc::DestBufTooSmallError;
-use crate::enc::blocks::{FULL_BLOCK_BYTES, FULL_CODE, append_short, close, fits_window_and_block};
+use crate::block::{FULL_BLOCK_BYTES, FULL_CODE};
+use crate::enc::blocks::{append_byte, append_short, close, fits_window_and_block};
 use crate::enc::progress::{EncoderProgress, START};
 use crate::enc::room::try_append;
+use crate::error::DestBufTooSmallError;
 
 /// Encodes a message that comes in pieces, straight into a buffer that the caller passes to each call.
 ///
@@ -106,56 +107,9 @@ impl UnbufferedEncoder {
     fn is_within(&self, len: usize) -> bool
         ensures { IsTrue result ↔ IsPlaceIn len (reached_by self.now) }
     {
-        let EncoderProgress {
-            index,
-            code,
-            is_full,
-        } = self.progress;
-        let code = code as usize;
-        if code == 0 || code == FULL_CODE || len < index {
-            return false;
-        }
-        if !is_full && len - index < code {
-            return false;
-        }
-        true
-    }
-
-    /// Takes one byte if the frame fits the buffer with it, and says whether it does. It calls nothing, so that a loop of
-    /// such pushes keeps the progress in registers: in the Rust crate it is 1.5 times as fast.
-    #[inline(always)]
-    #[tactic(auto, using(crate::proofs::encoding::TakingLemmas::short_room))]
-    fn take_one(&mut self, dest: &mut [u8], bytes: &[u8]) -> bool
-        requires one { length bytes.now ≡ 1 }
-        requires place { IsPlaceIn (length dest.old) (reached_by self.old) }
-        ensures fits { IsTrue result ↔ (end_after (reached_by self.old) bytes.now ≤ length dest.old) }
-        ensures taken { IsTrue result → TakesFront dest.old (reached_by self.old) bytes.now
-            (length bytes.now) dest.new (reached_by self.new) }
-        ensures rejected { result ≡ false
-            → (dest.new ≡ dest.old) × (reached_by self.new ≡ reached_by self.old) }
-    {
-        let index = self.progress.index;
-        let code = self.progress.code;
-        let next = index + code as usize;
-        if dest.len() <= next {
-            return false;
-        }
-        self.progress.code = 1;
-        self.progress.is_full = false;
-        if bytes[0] == 0 {
-            dest[index] = code;
-            self.progress.index = next;
-            return true;
-        }
-        dest[next] = bytes[0];
-        if code as usize == FULL_BLOCK_BYTES {
-            dest[index] = FULL_CODE as u8;
-            self.progress.index = next + 1;
-            self.progress.is_full = true;
-        } else {
-            self.progress.code = code + 1;
-        }
-        true
+        let at = self.progress;
+        let code = at.code as usize;
+        0 < code && code < FULL_CODE && at.index <= len && (at.is_full || code <= len - at.index)
     }
 
     /// Takes the next bytes if the frame fits the buffer with them, and says whether it does: one byte, or a few that
@@ -172,20 +126,22 @@ impl UnbufferedEncoder {
         ensures empty { bytes.now ≡ []
             → (dest.new ≡ dest.old) × (reached_by self.new ≡ reached_by self.old) }
     {
-        if bytes.len() == 1 {
-            return self.take_one(dest, bytes);
-        }
         let at = self.progress;
-        let room = dest.len() - at.index;
-        if fits_window_and_block(at, bytes.len()) && at.code as usize + bytes.len() <= room {
-            // Field by field, so that no byte between the fields is copied.
-            let behind = append_short(bytes, dest, at, true);
-            self.progress.index = behind.index;
-            self.progress.code = behind.code;
-            self.progress.is_full = behind.is_full;
-            return true;
-        }
-        bytes.is_empty() || try_append(bytes, dest, &mut self.progress)
+        let behind = if bytes.len() == 1 {
+            if dest.len() <= at.index + at.code as usize {
+                return false;
+            }
+            append_byte(bytes, dest, at)
+        } else if fits_window_and_block(at, bytes.len())
+            && at.code as usize + bytes.len() <= dest.len() - at.index
+        {
+            append_short(bytes, dest, at, true)
+        } else {
+            return bytes.is_empty() || try_append(bytes, dest, &mut self.progress);
+        };
+        // Field by field, so that no byte between the fields is copied.
+        self.progress = EncoderProgress { ..behind };
+        true
     }
 
     /// Takes the next bytes of the message.

@@ -1,21 +1,14 @@
 //! Laws for a coder of one's own: how long a frame gets block by block, what an encoder over a slice has taken after
-//! each byte, and what a decoder has taken. Then what the streaming decoders make of a frame.
-ghost use Rattle.std.specs.Prelude.{◌≡◌, ◌≢◌, ◌<◌, ◌≤◌, ◌+◌, ℕ, List, [], ◌∷◌, ◌++◌, length, take, drop, slice_index, slice_set, true, false, All, Option, Some, None, Ok, Result};
-ghost use Rattle.cobs.specs.Feed.{DecoderAfter, Feeds, Idle, Phase};
-ghost use Rattle.cobs.specs.FeedPiece.{TakesPiece, end_reported, outcome_at};
-ghost use Rattle.cobs.specs.Fields.Encoders.{IsPlaceIn};
-ghost use Rattle.cobs.specs.Grammar.{HasNoZero, IsEncodedFrame, Reads};
-ghost use Rattle.cobs.specs.Headline.{IsPiece, PushesMessage};
-ghost use Rattle.cobs.specs.Step.{next_result, next_buffer, next_phase};
+//! each byte, what a decoder has taken, and which frame a piece is. Then what the streaming decoders make of a frame.
+ghost use Rattle.std.specs.Prelude.{◌≡◌, ◌≢◌, ◌↔◌, ◌<◌, ◌+◌, ℕ, List, [], ◌∷◌, ◌++◌, length, drop, false, Some, None};
+ghost use Rattle.cobs.specs.Feed.{DecoderAfter, Idle, Phase};
+ghost use Rattle.cobs.specs.FeedPiece.{TakesPiece, outcome_at};
+ghost use Rattle.cobs.specs.Grammar.{HasNoZero, IsBlock, IsCanonical, IsFrame, IsFull, bytes_of, joint, lone_block};
+ghost use Rattle.cobs.specs.Laws.{DecoderLaw, EncoderLaw, FrameLaw};
 ghost use Rattle.cobs.specs.Length.{encoded_len};
-ghost use Rattle.cobs.specs.OpenBlock.{CobsEncoderAfter, Reached, next_of, place_at};
-ghost use Rattle.cobs.specs.Push.{PushesBytes};
-ghost use Rattle.cobs.specs.Stream.{outcome_of, stream_outcomes, unended};
-ghost use Rattle.cobs.specs.declared.dec.DecodeError.{DecodeError};
-ghost use Rattle.cobs.specs.declared.dec.PushError.{PushError};
+ghost use Rattle.cobs.specs.Piece.{IsWhole, is_whole, kept_output, output};
+ghost use Rattle.cobs.specs.Stream.{stream_outcomes, unended};
 ghost use Rattle.cobs.specs.declared.dec.frame_decoder.PieceEnd.{PieceEnd};
-ghost use Rattle.cobs.specs.declared.dec.frame_decoder.PieceEnd.TheVariants.{Message};
-ghost use Rattle.cobs.specs.declared.dec.DecodeReport.{DecodeReport};
 
 /// The length of an encoded frame, counted block by block: nonzero bytes, fewer than 255, have a block of their own at
 /// the end of the message; fewer than 254 have one before a zero; 254 have one where the message goes on. Which nonzero
@@ -71,35 +64,7 @@ pub fn law_15()
 ///     c.law_16.ensures.joins _ m (place_at c.args.index c.args.code full) _ h c.requires.byte c.requires.code c.requires.room
 /// ```
 pub fn law_16()
-    ensures nothing { (slice : List ℕ) → 0 < length slice
-        → CobsEncoderAfter slice (place_at 0 1 false) [] }
-    ensures place { (slice m : List ℕ) (reached : Reached) → CobsEncoderAfter slice reached m
-        → IsPlaceIn (length slice) reached }
-    ensures goes_on { (slice m a bytes : List ℕ) (reached : Reached)
-        → CobsEncoderAfter slice reached m → HasNoZero a → length a + 1 ≡ reached.block.code → bytes ≢ []
-        → encoded_len (m ++ bytes) ≡ reached.block.index + encoded_len (a ++ bytes) }
-    ensures joins { (slice m : List ℕ) (reached : Reached) (byte : ℕ)
-        → CobsEncoderAfter slice reached m → byte ≢ 0
-        → reached.block.code < 254 → next_of reached < length slice
-        → CobsEncoderAfter (slice_set slice (next_of reached) byte)
-        (place_at reached.block.index (reached.block.code + 1) false) (m ++ byte ∷ []) }
-    ensures fills { (slice m : List ℕ) (reached : Reached) (byte : ℕ)
-        → CobsEncoderAfter slice reached m → byte ≢ 0
-        → reached.block.code ≡ 254 → next_of reached < length slice
-        → CobsEncoderAfter
-        (slice_set (slice_set slice (next_of reached) byte) reached.block.index 255)
-        (place_at (reached.block.index + 255) 1 true) (m ++ byte ∷ []) }
-    ensures closes { (slice m : List ℕ) (reached : Reached)
-        → CobsEncoderAfter slice reached m → next_of reached < length slice
-        → CobsEncoderAfter (slice_set slice reached.block.index reached.block.code)
-        (place_at (next_of reached) 1 false) (m ++ 0 ∷ []) }
-    ensures frame { (slice m : List ℕ) (reached : Reached)
-        → CobsEncoderAfter slice reached m → reached.full ≡ false
-        → IsEncodedFrame
-        (take (next_of reached) (slice_set slice reached.block.index reached.block.code)) m }
-    ensures full_frame { (slice m : List ℕ) (reached : Reached)
-        → CobsEncoderAfter slice reached m → reached.full ≡ true
-        → IsEncodedFrame (take reached.block.index slice) m }
+    ensures { EncoderLaw }
 {}
 
 /// A decoder, byte by byte. The step of the table takes a byte in any phase as the streaming decoders do. Bytes that
@@ -128,23 +93,7 @@ pub fn law_16()
 ///     law.byte (c.args.byte ∷ []) _ _ _ _ _ _ _ 0 (omega arith) (law.nothing _ _) c.feed-returned.ensures.feeds (λ z. absurd (c.requires z))
 /// ```
 pub fn law_17()
-    ensures step { (buffer : List ℕ) (phase : Phase) (byte : ℕ) → let n = length buffer in
-        Feeds buffer phase byte (next_result n phase byte)
-        (next_buffer buffer phase byte) (next_phase n phase byte) }
-    ensures nothing { (buffer : List ℕ) (phase : Phase)
-        → TakesPiece buffer phase [] None buffer phase }
-    ensures byte { (bytes buffer between buffer' : List ℕ) (phase phase_between phase' : Phase)
-        (result : Result (Option ℕ) DecodeError) (i : ℕ) → i < length bytes
-        → TakesPiece buffer phase (take i bytes) None between phase_between
-        → Feeds between phase_between (slice_index bytes i) result buffer' phase'
-        → (slice_index bytes i ≡ 0 → end_reported result ≡ None)
-        → TakesPiece buffer phase (take (i + 1) bytes) None buffer' phase' }
-    ensures end { (bytes buffer between buffer' : List ℕ) (phase phase_between phase' : Phase)
-        (result : Result (Option ℕ) DecodeError) (end : PieceEnd) (i : ℕ) → i < length bytes
-        → TakesPiece buffer phase (take i bytes) None between phase_between
-        → Feeds between phase_between (slice_index bytes i) result buffer' phase'
-        → slice_index bytes i ≡ 0 → end_reported result ≡ Some end
-        → TakesPiece buffer phase bytes (Some (end, i + 1)) buffer' phase' }
+    ensures { DecoderLaw }
 {}
 
 /// What the streaming decoders make of a frame. A zero that is fed after all bytes of a frame returns the length of its
@@ -170,37 +119,63 @@ pub fn law_17()
 /// returns c f m taken frame held = (c.law_18.ensures.fed _ _ f m _ _ _ c.feed.ensures.feeds taken frame held).0
 /// ```
 pub fn law_18()
-    ensures fed { (buffer buffer' f m : List ℕ) (phase phase' : Phase)
-        (result : Result (Option ℕ) DecodeError)
-        → Feeds buffer phase 0 result buffer' phase' → DecoderAfter buffer phase f
-        → Reads f m → length m ≤ length buffer
-        → (result ≡ Ok (Some (length m))) × (take (length m) buffer' ≡ m) }
-    ensures fed_only { (buffer buffer' f : List ℕ) (phase phase' : Phase) (n : ℕ)
-        → Feeds buffer phase 0 (Ok (Some n)) buffer' phase' → DecoderAfter buffer phase f
-        → All (λ byte. byte < 256) f → Reads f (take n buffer') }
-    ensures taken { (buffer buffer' f more m : List ℕ) (phase phase' : Phase)
-        (result : Option (PieceEnd × ℕ))
-        → TakesPiece buffer phase (f ++ 0 ∷ more) result buffer' phase' → phase ≡ Idle
-        → Reads f m → length m ≤ length buffer
-        → (result ≡ Some (Message (length m), length f + 1)) × (take (length m) buffer' ≡ m) }
-    ensures taken_only { (buffer buffer' f more : List ℕ) (phase phase' : Phase) (n count : ℕ)
-        → TakesPiece buffer phase (f ++ 0 ∷ more) (Some (Message n, count)) buffer' phase'
-        → phase ≡ Idle → IsPiece f → All (λ byte. byte < 256) f → Reads f (take n buffer') }
-    ensures ends { (buffer buffer' f more : List ℕ) (phase phase' : Phase)
-        (result : Option (PieceEnd × ℕ))
-        → TakesPiece buffer phase (f ++ 0 ∷ more) result buffer' phase' → phase ≡ Idle → IsPiece f
-        → (end : PieceEnd) × (result ≡ Some (end, length f + 1))
-        × (outcome_at end buffer' ≡ outcome_of f (length buffer)) }
-    ensures pushed { (buffer buffer' bytes f m : List ℕ) (phase phase' : Phase)
-        (result : Result (Option DecodeReport) PushError)
-        → PushesBytes buffer phase bytes result buffer' phase' → phase ≡ Idle
-        → bytes ≡ f ++ 0 ∷ [] → All (λ byte. byte < 256) bytes
-        → Reads f m → length m ≤ length buffer → PushesMessage result buffer' m }
-    ensures pushed_only { (buffer buffer' bytes f m : List ℕ) (phase phase' : Phase)
-        (result : Result (Option DecodeReport) PushError)
-        → PushesBytes buffer phase bytes result buffer' phase' → phase ≡ Idle
-        → bytes ≡ f ++ 0 ∷ [] → All (λ byte. byte < 256) bytes → IsPiece f
-        → PushesMessage result buffer' m → Reads f m × (length m ≤ length buffer) }
+    ensures { FrameLaw }
+{}
+
+/// Which frame a block makes of the bytes after it. A block alone is a canonical frame. In front of other bytes it is a
+/// frame exactly if they are one, and canonical exactly if they are, unless it is full and they are the lone block.
+/// Bytes that are fewer than their first code says are no frame.
+///
+/// So a reader of one's own that goes from code to code learns whether it has a frame, and which one.
+///
+/// ```
+/// fn is_canonical_behind(block: &[u8], frame: &[u8]) -> bool
+///     requires block { IsBlock block.now }
+///     requires not_full { IsFull block.now → ⊥ }
+///     requires some { frame.now ≢ [] }
+///     ensures { IsTrue result → IsCanonical (block.now ++ frame.now) }
+/// {
+///     law_19();
+///     frame_kind(frame) == FrameKind::Canonical
+/// }
+/// ```
+pub fn law_19()
+    ensures one { (block : List ℕ) → IsBlock block → IsCanonical block }
+    ensures frame { (block f : List ℕ) → IsBlock block → f ≢ []
+        → (IsFrame (block ++ f) ↔ IsFrame f) }
+    ensures canonical { (block f : List ℕ) → IsBlock block → f ≢ []
+        → (IsCanonical (block ++ f) ↔ (IsCanonical f × (IsFull block → f ≢ lone_block))) }
+    ensures short { (code : ℕ) (bytes : List ℕ) → length bytes + 1 < code
+        → IsFrame (code ∷ bytes) → ⊥ }
+{}
+
+/// What a block in front of other bytes decodes to: its bytes, and the zero after them unless it is full. It is whole,
+/// and with it the other bytes are whole exactly if they are. Of bytes that are fewer than their first code says,
+/// nothing is kept; of whole ones everything is.
+///
+/// So a decoder of one's own that goes from code to code writes what [`decode_in_place`](crate::decode_in_place) does.
+///
+/// ```
+/// fn decode_block<'a>(block: &'a [u8]) -> &'a [u8]
+///     requires { IsBlock block.now }
+///     ensures { result.now ≡ output block.now }
+/// {
+///     law_20();
+///     &block[1..]
+/// }
+/// ```
+pub fn law_20()
+    ensures one { (block : List ℕ) → IsBlock block → output block ≡ bytes_of block }
+    ensures one_whole { (block : List ℕ) → IsBlock block → IsWhole block }
+    ensures whole { (block p : List ℕ) → IsBlock block → p ≢ []
+        → is_whole (block ++ p) ≡ is_whole p }
+    ensures kept { (block p : List ℕ) → IsBlock block → p ≢ []
+        → kept_output (block ++ p) ≡ bytes_of block ++ joint block ++ kept_output p }
+    ensures short { (code : ℕ) (bytes : List ℕ) → length bytes + 1 < code
+        → is_whole (code ∷ bytes) ≡ false }
+    ensures short_kept { (code : ℕ) (bytes : List ℕ) → length bytes + 1 < code
+        → kept_output (code ∷ bytes) ≡ [] }
+    ensures all_kept { (p : List ℕ) → IsWhole p → kept_output p ≡ output p }
 {}
 
 /// What an idle decoder that takes one piece makes of a stream: the stream has the piece's outcome and then those of the

@@ -9,6 +9,23 @@ use Rattle.cobs_bytes.specs.Mask.{zero_mask}
 use Rattle.cobs_bytes.proofs.bytes.MaskLemmas.{zero_mask-lanes, zero_mask-none}
 use Rattle.cobs_bytes.proofs.bytes.NonzeroCopies.{or-none, more-nonzero, two-copied}
 
+-- n bytes of a source, each XORed with s
+module _ (source : List ℕ) (s n : ℕ) where
+  abbrev pub part : ℕ → List ℕ
+  part i = zip2 (λ a b. bit_xor a b) (take n (drop i source)) (replicate n s)
+
+  pub part-is : (i : ℕ) → i + n ≤ length source → part i ≡ take n (drop i (xor_each s source))
+  part-is i inside = grind (arith, zip2_splat, length-chunk, take-map, drop-map)
+
+  pub part-long : (i : ℕ) → i + n ≤ length source → length (part i) ≡ n
+  part-long i inside = ap length (part-is i inside) ∙ length-chunk i n (xor_each s source) (omega (arith, length-map source (λ (b : ℕ). bit_xor b s)))
+
+  abbrev pub mask : ℕ → ℕ
+  mask i = mask_l (map (top 7) (zip2 (λ a b. cond (eqb a b) (2 ^ 8 - 1) 0) (part i) (replicate n 0))) % 2 ^ 64
+
+  pub mask-is : (i : ℕ) → n ≤ 64 → i + n ≤ length source → mask i ≡ zero_mask (take n (drop i (xor_each s source)))
+  mask-is i small inside = bitmask_splat w8 eqb (part i) n 0 (part-long i inside) small ∙ zero_mask-lanes (part i) ∙ ap zero_mask (part-is i inside)
+
 -- two parts of n bytes, which may overlap
 module _ (source dest : List ℕ) (s n : ℕ) (long : n ≤ length source) (short : length source ≤ n + n) (room : length source ≤ length dest) (small : n ≤ 64) where
   abbrev h : List ℕ
@@ -20,37 +37,20 @@ module _ (source dest : List ℕ) (s n : ℕ) (long : n ≤ length source) (shor
   h-long : length h ≡ length source
   h-long = length-map source (λ (b : ℕ). bit_xor b s)
 
-  abbrev part : ℕ → List ℕ
-  part i = zip2 (λ a b. bit_xor a b) (take n (drop i source)) (replicate n s)
-
-  part-is : (i : ℕ) → i + n ≤ length source → part i ≡ take n (drop i h)
-  part-is i inside = grind (arith, zip2_splat, length-chunk, take-map, drop-map)
-
-  part-long : (i : ℕ) → i + n ≤ length source → length (part i) ≡ n
-  part-long i inside = ap length (part-is i inside) ∙ length-chunk i n h (let l = h-long in omega arith)
-
-  abbrev mask : ℕ → ℕ
-  mask i = mask_l (map (top 7) (zip2 (λ a b. cond (eqb a b) (2 ^ 8 - 1) 0) (part i) (replicate n 0))) % 2 ^ 64
-
-  mask-is : (i : ℕ) → i + n ≤ length source → mask i ≡ zero_mask (take n (drop i h))
-  mask-is i inside = bitmask_splat w8 eqb (part i) n 0 (part-long i inside) small ∙ zero_mask-lanes (part i) ∙ ap zero_mask (part-is i inside)
-
-  whole : take (at + n) (drop 0 h) ≡ h
+  whole : take (at + n) h ≡ h
   whole = take_all (at + n) h (let l = h-long in omega arith)
 
-  pub parts-nonzero : bit_or (mask 0) (mask at) ≡ 0 → HasNoZero h
+  pub parts-nonzero : bit_or (mask source s n 0) (mask source s n at) ≡ 0 → HasNoZero h
   parts-nonzero none =
       let l = h-long in
-      let clear = or-none _ _ _ _ (mask-is 0 (omega arith)) (mask-is at (omega arith)) none in
-      let sum : at ≡ 0 + at = omega arith in
+      let clear = or-none _ _ _ _ (mask-is source s n 0 small (omega arith)) (mask-is source s n at small (omega arith)) none in
       subst HasNoZero whole
-      (more-nonzero h dest dest 0 0 n at n (omega arith) (omega arith) (omega arith) (omega arith) (zero_mask-none (take n (drop 0 h)) clear.0)
-      (subst (λ (k : ℕ). HasNoZero (take n (drop k h))) sum (zero_mask-none (take n (drop at h)) clear.1)))
+      (more-nonzero h dest dest 0 n at n (omega arith) (omega arith) (omega arith) (omega arith) (zero_mask-none (take n h) clear.0) (zero_mask-none (take n (drop at h)) clear.1))
 
-  pub parts-copied : put_chunk at (put_chunk 0 dest (part 0)) (part at) ≡ h ++ drop (length source) dest
+  pub parts-copied : put_chunk at (put_chunk 0 dest (part source s n 0)) (part source s n at) ≡ h ++ drop (length source) dest
   parts-copied =
       let l = h-long in
-      ap (λ (x : List ℕ). put_chunk at (put_chunk 0 dest x) (part at)) (part-is 0 (omega arith))
-      ∙ ap (put_chunk at (put_chunk 0 dest (take n h))) (part-is at (omega arith))
+      ap (λ (x : List ℕ). put_chunk at (put_chunk 0 dest x) (part source s n at)) (part-is source s n 0 (omega arith))
+      ∙ ap (put_chunk at (put_chunk 0 dest (take n h))) (part-is source s n at (omega arith))
       ∙ two-copied h dest 0 0 (length source) n at at (length source) (omega arith) (omega arith) long short (omega arith) (omega arith) (omega arith)
       ∙ ap (λ (x : List ℕ). x ++ drop (length source) dest) (take_all (length source) h (omega arith))

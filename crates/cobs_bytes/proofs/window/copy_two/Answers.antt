@@ -1,6 +1,9 @@
-use Rattle.std.proofs.Common.{◌+◌, refl, arith}
+use Rattle.std.proofs.Common.{◌+◌, ◌++◌, ◌∙◌, length, take, drop, List, ℕ, ap, refl, arith, take_all}
 use Rattle.cobs_bytes.proofs.bytes.NonzeroCopies.{two-copied}
 use Rattle.cobs_bytes.proofs.window.copy_two.Goals as goal
 
 pub returns-clause-copied : goal.returns-clause-copied
-returns-clause-copied g c = two-copied c.args.source.now c.args.dest.now c.args.read c.args.at c.args.len g.row.N _ _ (c.args.at + c.args.len) c.requires.source c.requires.room c.requires.some c.requires.few (omega arith) (omega arith) refl
+returns-clause-copied g c =
+    let source : List ℕ = c.args.source.now in
+    two-copied source c.args.dest.now 0 c.args.at (length source) g.row.N _ _ (c.args.at + length source) (omega arith) c.requires.room c.requires.some c.requires.few (omega arith) (omega arith) refl
+    ∙ ap (λ (x : List ℕ). take c.args.at c.args.dest.now ++ (x ++ drop (c.args.at + length source) c.args.dest.now)) (take_all (length source) source (omega arith))

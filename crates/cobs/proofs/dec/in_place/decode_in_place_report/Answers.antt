@@ -5,12 +5,6 @@ use Rattle.cobs.proofs.decoding.HeadlineLemmas.{in_place_reads, in_place_only}
 use Rattle.cobs.proofs.decoding.OutcomeSteps.{in_place_report-rejected, in_place_report-decoded}
 use Rattle.cobs.proofs.dec.in_place.decode_in_place_report.Goals as goal
 
-pub returns-then-buf-eq-FULL_CODE-clause-reads : goal.returns-then-buf-eq-FULL_CODE-clause-reads
-returns-then-buf-eq-FULL_CODE-clause-reads c = in_place_reads _ _ _ c.decode_full_in_place.ensures.returned c.decode_full_in_place.ensures.buffer c.has_none.ensures.bytes
-
-pub returns-then-buf-eq-FULL_CODE-clause-only : goal.returns-then-buf-eq-FULL_CODE-clause-only
-returns-then-buf-eq-FULL_CODE-clause-only c = in_place_only _ _ _ c.decode_full_in_place.ensures.returned c.decode_full_in_place.ensures.buffer c.has_none.ensures.bytes
-
 pub returns-in_err-frame_size-clause-answer : goal.returns-in_err-frame_size-clause-answer
 returns-in_err-frame_size-clause-answer c =
     grind (arith, eqb-false, front_is_head, in_place_report-rejected)
@@ -36,3 +30,15 @@ returns-clause-reads c = in_place_reads _ _ _ (returns-clause-answer c) (returns
 
 pub returns-clause-only : goal.returns-clause-only
 returns-clause-only c = in_place_only _ _ _ (returns-clause-answer c) (returns-clause-buffer c) c.has_none.ensures.bytes
+
+pub returns-then-decode_short_in_place-clause-answer : goal.returns-then-decode_short_in_place-clause-answer
+returns-then-decode_short_in_place-clause-answer c = grind (arith, eqb-false, front_is_head, in_place_report-decoded, length-take-le)
+
+pub returns-then-decode_short_in_place-clause-buffer : goal.returns-then-decode_short_in_place-clause-buffer
+returns-then-decode_short_in_place-clause-buffer c = grind (arith, front_is_head)
+
+pub returns-then-decode_short_in_place-clause-reads : goal.returns-then-decode_short_in_place-clause-reads
+returns-then-decode_short_in_place-clause-reads c = in_place_reads _ _ _ (returns-then-decode_short_in_place-clause-answer c) (returns-then-decode_short_in_place-clause-buffer c) c.has_none.ensures.bytes
+
+pub returns-then-decode_short_in_place-clause-only : goal.returns-then-decode_short_in_place-clause-only
+returns-then-decode_short_in_place-clause-only c = in_place_only _ _ _ (returns-then-decode_short_in_place-clause-answer c) (returns-then-decode_short_in_place-clause-buffer c) c.has_none.ensures.bytes

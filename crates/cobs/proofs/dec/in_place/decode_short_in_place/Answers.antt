@@ -1,32 +1,38 @@
-use Rattle.std.proofs.Common.{◌≡◌, ◌-◌, ◌∷◌, ◌++◌, ◌<◌, ◌≤◌, ◌∙◌, List, ℕ, take, drop, length, get_or, ap, sym, subst, arith, length-take-le}
-use Rattle.cobs.specs.Grammar.{HasNoZero}
-use Rattle.cobs.specs.Piece.{missing, last_part, output}
-use Rattle.cobs.proofs.decoding.FlatLemmas.{moved-piece}
-use Rattle.cobs.proofs.decoding.PieceCuts.{output_short}
+use Rattle.std.proofs.Common.{◌≡◌, ◌+◌, ◌-◌, ◌∙◌, ℕ, List, Some, Ok, take, length, ap, sym, arith, length-take-le}
+use Rattle.cobs.specs.Piece.{last_part, missing, output}
+use Rattle.cobs.proofs.format.SentinelLemmas.{xor_each-zero}
+use Rattle.cobs.proofs.streaming.KeptQuiet.{whole_front, whole_result}
 use Rattle.cobs.proofs.dec.in_place.decode_short_in_place.Goals as goal
+use Rattle.cobs.proofs.dec.in_place.decode_short_in_place.Goals.{After-copy_from_slice}
 
--- the bytes that are moved are those behind the first code
-moved : (old after : List ℕ) (end : ℕ) → end ≤ length old → 0 < end → after ≡ take (end - 1) (drop 1 old) ++ drop (end - 1) old → get_or old 0 0 ∷ take (end - 1) after ≡ take end old
-moved old after end within some is = moved-piece old after 0 end (omega arith) some is
+-- a short frame
+module _ (c : After-copy_from_slice) where
+  abbrev h : List ℕ
+  h = take c.args.len c.args.buffer.now
 
-pub write_zeros_at_codes-left-requires-clause-nonzero : goal.write_zeros_at_codes-left-requires-clause-nonzero
-write_zeros_at_codes-left-requires-clause-nonzero c = subst HasNoZero (sym (moved c.args.buffer.now _ c.args.end c.requires.within (omega arith) c.move_to_front.ensures)) c.requires.nonzero
+  found : c.decode_short.result ≡ Some 0
+  found = grind arith
 
-pub write_zeros_at_codes-left-requires-clause-flat : goal.write_zeros_at_codes-left-requires-clause-flat
-write_zeros_at_codes-left-requires-clause-flat c =
-    let is = moved c.args.buffer.now c.move_to_front.new.buffer c.args.end c.requires.within (omega arith) c.move_to_front.ensures in
-    let long = ap length is ∙ length-take-le c.args.end c.args.buffer.now c.requires.within in
-    output_short (get_or c.args.buffer.now 0 0 ∷ take (c.args.end - 1) c.move_to_front.new.buffer) (omega arith) (omega (arith, long)) ∙ long
+  whole : missing (last_part h) ≡ 0
+  whole = sym (rw (found, xor_each-zero h) at c.decode_short.ensures.left)
 
-pub returns-clause-flat : goal.returns-clause-flat
-returns-clause-flat c _ =
-    let is = moved c.args.buffer.now c.move_to_front.new.buffer c.args.end c.requires.within (omega arith) c.move_to_front.ensures in
-    let long = length-take-le c.args.end c.args.buffer.now c.requires.within in
-    record {
-      some = omega arith;
-      len = output_short (take c.args.end c.args.buffer.now) (omega arith) (omega arith);
-      whole = ap (λ (p : List ℕ). missing (last_part p)) (sym is) ∙ sym c.write_zeros_at_codes-left.ensures.left ∙ (omega arith);
-    }
+  len : length (output h) + 1 ≡ length h
+  len = rw (found, xor_each-zero h) at c.decode_short.ensures.len
 
-pub returns-clause-begins : goal.returns-clause-begins
-returns-clause-begins c _ = c.write_zeros_at_codes-left.ensures.begins ∙ ap output (moved c.args.buffer.now c.move_to_front.new.buffer c.args.end c.requires.within (omega arith) c.move_to_front.ensures)
+  begins : take (length h - 1) c.decode_short.new.dest ≡ output h
+  begins = rw (found, xor_each-zero h) at c.decode_short.ensures.begins
+
+pub returns-clause-nonzero : goal.returns-clause-nonzero
+returns-clause-nonzero c holds = let at = (goal.at.returns-clause-nonzero c).After-copy_from_slice in rw (found at, xor_each-zero (h at)) at c.decode_short.ensures.nonzero
+
+pub returns-clause-returned : goal.returns-clause-returned
+returns-clause-returned c holds =
+    let at = (goal.at.returns-clause-returned c).After-copy_from_slice in
+    ap Ok (omega (arith, len at, length-take-le c.args.len c.args.buffer.now c.requires.within)) ∙ sym (whole_result (h at) (whole at))
+
+pub returns-clause-buffer : goal.returns-clause-buffer
+returns-clause-buffer c holds =
+    let at = (goal.at.returns-clause-buffer c).After-copy_from_slice in
+    let l = length-take-le c.args.len c.args.buffer.now c.requires.within in
+    let front : c.copy_from_slice.new.self ≡ output (h at) = c.copy_from_slice.ensures.after ∙ ap (λ (k : ℕ). take (k - 1) c.decode_short.new.dest) (sym l) ∙ begins at in
+    whole_front (h at) c.args.buffer.now c.copy_from_slice.new.self (c.args.len - 1) (whole at) front (omega (arith, len at, ap length front)) (omega (arith, len at, ap length front))

@@ -1,12 +1,12 @@
-use Rattle.std.proofs.Common.{◌≡◌, ◌<◌, ◌-◌, ℕ, List, length, take, drop, Some, sym, ap, ◌∙◌, arith, rules, length-drop}
+use Rattle.std.proofs.Common.{◌≡◌, ◌<◌, ◌-◌, ◌+◌, ℕ, List, [], ◌∷◌, length, take, drop, min, Some, Result, Ok, Err, sym, ap, ◌∙◌, arith, rules, length-drop}
 use Rattle.std.proofs.lemmas.List.{take_rest}
 use Rattle.std.proofs.lemmas.Bool.{eqb-true, eqb-false}
-use Rattle.cobs.specs.Decode.{leading_zeros, report_result}
-use Rattle.cobs.specs.Stream.{first_piece, head}
-use Rattle.cobs.proofs.decoding.FrontSteps.{head-one_more}
-use Rattle.cobs.proofs.decoding.OutcomeLemmas.{length-head}
+use Rattle.cobs.specs.Decode.{leading_zeros, report_result, outcome_result, result_of_decode}
+use Rattle.cobs.specs.Stream.{first_piece, head, outcome_of}
+use Rattle.cobs.specs.declared.error.DecodeError.{DecodeError}
+use Rattle.std.specs.Prelude.{IfOk}
 use Rattle.cobs.proofs.decoding.HeadlineLemmas.{bytes_below, decode_reads}
-use Rattle.cobs.proofs.decoding.HeadLemmas.{first_piece_empty, first_piece_none, first_piece_found, leading_zeros-stop}
+use Rattle.cobs.proofs.decoding.HeadLemmas.{first_piece_empty, first_piece_none, first_piece_found, head_some, leading_zeros-stop}
 use Rattle.cobs.proofs.decoding.OutcomeSteps.{result_of_decode-none, overwritten-none}
 use Rattle.cobs.proofs.decoding.ReadsLemmas.{frame_piece}
 use Rattle.cobs.proofs.dec.whole.decode.Goals as goal
@@ -23,10 +23,17 @@ module _ (source : List ℕ) (start : ℕ) (is : start ≡ leading_zeros source)
   long = ap length (take_rest source start) ∙ length-drop start source
 
   begun : 0 < length (head rest)
-  begun = grind (arith, head-one_more, leading_zeros-stop, rest-is, long)
+  begun = grind (arith, head_some, leading_zeros-stop, rest-is, long)
 
   found : first_piece source ≡ Some (head rest)
   found = first_piece_found source (let l = ap length rest-is in omega (arith, long)) ∙ ap (λ (x : List ℕ). Some (head x)) (sym rest-is)
+
+-- what is parsed counts only if the message is returned
+answer-by : (source p : List ℕ) (n parsed len : ℕ) (r : Result ℕ DecodeError) → 0 < length source → first_piece source ≡ Some p → parsed ≡ min (length source) (leading_zeros source + len + 1) → r ≡ outcome_result (outcome_of p n) → IfOk r (λ size. len ≡ length p)
+    → report_result parsed r ≡ result_of_decode source n
+answer-by [] p n parsed len r some found parsed-is returned count = absurd (omega arith)
+answer-by (byte ∷ bytes) p n parsed len (Ok size) some found parsed-is returned count = grind arith
+answer-by (byte ∷ bytes) p n parsed len (Err error) some found parsed-is returned count = grind arith
 
 pub returns-then-is_empty-clause-buffer : goal.returns-then-is_empty-clause-buffer
 returns-then-is_empty-clause-buffer c = grind (arith, first_piece_empty, eqb-true, overwritten-none)
@@ -44,16 +51,11 @@ returns-then-start-source-clause-reads c m r fits =
 pub decode_at_code-len-requires : goal.decode_at_code-len-requires
 decode_at_code-len-requires c = record { begun = begun c.args.source.now _ c.leading_zeros-start.ensures.count (omega arith) }
 
-pub overflow_add-start : goal.overflow_add-start
-overflow_add-start c = grind (arith, length-head, long)
-
-pub overflow_add-start-2 : goal.overflow_add-start-2
-overflow_add-start-2 c = grind (arith, length-head, long)
-
 pub returns-clause-answer : goal.returns-clause-answer
 returns-clause-answer c =
     let is : c.map.result ≡ report_result c.min-parsed_size.result c.decode_at_code-len.result.1 = search rules in
-    is ∙ grind (arith, found)
+    let e = c.decode_at_code-len.ensures in
+    is ∙ answer-by _ _ _ _ _ _ (omega arith) (found _ _ c.leading_zeros-start.ensures.count (omega arith)) (omega (arith, c.leading_zeros-start.ensures.count)) e.returned e.len
 
 pub returns-clause-buffer : goal.returns-clause-buffer
 returns-clause-buffer c = grind (arith, found)

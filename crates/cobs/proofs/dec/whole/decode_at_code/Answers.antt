@@ -1,87 +1,126 @@
-use Rattle.std.proofs.Common.{◌≡◌, ◌<◌, ◌≤◌, ◌∷◌, ◌++◌, ◌+◌, ◌-◌, ℕ, List, length, take, drop, get_or, sym, ap, ◌∙◌, subst, arith, length-drop, length-take-le}
-use Rattle.std.proofs.lemmas.List.{drop_at, take_at, drop_more, take_rest}
-use Rattle.std.proofs.lemmas.List.Elements.{All-cons}
+use Rattle.std.proofs.Common.{◌≡◌, ◌≢◌, ℕ, zero, suc, ◌+◌, ◌-◌, ◌<◌, ◌≤◌, List, [], ◌∷◌, ◌++◌, length, take, drop, get_or, Result, Ok, Err, IsTrue, false, eqb, refl, sym, ap, ◌∙◌, subst, arith, length-take-le}
+use Rattle.std.specs.Prelude.{IfOk}
+use Rattle.std.proofs.lemmas.List.{drop_more}
+use Rattle.std.proofs.lemmas.List.Elements.{All-head, All-tail}
+use Rattle.std.proofs.lemmas.Bool.{cases_eq, eq-eqb, ne_eqb}
+use Rattle.cobs.specs.Decode.{outcome_result}
+use Rattle.cobs.specs.declared.error.DecodeError.{DecodeError}
+use Rattle.cobs.specs.declared.error.DecodeError.TheVariants.{InvalidFrame}
+use Rattle.cobs.specs.Feed.{Phase, Idle, Overlong}
 use Rattle.cobs.specs.Grammar.{HasNoZero}
-use Rattle.cobs.specs.Internal.DecodedUpTo.{DecodedUpTo}
-use Rattle.cobs.specs.Piece.{output}
+use Rattle.cobs.specs.Internal.FeedsQuietly.{FeedsQuietly}
+use Rattle.cobs.specs.Overwritten.{overwritten}
+use Rattle.cobs.specs.Piece.{output, last_part, missing}
 use Rattle.cobs.specs.Sentinel.{xor_each}
-use Rattle.cobs.specs.Stream.{head}
-use Rattle.cobs.proofs.decoding.PieceCuts.{output_short}
-use Rattle.cobs.proofs.decoding.OutcomeLemmas.{length-head, head-zero, head_alone, head_nonzero}
-use Rattle.cobs.proofs.decoding.OutcomeSteps.{outcome_result_whole, outcome_result_broken}
-use Rattle.cobs.proofs.decoding.FrontSteps.{head-prefix, plain-nonzero, plain-copied}
-use Rattle.cobs.proofs.decoding.BlockSteps.{overwritten-front}
+use Rattle.cobs.specs.Step.{next_phase}
+use Rattle.cobs.specs.Stream.{head, outcome_of}
+use Rattle.cobs.proofs.format.SentinelLemmas.{xor_each-zero}
+use Rattle.cobs.proofs.decoding.HeadLemmas.{front_is_head}
+use Rattle.cobs.proofs.decoding.OutcomeLemmas.{head-cons, head-zero, head_alone}
+use Rattle.cobs.proofs.decoding.OutcomeSteps.{outcome_result-too_long, outcome_result_whole, outcome_result_broken, overwritten-front}
+use Rattle.cobs.proofs.streaming.QuietLemmas.{Quiet, quiet, quiet-piece, quiet-at, quiet-full, quiet-long, quiet-written}
 use Rattle.cobs.proofs.dec.whole.decode_at_code.Goals as goal
-use Rattle.cobs.proofs.dec.whole.decode_at_code.Goals.{then-left-eq0, else-left-eq0, else-most-gt0-via-else-most-gt0}
-use Rattle.cobs.proofs.dec.whole.decode_at_code.Goals.{else-most-gt0-via-then-most-gt0+then-most-le-WIDE_WINDOW+then-most-dest+else-copy_xored_short}
-use Rattle.cobs.proofs.dec.whole.decode_at_code.Goals.{else-most-gt0-via-then-most-gt0+then-most-le-WIDE_WINDOW+else-most-dest, else-most-gt0-via-then-most-gt0+else-most-le-WIDE_WINDOW}
 
-pub overflow_sub-most : goal.overflow_sub-most
-overflow_sub-most c = let l = length-head c.args.source.now in omega arith
+-- what is before the first zero begins with bytes that are none
+head-front : (source : List ℕ) (n : ℕ) → HasNoZero (take n source) → head source ≡ take n source ++ head (drop n source)
+head-front source zero none = refl
+head-front [] (suc n) none = refl
+head-front (byte ∷ source) (suc n) none =
+    head-cons byte source (All-head (λ b. b ≢ 0) byte (take n source) none) ∙ ap (λ (l : List ℕ). byte ∷ l) (head-front source n (All-tail (λ b. b ≢ 0) byte (take n source) none))
 
--- a short piece that is copied without its first code
-module _ (source : List ℕ) (begun : 0 < length (head source)) (nonzero : HasNoZero (xor_each 0 (take (length source - 1) (drop 1 source)))) where
-  long : length (drop 1 source) ≡ length source - 1
-  long = length-drop 1 source
+code_first : (source : List ℕ) (n : ℕ) → 0 < length (head source) → 0 < length (take n source) → get_or (take n source) 0 0 ≢ 0
+code_first source zero begins some = absurd (omega arith)
+code_first [] (suc n) begins some = absurd (omega arith)
+code_first (byte ∷ source) (suc n) begins some = λ e. omega (arith, ap (λ (x : ℕ). length (head (x ∷ source))) e, ap length (head-zero source))
 
-  whole : HasNoZero source
-  whole = let behind = plain-nonzero _ _ source source _ (take_rest source 1) long nonzero in grind (arith, length-head, All-cons, head-zero)
+-- and another one that is none
+head-at : (source : List ℕ) (n : ℕ) → HasNoZero (take n source) → n < length source → get_or source n 0 ≢ 0 → take n source ++ get_or source n 0 ∷ head (drop (n + 1) source) ≡ head source
+head-at source n none more nz = ap (λ (l : List ℕ). take n source ++ l) (sym (ap head (drop_more source n 0 more) ∙ head-cons _ _ nz)) ∙ sym (head-front source n none)
 
-  flat : length source ≤ 65 → length (output source) + 1 ≡ length source
-  flat few = let l = length-head source in output_short source (omega arith) (omega arith)
+-- the result for a piece whose output fits
+result-by : (p : List ℕ) (n k left : ℕ) (r : Result ℕ DecodeError) → 0 < length p → length (output p) ≤ n → k ≡ length (output p) → left ≡ missing (last_part p)
+    → (IsTrue (eqb left 0) → r ≡ Ok k) → (eqb left 0 ≡ false → r ≡ Err (InvalidFrame k)) → r ≡ outcome_result (outcome_of p n)
+result-by p n k left r some fits count is whole broken = grind (arith, cases_eq, eq-eqb, ne_eqb, outcome_result_whole, outcome_result_broken)
 
-  module _ (old copied : List ℕ) (is : copied ≡ xor_each 0 (take (length source - 1) (drop 1 source)) ++ drop (length (take (length source - 1) (drop 1 source))) old) where
-    copied-is : copied ≡ drop 1 source ++ drop (length source - 1) old
-    copied-is = plain-copied _ _ old _ _ (take_rest source 1) long is
+-- whatever is returned
+always : {P : Type 0} (r : Result ℕ DecodeError) → P → IfOk r (λ size. P)
+always r p = grind arith
 
-    copy-is : get_or source 0 0 ∷ take (length source - 1) copied ≡ source
-    copy-is = let l = length-head source in grind (arith, copied-is, take_at, long, drop_more)
+-- a run of a source that begins with a code
+module _ (source old new : List ℕ) (phase : Phase) (run : ℕ) (begins : 0 < length (head source)) (fed : FeedsQuietly old Idle (take run (xor_each 0 source)) new phase) where
+  quietly : FeedsQuietly old Idle (take run source) new phase
+  quietly = rw (xor_each-zero source) at fed
 
-    rest : drop (length source - 1) copied ≡ drop (length source - 1) old
-    rest = ap (drop (length source - 1)) copied-is ∙ drop_at (drop 1 source) (drop (length source - 1) old) (length source - 1) long
+  none : HasNoZero (take run source)
+  none = quiet-piece (take run source) old new phase (code_first source run begins) quietly
 
-pub write_zeros_at_codes-left-requires-clause-nonzero : goal.write_zeros_at_codes-left-requires-clause-nonzero
-write_zeros_at_codes-left-requires-clause-nonzero c =
-    let e = c.copy_xored_short.ensures in
-    let done = c.if-copy_xored_short.true in
-    subst HasNoZero (sym (copy-is c.args.source.now c.requires.begun (e.nonzero done) _ _ (e.copied done))) (whole c.args.source.now c.requires.begun (e.nonzero done))
+  front : Quiet old new phase (take run source)
+  front = quiet (take run source) old new phase none quietly
 
-pub write_zeros_at_codes-left-requires-clause-flat : goal.write_zeros_at_codes-left-requires-clause-flat
-write_zeros_at_codes-left-requires-clause-flat c = grind (arith, copy-is, flat)
+  -- up to a byte that has no room
+  module _ (more : run < length source) (nz : get_or source run 0 ≢ 0) (over : next_phase (length new) phase (get_or (xor_each 0 source) run 0) ≡ Overlong) where
+    over' : next_phase (length new) phase (get_or source run 0) ≡ Overlong
+    over' = rw (xor_each-zero source) at over
 
-pub returns-then-copy_xored_short-clause-len : goal.returns-then-copy_xored_short-clause-len
-returns-then-copy_xored_short-clause-len c = grind (arith, whole, head_alone)
+    long : length old < length (output (head source))
+    long = subst (λ (l : List ℕ). length old < length (output l)) (head-at source run none more nz) (quiet-long old new _ phase front _ _ nz over')
 
-pub returns-then-copy_xored_short-clause-returned : goal.returns-then-copy_xored_short-clause-returned
-returns-then-copy_xored_short-clause-returned c = grind (arith, then-left-eq0, else-left-eq0, whole, head_alone, copy-is, flat, outcome_result_whole, outcome_result_broken)
+    full : new ≡ overwritten old (output (head source))
+    full = subst (λ (l : List ℕ). new ≡ overwritten old (output l)) (head-at source run none more nz) (quiet-full old new _ phase front _ _ nz over')
 
-pub returns-then-copy_xored_short-clause-buffer : goal.returns-then-copy_xored_short-clause-buffer
-returns-then-copy_xored_short-clause-buffer c = grind (arith, whole, head_alone, copy-is, rest, flat, overwritten-front)
+  -- or up to its end
+  module _ (within : run ≤ length source) (stop : run < length source → get_or source run 0 ≡ 0) where
+    all : take run source ≡ head source
+    all = front_is_head source run within none stop
 
-pub slice_bounds-decode_rest-end : goal.slice_bounds-decode_rest-end
-slice_bounds-decode_rest-end c = sym (length-take-le _ c.args.source.now (omega (arith, length-head c.args.source.now, c.decode_ahead-len.ensures.end)))
+    whole : Quiet old new phase (head source)
+    whole = subst (Quiet old new phase) all front
 
-pub decode_rest-requires-clause-some : goal.decode_rest-requires-clause-some
-decode_rest-requires-clause-some c = grind (arith, head-prefix)
+    count : run ≡ length (head source)
+    count = sym (length-take-le run source within) ∙ ap length all
 
-pub decode_rest-requires-clause-nonzero : goal.decode_rest-requires-clause-nonzero
-decode_rest-requires-clause-nonzero c = grind (arith, head_nonzero, head-prefix)
+pub returns-in-Some : goal.returns-in-Some
+returns-in-Some c =
+    let source : List ℕ = c.args.source.now in
+    let p : List ℕ = xor_each 0 source in
+    let e = c.in-Some.ensures in
+    let same = xor_each-zero source in
+    let is : p ≡ head source = same ∙ sym (head_alone source (subst HasNoZero same e.nonzero)) in
+    let long : length p ≡ length source = ap length same in
+    record {
+      within = omega arith;
+      len = always _ (sym long ∙ ap length is);
+      returned = subst (λ (l : List ℕ). c.message_len.result ≡ outcome_result (outcome_of l (length c.args.dest.now))) is
+          (result-by p _ _ _ _ (omega (arith, e.some)) (omega (arith, e.len, e.room)) (omega (arith, e.len)) e.left c.message_len.ensures.whole c.message_len.ensures.broken);
+      buffer = subst (λ (l : List ℕ). c.decode_short.new.dest ≡ overwritten c.args.dest.now (output l)) is
+          (overwritten-front _ _ (output p) (length source - 1) c.decode_short.auto.dest (omega (arith, e.room)) e.rest e.begins);
+    }
 
--- what of the piece is decoded
-decoded : (source old dest new : List ℕ) (read written len : ℕ) → len ≡ length (head source) → dest ≡ old → DecodedUpTo (head source) dest new read written → DecodedUpTo (take len source) old new read written
-decoded source old dest new read written len end kept d = grind (arith, head-prefix)
+pub returns-then-source-len-ne0 : goal.returns-then-source-len-ne0
+returns-then-source-len-ne0 c =
+    let fed = rw (c.new-decoder.ensures.idle, c.decode_short.ensures.kept c.in_default.is) at c.take_run-len.ensures.fed in
+    let nz = c.if-source-len-ne0.true in
+    let more = c.if-len-source.true in
+    let over = c.take_run-len.ensures.stop more (rw (xor_each-zero c.args.source.now) nz) in
+    record {
+      within = omega arith;
+      len = tt;
+      returned = outcome_result-too_long _ _ (long _ _ _ _ _ c.requires.begun fed more nz over);
+      buffer = full _ _ _ _ _ c.requires.begun fed more nz over;
+    }
 
-pub returns-clause-returned : goal.returns-clause-returned
-returns-clause-returned c = grind (arith, decoded, head-prefix)
-
-pub returns-clause-buffer : goal.returns-clause-buffer
-returns-clause-buffer c =
-    grind (
-      arith,
-      decoded,
-      head-prefix,
-      else-most-gt0-via-then-most-gt0+then-most-le-WIDE_WINDOW+then-most-dest+else-copy_xored_short,
-      else-most-gt0-via-then-most-gt0+then-most-le-WIDE_WINDOW+else-most-dest,
-      else-most-gt0-via-then-most-gt0+else-most-le-WIDE_WINDOW,
-      else-most-gt0-via-else-most-gt0,
-    )
+pub returns : goal.returns
+returns c =
+    let source : List ℕ = c.args.source.now in
+    let fed = rw (c.new-decoder.ensures.idle, c.decode_short.ensures.kept c.in_default.is) at c.take_run-len.ensures.fed in
+    let stop : c.take_run-len.result < length source → get_or source c.take_run-len.result 0 ≡ 0 = grind arith in
+    let within = c.take_run-len.ensures.within in
+    let w = whole source _ _ _ _ c.requires.begun fed within stop in
+    let at = quiet-at _ _ _ _ w c.take_run-len.new.self refl in
+    let n = count source _ _ _ _ c.requires.begun fed within stop in
+    record {
+      within = omega arith;
+      len = always _ n;
+      returned = result-by _ _ _ _ _ c.requires.begun w.fits at.0 at.1 c.message_len-2.ensures.whole c.message_len-2.ensures.broken;
+      buffer = quiet-written _ _ _ _ w;
+    }

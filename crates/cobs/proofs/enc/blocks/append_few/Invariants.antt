@@ -1,4 +1,4 @@
-use Rattle.std.proofs.Common.{◌≡◌, ◌<◌, ◌≤◌, ◌+◌, ◌-◌, false, length}
+use Rattle.std.proofs.Common.{◌≡◌, ◌<◌, ◌+◌, ◌-◌, false, length}
 use Rattle.cobs.specs.OpenBlock.{CobsEncoderAfter, end_after}
 use Rattle.cobs.specs.Fields.Progress.{reached_at}
 use Rattle.cobs.proofs.encoding.ReachLemmas.{Reaches}
@@ -6,9 +6,6 @@ use Rattle.cobs.proofs.enc.blocks.append_few.Given as goal
 
 abbrev pub invariant-by_byte : goal.invariant-by_byte
 invariant-by_byte l = record {
-  ordered : l.index < l.next;
   open' : l.next + (length l.source - l.read) < l.index + 255;
-  room : l.next + (length l.source - l.read) ≤ length l.dest;
-  fits : end_after (reached_at l.fn.progress) l.source ≤ length l.dest;
   reaches : Reaches (CobsEncoderAfter l.fn.dest (reached_at l.fn.progress)) l.source l.fn.dest l.dest (end_after (reached_at l.fn.progress) l.source) l.read l.index l.next (λ full. 0 < l.read → full ≡ false);
 }

@@ -1,10 +1,10 @@
-use Rattle.std.proofs.Common.{◌+◌, length, sym, arith}
+use Rattle.std.proofs.Common.{◌+◌, length, arith}
 use Rattle.cobs.specs.OpenBlock.{CobsEncoderAfter, end_after}
 use Rattle.cobs.specs.Fields.Progress.{reached_at}
-use Rattle.cobs.proofs.encoding.MarkLemmas.{Copied, WindowTaken, WindowTaken-at, length-after, marks-start, marks-end}
-use Rattle.cobs.proofs.encoding.ShortSteps.{code-inside, code-ordered, marks-within, marks-zeros, all-taken, one-fits, one-marks, short-copied, two-marks, window-front}
+use Rattle.cobs.proofs.encoding.MarkLemmas.{Copied, length-after, marks-start, marks-end}
+use Rattle.cobs.proofs.encoding.ShortSteps.{code-inside, code-ordered, marks-within, marks-zeros, one-fits, one-marks, short-copied, two-marks, window-front}
 use Rattle.cobs.proofs.encoding.TakingLemmas.{next-least}
-use Rattle.cobs.proofs.enc.blocks.append_short.Goals.{After-copy_window-mask, Joined-zeros-ne0, then-zeros-ne0+then-is_all_zeros, else-zeros-ne0}
+use Rattle.cobs.proofs.enc.blocks.append_short.Goals.{After-copy_window-mask}
 use Rattle.cobs.proofs.enc.blocks.append_short.Goals as goal
 
 -- the source as it was copied
@@ -38,28 +38,23 @@ mark_zeros-index-requires c =
     let marks = two-marks w (omega arith) first.code first.none first.some second.code second.none second.some in
     record { inside = code-inside marks (omega arith); next = omega arith; ordered = code-ordered marks; within = marks-within marks (omega arith) }
 
--- all its zeros are marked, or it has no other byte
-taken : (c : Joined-zeros-ne0)
-    → WindowTaken (CobsEncoderAfter c.args.dest.now (reached_at c.args.progress)) c.args.source.now c.args.dest.now c.if-zeros-ne0.dest (end_after (reached_at c.args.progress) c.args.source.now)
-    0 (length c.args.source.now) c.if-zeros-ne0.index (c.args.progress.index + c.args.progress.code)
-taken c =
+pub progress_at-requires-2 : goal.progress_at-requires-2
+progress_at-requires-2 c =
     let w = copied (goal.at.progress_at-requires-2 c).After-copy_window-mask in
     let fits = length-after w in
     let first = c.mark_first-first.ensures in
     let second = c.mark_first-index.ensures in
-    elim c.if-zeros-ne0.branch [
-      | then-zeros-ne0+then-is_all_zeros b ↦ WindowTaken-at (sym b.dest-is) (sym b.index-is) (all-taken w (b.is_all_zeros.ensures.0 b.if-is_all_zeros.true).1 _ first.code first.some second.code b.copy_window.ensures.copied)
-      | else-zeros-ne0 b ↦ WindowTaken-at (sym b.dest-is) (sym b.index-is)
-          (marks-zeros b.mark_zeros-index.ensures (two-marks w (omega arith) first.code first.none first.some second.code second.none second.some) (omega arith))
-    ]
-
-pub progress_at-requires-2 : goal.progress_at-requires-2
-progress_at-requires-2 c = let t = taken c in record { ordered = t.ordered; open_block = t.open' }
+    let t = marks-zeros c.mark_zeros-index.ensures (two-marks w (omega arith) first.code first.none first.some second.code second.none second.some) (omega arith) in
+    record { ordered = t.ordered; open_block = t.open' }
 
 pub returns : goal.returns
 returns c =
-    let fits = length-after (copied (goal.at.returns c).After-copy_window-mask) in
-    window-front (omega arith) (taken (goal.at.returns c).Joined-zeros-ne0) (omega arith) c.progress_at-2.ensures
+    let w = copied (goal.at.returns c).After-copy_window-mask in
+    let fits = length-after w in
+    let first = c.mark_first-first.ensures in
+    let second = c.mark_first-index.ensures in
+    let t = marks-zeros c.mark_zeros-index.ensures (two-marks w (omega arith) first.code first.none first.some second.code second.none second.some) (omega arith) in
+    window-front (omega arith) t (omega arith) c.progress_at-2.ensures
 
 pub returns-then-mask-eq0 : goal.returns-then-mask-eq0
 returns-then-mask-eq0 c =

@@ -1,17 +1,15 @@
-use Rattle.std.proofs.Common.{◌∙◌, ◌≡◌, ◌≢◌, ◌<◌, ◌≤◌, ◌+◌, ◌-◌, Bool, min, false, ◌==◌, if◌then◌else◌, ap, sym, arith}
+use Rattle.std.proofs.Common.{refl, ◌∙◌, ◌≢◌, ◌<◌, ◌≤◌, ◌+◌, ◌-◌, min, false, ap, sym, arith, drop, length-drop, length-take-le}
 use lib.Count.{count_trailing_zeros}
 use Rattle.std.proofs.lemmas.List.{length-set}
 use Rattle.cobs.specs.OpenBlock.{CobsEncoderAfter, end_after}
 use Rattle.cobs.specs.Fields.Progress.{reached_at}
-use Rattle.cobs.proofs.encoding.ReachLemmas.{Reaches-weaker, Reaches-open}
-use Rattle.cobs.proofs.encoding.MarkLemmas.{Copied, filled, first-within, length-after, length-window, marks-start, marks-step, marks-end, row-taken}
+use Rattle.cobs.proofs.encoding.ReachLemmas.{Reaches-weaker}
+use Rattle.cobs.proofs.encoding.MarkLemmas.{Copied, WindowTaken, copied-reaches, filled, first-within, length-after, length-window, marks-start, marks-step, marks-end, row-taken}
 use Rattle.cobs_bytes.proofs.bytes.MaskLemmas.{window_all}
 use Rattle.cobs.proofs.encoding.ShortSteps.{code-inside, code-ordered, marks-within, marks-zeros}
-use Rattle.cobs.proofs.encoding.TakingLemmas.{front-taken, reaches-noted}
-use Rattle.cobs.proofs.enc.blocks.append_windows.Goals.{After-copy_at-window, Joined-window-eq0, then-window-eq0+else-next-index, else-window-eq0+else-place-index-lt-FULL_CODE, then-last-eq0, else-last-eq0}
+use Rattle.cobs.proofs.encoding.TakingLemmas.{front-none, front-taken, reaches-start}
+use Rattle.cobs.proofs.enc.blocks.append_windows.Goals.{After-copy_at-window, After-write_row, Joined-window-eq0, then-window-eq0+else-next-index, else-window-eq0+else-place-index-lt-FULL_CODE}
 use Rattle.std.specs.Int.Count.{trailing_of_zero}
-use Rattle.std.proofs.lemmas.Bool.{eq-eqb, ne_eqb}
-use Rattle.cobs.proofs.encoding.AfterLemmas.{at}
 use Rattle.cobs.proofs.enc.blocks.append_windows.Goals as goal
 
 -- the window as it was copied
@@ -30,36 +28,48 @@ copied c = record {
   bits = c.copy_at-window.ensures.zeros;
 }
 
+pub returns-then-source-le-WINDOW-clause-taken : goal.returns-then-source-le-WINDOW-clause-taken
+returns-then-source-le-WINDOW-clause-taken c = front-none c.args.dest.now (reached_at c.args.start) c.args.source.now c.requires.place
+
 pub by_window-init : goal.by_window-init
 by_window-init c =
     let short = c.requires.place.not_full in
-    record {
-      more = omega arith;
-      open' = omega arith;
-      reaches = Reaches-weaker (λ noted is done. is ∙ sym (ap (λ (b : Bool). if b then c.args.start.is_full else false) (eq-eqb c.saturating_sub-last.result 0 (omega arith))))
-          (reaches-noted c.args.source.now c.args.dest.now (reached_at c.args.start) c.requires.some c.requires.place.some c.requires.place.not_full);
-    }
+    record { more = omega arith; open' = omega arith; reaches = Reaches-weaker (λ full u le. absurd (omega arith)) (reaches-start c.args.source.now c.args.dest.now (reached_at c.args.start) c.requires.some c.requires.place.some short) }
 
 pub by_window-preserved-then-next-index : goal.by_window-preserved-then-next-index
 by_window-preserved-then-next-index c =
     let w = copied (goal.at.by_window-preserved-then-next-index c).After-copy_at-window in
     let o = c.by_window.invariant.reaches.ordered in
     let taken = marks-end (marks-start w (omega arith)) c.if-window-eq0.true (length-after w) in
-    record { more = omega arith; open' = taken.open'; reaches = Reaches-open _ _ (omega arith) taken.reaches }
+    record { more = omega arith; open' = taken.open'; reaches = Reaches-weaker (λ full e le. e) taken.reaches }
 
-pub write_rows-count-requires-clause-zeros : goal.write_rows-count-requires-clause-zeros
-write_rows-count-requires-clause-zeros c =
-    let l = length-window (copied (goal.at.write_rows-count-requires-clause-zeros c).After-copy_at-window) in
-    (window_all _ (omega arith) (sym c.copy_at-window.ensures.zeros ∙ c.if-window-eq-ALL_ZEROS.true)).1
+pub by_row-init : goal.by_row-init
+by_row-init c =
+    let w = copied (goal.at.by_row-init c).After-copy_at-window in
+    let l = length-window w in
+    record { onward = omega arith; more = omega arith; row = (window_all _ (omega arith) (sym c.copy_at-window.ensures.zeros ∙ c.if-window-eq-ALL_ZEROS.true)).1; open' = omega arith; reaches = copied-reaches w }
+
+row : (c : After-write_row)
+    → WindowTaken (CobsEncoderAfter c.args.dest.now (reached_at c.args.start)) c.args.source.now c.args.dest.now c.write_row.new.dest (end_after (reached_at c.args.start) c.args.source.now)
+    c.by_row.read 32 (c.by_row.next + 32 - 1) c.by_row.next
+row c = let i = c.by_row.invariant in row-taken i.reaches i.open' (omega arith) 32 (omega arith) (omega arith) i.row c.write_row.ensures
+
+pub by_row-preserved : goal.by_row-preserved
+by_row-preserved c =
+    let w = row (goal.at.by_row-preserved c).After-write_row in
+    let long = length-take-le 32 (drop (c.by_row.read + 32) c.args.source.now) (let l = length-drop (c.by_row.read + 32) c.args.source.now in omega arith) in
+    record {
+      onward = omega arith;
+      more = omega arith;
+      row = (window_all _ (omega arith) (sym c.zeros_at.ensures ∙ c.if-zeros_at-ne-ALL_ZEROS.false)).1;
+      open' = omega arith;
+      reaches = Reaches-weaker (λ full p. tt) w.reaches;
+    }
 
 pub by_window-preserved-then-window-eq-ALL_ZEROS : goal.by_window-preserved-then-window-eq-ALL_ZEROS
-unfolding count_trailing_zeros
 by_window-preserved-then-window-eq-ALL_ZEROS c =
-    let w = copied (goal.at.by_window-preserved-then-window-eq-ALL_ZEROS c).After-copy_at-window in
-    let first : count_trailing_zeros 64 c.copy_at-window.result ≡ 0 = ap (count_trailing_zeros 64) c.if-window-eq-ALL_ZEROS.true in
-    let code : c.by_window.next + count_trailing_zeros 64 c.copy_at-window.result - c.by_window.index ≡ c.by_window.next - c.by_window.index = omega arith in
-    let taken = row-taken w c.write_rows-count.result (omega arith) (omega arith) c.write_rows-count.ensures.zeros (rw code at c.write_rows-count.ensures.ones) in
-    record { more = omega arith; open' = taken.open'; reaches = Reaches-open _ _ (omega arith) taken.reaches }
+    let w = row (goal.at.by_window-preserved-then-window-eq-ALL_ZEROS c).After-write_row in
+    record { more = omega arith; open' = omega arith; reaches = Reaches-weaker (λ full e le. e) w.reaches }
 
 pub mark_zeros-index-requires : goal.mark_zeros-index-requires
 mark_zeros-index-requires c =
@@ -77,7 +87,7 @@ by_window-preserved-then-place-index-lt-FULL_CODE c =
     let o = c.by_window.invariant.reaches.ordered in
     let l = length-set c.copy_at-window.new.dest c.by_window.index (c.by_window.next + count_trailing_zeros 64 c.copy_at-window.result - c.by_window.index) in
     let taken = marks-zeros c.mark_zeros-index.ensures (marks-step (marks-start w (omega arith)) c.if-window-eq0.false fits) (omega arith) in
-    record { more = omega arith; open' = taken.open'; reaches = Reaches-open _ _ (omega arith) taken.reaches }
+    record { more = omega arith; open' = taken.open'; reaches = Reaches-weaker (λ full e le. e) taken.reaches }
 
 -- no zero is near enough to keep the block from being full
 none-near : (c : Joined-window-eq0) → (c.copy_at-window.result ≢ 0 → count_trailing_zeros 64 c.copy_at-window.result < 32)
@@ -109,11 +119,5 @@ returns-then-read-last-clause-taken c =
 
 pub returns-clause-taken : goal.returns-clause-taken
 returns-clause-taken c =
-    let w = c.by_window in
-    let full : Bool = if c.saturating_sub-last.result == 0 then c.args.start.is_full else false in
-    let is : c.if-last-eq0.progress_at ≡ full = elim c.if-last-eq0.branch [
-      | then-last-eq0 b ↦ b.progress_at-is ∙ sym (ap (λ (t : Bool). if t then c.args.start.is_full else false) (eq-eqb c.saturating_sub-last.result 0 b.if-last-eq0.true))
-      | else-last-eq0 b ↦ b.progress_at-is ∙ ne_eqb c.saturating_sub-last.result 0 b.if-last-eq0.false ∙ sym (ap (λ (t : Bool). if t then c.args.start.is_full else false) (ne_eqb c.saturating_sub-last.result 0 b.if-last-eq0.false))
-    ] in
-    front-taken (omega arith) {full = full} (Reaches-weaker (λ b p. p (omega arith)) w.invariant.reaches) w.invariant.open' (λ all. absurd (omega arith))
-    (c.progress_at-2.ensures ∙ ap (at w.index (w.next - w.index)) is)
+    let i = c.by_window.invariant in
+    front-taken (omega arith) {full = false} (Reaches-weaker (λ full p. p (omega arith)) i.reaches) i.open' (λ all. refl) c.progress_at-2.ensures

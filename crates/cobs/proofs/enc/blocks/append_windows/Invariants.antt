@@ -1,15 +1,28 @@
-use Rattle.std.proofs.Common.{◌<◌, ◌-◌, ◌+◌, length}
+use Rattle.std.proofs.Common.{◌≡◌, ◌<◌, ◌≤◌, ◌-◌, ◌+◌, false, length, take, drop, replicate}
 use Rattle.cobs.specs.OpenBlock.{CobsEncoderAfter, end_after}
 use Rattle.cobs.specs.Fields.Progress.{reached_at}
-use Rattle.cobs.proofs.encoding.ReachLemmas.{IsNotedAt, Reaches}
+use Rattle.cobs.proofs.encoding.ReachLemmas.{Reaches}
 use Rattle.cobs.proofs.enc.blocks.append_windows.Given as goal
 
 abbrev pub invariant-by_window : goal.invariant-by_window
 invariant-by_window l = record {
   more : l.read < length l.source;
   open' : l.next < l.index + 255;
-  reaches : Reaches (CobsEncoderAfter l.fn.dest (reached_at l.fn.start)) l.source l.fn.dest l.dest (end_after (reached_at l.fn.start) l.source) l.read l.index l.next (IsNotedAt l.fn.start.is_full l.last l.read);
+  reaches : Reaches (CobsEncoderAfter l.fn.dest (reached_at l.fn.start)) l.source l.fn.dest l.dest (end_after (reached_at l.fn.start) l.source) l.read l.index l.next (λ full. l.last ≤ l.read → full ≡ false);
 }
 
 abbrev pub decreases-by_window : goal.decreases-by_window
 decreases-by_window l = length l.source - l.read
+
+-- the next 32 bytes are zeros
+abbrev pub invariant-by_row : goal.invariant-by_row
+invariant-by_row l = record {
+  onward : l.initial.read ≤ l.read;
+  more : l.read < l.last;
+  row : take 32 (drop l.read l.source) ≡ replicate 32 0;
+  open' : l.next < l.index + 255;
+  reaches : Reaches (CobsEncoderAfter l.fn.dest (reached_at l.fn.start)) l.source l.fn.dest l.dest (end_after (reached_at l.fn.start) l.source) l.read l.index l.next (λ _. Unit {0});
+}
+
+abbrev pub decreases-by_row : goal.decreases-by_row
+decreases-by_row l = length l.source - l.read

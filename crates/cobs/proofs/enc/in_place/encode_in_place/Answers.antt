@@ -1,13 +1,15 @@
-use Rattle.std.proofs.Common.{◌≡◌, ◌≤◌, ◌+◌, ◌-◌, ◌++◌, ℕ, List, [], ◌∷◌, drop, take, get_or, refl, sym, ap, ◌∙◌, subst, arith, length-drop}
+use Rattle.std.proofs.Common.{◌≡◌, ◌<◌, ◌≤◌, ◌+◌, ◌-◌, ◌++◌, ℕ, List, [], ◌∷◌, drop, take, get_or, refl, sym, ap, ◌∙◌, subst, arith, length, length-drop, length-take}
 use Rattle.std.proofs.lemmas.Bool.{cases_Bool}
-use Rattle.std.proofs.lemmas.List.{drop-drop, get_or-drop, take_more}
+use Rattle.std.proofs.lemmas.List.{drop-drop, get_or-drop, length_push, take_more}
 use Rattle.cobs.specs.Fields.Progress.{reached_at}
-use Rattle.cobs.specs.OpenBlock.{Reached, end_of, next_of}
+use Rattle.cobs.specs.Length.{max_encoded_len}
+use Rattle.cobs.specs.OpenBlock.{CobsEncoderAfter, Reached, end_after, end_of, next_of}
 use Rattle.cobs.specs.Overwritten.{message_in}
+use Rattle.cobs.proofs.format.LengthLemmas.{encoded_len-le}
 use Rattle.cobs.proofs.format.SentinelLemmas.{encoded_nonzero}
 use Rattle.cobs.proofs.encoding.AfterLemmas.{end-is}
 use Rattle.cobs.proofs.encoding.CoreLemmas.{after-nothing}
-use Rattle.cobs.proofs.encoding.TakingLemmas.{after-place}
+use Rattle.cobs.proofs.encoding.TakingLemmas.{after-end, after-place, all-end, all-rest, next-least}
 use Rattle.cobs.proofs.enc.in_place.encode_in_place.Goals as goal
 
 end-le : (r : Reached) → end_of r ≤ next_of r
@@ -24,8 +26,22 @@ there a k x y le e =
     let s : a + (k - a) ≡ k = omega arith in
     subst (λ (n : ℕ). get_or x n 0 ≡ get_or y n 0) s (grind (arith, get_or-drop))
 
+-- the frame with one byte more is within the slice
+fits-one : (slice m : List ℕ) (r : Reached) (byte n : ℕ) → CobsEncoderAfter slice r m → length m < n → max_encoded_len n ≤ length slice → end_after r (byte ∷ []) ≤ length slice
+fits-one slice m r byte n h more fits =
+    let longer = encoded_len-le (m ++ byte ∷ []) in
+    let long = length_push m byte in
+    let end = after-end slice m (byte ∷ []) r h in
+    omega arith
+
 pub by_byte-init : goal.by_byte-init
-by_byte-init c = record { some = omega arith; open' = omega arith; pace = omega arith; after = after-nothing c.args.buffer.now (omega arith); rest = refl }
+by_byte-init c = record { after = after-nothing c.args.buffer.now (omega arith); rest = refl }
+
+pub append_byte-progress-requires : goal.append_byte-progress-requires
+append_byte-progress-requires c =
+    let i = c.by_byte.invariant in
+    let long = length-take c.by_byte.taken (drop c.max_encoding_overhead-before.result c.args.buffer.now) in
+    record { some = omega arith; place = after-place c.by_byte.buffer _ (reached_at c.by_byte.progress) i.after; fits = fits-one c.by_byte.buffer _ (reached_at c.by_byte.progress) _ c.args.len i.after (omega arith) (omega arith) }
 
 pub by_byte-preserved : goal.by_byte-preserved
 by_byte-preserved c =
@@ -36,18 +52,17 @@ by_byte-preserved c =
     let r' : Reached = reached_at c.append_byte-progress.result in
     let i = c.by_byte.invariant in
     let e = c.append_byte-progress.ensures in
-    let le = end-le r in
     let long = length-drop before old in
+    let taken = length-take c.by_byte.taken (drop before old) in
+    let end = end-is c.by_byte.buffer _ r i.after in
+    let most = encoded_len-le (take c.by_byte.taken (drop before old)) in
     let byte : get_or c.by_byte.buffer at 0 ≡ get_or (drop before old) c.by_byte.taken 0 =
     there (end_of r) at c.by_byte.buffer old (omega arith) i.rest ∙ sym (get_or-drop before old c.by_byte.taken 0) in
     let more : take (c.by_byte.taken + 1) (drop before old) ≡ take c.by_byte.taken (drop before old) ++ get_or c.by_byte.buffer at 0 ∷ [] = grind (arith, take_more) in
-    record {
-      some = e.code;
-      open' = e.open_block;
-      pace = omega arith;
-      after = rw more (e.taken _ i.after);
-      rest = e.rest ∙ further (end_of r) (end_of r') c.by_byte.buffer old e.onward i.rest;
-    }
+    let le = end-le r in
+    let least = next-least r (get_or c.by_byte.buffer at 0 ∷ []) (after-place c.by_byte.buffer _ r i.after).some (omega arith) in
+    let reached = all-end e in
+    record { after = rw more (e.after _ i.after); rest = all-rest e ∙ further (end_of r) (end_of r') c.by_byte.buffer old (omega arith) i.rest }
 
 pub close-requires : goal.close-requires
 close-requires c = after-place c.by_byte.buffer _ (reached_at c.by_byte.progress) c.by_byte.invariant.after

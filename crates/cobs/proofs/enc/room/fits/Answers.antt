@@ -7,10 +7,10 @@ use Rattle.cobs.proofs.enc.room.fits.Goals.{Then-read-source, Else-read-source}
 use Rattle.cobs.proofs.enc.room.fits.Goals as goal
 
 -- the source ends with the run
-ended : (c : Then-read-source) → c.by_run.counted + (c.by_run.run + c.run_len-more.result - 1) / 254 ≡ blocks_in (behind (c.args.code - 1) c.args.source.now)
+ended : (c : Then-read-source) → c.by_run.counted + (c.by_run.run + c.position_or_len-more.result - 1) / 254 ≡ blocks_in (behind (c.args.code - 1) c.args.source.now)
 ended c =
     let source : List ℕ = c.args.source.now in
-    let nonzero = subst HasNoZero (ap (take _) (take_rest source _)) c.run_len-more.ensures.nonzero in
+    let nonzero = subst HasNoZero (ap (take _) (take_rest source _)) c.position_or_len-more.ensures.before in
     let all = run-more source _ c.by_run.run _ (omega arith) nonzero in
     grind (arith, drop_all, blocks_in, behind, blocks-end)
 
@@ -21,14 +21,14 @@ pub returns-then-read-source-clause-fits : goal.returns-then-read-source-clause-
 returns-then-read-source-clause-fits c = let e = ended (goal.at.returns-then-read-source-clause-fits c).Then-read-source in grind (arith, open_len-is)
 
 -- a zero ends the run
-stopped : (c : Else-read-source) → c.by_run.counted + (c.by_run.run + c.run_len-more.result) / 254 + blocks_in (behind 0 (drop (c.by_run.read + c.run_len-more.result + 1) c.args.source.now))
+stopped : (c : Else-read-source) → c.by_run.counted + (c.by_run.run + c.position_or_len-more.result) / 254 + blocks_in (behind 0 (drop (c.by_run.read + c.position_or_len-more.result + 1) c.args.source.now))
     ≡ blocks_in (behind (c.args.code - 1) c.args.source.now)
 stopped c =
     let source : List ℕ = c.args.source.now in
     let read : ℕ = c.by_run.read in
-    let more : ℕ = c.run_len-more.result in
+    let more : ℕ = c.position_or_len-more.result in
     let rest = take_rest source read in
-    let nonzero = subst HasNoZero (ap (take more) rest) c.run_len-more.ensures.nonzero in
+    let nonzero = subst HasNoZero (ap (take more) rest) c.position_or_len-more.ensures.before in
     let all = run-more source read c.by_run.run more (omega arith) nonzero in
     grind (arith, get_or-drop, drop_more, blocks-zero)
 

@@ -17,14 +17,14 @@ within : (c : Joined-self) → c.by_run.taken + c.if-self.taken ≤ length c.arg
 within c =
     let rest = length-take (length c.args.bytes.now - c.by_run.taken) (drop c.by_run.taken c.args.bytes.now) in
     let all = length-drop c.by_run.taken c.args.bytes.now in
-    elim c.if-self.branch [ then-self w ↦ omega (arith, w.taken-is, w.len_before_zero.ensures.within) | else-self w ↦ omega (arith, w.taken-is, w.take_quiet.ensures.within) ]
+    elim c.if-self.branch [ then-self w ↦ omega (arith, w.taken-is, w.position_or_len.ensures.within) | else-self w ↦ omega (arith, w.taken-is, w.take_quiet.ensures.within) ]
 
 ran : (c : Joined-self) → TakesPiece c.args.dest.now (phase_of c.args.self.now) (take (c.by_run.taken + c.if-self.taken) c.args.bytes.now) None c.if-self.dest (phase_of c.if-self.self)
 ran c = elim c.if-self.branch [
   | then-self w ↦
       let over = over_is c.by_run.self w.if-self.true in
       rw (w.taken-is, w.dest-is, w.self-is, over)
-      (piece-over c.args.bytes.now c.by_run.taken _ (rw w.taken-is at (within c)) (rw (take_rest c.args.bytes.now c.by_run.taken) at w.len_before_zero.ensures.nonzero) (rw over at c.by_run.invariant.none_ended))
+      (piece-over c.args.bytes.now c.by_run.taken _ (rw w.taken-is at (within c)) (rw (take_rest c.args.bytes.now c.by_run.taken) at w.position_or_len.ensures.before) (rw over at c.by_run.invariant.none_ended))
   | else-self w ↦
       rw (w.taken-is, w.dest-is, w.self-is)
       (piece-run c.args.bytes.now c.by_run.taken _ (rw w.taken-is at (within c)) c.by_run.invariant.none_ended (rw (take_rest c.args.bytes.now c.by_run.taken) at w.take_quiet.ensures.fed))

@@ -1,0 +1,112 @@
+-- The last block of a piece, behind the whole blocks in front of it, and what the two give.
+use Rattle.std.proofs.Common.{◌≡◌, ◌≢◌, ℕ, zero, suc, All, inl, inr, refl, ◌+◌, ◌-◌, ◌<◌, ◌≤◌, List, [], ◌∷◌, ◌++◌, length, take, drop, get_or, sym, ap, ◌∙◌, arith, append_assoc, append-nil, zero-add, length-append, take_at}
+use Rattle.std.proofs.lemmas.List.{take_more, length-take-le, length-drop, take-append-drop}
+use Rattle.std.proofs.Math.Seq.{take-add}
+use Rattle.std.proofs.lemmas.List.Elements.{All-head, All-drop}
+use Rattle.std.proofs.lemmas.Bool.{cases_lt, eq-eqb, ne_eqb}
+use Rattle.cobs.specs.Grammar.{HasNoZero}
+use Rattle.cobs.specs.Piece.{kept_output, last_part, missing, output, parts, parts_after}
+use Rattle.cobs.proofs.decoding.PieceLemmas.{last_part-one, last_part-push_next, last_part-push_more, missing-push_more, output-push_more}
+use Rattle.cobs.proofs.decoding.PieceCuts.{is_whole-of, output-empty}
+
+-- bytes that the last part is missing go into it
+pub record IntoLast (p xs : List ℕ) : Type 0 where
+  pub out : output (p ++ xs) ≡ output p ++ xs
+  pub last : last_part (p ++ xs) ≡ last_part p ++ xs
+  pub left : missing (last_part (p ++ xs)) + length xs ≡ missing (last_part p)
+
+pub into_last : (p xs : List ℕ) → length xs ≤ missing (last_part p) → IntoLast p xs
+into_last p [] h = let n = append-nil p in record { out = grind (arith, append-nil); last = grind (arith, append-nil); left = grind arith }
+into_last p (x ∷ xs) h =
+    let m = missing-push_more p x (omega arith) in
+    let again = into_last (p ++ x ∷ []) xs (omega arith) in
+    let same = append_assoc p (x ∷ []) xs in
+    record {
+      out = grind (arith, append_assoc, output-push_more, again.out);
+      last = grind (arith, append_assoc, last_part-push_more, again.last);
+      left = ap (λ (l : List ℕ). missing (last_part l) + length (x ∷ xs)) (sym same) ∙ omega arith;
+    }
+
+-- the code behind whole blocks
+next_code : (p : List ℕ) (code : ℕ) → missing (last_part p) ≡ 0 → last_part (p ++ code ∷ []) ≡ code ∷ []
+next_code [] code h = last_part-one code
+next_code (c ∷ p) code h = last_part-push_next c p code h
+
+-- bytes in two parts, and the front of the second
+in_two : (p q : List ℕ) (n : ℕ) → (p ++ take n q) ++ drop n q ≡ p ++ q
+in_two p q n = append_assoc p (take n q) (drop n q) ∙ ap (λ (l : List ℕ). p ++ l) (take-append-drop n q)
+
+in_front : (p q : List ℕ) (n k : ℕ) → (p ++ take n q) ++ take k (drop n q) ≡ p ++ take (n + k) q
+in_front p q n k = append_assoc p (take n q) (take k (drop n q)) ∙ ap (λ (l : List ℕ). p ++ l) (sym (take-add n k q))
+
+-- THE WALK OF `kept_len`
+
+-- the first block that it steps over began before
+pub ends-start : (p q : List ℕ) (left : ℕ) → left ≤ length q → missing (last_part p) ≡ left → missing (last_part (p ++ take left q)) ≡ 0
+ends-start p q left fits is = let l = length-take-le left q fits in let i = into_last p (take left q) (omega arith) in omega (arith, i.left)
+
+-- a code behind whole blocks, at a place in the bytes q behind p
+module _ (p q : List ℕ) (at code : ℕ) (here : at < length q) (is : code ≡ get_or q at 0) (ends : missing (last_part (p ++ take at q)) ≡ 0) where
+  -- that code and the bytes behind it
+  abbrev front : List ℕ
+  front = (p ++ take at q) ++ code ∷ []
+
+  front-is : p ++ take (at + 1) q ≡ front
+  front-is = grind (arith, take_more, append_assoc)
+
+  front-left : missing (last_part front) ≡ code - 1
+  front-left = ap missing (next_code (p ++ take at q) code ends)
+
+  all-is : p ++ q ≡ front ++ drop (at + 1) q
+  all-is = sym (in_two p q (at + 1)) ∙ ap (λ (l : List ℕ). l ++ drop (at + 1) q) front-is
+
+  pub ends-next : 0 < code → at + code ≤ length q → missing (last_part (p ++ take (at + code) q)) ≡ 0
+  ends-next some fits =
+      let next : List ℕ = take (code - 1) (drop (at + 1) q) in
+      let l = length-take-le (code - 1) (drop (at + 1) q) (omega (arith, length-drop (at + 1) q)) in
+      let split : p ++ take (at + code) q ≡ front ++ next
+      = ap (λ (k : ℕ). p ++ take k q) {y = at + 1 + (code - 1)} (omega arith) ∙ sym (in_front p q (at + 1) (code - 1)) ∙ ap (λ (l : List ℕ). l ++ next) front-is in
+      ap (λ (l : List ℕ). missing (last_part l)) split ∙ omega (arith, front-left, (into_last front next (omega (arith, front-left))).left)
+
+  module _ (short : length q < at + code) where
+    behind : IntoLast front (drop (at + 1) q)
+    behind = into_last front (drop (at + 1) q) (omega (arith, front-left, length-drop (at + 1) q))
+
+    pub broken-last : missing (last_part (p ++ q)) ≢ 0
+    broken-last e = omega (arith, behind.left, front-left, length-drop (at + 1) q, ap (λ (l : List ℕ). missing (last_part l)) (sym all-is) ∙ e)
+
+    pub broken-kept : output (p ++ take (at + 1) q) ≡ kept_output (p ++ q)
+    unfolding kept_output
+    broken-kept = grind (arith, front-is, all-is, behind.out, behind.last, next_code, is_whole-of, broken-last, ne_eqb, length-append, take_at)
+
+-- whole blocks
+pub whole-kept : (p : List ℕ) → missing (last_part p) ≡ 0 → output p ≡ kept_output p
+unfolding kept_output
+whole-kept [] h = grind (arith, output-empty)
+whole-kept (c ∷ p) h = grind (arith, is_whole-of, eq-eqb)
+
+-- what is kept is what all bytes but some of the last 253 give
+abbrev KeptBy : List ℕ → List ℕ → ℕ → Type 0
+KeptBy p q k = (length q ≤ k + 253) × (output (p ++ take k q) ≡ kept_output (p ++ q))
+
+kept-after : (p q : List ℕ) (n : ℕ) → (k : ℕ) × KeptBy (p ++ take n q) (drop n q) k → (k : ℕ) × KeptBy p q k
+kept-after p q n (k, (few, is)) = (n + k, (omega (arith, length-drop n q), ap output (sym (in_front p q n k)) ∙ is ∙ ap kept_output (in_two p q n)))
+
+kept-behind : (n : ℕ) (p q : List ℕ) → length q ≤ n → HasNoZero q → All (λ b. b < 256) q → missing (last_part p) ≡ 0 → (k : ℕ) × KeptBy p q k
+kept-behind n p [] le none small ends = (0, (omega arith, rw (append-nil p) (whole-kept p ends)))
+kept-behind zero p (code ∷ bytes) le none small ends = absurd (omega arith)
+kept-behind (suc n) p (code ∷ bytes) le none small ends =
+    let q : List ℕ = code ∷ bytes in
+    let start : missing (last_part (p ++ take 0 q)) ≡ 0 = ap (λ (l : List ℕ). missing (last_part l)) (append-nil p) ∙ ends in
+    let some = All-head (λ b. b ≢ 0) code bytes none in
+    let below = All-head (λ b. b < 256) code bytes small in
+    elim (cases_lt (length q) code) [
+      | inl short ↦ (1, (omega arith, broken-kept p q 0 code (omega arith) refl start (omega arith)))
+      | inr fits ↦
+          let next = ends-next p q 0 code (omega arith) refl start (omega arith) (omega arith) in
+          kept-after p q code (kept-behind n (p ++ take code q) (drop code q) (omega (arith, length-drop code q)) (All-drop (λ b. b ≢ 0) code q none) (All-drop (λ b. b < 256) code q small) (rw zero-add at next))
+    ]
+
+pub kept-cut : (h : List ℕ) → HasNoZero h → All (λ b. b < 256) h → (k : ℕ) × KeptBy [] h k
+unfolding last_part parts parts_after
+kept-cut h none small = kept-behind (length h) [] h (omega arith) none small refl

@@ -1,0 +1,80 @@
+-- What is before a zero, decoded by what its last bytes give of it: the result, and what the buffer holds.
+use Rattle.std.proofs.Common.{◌≡◌, ◌≢◌, ℕ, zero, suc, ◌-◌, ◌<◌, ◌≤◌, ◌↔◌, IsTrue, Bool, true, false, cond, get_or, List, [], ◌∷◌, ◌++◌, length, take, drop, refl, sym, ap, ◌∙◌, subst, arith, inl, inr, length-drop, take_all, Result, Ok, Err}
+use Rattle.std.specs.List.{All}
+use Rattle.std.proofs.lemmas.List.Elements.{All-head, All-tail, All-drop, All-take, All-append}
+use Rattle.std.proofs.lemmas.Bool.{cases_lt, eq-eqb, le-leb, lt-leb, ne_eqb}
+use Rattle.cobs.specs.Grammar.{HasNoZero}
+use Rattle.cobs.specs.Piece.{kept_output, last_part, missing, output, parts, parts_after}
+use Rattle.cobs.specs.Overwritten.{overwritten}
+use Rattle.cobs.specs.Decode.{head_result, head_result_within}
+use Rattle.cobs.specs.Feed.{Phase, Idle, Overlong}
+use Rattle.cobs.specs.Step.{next_phase}
+use Rattle.cobs.specs.declared.dec.unbuffered.UnbufferedDecoder.{UnbufferedDecoder}
+use Rattle.cobs.specs.declared.error.DecodeError.{DecodeError}
+use Rattle.cobs.specs.declared.error.DecodeError.TheVariants.{InvalidFrame, TargetBufTooSmall}
+use Rattle.cobs.specs.Fields.Decoders.{phase_of}
+use Rattle.cobs.specs.Internal.FeedsQuietly.{FeedsQuietly}
+use Rattle.cobs.proofs.decoding.PieceCuts.{is_whole-of, last_part-last, last_part-more}
+use Rattle.cobs.proofs.decoding.KeptLemmas.{kept_output-empty}
+use Rattle.cobs.proofs.decoding.TailLemmas.{whole-kept}
+use Rattle.cobs.proofs.streaming.QuietLemmas.{Quiet, quiet, quiet-stop, quiet-at, quiet-written}
+use Rattle.cobs.proofs.streaming.StretchLemmas.{FeedsQuietly-append}
+
+-- the last part of bytes is missing fewer than a full block has
+few_by : (n : ℕ) (p : List ℕ) → length p ≤ n → All (λ b. b < 256) p → missing (last_part p) < 255
+unfolding last_part parts parts_after
+few_by n [] h small = omega arith
+few_by zero (code ∷ bytes) h small = absurd (omega arith)
+few_by (suc n) (code ∷ bytes) h small = elim (cases_lt (code - 1) (length bytes)) [
+  | inl more ↦ rw (last_part-more code bytes more) (few_by n (drop (code - 1) bytes) (omega (arith, length-drop (code - 1) bytes)) (All-drop (λ b. b < 256) (code - 1) bytes (All-tail (λ b. b < 256) code bytes small)))
+  | inr short ↦ let below = All-head (λ b. b < 256) code bytes small in omega (arith, ap missing (last_part-last code bytes short))
+]
+
+-- where all but the last 254 bytes are fed, a block is missing no more than these
+pub tail_left : (p : List ℕ) (end : ℕ) → length p ≡ end - 254 → All (λ b. b < 256) p → missing (last_part p) ≤ end - length p
+unfolding last_part parts parts_after
+tail_left [] end is small = omega arith
+tail_left (code ∷ bytes) end is small = omega (arith, few_by (length (code ∷ bytes)) (code ∷ bytes) (omega arith) small)
+
+-- the result for what is before a zero
+head_by : (h : List ℕ) (n : ℕ) (whole : Bool) (result : Result ℕ DecodeError) → (IsTrue whole → result ≡ Ok n) → (whole ≡ false → result ≡ Err (InvalidFrame n)) → n ≡ length (kept_output h)
+    → (IsTrue whole ↔ (missing (last_part h) ≡ 0)) → result ≡ head_result h
+unfolding last_part parts parts_after
+head_by [] n whole result ok broken count is = ok (is.1 refl) ∙ ap Ok (count ∙ ap length kept_output-empty)
+head_by (byte ∷ bytes) n whole result ok broken count is = grind (arith, is_whole-of, whole-kept, eq-eqb, ne_eqb)
+
+-- of whole blocks
+pub whole_result : (h : List ℕ) → missing (last_part h) ≡ 0 → head_result h ≡ Ok (length (output h))
+whole_result h whole = sym (head_by h (length (output h)) true (Ok (length (output h))) (λ _. refl) (λ f. absurd (cc)) (ap length (whole-kept h whole)) ((λ _. whole), (λ _. refl)))
+
+pub whole_front : (h old front : List ℕ) (n : ℕ) → missing (last_part h) ≡ 0 → front ≡ output h → length front ≤ length old → n ≡ length front → front ++ drop n old ≡ overwritten old (kept_output h)
+whole_front h old front n whole is fits count = subst (λ (l : List ℕ). front ++ drop n old ≡ overwritten old l) (is ∙ whole-kept h whole) (grind (arith, take_all))
+
+-- the bytes p are fed, and of the bytes q behind them the first ones, which give what is kept of all
+module _ (p q old b1 b2 : List ℕ) (phase : Phase) (inner : UnbufferedDecoder) (len : ℕ) (whole : Bool) (result : Result ℕ DecodeError) (nz : HasNoZero p) (nz' : HasNoZero q)
+    (f : FeedsQuietly old Idle p b1 phase) (g : FeedsQuietly b1 phase (take len q) b2 (phase_of inner)) (kept : output (p ++ take len q) ≡ kept_output (p ++ q)) (is : IsTrue whole ↔ (missing (last_part (p ++ q)) ≡ 0))
+    (ok : IsTrue whole → result ≡ Ok inner.dest_idx) (broken : whole ≡ false → result ≡ Err (InvalidFrame inner.dest_idx)) where
+  run : Quiet old b2 (phase_of inner) (p ++ take len q)
+  run = quiet (p ++ take len q) old b2 (phase_of inner) (All-append (λ b. b ≢ 0) p (take len q) nz (All-take (λ b. b ≢ 0) len q nz')) (FeedsQuietly-append p (take len q) old b1 b2 Idle phase (phase_of inner) f g)
+
+  pub kept_fed : (result ≡ head_result (p ++ q)) × (b2 ≡ overwritten old (kept_output (p ++ q)))
+  kept_fed = (
+    head_by (p ++ q) inner.dest_idx whole result ok broken ((quiet-at old b2 (p ++ take len q) (phase_of inner) run inner refl).0 ∙ ap length kept) is,
+    quiet-written old b2 (p ++ take len q) (phase_of inner) run ∙ ap (overwritten old) kept,
+  )
+
+  -- where the buffer is another one than the source, it has room
+  pub kept_fits : (result ≡ head_result_within (p ++ q) (length old)) × (b2 ≡ overwritten old (kept_output (p ++ q)))
+  kept_fits = (
+    kept_fed.0 ∙ sym (ap (λ (t : Bool). cond t (head_result (p ++ q)) (Err TargetBufTooSmall)) (le-leb (length (kept_output (p ++ q))) (length old) (omega (arith, run.fits, ap length kept)))),
+    kept_fed.1,
+  )
+
+-- or what gives it, of which a byte has no room
+pub kept_stop : (h p old new : List ℕ) (phase : Phase) (run : ℕ) → output p ≡ kept_output h → HasNoZero p → run < length p → FeedsQuietly old Idle (take run p) new phase → next_phase (length new) phase (get_or p run 0) ≡ Overlong
+    → (Err TargetBufTooSmall ≡ head_result_within h (length old)) × (new ≡ overwritten old (kept_output h))
+kept_stop h p old new phase run kept none more f over =
+    let s = quiet-stop p old new phase run none more f over in (
+      sym (ap (λ (t : Bool). cond t (head_result h) (Err TargetBufTooSmall)) (lt-leb (length (kept_output h)) (length old) (omega (arith, s.0, ap length kept)))),
+      s.1 ∙ ap (overwritten old) kept,
+    )

@@ -1,0 +1,97 @@
+//! Walks from code to code.
+ghost use Rattle.std.specs.Prelude.{◌≡◌, ◌+◌, ◌-◌, ◌<◌, ◌≤◌, ◌∷◌, ◌++◌, ◌↔◌, length, take, drop, false, IsTrue, IfSome, List, None, Ok, Err, ℕ};
+ghost use Rattle.cobs.specs.Grammar.{HasNoZero, code_of};
+ghost use Rattle.cobs.specs.Piece.{kept_output, last_part, missing, output};
+ghost use Rattle.cobs.specs.Sentinel.{xor_each};
+ghost use Rattle.cobs.specs.declared.error.DecodeError.TheVariants.{InvalidFrame};
+
+use crate::error::DecodeError;
+use cobs_bytes::lanes::copy_xored_short;
+use cobs_bytes::window::WIDE_WINDOW;
+
+/// Writes a zero over each code in the first bytes of `dest`, which are what follows the first code of a stretch of `len`
+/// bytes, in which no code is behind a full block. Each byte after them stays. Returns the code of the last part, and how
+/// many of its bytes are missing.
+#[inline(always)]
+pub(crate) fn write_zeros_at_codes(dest: &mut [u8], first: u8, len: usize) -> (u8, usize)
+    requires some { 0 < len }
+    requires few { len < 255 }
+    requires room { len ≤ length dest.old + 1 }
+    requires nonzero { HasNoZero (first ∷ take (len - 1) dest.old) }
+    ensures begins { take (len - 1) dest.new ≡ output (first ∷ take (len - 1) dest.old) }
+    ensures rest { drop (len - 1) dest.new ≡ drop (len - 1) dest.old }
+    ensures code { result.0 ≡ code_of (last_part (first ∷ take (len - 1) dest.old)) }
+    ensures left { result.1 ≡ missing (last_part (first ∷ take (len - 1) dest.old)) }
+{
+    let mut code = first;
+    let mut end = first as usize;
+    'by_code: while end < len {
+        code = dest[end - 1];
+        dest[end - 1] = 0;
+        end += code as usize;
+    }
+    (code, end - len)
+}
+
+/// Decodes a source of 2 to 65 bytes of which none is the sentinel, and returns how many bytes its last block misses; `None`
+/// if it is no such source, or its output may not fit. Each byte is XORed with the sentinel, and each byte of `dest` after
+/// the output stays.
+#[inline(always)]
+pub(crate) fn decode_short(source: &[u8], dest: &mut [u8], sentinel: u8) -> Option<usize>
+    ensures some { IfSome result (λ left. 0 < length source.now) }
+    ensures nonzero { IfSome result (λ left. HasNoZero (xor_each sentinel source.now)) }
+    ensures len { IfSome result (λ left. length (output (xor_each sentinel source.now)) + 1 ≡ length source.now) }
+    ensures room { IfSome result (λ left. length source.now ≤ length dest.old + 1) }
+    ensures left { IfSome result (λ left. left ≡ missing (last_part (xor_each sentinel source.now))) }
+    ensures begins { IfSome result (λ left. take (length source.now - 1) dest.new
+        ≡ output (xor_each sentinel source.now)) }
+    ensures rest { drop (length source.now - 1) dest.new ≡ drop (length source.now - 1) dest.old }
+    ensures kept { result ≡ None → dest.new ≡ dest.old }
+{
+    let len = source.len();
+    if len < 2 || WIDE_WINDOW + 1 < len || dest.len() < len - 1 || source[0] == sentinel {
+        return None;
+    }
+    if !copy_xored_short(&source[1..], dest, sentinel) {
+        return None;
+    }
+    let (_, left) = write_zeros_at_codes(dest, source[0] ^ sentinel, len);
+    Some(left)
+}
+
+/// How many of a piece's last bytes give what a decoder keeps of it: all, or those through the code of a last block that
+/// is broken; and whether it is whole. The bytes before these miss `left` bytes of their last block. Each byte is XORed
+/// with the sentinel.
+pub(crate) fn kept_len(bytes: &[u8], left: usize, sentinel: u8) -> (usize, bool)
+    requires left { left ≤ length bytes.now }
+    requires nonzero { HasNoZero (xor_each sentinel bytes.now) }
+    ensures within { result.0 ≤ length bytes.now }
+    ensures kept { (p : List ℕ) → missing (last_part p) ≡ left
+        → output (p ++ take result.0 (xor_each sentinel bytes.now))
+        ≡ kept_output (p ++ xor_each sentinel bytes.now) }
+    ensures whole { (p : List ℕ) → missing (last_part p) ≡ left
+        → (IsTrue result.1 ↔ (missing (last_part (p ++ xor_each sentinel bytes.now)) ≡ 0)) }
+{
+    let mut at = left;
+    'by_block: while at < bytes.len() {
+        let code = (bytes[at] ^ sentinel) as usize;
+        if bytes.len() - at < code {
+            return (at + 1, false);
+        }
+        at += code;
+    }
+    (at, true)
+}
+
+/// The result for a frame that gave `len` bytes, and is whole or broken.
+#[inline(always)]
+pub(crate) fn message_len(len: usize, whole: bool) -> Result<usize, DecodeError>
+    ensures whole { IsTrue whole → result ≡ Ok len }
+    ensures broken { whole ≡ false → result ≡ Err (InvalidFrame len) }
+{
+    if whole {
+        Ok(len)
+    } else {
+        Err(DecodeError::InvalidFrame { decoded_bytes: len })
+    }
+}

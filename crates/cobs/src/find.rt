@@ -1,0 +1,42 @@
+//! Where pieces begin and end.
+ghost use Rattle.std.specs.Prelude.{All, ◌≢◌, ◌≡◌, ◌<◌, ◌≤◌, length, take, slice_index};
+ghost use Rattle.cobs.specs.Decode.{leading_zeros};
+
+use memchr::memchr;
+
+/// Where the first such byte of a source is, or the source's length if there is none.
+pub(crate) fn position_or_len(source: &[u8], byte: u8) -> usize
+    ensures within { result ≤ length source.now }
+    ensures before { All (λ other. other ≢ byte) (take result source.now) }
+    ensures stop { result < length source.now → slice_index source.now result ≡ byte }
+{
+    memchr(byte, source).unwrap_or(source.len())
+}
+
+/// The length of the source without a sentinel that ends it.
+#[inline(always)]
+pub(crate) fn len_without_end(source: &[u8], sentinel: u8) -> usize
+    requires some { 0 < length source.now }
+    ensures within { result ≤ length source.now }
+    ensures stop { result < length source.now → slice_index source.now result ≡ sentinel }
+{
+    let last = source.len() - 1;
+    if source[last] == sentinel {
+        last
+    } else {
+        source.len()
+    }
+}
+
+/// How many zeros the source begins with.
+pub(crate) fn leading_zeros(source: &[u8]) -> usize
+    ensures count { result ≡ leading_zeros source.now }
+    ensures within { result ≤ length source.now }
+{
+    'by_byte: for i in 0..source.len() {
+        if source[i] != 0 {
+            return i;
+        }
+    }
+    source.len()
+}
