@@ -4,7 +4,7 @@ mod encoder;
 
 #[cfg(not(feature = "small"))]
 use crate::proved as engine;
-use crate::proved::enc::xor_bytes;
+use crate::proved::cobs_bytes::lanes::xor_bytes;
 #[cfg(not(feature = "small"))]
 use crate::proved::enc::{
     blocks::{append_short, close},

@@ -6,11 +6,11 @@ use crate::proved::cobs_abi::{
     Answer, BROKEN, CANONICAL, Decoder, EMPTY, Encoder, LONGER, OK, TOO_SMALL, decode_each,
     encode_each,
 };
+use crate::proved::cobs_bytes::lanes::xor_bytes;
 use crate::proved::cobs_small::decode::jcobs_decode;
 use crate::proved::cobs_small::encode::{jcobs_encode, jcobs_encode_terminated};
 use crate::proved::cobs_small::in_place::jcobs_decode_in_place;
 use crate::proved::cobs_small::kind::jcobs_frame_kind;
-use crate::proved::enc::xor_bytes;
 
 #[inline]
 fn encoded(answer: Answer) -> Result<usize, DestBufTooSmallError> {

@@ -1,192 +1,28 @@
 // Made by bindings/rust/translate.py from `crates/cobs/src/dec.rt`: change that file, and run it again.
 //! Decoding: from frames to messages.
 
-pub(crate) mod blocks;
 pub(crate) mod buffered;
-pub(crate) mod find;
 pub(crate) mod forms;
 pub(crate) mod frame_decoder;
-pub(crate) mod front;
 pub(crate) mod heapless;
 pub(crate) mod in_place;
-pub(crate) mod piece;
+pub(crate) mod kind;
 pub(crate) mod run;
 pub(crate) mod state;
+pub(crate) mod stretch;
 pub(crate) mod unbuffered;
 pub(crate) mod whole;
 
-use crate::memory::AllocError;
-pub use blocks::{FrameKind, frame_kind};
 pub use buffered::CobsDecoder;
 #[cfg(feature = "alloc")]
 pub use buffered::CobsDecoderOwned;
 pub use forms::decode_with_sentinel;
 #[cfg(feature = "alloc")]
 pub use forms::{decode_vec, decode_vec_with_sentinel};
-pub(crate) use frame_decoder::piece_end;
 pub use frame_decoder::{FrameDecoder, PieceEnd, WriteBuffer};
 pub use heapless::CobsDecoderHeapless;
 pub use in_place::{decode_in_place, decode_in_place_report, decode_in_place_with_sentinel};
+pub use kind::{FrameKind, frame_kind};
 pub use state::{DecodeResult, DecoderState};
 pub use unbuffered::{DecoderPhase, UnbufferedDecoder};
 pub use whole::decode;
-
-/// Why a frame is rejected. The names are those of the crate `cobs`.
-///
-/// ```
-/// # use jcobs::proved::*;
-/// assert_eq!(decode(&[], &mut [0; 4]), Err(DecodeError::EmptyFrame));
-/// assert_eq!(
-///     decode(&[3, 1, 2], &mut [0; 1]),
-///     Err(DecodeError::TargetBufTooSmall)
-/// );
-/// ```
-#[derive(Debug, Clone, Copy, PartialEq, Eq)]
-#[cfg_attr(feature = "serde", derive(serde::Serialize, serde::Deserialize))]
-#[cfg_attr(feature = "defmt", derive(defmt::Format))]
-pub enum DecodeError {
-    /// There was no byte to decode.
-    EmptyFrame,
-
-    /// The frame breaks off inside a block, or no frame is there.
-    InvalidFrame {
-        /// How many decoded bytes are at the front of the buffer.
-        decoded_bytes: usize,
-    },
-
-    /// The buffer is shorter than what the frame decodes to.
-    TargetBufTooSmall,
-}
-
-impl core::fmt::Display for DecodeError {
-    fn fmt(&self, f: &mut core::fmt::Formatter<'_>) -> core::fmt::Result {
-        match self {
-            Self::EmptyFrame => f.write_str("empty input frame"),
-            Self::InvalidFrame { decoded_bytes, .. } => write!(
-                f,
-                "frame with invalid format, written {decoded_bytes} to decoded buffer"
-            ),
-            Self::TargetBufTooSmall => f.write_str("target buffer too small"),
-        }
-    }
-}
-
-impl core::error::Error for DecodeError {}
-
-/// Why a `push` of a streaming decoder found no message, and after how many bytes. (A choice of this library.)
-///
-/// The decoder has taken these bytes and none after them, so the caller goes on by pushing the others.
-///
-/// ```
-/// # use jcobs::proved::*;
-/// let mut buffer = [0; 4];
-/// let mut decoder = CobsDecoder::new(&mut buffer);
-/// let rejected = PushError {
-///     error: DecodeError::InvalidFrame { decoded_bytes: 1 },
-///     parsed_size: 3,
-/// };
-/// assert_eq!(decoder.push(&[3, 7, 0, 2, 9, 0]), Err(rejected));
-/// ```
-#[derive(Debug, Clone, Copy, PartialEq, Eq)]
-pub struct PushError {
-    /// The result for the last byte that was consumed.
-    pub error: DecodeError,
-
-    /// How many bytes were consumed, the one that raised the error included.
-    pub parsed_size: usize,
-}
-
-impl core::fmt::Display for PushError {
-    fn fmt(&self, f: &mut core::fmt::Formatter<'_>) -> core::fmt::Result {
-        match self {
-            Self { error, .. } => write!(f, "{error}"),
-        }
-    }
-}
-
-impl core::error::Error for PushError {}
-
-/// Why a source gave no vector. (A choice of this library: memory may run out, and nothing aborts.)
-///
-/// ```
-/// # use jcobs::proved::*;
-/// # #[cfg(feature = "alloc")] {
-/// let rejected = decode_vec(&[]);
-/// assert_eq!(
-///     rejected,
-///     Err(DecodeVecError::Decode(DecodeError::EmptyFrame))
-/// );
-/// # }
-/// ```
-#[derive(Debug, PartialEq, Eq)]
-pub enum DecodeVecError {
-    /// The source has no message.
-    Decode(DecodeError),
-
-    /// There was no memory for the vector.
-    Memory(AllocError),
-}
-
-impl core::fmt::Display for DecodeVecError {
-    fn fmt(&self, f: &mut core::fmt::Formatter<'_>) -> core::fmt::Result {
-        match self {
-            Self::Decode(field) => write!(f, "{field}"),
-            Self::Memory(..) => f.write_str("out of memory"),
-        }
-    }
-}
-
-impl core::error::Error for DecodeVecError {}
-
-/// The sizes of a decoded message: how many bytes were consumed for it, and how many it has. The names are those of the
-/// crate `cobs`.
-///
-/// ```
-/// # use jcobs::proved::*;
-/// let report = decode(&[0, 3, 1, 2, 0, 1], &mut [0; 4])?;
-/// assert_eq!(report.parsed_size(), 5);
-/// assert_eq!(report.frame_size(), 2);
-/// # Ok::<(), Box<dyn std::error::Error>>(())
-/// ```
-#[derive(Debug, Clone, Copy, PartialEq, Eq)]
-#[cfg_attr(feature = "serde", derive(serde::Serialize, serde::Deserialize))]
-#[cfg_attr(feature = "defmt", derive(defmt::Format))]
-pub struct DecodeReport {
-    pub(crate) parsed_size: usize,
-    pub(crate) frame_size: usize,
-}
-
-impl DecodeReport {
-    /// Returns how many bytes of the source were consumed. The call that made the report says whether leading sentinels
-    /// and the one after the frame are among them.
-    ///
-    /// ```
-    /// # use jcobs::proved::*;
-    /// assert_eq!(decode(&[0, 1, 0], &mut [])?.parsed_size(), 3);
-    /// # Ok::<(), Box<dyn std::error::Error>>(())
-    /// ```
-    pub fn parsed_size(&self) -> usize {
-        self.parsed_size
-    }
-
-    /// Returns how many bytes the message has; they are at the front of the buffer.
-    ///
-    /// ```
-    /// # use jcobs::proved::*;
-    /// assert_eq!(decode(&[0, 2, 7], &mut [0; 4])?.frame_size(), 1);
-    /// # Ok::<(), Box<dyn std::error::Error>>(())
-    /// ```
-    pub fn frame_size(&self) -> usize {
-        self.frame_size
-    }
-}
-
-/// The name that [`DecodeReport`] had. It is deprecated since version 0.5.0: use `DecodeReport`.
-///
-/// ```
-/// # use jcobs::proved::*;
-/// let report: DecodingResult = decode(&[2, 7, 0], &mut [0; 4])?;
-/// assert_eq!(report.parsed_size(), 3);
-/// # Ok::<(), Box<dyn std::error::Error>>(())
-/// ```
-pub type DecodingResult = DecodeReport;

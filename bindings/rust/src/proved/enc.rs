@@ -3,7 +3,6 @@
 
 pub(crate) mod blocks;
 pub(crate) mod encoder;
-pub(crate) mod error;
 pub(crate) mod in_place;
 pub(crate) mod progress;
 pub(crate) mod room;
@@ -12,16 +11,15 @@ pub(crate) mod state;
 pub(crate) mod unbuffered;
 pub(crate) mod vector;
 
+use crate::proved::block::FULL_CODE;
 use crate::proved::cobs_bytes::window::WINDOW;
-pub(crate) use blocks::FULL_CODE;
-use blocks::{append_rest_and_close, append_short, append_windows, close, fits_window_and_block};
+use crate::proved::error::DestBufTooSmallError;
+use blocks::{append, append_short, close};
 pub use encoder::CobsEncoder;
-pub use error::DestBufTooSmallError;
 pub use in_place::encode_in_place;
 pub use progress::EncoderProgress;
 use progress::START;
 use room::try_append;
-pub(crate) use sentinel::xor_bytes;
 pub use sentinel::{
     encode_including_sentinels, encode_with_sentinel, try_encode_including_sentinels,
     try_encode_with_sentinel,
@@ -60,26 +58,10 @@ pub fn encode(source: &[u8], dest: &mut [u8]) -> usize {
 /// doesn't pay for the registers that the loop over windows takes.
 #[inline(never)]
 fn encode_long(source: &[u8], dest: &mut [u8]) -> usize {
-    if source.len() <= WINDOW {
-        return append_rest_and_close(source, dest, START);
+    if source.is_empty() {
+        return close(dest, START);
     }
-    let (read, progress) = append_windows(source, dest, START);
-    let left = &source[read..];
-    if !fits_window_and_block(progress, left.len()) {
-        // Anew from its fields, so that the short way keeps them in registers.
-        let EncoderProgress {
-            index,
-            code,
-            is_full,
-        } = progress;
-        let behind = EncoderProgress {
-            index,
-            code,
-            is_full,
-        };
-        return append_rest_and_close(left, dest, behind);
-    }
-    let progress = append_short(left, dest, progress, false);
+    let progress = append(source, dest, START);
     close(dest, progress)
 }
 

@@ -56,29 +56,34 @@
 //! - A recorded stream: [`decode_stream`], and [`encode_frames`] to make one.
 //! - The size of a buffer: [`max_encoding_length`]. Whether bytes are a frame: [`frame_kind`].
 
+pub(crate) mod block;
 pub(crate) mod cobs_abi;
 pub(crate) mod cobs_bytes;
 pub(crate) mod cobs_small;
 pub(crate) mod dec;
 pub(crate) mod enc;
+pub(crate) mod error;
+pub(crate) mod find;
 pub(crate) mod framed;
 pub(crate) mod stream;
 
 pub use dec::{
-    CobsDecoder, CobsDecoderHeapless, DecodeError, DecodeReport, DecodeResult, DecodeVecError,
-    DecoderPhase, DecoderState, DecodingResult, FrameDecoder, FrameKind, PieceEnd, PushError,
-    UnbufferedDecoder, WriteBuffer, decode, decode_in_place, decode_in_place_report,
-    decode_in_place_with_sentinel, decode_with_sentinel, frame_kind,
+    CobsDecoder, CobsDecoderHeapless, DecodeResult, DecoderPhase, DecoderState, FrameDecoder,
+    FrameKind, PieceEnd, UnbufferedDecoder, WriteBuffer, decode, decode_in_place,
+    decode_in_place_report, decode_in_place_with_sentinel, decode_with_sentinel, frame_kind,
 };
 #[cfg(feature = "alloc")]
 pub use dec::{CobsDecoderOwned, decode_vec, decode_vec_with_sentinel};
 pub use enc::{
-    CobsEncoder, DestBufTooSmallError, EncoderProgress, EncoderState, PushResult,
-    UnbufferedEncoder, encode, encode_in_place, encode_including_sentinels, encode_with_sentinel,
-    try_encode, try_encode_including_sentinels, try_encode_with_sentinel,
+    CobsEncoder, EncoderProgress, EncoderState, PushResult, UnbufferedEncoder, encode,
+    encode_in_place, encode_including_sentinels, encode_with_sentinel, try_encode,
+    try_encode_including_sentinels, try_encode_with_sentinel,
 };
 #[cfg(feature = "alloc")]
 pub use enc::{encode_vec, encode_vec_including_sentinels, encode_vec_with_sentinel};
+pub use error::{
+    DecodeError, DecodeReport, DecodeVecError, DecodingResult, DestBufTooSmallError, PushError,
+};
 #[cfg(feature = "std")]
 pub use framed::Recorded;
 pub use framed::{FrameReader, FrameSource, Next, ReadFault};

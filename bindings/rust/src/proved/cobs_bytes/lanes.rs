@@ -1,71 +1,112 @@
 // Made by bindings/rust/translate.py from `crates/cobs_bytes/src/lanes.rt`: change that file, and run it again.
-//! Stretches of bytes of other lengths than a window's: copied up to a zero, copied if none is a sentinel, and moved
-//! within one buffer, where the places may overlap. All of a part is loaded before any of it is stored.
-//!
-//! `copy_to_zero` is for chunks of a stream, `copy_xored_short` for messages of up to 64 bytes, as telemetry
-//! has, and `move_to_front` for messages in place.
+//! Stretches of bytes of other lengths than a window's: copied up to a sentinel, copied if none is one, and moved within
+//! one buffer, where the places may overlap. All of a part is loaded before any of it is stored.
 
-use crate::proved::cobs_bytes::window::{
-    WIDE_WINDOW, WINDOW, by_width, copy_nonzero, copy_window, first_zero_of_few, zeros_at,
-};
+use crate::proved::cobs_bytes::window::{WIDE_WINDOW, WINDOW, by_width};
 use crate::simd::*;
 
-/// Copies the first of the 32 bytes from `read` on, up to a zero, with one load and one store, however many they are,
+/// How many bytes of a long chunk are copied at once.
+pub const STRETCH: usize = 3 * WIDE_WINDOW;
+
+/// Copies the first `len` bytes, at least 64, each XORed with the sentinel, up to the first 64 of which one is the sentinel,
+/// and returns how many: in windows of 64 bytes, of which the last may overlap the one before it.
+#[inline(always)]
+fn copy_nonzero(source: &[u8], len: usize, dest: &mut [u8], at: usize, sentinel: u8) -> usize {
+    let mut done = 0;
+    'by_window: while done < len {
+        let start = done.min(len - WIDE_WINDOW);
+        let bytes = u8x64::from_slice(&source[start..]) ^ u8x64::splat(sentinel);
+        if bytes.simd_eq(u8x64::splat(0)).to_bitmask() != 0 {
+            return done;
+        }
+        bytes.copy_to_slice(&mut dest[at + start..]);
+        done = start + WIDE_WINDOW;
+    }
+    done
+}
+
+/// Does what `copy_nonzero` does. `N` bytes are copied without a loop.
+#[inline(always)]
+pub fn copy_windows<const N: usize>(
+    source: &[u8],
+    len: usize,
+    dest: &mut [u8],
+    at: usize,
+    sentinel: u8,
+) -> usize {
+    if len == N {
+        return copy_nonzero(source, N, dest, at, sentinel);
+    }
+    copy_nonzero(source, len, dest, at, sentinel)
+}
+
+/// Copies the first of the 32 bytes from `read` on, up to a sentinel, with one load and one store, however many they are,
 /// and returns how many.
 #[inline(always)]
-fn copy_window_to_zero(source: &[u8], read: usize, dest: &mut [u8], at: usize) -> usize {
+fn copy_window_to_zero(
+    source: &[u8],
+    read: usize,
+    dest: &mut [u8],
+    at: usize,
+    sentinel: u8,
+) -> usize {
     let places = u8x32::from_array([
         0, 1, 2, 3, 4, 5, 6, 7, 8, 9, 10, 11, 12, 13, 14, 15, 16, 17, 18, 19, 20, 21, 22, 23, 24,
         25, 26, 27, 28, 29, 30, 31,
     ]);
-    let len = (zeros_at::<32>(source, read).trailing_zeros() as usize).min(WINDOW);
+    let bytes = u8x32::from_slice(&source[read..]) ^ u8x32::splat(sentinel);
+    let zeros = bytes.simd_eq(u8x32::splat(0)).to_bitmask();
+    let len = (zeros.trailing_zeros() as usize).min(WINDOW);
     let kept = u8x32::from_slice(&dest[at..]);
     places
         .simd_lt(u8x32::splat(len as u8))
-        .select(u8x32::from_slice(&source[read..]), kept)
+        .select(bytes, kept)
         .copy_to_slice(&mut dest[at..]);
     len
 }
 
-/// Copies the first of 64 bytes, up to a zero, and returns how many.
+/// Copies the first of 64 bytes, up to a sentinel, and returns how many.
 #[inline(always)]
-fn copy_wide_to_zero(wide: &[u8], dest: &mut [u8], at: usize) -> usize {
-    let front = copy_window_to_zero(wide, 0, dest, at);
+fn copy_wide_to_zero(wide: &[u8], dest: &mut [u8], at: usize, sentinel: u8) -> usize {
+    let front = copy_window_to_zero(wide, 0, dest, at, sentinel);
     if front < WINDOW {
         return front;
     }
-    WINDOW + copy_window_to_zero(wide, WINDOW, dest, at + WINDOW)
+    WINDOW + copy_window_to_zero(wide, WINDOW, dest, at + WINDOW, sentinel)
 }
 
-/// Copies the first of at most 32 bytes, up to a zero, and returns how many.
-fn copy_few_to_zero(few: &[u8], dest: &mut [u8], at: usize) -> usize {
-    let len = first_zero_of_few(few);
-    if len > 0 {
-        copy_window(few, 0, len, dest, at);
+/// Copies the first of at most 32 bytes, up to a sentinel, and returns how many.
+fn copy_few_to_zero(few: &[u8], dest: &mut [u8], at: usize, sentinel: u8) -> usize {
+    if copy_xored_short(few, &mut dest[at..], sentinel) {
+        return few.len();
     }
-    len
+    'by_byte: for i in 0..few.len() {
+        let byte = few[i] ^ sentinel;
+        if byte == 0 {
+            return i;
+        }
+        dest[at + i] = byte;
+    }
+    few.len()
 }
 
-/// Copies the first bytes of a chunk, up to a zero: up to 192 of them, or up to 64 or 32 of a shorter chunk; and returns
-/// how many.
+/// Copies the first bytes of a chunk, each XORed with the sentinel, up to a sentinel: up to 192 of them, or fewer of a
+/// shorter chunk; and returns how many, none only if the first is the sentinel.
 #[inline(always)]
-pub fn copy_to_zero(chunk: &[u8], dest: &mut [u8], at: usize) -> usize {
+pub fn copy_to_zero(chunk: &[u8], dest: &mut [u8], at: usize, sentinel: u8) -> usize {
     if WIDE_WINDOW <= chunk.len() {
-        let len = if 3 * WIDE_WINDOW <= chunk.len() {
-            copy_nonzero(chunk, 0, 3 * WIDE_WINDOW, dest, at)
-        } else {
-            copy_nonzero(chunk, 0, WIDE_WINDOW, dest, at)
-        };
+        let most = chunk.len().min(STRETCH);
+        let len = copy_windows::<STRETCH>(chunk, most, dest, at, sentinel);
         if len > 0 {
             return len;
         }
-        copy_wide_to_zero(chunk, dest, at)
+        copy_wide_to_zero(chunk, dest, at, sentinel)
     } else if WINDOW <= chunk.len() {
-        copy_window_to_zero(chunk, 0, dest, at)
+        copy_window_to_zero(chunk, 0, dest, at, sentinel)
     } else if chunk.is_empty() {
         0
     } else {
-        copy_few_to_zero(chunk, dest, at)
+        copy_few_to_zero(chunk, dest, at, sentinel)
     }
 }
 
@@ -101,23 +142,6 @@ pub fn move_to_front(buffer: &mut [u8], from: usize, len: usize) {
     }
 }
 
-/// Moves the 64 to 256 bytes from `from` on to the front of the buffer, if none is a zero, and says whether it did.
-#[inline(always)]
-pub fn move_nonzero(buffer: &mut [u8], from: usize, len: usize) -> bool {
-    let last = len - WIDE_WINDOW;
-    let second = last.min(WIDE_WINDOW);
-    let third = last.min(2 * WIDE_WINDOW);
-    let zeros = zeros_at::<64>(buffer, from)
-        | zeros_at::<64>(buffer, from + second)
-        | zeros_at::<64>(buffer, from + third)
-        | zeros_at::<64>(buffer, from + last);
-    if zeros != 0 {
-        return false;
-    }
-    move_long(buffer, from, len);
-    true
-}
-
 /// Copies `N` to `2 * N` bytes, as two parts that may overlap, if none is the sentinel, and says whether it did.
 #[inline(always)]
 fn copy_xored_two<const N: usize>(source: &[u8], dest: &mut [u8], sentinel: u8) -> bool {
@@ -138,4 +162,11 @@ fn copy_xored_two<const N: usize>(source: &[u8], dest: &mut [u8], sentinel: u8) 
 #[inline(always)]
 pub fn copy_xored_short(source: &[u8], dest: &mut [u8], sentinel: u8) -> bool {
     by_width!(source.len(), copy_xored_two(source, dest, sentinel))
+}
+
+/// XORs each byte with `sentinel`.
+pub fn xor_bytes(bytes: &mut [u8], sentinel: u8) {
+    for byte in bytes.iter_mut() {
+        *byte ^= sentinel;
+    }
 }

@@ -4,7 +4,7 @@
 use crate::memory::AllocError;
 use crate::proved::dec::frame_decoder::{FrameDecoder, PieceEnd, WriteBuffer};
 use crate::proved::dec::unbuffered::UnbufferedDecoder;
-use crate::proved::dec::{DecodeError, DecodeReport, PushError};
+use crate::proved::error::{DecodeError, DecodeReport, PushError};
 #[cfg(feature = "alloc")]
 use alloc::vec::Vec;
 
@@ -195,10 +195,7 @@ impl CobsDecoderOwned {
         })
     }
 
-    /// Takes the next byte of the stream, as [`CobsDecoder::feed`](crate::CobsDecoder::feed) does.
-    ///
-    /// # Errors
-    /// `InvalidFrame` and `TargetBufTooSmall`, as there.
+    /// Takes the next byte of the stream, as [`CobsDecoder::feed`](crate::CobsDecoder::feed) does, with its errors.
     ///
     /// ```
     /// # use jcobs::proved::*;
@@ -215,10 +212,7 @@ impl CobsDecoderOwned {
     }
 
     /// Takes bytes of the stream up to the first one whose result by `feed` isn't `Ok(None)`, as
-    /// [`CobsDecoder::push`](crate::CobsDecoder::push) does.
-    ///
-    /// # Errors
-    /// A `PushError` has the error of `feed` and how many bytes were taken, the one that raised it included.
+    /// [`CobsDecoder::push`](crate::CobsDecoder::push) does, with its errors.
     ///
     /// ```
     /// # use jcobs::proved::*;

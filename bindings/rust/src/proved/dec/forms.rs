@@ -1,80 +1,28 @@
 // Made by bindings/rust/translate.py from `crates/cobs/src/dec/forms.rt`: change that file, and run it again.
 //! The other decode forms from a source that stays as it is: for any sentinel, and into a vector.
 
-use crate::proved::cobs_bytes::lanes::copy_xored_short;
+use crate::proved::block::FULL_BLOCK_BYTES;
 use crate::proved::cobs_bytes::window::WIDE_WINDOW;
-use crate::proved::dec::blocks::{first_stretch, write_zeros_at_codes};
-use crate::proved::dec::find::position_or_len;
-use crate::proved::dec::piece::copy_few;
-use crate::proved::dec::{DecodeError, DecodeVecError, decode};
+use crate::proved::dec::stretch::{decode_short, kept_len, message_len};
+use crate::proved::dec::{UnbufferedDecoder, decode};
+use crate::proved::error::{DecodeError, DecodeVecError};
+use crate::proved::find::{len_without_end, position_or_len};
 #[cfg(feature = "alloc")]
 use alloc::vec::Vec;
 
-/// Writes the bytes of the source, each XORed with the sentinel, to the front of `dest`.
-#[inline(never)]
-fn xor_into(source: &[u8], dest: &mut [u8], sentinel: u8) {
-    'by_byte: for i in 0..source.len() {
-        dest[i] = source[i] ^ sentinel;
-    }
-}
-
 /// Decodes the blocks of a source that has no sentinel, and returns how many bytes they give.
-///
-/// The whole blocks through each full one are decoded by one copy, and a zero at each code; if their bytes don't fit,
-/// those of them that do. The bytes of `dest` after that stay as they were.
-fn decode_xored_stretches(
-    source: &[u8],
-    dest: &mut [u8],
-    sentinel: u8,
-) -> Result<usize, DecodeError> {
-    let mut read = 0;
-    let mut written = 0;
-    'by_front: while read < source.len() {
-        let (len, full) = first_stretch(&source[read..], sentinel);
-        if len == 0 {
-            return Err(DecodeError::InvalidFrame {
-                decoded_bytes: written,
-            });
-        }
-        let fit = len.min(dest.len() - written + 1);
-        let place = &mut dest[written..];
-        xor_into(&source[read + 1..read + fit], place, sentinel);
-        write_zeros_at_codes(place, (source[read] ^ sentinel) as usize, fit, true);
-        if fit < len {
-            return Err(DecodeError::TargetBufTooSmall);
-        }
-        read += len;
-        written += fit - 1;
-        if !full && read < source.len() {
-            if written == dest.len() {
-                return Err(DecodeError::TargetBufTooSmall);
-            }
-            dest[written] = 0;
-            written += 1;
-        }
+fn decode_blocks(source: &[u8], dest: &mut [u8], sentinel: u8) -> Result<usize, DecodeError> {
+    // A block that begins before the last 254 bytes is whole.
+    let tail = source.len().saturating_sub(FULL_BLOCK_BYTES);
+    let mut decoder = UnbufferedDecoder::new();
+    if decoder.take_run(dest, &source[..tail], sentinel) < tail {
+        return Err(DecodeError::TargetBufTooSmall);
     }
-    Ok(written)
-}
-
-/// Decodes a source of 2 to 65 bytes, if these are whole blocks without a sentinel that fit; says whether it did. Each
-/// byte after what they give stays, or where it did not every byte.
-fn decode_xored_short(source: &[u8], dest: &mut [u8], sentinel: u8) -> bool {
-    let len = source.len();
-    if len < 2 || WIDE_WINDOW + 1 < len || dest.len() < len - 1 || source[0] == sentinel {
-        return false;
+    let (len, whole) = kept_len(&source[tail..], decoder.left as usize, sentinel);
+    if decoder.take_run(dest, &source[tail..tail + len], sentinel) < len {
+        return Err(DecodeError::TargetBufTooSmall);
     }
-    // One walk that writes, and bytes put back if the last block is broken, cost less than a walk before it that looks.
-    let mut old = [0; WIDE_WINDOW];
-    copy_few(&dest[..len - 1], &mut old);
-    if !copy_xored_short(&source[1..], dest, sentinel) {
-        return false;
-    }
-    let (_, left) = write_zeros_at_codes(dest, (source[0] ^ sentinel) as usize, len, true);
-    if left > 0 {
-        dest[..len - 1].copy_from_slice(&old[..len - 1]);
-        return false;
-    }
-    true
+    message_len(decoder.dest_idx, whole)
 }
 
 /// Decodes the frame at the front of the source, where the sentinel may be any byte, and returns the message's length.
@@ -109,17 +57,15 @@ pub fn decode_with_sentinel(
     if source.is_empty() {
         return Err(DecodeError::EmptyFrame);
     }
-    let last = source.len() - 1;
-    let len = if source[last] == sentinel {
-        last
-    } else {
-        source.len()
-    };
-    if decode_xored_short(&source[..len], dest, sentinel) {
+    let len = len_without_end(source, sentinel);
+    // A broken frame is not to change the bytes behind what it gives, so a short one is decoded beside.
+    let mut short = [0; WIDE_WINDOW];
+    if len <= dest.len() + 1 && decode_short(&source[..len], &mut short, sentinel) == Some(0) {
+        dest[..len - 1].copy_from_slice(&short[..len - 1]);
         return Ok(len - 1);
     }
     let end = position_or_len(source, sentinel);
-    decode_xored_stretches(&source[..end], dest, sentinel)
+    decode_blocks(&source[..end], dest, sentinel)
 }
 
 /// Returns the message of the first frame of the source, in a vector of exactly its bytes.
@@ -159,13 +105,7 @@ pub fn decode_vec(source: &[u8]) -> Result<Vec<u8>, DecodeVecError> {
 /// exactly its bytes.
 ///
 /// The frame is read as by [`decode_with_sentinel`], up to the first sentinel or the source's end; a leading sentinel
-/// gives an empty vector. Memory is allocated once, for as many bytes as the source has, so a message always fits and
-/// `TargetBufTooSmall` never comes.
-///
-/// # Errors
-///
-/// `Decode(EmptyFrame)` if the source is empty, and then nothing is allocated; else `Memory` if memory ran
-/// out; else `Decode` with the error of [`decode_with_sentinel`].
+/// gives an empty vector. Memory is allocated, and errors are returned, as by [`decode_vec`].
 ///
 /// ```
 /// # use jcobs::proved::*;

@@ -1,7 +1,7 @@
 // Made by bindings/rust/translate.py from `crates/cobs/src/dec/frame_decoder.rt`: change that file, and run it again.
 //! The traits of the streaming decoders: what `stream` and `framed` know of one, and writing to its buffer.
 
-use crate::proved::dec::DecodeError;
+use crate::proved::error::DecodeError;
 
 /// How a piece of a stream ended. (The names are this library's own.)
 ///
@@ -46,10 +46,7 @@ pub(crate) fn piece_end(returned: Result<Option<usize>, DecodeError>) -> Option<
 /// assert_eq!(decoder.feed_piece(&stream), Some((PieceEnd::Broken(1), 3)));
 /// ```
 pub trait FrameDecoder {
-    /// Takes the next byte of the stream, as [`CobsDecoder::feed`](crate::CobsDecoder::feed) does.
-    ///
-    /// # Errors
-    /// `InvalidFrame` and `TargetBufTooSmall`, as there.
+    /// Takes the next byte of the stream, as [`CobsDecoder::feed`](crate::CobsDecoder::feed) does, with its errors.
     ///
     /// ```
     /// # use jcobs::proved::*;

@@ -4,7 +4,7 @@
 use crate::array_vec::ArrayVec;
 use crate::proved::dec::frame_decoder::{FrameDecoder, PieceEnd, WriteBuffer};
 use crate::proved::dec::unbuffered::UnbufferedDecoder;
-use crate::proved::dec::{DecodeError, DecodeReport, PushError};
+use crate::proved::error::{DecodeError, DecodeReport, PushError};
 
 /// Decodes a stream of frames, each ended by a zero, into a buffer of `N` bytes that lies in the value itself.
 ///
@@ -58,10 +58,7 @@ impl<const N: usize> CobsDecoderHeapless<N> {
         }
     }
 
-    /// Takes the next byte of the stream, as [`CobsDecoder::feed`](crate::CobsDecoder::feed) does.
-    ///
-    /// # Errors
-    /// `InvalidFrame` and `TargetBufTooSmall`, as there.
+    /// Takes the next byte of the stream, as [`CobsDecoder::feed`](crate::CobsDecoder::feed) does, with its errors.
     ///
     /// ```
     /// # use jcobs::proved::*;
@@ -76,10 +73,7 @@ impl<const N: usize> CobsDecoderHeapless<N> {
     }
 
     /// Takes bytes of the stream up to the first one whose result by `feed` isn't `Ok(None)`, as
-    /// [`CobsDecoder::push`](crate::CobsDecoder::push) does.
-    ///
-    /// # Errors
-    /// A `PushError` has the error of `feed` and how many bytes were taken, the one that raised it included.
+    /// [`CobsDecoder::push`](crate::CobsDecoder::push) does, with its errors.
     ///
     /// ```
     /// # use jcobs::proved::*;

@@ -1,73 +1,107 @@
 // Made by bindings/rust/translate.py from `crates/cobs/src/dec/run.rt`: change that file, and run it again.
-//! What `push` takes at once: first bytes that each return `Ok(None)`, up to a zero.
+//! What every decoder takes at once: bytes up to a zero, copied in stretches, and then a zero written at each code.
 
-use crate::proved::cobs_bytes::lanes::copy_to_zero;
-use crate::proved::cobs_bytes::window::{WINDOW, is_all, write_row};
-use crate::proved::dec::blocks::write_zeros_at_codes;
-use crate::proved::dec::piece::decode_head;
+use crate::proved::block::FULL_BLOCK_BYTES;
+use crate::proved::cobs_bytes::lanes::{copy_to_zero, copy_windows};
+use crate::proved::cobs_bytes::window::{WIDE_WINDOW, WINDOW, is_all, write_row};
+use crate::proved::dec::stretch::write_zeros_at_codes;
 use crate::proved::dec::unbuffered::{FULL, UnbufferedDecoder};
 
-/// So few bytes are pushed by a step each: a run takes some 130 instructions, however short it is.
+/// So few bytes are fed one by one: a run takes some 130 instructions, however short it is.
 const BY_BYTE_MAX: usize = 4;
 
-/// Behind this many bytes without a zero, those up to the next one are decoded as a whole: in a push of 64 KiB that is
-/// 1.2 to 1.7 times as fast where blocks are full, and 2.8 times where every second byte is a zero.
-const MANY: usize = 512;
-
-/// The least code of blocks that steps take faster, 1.5 times for runs of 20 to 45: a step's copy needn't wait for the walk
-/// over the codes before it.
-const SHORT: u8 = 8;
-
-/// The greatest one.
-const LONG: u8 = 64;
-
 impl UnbufferedDecoder {
-    /// Takes a code that adds no zero to the output, a piece's first or one after a full block, and returns how many
-    /// bytes that is.
+    /// Takes a code behind a whole block, and writes the zero that joins the two.
     #[inline(always)]
-    fn take_code(&mut self, bytes: &[u8]) -> usize {
-        if self.left != 0 || self.code != FULL || bytes.is_empty() || bytes[0] == 0 {
-            return 0;
+    pub(crate) fn take_joint(&mut self, dest: &mut [u8], code: u8) {
+        if self.code != FULL {
+            dest[self.dest_idx] = 0;
+            self.dest_idx += 1;
         }
-        self.code = bytes[0];
-        self.left = bytes[0] - 1;
-        1
+        self.code = code;
+        self.left = code - 1;
     }
 
-    /// Takes first bytes up to a zero, as many as one step can take, and returns how many: a code that nothing is joined
-    /// to, a row of 32 blocks without bytes behind such a block, or up to 192 bytes in which no full block ends.
+    /// How many of `len` bytes one stretch can have: it ends where a full block does.
     #[inline(always)]
-    fn take_part(&mut self, dest: &mut [u8], bytes: &[u8]) -> usize {
-        if self.left == 0 && self.code == FULL {
-            return self.take_code(bytes);
+    pub(crate) fn stretch_len(&self, len: usize) -> usize {
+        if self.code == FULL {
+            len.min(self.left as usize)
+        } else {
+            len
         }
+    }
+
+    /// Takes a code behind a whole block, with the first bytes of that block, or all, if it is long and these are at hand and
+    /// have room. Returns how many bytes that is, none only if the zero that joins the two blocks has no room.
+    #[inline(always)]
+    fn take_block(&mut self, dest: &mut [u8], bytes: &[u8], sentinel: u8) -> usize {
+        if self.code != FULL && dest.len() <= self.dest_idx {
+            return 0;
+        }
+        self.take_joint(dest, bytes[0] ^ sentinel);
+        let at = self.dest_idx;
+        let len = self.left as usize;
+        if len < WIDE_WINDOW || bytes.len() <= len || dest.len().saturating_sub(at) < len {
+            return 1;
+        }
+        let copied = copy_windows::<FULL_BLOCK_BYTES>(&bytes[1..], len, dest, at, sentinel);
+        self.dest_idx = at + copied;
+        self.left -= copied as u8;
+        1 + copied
+    }
+
+    /// Takes up to 192 first bytes up to a zero, in which no full block ends, and returns how many, none only if the first
+    /// has no room.
+    #[inline(always)]
+    fn take_stretch(&mut self, dest: &mut [u8], bytes: &[u8], sentinel: u8) -> usize {
         let at = self.dest_idx;
         let left = self.left as usize;
-        let mut most = bytes.len().min(dest.len().saturating_sub(at));
-        if left == 0 && self.code == 1 && WINDOW <= most && is_all(bytes, 0, 1) {
-            write_row(dest, at, 0);
-            self.dest_idx = at + WINDOW;
-            return WINDOW;
-        }
-        if self.code == FULL {
-            most = most.min(left);
-        }
-        let len = copy_to_zero(&bytes[..most], dest, at);
+        let most = self.stretch_len(bytes.len().min(dest.len().saturating_sub(at)));
+        let len = copy_to_zero(&bytes[..most], dest, at, sentinel);
         self.dest_idx = at + len;
         if len <= left {
             self.left -= len as u8;
         } else {
             // What the open block is missing is what a code of one more would open.
-            let (code, left) = write_zeros_at_codes(&mut dest[at..], left + 1, len + 1, false);
-            self.code = code as u8;
+            let (code, left) = write_zeros_at_codes(&mut dest[at..], self.left + 1, len + 1);
+            self.code = code;
             self.left = left as u8;
         }
         len
     }
 
-    /// Takes first bytes up to a zero, step by step, until they are many, and returns how many.
+    /// Takes first bytes up to a zero, as many as one step can take, and returns how many: a code that nothing is joined to,
+    /// or that of a long block; a row of 32 blocks without bytes behind such a block; or a stretch. None only if the first
+    /// has no room.
     #[inline(always)]
-    fn take_few(&mut self, dest: &mut [u8], bytes: &[u8]) -> usize {
+    fn take_part(&mut self, dest: &mut [u8], bytes: &[u8], sentinel: u8) -> usize {
+        if self.left != 0 {
+            return self.take_stretch(dest, bytes, sentinel);
+        }
+        if self.code == FULL || (bytes[0] ^ sentinel) as usize > WIDE_WINDOW {
+            return self.take_block(dest, bytes, sentinel);
+        }
+        let at = self.dest_idx;
+        if self.code == 1
+            && WINDOW <= bytes.len().min(dest.len().saturating_sub(at))
+            && is_all(bytes, 0, 1 ^ sentinel)
+        {
+            write_row(dest, at, 0);
+            self.dest_idx = at + WINDOW;
+            return WINDOW;
+        }
+        self.take_stretch(dest, bytes, sentinel)
+    }
+
+    /// Takes first bytes that each return `Ok(None)`, each XORed with the sentinel, up to one that is the sentinel or has no
+    /// room, and returns how many.
+    #[inline(always)]
+    pub(crate) fn take_run(&mut self, dest: &mut [u8], bytes: &[u8], sentinel: u8) -> usize {
+        // A piece that is too long has a result for each byte.
+        if self.over {
+            return 0;
+        }
         // A copy, so that it stays in registers.
         let mut here = UnbufferedDecoder {
             dest_idx: self.dest_idx,
@@ -75,9 +109,9 @@ impl UnbufferedDecoder {
             code: self.code,
             over: false,
         };
-        let mut run = here.take_code(bytes);
-        'by_step: while run < bytes.len() && run < MANY && bytes[run] != 0 {
-            let step = here.take_part(dest, &bytes[run..]);
+        let mut run = 0;
+        'by_step: while run < bytes.len() && bytes[run] ^ sentinel != 0 {
+            let step = here.take_part(dest, &bytes[run..], sentinel);
             run += step;
             if step == 0 {
                 break;
@@ -89,68 +123,12 @@ impl UnbufferedDecoder {
         run
     }
 
-    /// Takes a code behind a whole block, and writes the zero that joins the two.
-    #[inline(always)]
-    fn take_joint(&mut self, dest: &mut [u8], code: u8) {
-        if self.code != FULL {
-            dest[self.dest_idx] = 0;
-            self.dest_idx += 1;
-        }
-        self.code = code;
-        self.left = code - 1;
-    }
-
-    /// Takes the bytes from a code behind a whole block on, up to a zero, as far as they surely fit, and returns how
-    /// many.
-    #[inline(always)]
-    fn take_piece(&mut self, dest: &mut [u8], bytes: &[u8]) -> usize {
-        if bytes.is_empty() || bytes[0] == 0 || dest.len() <= self.dest_idx {
-            return 0;
-        }
-        self.take_joint(dest, bytes[0]);
-        let at = self.dest_idx;
-        let most = bytes.len().min(dest.len() - at);
-        if most == 0 {
-            return 1;
-        }
-        let (len, end) = decode_head(&bytes[..most], &mut dest[at..]);
-        self.dest_idx = at + end.written;
-        self.code = end.code as u8;
-        self.left = end.left as u8;
-        len
-    }
-
-    /// Takes what the open block is missing, and then the bytes up to a zero as a whole, as far as they surely fit, and
-    /// returns how many.
-    #[inline(never)]
-    fn take_many(&mut self, dest: &mut [u8], bytes: &[u8]) -> usize {
-        if self.over {
-            return 0;
-        }
-        let open = (self.left as usize).min(bytes.len());
-        let run = self.take_few(dest, &bytes[..open]);
-        if self.left != 0 {
-            return run;
-        }
-        run + self.take_piece(dest, &bytes[run..])
-    }
-
-    /// Takes first bytes that each return `Ok(None)`, up to a zero, as many as can be taken at once, and
-    /// returns how many.
+    /// Does what `take_run` does, for the sentinel 0, if the bytes are more than a few.
     #[inline(always)]
     pub(crate) fn take_quiet(&mut self, dest: &mut [u8], bytes: &[u8]) -> usize {
-        // A piece that is too long has a result for each byte.
-        if self.over || bytes.len() <= BY_BYTE_MAX {
+        if bytes.len() <= BY_BYTE_MAX {
             return 0;
         }
-        let run = self.take_few(dest, bytes);
-        if run < MANY || SHORT <= self.code && self.code <= LONG {
-            return run;
-        }
-        // A copy, so that this state itself stays in registers.
-        let mut rest = UnbufferedDecoder::from_phase(self.phase());
-        let more = rest.take_many(dest, &bytes[run..]);
-        *self = rest;
-        run + more
+        self.take_run(dest, bytes, 0)
     }
 }

@@ -1,7 +1,7 @@
 // Made by bindings/rust/translate.py from `crates/cobs/src/dec/state.rt`: change that file, and run it again.
 //! The state machine of a decoder, without a buffer.
 
-use crate::proved::dec::DecodeError;
+use crate::proved::error::DecodeError;
 
 /// A decoder's state within a frame.
 ///

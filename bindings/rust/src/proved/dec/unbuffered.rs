@@ -1,10 +1,10 @@
 // Made by bindings/rust/translate.py from `crates/cobs/src/dec/unbuffered.rt`: change that file, and run it again.
 //! The streaming decoder whose buffer is passed to each call. The three others are built on it.
 
-use crate::proved::dec::find::len_before_zero;
+use crate::proved::block::FULL_CODE;
 use crate::proved::dec::frame_decoder::{PieceEnd, piece_end};
-use crate::proved::dec::{DecodeError, DecodeReport, PushError};
-use crate::proved::enc::FULL_CODE;
+use crate::proved::error::{DecodeError, DecodeReport, PushError};
+use crate::proved::find::position_or_len;
 use core::mem;
 
 /// The code of a full block, as a byte.
@@ -194,10 +194,8 @@ impl UnbufferedDecoder {
         *self = UnbufferedDecoder::new();
     }
 
-    /// Takes the next byte of the stream, over this buffer, as [`CobsDecoder::feed`](crate::CobsDecoder::feed) does.
-    ///
-    /// # Errors
-    /// `InvalidFrame` and `TargetBufTooSmall`, as there.
+    /// Takes the next byte of the stream, over this buffer, as [`CobsDecoder::feed`](crate::CobsDecoder::feed) does, with its
+    /// errors.
     ///
     /// ```
     /// # use jcobs::proved::*;
@@ -241,10 +239,7 @@ impl UnbufferedDecoder {
     }
 
     /// Takes bytes of the stream, over this buffer, up to the first one whose result by `feed` isn't `Ok(None)`, as
-    /// [`CobsDecoder::push`](crate::CobsDecoder::push) does.
-    ///
-    /// # Errors
-    /// A `PushError` has the error of `feed` and how many bytes were taken, the one that raised it included.
+    /// [`CobsDecoder::push`](crate::CobsDecoder::push) does, with its errors.
     ///
     /// ```
     /// # use jcobs::proved::*;
@@ -300,7 +295,7 @@ impl UnbufferedDecoder {
         'by_run: while taken < bytes.len() {
             // Of a piece that is too long for the buffer, all in front of its zero is taken.
             taken += if self.over {
-                len_before_zero(&bytes[taken..])
+                position_or_len(&bytes[taken..], 0)
             } else {
                 self.take_quiet(dest, &bytes[taken..])
             };

@@ -1,39 +1,25 @@
 // Made by bindings/rust/translate.py from `crates/cobs/src/dec/whole.rt`: change that file, and run it again.
 //! Decoding a whole frame into another buffer.
 
-use crate::proved::cobs_bytes::lanes::copy_xored_short;
-use crate::proved::cobs_bytes::window::WIDE_WINDOW;
-use crate::proved::dec::blocks::write_zeros_at_codes;
-use crate::proved::dec::find::leading_zeros;
-use crate::proved::dec::front::decode_ahead;
-use crate::proved::dec::piece::decode_rest;
-use crate::proved::dec::{DecodeError, DecodeReport};
+use crate::proved::dec::UnbufferedDecoder;
+use crate::proved::dec::stretch::{decode_short, message_len};
+use crate::proved::error::{DecodeError, DecodeReport};
+use crate::proved::find::leading_zeros;
 
-/// Decodes what a source has in front of its first zero, where that begins with a code; returns how many bytes that is,
-/// and its message's length.
+/// Decodes what a source has in front of its first zero, where that begins with a code: returns how many bytes that is,
+/// if its output has room, and the result for it.
 #[inline(always)]
 fn decode_at_code(source: &[u8], dest: &mut [u8]) -> (usize, Result<usize, DecodeError>) {
-    let most = source.len() - 1;
-    if 0 < most
-        && most <= WIDE_WINDOW
-        && most <= dest.len()
-        && copy_xored_short(&source[1..], dest, 0)
-    {
-        let (_, left) = write_zeros_at_codes(dest, source[0] as usize, source.len(), false);
-        let decoded = if left == 0 {
-            Ok(most)
-        } else {
-            Err(DecodeError::InvalidFrame {
-                decoded_bytes: most,
-            })
-        };
-        return (source.len(), decoded);
+    if let Some(left) = decode_short(source, dest, 0) {
+        let len = source.len();
+        return (len, message_len(len - 1, left == 0));
     }
-    let (front, len) = decode_ahead(source, dest);
-    (
-        len,
-        decode_rest(&source[..len], dest, front.read, front.written),
-    )
+    let mut decoder = UnbufferedDecoder::new();
+    let len = decoder.take_run(dest, source, 0);
+    if len < source.len() && source[len] != 0 {
+        return (len, Err(DecodeError::TargetBufTooSmall));
+    }
+    (len, message_len(decoder.dest_idx, decoder.left == 0))
 }
 
 /// Decodes the first frame of the source into `dest`, and returns how many bytes were consumed and how many the
@@ -74,9 +60,9 @@ pub fn decode(source: &[u8], dest: &mut [u8]) -> Result<DecodeReport, DecodeErro
     if start == source.len() {
         return Err(DecodeError::InvalidFrame { decoded_bytes: 0 });
     }
-    let (len, decoded) = decode_at_code(&source[start..], dest);
+    let (len, result) = decode_at_code(&source[start..], dest);
     let parsed_size = (start + len + 1).min(source.len());
-    decoded.map(|frame_size| DecodeReport {
+    result.map(|frame_size| DecodeReport {
         parsed_size,
         frame_size,
     })

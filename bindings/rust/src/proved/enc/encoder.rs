@@ -1,8 +1,9 @@
 // Made by bindings/rust/translate.py from `crates/cobs/src/enc/encoder.rt`: change that file, and run it again.
 //! An encoder into a slice, of a message that comes in pieces.
 
+use crate::proved::enc::UnbufferedEncoder;
 use crate::proved::enc::blocks::close;
-use crate::proved::enc::{DestBufTooSmallError, UnbufferedEncoder};
+use crate::proved::error::DestBufTooSmallError;
 
 /// Encodes a message that comes in pieces, straight into a slice of the caller's.
 ///

@@ -1,39 +1,9 @@
 // Made by bindings/rust/translate.py from `crates/cobs/src/enc/in_place.rt`: change that file, and run it again.
 //! A message that is encoded in its own buffer.
 
-use crate::proved::enc::blocks::{FULL_BLOCK_BYTES, FULL_CODE, close};
-use crate::proved::enc::progress::{EncoderProgress, START};
+use crate::proved::enc::blocks::{append_byte, close};
+use crate::proved::enc::progress::START;
 use crate::proved::max_encoding_overhead;
-
-/// Takes one byte, and returns how far the frame has come then. Its next byte goes one place further on, and after a byte
-/// that has filled a block two places.
-#[inline(always)]
-fn append_byte(buffer: &mut [u8], start: EncoderProgress, byte: u8) -> EncoderProgress {
-    let EncoderProgress { index, code, .. } = start;
-    let next = index + code as usize;
-    if byte == 0 {
-        buffer[index] = code;
-        return EncoderProgress {
-            index: next,
-            code: 1,
-            is_full: false,
-        };
-    }
-    buffer[next] = byte;
-    if (code as usize) < FULL_BLOCK_BYTES {
-        return EncoderProgress {
-            index,
-            code: code + 1,
-            is_full: false,
-        };
-    }
-    buffer[index] = FULL_CODE as u8;
-    EncoderProgress {
-        index: next + 1,
-        code: 1,
-        is_full: true,
-    }
-}
 
 /// Encodes a message in its own buffer, and returns the length of its frame in bytes.
 ///
@@ -55,7 +25,7 @@ pub fn encode_in_place(buffer: &mut [u8], len: usize) -> usize {
     let mut progress = START;
     'by_byte: for taken in 0..len {
         let byte = buffer[before + taken];
-        progress = append_byte(buffer, progress, byte);
+        progress = append_byte(&[byte], buffer, progress);
     }
     close(buffer, progress)
 }

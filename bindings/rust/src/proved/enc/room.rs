@@ -1,8 +1,10 @@
 // Made by bindings/rust/translate.py from `crates/cobs/src/enc/room.rt`: change that file, and run it again.
 //! Whether a frame fits, before a byte of it is written; and what is taken if it does.
 
-use crate::proved::enc::blocks::{FULL_BLOCK_BYTES, append, append_rest, run_len};
+use crate::proved::block::FULL_BLOCK_BYTES;
+use crate::proved::enc::blocks::{append, append_rest};
 use crate::proved::enc::progress::EncoderProgress;
+use crate::proved::find::position_or_len;
 use memchr::memrchr;
 
 /// Whether `room` bytes, counted from the index of an open block with this code, are enough for the frame once the
@@ -27,7 +29,7 @@ fn fits(code: usize, source: &[u8], room: usize) -> Option<usize> {
         if let Some(zero) = memrchr(0, &source[read..end]) {
             read += zero + 1;
         } else {
-            let more = run_len(&source[read..]);
+            let more = position_or_len(&source[read..], 0);
             if read == 0 {
                 first = more;
             }
@@ -56,11 +58,7 @@ fn fits(code: usize, source: &[u8], room: usize) -> Option<usize> {
 #[inline(never)]
 pub(crate) fn try_append(source: &[u8], dest: &mut [u8], progress: &mut EncoderProgress) -> bool {
     // Field by field, here and below: fields that were stored one by one can't be loaded at once without waiting.
-    let start = EncoderProgress {
-        index: progress.index,
-        code: progress.code,
-        is_full: progress.is_full,
-    };
+    let start = EncoderProgress { ..*progress };
     let room = dest.len() - start.index;
     let code = start.code as usize;
     let most = code + source.len();
@@ -76,8 +74,6 @@ pub(crate) fn try_append(source: &[u8], dest: &mut [u8], progress: &mut EncoderP
     } else {
         append_rest(source, run, dest, start)
     };
-    progress.index = behind.index;
-    progress.code = behind.code;
-    progress.is_full = behind.is_full;
+    *progress = EncoderProgress { ..behind };
     true
 }

@@ -1,8 +1,9 @@
 // Made by bindings/rust/translate.py from `crates/cobs/src/enc/sentinel.rt`: change that file, and run it again.
 //! Frames for another sentinel than 0, and frames between sentinels.
 
-use crate::proved::enc::error::DestBufTooSmallError;
+use crate::proved::cobs_bytes::lanes::xor_bytes;
 use crate::proved::enc::{encode, try_encode};
+use crate::proved::error::DestBufTooSmallError;
 
 /// Writes the encoded frame of `source` for this sentinel to the front of `dest`, and returns its length in bytes.
 ///
@@ -47,13 +48,6 @@ pub fn try_encode_with_sentinel(
     let written = try_encode(source, dest)?;
     xor_bytes(&mut dest[..written], sentinel);
     Ok(written)
-}
-
-/// XORs each byte with `sentinel`.
-pub(crate) fn xor_bytes(bytes: &mut [u8], sentinel: u8) {
-    for byte in bytes.iter_mut() {
-        *byte ^= sentinel;
-    }
 }
 
 /// Writes 0, the encoded frame of `source` and 0 to the front of `dest`, and returns the length of the three in bytes.

@@ -1,12 +1,11 @@
 // Made by bindings/rust/translate.py from `crates/cobs/src/enc/unbuffered.rt`: change that file, and run it again.
 //! The encoder whose buffer is passed to each call, of a message that comes in pieces.
 
-use crate::proved::enc::DestBufTooSmallError;
-use crate::proved::enc::blocks::{
-    FULL_BLOCK_BYTES, FULL_CODE, append_short, close, fits_window_and_block,
-};
+use crate::proved::block::FULL_CODE;
+use crate::proved::enc::blocks::{append_byte, append_short, close, fits_window_and_block};
 use crate::proved::enc::progress::{EncoderProgress, START};
 use crate::proved::enc::room::try_append;
+use crate::proved::error::DestBufTooSmallError;
 
 /// Encodes a message that comes in pieces, straight into a buffer that the caller passes to each call.
 ///
@@ -97,67 +96,31 @@ impl UnbufferedEncoder {
 
     /// Whether this progress is possible in a buffer of this length.
     fn is_within(&self, len: usize) -> bool {
-        let EncoderProgress {
-            index,
-            code,
-            is_full,
-        } = self.progress;
-        let code = code as usize;
-        if code == 0 || code == FULL_CODE || len < index {
-            return false;
-        }
-        if !is_full && len - index < code {
-            return false;
-        }
-        true
-    }
-
-    /// Takes one byte if the frame fits the buffer with it, and says whether it does. It calls nothing, so that a loop of
-    /// such pushes keeps the progress in registers: in the Rust crate it is 1.5 times as fast.
-    #[inline(always)]
-    fn take_one(&mut self, dest: &mut [u8], bytes: &[u8]) -> bool {
-        let index = self.progress.index;
-        let code = self.progress.code;
-        let next = index + code as usize;
-        if dest.len() <= next {
-            return false;
-        }
-        self.progress.code = 1;
-        self.progress.is_full = false;
-        if bytes[0] == 0 {
-            dest[index] = code;
-            self.progress.index = next;
-            return true;
-        }
-        dest[next] = bytes[0];
-        if code as usize == FULL_BLOCK_BYTES {
-            dest[index] = FULL_CODE as u8;
-            self.progress.index = next + 1;
-            self.progress.is_full = true;
-        } else {
-            self.progress.code = code + 1;
-        }
-        true
+        let at = self.progress;
+        let code = at.code as usize;
+        0 < code && code < FULL_CODE && at.index <= len && (at.is_full || code <= len - at.index)
     }
 
     /// Takes the next bytes if the frame fits the buffer with them, and says whether it does: one byte, or a few that
     /// can't fill the open block, at once.
     #[inline(always)]
     pub(crate) fn take(&mut self, dest: &mut [u8], bytes: &[u8]) -> bool {
-        if bytes.len() == 1 {
-            return self.take_one(dest, bytes);
-        }
         let at = self.progress;
-        let room = dest.len() - at.index;
-        if fits_window_and_block(at, bytes.len()) && at.code as usize + bytes.len() <= room {
-            // Field by field, so that no byte between the fields is copied.
-            let behind = append_short(bytes, dest, at, true);
-            self.progress.index = behind.index;
-            self.progress.code = behind.code;
-            self.progress.is_full = behind.is_full;
-            return true;
-        }
-        bytes.is_empty() || try_append(bytes, dest, &mut self.progress)
+        let behind = if bytes.len() == 1 {
+            if dest.len() <= at.index + at.code as usize {
+                return false;
+            }
+            append_byte(bytes, dest, at)
+        } else if fits_window_and_block(at, bytes.len())
+            && at.code as usize + bytes.len() <= dest.len() - at.index
+        {
+            append_short(bytes, dest, at, true)
+        } else {
+            return bytes.is_empty() || try_append(bytes, dest, &mut self.progress);
+        };
+        // Field by field, so that no byte between the fields is copied.
+        self.progress = EncoderProgress { ..behind };
+        true
     }
 
     /// Takes the next bytes of the message.

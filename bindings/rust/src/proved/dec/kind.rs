@@ -1,0 +1,68 @@
+// Made by bindings/rust/translate.py from `crates/cobs/src/dec/kind.rt`: change that file, and run it again.
+//! Whether bytes are a frame, and which one.
+
+use crate::proved::block::FULL_CODE;
+use crate::proved::find::position_or_len;
+
+/// What bytes are to a decoder. (The names are this library's own.)
+///
+/// ```
+/// # use jcobs::proved::*;
+/// assert_eq!(frame_kind(&[]), FrameKind::NotAFrame);
+/// assert_eq!(frame_kind(&[1]), FrameKind::Canonical);
+/// ```
+#[derive(Debug, Clone, Copy, PartialEq, Eq)]
+pub enum FrameKind {
+    /// No message: the list is empty, has a zero, or breaks off inside a block.
+    NotAFrame,
+
+    /// The frame that encoders give for its message.
+    Canonical,
+
+    /// The longer frame of its message: the one that encoders give, followed by a block without bytes. Only a message
+    /// whose last run of nonzero bytes fills its blocks has one.
+    Longer,
+}
+
+/// Returns whether the bytes are a frame, and whether they are the one that encoders give for its message.
+///
+/// The bytes are taken without sentinels around them. A frame is longer than its message's encoded one exactly if
+/// its last two blocks are a full one and the block that has no bytes; decoders read the two alike. No memory is
+/// taken.
+///
+/// A frame is defined by its blocks, after Cheshire and Baker; which of two frames is the canonical one is said by
+/// their encoder, which gives the shorter.
+///
+/// ```
+/// # use jcobs::proved::*;
+/// assert_eq!(frame_kind(b"\x06hello"), FrameKind::Canonical);
+/// assert_eq!(frame_kind(b"\x07hello"), FrameKind::NotAFrame);
+///
+/// let mut longer = [1; 256];
+/// longer[0] = 255;
+/// assert_eq!(frame_kind(&longer), FrameKind::Longer);
+/// assert_eq!(frame_kind(&longer[..255]), FrameKind::Canonical);
+/// ```
+pub fn frame_kind(bytes: &[u8]) -> FrameKind {
+    if position_or_len(bytes, 0) < bytes.len() {
+        return FrameKind::NotAFrame;
+    }
+    let mut rest = bytes;
+    let mut after_full = false;
+    'by_block: while !rest.is_empty() {
+        let code = rest[0] as usize;
+        if rest.len() < code {
+            return FrameKind::NotAFrame;
+        }
+        if rest.len() == code {
+            return if after_full && code == 1 {
+                FrameKind::Longer
+            } else {
+                FrameKind::Canonical
+            };
+        }
+        after_full = code == FULL_CODE;
+        rest = &rest[code..];
+    }
+    FrameKind::NotAFrame
+}

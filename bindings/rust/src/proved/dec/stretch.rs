@@ -1,0 +1,62 @@
+// Made by bindings/rust/translate.py from `crates/cobs/src/dec/stretch.rt`: change that file, and run it again.
+//! Walks from code to code.
+
+use crate::proved::cobs_bytes::lanes::copy_xored_short;
+use crate::proved::cobs_bytes::window::WIDE_WINDOW;
+use crate::proved::error::DecodeError;
+
+/// Writes a zero over each code in the first bytes of `dest`, which are what follows the first code of a stretch of `len`
+/// bytes, in which no code is behind a full block. Each byte after them stays. Returns the code of the last part, and how
+/// many of its bytes are missing.
+#[inline(always)]
+pub(crate) fn write_zeros_at_codes(dest: &mut [u8], first: u8, len: usize) -> (u8, usize) {
+    let mut code = first;
+    let mut end = first as usize;
+    'by_code: while end < len {
+        code = dest[end - 1];
+        dest[end - 1] = 0;
+        end += code as usize;
+    }
+    (code, end - len)
+}
+
+/// Decodes a source of 2 to 65 bytes of which none is the sentinel, and returns how many bytes its last block misses; `None`
+/// if it is no such source, or its output may not fit. Each byte is XORed with the sentinel, and each byte of `dest` after
+/// the output stays.
+#[inline(always)]
+pub(crate) fn decode_short(source: &[u8], dest: &mut [u8], sentinel: u8) -> Option<usize> {
+    let len = source.len();
+    if len < 2 || WIDE_WINDOW + 1 < len || dest.len() < len - 1 || source[0] == sentinel {
+        return None;
+    }
+    if !copy_xored_short(&source[1..], dest, sentinel) {
+        return None;
+    }
+    let (_, left) = write_zeros_at_codes(dest, source[0] ^ sentinel, len);
+    Some(left)
+}
+
+/// How many of a piece's last bytes give what a decoder keeps of it: all, or those through the code of a last block that
+/// is broken; and whether it is whole. The bytes before these miss `left` bytes of their last block. Each byte is XORed
+/// with the sentinel.
+pub(crate) fn kept_len(bytes: &[u8], left: usize, sentinel: u8) -> (usize, bool) {
+    let mut at = left;
+    'by_block: while at < bytes.len() {
+        let code = (bytes[at] ^ sentinel) as usize;
+        if bytes.len() - at < code {
+            return (at + 1, false);
+        }
+        at += code;
+    }
+    (at, true)
+}
+
+/// The result for a frame that gave `len` bytes, and is whole or broken.
+#[inline(always)]
+pub(crate) fn message_len(len: usize, whole: bool) -> Result<usize, DecodeError> {
+    if whole {
+        Ok(len)
+    } else {
+        Err(DecodeError::InvalidFrame { decoded_bytes: len })
+    }
+}

@@ -1,0 +1,30 @@
+// Made by bindings/rust/translate.py from `crates/cobs/src/find.rt`: change that file, and run it again.
+//! Where pieces begin and end.
+
+use memchr::memchr;
+
+/// Where the first such byte of a source is, or the source's length if there is none.
+pub(crate) fn position_or_len(source: &[u8], byte: u8) -> usize {
+    memchr(byte, source).unwrap_or(source.len())
+}
+
+/// The length of the source without a sentinel that ends it.
+#[inline(always)]
+pub(crate) fn len_without_end(source: &[u8], sentinel: u8) -> usize {
+    let last = source.len() - 1;
+    if source[last] == sentinel {
+        last
+    } else {
+        source.len()
+    }
+}
+
+/// How many zeros the source begins with.
+pub(crate) fn leading_zeros(source: &[u8]) -> usize {
+    'by_byte: for i in 0..source.len() {
+        if source[i] != 0 {
+            return i;
+        }
+    }
+    source.len()
+}
