@@ -102,6 +102,18 @@ shared() {
         LD_LIBRARY_PATH=$at "$work/calls"
 }
 
+# On an x86-64 processor without SSE4.2 the loader says that it doesn't load the shared library, and one with it does.
+old_processor() {
+    shared || return 1
+    if LD_LIBRARY_PATH=$at qemu-x86_64 -cpu core2duo "$work/calls" 2>"$work/loader"; then
+        echo "it runs without SSE4.2"
+        return 1
+    fi
+    cat "$work/loader"
+    grep -q 'libjcobs.*CPU ISA level is lower than required' "$work/loader" &&
+        LD_LIBRARY_PATH=$at qemu-x86_64 -cpu Nehalem "$work/calls"
+}
+
 # An example over the library that pkg-config finds in a prefix, linked statically and shared, and run as it is.
 over() { # PREFIX
     PKG_CONFIG_LIBDIR=$1/lib/pkgconfig
@@ -292,6 +304,9 @@ part 'symbols: those of the header alone' symbols
 part 'vectors' "$at/vectors" ../../conformance/*.txt
 part 'calls: constants, texts, NULL, loops' "$at/calls"
 part 'calls by the shared library' shared
+if [ "$(uname -m)" = x86_64 ] && has qemu-x86_64 qemu-user 'a processor without SSE4.2'; then
+    part 'a processor without SSE4.2' old_processor
+fi
 part 'jcobs.hpp' "$at/cpp"
 part 'jcobs.hpp, if a callback throws' throws
 part 'jcobs.hpp without an allocator' no_allocator
