@@ -210,72 +210,72 @@ else.4.i:                                         ; preds = %start
   %r10.i = icmp ne i64 %r8.i, 0
   %r16.i = zext i1 %r10.i to i64
   %r4.0.i = add nuw nsw i64 %r6.i, %r16.i
-  %r23.i22 = icmp ult i64 %r19.i, %r4.0.i
-  br i1 %r23.i22, label %"cobs_abi::encoding::encode_within.exit", label %"cobs::max_encoding_overhead.exit.i"
+  %r23.i53 = icmp ult i64 %r19.i, %r4.0.i
+  br i1 %r23.i53, label %"cobs_abi::encoding::encode_within.exit", label %"cobs::max_encoding_overhead.exit.i"
 
 "cobs::max_encoding_overhead.exit.i":             ; preds = %"cobs::max_encoding_overhead.exit.thread", %"cobs::max_encoding_overhead.exit"
   %common.ret.op.i.i = phi i64 [ 1, %"cobs::max_encoding_overhead.exit" ], [ %r4.0.i, %"cobs::max_encoding_overhead.exit.thread" ]
   %0 = getelementptr i8, ptr %a1, i64 %common.ret.op.i.i
   br label %loop.2.i
 
-loop.2.i:                                         ; preds = %"cobs::enc::in_place::append_byte.exit", %"cobs::max_encoding_overhead.exit.i"
-  %r4.i.sroa.0.0 = phi i64 [ 0, %"cobs::max_encoding_overhead.exit.i" ], [ %r4.i.sroa.0.1, %"cobs::enc::in_place::append_byte.exit" ]
-  %r4.i.sroa.9.0 = phi i8 [ 1, %"cobs::max_encoding_overhead.exit.i" ], [ %r4.i.sroa.9.1, %"cobs::enc::in_place::append_byte.exit" ]
-  %r4.i.sroa.15.0 = phi i1 [ false, %"cobs::max_encoding_overhead.exit.i" ], [ %r4.i.sroa.15.1, %"cobs::enc::in_place::append_byte.exit" ]
-  %r5.0.i = phi i64 [ 0, %"cobs::max_encoding_overhead.exit.i" ], [ %r43.i, %"cobs::enc::in_place::append_byte.exit" ]
+loop.2.i:                                         ; preds = %"cobs::enc::blocks::append_byte.exit", %"cobs::max_encoding_overhead.exit.i"
+  %r4.i.sroa.0.0 = phi i64 [ 0, %"cobs::max_encoding_overhead.exit.i" ], [ %r4.i.sroa.0.1, %"cobs::enc::blocks::append_byte.exit" ]
+  %r4.i.sroa.9.0 = phi i8 [ 1, %"cobs::max_encoding_overhead.exit.i" ], [ %r4.i.sroa.9.1, %"cobs::enc::blocks::append_byte.exit" ]
+  %r4.i.sroa.12.0 = phi i1 [ false, %"cobs::max_encoding_overhead.exit.i" ], [ %r4.i.sroa.12.1, %"cobs::enc::blocks::append_byte.exit" ]
+  %r5.0.i = phi i64 [ 0, %"cobs::max_encoding_overhead.exit.i" ], [ %r51.i, %"cobs::enc::blocks::append_byte.exit" ]
   %exitcond.not = icmp eq i64 %r5.0.i, %a3
-  br i1 %exitcond.not, label %"cobs::enc::in_place::encode_in_place.exit", label %join.5.i3
+  br i1 %exitcond.not, label %"cobs::enc::in_place::encode_in_place.exit", label %join.5.i4
 
-join.5.i3:                                        ; preds = %loop.2.i
-  %r29.i = getelementptr i8, ptr %0, i64 %r5.0.i
-  %r31.i = load i8, ptr %r29.i, align 1
-  %r18.i = zext i8 %r4.i.sroa.9.0 to i64
-  %r21.i = add i64 %r4.i.sroa.0.0, %r18.i
-  %r22.i = icmp eq i8 %r31.i, 0
-  br i1 %r22.i, label %then.1.i, label %join.3.i4
+join.5.i4:                                        ; preds = %loop.2.i
+  %r32.i = getelementptr i8, ptr %0, i64 %r5.0.i
+  %r34.i = load i8, ptr %r32.i, align 1
+  %r25.i = zext i8 %r4.i.sroa.9.0 to i64
+  %r28.i = add i64 %r4.i.sroa.0.0, %r25.i
+  %r34.i7 = icmp eq i8 %r34.i, 0
+  br i1 %r34.i7, label %then.1.i, label %join.3.i8
 
-then.1.i:                                         ; preds = %join.5.i3
-  %r28.i = getelementptr inbounds nuw i8, ptr %a1, i64 %r4.i.sroa.0.0
-  store i8 %r4.i.sroa.9.0, ptr %r28.i, align 1
-  br label %"cobs::enc::in_place::append_byte.exit"
+then.1.i:                                         ; preds = %join.5.i4
+  %r40.i = getelementptr inbounds nuw i8, ptr %a1, i64 %r4.i.sroa.0.0
+  store i8 %r4.i.sroa.9.0, ptr %r40.i, align 1
+  br label %"cobs::enc::blocks::append_byte.exit"
 
-join.3.i4:                                        ; preds = %join.5.i3
-  %r37.i = getelementptr inbounds nuw i8, ptr %a1, i64 %r21.i
-  store i8 %r31.i, ptr %r37.i, align 1
-  %r42.i = icmp ult i8 %r4.i.sroa.9.0, -2
-  br i1 %r42.i, label %then.4.i, label %join.6.i
+join.3.i8:                                        ; preds = %join.5.i4
+  %r53.i = getelementptr inbounds nuw i8, ptr %a1, i64 %r28.i
+  store i8 %r34.i, ptr %r53.i, align 1
+  %r59.i = icmp eq i8 %r4.i.sroa.9.0, -2
+  br i1 %r59.i, label %then.4.i, label %join.6.i
 
-then.4.i:                                         ; preds = %join.3.i4
-  %r47.i = add nuw i8 %r4.i.sroa.9.0, 1
-  br label %"cobs::enc::in_place::append_byte.exit"
+then.4.i:                                         ; preds = %join.3.i8
+  %r66.i = getelementptr inbounds nuw i8, ptr %a1, i64 %r4.i.sroa.0.0
+  store i8 -1, ptr %r66.i, align 1
+  %r70.i = add i64 %r28.i, 1
+  br label %"cobs::enc::blocks::append_byte.exit"
 
-join.6.i:                                         ; preds = %join.3.i4
-  %r56.i = getelementptr inbounds nuw i8, ptr %a1, i64 %r4.i.sroa.0.0
-  store i8 -1, ptr %r56.i, align 1
-  %r60.i = add i64 %r21.i, 1
-  br label %"cobs::enc::in_place::append_byte.exit"
+join.6.i:                                         ; preds = %join.3.i8
+  %r3.i = add i8 %r4.i.sroa.9.0, 1
+  br label %"cobs::enc::blocks::append_byte.exit"
 
-"cobs::enc::in_place::append_byte.exit":          ; preds = %then.1.i, %then.4.i, %join.6.i
-  %r4.i.sroa.0.1 = phi i64 [ %r21.i, %then.1.i ], [ %r4.i.sroa.0.0, %then.4.i ], [ %r60.i, %join.6.i ]
-  %r4.i.sroa.9.1 = phi i8 [ 1, %then.1.i ], [ %r47.i, %then.4.i ], [ 1, %join.6.i ]
-  %r4.i.sroa.15.1 = phi i1 [ false, %then.1.i ], [ false, %then.4.i ], [ true, %join.6.i ]
-  %r43.i = add i64 %r5.0.i, 1
+"cobs::enc::blocks::append_byte.exit":            ; preds = %then.1.i, %then.4.i, %join.6.i
+  %r4.i.sroa.0.1 = phi i64 [ %r28.i, %then.1.i ], [ %r70.i, %then.4.i ], [ %r4.i.sroa.0.0, %join.6.i ]
+  %r4.i.sroa.9.1 = phi i8 [ 1, %then.1.i ], [ 1, %then.4.i ], [ %r3.i, %join.6.i ]
+  %r4.i.sroa.12.1 = phi i1 [ false, %then.1.i ], [ true, %then.4.i ], [ false, %join.6.i ]
+  %r51.i = add i64 %r5.0.i, 1
   br label %loop.2.i
 
 "cobs::enc::in_place::encode_in_place.exit":      ; preds = %loop.2.i
-  br i1 %r4.i.sroa.15.0, label %"cobs_abi::encoding::encode_within.exit", label %join.3.i6
+  br i1 %r4.i.sroa.12.0, label %"cobs_abi::encoding::encode_within.exit", label %join.3.i20
 
-join.3.i6:                                        ; preds = %"cobs::enc::in_place::encode_in_place.exit"
-  %r22.i7 = getelementptr inbounds nuw i8, ptr %a1, i64 %r4.i.sroa.0.0
-  store i8 %r4.i.sroa.9.0, ptr %r22.i7, align 1
+join.3.i20:                                       ; preds = %"cobs::enc::in_place::encode_in_place.exit"
+  %r22.i = getelementptr inbounds nuw i8, ptr %a1, i64 %r4.i.sroa.0.0
+  store i8 %r4.i.sroa.9.0, ptr %r22.i, align 1
   %r27.i = zext i8 %r4.i.sroa.9.0 to i64
   %r30.i = add i64 %r4.i.sroa.0.0, %r27.i
   br label %"cobs_abi::encoding::encode_within.exit"
 
-"cobs_abi::encoding::encode_within.exit":         ; preds = %join.3.i6, %"cobs::enc::in_place::encode_in_place.exit", %"cobs::max_encoding_overhead.exit.thread", %start, %"cobs::max_encoding_overhead.exit"
-  %r0.sroa.0.0 = phi i32 [ 2, %"cobs::max_encoding_overhead.exit.thread" ], [ 2, %"cobs::max_encoding_overhead.exit" ], [ 2, %start ], [ 0, %"cobs::enc::in_place::encode_in_place.exit" ], [ 0, %join.3.i6 ]
-  %r0.sroa.6.0 = phi i64 [ 0, %"cobs::max_encoding_overhead.exit.thread" ], [ 0, %"cobs::max_encoding_overhead.exit" ], [ 0, %start ], [ %a3, %"cobs::enc::in_place::encode_in_place.exit" ], [ %a3, %join.3.i6 ]
-  %r0.sroa.8.0 = phi i64 [ 0, %"cobs::max_encoding_overhead.exit.thread" ], [ 0, %"cobs::max_encoding_overhead.exit" ], [ 0, %start ], [ %r4.i.sroa.0.0, %"cobs::enc::in_place::encode_in_place.exit" ], [ %r30.i, %join.3.i6 ]
+"cobs_abi::encoding::encode_within.exit":         ; preds = %join.3.i20, %"cobs::enc::in_place::encode_in_place.exit", %"cobs::max_encoding_overhead.exit.thread", %start, %"cobs::max_encoding_overhead.exit"
+  %r0.sroa.0.0 = phi i32 [ 2, %"cobs::max_encoding_overhead.exit.thread" ], [ 2, %"cobs::max_encoding_overhead.exit" ], [ 2, %start ], [ 0, %"cobs::enc::in_place::encode_in_place.exit" ], [ 0, %join.3.i20 ]
+  %r0.sroa.6.0 = phi i64 [ 0, %"cobs::max_encoding_overhead.exit.thread" ], [ 0, %"cobs::max_encoding_overhead.exit" ], [ 0, %start ], [ %a3, %"cobs::enc::in_place::encode_in_place.exit" ], [ %a3, %join.3.i20 ]
+  %r0.sroa.8.0 = phi i64 [ 0, %"cobs::max_encoding_overhead.exit.thread" ], [ 0, %"cobs::max_encoding_overhead.exit" ], [ 0, %start ], [ %r4.i.sroa.0.0, %"cobs::enc::in_place::encode_in_place.exit" ], [ %r30.i, %join.3.i20 ]
   store i32 %r0.sroa.0.0, ptr %a0, align 1
   %r0.sroa.4.0.a0.sroa_idx = getelementptr inbounds nuw i8, ptr %a0, i64 4
   store i32 0, ptr %r0.sroa.4.0.a0.sroa_idx, align 1

@@ -206,15 +206,15 @@ jcobs_answer jcobs_encode_in_place(void *buffer, size_t buffer_len, size_t messa
             is2 = 0;
         } else {
             to[n3] = byte2;
-            if (byte < 254) {
-                n4 = i;
-                byte3 = (unsigned char)(byte + 1);
-                is2 = 0;
-            } else {
+            if (byte == 254) {
                 to[i] = 255;
                 n4 = n3 + 1;
                 byte3 = 1;
                 is2 = 1;
+            } else {
+                n4 = i;
+                byte3 = (unsigned char)(byte + 1);
+                is2 = 0;
             }
         }
         i = n4;
