@@ -97,17 +97,17 @@ def test_feed_of_many_small_frames_lets_others_run(fast_switches):
 
 def test_feed_of_many_small_frames_hears_signals():
     seen = []
-    before = signal.signal(signal.SIGUSR1, lambda number, frame: seen.append(SMALL))
+    before = signal.signal(signal.SIGALRM, lambda number, frame: seen.append(SMALL))
     try:
         for _ in range(20):
-            timer = threading.Timer(0.01, signal.pthread_kill, (threading.main_thread().ident, signal.SIGUSR1))
-            timer.start()
+            # By the kernel's timer: a thread that sends the signal might not come to run before feed is done.
+            signal.setitimer(signal.ITIMER_REAL, 0.01)
             found = fed(seen)
-            timer.join()
+            signal.setitimer(signal.ITIMER_REAL, 0)
             if len(set(found)) > 1:
                 return
     finally:
-        signal.signal(signal.SIGUSR1, before)
+        signal.signal(signal.SIGALRM, before)
     pytest.fail("feed heard no signal before it was done")
 
 
