@@ -57,18 +57,3 @@ module _ {size taken : ℕ} {IsWanted IsEnded : List ℕ → Type 0} {buffer par
         too_small = λ long. absurd (omega arith);
         rest = behind_terminator buffer part last result.length s len (omega arith) (omega arith) w.rest;
       }
-
-  pub Writes-no_room : (last : ℕ) → last + 1 ≡ length buffer → Writes size taken IsWanted (take last buffer) result part → (result.status ≡ OK → ⊥) → length part ≡ last
-      → Writes (size + 1) taken IsEnded buffer result (part ++ drop last buffer)
-  Writes-no_room last room w other len =
-      let front : length (take last buffer) ≡ last = length-take-le last buffer (omega arith) in
-      let long : length (take last buffer) < size = Writes-failed w other in
-      let is = w.too_small long in
-      let none : result.length ≡ 0 = ap (λ (a : Answer). a.length) is in
-      let same : part ≡ take last buffer = rw none at w.rest in
-      record {
-        fits = λ short. absurd (omega arith);
-        wanted = λ short. absurd (omega arith);
-        too_small = λ _. is;
-        rest = ap (λ (l : List ℕ). drop result.length (l ++ drop last buffer)) same ∙ ap (drop result.length) (take-append-drop last buffer);
-      }

@@ -31,6 +31,14 @@ module _ (dest part : List ℕ) (at n : ℕ) (long : length part ≡ n) (fits : 
       ap (drop r) (sym (append_assoc (take at dest) part (drop (at + n) dest)))
       ∙ drop-append-drop (at + n) dest (take at dest ++ part) r le (length-append (take at dest) part ∙ omega arith)
 
+  -- and what it is with more behind the part
+  pub three-next : (more : List ℕ) (k : ℕ) → let three = take at dest ++ (part ++ drop (at + n) dest) in take (at + n) three ++ (more ++ drop (at + n + k) three) ≡ take at dest ++ ((part ++ more) ++ drop (at + (n + k)) dest)
+  three-next more k =
+      let b = behind-three (at + n + k) (omega arith) in
+      let l = length-front in
+      let front : take (at + n) (take at dest ++ (part ++ drop (at + n) dest)) ≡ take at dest ++ part = grind (arith, append_assoc, take_at, length-append) in
+      grind (arith, append_assoc)
+
 -- A window of len bytes at `read` is copied to `next`; d bytes of it are taken, and the bits say where the zeros of the
 -- others are.
 pub record MarksAt (H : List ℕ → Type 0) (source old slice : List ℕ) (end read len index next zeros d : ℕ) : Type 0 where
@@ -163,6 +171,15 @@ module _ {H : List ℕ → Type 0} {source old slice : List ℕ} {end read len i
         short = omega arith;
         reaches = Reaches-at (ap (set slice index) code) (omega arith) (omega arith) (omega arith) (λ full p. p) closed;
       })
+
+-- a code at the first zero of a window, which is at this place
+pub marks-first : {H : List ℕ → Type 0} {source old slice after : List ℕ} {end read len index next zeros : ℕ} (place : ℕ) → Copied H source old slice after end read len index next zeros → zeros ≢ 0
+    → place ≡ next + min (count_trailing_zeros 64 zeros) 32 → place < index + 255 → Marks H source old (set after index (place - index)) end read len place next (bit_and zeros (zeros - 1))
+marks-first {next} {zeros} place w some is near =
+    let few = w.few in
+    let first = first-within w some in
+    let there : place ≡ next + count_trailing_zeros 64 zeros = omega arith in
+    rw there (marks-step (marks-start w (omega arith)) some (length-after w))
 
 -- a window that is taken whole, and leaves its block open
 pub record WindowTaken (H : List ℕ → Type 0) (source old slice : List ℕ) (end read len index next : ℕ) : Type 0 where

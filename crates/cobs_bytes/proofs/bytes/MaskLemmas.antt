@@ -85,11 +85,6 @@ nonzero_len-behind : (d : ℕ) (bytes : List ℕ) → nonzero_len (replicate d 1
 nonzero_len-behind zero bytes = omega arith
 nonzero_len-behind (suc d) bytes = let ih = nonzero_len-behind d bytes in let e : nonzero_len (1 ∷ replicate d 1 ++ bytes) ≡ 1 + nonzero_len (replicate d 1 ++ bytes) = refl in omega arith
 
--- the first zero taken from a mask
-mask-less : (bytes : List ℕ) → zero_mask bytes ≢ 0 → zero_mask bytes ≡ 2 ^ nonzero_len bytes + mask_behind (nonzero_len bytes + 1) (drop (nonzero_len bytes + 1) bytes)
-mask-less [] some = absurd (some refl)
-mask-less (b ∷ bytes) some = grind (arith, cases_eq, eq-eqb, ne_eqb, mask_behind-more, pow-suc, mask-less bytes)
-
 -- a number's lowest bit, and the others
 pub bit_at-first : (a x : ℕ) → a ≤ 1 → bit_at (a + 2 * x) 0 ≡ a
 bit_at-first a x le = omega (arith, bit_at_lowest (a + 2 * x))
@@ -145,10 +140,6 @@ module _ (d : ℕ) (bytes : List ℕ) (few : d + length bytes ≤ 64) (some : ma
 
   left : drop (d + nonzero_len bytes + 1) (replicate d 1 ++ bytes) ≡ drop (nonzero_len bytes + 1) bytes
   left = ap (λ k. drop k (replicate d 1 ++ bytes)) (omega (arith, length-ones d)) ∙ drop-append-add (replicate d 1) bytes (nonzero_len bytes + 1)
-
-  -- the next zero taken from it
-  pub mask_behind-less : mask_behind d bytes ≡ 2 ^ (d + nonzero_len bytes) + mask_behind (d + nonzero_len bytes + 1) (drop (nonzero_len bytes + 1) bytes)
-  mask_behind-less = grind (arith, nonzero_len-behind, left, mask-less)
 
   pub mask_behind-and : bit_and (mask_behind d bytes) (mask_behind d bytes - 1) ≡ mask_behind (d + nonzero_len bytes + 1) (drop (nonzero_len bytes + 1) bytes)
   mask_behind-and = grind (arith, nonzero_len-behind, left, mask-and)

@@ -1,4 +1,4 @@
-use Rattle.std.proofs.Common.{◌≡◌, ◌<◌, ◌≤◌, ◌-◌, ◌+◌, false, length, take, drop, replicate}
+use Rattle.std.proofs.Common.{◌≡◌, ◌<◌, ◌≤◌, ◌-◌, ◌+◌, false, length}
 use Rattle.cobs.specs.OpenBlock.{CobsEncoderAfter, end_after}
 use Rattle.cobs.specs.Fields.Progress.{reached_at}
 use Rattle.cobs.proofs.encoding.ReachLemmas.{Reaches}
@@ -13,16 +13,3 @@ invariant-by_window l = record {
 
 abbrev pub decreases-by_window : goal.decreases-by_window
 decreases-by_window l = length l.source - l.read
-
--- the next 32 bytes are zeros
-abbrev pub invariant-by_row : goal.invariant-by_row
-invariant-by_row l = record {
-  onward : l.initial.read ≤ l.read;
-  more : l.read < l.last;
-  row : take 32 (drop l.read l.source) ≡ replicate 32 0;
-  open' : l.next < l.index + 255;
-  reaches : Reaches (CobsEncoderAfter l.fn.dest (reached_at l.fn.start)) l.source l.fn.dest l.dest (end_after (reached_at l.fn.start) l.source) l.read l.index l.next (λ _. Unit {0});
-}
-
-abbrev pub decreases-by_row : goal.decreases-by_row
-decreases-by_row l = length l.source - l.read
