@@ -17,14 +17,6 @@ LONG = b"\x01" * (400_000 if PLAIN else 40_000_000)
 only_extension = pytest.mark.skipif(PLAIN, reason="Python code has the GIL, and lets others run")
 
 
-@pytest.fixture
-def fast_switches():
-    interval = sys.getswitchinterval()
-    sys.setswitchinterval(0.0005)
-    yield
-    sys.setswitchinterval(interval)
-
-
 def lets_others_run(call):
     """Whether another thread got the GIL during the call. It asks for none, so the call has to release it."""
     interval = sys.getswitchinterval()
@@ -82,15 +74,34 @@ def fed(seen):
     return jcobs._backend.core.Decoder(16, 0).feed(MANY, (seen.count,) * 3)
 
 
-def test_feed_of_many_small_frames_lets_others_run(fast_switches):
+@pytest.fixture
+def no_collection():
+    """No collection of garbage, which may take so long that another thread gets the GIL behind it."""
+    gc.disable()
+    yield
+    gc.enable()
+
+
+def test_feed_of_many_small_frames_lets_others_run(no_collection):
+    decoder = jcobs.Decoder(16)
     for _ in range(20):
-        seen, found = [], []
-        worker = threading.Thread(target=lambda: found.extend(fed(seen)))
+        turns = []
+        done = threading.Event()
+
+        def other():
+            while not done.is_set():
+                turns.append(time.monotonic())
+                time.sleep(0.001)
+
+        worker = threading.Thread(target=other)
         worker.start()
-        while worker.is_alive():
-            seen.append(SMALL)
-            time.sleep(0.001)
-        if len(set(found)) > 2:
+        begun = time.monotonic()
+        outcomes = decoder.feed(MANY)
+        ended = time.monotonic()
+        done.set()
+        worker.join()
+        assert len(outcomes) == len(MANY) // len(jcobs.encode(SMALL, terminated=True))
+        if sum(begun < turn < ended for turn in turns) > 2:
             return
     pytest.fail("no other thread ran while feed was at work")
 

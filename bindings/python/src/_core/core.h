@@ -16,7 +16,7 @@
 /* From this length on a call releases the GIL. A shorter one takes a few microseconds. */
 #define LONG 32768
 
-/* How many bytes of a chunk a decoder takes before other threads and signal handlers have their turn. */
+/* How many bytes of a chunk a decoder takes before it asks whether others have their turn: signal handlers, and threads. */
 #define TURN 65536
 
 /* A call that is passed its arguments as an array. The stable ABI names it from 3.10 on; 3.9 has it too. */

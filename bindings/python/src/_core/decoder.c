@@ -1,5 +1,6 @@
 /* The type jcobs._core.Decoder: a streaming decoder with its buffer. */
 #include <string.h>
+#include <time.h>
 
 #include "core.h"
 
@@ -63,17 +64,25 @@ static int decoder_append(Decoder *self, PyObject *list, PyObject *classes, jcob
     return done;
 }
 
-/* Lets other threads run, and the handlers of signals, or returns -1 with the error that one raised. */
-static int have_turn(void)
+/* Lets the handlers of signals run, or returns -1 with the error that one raised; and other threads, 10 ms after `turn`. One that
+ * waits asks for the GIL after 5 ms (sys.getswitchinterval), and again 5 ms after each time that it was released. So more
+ * often would be too often: none would have asked, and this thread would get it back at once. */
+static int have_turn(clock_t *turn)
 {
-    PyEval_RestoreThread(PyEval_SaveThread());
+    clock_t now = clock();
+
+    if (now - *turn >= CLOCKS_PER_SEC / 100) {
+        PyEval_RestoreThread(PyEval_SaveThread());
+        *turn = now;
+    }
     return PyErr_CheckSignals();
 }
 
 /* Decodes a chunk, and returns the list of outcomes. */
 static PyObject *decoder_outcomes(Decoder *self, PyObject *chunk, PyObject *classes)
 {
-    size_t at = 0, turn = TURN, len = (size_t)PyBytes_Size(chunk);
+    size_t at = 0, stop = TURN, len = (size_t)PyBytes_Size(chunk);
+    clock_t turn = clock();
     const unsigned char *bytes = start_of(chunk);
     PyObject *list = PyList_New(0);
 
@@ -82,9 +91,9 @@ static PyObject *decoder_outcomes(Decoder *self, PyObject *chunk, PyObject *clas
         int done = answer.status == JCOBS_MORE ? 0 : decoder_append(self, list, classes, answer);
 
         at += answer.consumed;
-        if (done == 0 && at >= turn && at < len) {
-            turn = at + TURN;
-            done = have_turn();
+        if (done == 0 && at >= stop && at < len) {
+            stop = at + TURN;
+            done = have_turn(&turn);
         }
         if (done < 0)
             Py_CLEAR(list);
