@@ -5,8 +5,6 @@ from pathlib import Path
 
 TOP = Path(__file__).resolve().parent.parent
 FILE_MOST, FUNCTION_MOST = 450, 40
-# To be divided: its loop over rows of zeros would be a function of its own.
-LONGER = {"append_windows": 47}
 LIBRARIES = ("cobs_bytes", "cobs", "cobs_abi", "cobs_c", "cobs_small")
 USE = re.compile(r"^(pub )?use ([\w:]+?)(?:::\{(.*?)\}|::(\w+|\*))?;", re.M | re.S)
 
@@ -83,7 +81,7 @@ def long_pieces(path):
         if begun and begun[2] is None and (line.endswith("{") or line == begun[0] + "{") and not line.strip().startswith("ensures"):
             begun = (*begun[:2], at)
         if begun and begun[2] is not None and line == begun[0] + "}":
-            if at - begun[2] - 1 > LONGER.get(begun[1], FUNCTION_MOST):
+            if at - begun[2] - 1 > FUNCTION_MOST:
                 yield f"{where}: the body of {begun[1]} has {at - begun[2] - 1} lines, more than {FUNCTION_MOST}"
             begun = None
 
