@@ -12,14 +12,13 @@ pub const STRETCH: usize = 3 * WIDE_WINDOW;
 /// Copies the first `len` bytes, at least 64, each XORed with the sentinel, up to the first 64 of which one is the sentinel,
 /// and returns how many: in windows of 64 bytes, of which the last may overlap the one before it.
 #[inline(always)]
-fn copy_nonzero(source: &[u8], len: usize, dest: &mut [u8], at: usize, sentinel: u8) -> usize
+fn copy_nonzero(source: &[u8], len: usize, dest: &mut [u8], sentinel: u8) -> usize
     requires some { 64 ≤ len }
     requires source { len ≤ length source.now }
-    requires room { at + len ≤ length dest.old }
+    requires room { len ≤ length dest.old }
     ensures within { result ≤ len }
     ensures nonzero { HasNoZero (take result (xor_each sentinel source.now)) }
-    ensures copied { dest.new ≡ take at dest.old
-        ++ (take result (xor_each sentinel source.now) ++ drop (at + result) dest.old) }
+    ensures copied { dest.new ≡ take result (xor_each sentinel source.now) ++ drop result dest.old }
 {
     let mut done = 0;
     'by_window: while done < len {
@@ -28,7 +27,7 @@ fn copy_nonzero(source: &[u8], len: usize, dest: &mut [u8], at: usize, sentinel:
         if bytes.simd_eq(u8x64::splat(0)).to_bitmask() != 0 {
             return done;
         }
-        bytes.copy_to_slice(&mut dest[at + start..]);
+        bytes.copy_to_slice(&mut dest[start..]);
         done = start + WIDE_WINDOW;
     }
     done
@@ -40,86 +39,74 @@ pub fn copy_windows<const N: usize>(
     source: &[u8],
     len: usize,
     dest: &mut [u8],
-    at: usize,
     sentinel: u8,
 ) -> usize
     requires some { 64 ≤ len }
     requires source { len ≤ length source.now }
-    requires room { at + len ≤ length dest.old }
+    requires room { len ≤ length dest.old }
     ensures within { result ≤ len }
     ensures nonzero { HasNoZero (take result (xor_each sentinel source.now)) }
-    ensures copied { dest.new ≡ take at dest.old
-        ++ (take result (xor_each sentinel source.now) ++ drop (at + result) dest.old) }
+    ensures copied { dest.new ≡ take result (xor_each sentinel source.now) ++ drop result dest.old }
 {
     if len == N {
-        return copy_nonzero(source, N, dest, at, sentinel);
+        return copy_nonzero(source, N, dest, sentinel);
     }
-    copy_nonzero(source, len, dest, at, sentinel)
+    copy_nonzero(source, len, dest, sentinel)
 }
 
-/// Copies the first of the 32 bytes from `read` on, up to a sentinel, with one load and one store, however many they are,
-/// and returns how many.
+/// Copies the first of 32 bytes, up to a sentinel, with one load and one store, however many they are, and returns how many.
 #[inline(always)]
-fn copy_window_to_zero(
-    source: &[u8],
-    read: usize,
-    dest: &mut [u8],
-    at: usize,
-    sentinel: u8,
-) -> usize
-    requires source { read + 32 ≤ length source.now }
-    requires room { at + 32 ≤ length dest.old }
+fn copy_window_to_zero(source: &[u8], dest: &mut [u8], sentinel: u8) -> usize
+    requires source { 32 ≤ length source.now }
+    requires room { 32 ≤ length dest.old }
     ensures within { result ≤ 32 }
-    ensures nonzero { HasNoZero (take result (drop read (xor_each sentinel source.now))) }
-    ensures some { slice_index (xor_each sentinel source.now) read ≢ 0 → 0 < result }
-    ensures copied { dest.new ≡ take at dest.old
-        ++ (take result (drop read (xor_each sentinel source.now)) ++ drop (at + result) dest.old) }
+    ensures nonzero { HasNoZero (take result (xor_each sentinel source.now)) }
+    ensures some { slice_index (xor_each sentinel source.now) 0 ≢ 0 → 0 < result }
+    ensures copied { dest.new ≡ take result (xor_each sentinel source.now) ++ drop result dest.old }
 {
     let places = u8x32::from_array([
         0, 1, 2, 3, 4, 5, 6, 7, 8, 9, 10, 11, 12, 13, 14, 15, 16, 17, 18, 19, 20, 21, 22, 23, 24,
         25, 26, 27, 28, 29, 30, 31,
     ]);
-    let bytes = u8x32::from_slice(&source[read..]) ^ u8x32::splat(sentinel);
+    let bytes = u8x32::from_slice(source) ^ u8x32::splat(sentinel);
     let zeros = bytes.simd_eq(u8x32::splat(0)).to_bitmask();
     let len = (zeros.trailing_zeros() as usize).min(WINDOW);
-    let kept = u8x32::from_slice(&dest[at..]);
+    let kept = u8x32::from_slice(dest);
     places
         .simd_lt(u8x32::splat(len as u8))
         .select(bytes, kept)
-        .copy_to_slice(&mut dest[at..]);
+        .copy_to_slice(dest);
     len
 }
 
 /// Copies the first of 64 bytes, up to a sentinel, and returns how many.
 #[inline(always)]
-fn copy_wide_to_zero(wide: &[u8], dest: &mut [u8], at: usize, sentinel: u8) -> usize
+fn copy_wide_to_zero(wide: &[u8], dest: &mut [u8], sentinel: u8) -> usize
     requires source { 64 ≤ length wide.now }
-    requires room { at + 64 ≤ length dest.old }
+    requires room { 64 ≤ length dest.old }
     ensures within { result ≤ 64 }
     ensures nonzero { HasNoZero (take result (xor_each sentinel wide.now)) }
     ensures some { slice_index (xor_each sentinel wide.now) 0 ≢ 0 → 0 < result }
-    ensures copied { dest.new ≡ take at dest.old
-        ++ (take result (xor_each sentinel wide.now) ++ drop (at + result) dest.old) }
+    ensures copied { dest.new ≡ take result (xor_each sentinel wide.now) ++ drop result dest.old }
 {
-    let front = copy_window_to_zero(wide, 0, dest, at, sentinel);
+    let front = copy_window_to_zero(wide, dest, sentinel);
     if front < WINDOW {
         return front;
     }
-    WINDOW + copy_window_to_zero(wide, WINDOW, dest, at + WINDOW, sentinel)
+    WINDOW + copy_window_to_zero(&wide[WINDOW..], &mut dest[WINDOW..], sentinel)
 }
 
 /// Copies the first of at most 32 bytes, up to a sentinel, and returns how many.
-fn copy_few_to_zero(few: &[u8], dest: &mut [u8], at: usize, sentinel: u8) -> usize
+fn copy_few_to_zero(few: &[u8], dest: &mut [u8], sentinel: u8) -> usize
     requires some { 0 < length few.now }
     requires few { length few.now ≤ 32 }
-    requires room { at + length few.now ≤ length dest.old }
+    requires room { length few.now ≤ length dest.old }
     ensures within { result ≤ length few.now }
     ensures nonzero { HasNoZero (take result (xor_each sentinel few.now)) }
     ensures some { slice_index (xor_each sentinel few.now) 0 ≢ 0 → 0 < result }
-    ensures copied { dest.new ≡ take at dest.old
-        ++ (take result (xor_each sentinel few.now) ++ drop (at + result) dest.old) }
+    ensures copied { dest.new ≡ take result (xor_each sentinel few.now) ++ drop result dest.old }
 {
-    if copy_xored_short(few, &mut dest[at..], sentinel) {
+    if copy_xored_short(few, dest, sentinel) {
         return few.len();
     }
     'by_byte: for i in 0..few.len() {
@@ -127,7 +114,7 @@ fn copy_few_to_zero(few: &[u8], dest: &mut [u8], at: usize, sentinel: u8) -> usi
         if byte == 0 {
             return i;
         }
-        dest[at + i] = byte;
+        dest[i] = byte;
     }
     few.len()
 }
@@ -135,29 +122,26 @@ fn copy_few_to_zero(few: &[u8], dest: &mut [u8], at: usize, sentinel: u8) -> usi
 /// Copies the first bytes of a chunk, each XORed with the sentinel, up to a sentinel: up to 192 of them, or fewer of a
 /// shorter chunk; and returns how many, none only if the first is the sentinel.
 #[inline(always)]
-pub fn copy_to_zero(chunk: &[u8], dest: &mut [u8], at: usize, sentinel: u8) -> usize
-    requires room { 0 < length chunk.now → at + length chunk.now ≤ length dest.old }
+pub fn copy_to_zero(chunk: &[u8], dest: &mut [u8], sentinel: u8) -> usize
+    requires some { 0 < length chunk.now }
+    requires room { length chunk.now ≤ length dest.old }
     ensures within { result ≤ length chunk.now }
     ensures few { result ≤ 192 }
     ensures some { slice_index (xor_each sentinel chunk.now) 0 ≢ 0 → 0 < result }
     ensures nonzero { HasNoZero (take result (xor_each sentinel chunk.now)) }
-    ensures copied { 0 < result → dest.new ≡ take at dest.old
-        ++ (take result (xor_each sentinel chunk.now) ++ drop (at + result) dest.old) }
-    ensures kept { result ≡ 0 → dest.new ≡ dest.old }
+    ensures copied { dest.new ≡ take result (xor_each sentinel chunk.now) ++ drop result dest.old }
 {
     if WIDE_WINDOW <= chunk.len() {
         let most = chunk.len().min(STRETCH);
-        let len = copy_windows::<STRETCH>(chunk, most, dest, at, sentinel);
+        let len = copy_windows::<STRETCH>(chunk, most, dest, sentinel);
         if len > 0 {
             return len;
         }
-        copy_wide_to_zero(chunk, dest, at, sentinel)
+        copy_wide_to_zero(chunk, dest, sentinel)
     } else if WINDOW <= chunk.len() {
-        copy_window_to_zero(chunk, 0, dest, at, sentinel)
-    } else if chunk.is_empty() {
-        0
+        copy_window_to_zero(chunk, dest, sentinel)
     } else {
-        copy_few_to_zero(chunk, dest, at, sentinel)
+        copy_few_to_zero(chunk, dest, sentinel)
     }
 }
 

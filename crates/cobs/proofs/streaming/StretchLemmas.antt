@@ -95,6 +95,10 @@ put_over : (at written : ℕ) (dest ys out : List ℕ) → at + length out ≤ l
     → put_mid at (length dest - at) dest ys ≡ over at dest out
 put_over at written dest ys out room long front rest = grind (arith, drop_all, length-drop, take-append-drop, take_rest, drop-drop, append-nil)
 
+-- n bytes that were written to the front of a part
+pub part_put : (at n : ℕ) (dest ys xs : List ℕ) → ys ≡ xs ++ drop n (take (length dest - at) (drop at dest)) → put_mid at (length dest - at) dest ys ≡ take at dest ++ (xs ++ drop (at + n) dest)
+part_put at n dest ys xs is = grind (arith, drop_all, length-drop, take_rest, drop-drop, append-nil)
+
 -- THE OPEN BLOCK
 
 module _ (base : ℕ) (buffer xs : List ℕ) (room : base + length xs ≤ length buffer) where

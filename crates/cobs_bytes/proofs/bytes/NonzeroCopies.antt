@@ -14,18 +14,18 @@ pub or-none : (a b x y : ℕ) → a ≡ x → b ≡ y → bit_or a b ≡ 0 → (
 or-none a b x y p q none = grind (arith, le_or_l, le_or_r)
 
 -- done bytes are copied, and n more, from the one at start on
-module _ (source old dest : List ℕ) (at done start n : ℕ) (inside : start + n ≤ length source) (room : at + (start + n) ≤ length old) (before : start ≤ done) (behind : done ≤ start + n) where
+module _ (source : List ℕ) (done start n : ℕ) (inside : start + n ≤ length source) (before : start ≤ done) (behind : done ≤ start + n) where
   pub more-nonzero : HasNoZero (take done source) → HasNoZero (take n (drop start source)) → HasNoZero (take (start + n) source)
   more-nonzero first next = All-from_get_or (λ b. b ≢ 0) (take (start + n) source) 0 (λ i lt.
       let low = All-get_or (λ b. b ≢ 0) (take done source) i 0 in
       let high = All-get_or (λ b. b ≢ 0) (take n (drop start source)) (i - start) 0 in
       grind (arith, places))
 
-  pub more-copied : length dest ≡ length old → dest ≡ take at old ++ (take done source ++ drop (at + done) old)
-      → put_chunk (at + start) dest (take n (drop start source)) ≡ take at old ++ (take (start + n) source ++ drop (at + (start + n)) old)
-  more-copied same is =
-      put_is dest (take n (drop start source)) (at + start) n (length-chunk start n source (omega arith)) (omega arith)
-      ∙ ap (λ (x : List ℕ). take (at + start) x ++ (take n (drop start source) ++ drop (at + start + n) x)) is
+  pub more-copied : (old dest : List ℕ) → start + n ≤ length old → length dest ≡ length old → dest ≡ take done source ++ drop done old
+      → put_chunk start dest (take n (drop start source)) ≡ take (start + n) source ++ drop (start + n) old
+  more-copied old dest room same is =
+      put_is dest (take n (drop start source)) start n (length-chunk start n source (omega arith)) (omega arith)
+      ∙ ap (λ (x : List ℕ). take start x ++ (take n (drop start source) ++ drop (start + n) x)) is
       ∙ same_lists _ _ (search (rules, places)) (λ k d h. grind (arith, places))
 
 -- two parts of n bytes, which may overlap

@@ -45,7 +45,7 @@ module _ (source dest : List ℕ) (s n : ℕ) (long : n ≤ length source) (shor
       let l = h-long in
       let clear = or-none _ _ _ _ (mask-is source s n 0 small (omega arith)) (mask-is source s n at small (omega arith)) none in
       subst HasNoZero whole
-      (more-nonzero h dest dest 0 n at n (omega arith) (omega arith) (omega arith) (omega arith) (zero_mask-none (take n h) clear.0) (zero_mask-none (take n (drop at h)) clear.1))
+      (more-nonzero h n at n (omega arith) (omega arith) (omega arith) (zero_mask-none (take n h) clear.0) (zero_mask-none (take n (drop at h)) clear.1))
 
   pub parts-copied : put_chunk at (put_chunk 0 dest (part source s n 0)) (part source s n at) ≡ h ++ drop (length source) dest
   parts-copied =

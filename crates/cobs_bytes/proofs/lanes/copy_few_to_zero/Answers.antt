@@ -1,4 +1,4 @@
-use Rattle.std.proofs.Common.{◌≡◌, ◌≢◌, ◌+◌, ◌++◌, ◌∙◌, ℕ, List, length, take, drop, get_or, bit_xor, sym, ap, arith, append_assoc}
+use Rattle.std.proofs.Common.{◌≡◌, ◌≢◌, ◌++◌, ◌∙◌, ℕ, List, length, take, drop, get_or, bit_xor, sym, ap, arith, append_assoc}
 use Rattle.std.proofs.Math.ListN.{set}
 use lib.Seq.{paste}
 use Rattle.std.proofs.lemmas.List.{get_or-map, length-map}
@@ -16,8 +16,8 @@ by_byte-preserved c =
     let long : length h ≡ length few = length-map few (λ (b : ℕ). bit_xor b c.args.sentinel) in
     let byte : bit_xor (get_or few i 0) c.args.sentinel ≡ get_or h i 0 = sym (get_or-map (λ b. bit_xor b c.args.sentinel) few i 0 0 (omega arith)) in
     record {
-      copied = ap (λ (x : List ℕ). set x (c.args.at + i) (bit_xor (get_or few i 0) c.args.sentinel)) c.by_byte.invariant.copied
-          ∙ ap (set (take c.args.at dest ++ (take i h ++ drop (c.args.at + i) dest)) (c.args.at + i)) byte
-          ∙ (let more = paste_more dest c.args.at h i 0 (omega arith) (omega arith) in grind (arith, paste, append_assoc));
+      copied = ap (λ (x : List ℕ). set x i (bit_xor (get_or few i 0) c.args.sentinel)) c.by_byte.invariant.copied
+          ∙ ap (set (take i h ++ drop i dest) i) byte
+          ∙ (let more = paste_more dest 0 h i 0 (omega arith) (omega arith) in grind (arith, paste, append_assoc));
       nonzero = All-more (λ b. b ≢ 0) h i 0 (omega arith) c.by_byte.invariant.nonzero (rw byte at c.if-byte-eq0.false);
     }

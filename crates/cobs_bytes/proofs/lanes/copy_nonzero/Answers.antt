@@ -1,4 +1,4 @@
-use Rattle.std.proofs.Common.{◌≡◌, ◌+◌, List, ℕ, bit_xor, length, take, drop, sym, ap, ◌∙◌, arith}
+use Rattle.std.proofs.Common.{◌≡◌, List, ℕ, bit_xor, length, take, drop, sym, ap, ◌∙◌, arith}
 use Rattle.std.proofs.lemmas.List.{length-map}
 use Rattle.cobs_bytes.specs.Bytes.{xor_each}
 use Rattle.cobs_bytes.proofs.bytes.MaskLemmas.{zero_mask-none}
@@ -17,8 +17,8 @@ by_window-preserved c =
     let is = c.min-start.ensures in
     record {
       within = omega arith;
-      copied = ap (put_chunk (c.args.at + start) c.by_window.dest) (part-is source c.args.sentinel 64 start (omega arith))
-          ∙ more-copied h c.args.dest.now c.by_window.dest c.args.at c.by_window.done start 64 (omega arith) (omega arith) (omega arith) (omega arith) (omega arith) i.copied;
-      nonzero = more-nonzero h c.args.dest.now c.by_window.dest c.args.at c.by_window.done start 64 (omega arith) (omega arith) (omega arith) (omega arith) i.nonzero
+      copied = ap (put_chunk start c.by_window.dest) (part-is source c.args.sentinel 64 start (omega arith))
+          ∙ more-copied h c.by_window.done start 64 (omega arith) (omega arith) (omega arith) c.args.dest.now c.by_window.dest (omega arith) (omega arith) i.copied;
+      nonzero = more-nonzero h c.by_window.done start 64 (omega arith) (omega arith) (omega arith) i.nonzero
           (zero_mask-none (take 64 (drop start h)) (sym (mask-is source c.args.sentinel 64 start (omega arith) (omega arith)) ∙ c.if-bytes-ne0.false));
     }

@@ -2,8 +2,8 @@ use Rattle.std.proofs.Common.{◌≡◌, ◌≤◌, ◌+◌, ◌-◌, ◌++◌, 
 use Rattle.std.proofs.Math.Dec.{ltb}
 use Rattle.std.proofs.Math.Nat.{sub-zero}
 use Rattle.std.proofs.lemmas.Bool.{lt-ltb, le-ltb, cases_lt, cases_eq}
-use Rattle.std.proofs.lemmas.List.{get_or-drop, get_or-take, length-map, take-take, take_all, drop_all, drop-append-le, drop-drop}
-use Rattle.std.proofs.lemmas.Simd.{chunk-drop, length-chunk, length-sel_l}
+use Rattle.std.proofs.lemmas.List.{take-append-drop, get_or-take, length-map, take-take, take_all, drop_all, drop-append-le}
+use Rattle.std.proofs.lemmas.Simd.{length-chunk, length-sel_l}
 use Rattle.std.specs.List.{range_with_len}
 use Rattle.std.specs.Int.Count.{count_trailing_zeros, trailing_of_zero}
 use lib.Lanes.{put_chunk, sel_l, top}
@@ -38,47 +38,45 @@ selected (suc n) from len (x ∷ xs) (y ∷ ys) l k =
           ∙ ap (λ (m : ℕ). take m (x ∷ xs) ++ drop m (y ∷ ys)) {x = 0} {y = len - from} (omega arith)
     ]
 
-module _ (source : List ℕ) (read s : ℕ) (inside : read + 32 ≤ length source) where
+module _ (source : List ℕ) (s : ℕ) (inside : 32 ≤ length source) where
   abbrev window : List ℕ
-  window = take 32 (drop read (xor_each s source))
+  window = take 32 (xor_each s source)
 
   window-long : length window ≡ 32
-  window-long = length-chunk read 32 (xor_each s source) (omega (arith, length-map source (λ (b : ℕ). bit_xor b s)))
+  window-long = length-chunk 0 32 (xor_each s source) (omega (arith, length-map source (λ (b : ℕ). bit_xor b s)))
 
-  first_of_window : (len : ℕ) → len ≤ 32 → len ≤ count_trailing_zeros 64 (mask source s 32 read) → HasNoZero (take len (drop read (xor_each s source)))
-  first_of_window len few low = subst HasNoZero (take-take len 32 (drop read (xor_each s source)) few)
-      (clear_front window len (omega (arith, window-long)) (subst (λ (m : ℕ). len ≤ count_trailing_zeros 64 m) (mask-is source s 32 read (omega arith) inside) low))
+  first_of_window : (len : ℕ) → len ≤ 32 → len ≤ count_trailing_zeros 64 (mask source s 32 0) → HasNoZero (take len (xor_each s source))
+  first_of_window len few low = subst HasNoZero (take-take len 32 (xor_each s source) few)
+      (clear_front window len (omega (arith, window-long)) (subst (λ (m : ℕ). len ≤ count_trailing_zeros 64 m) (mask-is source s 32 0 (omega arith) inside) low))
 
-  none_first : count_trailing_zeros 64 (mask source s 32 read) ≡ 0 → get_or (xor_each s source) read 0 ≡ 0
+  none_first : count_trailing_zeros 64 (mask source s 32 0) ≡ 0 → get_or (xor_each s source) 0 0 ≡ 0
   none_first low =
-      let here : count_trailing_zeros 64 (zero_mask window) ≡ 0 = ap (count_trailing_zeros 64) (sym (mask-is source s 32 read (omega arith) inside)) ∙ low in
+      let here : count_trailing_zeros 64 (zero_mask window) ≡ 0 = ap (count_trailing_zeros 64) (sym (mask-is source s 32 0 (omega arith) inside)) ∙ low in
       elim (cases_eq (zero_mask window) 0) [
         | inl none ↦ (let n : count_trailing_zeros 64 (zero_mask window) ≡ 64 = ap (count_trailing_zeros 64) none ∙ trailing_of_zero 64 in absurd (omega arith))
         | inr some ↦ (let l = lowest_bit window (omega (arith, window-long)) some in
-            ap (λ (k : ℕ). get_or (xor_each s source) k 0) (omega arith) ∙ sym (get_or-drop read (xor_each s source) 0 0) ∙ sym (get_or-take 32 (drop read (xor_each s source)) 0 0 (omega arith)) ∙ ap (λ (k : ℕ). get_or window k 0) (omega arith) ∙ nonzero_len-at window some)
+            sym (get_or-take 32 (xor_each s source) 0 0 (omega arith)) ∙ ap (λ (k : ℕ). get_or window k 0) (omega arith) ∙ nonzero_len-at window some)
       ]
 
 pub returns-clause-nonzero : goal.returns-clause-nonzero
-returns-clause-nonzero c = first_of_window c.args.source.now c.args.read c.args.sentinel c.requires.source c.min-len.result (omega (arith, c.min-len.ensures)) (omega (arith, c.min-len.ensures))
+returns-clause-nonzero c = first_of_window c.args.source.now c.args.sentinel c.requires.source c.min-len.result (omega (arith, c.min-len.ensures)) (omega (arith, c.min-len.ensures))
 
 pub returns-clause-some : goal.returns-clause-some
-returns-clause-some c nonzero = elim (cases_lt 0 c.min-len.result) [ inl some ↦ some | inr none ↦ absurd (nonzero (none_first c.args.source.now c.args.read c.args.sentinel c.requires.source (omega (arith, c.min-len.ensures)))) ]
+returns-clause-some c nonzero = elim (cases_lt 0 c.min-len.result) [ inl some ↦ some | inr none ↦ absurd (nonzero (none_first c.args.source.now c.args.sentinel c.requires.source (omega (arith, c.min-len.ensures)))) ]
 
 pub returns-clause-copied : goal.returns-clause-copied
 unfolding places_below
 returns-clause-copied c =
-    let h : List ℕ = drop c.args.read (xor_each c.args.sentinel c.args.source.now) in
+    let h : List ℕ = xor_each c.args.sentinel c.args.source.now in
     let dest : List ℕ = c.args.dest.now in
-    let here : ℕ = c.args.at in
     let len : ℕ = c.min-len.result in
-    let old : List ℕ = take 32 (drop here dest) in
+    let old : List ℕ = take 32 dest in
     let new : List ℕ = take 32 h in
     let few : len ≤ 32 = omega (arith, c.min-len.ensures) in
-    let old-long : length old ≡ 32 = length-chunk here 32 dest c.requires.room in
-    let new-long : length new ≡ 32 = window-long c.args.source.now c.args.read c.args.sentinel c.requires.source in
+    let old-long : length old ≡ 32 = length-chunk 0 32 dest c.requires.room in
+    let new-long : length new ≡ 32 = window-long c.args.source.now c.args.sentinel c.requires.source in
     let is : sel_l (places_below len 0 32) new old ≡ take len h ++ drop len old = selected 32 0 len new old new-long old-long ∙ rw (sub-zero, take-take len 32 h few) in
-    let rest : drop len old ++ drop (here + 32) dest ≡ drop (here + len) dest =
-    sym (drop-append-le len old (drop (here + 32) dest) (omega arith)) ∙ ap (drop len) (sym (chunk-drop here 32 dest)) ∙ drop-drop len here dest in
-    ap (λ (x : List ℕ). put_chunk here dest (sel_l (places_below len 0 32) x old)) (part-is c.args.source.now c.args.sentinel 32 c.args.read c.requires.source)
-    ∙ put_is dest (sel_l (places_below len 0 32) new old) here 32 (length-sel_l (places_below len 0 32) new old (sym new-long) (sym old-long)) c.requires.room
-    ∙ rw (is, append_assoc (take len h) (drop len old) (drop (here + 32) dest), rest)
+    let rest : drop len old ++ drop 32 dest ≡ drop len dest = sym (drop-append-le len old (drop 32 dest) (omega arith)) ∙ ap (drop len) (take-append-drop 32 dest) in
+    ap (λ (x : List ℕ). put_chunk 0 dest (sel_l (places_below len 0 32) x old)) (part-is c.args.source.now c.args.sentinel 32 0 c.requires.source)
+    ∙ put_is dest (sel_l (places_below len 0 32) new old) 0 32 (length-sel_l (places_below len 0 32) new old (sym new-long) (sym old-long)) c.requires.room
+    ∙ rw (is, append_assoc (take len h) (drop len old) (drop 32 dest), rest)
