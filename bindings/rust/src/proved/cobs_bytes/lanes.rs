@@ -11,7 +11,7 @@ pub const STRETCH: usize = 3 * WIDE_WINDOW;
 /// Copies the first `len` bytes, at least 64, each XORed with the sentinel, up to the first 64 of which one is the sentinel,
 /// and returns how many: in windows of 64 bytes, of which the last may overlap the one before it.
 #[inline(always)]
-fn copy_nonzero(source: &[u8], len: usize, dest: &mut [u8], at: usize, sentinel: u8) -> usize {
+fn copy_nonzero(source: &[u8], len: usize, dest: &mut [u8], sentinel: u8) -> usize {
     let mut done = 0;
     'by_window: while done < len {
         let start = done.min(len - WIDE_WINDOW);
@@ -19,7 +19,7 @@ fn copy_nonzero(source: &[u8], len: usize, dest: &mut [u8], at: usize, sentinel:
         if bytes.simd_eq(u8x64::splat(0)).to_bitmask() != 0 {
             return done;
         }
-        bytes.copy_to_slice(&mut dest[at + start..]);
+        bytes.copy_to_slice(&mut dest[start..]);
         done = start + WIDE_WINDOW;
     }
     done
@@ -31,53 +31,45 @@ pub fn copy_windows<const N: usize>(
     source: &[u8],
     len: usize,
     dest: &mut [u8],
-    at: usize,
     sentinel: u8,
 ) -> usize {
     if len == N {
-        return copy_nonzero(source, N, dest, at, sentinel);
+        return copy_nonzero(source, N, dest, sentinel);
     }
-    copy_nonzero(source, len, dest, at, sentinel)
+    copy_nonzero(source, len, dest, sentinel)
 }
 
-/// Copies the first of the 32 bytes from `read` on, up to a sentinel, with one load and one store, however many they are,
-/// and returns how many.
+/// Copies the first of 32 bytes, up to a sentinel, with one load and one store, however many they are, and returns how many.
 #[inline(always)]
-fn copy_window_to_zero(
-    source: &[u8],
-    read: usize,
-    dest: &mut [u8],
-    at: usize,
-    sentinel: u8,
-) -> usize {
+fn copy_window_to_zero(source: &[u8], dest: &mut [u8], sentinel: u8) -> usize {
     let places = u8x32::from_array([
         0, 1, 2, 3, 4, 5, 6, 7, 8, 9, 10, 11, 12, 13, 14, 15, 16, 17, 18, 19, 20, 21, 22, 23, 24,
         25, 26, 27, 28, 29, 30, 31,
     ]);
-    let bytes = u8x32::from_slice(&source[read..]) ^ u8x32::splat(sentinel);
+    let bytes = u8x32::from_slice(source) ^ u8x32::splat(sentinel);
     let zeros = bytes.simd_eq(u8x32::splat(0)).to_bitmask();
     let len = (zeros.trailing_zeros() as usize).min(WINDOW);
-    let kept = u8x32::from_slice(&dest[at..]);
+    let kept = u8x32::from_slice(dest);
     places
         .simd_lt(u8x32::splat(len as u8))
         .select(bytes, kept)
-        .copy_to_slice(&mut dest[at..]);
+        .copy_to_slice(dest);
     len
 }
 
 /// Copies the first of 64 bytes, up to a sentinel, and returns how many.
 #[inline(always)]
-fn copy_wide_to_zero(wide: &[u8], dest: &mut [u8], at: usize, sentinel: u8) -> usize {
-    let front = copy_window_to_zero(wide, 0, dest, at, sentinel);
+fn copy_wide_to_zero(wide: &[u8], dest: &mut [u8], sentinel: u8) -> usize {
+    let front = copy_window_to_zero(wide, dest, sentinel);
     if front < WINDOW {
         return front;
     }
-    WINDOW + copy_window_to_zero(wide, WINDOW, dest, at + WINDOW, sentinel)
+    WINDOW + copy_window_to_zero(&wide[WINDOW..], &mut dest[WINDOW..], sentinel)
 }
 
 /// Copies the first of at most 32 bytes, up to a sentinel, and returns how many.
-fn copy_few_to_zero(few: &[u8], dest: &mut [u8], at: usize, sentinel: u8) -> usize {
-    if copy_xored_short(few, &mut dest[at..], sentinel) {
+fn copy_few_to_zero(few: &[u8], dest: &mut [u8], sentinel: u8) -> usize {
+    if copy_xored_short(few, dest, sentinel) {
         return few.len();
     }
     'by_byte: for i in 0..few.len() {
@@ -85,7 +77,7 @@ fn copy_few_to_zero(few: &[u8], dest: &mut [u8], at: usize, sentinel: u8) -> usi
         if byte == 0 {
             return i;
         }
-        dest[at + i] = byte;
+        dest[i] = byte;
     }
     few.len()
 }
@@ -93,20 +85,18 @@ fn copy_few_to_zero(few: &[u8], dest: &mut [u8], at: usize, sentinel: u8) -> usi
 /// Copies the first bytes of a chunk, each XORed with the sentinel, up to a sentinel: up to 192 of them, or fewer of a
 /// shorter chunk; and returns how many, none only if the first is the sentinel.
 #[inline(always)]
-pub fn copy_to_zero(chunk: &[u8], dest: &mut [u8], at: usize, sentinel: u8) -> usize {
+pub fn copy_to_zero(chunk: &[u8], dest: &mut [u8], sentinel: u8) -> usize {
     if WIDE_WINDOW <= chunk.len() {
         let most = chunk.len().min(STRETCH);
-        let len = copy_windows::<STRETCH>(chunk, most, dest, at, sentinel);
+        let len = copy_windows::<STRETCH>(chunk, most, dest, sentinel);
         if len > 0 {
             return len;
         }
-        copy_wide_to_zero(chunk, dest, at, sentinel)
+        copy_wide_to_zero(chunk, dest, sentinel)
     } else if WINDOW <= chunk.len() {
-        copy_window_to_zero(chunk, 0, dest, at, sentinel)
-    } else if chunk.is_empty() {
-        0
+        copy_window_to_zero(chunk, dest, sentinel)
     } else {
-        copy_few_to_zero(chunk, dest, at, sentinel)
+        copy_few_to_zero(chunk, dest, sentinel)
     }
 }
 

@@ -45,7 +45,7 @@ impl UnbufferedDecoder {
         if len < WIDE_WINDOW || bytes.len() <= len || dest.len().saturating_sub(at) < len {
             return 1;
         }
-        let copied = copy_windows::<FULL_BLOCK_BYTES>(&bytes[1..], len, dest, at, sentinel);
+        let copied = copy_windows::<FULL_BLOCK_BYTES>(&bytes[1..], len, &mut dest[at..], sentinel);
         self.dest_idx = at + copied;
         self.left -= copied as u8;
         1 + copied
@@ -58,7 +58,10 @@ impl UnbufferedDecoder {
         let at = self.dest_idx;
         let left = self.left as usize;
         let most = self.stretch_len(bytes.len().min(dest.len().saturating_sub(at)));
-        let len = copy_to_zero(&bytes[..most], dest, at, sentinel);
+        if most == 0 {
+            return 0;
+        }
+        let len = copy_to_zero(&bytes[..most], &mut dest[at..], sentinel);
         self.dest_idx = at + len;
         if len <= left {
             self.left -= len as u8;
