@@ -172,15 +172,6 @@ module _ {H : List ℕ → Type 0} {source old slice : List ℕ} {end read len i
         reaches = Reaches-at (ap (set slice index) code) (omega arith) (omega arith) (omega arith) (λ full p. p) closed;
       })
 
--- a code at the first zero of a window, which is at this place
-pub marks-first : {H : List ℕ → Type 0} {source old slice after : List ℕ} {end read len index next zeros : ℕ} (place : ℕ) → Copied H source old slice after end read len index next zeros → zeros ≢ 0
-    → place ≡ next + min (count_trailing_zeros 64 zeros) 32 → place < index + 255 → Marks H source old (set after index (place - index)) end read len place next (bit_and zeros (zeros - 1))
-marks-first {next} {zeros} place w some is near =
-    let few = w.few in
-    let first = first-within w some in
-    let there : place ≡ next + count_trailing_zeros 64 zeros = omega arith in
-    rw there (marks-step (marks-start w (omega arith)) some (length-after w))
-
 -- a window that is taken whole, and leaves its block open
 pub record WindowTaken (H : List ℕ → Type 0) (source old slice : List ℕ) (end read len index next : ℕ) : Type 0 where
   pub ordered : index < next + len

@@ -219,29 +219,36 @@ pub(crate) fn append_windows(
     ensures taken { TakesFront dest.old (reached_at start) source.now result.0
         dest.new (reached_at result.1) }
 {
-    let mut index = start.index;
+    let (mut index, mut read) = (start.index, 0);
     let mut next = index + start.code as usize;
-    let mut read = 0;
     if source.len() <= WINDOW {
         return (0, start);
     }
     let last = source.len() - WINDOW;
     'by_window: while read < last {
         let window = copy_at::<32>(source, read, dest, next);
-        let place = next + (window.trailing_zeros() as usize).min(WINDOW);
-        if place - index < FULL_CODE {
-            let mut taken = WINDOW;
-            if window == ALL_ZEROS {
-                dest[index] = (next - index) as u8;
-                taken = write_codes_of_zeros(&source[read..], dest, next);
-                index = next + taken - 1;
-            } else if window != 0 {
-                dest[index] = (place - index) as u8;
-                index = mark_zeros(dest, place, next, window & (window - 1));
+        if window == 0 {
+            if next - index < FULL_CODE - WINDOW {
+                read += WINDOW;
+                next += WINDOW;
+                continue;
             }
-            read += taken;
-            next += taken;
-            continue;
+        } else {
+            let place = next + window.trailing_zeros() as usize;
+            if place - index < FULL_CODE {
+                dest[index] = (place - index) as u8;
+                if window == ALL_ZEROS {
+                    let zeros = write_codes_of_zeros(&source[read..], dest, next);
+                    read += zeros;
+                    next += zeros;
+                    index = next - 1;
+                    continue;
+                }
+                index = mark_zeros(dest, place, next, window & (window - 1));
+                read += WINDOW;
+                next += WINDOW;
+                continue;
+            }
         }
         dest[index] = FULL_CODE as u8;
         index += FULL_CODE;
