@@ -155,8 +155,7 @@ impl<R: Read> FrameSource for Recorded<R> {
 
 /// What a piece that ended so comes to.
 fn next_at(end: PieceEnd) -> Next
-    ensures { (buffer : List ℕ) → IsCountWithin (length buffer) end
-        → IsOutcome result buffer (outcome_at end buffer) }
+    ensures { (buffer : List ℕ) → IsCountWithin (length buffer) end → IsOutcome result buffer (outcome_at end buffer) }
 {
     match end {
         PieceEnd::Message(n) => Next::Message(n),
@@ -258,11 +257,9 @@ impl<D: FrameDecoder> FrameReader<D> {
             → ReportsFirst found.0 p bytes.now
             (D.bytes (decoder_of self.new)) (drop found.1 bytes.now)) }
         ensures within { IfSome result (λ found. found.1 ≤ length bytes.now) }
-        ensures bound { IfSome result
-            (λ found. IsNextWithin (length (D.bytes (decoder_of self.new))) found.0) }
+        ensures bound { IfSome result (λ found. IsNextWithin (length (D.bytes (decoder_of self.new))) found.0) }
         ensures idle { OnSome result (ReaderAfter (reader_state D.bytes D.phase self.new) []) }
-        ensures len { length (D.bytes (decoder_of self.new))
-            ≡ length (D.bytes (decoder_of self.old)) }
+        ensures len { length (D.bytes (decoder_of self.new)) ≡ length (D.bytes (decoder_of self.old)) }
         ensures same_loan { D.loan (decoder_of self.new) ≡ D.loan (decoder_of self.old) }
         ensures same_chunk { self.new.chunk ≡ self.old.chunk }
         ensures same_start { self.new.start ≡ self.old.start }
@@ -305,10 +302,8 @@ impl<D: FrameDecoder> FrameReader<D> {
     pub fn next_frame<S: FrameSource>(&mut self, source: &mut S) -> Result<Next, ReadFault>
         ensures next { ReadsNext S.step source.old source.new
             (reader_state D.bytes D.phase self.old) result (reader_state D.bytes D.phase self.new) }
-        ensures bound { IfOk result
-            (λ next. IsNextWithin (length (D.bytes (decoder_of self.new))) next) }
-        ensures len { length (D.bytes (decoder_of self.new))
-            ≡ length (D.bytes (decoder_of self.old)) }
+        ensures bound { IfOk result (λ next. IsNextWithin (length (D.bytes (decoder_of self.new))) next) }
+        ensures len { length (D.bytes (decoder_of self.new)) ≡ length (D.bytes (decoder_of self.old)) }
         ensures same_loan { D.loan (decoder_of self.new) ≡ D.loan (decoder_of self.old) }
     {
         let kept = self.chunk;

@@ -102,8 +102,7 @@ pub fn decode_stream<D: FrameDecoder>(
         (DecoderAfter (D.bytes decoder.new) (D.phase decoder.new) (unended (p ++ bytes.now))) }
 
     // In every phase.
-    ensures out_of_memory { OnErr result
-        (DecoderAfter (D.bytes decoder.new) (D.phase decoder.new) []) }
+    ensures out_of_memory { OnErr result (DecoderAfter (D.bytes decoder.new) (D.phase decoder.new) []) }
     ensures len { length (D.bytes decoder.new) ≡ length (D.bytes decoder.old) }
     ensures same_loan { D.loan decoder.new ≡ D.loan decoder.old }
 {

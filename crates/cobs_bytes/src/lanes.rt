@@ -197,8 +197,7 @@ fn copy_xored_two<const N: usize>(source: &[u8], dest: &mut [u8], sentinel: u8) 
     requires few { length source.now ≤ N + N }
     requires room { length source.now ≤ length dest.old }
     ensures nonzero { IsTrue result → HasNoZero (xor_each sentinel source.now) }
-    ensures copied { IsTrue result
-        → dest.new ≡ xor_each sentinel source.now ++ drop (length source.now) dest.old }
+    ensures copied { IsTrue result → dest.new ≡ xor_each sentinel source.now ++ drop (length source.now) dest.old }
     ensures kept { result ≡ false → dest.new ≡ dest.old }
 {
     let at = source.len() - N;
@@ -221,8 +220,7 @@ pub fn copy_xored_short(source: &[u8], dest: &mut [u8], sentinel: u8) -> bool
     requires few { length source.now ≤ 64 }
     requires room { length source.now ≤ length dest.old }
     ensures nonzero { IsTrue result → HasNoZero (xor_each sentinel source.now) }
-    ensures copied { IsTrue result
-        → dest.new ≡ xor_each sentinel source.now ++ drop (length source.now) dest.old }
+    ensures copied { IsTrue result → dest.new ≡ xor_each sentinel source.now ++ drop (length source.now) dest.old }
     ensures kept { result ≡ false → dest.new ≡ dest.old }
 {
     by_width!(source.len(), copy_xored_two(source, dest, sentinel))

@@ -64,8 +64,7 @@ pub fn copy_at<const N: usize>(source: &[u8], read: usize, dest: &mut [u8], at: 
     requires lanes { N ≤ 64 }
     requires source { read + N ≤ length source.now }
     requires room { at + N ≤ length dest.old }
-    ensures copied { dest.new ≡ take at dest.old
-        ++ (take N (drop read source.now) ++ drop (at + N) dest.old) }
+    ensures copied { dest.new ≡ take at dest.old ++ (take N (drop read source.now) ++ drop (at + N) dest.old) }
     ensures zeros { result ≡ zero_mask (take N (drop read source.now)) }
 {
     let bytes = Simd::<u8, N>::from_slice(&source[read..]);
@@ -80,8 +79,7 @@ fn copy_two<const N: usize>(source: &[u8], dest: &mut [u8], at: usize) -> u64
     requires some { N ≤ length source.now }
     requires few { length source.now ≤ N + N }
     requires room { at + length source.now ≤ length dest.old }
-    ensures copied { dest.new ≡ take at dest.old
-        ++ (source.now ++ drop (at + length source.now) dest.old) }
+    ensures copied { dest.new ≡ take at dest.old ++ (source.now ++ drop (at + length source.now) dest.old) }
     ensures zeros { result ≡ zero_mask source.now }
 {
     let len = source.len();
@@ -100,8 +98,7 @@ pub fn copy_window(source: &[u8], dest: &mut [u8], at: usize) -> u64
     requires some { 0 < length source.now }
     requires few { length source.now ≤ 32 }
     requires room { at + length source.now ≤ length dest.old }
-    ensures copied { dest.new ≡ take at dest.old
-        ++ (source.now ++ drop (at + length source.now) dest.old) }
+    ensures copied { dest.new ≡ take at dest.old ++ (source.now ++ drop (at + length source.now) dest.old) }
     ensures zeros { result ≡ zero_mask source.now }
 {
     if source.len() == WINDOW {

@@ -82,6 +82,9 @@ fn push_stream(
     dest: &mut [u8],
     data: &[u8],
 ) -> (usize, Result<Option<DecodeReport>, DecodeError>) {
+    if data.len() <= FEW && decoder.take_short(dest, data) {
+        return (data.len(), Ok(None));
+    }
     let mut taken = 0;
     if data.len() <= FEW || has_zero(data) {
         let few = data.len().min(FEW);
@@ -91,7 +94,7 @@ fn push_stream(
         }
         taken = few;
     }
-    let pushed = decoder.push(dest, &data[taken..]);
+    let pushed = decoder.push_long(dest, &data[taken..]);
     after_push(decoder, dest, data, taken, pushed)
 }
 

@@ -1,15 +1,18 @@
 -- A push so far, and where it ends.
-use Rattle.std.proofs.Common.{◌≡◌, ℕ, ◌+◌, ◌<◌, cond, eqb, List, [], ◌∷◌, ◌++◌, length, take, get_or, refl, sym, ap, ◌∙◌, arith, Option, Some, None, Result, Ok, Err}
+use Rattle.std.proofs.Common.{◌≡◌, ℕ, ◌+◌, ◌<◌, ◌≤◌, cond, eqb, List, [], ◌∷◌, ◌++◌, length, take, drop, get_or, refl, sym, ap, ◌∙◌, arith, Option, Some, None, Result, Ok, Err}
 use Rattle.std.proofs.lemmas.List.{take_more, length_push, same_from_push}
 use Rattle.std.proofs.lemmas.Bool.{ne_eqb, eq-eqb}
 use borrow.Author.Count.{below_more}
 use Rattle.cobs.specs.Stream.{unended}
 use Rattle.cobs.specs.Feed.{Phase, Idle, PhaseAfter, result_for, Feeds}
 use Rattle.cobs.specs.FeedPiece.{TakesBytes, TakesPiece, end_reported}
+use Rattle.cobs.specs.Internal.FeedsQuietly.{FeedsQuietly}
 use Rattle.cobs.specs.Push.{FeedsInTurn, result_at, IsQuiet, StopsAfter, error_outcomes, PushesBytes}
 use Rattle.cobs.specs.Fields.Report.{report_of}
 use Rattle.cobs.specs.declared.error.DecodeError.{DecodeError}
 use Rattle.cobs.proofs.streaming.ByByteLemmas.{piece-nothing, piece-more, takes_behind, holds_behind, untouched_behind}
+use Rattle.cobs.proofs.streaming.FeedLemmas.{Feeds-step}
+use Rattle.cobs.proofs.streaming.RunLemmas.{ran-on}
 use Rattle.cobs.proofs.streaming.SoFar.{here, reported_by}
 
 -- a byte that is no zero returns no message
@@ -97,3 +100,10 @@ module _ {buffer₀ buffer buffer' : List ℕ} {phase₀ phase phase' : Phase} {
 -- no byte is left
 pub pushed_none : {buffer₀ buffer : List ℕ} {phase₀ phase : Phase} (bytes : List ℕ) (i : ℕ) → i ≡ length bytes → Pushed buffer₀ phase₀ buffer phase bytes i → PushesBytes buffer₀ phase₀ bytes (Ok None) buffer phase
 pushed_none {buffer₀} {buffer} {phase₀} {phase} bytes i all s = grind arith
+
+-- bytes that return `Ok(None)`, fed in turn
+pub pushed_fed : {buffer₀ buffer buffer' : List ℕ} {phase₀ phase phase' : Phase} (bytes : List ℕ) (i r : ℕ) → i + r ≤ length bytes → Pushed buffer₀ phase₀ buffer phase bytes i
+    → FeedsQuietly buffer phase (take r (drop i bytes)) buffer' phase' → Pushed buffer₀ phase₀ buffer' phase' bytes (i + r)
+pushed_fed {buffer₀} {phase₀ = phase₀} bytes i r within s f =
+    ran-on (λ buffer phase i. Pushed buffer₀ phase₀ buffer phase bytes i) bytes (λ buffer phase i within s quiet. Pushed-more bytes i within s (Feeds-step buffer phase (get_or bytes i 0)) quiet)
+    _ _ _ _ i r within s f

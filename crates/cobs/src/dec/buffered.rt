@@ -220,8 +220,7 @@ impl CobsDecoderOwned {
     /// ```
     pub fn new(alloc: Global, dest_buf_size: usize) -> Result<Self, AllocError>
         ensures buffer { IfOk result (λ decoder. owned_buffer decoder ≡ replicate dest_buf_size 0) }
-        ensures idle { IfOk result (λ decoder. DecoderAfter (owned_buffer decoder)
-            (owned_phase decoder) []) }
+        ensures idle { IfOk result (λ decoder. DecoderAfter (owned_buffer decoder) (owned_phase decoder) []) }
         ensures phase { IfOk result (λ decoder. owned_phase decoder ≡ Idle) }
     {
         Ok(CobsDecoderOwned {

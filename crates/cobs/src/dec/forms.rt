@@ -65,8 +65,7 @@ pub fn decode_with_sentinel(
     sentinel: u8,
 ) -> Result<usize, DecodeError>
     ensures answer { result ≡ result_of_sentinel_decode (xor_each sentinel source.now) (length dest.old) }
-    ensures buffer { dest.new ≡ overwritten dest.old
-        (kept_output (head (xor_each sentinel source.now))) }
+    ensures buffer { dest.new ≡ overwritten dest.old (kept_output (head (xor_each sentinel source.now))) }
     ensures reads { (m : List ℕ) → Reads (xor_each sentinel source.now) m
         → length m ≤ length dest.old → ReturnsMessage result dest.new m }
     ensures only { let f = xor_each sentinel source.now in IsPiece f → (m : List ℕ)
@@ -138,10 +137,8 @@ pub fn decode_vec_with_sentinel(
     source: &[u8],
     sentinel: u8,
 ) -> Result<Vec<u8>, DecodeVecError>
-    ensures message { IfOk result
-        (λ message. decoded_head (xor_each sentinel source.now) ≡ Ok message.items) }
-    ensures refused { IfErr result
-        (λ error. IsErrorFor (decoded_head (xor_each sentinel source.now)) error) }
+    ensures message { IfOk result (λ message. decoded_head (xor_each sentinel source.now) ≡ Ok message.items) }
+    ensures refused { IfErr result (λ error. IsErrorFor (decoded_head (xor_each sentinel source.now)) error) }
     ensures empty { source.now ≡ [] → result ≡ Err (DecodeVecError.Decode EmptyFrame) }
     ensures room { IfErr result (λ error. error ≢ DecodeVecError.Decode TargetBufTooSmall) }
     ensures reads { FoundMemory result → (m : List ℕ) → Reads (xor_each sentinel source.now) m

@@ -68,8 +68,7 @@ pub trait FrameDecoder {
     /// assert_eq!(rt; decoder.feed_byte(0), Ok(Some(0)));
     /// ```
     fn feed_byte(&mut self, byte: u8) -> Result<Option<usize>, DecodeError>
-        ensures feeds { Feeds (bytes self.old) (phase self.old) byte result
-            (bytes self.new) (phase self.new) }
+        ensures feeds { Feeds (bytes self.old) (phase self.old) byte result (bytes self.new) (phase self.new) }
         ensures same_loan { loan self.new ≡ loan self.old };
 
     /// Takes bytes of the stream through the first zero that ends a piece.

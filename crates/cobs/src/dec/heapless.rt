@@ -57,8 +57,7 @@ impl<const N: usize> CobsDecoderHeapless<N> {
     /// assert_eq!(rt; decoder.dest(), [7, 0, 0].as_slice());
     /// ```
     pub fn new_with_vec(vec: ArrayVec<u8, N>) -> Self
-        ensures buffer { heapless_buffer result
-            ≡ vec.entry.items ++ replicate (N - array_vec_len vec.entry) 0 }
+        ensures buffer { heapless_buffer result ≡ vec.entry.items ++ replicate (N - array_vec_len vec.entry) 0 }
         ensures idle { DecoderAfter (heapless_buffer result) (heapless_phase result) [] }
         ensures phase { heapless_phase result ≡ Idle }
     {

@@ -177,8 +177,7 @@ pub fn decode_in_place_report(buf: &mut [u8]) -> Result<DecodeReport, DecodeErro
     ensures answer { result ≡ in_place_report buf.old }
     ensures buffer { buf.new ≡ in_place buf.old }
     ensures reads { (m : List ℕ) → Reads buf.old m → ReportsMessage result buf.new m }
-    ensures only { IsPiece buf.old → (m : List ℕ) → ReportsMessage result buf.new m
-        → Reads buf.old m }
+    ensures only { IsPiece buf.old → (m : List ℕ) → ReportsMessage result buf.new m → Reads buf.old m }
     ensures room { IfErr result (λ error. error ≢ TargetBufTooSmall) }
 {
     if has_none(buf) {
@@ -217,8 +216,7 @@ pub fn decode_in_place(buff: &mut [u8]) -> Result<usize, DecodeError>
     ensures answer { result ≡ result_in_place buff.old }
     ensures buffer { buff.new ≡ in_place buff.old }
     ensures reads { (m : List ℕ) → Reads buff.old m → ReturnsMessage result buff.new m }
-    ensures only { IsPiece buff.old → (m : List ℕ) → ReturnsMessage result buff.new m
-        → Reads buff.old m }
+    ensures only { IsPiece buff.old → (m : List ℕ) → ReturnsMessage result buff.new m → Reads buff.old m }
     ensures room { IfErr result (λ error. error ≢ TargetBufTooSmall) }
 {
     Ok(decode_in_place_report(buff)?.frame_size())
@@ -238,8 +236,7 @@ pub fn decode_in_place(buff: &mut [u8]) -> Result<usize, DecodeError>
 pub fn decode_in_place_with_sentinel(buff: &mut [u8], sentinel: u8) -> Result<usize, DecodeError>
     ensures answer { result ≡ result_in_place (xor_each sentinel buff.old) }
     ensures buffer { buff.new ≡ in_place (xor_each sentinel buff.old) }
-    ensures reads { (m : List ℕ) → Reads (xor_each sentinel buff.old) m
-        → ReturnsMessage result buff.new m }
+    ensures reads { (m : List ℕ) → Reads (xor_each sentinel buff.old) m → ReturnsMessage result buff.new m }
     ensures only { let f = xor_each sentinel buff.old in IsPiece f → (m : List ℕ)
         → ReturnsMessage result buff.new m → Reads f m }
     ensures room { IfErr result (λ error. error ≢ TargetBufTooSmall) }

@@ -217,8 +217,7 @@ impl UnbufferedDecoder {
     /// assert_eq!(rt; buffer, [7, 0]);
     /// ```
     pub fn feed(&mut self, dest: &mut [u8], byte: u8) -> Result<Option<usize>, DecodeError>
-        ensures feeds { Feeds dest.old (phase_of self.old) byte result
-            dest.new (phase_of self.new) }
+        ensures feeds { Feeds dest.old (phase_of self.old) byte result dest.new (phase_of self.new) }
     {
         if byte == 0 {
             return self.end(dest.len());
@@ -264,8 +263,21 @@ impl UnbufferedDecoder {
     /// assert_eq!(rt; buffer, [7, 8]);
     /// ```
     pub fn push(&mut self, dest: &mut [u8], bytes: &[u8]) -> Result<Option<DecodeReport>, PushError>
-        ensures pushes { PushesBytes dest.old (phase_of self.old) bytes.now result
-            dest.new (phase_of self.new) }
+        ensures pushes { PushesBytes dest.old (phase_of self.old) bytes.now result dest.new (phase_of self.new) }
+    {
+        if self.take_short(dest, bytes) {
+            return Ok(None);
+        }
+        self.push_long(dest, bytes)
+    }
+
+    /// Does what `push` does, without a question of its own for a short piece.
+    pub(crate) fn push_long(
+        &mut self,
+        dest: &mut [u8],
+        bytes: &[u8],
+    ) -> Result<Option<DecodeReport>, PushError>
+        ensures pushes { PushesBytes dest.old (phase_of self.old) bytes.now result dest.new (phase_of self.new) }
     {
         let mut at = 0;
         'by_run: while at < bytes.len() {
@@ -300,8 +312,7 @@ impl UnbufferedDecoder {
     /// );
     /// ```
     pub fn feed_piece(&mut self, dest: &mut [u8], bytes: &[u8]) -> Option<(PieceEnd, usize)>
-        ensures takes { TakesPiece dest.old (phase_of self.old) bytes.now result
-            dest.new (phase_of self.new) }
+        ensures takes { TakesPiece dest.old (phase_of self.old) bytes.now result dest.new (phase_of self.new) }
     {
         let mut taken = 0;
         'by_run: while taken < bytes.len() {

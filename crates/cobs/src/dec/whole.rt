@@ -65,8 +65,7 @@ fn decode_at_code(source: &[u8], dest: &mut [u8]) -> (usize, Result<usize, Decod
 pub fn decode(source: &[u8], dest: &mut [u8]) -> Result<DecodeReport, DecodeError>
     ensures answer { result ≡ result_of_decode source.now (length dest.old) }
     ensures buffer { dest.new ≡ overwritten dest.old (first_output source.now) }
-    ensures reads { (m : List ℕ) → Reads source.now m → length m ≤ length dest.old
-        → ReportsMessage result dest.new m }
+    ensures reads { (m : List ℕ) → Reads source.now m → length m ≤ length dest.old → ReportsMessage result dest.new m }
     ensures only { IsPiece source.now → (m : List ℕ) → ReportsMessage result dest.new m
         → Reads source.now m × (length m ≤ length dest.old) }
 {

@@ -22,8 +22,7 @@ const ALL_ZEROS: u64 = 0xffff_ffff;
 fn progress_at(index: usize, next: usize, is_full: bool) -> EncoderProgress
     requires ordered { index < next }
     requires open_block { next < index + 255 }
-    ensures { reached_at result
-        ≡ record { block = record { index = index; code = next - index }; full = is_full } }
+    ensures { reached_at result ≡ record { block = record { index = index; code = next - index }; full = is_full } }
 {
     EncoderProgress {
         index,
@@ -117,8 +116,7 @@ fn append_few(source: &[u8], dest: &mut [u8], progress: EncoderProgress) -> Enco
     requires code { 0 < progress.code }
     requires open_block { progress.code + length source.now < 255 }
     requires fits { end_after (reached_at progress) source.now ≤ length dest.old }
-    ensures { TakesFront dest.old (reached_at progress) source.now (length source.now)
-        dest.new (reached_at result) }
+    ensures { TakesFront dest.old (reached_at progress) source.now (length source.now) dest.new (reached_at result) }
 {
     let mut index = progress.index;
     let mut next = index + progress.code as usize;
@@ -148,8 +146,7 @@ pub(crate) fn append_short(
     requires code { 0 < progress.code }
     requires open_block { progress.code + length source.now < 255 }
     requires fits { end_after (reached_at progress) source.now ≤ length dest.old }
-    ensures { TakesFront dest.old (reached_at progress) source.now (length source.now)
-        dest.new (reached_at result) }
+    ensures { TakesFront dest.old (reached_at progress) source.now (length source.now) dest.new (reached_at result) }
 {
     let len = source.len();
     if len < FEW {
@@ -216,8 +213,7 @@ pub(crate) fn append_windows(
     requires place { IsPlaceIn (length dest.old) (reached_at start) }
     requires fits { end_after (reached_at start) source.now ≤ length dest.old }
     ensures within { result.0 < length source.now }
-    ensures taken { TakesFront dest.old (reached_at start) source.now result.0
-        dest.new (reached_at result.1) }
+    ensures taken { TakesFront dest.old (reached_at start) source.now result.0 dest.new (reached_at result.1) }
 {
     let (mut index, mut read) = (start.index, 0);
     let mut next = index + start.code as usize;
@@ -278,8 +274,7 @@ fn append_long_run(
     requires fits { end_after (reached_at progress) source.now ≤ length dest.old }
     ensures some { 0 < result.0 }
     ensures within { result.0 ≤ length source.now }
-    ensures taken { TakesFront dest.old (reached_at progress) source.now result.0
-        dest.new (reached_at result.1) }
+    ensures taken { TakesFront dest.old (reached_at progress) source.now result.0 dest.new (reached_at result.1) }
 {
     let mut progress = progress;
     let mut read = 0;
@@ -315,8 +310,7 @@ pub(crate) fn append_rest(
     requires run { IsFirstRun run source.now }
     requires place { IsPlaceIn (length dest.old) (reached_at progress) }
     requires fits { end_after (reached_at progress) source.now ≤ length dest.old }
-    ensures { TakesFront dest.old (reached_at progress) source.now (length source.now)
-        dest.new (reached_at result) }
+    ensures { TakesFront dest.old (reached_at progress) source.now (length source.now) dest.new (reached_at result) }
 {
     let (mut read, mut progress) = append_long_run(source, run, dest, progress);
     'by_run: while read < source.len() {
@@ -340,8 +334,7 @@ pub(crate) fn append(source: &[u8], dest: &mut [u8], progress: EncoderProgress) 
     requires some { 0 < length source.now }
     requires place { IsPlaceIn (length dest.old) (reached_at progress) }
     requires fits { end_after (reached_at progress) source.now ≤ length dest.old }
-    ensures { TakesFront dest.old (reached_at progress) source.now (length source.now)
-        dest.new (reached_at result) }
+    ensures { TakesFront dest.old (reached_at progress) source.now (length source.now) dest.new (reached_at result) }
 {
     let (read, progress) = append_windows(source, dest, progress);
     let left = &source[read..];

@@ -82,8 +82,7 @@ impl<'a> CobsEncoder<'a> {
         ensures len { length (slice_of self.new) ≡ length (slice_of self.old) }
         ensures fits { (m : List ℕ) → HasTaken self.old m
             → (IsOk result ↔ (encoded_len (m ++ bytes.now) ≤ length (slice_of self.old))) }
-        ensures taken { OnOk result ((m : List ℕ) → HasTaken self.old m
-            → HasTaken self.new (m ++ bytes.now)) }
+        ensures taken { OnOk result ((m : List ℕ) → HasTaken self.old m → HasTaken self.new (m ++ bytes.now)) }
         ensures rest { OnOk result ((m : List ℕ) → HasTaken self.old m
             → (let end = encoded_len (m ++ bytes.now)
             in drop end (slice_of self.new) ≡ drop end (slice_of self.old))) }
@@ -109,10 +108,8 @@ impl<'a> CobsEncoder<'a> {
     pub fn finalize(self) -> usize
         // `self.exit.0.now` is what the slice, the first field, holds at the return.
         ensures len { (m : List ℕ) → HasTaken self.entry m → result ≡ encoded_len m }
-        ensures frame { (m : List ℕ) → HasTaken self.entry m
-            → IsEncodedFrame (take result self.exit.0.now) m }
-        ensures no_sentinel { (m : List ℕ) → HasTaken self.entry m
-            → HasNoZero (take result self.exit.0.now) }
+        ensures frame { (m : List ℕ) → HasTaken self.entry m → IsEncodedFrame (take result self.exit.0.now) m }
+        ensures no_sentinel { (m : List ℕ) → HasTaken self.entry m → HasNoZero (take result self.exit.0.now) }
         ensures rest { drop result self.exit.0.now ≡ drop result (slice_of self.entry) }
     {
         let CobsEncoder { dest, encoder } = self;

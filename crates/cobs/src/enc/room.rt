@@ -70,12 +70,10 @@ fn fits(code: usize, source: &[u8], room: usize) -> Option<usize>
 pub(crate) fn try_append(source: &[u8], dest: &mut [u8], progress: &mut EncoderProgress) -> bool
     requires some { 0 < length source.now }
     requires place { IsPlaceIn (length dest.old) (reached_at progress.old) }
-    ensures fits { IsTrue result
-        ↔ (end_after (reached_at progress.old) source.now ≤ length dest.old) }
+    ensures fits { IsTrue result ↔ (end_after (reached_at progress.old) source.now ≤ length dest.old) }
     ensures taken { IsTrue result → TakesFront dest.old (reached_at progress.old) source.now
         (length source.now) dest.new (reached_at progress.new) }
-    ensures rejected { result ≡ false
-        → (dest.new ≡ dest.old) × (reached_at progress.new ≡ reached_at progress.old) }
+    ensures rejected { result ≡ false → (dest.new ≡ dest.old) × (reached_at progress.new ≡ reached_at progress.old) }
 {
     // Field by field, here and below: fields that were stored one by one can't be loaded at once without waiting.
     let start = EncoderProgress { ..*progress };

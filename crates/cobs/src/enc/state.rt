@@ -138,8 +138,7 @@ impl EncoderState {
         requires { self.old.index + self.old.code < usize.MAX }
         ensures answer { result ≡ push_result self.old byte }
         ensures open { self.new ≡ next_open self.old byte }
-        ensures after { (m : List ℕ) → EncoderAfter self.old m
-            → EncoderAfter self.new (m ++ byte ∷ []) }
+        ensures after { (m : List ℕ) → EncoderAfter self.old m → EncoderAfter self.new (m ++ byte ∷ []) }
         ensures carried { (m g : List ℕ) (placeholder : ℕ) → IsOpenOutput g self.old m
             → IsOpenOutput (applied g result placeholder) self.new (m ++ byte ∷ []) }
     {

@@ -44,10 +44,8 @@ impl UnbufferedEncoder {
     /// assert_eq!(rt; buffer, [1, 170]);
     /// ```
     pub fn new() -> Self
-        ensures start { reached_by result
-            ≡ record { block = record { index = 0; code = 1 }; full = false } }
-        ensures taken { (buffer : List ℕ) → 0 < length buffer
-            → CobsEncoderAfter buffer (reached_by result) [] }
+        ensures start { reached_by result ≡ record { block = record { index = 0; code = 1 }; full = false } }
+        ensures taken { (buffer : List ℕ) → 0 < length buffer → CobsEncoderAfter buffer (reached_by result) [] }
     {
         UnbufferedEncoder { progress: START }
     }
@@ -95,10 +93,8 @@ impl UnbufferedEncoder {
     /// assert_eq!(rt; buffer, [1, 7]);
     /// ```
     pub fn reset(&mut self)
-        ensures start { reached_by self.new
-            ≡ record { block = record { index = 0; code = 1 }; full = false } }
-        ensures taken { (buffer : List ℕ) → 0 < length buffer
-            → CobsEncoderAfter buffer (reached_by self.new) [] }
+        ensures start { reached_by self.new ≡ record { block = record { index = 0; code = 1 }; full = false } }
+        ensures taken { (buffer : List ℕ) → 0 < length buffer → CobsEncoderAfter buffer (reached_by self.new) [] }
     {
         *self = UnbufferedEncoder::new();
     }
@@ -121,10 +117,8 @@ impl UnbufferedEncoder {
         ensures fits { IsTrue result ↔ (end_after (reached_by self.old) bytes.now ≤ length dest.old) }
         ensures taken { IsTrue result → TakesFront dest.old (reached_by self.old) bytes.now
             (length bytes.now) dest.new (reached_by self.new) }
-        ensures rejected { result ≡ false
-            → (dest.new ≡ dest.old) × (reached_by self.new ≡ reached_by self.old) }
-        ensures empty { bytes.now ≡ []
-            → (dest.new ≡ dest.old) × (reached_by self.new ≡ reached_by self.old) }
+        ensures rejected { result ≡ false → (dest.new ≡ dest.old) × (reached_by self.new ≡ reached_by self.old) }
+        ensures empty { bytes.now ≡ [] → (dest.new ≡ dest.old) × (reached_by self.new ≡ reached_by self.old) }
     {
         let at = self.progress;
         let behind = if bytes.len() == 1 {
@@ -173,14 +167,11 @@ impl UnbufferedEncoder {
         ensures taken { OnOk result ((m : List ℕ)
             → CobsEncoderAfter dest.old (reached_by self.old) m
             → CobsEncoderAfter dest.new (reached_by self.new) (m ++ bytes.now)) }
-        ensures rest { OnOk result (let end = end_of (reached_by self.new) in
-            drop end dest.new ≡ drop end dest.old) }
+        ensures rest { OnOk result (let end = end_of (reached_by self.new) in drop end dest.new ≡ drop end dest.old) }
         ensures within { OnOk result (IsPlaceIn (length dest.new) (reached_by self.new)) }
         ensures len { length dest.new ≡ length dest.old }
-        ensures refused { OnErr result
-            ((dest.new ≡ dest.old) × (reached_by self.new ≡ reached_by self.old)) }
-        ensures empty { bytes.now ≡ []
-            → (dest.new ≡ dest.old) × (reached_by self.new ≡ reached_by self.old) }
+        ensures refused { OnErr result ((dest.new ≡ dest.old) × (reached_by self.new ≡ reached_by self.old)) }
+        ensures empty { bytes.now ≡ [] → (dest.new ≡ dest.old) × (reached_by self.new ≡ reached_by self.old) }
     {
         if !self.is_within(dest.len()) {
             return Err(DestBufTooSmallError);
@@ -204,8 +195,7 @@ impl UnbufferedEncoder {
     /// ```
     pub fn finalize(&mut self, dest: &mut [u8]) -> Result<usize, DestBufTooSmallError>
         ensures place { IsOk result ↔ IsPlaceIn (length dest.old) (reached_by self.old) }
-        ensures fits { (m : List ℕ) → CobsEncoderAfter dest.old (reached_by self.old) m
-            → IsOk result }
+        ensures fits { (m : List ℕ) → CobsEncoderAfter dest.old (reached_by self.old) m → IsOk result }
         ensures len { IfOk result (λ n. (m : List ℕ)
             → CobsEncoderAfter dest.old (reached_by self.old) m
             → n ≡ encoded_len m) }
@@ -223,8 +213,7 @@ impl UnbufferedEncoder {
             ≡ record { block = record { index = 0; code = 1 }; full = false }) }
         ensures taken { OnOk result ((buffer : List ℕ) → 0 < length buffer
             → CobsEncoderAfter buffer (reached_by self.new) []) }
-        ensures refused { OnErr result
-            ((dest.new ≡ dest.old) × (reached_by self.new ≡ reached_by self.old)) }
+        ensures refused { OnErr result ((dest.new ≡ dest.old) × (reached_by self.new ≡ reached_by self.old)) }
     {
         if !self.is_within(dest.len()) {
             return Err(DestBufTooSmallError);

@@ -2,7 +2,7 @@
 //! What every decoder takes at once: bytes up to a zero, copied in stretches, and then a zero written at each code.
 
 use crate::proved::block::FULL_BLOCK_BYTES;
-use crate::proved::cobs_bytes::lanes::{copy_to_zero, copy_windows};
+use crate::proved::cobs_bytes::lanes::{copy_to_zero, copy_windows, copy_xored_short};
 use crate::proved::cobs_bytes::window::{WIDE_WINDOW, WINDOW, is_all, write_row};
 use crate::proved::dec::stretch::write_zeros_at_codes;
 use crate::proved::dec::unbuffered::{FULL, UnbufferedDecoder};
@@ -72,6 +72,32 @@ impl UnbufferedDecoder {
             self.left = left as u8;
         }
         len
+    }
+
+    /// Takes all bytes at once if they are fewer than 32, none is a zero, they have room and no full block ends in them, and
+    /// says whether it did. In the Rust crate pushes of 8 bytes of a long frame take half the time, of 16 a third.
+    #[inline(always)]
+    pub(crate) fn take_short(&mut self, dest: &mut [u8], bytes: &[u8]) -> bool {
+        let at = self.dest_idx;
+        let len = bytes.len();
+        if self.over
+            || len == 0
+            || WINDOW <= len
+            || self.stretch_len(len) < len
+            || dest.len().saturating_sub(at) < len
+            || !copy_xored_short(bytes, &mut dest[at..], 0)
+        {
+            return false;
+        }
+        self.dest_idx = at + len;
+        if len <= self.left as usize {
+            self.left -= len as u8;
+        } else {
+            let (code, left) = write_zeros_at_codes(&mut dest[at..], self.left + 1, len + 1);
+            self.code = code;
+            self.left = left as u8;
+        }
+        true
     }
 
     /// Takes first bytes up to a zero, as many as one step can take, and returns how many: a code that nothing is joined to,

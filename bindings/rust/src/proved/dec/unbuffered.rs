@@ -257,6 +257,18 @@ impl UnbufferedDecoder {
         dest: &mut [u8],
         bytes: &[u8],
     ) -> Result<Option<DecodeReport>, PushError> {
+        if self.take_short(dest, bytes) {
+            return Ok(None);
+        }
+        self.push_long(dest, bytes)
+    }
+
+    /// Does what `push` does, without a question of its own for a short piece.
+    pub(crate) fn push_long(
+        &mut self,
+        dest: &mut [u8],
+        bytes: &[u8],
+    ) -> Result<Option<DecodeReport>, PushError> {
         let mut at = 0;
         'by_run: while at < bytes.len() {
             at += self.take_quiet(dest, &bytes[at..]);

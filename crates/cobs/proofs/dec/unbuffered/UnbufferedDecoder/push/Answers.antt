@@ -1,40 +1,15 @@
-use Rattle.std.proofs.Common.{◌+◌, ◌-◌, ◌∙◌, ap, arith, Ok, get_or, length, drop, length-drop, length-take}
-use Rattle.cobs.specs.Fields.Decoders.{phase_of}
-use Rattle.cobs.proofs.streaming.PushLemmas.{Pushed, Pushed-start, Pushed-more, pushed_none, pushed_some, pushed_error}
-use Rattle.std.proofs.lemmas.List.{take_rest}
-use Rattle.cobs.proofs.streaming.FeedLemmas.{Feeds-step}
-use Rattle.cobs.proofs.streaming.RunLemmas.{ran-on}
+use Rattle.std.proofs.Common.{List, ℕ, arith, length}
+use Rattle.std.proofs.Math.Seq.{take-length}
+use Rattle.cobs.proofs.streaming.PushLemmas.{Pushed-start, pushed_none, pushed_fed}
 use Rattle.cobs.proofs.dec.unbuffered.UnbufferedDecoder.push.Goals as goal
-use Rattle.cobs.proofs.dec.unbuffered.UnbufferedDecoder.push.Goals.{After-take_quiet-at}
 
-pub by_run-init : goal.by_run-init
-by_run-init c = record { within = omega arith; pushed = Pushed-start _ _ _ }
-
--- behind the run
-ran : (c : After-take_quiet-at) → Pushed c.args.dest.now (phase_of c.args.self.now) c.take_quiet-at.new.dest (phase_of c.take_quiet-at.new.self) c.args.bytes.now (c.by_run.at + c.take_quiet-at.result)
-ran c =
-    let bytes = c.args.bytes.now in
-    let i = c.by_run.at in
-    ran-on (λ buffer phase i. Pushed c.args.dest.now (phase_of c.args.self.now) buffer phase bytes i) bytes (λ buffer phase i within s quiet. Pushed-more bytes i within s (Feeds-step buffer phase (get_or bytes i 0)) quiet)
-    _ _ _ _ i _ (omega (arith, length-drop i bytes, length-take (length bytes - i) (drop i bytes), c.take_quiet-at.ensures.within)) c.by_run.invariant.pushed (rw (take_rest bytes i) at c.take_quiet-at.ensures.fed)
-
-pub by_run-preserved-in-Ok-None : goal.by_run-preserved-in-Ok-None
-by_run-preserved-in-Ok-None c = record {
-  within = omega arith;
-  pushed = Pushed-more _ _ c.if-at-bytes.true (ran (goal.at.by_run-preserved-in-Ok-None c).After-take_quiet-at) c.feed.ensures.feeds (c.in-Ok-None.is ∙ ap Ok c.in-Ok-None.field-0-is);
-}
-
-pub by_run-preserved : goal.by_run-preserved
-by_run-preserved c = record {
-  within = omega (arith, length-drop c.by_run.at c.args.bytes.now, length-take (length c.args.bytes.now - c.by_run.at) (drop c.by_run.at c.args.bytes.now), c.take_quiet-at.ensures.within);
-  pushed = ran (goal.at.by_run-preserved c).After-take_quiet-at;
-}
-
-pub returns-in-Ok-Some : goal.returns-in-Ok-Some
-returns-in-Ok-Some c = record { pushes = pushed_some _ _ c.if-at-bytes.true (ran (goal.at.returns-in-Ok-Some c).After-take_quiet-at) c.feed.ensures.feeds _ (c.in-Ok-Some.is ∙ ap Ok c.in-Ok-Some.field-0-is) }
-
-pub returns-in-Err : goal.returns-in-Err
-returns-in-Err c = record { pushes = pushed_error _ _ c.if-at-bytes.true (ran (goal.at.returns-in-Err c).After-take_quiet-at) c.feed.ensures.feeds _ c.in-Err.is }
+pub returns-then-take_short : goal.returns-then-take_short
+returns-then-take_short c =
+    let bytes : List ℕ = c.args.bytes.now in
+    let fed = pushed_fed bytes 0 (length bytes) (omega arith) (Pushed-start _ _ _) (rw (← take-length bytes) at c.take_short.ensures.fed c.if-take_short.true) in
+    record { pushes = pushed_none bytes _ (omega arith) fed }
 
 pub returns : goal.returns
-returns c = record { pushes = pushed_none _ _ (omega arith) c.by_run.invariant.pushed }
+returns c =
+    let kept = c.take_short.ensures.kept c.if-take_short.false in
+    record { pushes = rw (kept.0, kept.1) at c.push_long.ensures.pushes }

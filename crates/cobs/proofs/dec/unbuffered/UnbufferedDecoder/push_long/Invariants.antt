@@ -1,7 +1,7 @@
 use Rattle.std.proofs.Common.{length, ◌-◌, ◌≤◌}
 use Rattle.cobs.specs.Fields.Decoders.{phase_of}
 use Rattle.cobs.proofs.streaming.PushLemmas.{Pushed}
-use Rattle.cobs.proofs.dec.unbuffered.UnbufferedDecoder.push.Given as goal
+use Rattle.cobs.proofs.dec.unbuffered.UnbufferedDecoder.push_long.Given as goal
 
 -- the bytes before `at` are taken, and each returned `Ok(None)`
 abbrev pub invariant-by_run : goal.invariant-by_run
