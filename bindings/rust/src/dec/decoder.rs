@@ -82,17 +82,20 @@ fn push_stream(
     dest: &mut [u8],
     data: &[u8],
 ) -> (usize, Result<Option<DecodeReport>, DecodeError>) {
-    if data.len() <= FEW && decoder.take_short(dest, data) {
-        return (data.len(), Ok(None));
+    if data.len() <= FEW {
+        if decoder.take_short(dest, data) {
+            return (data.len(), Ok(None));
+        }
+        let pushed = feed_each(decoder, dest, data);
+        return after_push(decoder, dest, data, 0, pushed);
     }
     let mut taken = 0;
-    if data.len() <= FEW || has_zero(data) {
-        let few = data.len().min(FEW);
-        let pushed = feed_each(decoder, dest, &data[..few]);
-        if pushed != Ok(None) || few == data.len() {
+    if has_zero(data) {
+        let pushed = feed_each(decoder, dest, &data[..FEW]);
+        if pushed != Ok(None) {
             return after_push(decoder, dest, data, 0, pushed);
         }
-        taken = few;
+        taken = FEW;
     }
     let pushed = decoder.push_long(dest, &data[taken..]);
     after_push(decoder, dest, data, taken, pushed)

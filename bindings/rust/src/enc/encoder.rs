@@ -46,6 +46,8 @@ impl<'a> CobsEncoder<'a> {
             #[cfg(not(feature = "small"))]
             [byte] => self.take([byte]),
             #[cfg(not(feature = "small"))]
+            [_, _] | [_, _, _] | [_, _, _, _] => self.push_few(data),
+            #[cfg(not(feature = "small"))]
             _ => self.push_more(data),
             #[cfg(feature = "small")]
             _ => small::push_message(&mut self.encoder, self.dest, data),
@@ -56,13 +58,10 @@ impl<'a> CobsEncoder<'a> {
     #[cfg(not(feature = "small"))]
     #[inline(never)]
     fn push_more(&mut self, data: &[u8]) -> Result<(), DestBufTooSmallError> {
-        if data.len() <= 4 {
-            return self.push_few(data);
-        }
         self.encoder.push(self.dest, data)
     }
 
-    /// Takes 0 to 4 bytes, of which 2 to 4 are compiled for each length.
+    /// Takes 2 to 4 bytes, compiled for each length.
     #[cfg(not(feature = "small"))]
     #[inline(never)]
     fn push_few(&mut self, data: &[u8]) -> Result<(), DestBufTooSmallError> {
@@ -70,7 +69,7 @@ impl<'a> CobsEncoder<'a> {
             [a, b] => self.take([a, b]),
             [a, b, c] => self.take([a, b, c]),
             [a, b, c, d] => self.take([a, b, c, d]),
-            _ => self.encoder.push(self.dest, data),
+            _ => self.push_more(data),
         }
     }
 
