@@ -81,9 +81,9 @@ impl Work {
 pub fn once(call: &str, who: &str, work: &mut Work) -> Option<usize> {
     match who {
         "libjcobs" => c::libjcobs(call, work),
-        "jcobs" => crates::of_jcobs(call, work),
+        "jcobs" => crates::jcobs::once(call, work),
         #[cfg(with_crate)]
-        "cobs" => crates::of_cobs(call, work),
+        "cobs" => crates::cobs::once(call, work),
         "unchecked" | "bytes" | "memchr" => c::rival(who, call, work),
         "simd" => simd::once(call, work),
         "limit" => limit(call, work),
