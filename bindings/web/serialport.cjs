@@ -48,11 +48,11 @@ class FrameDecoderTransform extends Transform {
 
 /** Messages in, their frames out, each with a sentinel after it. */
 class FrameEncoderTransform extends Transform {
-  #sentinel;
+  #options;
 
-  constructor({ sentinel = 0 } = {}) {
+  constructor(options) {
     super({ writableObjectMode: true });
-    this.#sentinel = sentinel;
+    this.#options = { ...options, terminated: true };
   }
 
   _construct(done) {
@@ -61,7 +61,7 @@ class FrameEncoderTransform extends Transform {
 
   _transform(message, encoding, done) {
     try {
-      done(null, encode(message, { sentinel: this.#sentinel, terminated: true }));
+      done(null, encode(message, this.#options));
     } catch (error) {
       done(error);
     }

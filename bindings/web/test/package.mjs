@@ -48,11 +48,13 @@ async function overTerminal(there) {
     encoder.end();
     reader.destroy();
     outcomes.destroy();
-    let fault;
-    const bad = new FrameEncoderTransform().on("error", (error) => (fault = error));
-    bad.write("text");
-    await until(() => fault, "a message that is no bytes");
-    holds(fault instanceof TypeError, "its error");
+    for (const [options, message] of [[undefined, "text"], [{ maxLength: 9 }, messages[0]]]) {
+      let fault;
+      const bad = new FrameEncoderTransform(options).on("error", (error) => (fault = error));
+      bad.write(message);
+      await until(() => fault, "a message that is no bytes, and an option that is none");
+      holds(fault instanceof TypeError, "their errors");
+    }
   } finally {
     socat.kill();
   }
