@@ -260,12 +260,14 @@ def contracts(path):
 
 
 def clauses():
-    """The clauses of each function and the fields of each record, by its name, and by its type's name with it."""
+    """The clauses of each function, by its name and by its type's with it, the laws of each trait, and the fields of each record."""
     known = {}
     for path in sorted((TOP / "crates").glob("*/src/**/*.rt")):
         for owner, name, ensured in contracts(path):
             for key in (name, f"{owner}::{name}"):
                 known.setdefault(key, set()).update(ensured)
+        for trait, body in re.findall(r"^pub trait (\w+).*?\{$(.*?)^\}", path.read_text(), re.S | re.M):
+            known.setdefault(trait, set()).update(re.findall(r"^    ghost (\w+):", body, re.M))
     for path in sorted((TOP / "crates").glob("*/specs/**/*.antt")):
         record = None
         for line in path.read_text().splitlines():
@@ -291,8 +293,10 @@ def unknown_names():
     for name in ("docs/PROMISES.md", "docs/FORMAT.md", "SECURITY.md", "crates/cobs/CALLING.md"):
         text = blank(r"^```.*?^```$", (TOP / name).read_text(), re.S | re.M)
         for number, line in enumerate(text.splitlines(), 1):
-            for call, named in re.findall(r"`([\w:]+): ([a-z_0-9]+(?:, [a-z_0-9]+)*)`", line):
-                for clause in named.split(", "):
+            lists = re.findall(r"`([\w:]+): ([a-z_0-9]+(?:, [a-z_0-9]+)*)`", line)
+            lists += re.findall(r"`([A-Z]\w+)`: `(\w+(?:`, `\w+)*)`", line)
+            for call, named in lists:
+                for clause in re.findall(r"\w+", named):
                     if f"{call}: {named}" != "call: clause" and clause not in known.get(call, ()):
                         yield f"{name}:{number}: no contract of {call} has a clause {clause}"
             for word in re.findall(r"`([A-Za-z]\w+)`", line):
