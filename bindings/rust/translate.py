@@ -43,6 +43,21 @@ MORE_DERIVES = {
     "DecoderState": ("Clone", "PartialEq", "Eq"),
     "Recorded": ("Debug",),
     "FrameReader": ("Debug",),
+    "ReadFault": ("Clone", "Copy"),
+    "Next": ("Clone", "Copy"),
+    "UnbufferedDecoder": ("Clone",),
+    "UnbufferedEncoder": ("Clone",),
+}
+# What the docs say otherwise here, where the decoders have the signatures of the crate `cobs`, and no reader sees a contract.
+REWORDED = {
+    "It returns what [`CobsDecoder`](crate::CobsDecoder) does": "By the byte it returns what\n[`CobsDecoder`](crate::CobsDecoder) does",
+    ", as [`CobsDecoder::push`](crate::CobsDecoder::push) does, with its errors.": ".\nThe error says how many bytes were taken.",
+    "CobsDecoder::new(&mut buffer); let rejected = PushError": "UnbufferedDecoder::new();\nlet rejected = PushError",
+    "decoder.push(&[3, 7, 0, 2, 9, 0]), Err(rejected)": "decoder.push(&mut buffer, &[3, 7, 0, 2, 9, 0]), Err(rejected)",
+    "Contracts see a source by its own relation of steps: a read, that is a failure or the bytes that it gave, takes it from one"
+    " state to the next.": "[`FrameReader::next_frame`] panics if a read says that it gave more than 64 bytes.",
+    " Contracts see it as its decoder and the bytes that it has read and not yet fed to the decoder.": "",
+    "Contracts see it as the bytes of its buffer and its phase. ": "",
 }
 # Calls that are `const fn` in the crate `cobs`, or called by one.
 CONST = {"max_encoding_overhead", "max_encoding_length", "UnbufferedDecoder::new", "UnbufferedEncoder::new"}
@@ -95,9 +110,13 @@ def bare(line):
 def doc(source, lines):
     """A doc comment, whose examples are tests of the Rust crate."""
     indent, sign = re.match(r"(\s*)(//[/!])", lines[0]).groups()
-    text = [line.strip()[len(sign) :].removeprefix(" ") for line in lines]
+    text = "\n".join(line.strip()[len(sign) :].removeprefix(" ") for line in lines)
+    for words, others in REWORDED.items():
+        pattern = re.escape(words).replace("\\ ", r"\s+")
+        text, count = re.subn(pattern, others.replace("\\", "\\\\"), text)
+        reworded.update([words] * count)
     out, example = [], None
-    for line in text:
+    for line in text.split("\n"):
         if line == "```" and example is None:
             example = []
         elif line == "```":
@@ -415,6 +434,7 @@ def prepared(crates):
 
 
 needing = {"alloc": set(), "std": set()}
+reworded = set()
 
 
 def translated(source):
@@ -437,7 +457,7 @@ def main():
         (to / place).parent.mkdir(parents=True, exist_ok=True)
         (to / place).write_text(text)
         written.append(to / place)
-    if missing := (set(MORE_DERIVES) | CONST | INLINE) - seen:
+    if missing := (set(MORE_DERIVES) | CONST | INLINE | set(REWORDED)) - seen - reworded:
         raise SystemExit(f"translate.py: no source has {sorted(missing)[0]}")
     for path in set(to.rglob("*.rs")) - set(written):
         path.unlink()

@@ -1,5 +1,6 @@
 //! A vector of at most `N` items in an array of its own.
 
+use core::fmt;
 use core::ops::{Deref, DerefMut};
 
 /// A vector of up to `N` bytes that doesn't allocate, for [`CobsDecoderHeapless`](crate::CobsDecoderHeapless).
@@ -10,7 +11,7 @@ use core::ops::{Deref, DerefMut};
 /// assert_eq!(vec.as_slice(), [7]);
 /// assert_eq!(vec.remaining_capacity(), 2);
 /// ```
-#[derive(Debug, Clone)]
+#[derive(Clone)]
 pub struct ArrayVec<T, const N: usize> {
     items: [T; N],
     len: usize,
@@ -59,6 +60,20 @@ impl<const N: usize> ArrayVec<u8, N> {
         &mut self.items[..self.len]
     }
 }
+
+impl<const N: usize> fmt::Debug for ArrayVec<u8, N> {
+    fn fmt(&self, f: &mut fmt::Formatter<'_>) -> fmt::Result {
+        self.as_slice().fmt(f)
+    }
+}
+
+impl<const N: usize> PartialEq for ArrayVec<u8, N> {
+    fn eq(&self, other: &Self) -> bool {
+        self.as_slice() == other.as_slice()
+    }
+}
+
+impl<const N: usize> Eq for ArrayVec<u8, N> {}
 
 impl<const N: usize> Default for ArrayVec<u8, N> {
     fn default() -> Self {

@@ -9,11 +9,29 @@ use crate::small as engine;
 
 pub use crate::proved::{
     DecodeError, DecodeReport, DecodeResult, DecoderPhase, DecoderState, FrameDecoder, FrameKind,
-    PieceEnd, PushError, UnbufferedDecoder,
+    PieceEnd, PushError, ReadFault, UnbufferedDecoder,
 };
 #[cfg(feature = "alloc")]
 pub use decoder::CobsDecoderOwned;
 pub use decoder::{CobsDecoder, CobsDecoderHeapless};
+
+impl Default for UnbufferedDecoder {
+    /// That of [`new`](Self::new).
+    fn default() -> Self {
+        Self::new()
+    }
+}
+
+impl core::fmt::Display for ReadFault {
+    fn fmt(&self, f: &mut core::fmt::Formatter<'_>) -> core::fmt::Result {
+        f.write_str(match self {
+            Self::Io => "a read failed",
+            Self::TooManyReads => "no frame has ended in 65536 reads",
+        })
+    }
+}
+
+impl core::error::Error for ReadFault {}
 
 /// The former name of [`DecodeReport`].
 #[deprecated(since = "0.5.0", note = "use DecodeReport instead")]

@@ -18,6 +18,13 @@ pub use crate::proved::{
 };
 pub use encoder::CobsEncoder;
 
+impl Default for UnbufferedEncoder {
+    /// That of [`new`](Self::new).
+    fn default() -> Self {
+        Self::new()
+    }
+}
+
 /// Writes the frame of `source`, without sentinels, to the front of `dest`, and returns its length. The bytes after it
 /// stay as they are.
 ///

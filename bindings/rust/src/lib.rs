@@ -59,14 +59,15 @@
 //!
 //! The functions of `src/proved/` are those of the Rattle crates `cobs`, `cobs_bytes`, `cobs_abi` and `cobs_small`
 //! without their contracts. There each one is proved to return the right result, not to panic, and to end, for a `usize`
-//! of 64 bits. The files beside that folder give them the crate's signatures, and are tested. Memory safety rests on the
-//! compiler: only the vectors of `src/simd.rs` have `unsafe` code.
+//! of 64 bits. The files beside that folder give them the crate's signatures, choose among them for a short push, and are
+//! tested. Memory safety rests on the compiler and on `memchr`: only the vectors of `src/simd.rs` have `unsafe` code here.
 //!
 //! # Features
 //!
 //! - `std` (default): `alloc`, and [`Recorded`], a source of bytes over any [`std::io::Read`].
 //! - `alloc`: the calls that make vectors, and [`CobsDecoderOwned`].
-//! - `small`: bodies that go byte by byte, for firmware, in place of those with vectors.
+//! - `small`: bodies that go byte by byte, for firmware, of the calls of the crate `cobs` but
+//!   [`decode_with_sentinel`], and of [`frame_kind`]. All others keep those with vectors.
 //! - `serde`, `defmt`: derives for [`DecodeError`], [`DestBufTooSmallError`] and [`DecodeReport`].
 //! - `heapless`: [`CobsDecoderHeapless::new_with_vec`] takes a `heapless::Vec`.
 //!
@@ -99,7 +100,7 @@ mod memory;
 #[forbid(unsafe_code)]
 pub mod proved;
 mod simd;
-// Without the feature only a push of one byte goes by it.
+// Without the feature nothing calls it.
 #[cfg_attr(not(feature = "small"), allow(dead_code, unused_imports))]
 #[forbid(unsafe_code)]
 mod small;
@@ -112,7 +113,7 @@ pub use crate::memory::AllocError;
 pub use crate::proved::Recorded;
 #[cfg(feature = "alloc")]
 pub use crate::proved::{FrameOutcome, decode_stream, encode_frames, encode_frames_room};
-pub use crate::proved::{FrameReader, FrameSource, Next, ReadFault};
+pub use crate::proved::{FrameReader, FrameSource, Next};
 
 /// The greatest number of bytes by which a frame is longer than its message of `source_len` bytes: 1 for each 254
 /// bytes, rounded up, and 1 for the empty message.

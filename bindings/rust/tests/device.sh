@@ -18,7 +18,9 @@ here=$rust/tests/device
 . "$root/tests/count.sh"
 compiler=/usr/bin/rustc
 version=$("$compiler" --version 2>/dev/null | sed -n 's/^rustc \([0-9.]*\).*/\1/p')
-library=${RUST_SRC:-/usr/src/rustc-web-$version/library}
+for library in "${RUST_SRC:-}" "/usr/src/rustc-$version/library" "/usr/src/rustc-web-$version/library"; do
+    [ ! -f "$library/core/src/lib.rs" ] || break
+done
 memchr=$(find /usr/share/cargo/registry -maxdepth 1 -name 'memchr-2.*' 2>/dev/null | tail -1)
 if [ ! -f "$library/core/src/lib.rs" ] || [ -z "$memchr" ]; then
     skip 'the crate on devices' "needs Debian's rustc-web with rust-web-src of its version, or librust-memchr-dev"

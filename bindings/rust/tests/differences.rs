@@ -256,3 +256,35 @@ fn texts_of_errors() {
         assert_eq!(error.to_string(), text);
     }
 }
+
+#[test]
+fn reset_keeps_how_many_bytes_were_taken() {
+    let stream = b"\x05ab\0\x02z\0";
+    let mut owned = CobsDecoderOwned::new(8);
+    let mut within = CobsDecoderHeapless::<8>::new();
+    assert!(owned.push(stream).is_err() && within.push(stream).is_err());
+    owned.reset();
+    within.reset();
+    assert_eq!((owned.parsed_size(), within.parsed_size()), (4, 4));
+    for pushed in [owned.push(&stream[4..]), within.push(&stream[4..])] {
+        assert_eq!(pushed.unwrap().unwrap().frame_size(), 1);
+    }
+}
+
+#[test]
+fn push_counts_what_it_took() {
+    for zeros in 0..40 {
+        for len in 0..40 {
+            let mut stream = vec![0; zeros];
+            let mut frame = [0; 48];
+            let frame_len = encode(&FULL[..len], &mut frame);
+            stream.extend_from_slice(&frame[..=frame_len]);
+            stream.push(9);
+            let mut decoder = CobsDecoderOwned::new(40);
+            let report = decoder.push(&stream).unwrap().unwrap();
+            assert_eq!(report.frame_size(), len);
+            assert_eq!(report.parsed_size(), zeros + frame_len + 1);
+            assert_eq!(report.parsed_size(), decoder.parsed_size());
+        }
+    }
+}

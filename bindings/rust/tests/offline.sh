@@ -6,7 +6,7 @@
 set -eu
 here=$(cd "$(dirname "$0")" && pwd)
 registry=/usr/share/cargo/registry
-for package in memchr serde serde_derive; do
+for package in memchr serde serde_derive serde_json; do
     if ! ls -d "$registry/$package"-[0-9]* >/dev/null 2>&1; then
         echo "needs Debian's librust-$(echo "$package" | tr _ -)-dev"
         exit 1

@@ -89,7 +89,7 @@ dependents() (
 by_extern() {
     sed -n '/^```rust$/,/^```$/p' README.md | sed -n '/^#\[repr(C)\]$/,/^```$/p' | sed '/^```$/d' >"$work/extern.rs" &&
         grep -q 'jcobs_encode' "$work/extern.rs" &&
-        rustc --edition 2021 -o "$work/extern" -L "native=$root/bindings/c/prebuilt/$(uname -m)-linux" "$work/extern.rs" &&
+        rustc --edition 2021 -D warnings -o "$work/extern" -L "native=$root/bindings/c/prebuilt/$(uname -m)-linux" "$work/extern.rs" &&
         prints '[3, 104, 105]' "$work/extern"
 }
 
@@ -97,11 +97,14 @@ by_extern() {
 packaged() (
     cargo package --no-verify --allow-dirty --target-dir "$work/package" && mkdir "$work/alone" &&
         tar -xzf "$work"/package/package/jcobs-*.crate -C "$work/alone" --strip-components 1 && cd "$work/alone" &&
-        [ -f LICENSE-MIT ] && [ -f LICENSE-APACHE ] && [ -f CHANGELOG.md ] && cargo test --lib --tests &&
-        for linked in $(sed -n 's/.*](\([^):]*\)).*/\1/p' README.md); do
-            [ -e "${linked%%#*}" ] || { echo "README.md links $linked"; return 1; }
-        done
+        [ -f LICENSE-MIT ] && [ -f LICENSE-APACHE ] && [ -f CHANGELOG.md ] && cargo test --lib --tests
 )
+
+# The lint is left out of src/proved with all others, unless it is forced, and then it can only warn.
+oldest() {
+    touch src/lib.rs && cargo clippy --features serde -- --force-warn clippy::incompatible_msrv 2>"$work/lint" &&
+        ! grep -A 4 'current MSRV' "$work/lint"
+}
 
 part 'units, signatures, differences and cases' units
 part 'without a feature' units --no-default-features
@@ -126,6 +129,7 @@ fi
 if cargo clippy --version >/dev/null 2>&1; then
     part 'clippy' cargo clippy --all-targets -- -D warnings
     part 'clippy, byte by byte' cargo clippy --features small -- -D warnings
+    part 'nothing is newer than Rust 1.83' oldest
 else
     skip 'clippy' 'needs clippy'
 fi

@@ -8,6 +8,7 @@ use std::fmt::{Debug, Display};
 use jcobs::{
     CobsDecoder, CobsDecoderHeapless, CobsDecoderOwned, CobsEncoder, DecodeError, DecodeReport,
     DecodeResult, DecoderState, DecodingResult, DestBufTooSmallError, EncoderState, PushResult,
+    ReadFault, UnbufferedDecoder, UnbufferedEncoder,
 };
 
 const LENGTHS: [fn(usize) -> usize; 2] = [jcobs::max_encoding_overhead, jcobs::max_encoding_length];
@@ -74,6 +75,7 @@ fn decoders() {
     decoder!(CobsDecoderOwned);
     let _: fn(usize) -> CobsDecoderOwned = CobsDecoderOwned::new;
     let _: fn() -> CobsDecoderHeapless<4> = CobsDecoderHeapless::new;
+    let _: fn([u8; 4]) -> CobsDecoderHeapless<4> = CobsDecoderHeapless::new_with_vec;
     let _: fn(&mut CobsDecoderOwned) = CobsDecoderOwned::reset;
     let _: fn(&mut CobsDecoderHeapless<4>) = CobsDecoderHeapless::reset;
     let _: fn(&mut DecoderState, u8) -> Result<DecodeResult, DecodeError> = DecoderState::feed;
@@ -88,6 +90,7 @@ fn traits() {
     fn copy<T: Debug + Copy + Eq>() {}
     error::<DestBufTooSmallError>();
     error::<DecodeError>();
+    error::<ReadFault>();
     copy::<DecodeReport>();
     debug::<CobsEncoder<'_>>();
     debug::<CobsDecoder<'_>>();
@@ -98,5 +101,7 @@ fn traits() {
         EncoderState::default().clone(),
         DecoderState::default(),
         CobsDecoderHeapless::<4>::default(),
+        UnbufferedDecoder::default().clone(),
+        UnbufferedEncoder::default().clone(),
     );
 }

@@ -5,13 +5,13 @@ use std::fmt::Write as _;
 use std::fs;
 use std::path::Path;
 
-#[cfg(feature = "alloc")]
-use jcobs::CobsDecoderOwned;
 use jcobs::{
     CobsDecoder, CobsDecoderHeapless, CobsEncoder, DecodeError, DecodeReport, DecodeResult,
     DecoderState, DestBufTooSmallError, EncoderState, FrameKind, FrameReader, FrameSource, Next,
     PushResult, ReadFault,
 };
+#[cfg(feature = "alloc")]
+use jcobs::{CobsDecoderOwned, FrameOutcome};
 
 /// The words of a result, as the files have them.
 type Words = Vec<String>;
@@ -160,9 +160,11 @@ fn results(call: &str, arguments: &[&str]) -> Option<Vec<CallResult>> {
     };
     Some(match (call, arguments) {
         ("decoder", [buffer, pieces @ ..]) => decoder(&bytes(buffer), pieces),
-        ("decode_stream", [room, pieces @ ..]) => {
-            all_bytes(vec![decode_stream(number(room), pieces)])
-        }
+        ("decode_stream", [room, pieces @ ..]) => all_bytes(vec![
+            by_pushes(number(room), pieces),
+            #[cfg(feature = "alloc")]
+            decode_stream(number(room), pieces),
+        ]),
         ("next_frame", [room, reads @ ..]) => all_bytes(vec![next_frame(number(room), reads)]),
         _ => all_bytes(vec![
             encoding(call, arguments)
@@ -191,6 +193,14 @@ fn encoding(call: &str, arguments: &[&str]) -> Option<Words> {
             let frame = jcobs::encode_vec_with_sentinel(&bytes(message), byte(sentinel));
             vec![hex(&frame)]
         }
+        #[cfg(feature = "alloc")]
+        ("encode_frames", messages) => {
+            let messages: Vec<_> = messages.iter().map(|message| bytes(message)).collect();
+            vec![hex(
+                &jcobs::encode_frames(&messages).expect("there is memory")
+            )]
+        }
+        #[cfg(not(feature = "alloc"))]
         ("encode_frames", messages) => {
             let mut frames = Vec::new();
             for message in messages {
@@ -417,6 +427,9 @@ fn events(decoder: &mut dyn Streaming, pieces: &[&str], by_pushes: bool) -> Word
         while let Some(first) = rest.first() {
             let returned = if by_pushes {
                 let report = decoder.push(rest);
+                if let Ok(Some(report)) = report {
+                    assert_eq!(report.parsed_size(), decoder.parsed_size());
+                }
                 report.map(|report| report.map(|report| report.frame_size()))
             } else {
                 decoder.feed(*first)
@@ -441,9 +454,26 @@ fn events(decoder: &mut dyn Streaming, pieces: &[&str], by_pushes: bool) -> Word
     words
 }
 
-/// Two words for each piece of the stream. A piece that is too long is reported at its zero, where the bytes that were
-/// taken end with it.
+/// Two words for each piece of the stream, by one call for each part of it.
+#[cfg(feature = "alloc")]
 fn decode_stream(room: usize, pieces: &[&str]) -> Words {
+    let mut decoder = CobsDecoderOwned::new(room);
+    let mut words = Vec::new();
+    for piece in pieces {
+        for outcome in jcobs::decode_stream(&mut decoder, &bytes(piece)).expect("there is memory") {
+            let (status, what) = match outcome {
+                FrameOutcome::Message(message) => ("message", hex(&message)),
+                FrameOutcome::Broken(count) => ("broken", count.to_string()),
+                FrameOutcome::TooLong => ("too_long", "-".to_owned()),
+            };
+            words.extend([status.to_owned(), what]);
+        }
+    }
+    words
+}
+
+/// The same by pushes. A piece that is too long is reported at its zero, where the bytes that were taken end with it.
+fn by_pushes(room: usize, pieces: &[&str]) -> Words {
     let mut dest = vec![0; room];
     let mut decoder = CobsDecoder::new(&mut dest);
     let mut words = Vec::new();

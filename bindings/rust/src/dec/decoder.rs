@@ -207,10 +207,10 @@ macro_rules! decoder_methods {
 /// `reset`, of the decoders that have it.
 macro_rules! decoder_reset {
     () => {
-        /// Goes back to where no frame has begun. The buffer stays.
+        /// Goes back to where no frame has begun. The buffer stays, and [`parsed_size`](Self::parsed_size).
         #[inline]
         pub fn reset(&mut self) {
-            self.progress = Progress::START;
+            self.progress.decoder.reset();
         }
     };
 }

@@ -74,12 +74,12 @@ impl core::error::Error for DecodeError {}
 /// ```
 /// # use jcobs::proved::*;
 /// let mut buffer = [0; 4];
-/// let mut decoder = CobsDecoder::new(&mut buffer);
+/// let mut decoder = UnbufferedDecoder::new();
 /// let rejected = PushError {
 ///     error: DecodeError::InvalidFrame { decoded_bytes: 1 },
 ///     parsed_size: 3,
 /// };
-/// assert_eq!(decoder.push(&[3, 7, 0, 2, 9, 0]), Err(rejected));
+/// assert_eq!(decoder.push(&mut buffer, &[3, 7, 0, 2, 9, 0]), Err(rejected));
 /// ```
 #[derive(Debug, Clone, Copy, PartialEq, Eq)]
 pub struct PushError {

@@ -20,7 +20,7 @@ use std::io::Read;
 /// assert_eq!(reader.next_frame(&mut source), Ok(Next::Broken(1)));
 /// # }
 /// ```
-#[derive(Debug, PartialEq, Eq)]
+#[derive(Debug, Clone, Copy, PartialEq, Eq)]
 pub enum Next {
     /// A piece ended that is a frame. Its message is this many bytes at the front of the decoder's buffer.
     Message(usize),
@@ -54,7 +54,7 @@ pub enum Next {
 ///     }
 /// }
 /// ```
-#[derive(Debug, PartialEq, Eq)]
+#[derive(Debug, Clone, Copy, PartialEq, Eq)]
 pub enum ReadFault {
     /// A read failed; an interrupted read is a failed one.
     Io,
@@ -65,8 +65,7 @@ pub enum ReadFault {
 
 /// A source of the bytes of a stream.
 ///
-/// Contracts see a source by its own relation of steps: a read, that is a failure or the bytes that it gave, takes
-/// it from one state to the next.
+/// [`FrameReader::next_frame`] panics if a read says that it gave more than 64 bytes.
 ///
 /// ```
 /// # use jcobs::proved::*;
@@ -175,8 +174,7 @@ const MOST_READS: usize = 65536;
 
 /// Reads the frames of a stream, one a call, with a decoder of its own.
 ///
-/// The source isn't part of it but given to each call, so a stream may go on in another source. Contracts see it as
-/// its decoder and the bytes that it has read and not yet fed to the decoder.
+/// The source isn't part of it but given to each call, so a stream may go on in another source.
 ///
 /// ```
 /// # use jcobs::proved::*;

@@ -207,7 +207,10 @@ macro_rules! by_pieces {
                 }
                 match pushed {
                     Ok(None) => {}
-                    Ok(Some(report)) => found.push((at, Ok(decoder.dest()[..report.frame_size()].to_vec()))),
+                    Ok(Some(report)) => {
+                        assert_eq!(report.parsed_size(), decoder.parsed_size());
+                        found.push((at, Ok(decoder.dest()[..report.frame_size()].to_vec())));
+                    }
                     Err(error) => found.push((at, Err(said(error)))),
                 }
                 was_over = is_over && stream[at - 1] != 0;

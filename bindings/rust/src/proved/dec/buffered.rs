@@ -153,7 +153,8 @@ impl WriteBuffer for CobsDecoder<'_> {
 
 /// Decodes a stream of frames, each ended by a zero, into a buffer of its own.
 ///
-/// It returns what [`CobsDecoder`](crate::CobsDecoder) does. Its memory is allocated once, by `new`, and its buffer
+/// By the byte it returns what
+/// [`CobsDecoder`](crate::CobsDecoder) does. Its memory is allocated once, by `new`, and its buffer
 /// keeps its length. That a zero ends each frame is Cheshire and Baker's; the calls are those of the crate `cobs`.
 ///
 /// ```
@@ -211,8 +212,8 @@ impl CobsDecoderOwned {
         self.inner.feed(&mut self.dest, byte)
     }
 
-    /// Takes bytes of the stream up to the first one whose result by `feed` isn't `Ok(None)`, as
-    /// [`CobsDecoder::push`](crate::CobsDecoder::push) does, with its errors.
+    /// Takes bytes of the stream up to the first one whose result by `feed` isn't `Ok(None)`.
+    /// The error says how many bytes were taken.
     ///
     /// ```
     /// # use jcobs::proved::*;

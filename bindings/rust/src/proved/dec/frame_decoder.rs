@@ -37,7 +37,7 @@ pub(crate) fn piece_end(returned: Result<Option<usize>, DecodeError>) -> Option<
 
 /// A decoder that is fed one byte of a stream after another, and owns or borrows the buffer of its output.
 ///
-/// Contracts see it as the bytes of its buffer and its phase. (The trait is this library's own.)
+/// (The trait is this library's own.)
 ///
 /// ```
 /// # use jcobs::proved::*;

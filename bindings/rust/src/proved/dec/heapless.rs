@@ -8,7 +8,8 @@ use crate::proved::error::{DecodeError, DecodeReport, PushError};
 
 /// Decodes a stream of frames, each ended by a zero, into a buffer of `N` bytes that lies in the value itself.
 ///
-/// It returns what [`CobsDecoder`](crate::CobsDecoder) does, and doesn't allocate. That a zero ends each frame is
+/// By the byte it returns what
+/// [`CobsDecoder`](crate::CobsDecoder) does, and doesn't allocate. That a zero ends each frame is
 /// Cheshire and Baker's; the calls are those of the crate `cobs`.
 ///
 /// ```
@@ -72,8 +73,8 @@ impl<const N: usize> CobsDecoderHeapless<N> {
         self.inner.feed(self.dest.as_mut_slice(), byte)
     }
 
-    /// Takes bytes of the stream up to the first one whose result by `feed` isn't `Ok(None)`, as
-    /// [`CobsDecoder::push`](crate::CobsDecoder::push) does, with its errors.
+    /// Takes bytes of the stream up to the first one whose result by `feed` isn't `Ok(None)`.
+    /// The error says how many bytes were taken.
     ///
     /// ```
     /// # use jcobs::proved::*;

@@ -48,7 +48,8 @@ pub enum DecoderPhase {
 
 /// Decodes a stream of frames, each ended by a zero, into a buffer that the caller passes to each call.
 ///
-/// It returns what [`CobsDecoder`](crate::CobsDecoder) does, and has no buffer of its own, only a few words of
+/// By the byte it returns what
+/// [`CobsDecoder`](crate::CobsDecoder) does, and has no buffer of its own, only a few words of
 /// state. So one buffer can serve what else a program does between two calls, and a decoder can lie in a struct
 /// beside its buffer, or cross to another language.
 ///
@@ -68,7 +69,7 @@ pub enum DecoderPhase {
 // No field says whether a piece has begun: a code at its front is taken as one after a full block is, which no zero
 // joins to anything. So a nonzero byte asks how much of its block is missing and, if it is a code, whether the block
 // before it was full, and nothing else.
-#[derive(Debug)]
+#[derive(Debug, Clone)]
 pub struct UnbufferedDecoder {
     /// How many bytes of this piece's output are written.
     pub(crate) dest_idx: usize,
@@ -238,8 +239,8 @@ impl UnbufferedDecoder {
         Ok(None)
     }
 
-    /// Takes bytes of the stream, over this buffer, up to the first one whose result by `feed` isn't `Ok(None)`, as
-    /// [`CobsDecoder::push`](crate::CobsDecoder::push) does, with its errors.
+    /// Takes bytes of the stream, over this buffer, up to the first one whose result by `feed` isn't `Ok(None)`.
+    /// The error says how many bytes were taken.
     ///
     /// ```
     /// # use jcobs::proved::*;

@@ -26,7 +26,7 @@ use crate::proved::error::DestBufTooSmallError;
 /// assert!(buffer.starts_with(b"\x06hello"));
 /// # Ok::<(), Box<dyn std::error::Error>>(())
 /// ```
-#[derive(Debug)]
+#[derive(Debug, Clone)]
 pub struct UnbufferedEncoder {
     progress: EncoderProgress,
 }
