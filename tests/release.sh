@@ -77,8 +77,17 @@ c_archive() { # ARCH
 
 c_source_archive() {
     there=$work/c-source/$name_of-c-source
-    mkdir -p "$there" && (cd "$tree/bindings/c" && cp -R source/jcobs.c include/jcobs.h include/jcobs.hpp man/jcobs.3 README.md examples "$there") &&
-        rm -rf "$there/examples/firmware" && cp "$tree"/LICENSE-* "$there" &&
+    mkdir -p "$there" && (cd "$tree/bindings/c" && cp -R source/jcobs.c include/jcobs.h include/jcobs.hpp man/jcobs.3 examples "$there") &&
+        rm -rf "$there/examples/firmware" "$there/examples/CMakeLists.txt" && cp "$tree"/LICENSE-* "$there" &&
+        cat >"$there/README" <<'END' &&
+jcobs: Consistent Overhead Byte Stuffing for C and C++, as one file of C
+
+    cc -I. examples/send_lines.c jcobs.c -o send_lines
+    echo hello | ./send_lines
+
+jcobs.c compiles by any C99 compiler. jcobs.h describes each call, jcobs.3 is its manual page (man ./jcobs.3), and jcobs.hpp
+has it for C++17. jcobs.c is made of a proved module, and tested; its top says how.
+END
         packed "$folder/$name_of-c-source.tar.gz" "$work/c-source" "$name_of-c-source"
 }
 

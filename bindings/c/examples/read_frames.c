@@ -89,5 +89,9 @@ int main(int argc, char **argv)
         puts("unfinished");
     free(bytes);
     free(buffer);
+    if (fflush(stdout) != 0 || ferror(stdout)) {
+        perror("read_frames");
+        return 1;
+    }
     return 0;
 }

@@ -7,16 +7,18 @@
 #include <string.h>
 
 #define LONGEST 65536
+#define ROOM JCOBS_MAX_LENGTH(LONGEST)
 
 /* The frame of the longest line, and the zero behind it. */
-static unsigned char frame[JCOBS_MAX_LENGTH(LONGEST) + 1];
+static unsigned char frame[ROOM + 1];
 
 /* Ends the frame of a line and sends it; returns 0 if that failed. */
 static int send_frame(jcobs_encoder *encoder)
 {
-    jcobs_answer answer = jcobs_encoder_finish_terminated(encoder, frame, sizeof frame);
+    size_t length = jcobs_encoder_finish(encoder, frame, ROOM).length;
 
-    return answer.status == JCOBS_OK && fwrite(frame, 1, answer.length, stdout) == answer.length && fflush(stdout) == 0;
+    frame[length] = 0;
+    return fwrite(frame, 1, length + 1, stdout) == length + 1 && fflush(stdout) == 0;
 }
 
 int main(void)
@@ -33,7 +35,7 @@ int main(void)
             unsigned char *newline = memchr(piece + at, '\n', n - at);
             size_t len = (newline != NULL ? (size_t)(newline - piece) : n) - at;
 
-            if (jcobs_encoder_push(&encoder, frame, sizeof frame - 1, piece + at, len).status != JCOBS_OK) {
+            if (jcobs_encoder_push(&encoder, frame, ROOM, piece + at, len).status != JCOBS_OK) {
                 fputs("send_lines: a line is too long\n", stderr);
                 return 1;
             }

@@ -28,6 +28,8 @@
 //     if (sender.push(std::string_view("id: ")) && sender.push(std::string_view(text))) {
 //         const jcobs::view frame = sender.finish_terminated();
 //         transmit(frame.data(), frame.size());
+//     } else {
+//         sender.reset();
 //     }
 //
 // The table in jcobs.h says what status, consumed and length are, and its preconditions hold here too, but that a view
@@ -76,7 +78,7 @@ struct is_temporary<Range, std::enable_if_t<!std::is_lvalue_reference_v<Range> &
 } // namespace detail
 
 // Bytes that are elsewhere, by a pointer and a length, as std::span of C++20. A view is made of any container or view
-// of bytes: unsigned char, char, std::byte.
+// of bytes: unsigned char, char, std::byte; but of an array of char, which may end with a '\0', by its pointer and a length.
 template <class Byte> class basic_view
 {
     using anything = std::conditional_t<std::is_const_v<Byte>, const void, void>;
@@ -124,10 +126,10 @@ template <class Byte> class basic_view
 using view = basic_view<const unsigned char>; // bytes that are read
 using buffer = basic_view<unsigned char>;     // bytes that are written
 
-// Returns the length of the longest frame of a message of this length, without a terminator.
+// Returns the length of the longest frame of a message of this length, without a terminator, or 0 if it doesn't fit a size_t.
 [[nodiscard]] constexpr std::size_t max_length(std::size_t message_len) noexcept
 {
-    return JCOBS_MAX_LENGTH(message_len);
+    return JCOBS_MAX_LENGTH(message_len) < message_len ? 0 : JCOBS_MAX_LENGTH(message_len);
 }
 
 // Returns how many bytes longer that frame is than its message.
@@ -203,7 +205,8 @@ class receiver
 
     // Calls on_message(view) for each message that ends in these bytes, and on_error(jcobs_answer) for each frame that
     // is broken or too long. The message is in the buffer until the next push. If one of the two throws, the bytes through
-    // that frame are taken, and those after it are not; the receiver is idle, and a next push begins a new frame.
+    // that frame are taken, and those after it are not; the receiver is idle, and a next push begins a new frame. To go on
+    // behind that frame, take the bytes by feed.
     template <class OnMessage, class OnError> void push(view bytes, OnMessage &&on_message, OnError &&on_error)
     {
         for (std::size_t at = 0; at < bytes.size();) {
@@ -279,7 +282,8 @@ class sender
     }
 
     // End the message and return its frame, without a terminator or with one, for the sentinel. The frame is in the buffer
-    // until the next push. It is empty if it doesn't fit: without a terminator only if the buffer is empty.
+    // until the next push. It is empty if it doesn't fit, without a terminator only if the buffer is empty: then nothing has
+    // changed, and reset forgets the message.
     [[nodiscard]] view finish(unsigned char sentinel = 0) noexcept
     {
         return {buffer_.data(),

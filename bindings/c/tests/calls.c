@@ -168,7 +168,7 @@ static void test_finish(void)
             expect(is_answer(answer, JCOBS_OK, 0, whole - 1), "for a sentinel");
             expect(memcmp(at_once, in_pieces, whole - 1) == 0 && in_pieces[whole - 1] == 0xaa, "the frame alone");
             if (sentinels[s] == 0) {
-                jcobs_encoder_push(&encoder, in_pieces, whole, message, length);
+                expect(jcobs_encoder_push(&encoder, in_pieces, whole, message, length).status == JCOBS_OK, "push");
                 answer = jcobs_encoder_finish_terminated(&encoder, in_pieces, whole);
                 expect(is_answer(answer, JCOBS_OK, 0, whole) && in_pieces[whole - 1] == 0, "with a zero");
             }

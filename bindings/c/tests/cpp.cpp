@@ -25,6 +25,7 @@ static_assert(is_written<std::array<std::byte, 4> &> && is_written<unsigned char
 static_assert(!is_written<std::string_view> && !is_written<const std::array<std::byte, 4> &>);
 static_assert(!is_written<jcobs::view> && !is_written<char (&)[6]>);
 static_assert(jcobs::max_length(0) == 1 && jcobs::max_length(254) == 255 && jcobs::max_length(255) == 257);
+static_assert(jcobs::max_length(static_cast<std::size_t>(-1)) == 0);
 static_assert(!std::is_copy_constructible_v<jcobs::receiver> && !std::is_copy_constructible_v<jcobs::sender>);
 
 // Buffers that end with the expression aren't taken; views of buffers that don't are.

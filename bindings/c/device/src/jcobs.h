@@ -3,7 +3,7 @@
  * COBS encodes a message, any bytes, as a frame that never contains one byte value, the sentinel. So the sentinel
  * can mark where frames end on a serial line, in a stream or in a file. The sentinel is 0, or the one that is
  * passed to a call. A frame is 1 byte longer than a message of up to 254 bytes, and at most 1 byte more for each
- * 254 bytes after these.
+ * 254 bytes, or part of them, after these.
  *
  * To receive, in reads of any size:
  *
@@ -49,13 +49,14 @@
  *
  *     jcobs_encoder encoder = JCOBS_ENCODER_INIT;
  *     unsigned char frame[JCOBS_MAX_LENGTH(1024) + 1];
- *     jcobs_answer answer;
  *
- *     jcobs_encoder_push(&encoder, frame, sizeof frame, "id: ", 4);
- *     jcobs_encoder_push(&encoder, frame, sizeof frame, text, strlen(text));
- *     answer = jcobs_encoder_finish_terminated(&encoder, frame, sizeof frame);
- *     if (answer.status == JCOBS_OK)
- *         transmit(frame, answer.length);
+ *     if (jcobs_encoder_push(&encoder, frame, sizeof frame, "id: ", 4).status == JCOBS_OK &&
+ *         jcobs_encoder_push(&encoder, frame, sizeof frame, text, strlen(text)).status == JCOBS_OK) {
+ *         jcobs_answer answer = jcobs_encoder_finish_terminated(&encoder, frame, sizeof frame);
+ *         if (answer.status == JCOBS_OK)
+ *             transmit(frame, answer.length);
+ *     }
+ *     jcobs_encoder_reset(&encoder);
  *
  * Preconditions
  *
@@ -111,6 +112,9 @@
  *                           TOO_SMALL  0                     0; the state and the buffer are as they were
  * encoder_finish..          OK         0                     the frame, and its terminator if asked for
  *                           TOO_SMALL  0                     0; the state and the buffer are as they were
+ *
+ * The output of the whole blocks ends with the zero between the last of them and the block that is cut off, unless
+ * that last one is full: that of 02 41 05 42 is 41 00.
  *
  * In the source of decode, decode_with_sentinel and decode_in_place no sentinel has to follow the frame: without
  * one the frame ends with the source, and consumed is the source's length. A frame that was cut off between two of
@@ -217,8 +221,9 @@ typedef struct jcobs_encoder {
 /* Returns the length of the longest frame of a message of this length, without a terminator: the length, and 1 for
  * each 254 bytes begun, and 1 for the empty message. If that doesn't fit a size_t, the function returns 0.
  *
- * The macro is the same as a constant expression, as for the length of an array. Its type is size_t, whatever
- * unsigned type the argument has; it evaluates its argument more than once, and doesn't serve in #if. */
+ * The macro is the same as a constant expression, as for the length of an array, but wraps round where the function
+ * returns 0. Its type is size_t, whatever unsigned type the argument has that isn't wider; it evaluates its argument
+ * more than once, and doesn't serve in #if. */
 #define JCOBS_MAX_LENGTH(message_len)                                                                                  \
     (sizeof(char) * (message_len) + sizeof(char) * (message_len) / 254 +                                               \
      (sizeof(char) * (message_len) % 254 != 0 || (message_len) == 0 ? 1 : 0))
@@ -303,16 +308,18 @@ unsigned int jcobs_decoder_is_idle(const jcobs_decoder *decoder) JCOBS_STATE JCO
 void jcobs_encoder_reset(jcobs_encoder *encoder) JCOBS_STATE;
 
 /* Takes the next bytes of a message, whose frame is made in the buffer. The status is TOO_SMALL exactly if the frame
- * of all that was taken and these bytes doesn't fit; then finish the frame, or push fewer bytes.
+ * of all that was taken and these bytes doesn't fit; then push fewer bytes, finish the shorter message, or give it up
+ * by jcobs_encoder_reset.
  *
  * From the first push to the finish, pass the same buffer with the same length, as the last call left it.
  * Otherwise the contents of the buffer are unspecified. */
 jcobs_answer jcobs_encoder_push(jcobs_encoder *encoder, void *buffer, size_t buffer_len, const void *bytes,
-                                size_t len) JCOBS_STATE JCOBS_ACCESS(write_only, 2, 3) JCOBS_ACCESS(read_only, 4, 5);
+                                size_t len) JCOBS_STATE JCOBS_ACCESS(write_only, 2, 3)
+    JCOBS_ACCESS(read_only, 4, 5) JCOBS_CHECKED;
 
 /* Takes one byte, as jcobs_encoder_push of that byte does. */
 jcobs_answer jcobs_encoder_feed(jcobs_encoder *encoder, void *buffer, size_t buffer_len, unsigned char byte) JCOBS_STATE
-    JCOBS_ACCESS(write_only, 2, 3);
+    JCOBS_ACCESS(write_only, 2, 3) JCOBS_CHECKED;
 
 /* Ends the message: the buffer then begins with its frame, the one that jcobs_encode writes, and the encoder is at
  * the start. The status is TOO_SMALL only if not even that frame fits: if the buffer is empty, or isn't the one that

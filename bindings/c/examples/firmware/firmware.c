@@ -20,7 +20,7 @@ static volatile unsigned char ring[256]; /* as long as a number of 8 bits counts
 static volatile unsigned char ring_head; /* the interrupt writes here */
 static unsigned char ring_tail;          /* the main loop reads here */
 
-void uart_received(unsigned char byte) /* called by the interrupt */
+void uart_received(unsigned char byte) /* called by the interrupt; the main loop reads before 256 bytes have come */
 {
     ring[ring_head] = byte;
     ring_head++;
