@@ -62,8 +62,12 @@ def extensions():
     asked = os.environ.get("JCOBS_BACKEND")
     found = library(MACHINE) if linux and asked != "compiled" else None
     stable_abi = sys.implementation.name == "cpython" and not sysconfig.get_config_var("Py_GIL_DISABLED")
-    if asked in ("prebuilt", "compiled") and not (found if asked == "prebuilt" else source()):
-        sys.exit(f"jcobs: there is no library that is {asked} for {sys.platform} on {MACHINE}")
+    if asked not in (None, "", "prebuilt", "compiled", "python"):
+        sys.exit("jcobs: JCOBS_BACKEND must be prebuilt, compiled or python")
+    if asked in ("prebuilt", "compiled") and not (stable_abi and (found if asked == "prebuilt" else source())):
+        sys.exit(
+            f"jcobs: there is no library that is {asked} for {sys.implementation.name} on {sys.platform}, {MACHINE}"
+        )
     if not stable_abi or asked == "python" or not (found or source()):
         return []
     sources = sorted(str(path.relative_to(HERE)) for path in (HERE / "src/_core").glob("*.c"))

@@ -34,6 +34,8 @@ def test_without_the_extension_the_fallback_works():
     with pytest.raises(AssertionError, match="import of jcobs._core halted"):
         backend_of(gone, JCOBS_BACKEND="prebuilt")
     assert backend_of(JCOBS_BACKEND="python") == "python"
+    with pytest.raises(AssertionError, match="must be prebuilt, compiled or python"):
+        backend_of(JCOBS_BACKEND="Python")
 
 
 @pytest.fixture

@@ -63,6 +63,18 @@ def test_wrong_options():
         assert "usage: python -m jcobs" in run(*words, status=2)
 
 
+def test_what_cannot_be_shown_or_held():
+    os.environ["PYTHONIOENCODING"] = "ascii"
+    try:
+        assert run(data=jcobs.encode("é".encode(), terminated=True)) == b"message 2 \\xe9\n"
+    finally:
+        del os.environ["PYTHONIOENCODING"]
+    for length in ("9" * 14, "9" * 20):
+        said = run("--max-length", length, status=1)
+        assert said.startswith("jcobs: ") and len(said) > len("jcobs: \n") and "Traceback" not in said
+    assert "line 1 is not" in run("send", "--json", data=b"[" * 100_000, status=1)
+
+
 def test_no_port():
     pytest.importorskip("serial")
     assert "/dev/no-such-port" in run("--port", "/dev/no-such-port", status=1)

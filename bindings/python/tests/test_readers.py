@@ -4,8 +4,12 @@ import contextlib
 import errno
 import io
 import itertools
+import math
 import os
+import shutil
 import socket
+import ssl
+import subprocess
 import threading
 import time
 
@@ -169,6 +173,38 @@ def test_the_timeout_of_a_socket():
         end.write(b"\x03hi\0")
         assert list(reader) == [jcobs.Message(b"hi")]
         assert sock.gettimeout() == 0.02
+
+
+@pytest.mark.skipif(shutil.which("openssl") is None, reason="needs openssl")
+def test_the_timeout_over_tls(tmp_path):
+    key, certificate = str(tmp_path / "key"), str(tmp_path / "certificate")
+    words = ["openssl", "req", "-x509", "-nodes", "-newkey", "rsa:2048", "-subj", "/CN=localhost", "-keyout", key]
+    subprocess.run([*words, "-out", certificate], check=True, capture_output=True)
+    context = ssl.SSLContext(ssl.PROTOCOL_TLS_SERVER)
+    context.load_cert_chain(certificate, key)
+    left, right = socket.socketpair()
+    go_on, done = threading.Event(), threading.Event()
+
+    def serve():
+        with context.wrap_socket(left, server_side=True) as server:  # it sends tickets, which are no data
+            go_on.wait(60)
+            server.sendall(b"\x03hi\x00")
+            done.wait(60)
+
+    thread = threading.Thread(target=serve)
+    thread.start()
+    client = ssl.create_default_context(cafile=certificate)
+    with client.wrap_socket(right, server_hostname="localhost") as sock:
+        reader = jcobs.FrameReader(sock)
+        begun = time.monotonic()
+        assert reader.read(timeout=0.2) is None and reader.read(timeout=0) is None
+        assert time.monotonic() - begun < 30
+        go_on.set()
+        assert reader.read(timeout=math.inf) == jcobs.Message(b"hi")
+        sock.setblocking(False)
+        assert reader.read(timeout=0.2) is None and reader.read() is None and sock.gettimeout() == 0
+    done.set()
+    thread.join()
 
 
 def test_a_connection_that_is_lost_is_no_timeout():

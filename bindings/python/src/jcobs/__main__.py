@@ -3,6 +3,7 @@
 from __future__ import annotations
 
 import argparse
+import io
 import json
 import os
 import sys
@@ -88,7 +89,7 @@ def messages(lines: BinaryIO, options: argparse.Namespace) -> Iterator[bytes]:
                 yield bytes.fromhex(text.decode("ascii"))
             else:
                 yield text
-        except (ValueError, KeyError, TypeError):
+        except (ValueError, KeyError, TypeError, RecursionError):
             wanted = "a JSON object with hexadecimal digits as hex" if options.json else "hexadecimal digits"
             raise Fault(f"line {number} is not {wanted}") from None
 
@@ -104,6 +105,8 @@ def run(options: argparse.Namespace) -> None:
     if options.command == "send":
         send(sys.stdin.buffer, port or sys.stdout.buffer, options)
     else:
+        if isinstance(sys.stdout, io.TextIOWrapper):
+            sys.stdout.reconfigure(errors="backslashreplace")  # what the terminal has no characters for
         show(port or cast("Readable", sys.stdin.buffer), sys.stdout, options)
 
 
@@ -119,8 +122,8 @@ def main(words: Optional[List[str]] = None) -> int:
     except BrokenPipeError:
         # No one reads the output any more; the interpreter flushes it once more at its end.
         os.dup2(os.open(os.devnull, os.O_WRONLY), sys.stdout.fileno())
-    except (Fault, OSError, MemoryError) as error:
-        print(f"jcobs: {error or 'out of memory'}", file=sys.stderr)
+    except (Fault, OSError, MemoryError, OverflowError) as error:
+        print(f"jcobs: {str(error) or 'out of memory'}", file=sys.stderr)
         return 1
     except KeyboardInterrupt:
         return 130

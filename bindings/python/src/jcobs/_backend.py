@@ -11,6 +11,8 @@ from typing import TYPE_CHECKING, Literal
 
 if TYPE_CHECKING:
     from jcobs import _core as core
+elif os.environ.get("JCOBS_BACKEND", "") not in ("", "prebuilt", "compiled", "python"):
+    raise ImportError("JCOBS_BACKEND must be prebuilt, compiled or python")
 elif os.environ.get("JCOBS_BACKEND") == "python":
     from jcobs import _plain as core
 else:

@@ -8,7 +8,7 @@ from __future__ import annotations
 import io
 import operator
 import sys
-from typing import TYPE_CHECKING, Any, Callable, List, Tuple, TypeVar
+from typing import TYPE_CHECKING, Any, Callable, List, Tuple, Type, TypeVar
 
 if TYPE_CHECKING:
     from _typeshed import ReadableBuffer, WriteableBuffer
@@ -126,13 +126,20 @@ def max_length(length: int) -> int:
     return length + max(1, -(-length // FULL))
 
 
+AnOutcome = TypeVar("AnOutcome", bound="Outcome")
+
+
 class Outcome:
     __slots__ = ("_data",)
 
-    def __init__(self, data: bytes) -> None:
+    _data: bytes
+
+    def __new__(cls: Type[AnOutcome], data: bytes) -> AnOutcome:
         if not isinstance(data, bytes):
-            raise TypeError(f"{type(self).__name__}() argument 'data' must be bytes, not {type(data).__name__}")
-        self._data = data
+            raise TypeError(f"{cls.__name__}() argument 'data' must be bytes, not {type(data).__name__}")
+        outcome = super().__new__(cls)
+        outcome._data = data
+        return outcome
 
     @property
     def data(self) -> bytes:

@@ -21,6 +21,8 @@ if TYPE_CHECKING:
     from _typeshed import ReadableBuffer
 
 CHUNK = 65536
+# A wait in seconds that every system takes.
+LONGEST = 2_000_000.0
 
 
 class Readable(Protocol):
@@ -63,7 +65,7 @@ class _Deadline:
         self._end = None if timeout is None else time.monotonic() + timeout
 
     def left(self) -> Optional[float]:
-        return None if self._end is None else max(0.0, self._end - time.monotonic())
+        return None if self._end is None else min(max(0.0, self._end - time.monotonic()), LONGEST)
 
 
 def _ready(file: Any, timeout: float) -> bool:
@@ -75,8 +77,6 @@ def _ready(file: Any, timeout: float) -> bool:
         raise TypeError(f"a timeout needs a serial port, a socket or a file: {kind} has no fileno") from None
     except io.UnsupportedOperation:
         return True  # bytes in memory
-    if hasattr(file, "pending") and file.pending():
-        return True  # an SSL socket has decrypted some already
     if not hasattr(select, "poll"):
         return bool(select.select([descriptor], [], [], timeout)[0])
     poll = select.poll()
@@ -95,6 +95,21 @@ def _read_port(port: Any, timeout: Optional[float]) -> Optional[bytes]:
         return port.read(1) or None
     finally:
         port.timeout = own
+
+
+def _read_ssl(sock: Any, timeout: Optional[float]) -> Optional[bytes]:
+    """Reads what an SSL socket has, or waits for it: what makes it readable may be a record without data."""
+    from ssl import SSLWantReadError
+
+    own = sock.gettimeout()
+    try:
+        if timeout is not None:
+            sock.settimeout(timeout)
+        return _read_socket(sock, None)
+    except SSLWantReadError:
+        return None
+    finally:
+        sock.settimeout(own)
 
 
 def _read_socket(sock: Any, timeout: Optional[float]) -> Optional[bytes]:
@@ -136,7 +151,7 @@ class FrameReader(_Frames):
 
     `read` returns the outcome of one frame: a `Message`, `Broken` or `TooLong`. Iterating yields each one, as soon as
     its frame ends, until the stream ends or a timeout of the port or socket passes. Reading can go on after that, and no
-    byte is lost if a read raises an exception.
+    byte is lost if the read of the file raises an exception; if a signal handler does, those of one read may be.
 
     >>> import io
     >>> reader = jcobs.FrameReader(io.BytesIO(b"\\x03hi\\x00\\x06hello\\x00\\x05by"))
@@ -156,7 +171,13 @@ class FrameReader(_Frames):
         super().__init__(max_length, sentinel)
         self._file: Any = file
         self._read = (
-            _read_port if hasattr(file, "in_waiting") else _read_socket if hasattr(file, "recv") else _read_file
+            _read_port
+            if hasattr(file, "in_waiting")
+            else _read_file
+            if not hasattr(file, "recv")
+            else _read_ssl
+            if hasattr(file, "pending")
+            else _read_socket
         )
 
     def _take(self, timeout: Optional[float]) -> Optional[bytes]:
@@ -171,6 +192,9 @@ class FrameReader(_Frames):
 
         Without `timeout` it waits as the object does: None means that a timeout of its own has passed, or that it has
         nothing now and doesn't wait. Raises EOFError at the end of the stream.
+
+        A timeout doesn't count what something else has read into a file's own buffer, as `readline` does: open the file
+        with `buffering=0`, or give such bytes to a `Decoder`.
 
         On Windows only serial ports and sockets can have a timeout.
 
