@@ -22,7 +22,7 @@ declare global {
 export type Bytes = ArrayBuffer | SharedArrayBuffer | ArrayBufferView;
 
 /** Where `load` gets the module from. */
-export type Source = string | URL | Response | Bytes | WebAssembly.Module;
+export type Source = string | URL | Response | PromiseLike<Response> | Bytes | WebAssembly.Module;
 
 export interface SentinelOptions {
   /** The byte that a frame never contains, 0 to 255. Default 0. */

@@ -301,7 +301,7 @@ export class FrameEncoder {
  * called once, however it ends: engines don't notify a TransformStream of every way.
  */
 function ends(take, close) {
-  const link = { take, close, out: null, into: null, wake: () => {}, isWanted: false, isOver: false };
+  const link = { take, close, out: null, into: null, wake: () => {}, isWanted: false, isOver: false, reason: undefined };
   return { readable: readableOf(link), writable: writableOf(link) };
 }
 
@@ -309,6 +309,7 @@ function ends(take, close) {
 function fail(link, end, reason) {
   if (link.isOver) return;
   link.isOver = true;
+  link.reason = reason;
   link.close();
   end.error(reason);
   link.wake();
@@ -336,7 +337,7 @@ function writableOf(link) {
     },
     async write(chunk) {
       while (!link.isWanted && !link.isOver) await new Promise((done) => (link.wake = done));
-      if (link.isOver) return;
+      if (link.isOver) throw link.reason;
       let count = 0;
       link.isWanted = false;
       try {

@@ -217,7 +217,8 @@ async function loadFrom(source) {
   compiled = module;
 }
 
-async function moduleOf(source) {
+async function moduleOf(given) {
+  const source = await given; // as of `fetch`
   if (source instanceof WebAssembly.Module) return source;
   if (isBytes(source)) return WebAssembly.compile(bytesOf(source));
   if (typeof Response === "function" && source instanceof Response) return WebAssembly.compile(await bytesOfResponse(source));
@@ -308,7 +309,8 @@ const isBytes = (source) => ArrayBuffer.isView(source) || isBuffer(source);
 
 /** The bytes of an ArrayBuffer or of any view of one. */
 export function bytesOf(source) {
-  if (source instanceof Uint8Array) return source;
+  // what a detached buffer had isn't no bytes: the constructor throws
+  if (source instanceof Uint8Array && source.length > 0) return source;
   if (ArrayBuffer.isView(source)) return new Uint8Array(source.buffer, source.byteOffset, source.byteLength);
   if (isBuffer(source)) return new Uint8Array(source);
   throw new TypeError("bytes are wanted: a Uint8Array, another view, or an ArrayBuffer");

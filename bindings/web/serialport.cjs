@@ -50,9 +50,10 @@ class FrameDecoderTransform extends Transform {
 class FrameEncoderTransform extends Transform {
   #options;
 
-  constructor(options) {
+  constructor({ sentinel = 0, ...others } = {}) {
     super({ writableObjectMode: true });
-    this.#options = { ...options, terminated: true };
+    for (const name of Object.keys(others)) throw new TypeError(`there is no option “${name}” here, but sentinel`);
+    this.#options = { sentinel, terminated: true };
   }
 
   _construct(done) {

@@ -222,7 +222,8 @@ async function loadFrom(source) {
   compiled = module;
 }
 
-async function moduleOf(source) {
+async function moduleOf(given) {
+  const source = await given; // as of `fetch`
   if (source instanceof WebAssembly.Module) return source;
   if (isBytes(source)) return WebAssembly.compile(bytesOf(source));
   if (typeof Response === "function" && source instanceof Response) return WebAssembly.compile(await bytesOfResponse(source));
@@ -313,7 +314,8 @@ const isBytes = (source) => ArrayBuffer.isView(source) || isBuffer(source);
 
 /** The bytes of an ArrayBuffer or of any view of one. */
 function bytesOf(source) {
-  if (source instanceof Uint8Array) return source;
+  // what a detached buffer had isn't no bytes: the constructor throws
+  if (source instanceof Uint8Array && source.length > 0) return source;
   if (ArrayBuffer.isView(source)) return new Uint8Array(source.buffer, source.byteOffset, source.byteLength);
   if (isBuffer(source)) return new Uint8Array(source);
   throw new TypeError("bytes are wanted: a Uint8Array, another view, or an ArrayBuffer");
@@ -620,7 +622,7 @@ class FrameEncoder {
  * called once, however it ends: engines don't notify a TransformStream of every way.
  */
 function ends(take, close) {
-  const link = { take, close, out: null, into: null, wake: () => {}, isWanted: false, isOver: false };
+  const link = { take, close, out: null, into: null, wake: () => {}, isWanted: false, isOver: false, reason: undefined };
   return { readable: readableOf(link), writable: writableOf(link) };
 }
 
@@ -628,6 +630,7 @@ function ends(take, close) {
 function fail(link, end, reason) {
   if (link.isOver) return;
   link.isOver = true;
+  link.reason = reason;
   link.close();
   end.error(reason);
   link.wake();
@@ -655,7 +658,7 @@ function writableOf(link) {
     },
     async write(chunk) {
       while (!link.isWanted && !link.isOver) await new Promise((done) => (link.wake = done));
-      if (link.isOver) return;
+      if (link.isOver) throw link.reason;
       let count = 0;
       link.isWanted = false;
       try {

@@ -181,6 +181,7 @@ function unescaped(text, isBytes, isRaw = false) {
   };
   if (isRaw) add(text);
   else {
+    if (!isBytes && /\\x[0-9a-f]{3}/i.test(text)) throw new Unreadable("After \\x C takes all digits, other languages two: write the next one as an escape too.");
     for (const [whole, pair, octal, point, long, newline, escape, plain] of text.matchAll(/\\x([0-9a-f]{2})|\\([0-7]{1,3})|\\u(?:\{([0-9a-f]{1,6})\}|([0-9a-f]{4}))|\\(\n\s*)|\\(.)|([^\\])/giu)) {
       if (pair) found.push(parseInt(pair, 16));
       else if (octal) found.push(parseInt(octal, 8) & 255);

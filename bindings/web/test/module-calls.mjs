@@ -51,6 +51,7 @@ for (const [name, given] of Object.entries({
   "an ArrayBuffer": wasm.buffer.slice(wasm.byteOffset, wasm.byteOffset + wasm.length),
   "a module": await WebAssembly.compile(wasm),
   "a Response": new Response(wasm),
+  "what fetch returns": Promise.resolve(new Response(wasm)),
   "nothing": undefined,
   "a URL of a file": pathToFileURL(process.argv[2]),
 })) {
@@ -83,6 +84,15 @@ await check("every kind of bytes is taken", () => {
   equal(cobs.encode(padded.subarray(2, 6)), FRAME, "of a subarray");
   equal(cobs.encode(new DataView(padded.buffer, 2, 4)), FRAME, "of a view");
   equal(cobs.encode(MESSAGE.buffer), FRAME, "of a buffer");
+});
+await check("bytes that are another thread's by now are refused", () => {
+  const decoder = new cobs.FrameDecoder();
+  const gone = Uint8Array.from(FRAME);
+  structuredClone(gone, { transfer: [gone.buffer] });
+  for (const call of [cobs.decode, cobs.encode, cobs.frames, (chunk) => decoder.push(chunk, () => {})]) {
+    throws(() => call(gone), (error) => error instanceof TypeError, "it");
+  }
+  decoder.close();
 });
 await check("what is no bytes is refused", async () => {
   for (const wrong of ["text", [1, 2], null, 7]) await throws(() => cobs.encode(wrong), (error) => error instanceof TypeError, `encode of ${wrong}`);

@@ -118,6 +118,7 @@ const WRONG = [
   ["f({0x01})(2)", "before"],
   ["[0x03, 0x0a].to_vec()", "no list"],
   ["b'\\x0'", "escape"],
+  ['"\\x01a"', "C takes all"],
   ["b'\\u00e9'", "escape"],
   ['"03 0a"', "quotes"],
   ['"AwoLAgw="', "quotes"],

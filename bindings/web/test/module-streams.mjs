@@ -162,6 +162,14 @@ await check("a stream waits until what it gave out is read", async () => {
   await writer.close();
   equal((await last).done, true, "the end");
 });
+await check("a write that waits for a reader fails if there is none any more", async () => {
+  const { readable, writable } = new cobs.FrameDecoderStream();
+  const writer = writable.getWriter();
+  writer.closed.catch(() => {});
+  const written = writer.write(Uint8Array.from([...FRAME, 0])).then(() => "done", (reason) => reason);
+  await readable.cancel("gone");
+  equal(await written, "gone", "its reason");
+});
 await check("abort ends a write that waits for a reader, and what it would have given is the error", async () => {
   const stream = new cobs.FrameDecoderStream();
   const writer = stream.writable.getWriter();

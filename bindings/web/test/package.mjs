@@ -48,12 +48,19 @@ async function overTerminal(there) {
     encoder.end();
     reader.destroy();
     outcomes.destroy();
-    for (const [options, message] of [[undefined, "text"], [{ maxLength: 9 }, messages[0]]]) {
-      let fault;
-      const bad = new FrameEncoderTransform(options).on("error", (error) => (fault = error));
-      bad.write(message);
-      await until(() => fault, "a message that is no bytes, and an option that is none");
-      holds(fault instanceof TypeError, "their errors");
+    let fault;
+    const bad = new FrameEncoderTransform().on("error", (error) => (fault = error));
+    bad.write("text");
+    await until(() => fault, "a message that is no bytes");
+    holds(fault instanceof TypeError, "its error");
+    for (const options of [{ terminated: false }, null]) {
+      fault = undefined;
+      try {
+        new FrameEncoderTransform(options);
+      } catch (error) {
+        fault = error;
+      }
+      holds(fault instanceof TypeError, "options that aren't its own");
     }
   } finally {
     socat.kill();
