@@ -205,13 +205,14 @@ class receiver
 
     // Calls on_message(view) for each message that ends in these bytes, and on_error(jcobs_answer) for each frame that
     // is broken or too long. The message is in the buffer until the next push. If one of the two throws, the bytes through
-    // that frame are taken, and those after it are not; the receiver is idle, and a next push begins a new frame. To go on
-    // behind that frame, take the bytes by feed.
+    // that frame are taken, and those after it are not; the receiver is idle, and a next push begins a new frame.
     template <class OnMessage, class OnError> void push(view bytes, OnMessage &&on_message, OnError &&on_error)
     {
+        consumed_ = 0;
         for (std::size_t at = 0; at < bytes.size();) {
             const jcobs_answer answer = next(bytes.data() + at, bytes.size() - at);
             at += answer.consumed;
+            consumed_ = at;
             if (answer.status == JCOBS_OK)
                 on_message(view(buffer_.data(), answer.length));
             else if (answer.status != JCOBS_MORE)
@@ -223,6 +224,12 @@ class receiver
     template <class OnMessage> void push(view bytes, OnMessage &&on_message)
     {
         push(bytes, std::forward<OnMessage>(on_message), [](jcobs_answer) {});
+    }
+
+    // Returns how many bytes the last push has taken: all, unless a callback threw.
+    [[nodiscard]] std::size_t consumed() const noexcept
+    {
+        return consumed_;
     }
 
     // Takes one byte. The message, if the status is JCOBS_OK, is the first bytes of the buffer.
@@ -254,6 +261,7 @@ class receiver
 
     jcobs_decoder decoder_ = JCOBS_DECODER_INIT;
     buffer buffer_;
+    std::size_t consumed_ = 0;
     unsigned char sentinel_;
 };
 

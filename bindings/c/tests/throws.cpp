@@ -6,8 +6,9 @@
 
 using namespace std::string_view_literals;
 
-// Pushes bytes of which the first frame's callback throws, and returns the length of the next message, or 99.
-static std::size_t length_after(std::string_view first, std::string_view second)
+// Pushes bytes of which the first frame's callback throws, and returns the length of the next message, or 99. The first frame
+// has so many bytes with its zero.
+static std::size_t length_after(std::string_view first, std::size_t taken, std::string_view second)
 {
     unsigned char messages[4];
     jcobs::receiver receiver(messages);
@@ -19,16 +20,17 @@ static std::size_t length_after(std::string_view first, std::string_view second)
         return 99;
     } catch (int) {
     }
-    if (!receiver.is_idle())
+    if (!receiver.is_idle() || receiver.consumed() != taken)
         return 99;
     receiver.push(second, [&](jcobs::view message) { length = message.size(); });
-    return length;
+    return receiver.consumed() == second.size() ? length : 99;
 }
 
 int main()
 {
-    const bool holds = length_after("\3hi\0\4he"sv, "\2a\0"sv) == 1 && length_after("\5a\0\4he"sv, "\3hi\0"sv) == 2 &&
-                       length_after("\7toolong\0\4he"sv, "\1\0"sv) == 0;
+    const bool holds = length_after("\3hi\0\4he"sv, 4, "\2a\0"sv) == 1 &&
+                       length_after("\5a\0\4he"sv, 3, "\3hi\0"sv) == 2 &&
+                       length_after("\7toolong\0\4he"sv, 9, "\1\0"sv) == 0;
 
     std::puts(holds ? "after a callback that throws, the next frame is received" : "failed");
     return holds ? 0 : 1;
