@@ -8,9 +8,10 @@ import operator
 import os
 import select
 import socket
+import sys
 import time
 from collections import deque
-from typing import TYPE_CHECKING, Any, AsyncIterator, Deque, Iterator, Optional, Protocol, Union
+from typing import TYPE_CHECKING, Any, AsyncIterator, Callable, Deque, Iterator, Optional, Protocol, Union
 
 from jcobs._frames import encode
 from jcobs._streams import Coder, Decoder, Message, Outcome
@@ -77,6 +78,8 @@ def _ready(file: Any, timeout: float) -> bool:
         raise TypeError(f"a timeout needs a serial port, a socket or a file: {kind} has no fileno") from None
     except io.UnsupportedOperation:
         return True  # bytes in memory
+    if hasattr(file, "pending") and file.pending():
+        return True  # a socket of pyOpenSSL has decrypted some already
     if not hasattr(select, "poll"):
         return bool(select.select([descriptor], [], [], timeout)[0])
     poll = select.poll()
@@ -109,7 +112,8 @@ def _read_ssl(sock: Any, timeout: Optional[float]) -> Optional[bytes]:
     except SSLWantReadError:
         return None
     finally:
-        sock.settimeout(own)
+        if timeout is not None:
+            sock.settimeout(own)
 
 
 def _read_socket(sock: Any, timeout: Optional[float]) -> Optional[bytes]:
@@ -146,6 +150,16 @@ def _read_file(file: Any, timeout: Optional[float]) -> Optional[bytes]:
     return chunk
 
 
+def _read_of(file: Any) -> Callable[[Any, Optional[float]], Optional[bytes]]:
+    """The read for what a file is."""
+    if hasattr(file, "in_waiting"):
+        return _read_port
+    if not hasattr(file, "recv"):
+        return _read_file
+    ssl = sys.modules.get("ssl")
+    return _read_ssl if ssl and isinstance(file, ssl.SSLSocket) else _read_socket
+
+
 class FrameReader(_Frames):
     """Reads frames from a serial port, a socket, a pipe or a file, and sends messages to it.
 
@@ -170,15 +184,7 @@ class FrameReader(_Frames):
     def __init__(self, file: Union[Readable, Receivable], max_length: int = 65536, sentinel: int = 0) -> None:
         super().__init__(max_length, sentinel)
         self._file: Any = file
-        self._read = (
-            _read_port
-            if hasattr(file, "in_waiting")
-            else _read_file
-            if not hasattr(file, "recv")
-            else _read_ssl
-            if hasattr(file, "pending")
-            else _read_socket
-        )
+        self._read = _read_of(file)
 
     def _take(self, timeout: Optional[float]) -> Optional[bytes]:
         """Decodes the bytes of one read, and returns them: none at the end, or None at a timeout."""
