@@ -4,8 +4,9 @@
 usage: translate.py [TO [CRATES]]
 
 Drops what is for the prover, such as contracts, ghost fields and laws, and gives the names that Rust has: of modules, of
-the vectors and of memory, where Rust has no allocator to pass. Function bodies stay as they are otherwise. A form that it
-doesn't know is an error, with its file and line. Then rustfmt lays the files out. tests/proved.py says what may differ.
+the vectors and of memory, where Rust has no allocator to pass. Function bodies stay as they are otherwise, and docs but for
+REWORDED. A form that it doesn't know is an error, with its file and line. Then rustfmt lays the files out. tests/proved.py
+says what may differ.
 """
 import re
 import subprocess

@@ -66,8 +66,8 @@
 //!
 //! - `std` (default): `alloc`, and [`Recorded`], a source of bytes over any [`std::io::Read`].
 //! - `alloc`: the calls that make vectors, and [`CobsDecoderOwned`].
-//! - `small`: bodies that go byte by byte, for firmware, of the calls of the crate `cobs` but
-//!   [`decode_with_sentinel`], and of [`frame_kind`]. All others keep those with vectors.
+//! - `small`: bodies that go byte by byte, for firmware: of [`frame_kind`] and the calls of the crate `cobs`, except
+//!   [`decode_with_sentinel`] and `decode_vec_with_sentinel`. These and all others keep those with vectors.
 //! - `serde`, `defmt`: derives for [`DecodeError`], [`DestBufTooSmallError`] and [`DecodeReport`].
 //! - `heapless`: [`CobsDecoderHeapless::new_with_vec`] takes a `heapless::Vec`.
 //!
