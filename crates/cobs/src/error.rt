@@ -34,7 +34,7 @@ pub enum DecodeError {
     /// The frame breaks off inside a block, or no frame is there.
     #[error("frame with invalid format, written {decoded_bytes} to decoded buffer")]
     InvalidFrame {
-        /// How many decoded bytes are at the front of the buffer.
+        /// How many bytes it gave, which are at the front of a buffer of the caller's.
         decoded_bytes: usize,
     },
 

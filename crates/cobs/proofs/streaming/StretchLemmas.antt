@@ -91,10 +91,6 @@ phase_with-at base p full left h e q = grind (arith, begun, written_by)
 
 -- THE RUN OF A DECODER
 
-put_over : (at written : ℕ) (dest ys out : List ℕ) → at + length out ≤ length dest → written ≡ length out → take written ys ≡ out → drop written ys ≡ drop written (take (length dest - at) (drop at dest))
-    → put_mid at (length dest - at) dest ys ≡ over at dest out
-put_over at written dest ys out room long front rest = grind (arith, drop_all, length-drop, take-append-drop, take_rest, drop-drop, append-nil)
-
 -- n bytes that were written to the front of a part
 pub part_put : (at n : ℕ) (dest ys xs : List ℕ) → ys ≡ xs ++ drop n (take (length dest - at) (drop at dest)) → put_mid at (length dest - at) dest ys ≡ take at dest ++ (xs ++ drop (at + n) dest)
 part_put at n dest ys xs is = grind (arith, drop_all, length-drop, take_rest, drop-drop, append-nil)
@@ -109,55 +105,51 @@ module _ (base : ℕ) (buffer xs : List ℕ) (room : base + length xs ≤ length
   behind = ap (λ (k : ℕ). drop k (over base buffer xs)) (sym front-of) ∙ drop-append_seam (take base buffer) (xs ++ drop (base + length xs) buffer)
 
   -- a stretch that was copied behind the output so far
-  pub over-stretch : take (length xs) (take (length (over base buffer xs) - base) (drop base (over base buffer xs))) ≡ xs
-  over-stretch =
-      take-take (length xs) (length (over base buffer xs) - base) (drop base (over base buffer xs)) (omega (arith, length-over base buffer xs room))
-      ∙ ap (take (length xs)) behind ∙ take-append_seam xs (drop (base + length xs) buffer)
+  pub over-stretch : take (base + length xs - base) (drop base (over base buffer xs)) ≡ xs
+  over-stretch = ap (take (base + length xs - base)) behind ∙ ap (λ (k : ℕ). take k (xs ++ drop (base + length xs) buffer)) (omega arith) ∙ take-append_seam xs (drop (base + length xs) buffer)
 
   -- written over by as many bytes
-  over-over : (ys : List ℕ) → length ys ≡ length xs → over base (over base buffer xs) ys ≡ over base buffer ys
+  over-over : (ys : List ℕ) → length ys ≡ length xs → put_mid base (base + length xs - base) (over base buffer xs) ys ≡ over base buffer ys
   over-over ys same =
-      ap (λ (l : List ℕ). l ++ (ys ++ drop (base + length ys) (over base buffer xs)))
+      ap (λ (l : List ℕ). l ++ (ys ++ drop (base + length xs - base) (drop base (over base buffer xs))))
       (ap (λ (k : ℕ). take k (over base buffer xs)) (sym front-of) ∙ take-append_seam (take base buffer) (xs ++ drop (base + length xs) buffer))
-      ∙ ap (λ (l : List ℕ). take base buffer ++ (ys ++ l))
-      (ap (λ (k : ℕ). drop (base + k) (over base buffer xs)) same ∙ ap (λ (k : ℕ). drop k (over base buffer xs)) (omega arith) ∙ sym (drop-drop (length xs) base (over base buffer xs))
-      ∙ ap (drop (length xs)) behind ∙ drop-append_seam xs (drop (base + length xs) buffer) ∙ ap (λ (k : ℕ). drop (base + k) buffer) (sym same))
+      ∙ ap (λ (l : List ℕ). take base buffer ++ (ys ++ drop (base + length xs - base) l)) behind
+      ∙ ap (λ (k : ℕ). take base buffer ++ (ys ++ drop k (xs ++ drop (base + length xs) buffer))) (omega arith)
+      ∙ ap (λ (l : List ℕ). take base buffer ++ (ys ++ l)) (drop-append_seam xs (drop (base + length xs) buffer))
+      ∙ ap (λ (k : ℕ). take base buffer ++ (ys ++ drop (base + k) buffer)) (sym same)
 
 -- an open block that isn't full is like one whose code is one more than it is missing
 module _ (inner : UnbufferedDecoder) (len : ℕ) (before dest xs : List ℕ) (long : length xs ≡ len) (room : inner.dest_idx + len ≤ length before)
     (copied : dest ≡ take inner.dest_idx before ++ (xs ++ drop (inner.dest_idx + len) before)) where
-  abbrev copy : List ℕ
-  copy = take (length dest - inner.dest_idx) (drop inner.dest_idx dest)
-
   abbrev piece : List ℕ
-  piece = (inner.left + 1) ∷ take (len + 1 - 1) copy
+  piece = (inner.left + 1) ∷ take (inner.dest_idx + len - inner.dest_idx) (drop inner.dest_idx dest)
 
   dest-is : dest ≡ over inner.dest_idx before xs
   dest-is = copied ∙ ap (λ (k : ℕ). take inner.dest_idx before ++ (xs ++ drop (inner.dest_idx + k) before)) (sym long)
 
   piece-is : piece ≡ (inner.left + 1) ∷ xs
   piece-is =
-      ap (λ (k : ℕ). (inner.left + 1) ∷ take k copy) (omega arith) ∙ ap (λ (l : List ℕ). (inner.left + 1) ∷ take (length xs) (take (length l - inner.dest_idx) (drop inner.dest_idx l))) dest-is
+      ap (λ (k : ℕ). (inner.left + 1) ∷ take (inner.dest_idx + k - inner.dest_idx) (drop inner.dest_idx dest)) (sym long)
+      ∙ ap (λ (l : List ℕ). (inner.left + 1) ∷ take (inner.dest_idx + length xs - inner.dest_idx) (drop inner.dest_idx l)) dest-is
       ∙ ap (λ (l : List ℕ). (inner.left + 1) ∷ l) (over-stretch inner.dest_idx before xs (omega arith))
 
   pub open_nonzero : HasNoZero xs → HasNoZero piece
   open_nonzero nz = subst HasNoZero (sym piece-is) (All-cons (λ b. b ≢ 0) (inner.left + 1) xs (omega arith) nz)
 
   pub open_fed : (code left : ℕ) (ys : List ℕ) → inner.over ≡ false → inner.code ≢ 255 → HasNoZero xs → inner.left < len → len < 254
-      → take (len + 1 - 1) ys ≡ output piece → drop (len + 1 - 1) ys ≡ drop (len + 1 - 1) copy → code ≡ code_of (last_part piece) → left ≡ missing (last_part piece)
-      → FeedsQuietly before (phase_of inner) xs (put_mid inner.dest_idx (length dest - inner.dest_idx) dest ys)
+      → ys ≡ output piece → code ≡ code_of (last_part piece) → left ≡ missing (last_part piece)
+      → FeedsQuietly before (phase_of inner) xs (put_mid inner.dest_idx (inner.dest_idx + len - inner.dest_idx) dest ys)
       (phase_of (record { dest_idx = inner.dest_idx + len; left = left; code = code; over = inner.over }))
-  open_fed code left ys going other nz more few front rest code-is left-is =
+  open_fed code left ys going other nz more few ys-is code-is left-is =
       let at : ℕ = inner.dest_idx in
       let c : ℕ = inner.left + 1 in
+      let out : ys ≡ output (c ∷ xs) = ys-is ∙ ap output piece-is in
       let short : length (output (c ∷ xs)) ≡ length xs = omega (arith, output_short (c ∷ xs)) in
-      let same : length dest ≡ length before = ap length dest-is ∙ length-over at before xs (omega arith) in
-      let n : len + 1 - 1 ≡ length xs = omega arith in
       let fed : FeedsQuietly (over at before (output (c ∷ []))) (phase_at at (c ∷ [])) xs (over at before (output (c ∷ xs))) (phase_at at (c ∷ xs))
       = FeedsQuietly-on at before c [] xs nz (omega arith) in
-      let written : put_mid at (length dest - at) dest ys ≡ over at before (output (c ∷ xs))
-      = put_over at (len + 1 - 1) dest ys (output (c ∷ xs)) (omega arith) (omega arith) (front ∙ ap output piece-is) rest
-      ∙ ap (λ (l : List ℕ). over at l (output (c ∷ xs))) dest-is ∙ over-over at before xs (omega arith) (output (c ∷ xs)) short in
+      let written : put_mid at (at + len - at) dest ys ≡ over at before (output (c ∷ xs))
+      = ap (λ (l : List ℕ). put_mid at (at + len - at) l ys) dest-is ∙ ap (λ (k : ℕ). put_mid at (at + k - at) (over at before xs) ys) (sym long)
+      ∙ over-over at before xs (omega arith) ys (ap length out ∙ short) ∙ ap (over at before) out in
       let from : phase_at at (c ∷ []) ≡ Within false inner.left at = phase-start at c ∙ within_same _ _ _ _ _ _ (ne_eqb c 255 (λ e. omega arith)) (omega arith) refl in
       let code-at : code ≡ code_of (last_part (c ∷ xs)) = code-is ∙ ap (λ (p : List ℕ). code_of (last_part p)) piece-is in
       let left-at : left ≡ missing (last_part (c ∷ xs)) = left-is ∙ ap (λ (p : List ℕ). missing (last_part p)) piece-is in

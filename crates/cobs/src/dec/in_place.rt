@@ -71,9 +71,9 @@ impl UnbufferedDecoder {
             self.left -= most as u8;
         } else {
             // What the open block is missing is what a code of one more would open.
-            let (code, left) = write_zeros_at_codes(&mut buffer[at..], self.left + 1, most + 1);
+            let (code, left) = write_zeros_at_codes(&mut buffer[at..at + most], left + 1);
             self.code = code;
-            self.left = left as u8;
+            self.left = left;
         }
         most
     }

@@ -1,55 +1,78 @@
-use Rattle.std.proofs.Common.{◌≡◌, ◌≤◌, ◌+◌, ◌-◌, sym, arith, None, true, refl, length, drop, take, length-drop, length-take}
-use Rattle.std.proofs.lemmas.List.{take_all, take_rest}
-use Rattle.cobs.specs.Feed.{Overlong}
+use Rattle.std.proofs.Common.{◌≡◌, ◌≤◌, ◌<◌, ◌+◌, ◌-◌, ◌∙◌, ap, sym, subst, arith, None, Err, Some, true, refl, get_or, length, drop, take, length-drop, length-take, List, ℕ}
+use Rattle.std.proofs.lemmas.List.{get_or-drop, take_all, take_rest}
+use Rattle.cobs.specs.Feed.{Feeds, Idle, Overlong}
 use Rattle.cobs.specs.FeedPiece.{TakesPiece}
 use Rattle.cobs.specs.Fields.Decoders.{phase_of}
+use Rattle.cobs.specs.declared.dec.frame_decoder.PieceEnd.TheVariants.{TooLong}
 use Rattle.cobs.specs.declared.dec.unbuffered.UnbufferedDecoder.{UnbufferedDecoder}
+use Rattle.cobs.specs.declared.error.DecodeError.TheVariants.{TargetBufTooSmall}
 use Rattle.cobs.proofs.streaming.ByByteLemmas.{piece-nothing, piece-more, piece-ended}
+use Rattle.cobs.proofs.streaming.FeedLemmas.{Feeds-step}
 use Rattle.cobs.proofs.streaming.RunLemmas.{piece-run, piece-over}
 use Rattle.cobs.proofs.dec.unbuffered.UnbufferedDecoder.feed_piece.Goals as goal
-use Rattle.cobs.proofs.dec.unbuffered.UnbufferedDecoder.feed_piece.Goals.{Joined-self, then-self, else-self}
+use Rattle.cobs.proofs.dec.unbuffered.UnbufferedDecoder.feed_piece.Goals.{After-position_or_len-len, After-take_quiet-taken}
 
 over_is : (decoder : UnbufferedDecoder) → decoder.over ≡ true → phase_of decoder ≡ Overlong
 over_is decoder e = rw e refl
 
--- behind the run
-within : (c : Joined-self) → c.by_run.taken + c.if-self.taken ≤ length c.args.bytes.now
-within c =
-    let rest = length-take (length c.args.bytes.now - c.by_run.taken) (drop c.by_run.taken c.args.bytes.now) in
-    let all = length-drop c.by_run.taken c.args.bytes.now in
-    elim c.if-self.branch [ then-self w ↦ omega (arith, w.taken-is, w.position_or_len.ensures.within) | else-self w ↦ omega (arith, w.taken-is, w.take_quiet.ensures.within) ]
+-- through a piece that is too long
+passed : (c : After-position_or_len-len) → TakesPiece c.args.dest.now (phase_of c.args.self.now) (take (c.by_run.taken + c.position_or_len-len.result) c.args.bytes.now) None c.by_run.dest Overlong
+passed c =
+    let e = c.position_or_len-len.ensures in
+    piece-over c.args.bytes.now c.by_run.taken _ (omega (arith, e.within, length-take (length c.args.bytes.now - c.by_run.taken) (drop c.by_run.taken c.args.bytes.now), length-drop c.by_run.taken c.args.bytes.now))
+    (rw (take_rest c.args.bytes.now c.by_run.taken) at e.before) (rw (over_is c.by_run.self c.if-self.true) at c.by_run.invariant.none_ended)
 
-ran : (c : Joined-self) → TakesPiece c.args.dest.now (phase_of c.args.self.now) (take (c.by_run.taken + c.if-self.taken) c.args.bytes.now) None c.if-self.dest (phase_of c.if-self.self)
-ran c = elim c.if-self.branch [
-  | then-self w ↦
-      let over = over_is c.by_run.self w.if-self.true in
-      rw (w.taken-is, w.dest-is, w.self-is, over)
-      (piece-over c.args.bytes.now c.by_run.taken _ (rw w.taken-is at (within c)) (rw (take_rest c.args.bytes.now c.by_run.taken) at w.position_or_len.ensures.before) (rw over at c.by_run.invariant.none_ended))
-  | else-self w ↦
-      rw (w.taken-is, w.dest-is, w.self-is)
-      (piece-run c.args.bytes.now c.by_run.taken _ (rw w.taken-is at (within c)) c.by_run.invariant.none_ended (rw (take_rest c.args.bytes.now c.by_run.taken) at w.take_quiet.ensures.fed))
-]
+-- behind the run
+ran : (c : After-take_quiet-taken) → TakesPiece c.args.dest.now (phase_of c.args.self.now) (take (c.by_run.taken + c.take_quiet-taken.result) c.args.bytes.now) None c.take_quiet-taken.new.dest (phase_of c.take_quiet-taken.new.self)
+ran c =
+    let e = c.take_quiet-taken.ensures in
+    piece-run c.args.bytes.now c.by_run.taken _ (omega (arith, e.within, length-take (length c.args.bytes.now - c.by_run.taken) (drop c.by_run.taken c.args.bytes.now), length-drop c.by_run.taken c.args.bytes.now))
+    c.by_run.invariant.none_ended (rw (take_rest c.args.bytes.now c.by_run.taken) at e.fed)
 
 pub by_run-init : goal.by_run-init
 by_run-init c = record { within = omega arith; none_ended = piece-nothing _ _ }
 
+pub returns-then-len-rest : goal.returns-then-len-rest
+returns-then-len-rest c =
+    let bytes : List ℕ = c.args.bytes.now in
+    let all : length bytes ≤ c.by_run.taken + c.position_or_len-len.result = omega (arith, c.if-len-rest.true, length-take (length bytes - c.by_run.taken) (drop c.by_run.taken bytes), length-drop c.by_run.taken bytes) in
+    record { takes = rw (over_is c.by_run.self c.if-self.true) (rw (take_all (c.by_run.taken + c.position_or_len-len.result) bytes all) at (passed (goal.at.returns-then-len-rest c).After-position_or_len-len)) }
+
+pub returns-then-self : goal.returns-then-self
+returns-then-self c =
+    let bytes : List ℕ = c.args.bytes.now in
+    let e = c.position_or_len-len.ensures in
+    let i : ℕ = c.by_run.taken + c.position_or_len-len.result in
+    let long = length-take (length bytes - c.by_run.taken) (drop c.by_run.taken bytes) in
+    let inside : i < length bytes = omega (arith, e.within, long, length-drop c.by_run.taken bytes) in
+    let stop = rw (take_rest bytes c.by_run.taken) at e.stop in
+    let zero : get_or bytes i 0 ≡ 0 = sym (get_or-drop c.by_run.taken bytes c.position_or_len-len.result 0) ∙ stop (omega (arith, length-drop c.by_run.taken bytes)) in
+    let ends : Feeds c.by_run.dest Overlong (get_or bytes i 0) (Err TargetBufTooSmall) c.by_run.dest Idle
+    = subst (λ b. Feeds c.by_run.dest Overlong b (Err TargetBufTooSmall) c.by_run.dest Idle) (sym zero) (Feeds-step c.by_run.dest Overlong 0) in
+    record { takes = rw c.reset.ensures.idle (piece-ended bytes i inside (passed (goal.at.returns-then-self c).After-position_or_len-len) ends TooLong zero refl) }
+
 pub returns-in-Some : goal.returns-in-Some
-returns-in-Some c = record { takes = piece-ended _ _ c.if-taken-bytes.true (ran (goal.at.returns-in-Some c).Joined-self) c.feed-returned.ensures.feeds _ c.if-byte-eq0.true (sym c.in-Some.ensures) }
+returns-in-Some c = record { takes = piece-ended _ _ c.if-taken-bytes.true (ran (goal.at.returns-in-Some c).After-take_quiet-taken) c.feed-returned.ensures.feeds _ c.if-byte-eq0.true (sym c.in-Some.ensures) }
 
 pub by_run-preserved-in_default : goal.by_run-preserved-in_default
 by_run-preserved-in_default c = record {
   within = omega arith;
-  none_ended = piece-more _ _ c.if-taken-bytes.true (ran (goal.at.by_run-preserved-in_default c).Joined-self) c.feed-returned.ensures.feeds (λ _. sym c.in_default.ensures);
+  none_ended = piece-more _ _ c.if-taken-bytes.true (ran (goal.at.by_run-preserved-in_default c).After-take_quiet-taken) c.feed-returned.ensures.feeds (λ _. sym c.in_default.ensures);
 }
 
 pub by_run-preserved-else-byte-eq0 : goal.by_run-preserved-else-byte-eq0
 by_run-preserved-else-byte-eq0 c = record {
   within = omega arith;
-  none_ended = piece-more _ _ c.if-taken-bytes.true (ran (goal.at.by_run-preserved-else-byte-eq0 c).Joined-self) c.feed-returned.ensures.feeds (λ z. absurd (c.if-byte-eq0.false z));
+  none_ended = piece-more _ _ c.if-taken-bytes.true (ran (goal.at.by_run-preserved-else-byte-eq0 c).After-take_quiet-taken) c.feed-returned.ensures.feeds (λ z. absurd (c.if-byte-eq0.false z));
 }
 
 pub by_run-preserved : goal.by_run-preserved
-by_run-preserved c = let at = (goal.at.by_run-preserved c).Joined-self in record { within = within at; none_ended = ran at }
+by_run-preserved c =
+    let bytes : List ℕ = c.args.bytes.now in
+    record {
+      within = omega (arith, c.take_quiet-taken.ensures.within, length-take (length bytes - c.by_run.taken) (drop c.by_run.taken bytes), length-drop c.by_run.taken bytes);
+      none_ended = ran (goal.at.by_run-preserved c).After-take_quiet-taken;
+    }
 
 pub returns : goal.returns
 returns c = grind (arith, take_all)

@@ -36,4 +36,4 @@ pub returns-else-most-left-clause-fed : goal.returns-else-most-left-clause-fed
 returns-else-most-left-clause-fed c =
     let w = c.write_zeros_at_codes-code.ensures in
     open_fed c.args.self.now _ c.args.buffer.now _ _ (length-take-le _ _ (omega (arith, length-drop c.args.read c.args.buffer.now))) (omega arith) c.move_back-2.ensures
-    _ _ _ c.requires.going (λ full. absurd (omega (arith, c.stretch_len-most.ensures.full full))) (part_nonzero 0 _ _ _ c.requires.nonzero (omega arith)) (omega arith) (omega arith) w.begins w.rest w.code w.left
+    _ _ _ c.requires.going (λ full. absurd (omega (arith, c.stretch_len-most.ensures.full full))) (part_nonzero 0 _ _ _ c.requires.nonzero (omega arith)) (omega arith) (omega arith) w.written w.code w.left

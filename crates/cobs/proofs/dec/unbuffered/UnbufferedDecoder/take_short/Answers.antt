@@ -17,18 +17,18 @@ inside inner n dest xs new long going most room nz is =
     let all : take n xs ≡ xs = ap (λ (k : ℕ). take k xs) (sym long) ∙ take-length xs in
     rw all at (block_fed inner n dest xs new going most room (omega arith) (rw all nz) (rw all is))
 
-pub returns-then-len-self-clause-fed : goal.returns-then-len-self-clause-fed
-returns-then-len-self-clause-fed c done =
+pub returns-then-len-left-clause-fed : goal.returns-then-len-left-clause-fed
+returns-then-len-left-clause-fed c done =
     let same = xor_each-zero c.args.bytes.now in
     let e = c.if-not-copy_xored_short.ensures in
-    inside c.args.self.now _ c.args.dest.now _ _ refl c.if-self.false c.if-len-self.true (omega (arith, c.saturating_sub.ensures)) (rw same at e.nonzero done)
+    inside c.args.self.now _ c.args.dest.now _ _ refl c.if-self.false c.if-len-left.true (omega (arith, c.saturating_sub.ensures)) (rw same at e.nonzero done)
     (part_put c.args.self.now.dest_idx (length c.args.bytes.now) c.args.dest.now _ _ (rw same at e.copied done))
 
-pub returns-else-len-self-clause-fed : goal.returns-else-len-self-clause-fed
-returns-else-len-self-clause-fed c done =
+pub returns-else-len-left-clause-fed : goal.returns-else-len-left-clause-fed
+returns-else-len-left-clause-fed c done =
     let same = xor_each-zero c.args.bytes.now in
     let e = c.if-not-copy_xored_short.ensures in
     let w = c.write_zeros_at_codes-code.ensures in
     open_fed c.args.self.now (length c.args.bytes.now) c.args.dest.now _ _ refl (omega (arith, c.saturating_sub.ensures))
     (part_put c.args.self.now.dest_idx (length c.args.bytes.now) c.args.dest.now _ _ (rw same at e.copied done)) _ _ _ c.if-self.false
-    (λ full. omega (arith, c.stretch_len.ensures.full full)) (rw same at e.nonzero done) (omega arith) (omega arith) w.begins w.rest w.code w.left
+    (λ full. omega (arith, c.stretch_len.ensures.full full)) (rw same at e.nonzero done) (omega arith) (omega arith) w.written w.code w.left
