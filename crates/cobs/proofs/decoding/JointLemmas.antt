@@ -1,5 +1,5 @@
 -- A stretch in which no code is behind a full block, and the code of its second part, with a zero in its place.
-use Rattle.std.proofs.Common.{◌≡◌, ◌≢◌, Bool, if◌then◌else◌, ℕ, ◌+◌, ◌-◌, ◌<◌, ◌≤◌, List, [], ◌∷◌, ◌++◌, length, take, drop, get_or, set, sym, ap, ◌∙◌, arith, append_assoc, append-nil, length-set, length-drop, take_all}
+use Rattle.std.proofs.Common.{◌≡◌, ◌≢◌, Bool, if◌then◌else◌, ℕ, ◌-◌, ◌<◌, ◌≤◌, List, [], ◌∷◌, ◌++◌, length, take, drop, get_or, set, sym, ap, ◌∙◌, arith, append-nil, length-set, length-drop, take_all}
 use Rattle.std.proofs.lemmas.List.{drop_all, drop_more, drop-set-lt, take_more_set}
 use Rattle.std.proofs.lemmas.Bool.{ne_eqb}
 use borrow.Rule.Slice.PartMut.{put_mid}

@@ -1,6 +1,6 @@
 -- A stretch without zeros behind a block boundary, fed as a whole: its output is written, and the phase is that of its last part.
 use Rattle.std.proofs.Common.{◌≡◌, ◌≢◌, ℕ, zero, suc, ◌+◌, ◌-◌, ◌<◌, ◌≤◌, Bool, true, false, cond, eqb, List, [], ◌∷◌, ◌++◌, length, take, drop, refl, sym, ap, ◌∙◌, subst, arith, append_assoc, length-append, length-drop, None, Ok}
-use Rattle.std.proofs.lemmas.List.{append-nil, length_push, length-take-le, take-append-drop, drop_all, drop-drop, take_rest, take-take}
+use Rattle.std.proofs.lemmas.List.{append-nil, length_push, length-take-le, drop_all, drop-drop, take_rest}
 use Rattle.std.proofs.Math.Seq.{drop-append_seam, take-add, take-append_seam}
 use Rattle.std.proofs.lemmas.List.Elements.{All-cons, All-head, All-tail}
 use Rattle.std.proofs.lemmas.Bool.{ne_eqb, eqb-true, lt-ltb, cases_lt}

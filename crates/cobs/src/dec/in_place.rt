@@ -11,11 +11,11 @@ ghost use Rattle.cobs.specs.Sentinel.{xor_each};
 ghost use Rattle.cobs.specs.declared.error.DecodeError.TheVariants.{TargetBufTooSmall};
 
 use crate::block::FULL_BLOCK_BYTES;
-use crate::dec::stretch::{decode_short, kept_len, message_len, write_zeros_at_codes};
+use crate::dec::stretch::{kept_len, message_len, write_zeros_at_codes};
 use crate::dec::unbuffered::{FULL, UnbufferedDecoder};
 use crate::error::{DecodeError, DecodeReport};
 use crate::find::{len_without_end, position_or_len};
-use cobs_bytes::lanes::{move_to_front, xor_bytes};
+use cobs_bytes::lanes::{copy_xored_short, move_to_front, xor_bytes};
 use cobs_bytes::window::{WIDE_WINDOW, WINDOW, is_all, write_row};
 
 /// Moves the `len` bytes from `read` on to where `at` is, before them; each other byte there stays.
@@ -71,9 +71,7 @@ impl UnbufferedDecoder {
             self.left -= most as u8;
         } else {
             // What the open block is missing is what a code of one more would open.
-            let (code, left) = write_zeros_at_codes(&mut buffer[at..at + most], left + 1);
-            self.code = code;
-            self.left = left;
+            (self.code, self.left) = write_zeros_at_codes(&mut buffer[at..at + most], left + 1);
         }
         most
     }
@@ -121,7 +119,7 @@ fn decode_blocks_in_place(buffer: &mut [u8], end: usize) -> Result<usize, Decode
 /// Decodes the first `len` bytes of the buffer, if these are 2 to 65 and a frame, and says whether it did. If not, every byte
 /// stays.
 ///
-/// A broken frame is not to change the bytes behind what it gives, so it is decoded beside.
+/// A broken frame is not to change the bytes behind what it gives, so all are kept beside, and put back then.
 #[inline(always)]
 fn decode_short_in_place(buffer: &mut [u8], len: usize) -> bool
     requires within { len ≤ length buffer.old }
@@ -131,11 +129,22 @@ fn decode_short_in_place(buffer: &mut [u8], len: usize) -> bool
     ensures buffer { IsTrue result → buffer.new ≡ overwritten buffer.old (kept_output (take len buffer.old)) }
     ensures kept { result ≡ false → buffer.new ≡ buffer.old }
 {
-    let mut short = [0; WIDE_WINDOW];
-    if decode_short(&buffer[..len], &mut short, 0) != Some(0) {
+    let mut old = [0; WIDE_WINDOW];
+    if len < 2
+        || WIDE_WINDOW + 1 < len
+        || buffer[0] == 0
+        || !copy_xored_short(&buffer[1..len], &mut old, 0)
+    {
         return false;
     }
-    buffer[..len - 1].copy_from_slice(&short[..len - 1]);
+    let code = buffer[0];
+    move_to_front(buffer, 1, len - 1);
+    let (_, left) = write_zeros_at_codes(&mut buffer[..len - 1], code as usize);
+    if left != 0 {
+        buffer[0] = code;
+        buffer[1..len].copy_from_slice(&old[..len - 1]);
+        return false;
+    }
     true
 }
 

@@ -1,4 +1,4 @@
-use Rattle.std.proofs.Common.{◌≡◌, ◌≢◌, ◌-◌, ◌<◌, ◌≤◌, ℕ, List, ap, sym, ◌∙◌, ◌∷◌, get_or, arith, take, drop, length, length-drop, length-set}
+use Rattle.std.proofs.Common.{◌≢◌, ◌-◌, ◌<◌, ℕ, List, ap, sym, ◌∙◌, ◌∷◌, get_or, arith, drop, length, length-drop}
 use borrow.Rule.Slice.PartMut.{put_mid}
 use Rattle.std.proofs.lemmas.List.Elements.{All-cons, All-head, All-drop, All-get_or, All-tail}
 use Rattle.cobs.specs.Grammar.{HasNoZero, code_of}

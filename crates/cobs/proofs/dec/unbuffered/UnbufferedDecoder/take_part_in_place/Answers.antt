@@ -7,8 +7,8 @@ use Rattle.cobs.proofs.streaming.StretchLemmas.{joined, open_fed, open_nonzero}
 use Rattle.cobs.proofs.dec.unbuffered.UnbufferedDecoder.take_part_in_place.Goals as goal
 use Rattle.cobs.proofs.dec.unbuffered.UnbufferedDecoder.take_part_in_place.Goals.{then-self, else-self}
 
-pub write_zeros_at_codes-code-requires-clause-nonzero : goal.write_zeros_at_codes-code-requires-clause-nonzero
-write_zeros_at_codes-code-requires-clause-nonzero c =
+pub write_zeros_at_codes-requires-clause-nonzero : goal.write_zeros_at_codes-requires-clause-nonzero
+write_zeros_at_codes-requires-clause-nonzero c =
     open_nonzero c.args.self.now _ c.args.buffer.now _ _ (length-take-le _ _ (omega (arith, length-drop c.args.read c.args.buffer.now))) (omega arith) c.move_back-2.ensures (part_nonzero 0 _ _ _ c.requires.nonzero (omega arith))
 
 pub returns-then-code-gt-WIDE_WINDOW-clause-fed : goal.returns-then-code-gt-WIDE_WINDOW-clause-fed
@@ -34,6 +34,6 @@ returns-then-most-left-clause-fed c =
 
 pub returns-else-most-left-clause-fed : goal.returns-else-most-left-clause-fed
 returns-else-most-left-clause-fed c =
-    let w = c.write_zeros_at_codes-code.ensures in
+    let w = c.write_zeros_at_codes.ensures in
     open_fed c.args.self.now _ c.args.buffer.now _ _ (length-take-le _ _ (omega (arith, length-drop c.args.read c.args.buffer.now))) (omega arith) c.move_back-2.ensures
     _ _ _ c.requires.going (λ full. absurd (omega (arith, c.stretch_len-most.ensures.full full))) (part_nonzero 0 _ _ _ c.requires.nonzero (omega arith)) (omega arith) (omega arith) w.written w.code w.left
