@@ -337,7 +337,7 @@ function optionsOf(given, defaults) {
   if (given === undefined) return defaults;
   if (typeof given !== "object" || given === null) throw new TypeError(`options are wanted, as { ${Object.keys(defaults).join(", ")} }`);
   for (const name of Object.keys(given)) {
-    if (!(name in defaults)) throw new TypeError(`there is no option “${name}” here, but ${Object.keys(defaults).join(", ")}`);
+    if (!Object.hasOwn(defaults, name)) throw new TypeError(`there is no option “${name}” here, but ${Object.keys(defaults).join(", ")}`);
   }
   const options = { ...defaults };
   for (const name of Object.keys(defaults)) if (given[name] !== undefined) options[name] = given[name];

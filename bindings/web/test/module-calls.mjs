@@ -148,7 +148,7 @@ await check("unknown options and wrong ones are errors", async () => {
     FrameEncoderStream: (options) => new cobs.FrameEncoderStream(options),
   };
   for (const [name, call] of Object.entries(calls)) {
-    for (const wrong of [{ sentinal: 10 }, 10, null]) await throws(() => call(wrong), (error) => error instanceof TypeError && /option/.test(error.message), `${name} with ${wrong}`);
+    for (const wrong of [{ sentinal: 10 }, { toString: 10 }, { constructor: 10 }, { ["__proto__"]: 10 }, 10, null]) await throws(() => call(wrong), (error) => error instanceof TypeError && /option/.test(error.message), `${name} with ${JSON.stringify(wrong)}`);
     call({});
     call({ sentinel: undefined });
     call({ sentinel: 10 });
