@@ -54,6 +54,7 @@ function declared(tokens) {
   const equals = tokens.findIndex(({ text }) => text === "=");
   const front = tokens.slice(0, Math.max(equals, 0));
   if (equals >= 0 && !/^[n0[\]<>*&:;,]*n[n0[\]<>*&:;,]*$/.test(shapeOf(front))) throw new Unreadable("What is before the “=” is no declaration.");
+  demandOneReading(tokens, shapeOf(front));
   const value = tokens.slice(equals + 1);
   while (value.length > 0 && /^[;,]$/.test(value.at(-1).text)) value.pop();
   const kinds = new Set();
@@ -61,6 +62,16 @@ function declared(tokens) {
   const places = front.filter(({ kind }, at) => kind === "number" && /^[[;]$/.test(front[at - 1]?.text)).reduce((product, { text }) => product * Number(text), 1);
   if (front.some(({ kind }) => kind === "number") && places !== bytes.length) throw new Unreadable(`The declaration is of ${places} bytes, and ${bytes.length} are here.`);
   return { bytes: Uint8Array.from(bytes), as: nameOf(kinds) };
+}
+
+/** `\0` before an octal digit is one byte in C and Python, and two in Rust: an error, unless something in the text isn't Rust's. */
+function demandOneReading(tokens, front) {
+  const strings = tokens.filter(({ kind }) => kind === "string");
+  const escapes = strings.flatMap(({ text }) => text.match(/\\[\s\S][0-7]{0,2}/g) ?? []);
+  const octal = escapes.find((escape) => /^\\0[0-7]/.test(escape));
+  const isRust = strings.every(({ text }) => /^b?"/.test(text)) && escapes.every((escape) => /^\\[0nrtxu\\'"\n]/.test(escape));
+  const isRow = tokens.some(({ kind }, at) => kind === "string" && tokens[at + 1]?.kind === "string");
+  if (octal && isRust && !isRow && !/n\[0?\]$|\*n$/.test(front)) throw new Unreadable(`“${octal}” is octal in C and Python, and a byte 00 before digits in Rust: write it by \\x.`);
 }
 
 function nameOf(kinds) {
