@@ -190,6 +190,13 @@ packed() (
         while read -r link; do test -e "$link" || { echo "$link"; return 1; }; done <"$work/links"
 )
 
+# The commands of an installed README as they are written, in a folder where a program.c is.
+commands_of() ( # README FOLDER
+    mkdir -p "$2" && cp examples/send_lines.c "$2/program.c" && cd "$2" || return 1
+    awk '/^```/ { inside = $0 == "```sh"; next } inside' "$1" >"$work/commands" && test -s "$work/commands" || return 1
+    sh -eux "$work/commands" >"$work/printed" && cat "$work/printed" && grep -q '^message 5 68656c6c6f$' "$work/printed"
+)
+
 # The tarball has the same bytes twice, and unpacked elsewhere its own pkg-config file finds the rest.
 unpacked() (
     tarball=$(make -s --no-print-directory dist) || return 1
@@ -197,7 +204,7 @@ unpacked() (
     make -s --no-print-directory dist && cmp "$tarball" "$work/first.tar.gz" || return 1
     tar -C "$work" -xzf "$tarball" || return 1
     root=$(echo "$work"/jcobs-*-linux)
-    test -f "$root/share/man/man3/jcobs.3" && test -f "$root/share/doc/jcobs/README.md" && over "$root"
+    test -f "$root/share/man/man3/jcobs.3" && over "$root"
 )
 
 over_musl() {
@@ -323,6 +330,11 @@ if has pkg-config pkg-config 'install and dist'; then
     part 'install to a private prefix' private_prefix
     part 'install for a package' packed
     part 'dist: the same bytes twice, unpacked elsewhere' unpacked
+    if has cmake cmake 'the commands of the installed README'; then
+        part 'the commands of the installed README' commands_of "$work/prefix/share/doc/jcobs/README.md" "$work/elsewhere"
+        readme=$(echo "$work"/jcobs-*-linux/share/doc/jcobs/README.md)
+        part 'the commands of the README in the tarball' commands_of "$readme" "${readme%/*}"
+    fi
     if unshare -rm true 2>/dev/null; then
         part 'install to /usr/local' usr_local
     else
