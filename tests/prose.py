@@ -212,6 +212,7 @@ VERSIONS = [
     ("CHANGELOG.md", r"^## (\d[\w.]*) \(\d{4}-\d\d-\d\d\)$"),
     ("bindings/rust/CHANGELOG.md", r"^## (\d[\w.]*) \(\d{4}-\d\d-\d\d\)$"),
     ("bindings/c/Makefile", r"^VERSION = (.*)$"),
+    ("bindings/c/CMakeLists.txt", r"^project\(jcobs VERSION ([\d.]+)"),
     ("bindings/c/cmake/jcobs-config-version.cmake", r"PACKAGE_VERSION ([\d.]+)"),
     ("bindings/c/man/jcobs.3", r'^\.TH .*"jcobs ([\d.]+)"'),
     ("bindings/c/device/library.json", r'"version": "([^"]*)"'),

@@ -3,6 +3,10 @@
 #
 # This file is installed to lib/cmake/jcobs of a prefix, and finds the library there. In the repository, with
 # CMAKE_PREFIX_PATH naming bindings/c, it takes the one of prebuilt/ for the target's processor.
+if(EXISTS "${CMAKE_CURRENT_LIST_DIR}/jcobs-targets.cmake") # what CMake has compiled and installed
+    include("${CMAKE_CURRENT_LIST_DIR}/jcobs-targets.cmake")
+    return()
+endif()
 foreach(_jcobs_up IN ITEMS .. ../../.. ../../../..)
     get_filename_component(_jcobs_include "${CMAKE_CURRENT_LIST_DIR}/${_jcobs_up}/include" ABSOLUTE)
     if(EXISTS "${_jcobs_include}/jcobs.h")

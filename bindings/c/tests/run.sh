@@ -175,12 +175,42 @@ found_by_cmake() { # PREFIX TARGET
         grep -q 'not compatible\|considered but not accepted' "$work/cmaked"
 }
 
-# A project that fetches the folder: over the built library, or jcobs.c.
+# A project that fetches this repository, over the built library or jcobs.c: a library of its own, installed and exported, and a
+# program that finds that one.
 fetched() { # FLAG..
-    rm -rf "$work/fetching" && mkdir -p "$work/fetching" && cp examples/messages.cpp "$work/fetching" || return 1
-    printf 'cmake_minimum_required(VERSION 3.16)\nproject(fetching LANGUAGES C CXX)\nset(CMAKE_CXX_STANDARD 17)\ninclude(FetchContent)\nFetchContent_Declare(jcobs SOURCE_DIR "%s")\nFetchContent_MakeAvailable(jcobs)\nadd_executable(messages messages.cpp)\ntarget_link_libraries(messages jcobs::jcobs)\n' \
-        "$c" >"$work/fetching/CMakeLists.txt"
-    cmake -S "$work/fetching" -B "$work/fetching/build" "$@" && cmake --build "$work/fetching/build" && "$work/fetching/build/messages"
+    rm -rf "$work/fetching" && mkdir -p "$work/fetching/used" && cp examples/messages.cpp "$work/fetching/used" || return 1
+    tar -cf "$work/fetching/jcobs.tar" --exclude=./build --transform 's,^\.,jcobs/bindings/c,' . || return 1
+    cat >"$work/fetching/CMakeLists.txt" <<'END'
+cmake_minimum_required(VERSION 3.18)
+project(fetching VERSION 1.0 LANGUAGES C)
+include(FetchContent)
+FetchContent_Declare(jcobs URL "${CMAKE_SOURCE_DIR}/jcobs.tar" SOURCE_SUBDIR bindings/c)
+FetchContent_MakeAvailable(jcobs)
+add_library(sender sender.c)
+target_link_libraries(sender PUBLIC jcobs::jcobs)
+install(TARGETS sender EXPORT sender-targets)
+install(EXPORT sender-targets NAMESPACE sender:: DESTINATION lib/cmake/sender)
+install(FILES sender-config.cmake DESTINATION lib/cmake/sender)
+END
+    printf 'include(CMakeFindDependencyMacro)\nfind_dependency(jcobs 1.0)\ninclude("${CMAKE_CURRENT_LIST_DIR}/sender-targets.cmake")\n' \
+        >"$work/fetching/sender-config.cmake"
+    printf '#include <jcobs.h>\nunsigned int sender_version(void);\nunsigned int sender_version(void)\n{\n    return jcobs_version();\n}\n' \
+        >"$work/fetching/sender.c"
+    cat >"$work/fetching/used/CMakeLists.txt" <<'END'
+cmake_minimum_required(VERSION 3.16)
+project(used LANGUAGES C CXX)
+set(CMAKE_CXX_STANDARD 17)
+find_package(sender REQUIRED)
+add_executable(messages messages.cpp)
+target_link_libraries(messages sender::sender)
+END
+    for flag in -DBUILD_SHARED_LIBS=OFF -DBUILD_SHARED_LIBS=ON; do
+        rm -rf "$work/fetching/build" "$work/fetching/used/build" "$work/fetching/prefix"
+        cmake -S "$work/fetching" -B "$work/fetching/build" -DCMAKE_INSTALL_PREFIX="$work/fetching/prefix" $flag "$@" &&
+            cmake --build "$work/fetching/build" --target install || return 1
+        cmake -S "$work/fetching/used" -B "$work/fetching/used/build" -DCMAKE_PREFIX_PATH="$work/fetching/prefix" &&
+            cmake --build "$work/fetching/used/build" && at=$work/fetching/used/build messages || return 1
+    done
 }
 
 # Packed for /usr: nothing in the package has a run path, and each link of the README leads to a file.
