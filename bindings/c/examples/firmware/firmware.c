@@ -5,9 +5,9 @@
  *
  *     'e' bytes..   echo: sends the bytes back
  *     'a' bytes..   add: adds the bytes up, and sends the sum in two bytes
- *     's'           statistics: sends how many frames were received, broken, and too long
+ *     's'           statistics: sends how many frames were received, broken, and too long, and how often the ring was full
  *
- * A damaged frame is counted, and never affects another. */
+ * A damaged frame is counted, and never affects another. A frame of which the full ring lost bytes is left out. */
 #include <jcobs.h>
 
 #include "board.h"
@@ -16,12 +16,21 @@
 
 /* THE RECEIVER: what a developer copies, down to the line of dashes. */
 
-static volatile unsigned char ring[256]; /* as long as a number of 8 bits counts */
+static volatile unsigned char ring[256]; /* as long as a number of 8 bits counts; one place stays free */
 static volatile unsigned char ring_head; /* the interrupt writes here */
-static unsigned char ring_tail;          /* the main loop reads here */
+static volatile unsigned char ring_tail; /* the main loop reads here */
+static volatile unsigned char ring_cut;  /* bytes after the head are lost, and more until the main loop has seen it */
+static volatile unsigned char overruns;
 
-void uart_received(unsigned char byte) /* called by the interrupt; the main loop reads before 256 bytes have come */
+void uart_received(unsigned char byte) /* called by the interrupt */
 {
+    if (ring_cut)
+        return;
+    if ((unsigned char)(ring_head + 1) == ring_tail) {
+        ring_cut = 1;
+        overruns++;
+        return;
+    }
     ring[ring_head] = byte;
     ring_head++;
 }
@@ -34,13 +43,28 @@ static void complain(unsigned int status);
 
 static void receive(void) /* called by the main loop */
 {
-    while (ring_tail != ring_head) {
-        jcobs_answer answer = jcobs_decoder_feed(&decoder, command, sizeof command, ring[ring_tail++]);
+    static unsigned char is_skipping; /* the rest of a frame of which bytes are lost */
+    unsigned char was_cut = ring_cut; /* asked first: they are lost after all that is in the ring */
 
+    while (ring_tail != ring_head) {
+        unsigned char byte = ring[ring_tail];
+        jcobs_answer answer;
+
+        ring_tail++;
+        if (is_skipping) {
+            is_skipping = byte != 0;
+            continue;
+        }
+        answer = jcobs_decoder_feed(&decoder, command, sizeof command, byte);
         if (answer.status == JCOBS_OK)
             handle(command, answer.length);
         else if (answer.status != JCOBS_MORE)
             complain(answer.status);
+    }
+    if (was_cut) {
+        jcobs_decoder_reset(&decoder);
+        is_skipping = 1;
+        ring_cut = 0;
     }
 }
 
@@ -85,7 +109,8 @@ static void handle(const unsigned char *bytes, size_t len)
         reply[1] = counts[0];
         reply[2] = counts[1];
         reply[3] = counts[2];
-        send(reply, 4);
+        reply[4] = overruns;
+        send(reply, 5);
         break;
     default:
         break;
@@ -102,7 +127,7 @@ int main(void)
     uart_start();
     for (;;) {
         interrupts_off(); /* so that no byte comes between the question and the wait */
-        if (ring_tail == ring_head)
+        if (ring_tail == ring_head && !ring_cut)
             wait_for_interrupt();
         interrupts_on();
         receive();

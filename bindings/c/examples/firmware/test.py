@@ -4,10 +4,12 @@
 usage: test.py [WATCH]
 
 Commands go out as frames, whole and damaged, and what comes back is compared. WATCH is a built cobs_watch, which then
-shows what comes back; without it this program decodes it.
+shows what comes back; without it this program decodes it. Then more commands go out than the firmware can reply to while
+nobody reads, so that bytes of some are lost.
 """
 import os
 import re
+import select
 import signal
 import subprocess
 import sys
@@ -65,6 +67,30 @@ def lines_of(terminal, watch):
             yield f"message {len(text)}" + (f" {text.hex()}" if text else "")
 
 
+def overrun(terminal):
+    """A line for each fault of what comes back of commands whose bytes outrun the firmware, which waits until replies are read."""
+    sent = [b"e" + number.to_bytes(2, "big") * 30 for number in range(1, 1000)]
+    os.write(terminal, b"".join(map(frame, sent)))
+    held, counts = b"", []
+    while not counts:
+        while select.select([terminal], [], [], 1)[0]:
+            held += os.read(terminal, 4096)
+        replies = [message(piece) for piece in held.split(b"\0") if piece]
+        counts = [reply[1:] for reply in replies if reply[:1] == b"s"]
+        if not counts:
+            os.write(terminal, b"\0" + frame(b"s"))  # again, if it was lost itself
+    echoed = [reply for reply in replies if reply[:1] != b"s"]
+    print(f"{len(sent)} commands, {len(echoed)} echoed, counts {counts[0].hex()}")
+    if any(reply not in sent for reply in echoed) or sorted(echoed) != echoed:
+        yield "what came back was never sent"
+    if not 50 < len(echoed) < len(sent):
+        yield "too few commands were lost, or too many"
+    if counts[0][1:3] != b"\2\1":
+        yield "a frame of which bytes were lost was decoded"
+    if counts[0][3:] in (b"", b"\0"):
+        yield "no overrun was counted"
+
+
 def late(number, stack):
     sys.exit("no answer within five minutes")
 
@@ -84,7 +110,8 @@ def main():
         frame(b"s"),
     ]
     sums = [b"a\0\x0a", b"a" + (255 * 40).to_bytes(2, "big")]
-    wanted = [*good[:3], *sums, bytes([ord("s"), 6, 2, 1])]
+    wanted = [*good[:3], *sums, bytes([ord("s"), 6, 2, 1, 0])]
+    faults = []
     with tempfile.TemporaryDirectory() as work:
         program = f"{work}/firmware"
         sources = [HERE / "firmware.c", HERE / "board.c", LIBRARY, "-lgcc"]
@@ -106,6 +133,8 @@ def main():
                 os.write(terminal, burst)  # the terminal holds the first one until QEMU has seen that it is open
                 found.append(next(shown))
             shown.close()
+            if not watch:
+                faults = [*overrun(terminal)]
         finally:
             machine.kill()
             machine.wait()
@@ -113,8 +142,10 @@ def main():
     for line in found:
         print(line)
     if found != lines:
-        print("wanted:", *lines, sep="\n")
-        sys.exit(1)
+        faults += ["wanted:", *lines]
+    for fault in faults:
+        print(fault)
+    sys.exit(bool(faults))
 
 
 main()
