@@ -172,7 +172,8 @@ if has_module "$python" build; then
     JCOBS_EXAMPLES=100
     part "pip install of the C source that it carries" \
         env JCOBS_BACKEND=compiled "$there" -m pip install -q --no-build-isolation --force-reinstall "$archive"
-    part "pytest, elsewhere" tests compiled "$there" "$work/elsewhere/tests/test_streams.py"
+    part "pytest, elsewhere" tests compiled "$there" "$work/elsewhere/tests"
+    counts "$work/said"
 
     mkdir "$work/wheel"
     part "the wheel is unpacked" "$python" -m zipfile -e "$wheel" "$work/wheel"

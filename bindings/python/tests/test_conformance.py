@@ -234,7 +234,10 @@ def differs(returned, wanted):
     )
 
 
-@pytest.mark.parametrize("path", sorted(FOLDER.glob("*.txt")) if FOLDER.is_dir() else [], ids=lambda path: path.stem)
+FILES = sorted(FOLDER.glob("*.txt"))
+
+
+@pytest.mark.parametrize("path", FILES, ids=[path.stem for path in FILES])
 def test_cases(path):
     wrong, ran = [], Counter()
     for line in path.read_text().splitlines():
