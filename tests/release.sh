@@ -34,13 +34,17 @@ TZ=UTC
 LC_ALL=C
 PIP_NO_INDEX=1
 PIP_DISABLE_PIP_VERSION_CHECK=1
+PIP_NO_BUILD_ISOLATION=0 # a switch that is named for what it turns off: 0 turns it off
 PYTHONDONTWRITEBYTECODE=1
 CARGO_NET_OFFLINE=true
 npm_config_cache=$work/npm
 npm_config_update_notifier=false
+npm_config_offline=true
+npm_config_audit=false
+npm_config_fund=false
 PATH=$PATH:$HOME/.cargo/bin
-export SOURCE_DATE_EPOCH TZ LC_ALL PIP_NO_INDEX PIP_DISABLE_PIP_VERSION_CHECK PYTHONDONTWRITEBYTECODE CARGO_NET_OFFLINE
-export npm_config_cache npm_config_update_notifier PATH
+export SOURCE_DATE_EPOCH TZ LC_ALL PIP_NO_INDEX PIP_DISABLE_PIP_VERSION_CHECK PIP_NO_BUILD_ISOLATION PYTHONDONTWRITEBYTECODE
+export CARGO_NET_OFFLINE npm_config_cache npm_config_update_notifier npm_config_offline npm_config_audit npm_config_fund PATH
 unset JCOBS_LIB_DIR PKG_CONFIG_PATH MAKEFLAGS MAKELEVEL PYTHONPATH PYTHONHOME
 umask 022
 
@@ -68,7 +72,7 @@ sums() {
     (cd "$tree/bindings/c/prebuilt" && sha256sum -c SHA256SUMS)
 }
 
-source_archive() { packed "$folder/$name_of-source.tar.gz" "$work" "$name_of"; }
+source_archive() { packed "$folder/$name_of-source.tar.gz" "$work" "$name_of-source"; }
 
 c_archive() { # ARCH
     make -C "$tree/bindings/c" dist TARGET="$1-unknown-linux-gnu" &&
@@ -97,7 +101,18 @@ device_archive() {
         (cd "$tree/bindings/c/device" && cp -R README.md src cmake zephyr library.json library.properties platformio.py CMakeLists.txt idf_component.yml \
             "$there") &&
         cp "$tree"/LICENSE-* "$there" && cp "$tree/bindings/c/include/jcobs.h" "$there/src/jcobs.h" &&
+        sed -i 's,`\.\./,`bindings/c/,g' "$there/README.md" &&
         packed "$folder/$name_of-device.tar.gz" "$work/device" "$name_of-device"
+}
+
+# The README of a package, in the copy: its commands take the package's file, and a link to what is only in the repository is none.
+package_readme() { # BINDING FILE
+    sed -i "s,\./bindings/$1,./$2,; s,\[\([^]]*\)\](\.\./[^)]*),\1,g" "$tree/bindings/$1/README.md"
+}
+
+# Runs what the README of a package says of its install, beside the package's file.
+readme_installs() { # ARCHIVE README TOOL
+    cp "$1" . && tar -xOzf "$1" "$2" | sed -n "s/^    $3 install/$3 install/p" >install && test -s install && sh -eux install
 }
 
 programs_archive() {
@@ -111,10 +126,14 @@ programs_archive() {
         packed "$folder/$name_of-programs-x86_64-linux.tar.gz" "$work/programs" "$name_of-programs-x86_64-linux"
 }
 
+# The wheel is built from the source distribution, for every Linux with glibc 2.17 or later.
 python_packages() {
-    (cd "$tree/bindings/python" && CFLAGS="-g0 -ffile-prefix-map=$tree=." "$python" -m build --no-isolation --outdir "$work/python") &&
+    there=$work/sdist/$name_of
+    package_readme python "$name_of.tar.gz" && (cd "$tree/bindings/python" && "$python" -m build --no-isolation --sdist --outdir "$work/python") &&
         mkdir -p "$work/sdist" && tar -xzf "$work/python/$name_of.tar.gz" -C "$work/sdist" &&
-        packed "$folder/$name_of.tar.gz" "$work/sdist" "$name_of" && cp "$work/python"/*.whl "$folder"
+        packed "$folder/$name_of.tar.gz" "$work/sdist" "$name_of" &&
+        CFLAGS="-g0 -ffile-prefix-map=$there=." "$python" -m build --no-isolation --wheel --outdir "$folder" \
+            "--config-setting=--build-option=--plat-name=manylinux2014_$(uname -m)" "$there"
 }
 
 page_archive() {
@@ -123,16 +142,24 @@ page_archive() {
         packed "$folder/$name_of-page.tar.gz" "$work/page" "$name_of-page"
 }
 
-node_package() { (cd "$tree/bindings/web" && npm pack --offline --pack-destination "$folder"); }
+node_package() { package_readme web "$name_of.tgz" && (cd "$tree/bindings/web" && npm pack --offline --pack-destination "$folder"); }
 
 rust_crate() {
     (cd "$tree/bindings/rust" && cargo package --offline --no-verify --allow-dirty --target-dir "$work/cargo") &&
-        cp "$work/cargo/package/$name_of.crate" "$folder"
+        cp "$work/cargo/package/$name_of.crate" "$folder" &&
+        ! tar -xOzf "$folder/$name_of.crate" "$name_of/Cargo.toml" | grep '^publish'
 }
 
 write_sums() { (cd "$folder" && sha256sum -- jcobs-* >SHA256SUMS.new && mv SHA256SUMS.new SHA256SUMS); }
 
 # The checks.
+
+# Each archive is unpacked to one folder, of its own name.
+folders() {
+    for archive in "$folder"/*.tar.gz; do
+        prints "$(basename "$archive" .tar.gz)" sh -c "tar -tzf '$archive' | cut -d/ -f1 | sort -u" || return 1
+    done
+}
 
 libraries_again() {
     "$root/bindings/c/prebuilt.sh" "$work/again" && for arch in x86_64 aarch64; do
@@ -219,15 +246,24 @@ PROGRAM
         done
 }
 
-python_runs() { # ARTIFACT
+python_runs() { # COMMAND..: it installs
     rm -rf "$work/environment" && "$python" -m venv --system-site-packages "$work/environment" &&
-        (cd "$work" && environment/bin/python -m pip install -q --no-build-isolation --no-deps "$1" &&
+        (cd "$work" && PATH=$work/environment/bin:$PATH && "$@" &&
             writes "0668656c6c6f $version\n" environment/bin/python -c 'import jcobs; print(jcobs.encode(b"hello").hex(), jcobs.__version__)')
+}
+
+# What the wheel's tag says: it calls the C library alone, and nothing that is newer than glibc 2.17.
+wheel_is_portable() {
+    "$python" -m zipfile -e "$folder/$name_of"-*.whl "$work/wheel" || return 1
+    for built in "$work"/wheel/jcobs/*.so; do
+        readelf -d "$built" | sed -n 's/.*NEEDED.*\[\(.*\)\]/\1/p' | grep -v -x -e libc.so.6 -e 'ld-linux.*' && return 1
+        { readelf -V "$built" | grep -o 'GLIBC_[0-9.]*' && echo GLIBC_2.17; } | sort -V | tail -n 1 | grep -x GLIBC_2.17 || return 1
+    done
 }
 
 node_runs() {
     mkdir -p "$work/node" && cp "$tree/bindings/web/examples/first.js" "$work/node" && (cd "$work/node" &&
-        echo '{ "type": "module" }' >package.json && npm install --offline --no-audit --no-fund "$folder/$name_of.tgz" &&
+        echo '{ "type": "module" }' >package.json && readme_installs "$folder/$name_of.tgz" package/README.md npm &&
         writes '3 10 11 2 12\n10 11 0 12\n3 10 11 2 12 0\n9 0 1 8 6\n' node first.js)
 }
 
@@ -254,7 +290,7 @@ crate_runs() {
 }
 
 name_of=jcobs-$version
-tree=$work/$name_of
+tree=$work/$name_of-source
 mkdir -p "$folder"
 folder=$(cd "$folder" && pwd)
 rm -f "$folder"/jcobs-* "$folder/SHA256SUMS"
@@ -308,8 +344,9 @@ for candidate in ${PYTHON:-/usr/bin/python3 python3}; do
 done
 if [ -n "$python" ]; then
     part 'Python packages' python_packages && {
-        part 'the wheel runs' python_runs "$(echo "$folder/$name_of"-*.whl)"
-        part 'the source distribution runs' python_runs "$folder/$name_of.tar.gz"
+        part 'the wheel is for glibc 2.17 and later' wheel_is_portable
+        part 'the wheel runs' python_runs pip install "$(echo "$folder/$name_of"-*.whl)"
+        part 'the source distribution runs' python_runs readme_installs "$folder/$name_of.tar.gz" "$name_of/README.md" pip
     }
 else
     skip 'Python packages' "needs Debian's python3-build, python3-setuptools, python3-wheel or python3-venv"
@@ -328,6 +365,7 @@ elif part 'crate' rust_crate; then
     fi
 fi
 
+part 'each archive has a folder of its own' folders
 part 'SHA256SUMS' write_sums
 [ -z "${1:-}" ] || (cd "$folder" && cat SHA256SUMS)
 finish
