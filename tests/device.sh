@@ -234,6 +234,7 @@ if has cmake cmake 'the CMake examples'; then
     part 'CMake: include twice, jcobs.c' cmake_example 1 "set(JCOBS_CORE \"\")
 include($device/cmake/jcobs.cmake)
 include($device/cmake/jcobs.cmake)"
+    part 'CMake: add_subdirectory of device, the archive' cmake_example 0 "add_subdirectory($device jcobs)"
     part 'CMake: add_subdirectory, the archive' cmake_example 0 "add_subdirectory($root/bindings/c jcobs)"
     part 'CMake: add_subdirectory, jcobs.c' cmake_example 1 "add_subdirectory($root/bindings/c jcobs)" -DJCOBS_FROM_SOURCE=ON
 fi

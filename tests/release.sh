@@ -20,7 +20,7 @@
 # last line counts them; the status is 0 only if nothing failed.
 #
 # The functions are called by 'part'.
-# shellcheck disable=SC2317
+# shellcheck disable=SC2016,SC2317
 set -u
 root=$(cd "$(dirname "$0")/.." && pwd)
 # shellcheck source=SCRIPTDIR/count.sh
