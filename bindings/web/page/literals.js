@@ -27,7 +27,7 @@ function tokensOf(text) {
 /** An array, a string or a call, or undefined if the text is none. */
 export function parseLiteral(text) {
   const bare = text.trim();
-  if (!/["'`]/.test(bare.replace(/\\["']/g, "")) && /^[^[\](){}]*\\(x[0-9a-f]{2}|[0-7])/i.test(bare)) return read(() => ({ bytes: unescaped(bare, true), as: "a string with escapes" }));
+  if (!/["'`]/.test(bare.replace(/\\["']/g, "")) && /^[^[\](){}]*\\(x[0-9a-f]{2}|[0-7])/i.test(bare)) return read(() => unquoted(bare));
   if (!/[[({"']/.test(bare)) return undefined;
   if (/\.\.\.|…/.test(bare.replace(/"[^"]*"|'[^']*'/g, ""))) return { error: "Bytes are left out at the “...”." };
   const [, pairs] = bare.match(/^[[({]\s*((?:[0-9a-f]{2}\s+)*[0-9a-f]{2})\s*[\])}]$/i) ?? [];
@@ -36,6 +36,12 @@ export function parseLiteral(text) {
   let depth = 0;
   if (tokens?.some(({ text }) => (depth += /^[([{]$/.test(text) ? 1 : /^[)\]}]$/.test(text) ? -1 : 0) > DEEPEST)) return { error: NONE };
   return tokens ? read(() => declared(tokens)) : { error: NONE };
+}
+
+/** The inside of a string, without its quotes. */
+function unquoted(text) {
+  demandOneReading([{ kind: "string", text: `b"${text}"` }], "");
+  return { bytes: unescaped(text, true), as: "a string with escapes" };
 }
 
 function read(act) {

@@ -51,7 +51,7 @@ const READ = [
   ['char f[2] = "\\01A";', ESCAPES, "0141"],
   ['const char *f = "\\012";', ESCAPES, "0a"],
   ["'\\012'", ESCAPES, "0a"],
-  ["\\003\\012", ESCAPES, "030a"],
+  ["\\003\\12", ESCAPES, "030a"],
   ['b"\\0\\08\\0A\\\\01"', ESCAPES, "00003800415c3031"],
   ["[0b00000011]", LIST, "03"],
   // Python
@@ -133,6 +133,7 @@ const WRONG = [
   ['let f = b"\\x03\\012";', "octal"],
   ['const F: &[u8] = b"\\01";', "octal"],
   ['[b"\\x01", b"\\01"]', "octal"],
+  ["\\x03\\012", "octal"],
   ['"\\x01a"', "C takes all"],
   ["b'\\u00e9'", "escape"],
   ['"03 0a"', "quotes"],
