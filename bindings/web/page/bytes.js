@@ -17,7 +17,7 @@ export function joined(parts) {
   return whole;
 }
 
-/** `{bytes, as}` of a text in any of these forms, with `as` the name of the form; else `{error}`, which says what is wrong. */
+/** `{bytes, as}` of a text in any of these forms, with `as` the name of the form; else `{error}`, which says what is wrong, perhaps with `as`. */
 export function parseBytes(text) {
   const clean = text.replace(INVISIBLE, "").replace(/\r\n?/g, "\n");
   for (const parse of [parseBuffer, parseDump, parseCan, parseLiteral, parseWords, parsePlainHex, parseBase64]) {

@@ -7,9 +7,16 @@ const LONGEST = 1 << 20; // of a value that is repeated
 const DEEPEST = 16;      // brackets in brackets
 const TOKEN = /(?<space>\s+|\/\*[\s\S]*?\*\/|\/\/[^\n]*|#[^\n]*|'static\b)|(?<string>(?:u8|br|rb|[bruBRUL])?(?:"(?:\\[\s\S]|[^"\\])*"|'(?:\\[\s\S]|[^'\\])*'))|(?<number>-?\d\w*(?:\.\d+)?)|(?<name>[A-Za-z_$][\w.]*(?:::\w+)*!?)|(?<sign>[()[\]{},;:=&*<>])/gy;
 
+const ESCAPED = "a string with escapes";
 const NONE = "This is no list of bytes, no string, and no call that gives bytes.";
 
-class Unreadable extends Error {}
+class Unreadable extends Error {
+  /** `as`: the form that it has nevertheless, if it surely has one. */
+  constructor(message, as) {
+    super(message);
+    this.as = as;
+  }
+}
 
 /** The words and signs of a text, each `{kind, text}`; undefined if there is another one. */
 function tokensOf(text) {
@@ -41,14 +48,14 @@ export function parseLiteral(text) {
 /** The inside of a string, without its quotes. */
 function unquoted(text) {
   demandOneReading([{ kind: "string", text: `b"${text}"` }], "");
-  return { bytes: unescaped(text, true), as: "a string with escapes" };
+  return { bytes: unescaped(text, true), as: ESCAPED };
 }
 
 function read(act) {
   try {
     return act();
   } catch (error) {
-    if (error instanceof Unreadable) return { error: error.message };
+    if (error instanceof Unreadable) return { error: error.message, as: error.as };
     throw error;
   }
 }
@@ -77,13 +84,13 @@ function demandOneReading(tokens, front) {
   const octal = escapes.find((escape) => /^\\0[0-7]/.test(escape));
   const isRust = strings.every(({ text }) => /^b?"/.test(text)) && escapes.every((escape) => /^\\[0nrtxu\\'"\n]/.test(escape));
   const isRow = tokens.some(({ kind }, at) => kind === "string" && tokens[at + 1]?.kind === "string");
-  if (octal && isRust && !isRow && !/n\[0?\]$|\*n$/.test(front)) throw new Unreadable(`“${octal}” is octal in C and Python, and a byte 00 before digits in Rust: write it by \\x.`);
+  if (octal && isRust && !isRow && !/n\[0?\]$|\*n$/.test(front)) throw new Unreadable(`“${octal}” is octal in C and Python, and a byte 00 before digits in Rust: write it by \\x.`, ESCAPED);
 }
 
 function nameOf(kinds) {
   if (kinds.has("signed")) return "numbers with a sign";
   if (kinds.size > 1) return "a list of numbers";
-  return { hex: "a list", decimal: "decimal numbers", escapes: "a string with escapes", string: "a string", digits: "hex", base64: "base64" }[[...kinds][0]] ?? "a list";
+  return { hex: "a list", decimal: "decimal numbers", escapes: ESCAPED, string: "a string", digits: "hex", base64: "base64" }[[...kinds][0]] ?? "a list";
 }
 
 /** The bytes of an expression: strings in a row, or a list or call with what may be before it. */
@@ -198,7 +205,7 @@ function unescaped(text, isBytes, isRaw = false) {
   };
   if (isRaw) add(text);
   else {
-    if (!isBytes && /\\x[0-9a-f]{3}/i.test(text)) throw new Unreadable("After \\x C takes all digits, other languages two: write the next one as an escape too.");
+    if (!isBytes && /\\x[0-9a-f]{3}/i.test(text)) throw new Unreadable("After \\x C takes all digits, other languages two: write the next one as an escape too.", ESCAPED);
     for (const [whole, pair, octal, point, long, newline, escape, plain] of text.matchAll(/\\x([0-9a-f]{2})|\\([0-7]{1,3})|\\u(?:\{([0-9a-f]{1,6})\}|([0-9a-f]{4}))|\\(\n\s*)|\\(.)|([^\\])/giu)) {
       if (pair) found.push(parseInt(pair, 16));
       else if (octal) found.push(parseInt(octal, 8) & 255);

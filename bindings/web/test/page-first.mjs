@@ -59,6 +59,9 @@ await check("first: what is pasted is found out, each time with a way back", () 
   await page.fill("#message-input", "a\u2205b");
   await frameIs(page, "02 61 02 62");
   equal((await state())[1], "Read as text (UTF-8); each \u2205 is a byte 00.", "of a zero");
+  await paste('b"\\x03\\012"');
+  await page.until('document.getElementById("message-error").textContent.includes("octal")');
+  equal(await state(), ["hex", ""], "of a literal with two readings");
 }));
 
 await check("first: Undo takes back samples, bytes that were written, and a whole word that was typed", () => on("message", async (page) => {
