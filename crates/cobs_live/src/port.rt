@@ -34,7 +34,8 @@ impl<'a, C: Clock + Drop, F: Drop> Port<'a, C, F> {
         }
     }
 
-    /// Whether to try again: it would have blocked, and a pause is over. The reason of another error is noted.
+    /// Whether to try again: it would have blocked, and a pause is over. The reason of another error is noted, but for an
+    /// interruption, after which callers try again.
     fn tries_again(&self, done: &io::Result<usize>) -> bool
         ensures failed { IsOk done.now → result ≡ false }
     {
@@ -45,7 +46,9 @@ impl<'a, C: Clock + Drop, F: Drop> Port<'a, C, F> {
             thread::sleep(&self.clock, Duration::from_millis(PAUSE));
             return true;
         }
-        self.reason.set(error.raw_os_error());
+        if error.kind() != ErrorKind::Interrupted {
+            self.reason.set(error.raw_os_error());
+        }
         false
     }
 }
