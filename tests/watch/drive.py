@@ -418,7 +418,9 @@ def dates():
         if os.path.exists(f"/usr/share/zoneinfo/{name}"):
             zones.append((name, datetime.datetime.now(zoneinfo.ZoneInfo(name)).utcoffset().total_seconds()))
     for clock, zone, ahead in [("utc", "XYZ3:30", 0)] + [("local", *zone) for zone in zones]:
-        found, _, sent, shown = timed(["--time", clock], (0.05, 0.05), time.time, env={**os.environ, "TZ": zone})
+        found, _, sent, shown = timed(
+            ["--time", clock], (0.05, 0.05), time.time, stderr=subprocess.DEVNULL, env={**os.environ, "TZ": zone}
+        )
         for number, text in enumerate(found):
             date = datetime.datetime.fromisoformat(text)
             offset = date.utcoffset().total_seconds()
@@ -432,6 +434,11 @@ def dates():
     item = json.loads(run(["--json", "--time", "local"], b"\x02a\0", env={**os.environ, "TZ": "XYZ3:30"}))
     date = datetime.datetime.fromisoformat(item["time"])
     assert item["time"].endswith("-03:30") and lies_between(begin, date.timestamp(), time.time(), 0.002), item
+    # A zone that was asked for and can't be read is reported.
+    unread = b"cobs_watch: the time zone in TZ can't be read: dates are in UTC\n"
+    for zone, said in (("No/Where", unread), ("CET-1CEST", unread), ("/etc/passwd", unread), ("", b""), ("UTC0", b"")):
+        done = subprocess.run([WATCH, "--time", "local"], input=b"\x02a\0", capture_output=True, env={**os.environ, "TZ": zone}, check=True)
+        assert done.stdout.endswith(b"Z message 1 61\n") and done.stderr == said, (zone, done)
 
 
 @part
@@ -637,6 +644,10 @@ def wrong_words():
             [WATCH, *words], input=b"\x02a\0", stdout=subprocess.PIPE, stderr=subprocess.PIPE, timeout=120, check=False
         )
         assert (done.returncode, done.stdout) == (2, b"") and done.stderr, (words, done)
+    for words in ([b"caf\xe9"], [b"--log", b"\xff"], [b"send", b"\xff"]):
+        done = subprocess.run([WATCH, *words], input=b"\x02a\0", capture_output=True, timeout=120, check=False)
+        said = b"error: an argument that isn't UTF-8 can't be used\n\nUsage: cobs_watch"
+        assert (done.returncode, done.stdout) == (2, b"") and done.stderr.startswith(said), (words, done)
     done = subprocess.run(
         [WATCH, "send", "--hex"],
         input=b"00 ff\r\nzz\n",

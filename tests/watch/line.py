@@ -195,9 +195,30 @@ def a_log(room):
     for times in (1, 2):
         same(ended(start(["--log", room / "log", room / "frames"])), (SHOWN * 1000, "", 0))
         same((room / "log").read_bytes(), SHOWN * 1000 * times)
-    same(ended(start(["--log", "/dev/full", room / "frames"]))[1:], ("cobs_watch: write failed: No space left on device (os error 28)\n", 1))
     _, errors, status = ended(start(["--log", room / "none" / "log", room / "frames"]))
     assert status == 1 and errors.startswith(f"cobs_watch: {room}/none/log: "), errors
+
+
+@part
+def a_log_that_cannot_be_written(room):
+    (room / "frames").write_bytes(FRAME * 20_000)
+    os.mkfifo(room / "log")
+    for log, reason in (("/dev/full", "No space left on device (os error 28)"), (room / "log", "Broken pipe (os error 32)")):
+        for style in ([], ["--pcap"]):
+            with start([*style, "--log", log, room / "frames"]) as watch:
+                # Whoever reads the FIFO goes away.
+                os.close(os.open(log, os.O_RDONLY))
+                same(ended(watch)[1:], (f"cobs_watch: {log}: write failed: {reason}\n", 1))
+
+
+@part
+def a_log_beside_closed_descriptors(room):
+    (room / "frames").write_bytes(FRAME)
+    for closed, out, status, logged in ((0, SHOWN, 0, SHOWN), (1, b"", 1, b""), (2, SHOWN, 0, SHOWN)):
+        log = room / f"log{closed}"
+        words = ["sh", "-c", f'exec "$@" {closed}>&-', "sh", WATCH, "--count", "--log", log, room / "frames"]
+        done = subprocess.run(words, stdout=subprocess.PIPE, stderr=subprocess.DEVNULL, check=False)
+        same((done.stdout, done.returncode, log.read_bytes()), (out, status, logged))
 
 
 print(f"{len(failed)} failed")

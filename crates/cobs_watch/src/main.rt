@@ -17,6 +17,7 @@ mod help;
 mod options;
 mod values;
 
+use clap::error::ErrorKind as CommandErrorKind;
 use cobs_live::capture::write_capture_head;
 use cobs_live::clock::Timer;
 use cobs_live::fault::WatchFault;
@@ -27,11 +28,13 @@ use cobs_live::show::run_show;
 use cobs_live::shown::Style;
 use jiff_tz::{SystemTimeZone, TimeZone, TimeZoneDatabase};
 use options::{ShowTask, Task, task_of};
+use std::alloc::AllocError;
 use std::cell::Cell;
 use std::env::{self, VarError};
 use std::fs::File;
-use std::io::{self, BufReader, BufWriter, IsTerminal, Read, Write};
+use std::io::{self, BufReader, BufWriter, ErrorKind, IsTerminal, Read, Write};
 use std::process::ExitCode;
+use values::wrong;
 
 /// How many bytes of output are held before they are written, 128 KiB: the digits of a chunk of input.
 const OUTPUT_LEN: usize = 131_072;
@@ -39,21 +42,68 @@ const OUTPUT_LEN: usize = 131_072;
 /// The system's number for why a read or a write failed last, if there is one.
 type Reason = Cell<Option<i32>>;
 
-fn main(rt: HostRuntime) -> anyhow::Result<ExitCode> {
-    let words: Vec<String> = env::args(&rt)?.collect(rt.alloc())?;
-    match task_of(rt.alloc(), &words, auto_color(&rt)) {
-        Ok(Task::Show(task)) if task.local => show_local(&rt, &task),
-        Ok(Task::Show(task)) => show(&rt, &task, TimeZone::UTC),
-        Ok(Task::Send(settings)) => send(&rt, &settings),
+/// Why a run of `show` failed.
+#[derive(Drop)]
+struct Reasons {
+    /// The last error of its input and of standard output.
+    stream: Reason,
+
+    /// That of its log. After it, nothing is written to the log.
+    log: Reason,
+}
+
+fn main(rt: HostRuntime) -> ExitCode {
+    match run(&rt) {
+        Ok(status) => status,
         Err(error) => {
-            let status = ExitCode::from(error.exit_code() as u8);
-            let Err(error) = error.print(&rt) else {
-                return Ok(status);
-            };
-            let reason = error.raw_os_error();
-            Ok(faulted(&rt, error.into(), reason))
+            let _ = eprintln!(rt; "cobs_watch: {error}");
+            ExitCode::FAILURE
         }
     }
+}
+
+/// Does what the arguments ask for, and returns the status.
+///
+/// # Errors
+/// Out of memory before the first read, and a clock that can't be read.
+fn run(rt: &HostRuntime) -> anyhow::Result<ExitCode> {
+    let words = match words_of(rt) {
+        Ok(words) => words,
+        Err(error) => return Ok(no_task(rt, &error)),
+    };
+    match task_of(rt.alloc(), &words, auto_color(rt)) {
+        Ok(Task::Show(task)) if task.local => show_local(rt, &task),
+        Ok(Task::Show(task)) => show(rt, &task, TimeZone::UTC),
+        Ok(Task::Send(settings)) => send(rt, &settings),
+        Err(error) => Ok(no_task(rt, &error)),
+    }
+}
+
+/// The arguments, the program's own name in front.
+///
+/// # Errors
+/// A wrong argument where one isn't UTF-8, and out of memory.
+fn words_of(rt: &HostRuntime) -> Result<Vec<String>, clap::Error> {
+    match env::args(rt) {
+        Ok(words) => Ok(words.collect(rt.alloc())?),
+        Err(error) if error.kind() == ErrorKind::InvalidData => {
+            wrong(rt.alloc(), "an argument that isn't UTF-8 can't be used")
+        }
+        Err(_) => Err(AllocError.into()),
+    }
+}
+
+/// The status if the arguments give no task. Help, the version, or what is wrong is printed.
+fn no_task(rt: &HostRuntime, error: &clap::Error) -> ExitCode {
+    if error.kind() == CommandErrorKind::OutOfMemory {
+        return faulted(rt, WatchFault::OutOfMemory, None);
+    }
+    let status = ExitCode::from(error.exit_code() as u8);
+    let Err(error) = error.print(rt) else {
+        return status;
+    };
+    let reason = error.raw_os_error();
+    faulted(rt, error.into(), reason)
 }
 
 /// Whether lines have colours if the arguments leave it open: standard output is a terminal that has colours, and the variable
@@ -73,6 +123,7 @@ fn auto_color(rt: &HostRuntime) -> bool {
 /// Shows a stream with dates in the system's time zone, or in UTC if that can't be read. Dates show which it is.
 fn show_local(rt: &HostRuntime, task: &ShowTask<'_>) -> anyhow::Result<ExitCode> {
     let Ok(system) = SystemTimeZone::read(rt) else {
+        report_utc(rt);
         return show(rt, task, TimeZone::UTC);
     };
     // All zones of the system are read only for one that is given by its name.
@@ -80,37 +131,60 @@ fn show_local(rt: &HostRuntime, task: &ShowTask<'_>) -> anyhow::Result<ExitCode>
     if system.time_zone(&zones).is_err() {
         zones = TimeZoneDatabase::from_env(rt)?;
     }
-    let zone = system.time_zone(&zones).unwrap_or(TimeZone::UTC);
-    show(rt, task, zone)
+    match system.time_zone(&zones) {
+        Ok(zone) => show(rt, task, zone),
+        Err(_) => {
+            report_utc(rt);
+            show(rt, task, TimeZone::UTC)
+        }
+    }
+}
+
+/// Says on standard error that dates are in UTC, if `TZ` asks for another zone. A system without a zone has UTC.
+fn report_utc(rt: &HostRuntime) {
+    if let Err(VarError::NotPresent) = env::var(rt, "TZ") {
+        return;
+    }
+    let _ = eprintln!(rt; "cobs_watch: the time zone in TZ can't be read: dates are in UTC");
 }
 
 /// Shows standard input, or the line that has a path, and returns the status. Dates are in this zone.
 fn show(rt: &HostRuntime, task: &ShowTask<'_>, zone: TimeZone<'_>) -> anyhow::Result<ExitCode> {
-    let reason = Cell::new(None);
+    let reasons = Reasons {
+        stream: Cell::new(None),
+        log: Cell::new(None),
+    };
     let log = match &task.log {
         None => None,
-        Some(path) => match File::options().append(true).create(true).open(rt, path) {
-            Ok(file) => Some(Port::new(rt, file, &reason)),
+        Some(path) => match open_log(rt, path) {
+            Ok(file) => Some(Port::new(rt, file, &reasons.log)),
             Err(error) => return Ok(not_opened(rt, path, &error)),
         },
     };
-    let output = Logged::new(Port::new(rt, rt.stdout(), &reason), log);
+    let output = Logged::new(Port::new(rt, rt.stdout(), &reasons.stream), log);
     let mut output = BufWriter::with_capacity(rt.alloc(), OUTPUT_LEN, output)?;
     if let Err(error) = begin(&mut output, task.settings.view.style) {
-        return Ok(faulted(rt, error.into(), reason.get()));
+        return Ok(show_faulted(rt, task, error.into(), &reasons));
     }
     match &task.path {
-        None => show_input(rt, task, zone, rt.stdin(), &reason, &mut output),
+        None => show_input(rt, task, zone, rt.stdin(), &reasons, &mut output),
         Some(path) => match File::open(rt, path) {
             Ok(file) if task.reconnect => {
                 let sentinel = task.settings.sentinel;
                 let line = Reopened::new(rt, Device { rt, path }, sentinel, file);
-                show_input(rt, task, zone, line, &reason, &mut output)
+                show_input(rt, task, zone, line, &reasons, &mut output)
             }
-            Ok(file) => show_input(rt, task, zone, file, &reason, &mut output),
+            Ok(file) => show_input(rt, task, zone, file, &reasons, &mut output),
             Err(error) => Ok(not_opened(rt, path, &error)),
         },
     }
+}
+
+/// Opens a log. Its descriptor is a second one, which is never 0, 1 or 2: if standard output or error is closed, the first one
+/// takes that number, and what is written there would be in the log.
+fn open_log(rt: &HostRuntime, path: &str) -> io::Result<File> {
+    let first = File::options().append(true).create(true).open(rt, path)?;
+    first.try_clone()
 }
 
 /// A line that has a path.
@@ -144,7 +218,7 @@ fn show_input<R: Read + Drop, W: Write + Drop>(
     task: &ShowTask<'_>,
     zone: TimeZone<'_>,
     input: R,
-    reason: &Reason,
+    reasons: &Reasons,
     output: &mut BufWriter<W>,
 ) -> anyhow::Result<ExitCode>
     requires flushed { writer_buffer output.old ≡ [] }
@@ -155,12 +229,12 @@ fn show_input<R: Read + Drop, W: Write + Drop>(
         &task.settings,
         task.counting,
         &timer,
-        &mut AnyInput::new(Port::new(rt, input, reason)),
+        &mut AnyInput::new(Port::new(rt, input, &reasons.stream)),
         output,
         &mut rt.stderr(),
     ) {
         Ok(_) => Ok(ExitCode::SUCCESS),
-        Err(fault) => Ok(faulted(rt, fault, reason.get())),
+        Err(fault) => Ok(show_faulted(rt, task, fault, reasons)),
     }
 }
 
@@ -187,6 +261,21 @@ fn send(rt: &HostRuntime, settings: &send::Settings) -> anyhow::Result<ExitCode>
 /// The status where a file can't be opened.
 fn not_opened(rt: &HostRuntime, path: &str, error: &io::Error) -> ExitCode {
     let _ = eprintln!(rt; "cobs_watch: {path}: {error}");
+    ExitCode::FAILURE
+}
+
+/// The status of a run of `show` that met this fault, which is that of the log if the log couldn't be written.
+fn show_faulted(
+    rt: &HostRuntime,
+    task: &ShowTask<'_>,
+    fault: WatchFault,
+    reasons: &Reasons,
+) -> ExitCode {
+    let (Some(path), Some(reason)) = (task.log, reasons.log.get()) else {
+        return faulted(rt, fault, reasons.stream.get());
+    };
+    let error = io::Error::from_raw_os_error(reason);
+    let _ = eprintln!(rt; "cobs_watch: {path}: {}: {error}", WatchFault::WriteFailed);
     ExitCode::FAILURE
 }
 

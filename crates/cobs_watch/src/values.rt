@@ -9,7 +9,7 @@ use cobs_live::shown::Filter;
 use std::alloc::Global;
 
 /// An error of the command line.
-fn wrong<T>(alloc: Global, message: &str) -> Result<T, Error>
+pub(crate) fn wrong<T>(alloc: Global, message: &str) -> Result<T, Error>
     ensures error { IsErr result }
 {
     Err(Command::new(alloc, "cobs_watch").error(ErrorKind::ValueValidation, message)?)
