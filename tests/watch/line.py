@@ -52,7 +52,7 @@ def a_file_by_its_path(room):
     for words in ([room / "frames"], ["show", room / "frames"]):
         same(ended(start(words)), (SHOWN * 2, "", 0))
     same(ended(start([room / "none"])), (b"", f"cobs_watch: {room}/none: No such file or directory (os error 2)\n", 1))
-    same(ended(start([room]))[1], "cobs_watch: read failed: Is a directory (os error 21)\n")
+    same(ended(start([room]))[1], f"cobs_watch: {room}: read failed: Is a directory (os error 21)\n")
 
 
 @part

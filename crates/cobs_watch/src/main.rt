@@ -264,18 +264,24 @@ fn not_opened(rt: &HostRuntime, path: &str, error: &io::Error) -> ExitCode {
     ExitCode::FAILURE
 }
 
-/// The status of a run of `show` that met this fault, which is that of the log if the log couldn't be written.
+/// The status of a run of `show` that met this fault. If it was its log that couldn't be written, or a line that has a path that
+/// couldn't be read, that file is named.
 fn show_faulted(
     rt: &HostRuntime,
     task: &ShowTask<'_>,
     fault: WatchFault,
     reasons: &Reasons,
 ) -> ExitCode {
-    let (Some(path), Some(reason)) = (task.log, reasons.log.get()) else {
-        return faulted(rt, fault, reasons.stream.get());
+    let (named, fault, reason) = match (reasons.log.get(), fault) {
+        (Some(reason), _) => (task.log, WatchFault::WriteFailed, Some(reason)),
+        (None, WatchFault::ReadFailed) => (task.path, WatchFault::ReadFailed, reasons.stream.get()),
+        (None, fault) => (None, fault, reasons.stream.get()),
+    };
+    let (Some(path), Some(reason)) = (named, reason) else {
+        return faulted(rt, fault, reason);
     };
     let error = io::Error::from_raw_os_error(reason);
-    let _ = eprintln!(rt; "cobs_watch: {path}: {}: {error}", WatchFault::WriteFailed);
+    let _ = eprintln!(rt; "cobs_watch: {path}: {fault}: {error}");
     ExitCode::FAILURE
 }
 
