@@ -44,7 +44,7 @@ pub enum DecodeError {
 
     /// The frame breaks off inside a block, or no frame is there.
     InvalidFrame {
-        /// How many decoded bytes are at the front of the buffer.
+        /// How many bytes it gave, which are at the front of a buffer of the caller's.
         decoded_bytes: usize,
     },
 

@@ -27,7 +27,7 @@ fn decode_blocks(source: &[u8], dest: &mut [u8], sentinel: u8) -> Result<usize, 
 
 /// Decodes the frame at the front of the source, where the sentinel may be any byte, and returns the message's length.
 ///
-/// Only the source is read, up to its first sentinel or its end; each byte is XORed with the sentinel.
+/// The frame is what the source has up to its first sentinel or its end; each byte is XORed with the sentinel.
 /// The message is then at the front of `dest`, and every byte after it is as it was. Unlike `decode`, this reads a
 /// leading sentinel as an empty message, and returns 0.
 ///

@@ -2,9 +2,9 @@
 //! Decoding a frame in its own buffer.
 
 use crate::proved::block::FULL_BLOCK_BYTES;
-use crate::proved::cobs_bytes::lanes::{move_to_front, xor_bytes};
+use crate::proved::cobs_bytes::lanes::{copy_xored_short, move_to_front, xor_bytes};
 use crate::proved::cobs_bytes::window::{WIDE_WINDOW, WINDOW, is_all, write_row};
-use crate::proved::dec::stretch::{decode_short, kept_len, message_len, write_zeros_at_codes};
+use crate::proved::dec::stretch::{kept_len, message_len, write_zeros_at_codes};
 use crate::proved::dec::unbuffered::{FULL, UnbufferedDecoder};
 use crate::proved::error::{DecodeError, DecodeReport};
 use crate::proved::find::{len_without_end, position_or_len};
@@ -44,9 +44,7 @@ impl UnbufferedDecoder {
             self.left -= most as u8;
         } else {
             // What the open block is missing is what a code of one more would open.
-            let (code, left) = write_zeros_at_codes(&mut buffer[at..], self.left + 1, most + 1);
-            self.code = code;
-            self.left = left as u8;
+            (self.code, self.left) = write_zeros_at_codes(&mut buffer[at..at + most], left + 1);
         }
         most
     }
@@ -76,14 +74,25 @@ fn decode_blocks_in_place(buffer: &mut [u8], end: usize) -> Result<usize, Decode
 /// Decodes the first `len` bytes of the buffer, if these are 2 to 65 and a frame, and says whether it did. If not, every byte
 /// stays.
 ///
-/// A broken frame is not to change the bytes behind what it gives, so it is decoded beside.
+/// A broken frame is not to change the bytes behind what it gives, so all are kept beside, and put back then.
 #[inline(always)]
 fn decode_short_in_place(buffer: &mut [u8], len: usize) -> bool {
-    let mut short = [0; WIDE_WINDOW];
-    if decode_short(&buffer[..len], &mut short, 0) != Some(0) {
+    let mut old = [0; WIDE_WINDOW];
+    if len < 2
+        || WIDE_WINDOW + 1 < len
+        || buffer[0] == 0
+        || !copy_xored_short(&buffer[1..len], &mut old, 0)
+    {
         return false;
     }
-    buffer[..len - 1].copy_from_slice(&short[..len - 1]);
+    let code = buffer[0];
+    move_to_front(buffer, 1, len - 1);
+    let (_, left) = write_zeros_at_codes(&mut buffer[..len - 1], code as usize);
+    if left != 0 {
+        buffer[0] = code;
+        buffer[1..len].copy_from_slice(&old[..len - 1]);
+        return false;
+    }
     true
 }
 

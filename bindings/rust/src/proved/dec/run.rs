@@ -67,9 +67,7 @@ impl UnbufferedDecoder {
             self.left -= len as u8;
         } else {
             // What the open block is missing is what a code of one more would open.
-            let (code, left) = write_zeros_at_codes(&mut dest[at..], self.left + 1, len + 1);
-            self.code = code;
-            self.left = left as u8;
+            (self.code, self.left) = write_zeros_at_codes(&mut dest[at..at + len], left + 1);
         }
         len
     }
@@ -90,12 +88,11 @@ impl UnbufferedDecoder {
             return false;
         }
         self.dest_idx = at + len;
-        if len <= self.left as usize {
+        let left = self.left as usize;
+        if len <= left {
             self.left -= len as u8;
         } else {
-            let (code, left) = write_zeros_at_codes(&mut dest[at..], self.left + 1, len + 1);
-            self.code = code;
-            self.left = left as u8;
+            (self.code, self.left) = write_zeros_at_codes(&mut dest[at..at + len], left + 1);
         }
         true
     }

@@ -306,12 +306,16 @@ impl UnbufferedDecoder {
     pub fn feed_piece(&mut self, dest: &mut [u8], bytes: &[u8]) -> Option<(PieceEnd, usize)> {
         let mut taken = 0;
         'by_run: while taken < bytes.len() {
-            // Of a piece that is too long for the buffer, all in front of its zero is taken.
-            taken += if self.over {
-                position_or_len(&bytes[taken..], 0)
-            } else {
-                self.take_quiet(dest, &bytes[taken..])
-            };
+            if self.over {
+                // Of a piece that is too long for the buffer, all through its zero is taken.
+                taken += position_or_len(&bytes[taken..], 0);
+                if taken == bytes.len() {
+                    return None;
+                }
+                self.reset();
+                return Some((PieceEnd::TooLong, taken + 1));
+            }
+            taken += self.take_quiet(dest, &bytes[taken..]);
             if taken < bytes.len() {
                 let byte = bytes[taken];
                 let returned = self.feed(dest, byte);
