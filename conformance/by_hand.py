@@ -16,15 +16,15 @@ ENDED, DELIMITED = HELLO_FRAME + b"\0", b"\0" + HELLO_FRAME + b"\0"
 # A message, a broken piece, one that is too long for four bytes, and a message.
 DAMAGED = b"\0\3\7\x08\0\5\1\0\6\1\2\3\4\5\0\2\x09\0"
 
-# Messages with their frames. Most are those of a test, whose name comes first.
+# Messages with their frames. Most are those of a test, whose name comes first; "one zero" is in no test.
 EXAMPLES = [
     ("test_encode_empty", b"", b"\1"),
-    ("test_encode_4", b"\0", b"\1\1"),
-    ("test_encode_3", b"\1", b"\2\1"),
-    ("test_encode_1", b"\xff\0", b"\2\xff\1"),
+    ("one zero", b"\0", b"\1\1"),
+    ("test_encode_4", b"\1", b"\2\1"),
+    ("test_encode_3", b"\xff\0", b"\2\xff\1"),
     ("example", b"\1\2\3", b"\4\1\2\3"),
-    ("test_encode_2", MESSAGE, FRAME),
-    ("example", b"\0\0\1\0", b"\1\1\2\1\1"),
+    ("test_encode_1", MESSAGE, FRAME),
+    ("test_encode_2", b"\0\0\1\0", b"\1\1\2\1\1"),
     ("wikipedia_ex_6", b"\1\2" + FROM_3, b"\xff\1\2" + FROM_3),
     ("wikipedia_ex_7", b"\0\1\2" + FROM_3, b"\1\xff\1\2" + FROM_3),
     ("wikipedia_ex_8", b"\1\2" + FROM_3 + b"\xff", b"\xff\1\2" + FROM_3 + b"\2\xff"),
@@ -161,7 +161,7 @@ def original():
     yield from encoding_tests()
     yield from decoding_tests()
     for name, message, frame in EXAMPLES:
-        if name != "example":
+        if name not in ("example", "one zero"):
             for case in example_as_tested(message, frame):
                 yield name, *case
     yield from roundtrip_tests()
@@ -170,7 +170,7 @@ def original():
 
 def examples():
     for name, message, frame in EXAMPLES:
-        if name == "example":
+        if name in ("example", "test_encode_2"):
             for case in example_as_tested(message, frame):
                 yield "example", *case
         for case in example_by_other_calls(message, frame):
@@ -423,7 +423,9 @@ def of_tests(group):
     seen = set()
     for case in original():
         add(group, [case])
-        seen |= group.seen
+        # by_hand.txt has had the cases of this test as examples, and its lines don't change
+        if case[0] != "test_encode_2":
+            seen |= group.seen
         group.seen = set()
     group.seen = seen
     return group
