@@ -5,6 +5,7 @@
 ghost use Rattle.std.specs.Prelude.{◌≡◌, ◌≢◌, ◌≤◌, ◌<◌, ◌+◌, ◌^◌, ◌↔◌, ◌∷◌, ◌++◌, [], All, length, take, drop, slice_index, slice_set, List, ℕ, Ok, Some, option_to_list, IfOk, IfSome, IsSomeAnd, IsTrue};
 ghost use Rattle.cobs.specs.Overwritten.{message_in, written_at};
 ghost use Rattle.cobs.specs.Fields.Decoders.{borrowed_buffer, borrowed_phase, borrowed_slice, heapless_buffer, heapless_phase, owned_buffer, owned_phase};
+ghost use Rattle.cobs.specs.Fields.Report.{frame_size_of, parsed_size_of};
 ghost use Rattle.cobs.specs.Feed.{state_in, Idle, Overlong, PhaseAfter};
 ghost use Rattle.cobs.specs.Grammar.{HasNoZero, IsEncodedFrame, Reads};
 ghost use Rattle.cobs.specs.Headline.{IsPiece, PushesMessage};
@@ -290,4 +291,37 @@ pub fn longest_frame(len: usize)
 {
     law_2();
     law_4();
+}
+
+/// Copies a report: that never fails, and the copy has the same sizes.
+pub fn copy_of(report: &DecodeReport) -> DecodeReport
+    ensures parsed { parsed_size_of result ≡ parsed_size_of report.now }
+    ensures frame { frame_size_of result ≡ frame_size_of report.now }
+{
+    match report.clone() {
+        Ok(copy) => copy,
+        Err(_) => unreachable!(),
+    }
+}
+
+/// Whether two reports are equal: they are if both sizes are.
+pub fn are_same_reports(first: &DecodeReport, second: &DecodeReport) -> bool
+    ensures { IsTrue result ↔ ((parsed_size_of first.now ≡ parsed_size_of second.now)
+        × (frame_size_of first.now ≡ frame_size_of second.now)) }
+{
+    first == second
+}
+
+/// Whether two errors are equal: they are if their variants are, and the bytes that they count.
+pub fn are_same_errors(first: &DecodeError, second: &DecodeError) -> bool
+    ensures { IsTrue result ↔ (first.now ≡ second.now) }
+{
+    first == second
+}
+
+/// Whether two errors of an encoder are equal: it has only one.
+pub fn are_same_room_errors(first: &DestBufTooSmallError, second: &DestBufTooSmallError) -> bool
+    ensures { IsTrue result }
+{
+    first == second
 }
