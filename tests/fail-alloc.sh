@@ -1,14 +1,22 @@
 #!/bin/sh
-# Fails the growths of memory one after another, and checks that each call then returns its value or out of memory.
+# Fails the growths of memory one after another, and checks that each call is then out of memory, and returns its value
+# where no growth of its own fails.
 #
 # usage: tests/fail-alloc.sh [--rounds N] [FIRST]
 #
 # Two files of tests run again and again, unproved: crates/cobs_frame_vectors/src/memory.rt and
-# crates/cobs_tool/src/memory_limits.rt. At round N the Nth growth that a test asks for fails. All of a file's
-# tests but the last have to pass in each round. The last one, which makes every call and wants its value, fails as long
-# as a growth of its own fails; the first round in which it passes has met no failure, and is that file's last.
+# crates/cobs_tool/src/memory_limits.rt. At round N the Nth growth that a test asks for fails.
+#
+# In the first file each call has a test of its own, which finds out whether a growth of the call failed: it ends with the
+# words "out of memory" where one did and the call said so, passes where none did, and ends with other words where the call
+# said something else. The rounds end when every test passes.
+#
+# In the second file all tests but the last have to pass in each round. The last one, which runs every mode and wants its
+# output, fails as long as a growth of its own does. It doesn't see a failed growth that nothing came of, so the rounds end
+# when it has passed in three of them one after another, and it may not fail after a round in which it passed.
+#
 # With --rounds, each file gets at most N rounds, from the first growth on or from FIRST on. A round takes about a quarter
-# of a minute; the gate runs three of each file.
+# of a minute. The gate runs four of each, with which the first file is at its end.
 set -u
 
 PATH=/opt/rattle/bin:$PATH
@@ -52,27 +60,37 @@ copy() {
     grep -E "^$1( [a-z_]+=[^ :]+)*:" "$top/crates.txt" >> "$work/crates.txt"
 }
 
-# `fail_growths CRATE LAST`: round after round until the last test passes, or until there were as many as were asked for
+# `fail_growths CRATE PASSES LAST`: round after round until no test failed in PASSES of them one after another, or until
+# there were as many as were asked for. Only tests that are out of memory, and the one named LAST, may fail.
 fail_growths() {
     cd "$work/crates/$1" || exit 2
     round=$first
+    passes=0
     while [ "$round" -le "$last" ]; do
         rt try --test --seconds 900 --fail-alloc "$round" > "$work/log" 2>&1
-        if ! grep -q "^test $2 \.\.\. " "$work/log"; then
+        if ! grep -q '^test result: ' "$work/log"; then
             cat "$work/log"
             echo "$1, round $round: the tests did not run"
             exit 2
         fi
-        if grep -E '^test .* \.\.\. FAILED$' "$work/log" | grep -v -q "^test $2 "; then
+        if ! awk -v last="$3" '/^test .* \.\.\. FAILED$/ { name = $2; getline; if ($0 != "    out of memory" && name != last) other = 1 }
+            END { exit other }' "$work/log"; then
             cat "$work/log"
             echo "$1, round $round: a call returned something else"
             exit 1
         fi
-        if grep -q "^test $2 \.\.\. ok$" "$work/log"; then
-            echo "$1, round $round: no growth failed, and the rounds before were reported as out of memory"
-            return
+        failed=$(grep -c '^test .* \.\.\. FAILED$' "$work/log")
+        if [ "$failed" -gt 0 ] && [ "$passes" -gt 0 ]; then
+            cat "$work/log"
+            echo "$1, round $((round - 1)): a growth failed, and nothing came of it"
+            exit 1
+        elif [ "$failed" -gt 0 ]; then
+            echo "$1, round $round: a growth failed in $failed of the tests, and was reported as out of memory"
+        else
+            passes=$((passes + 1))
+            echo "$1, round $round: no growth failed"
+            [ "$passes" -ge "$2" ] && return
         fi
-        echo "$1, round $round: a growth failed, and was reported as out of memory"
         round=$((round + 1))
     done
     [ -n "$rounds" ] && return
@@ -86,5 +104,11 @@ copy cobs_lines ''
 copy cobs_vectors ''
 copy cobs_frame_vectors 'memory|messages|slices'
 copy cobs_tool 'memory_limits'
-fail_growths cobs_tool memory_limits::with_enough_memory_every_mode_writes_its_output
-fail_growths cobs_frame_vectors memory::with_enough_memory_every_call_gives_its_value
+failing='ONE_GROWTH_FAILS: bool ='
+sed -i "s/^const $failing false;$/const $failing true;/" "$work/crates/cobs_frame_vectors/src/memory.rt"
+if ! grep -q "^const $failing true;$" "$work/crates/cobs_frame_vectors/src/memory.rt"; then
+    echo "crates/cobs_frame_vectors/src/memory.rt has no line 'const $failing false;'"
+    exit 2
+fi
+fail_growths cobs_frame_vectors 1 ''
+fail_growths cobs_tool 3 memory_limits::with_enough_memory_every_mode_writes_its_output

@@ -1,19 +1,20 @@
 //! Out of memory.
 //!
-//! Each test here but the last passes whichever growth fails: a call returns its value or that it is out of
-//! memory, and nothing else. The last one passes only if no growth fails. `tests/fail-alloc.sh` fails the
-//! growths one after another until that test passes.
-use crate::messages::{encode_few, three_messages};
+//! Each call that allocates has a test of its own. In a plain run it gives its value. `tests/fail-alloc.sh` runs a copy in
+//! which one growth of each test fails, the first, the second and so on: a call is then out of memory exactly if the
+//! growth was one of its own, and its test says so. The script ends when no test does.
+use crate::messages::encode_few;
 use crate::slices::{CallResult, VectorCall, rejected, vector};
 use cobs::{
     CobsDecoder, CobsDecoderHeapless, CobsDecoderOwned, DecodeVecError, FrameDecoder, FrameOutcome,
     decode_stream,
 };
+use cobs_vectors::bytes::repeated;
 use std::alloc::{AllocError, Global};
 use std::process::Abort;
 
-/// A call that returns a vector, its arguments, and its vector or its error.
-type Row = (VectorCall, &'static [u8], Result<&'static [u8], CallResult>);
+/// Whether a growth of each test fails: false here, and true in the copy that `tests/fail-alloc.sh` runs.
+const ONE_GROWTH_FAILS: bool = false;
 
 /// A message with a zero.
 const MESSAGE: &[u8] = &[10, 11, 0, 12];
@@ -21,69 +22,56 @@ const MESSAGE: &[u8] = &[10, 11, 0, 12];
 /// Its frame.
 const FRAME: &[u8] = &[3, 10, 11, 2, 12];
 
-/// Calls that allocate.
-const TAKING: [Row; 8] = [
-    (VectorCall::Encode, MESSAGE, Ok(FRAME)),
-    (
-        VectorCall::EncodeIncludingSentinels,
-        MESSAGE,
-        Ok(&[0, 3, 10, 11, 2, 12, 0]),
-    ),
-    (
-        VectorCall::EncodeWithSentinel(10),
-        MESSAGE,
-        Ok(&[9, 0, 1, 8, 6]),
-    ),
-    (VectorCall::Decode, FRAME, Ok(MESSAGE)),
-    (
-        VectorCall::Decode,
-        &[2, 5, 3, 1],
-        Err(CallResult::InvalidFrame(3)),
-    ),
-    (
-        VectorCall::DecodeWithSentinel(10),
-        &[9, 0, 1, 8, 6],
-        Ok(MESSAGE),
-    ),
-    (VectorCall::DecodeWithSentinel(0), FRAME, Ok(MESSAGE)),
-    (
-        VectorCall::DecodeWithSentinel(0),
-        &[2, 5, 3, 1],
-        Err(CallResult::InvalidFrame(2)),
-    ),
-];
+/// Its frame for the sentinel 10.
+const FRAME_FOR_10: &[u8] = &[9, 0, 1, 8, 6];
 
-/// Calls that take none.
-const TAKING_NONE: [Row; 2] = [
-    (VectorCall::Decode, &[], Err(CallResult::EmptyFrame)),
-    (
-        VectorCall::DecodeWithSentinel(7),
-        &[],
-        Err(CallResult::EmptyFrame),
-    ),
-];
+/// A broken frame.
+const BROKEN: &[u8] = &[2, 5, 3, 1];
 
-/// Each call returns its vector or its error, or is out of memory if that may be.
-fn check_vectors(rt: &impl Abort, alloc: Global, rows: &[Row], may_want: bool) {
-    for (call, source, wanted) in rows {
-        match vector(rt, alloc, *call, source) {
-            Ok(found) => assert_eq!(rt; Ok(found.as_slice()), *wanted),
-            Err(DecodeVecError::Decode(error)) => assert_eq!(rt; Err(rejected(&error)), *wanted),
-            Err(DecodeVecError::Memory(AllocError)) => assert!(rt; may_want, "{source:?}"),
+/// Whether one of the next growths fails.
+fn is_next_failing(alloc: Global) -> bool {
+    for _ in 0..1000 {
+        if repeated(alloc, 0, 1).is_err() {
+            return true;
         }
     }
+    false
+}
+
+/// What was done is out of memory exactly if a growth of its own failed, so that none fails after it. Then the
+/// test ends with these words.
+fn check_growths(rt: &impl Abort, alloc: Global, returned: Result<(), AllocError>) {
+    let has_failed = ONE_GROWTH_FAILS && !is_next_failing(alloc);
+    assert_eq!(rt;
+        returned.is_err(),
+        has_failed,
+        "out of memory, and whether a growth failed"
+    );
+    assert!(rt; !has_failed, "out of memory");
+}
+
+/// A call that returns a vector gives this vector or this error, or is out of memory.
+fn find_vector(
+    rt: &impl Abort,
+    alloc: Global,
+    call: VectorCall,
+    source: &[u8],
+    wanted: Result<&[u8], CallResult>,
+) -> Result<(), AllocError> {
+    match vector(rt, alloc, call, source) {
+        Ok(found) => assert_eq!(rt; Ok(found.as_slice()), wanted),
+        Err(DecodeVecError::Decode(error)) => assert_eq!(rt; Err(rejected(&error)), wanted),
+        Err(DecodeVecError::Memory(AllocError)) => return Err(AllocError),
+    }
+    Ok(())
 }
 
 /// The same of `encode_frames`.
-fn check_frames(rt: &impl Abort, alloc: Global, may_want: bool) {
-    let Ok(messages) = three_messages(alloc) else {
-        assert!(rt; may_want);
-        return;
-    };
-    match encode_few(rt, alloc, &messages) {
-        Ok(found) => assert_eq!(rt; found.as_slice(), [1, 0, 1, 1, 0, 3, 1, 2, 0].as_slice()),
-        Err(AllocError) => assert!(rt; may_want),
-    }
+fn find_frames(rt: &impl Abort, alloc: Global) -> Result<(), AllocError> {
+    let messages = [Vec::new(alloc), [0].to_vec(alloc)?, [1, 2].to_vec(alloc)?];
+    let found = encode_few(rt, alloc, &messages)?;
+    assert_eq!(rt; found.as_slice(), [1, 0, 1, 1, 0, 3, 1, 2, 0].as_slice());
+    Ok(())
 }
 
 /// Over two bytes: a piece that is too long, a message, a broken piece, and the empty message.
@@ -102,18 +90,20 @@ fn are_its_outcomes(outcomes: &[FrameOutcome]) -> bool {
     }
 }
 
-/// The outcomes of the stream, or out of memory and then an idle decoder: one failure at most.
-fn check_outcomes<D: FrameDecoder + Drop>(
+/// The outcomes of the stream, or out of memory and then an idle decoder.
+fn find_outcomes<D: FrameDecoder + Drop>(
     rt: &impl Abort,
     alloc: Global,
     mut decoder: D,
-    may_want: bool,
-) {
+) -> Result<(), AllocError> {
     match decode_stream(alloc, &mut decoder, &STREAM) {
-        Ok(outcomes) => assert!(rt; are_its_outcomes(&outcomes), "{outcomes:?}"),
+        Ok(outcomes) => {
+            assert!(rt; are_its_outcomes(&outcomes), "{outcomes:?}");
+            Ok(())
+        }
         Err(AllocError) => {
-            assert!(rt; may_want);
             check_idle(rt, alloc, decoder);
+            Err(AllocError)
         }
     }
 }
@@ -131,29 +121,110 @@ fn check_idle<D: FrameDecoder + Drop>(rt: &impl Abort, alloc: Global, mut decode
     }
 }
 
-/// Each call that allocates.
-fn check_calls(rt: &impl Abort, alloc: Global, may_want: bool) {
-    check_vectors(rt, alloc, &TAKING, may_want);
-    check_frames(rt, alloc, may_want);
-    check_outcomes(rt, alloc, CobsDecoder::new(&mut [0; 2]), may_want);
-    check_outcomes(rt, alloc, CobsDecoderHeapless::<2>::new(), may_want);
-    match CobsDecoderOwned::new(alloc, 2) {
-        Ok(decoder) => {
-            assert_eq!(rt; decoder.dest(), [0, 0].as_slice());
-            check_outcomes(rt, alloc, decoder, may_want);
-        }
-        Err(AllocError) => assert!(rt; may_want),
-    }
+/// The same of a decoder with a buffer of its own, which allocates when it is made.
+fn find_owned(rt: &impl Abort, alloc: Global) -> Result<(), AllocError> {
+    let decoder = CobsDecoderOwned::new(alloc, 2)?;
+    assert_eq!(rt; decoder.dest(), [0, 0].as_slice());
+    find_outcomes(rt, alloc, decoder)
+}
+
+/// The call that returns a vector in a test of its own.
+fn check_vector(
+    rt: &impl Abort,
+    alloc: Global,
+    call: VectorCall,
+    source: &[u8],
+    wanted: Result<&[u8], CallResult>,
+) {
+    let returned = find_vector(rt, alloc, call, source, wanted);
+    check_growths(rt, alloc, returned);
 }
 
 #[test]
-fn every_call_gives_its_value_or_want_of_memory(rt: HostRuntime) {
-    check_calls(&rt, rt.alloc(), true);
+fn encode_vec(rt: HostRuntime) {
+    check_vector(&rt, rt.alloc(), VectorCall::Encode, MESSAGE, Ok(FRAME));
+}
+
+#[test]
+fn encode_vec_including_sentinels(rt: HostRuntime) {
+    let call = VectorCall::EncodeIncludingSentinels;
+    check_vector(
+        &rt,
+        rt.alloc(),
+        call,
+        MESSAGE,
+        Ok(&[0, 3, 10, 11, 2, 12, 0]),
+    );
+}
+
+#[test]
+fn encode_vec_with_sentinel(rt: HostRuntime) {
+    let call = VectorCall::EncodeWithSentinel(10);
+    check_vector(&rt, rt.alloc(), call, MESSAGE, Ok(FRAME_FOR_10));
+}
+
+#[test]
+fn decode_vec(rt: HostRuntime) {
+    check_vector(&rt, rt.alloc(), VectorCall::Decode, FRAME, Ok(MESSAGE));
+}
+
+#[test]
+fn decode_vec_of_a_broken_frame(rt: HostRuntime) {
+    let wanted = Err(CallResult::InvalidFrame(3));
+    check_vector(&rt, rt.alloc(), VectorCall::Decode, BROKEN, wanted);
+}
+
+#[test]
+fn decode_vec_with_sentinel(rt: HostRuntime) {
+    let call = VectorCall::DecodeWithSentinel(10);
+    check_vector(&rt, rt.alloc(), call, FRAME_FOR_10, Ok(MESSAGE));
+}
+
+#[test]
+fn decode_vec_with_sentinel_0(rt: HostRuntime) {
+    let call = VectorCall::DecodeWithSentinel(0);
+    check_vector(&rt, rt.alloc(), call, FRAME, Ok(MESSAGE));
+}
+
+#[test]
+fn decode_vec_with_sentinel_of_a_broken_frame(rt: HostRuntime) {
+    let call = VectorCall::DecodeWithSentinel(0);
+    let wanted = Err(CallResult::InvalidFrame(2));
+    check_vector(&rt, rt.alloc(), call, BROKEN, wanted);
 }
 
 #[test]
 fn an_empty_source_takes_no_memory(rt: HostRuntime) {
-    check_vectors(&rt, rt.alloc(), &TAKING_NONE, false);
+    let alloc = rt.alloc();
+    for call in [VectorCall::Decode, VectorCall::DecodeWithSentinel(7)] {
+        let returned = find_vector(&rt, alloc, call, &[], Err(CallResult::EmptyFrame));
+        assert!(rt; returned.is_ok());
+    }
+    check_growths(&rt, alloc, Ok(()));
+}
+
+#[test]
+fn encode_frames(rt: HostRuntime) {
+    let returned = find_frames(&rt, rt.alloc());
+    check_growths(&rt, rt.alloc(), returned);
+}
+
+#[test]
+fn decode_stream_over_a_slice(rt: HostRuntime) {
+    let returned = find_outcomes(&rt, rt.alloc(), CobsDecoder::new(&mut [0; 2]));
+    check_growths(&rt, rt.alloc(), returned);
+}
+
+#[test]
+fn decode_stream_over_an_array(rt: HostRuntime) {
+    let returned = find_outcomes(&rt, rt.alloc(), CobsDecoderHeapless::<2>::new());
+    check_growths(&rt, rt.alloc(), returned);
+}
+
+#[test]
+fn decode_stream_over_a_vector(rt: HostRuntime) {
+    let returned = find_owned(&rt, rt.alloc());
+    check_growths(&rt, rt.alloc(), returned);
 }
 
 #[test]
@@ -161,9 +232,4 @@ fn more_memory_than_there_is_is_an_error(rt: HostRuntime) {
     for room in [usize::MAX, usize::MAX / 4] {
         assert!(rt; CobsDecoderOwned::new(rt.alloc(), room).is_err());
     }
-}
-
-#[test]
-fn with_enough_memory_every_call_gives_its_value(rt: HostRuntime) {
-    check_calls(&rt, rt.alloc(), false);
 }
