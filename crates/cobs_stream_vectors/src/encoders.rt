@@ -29,17 +29,22 @@ pub fn encode_in_pieces(
     Ok(encode_pieces(rt, &pieces, slice))
 }
 
-/// The message in two pieces, with an empty one between and one after, gives the frame.
+/// The message in two pieces, with an empty one between and one after, gives the frame, in a slice of just its bytes and
+/// in one with a byte more, which is unchanged.
 fn check_two_pieces<'a>(
     rt: &impl Abort,
     alloc: Global,
     (front, back): (&'a [u8], &'a [u8]),
     frame: &[u8],
 ) -> Result<(), Fail> {
-    let mut slice = repeated(alloc, 170, frame.len())?;
-    let len = encode_pieces(rt, &[front, &[], back, &[]], &mut slice);
-    assert_eq!(rt; len, frame.len(), "{front:?} and {back:?}");
-    assert_eq!(rt; slice.as_slice(), frame, "{front:?} and {back:?}");
+    let rests: [&[u8]; 2] = [&[], &[170]];
+    for rest in rests {
+        let wanted = joined(alloc, &[frame, rest])?;
+        let mut slice = repeated(alloc, 170, wanted.len())?;
+        let len = encode_pieces(rt, &[front, &[], back, &[]], &mut slice);
+        assert_eq!(rt; len, frame.len(), "{front:?} and {back:?}");
+        assert_eq!(rt; slice, wanted, "{front:?} and {back:?}");
+    }
     Ok(())
 }
 

@@ -141,7 +141,7 @@ const OUTCOMES: &[Found] = &[
 ];
 
 /// Over a decoder of four bytes.
-const READERS: [&[ReaderRow]; 9] = [
+const READERS: [&[ReaderRow]; 12] = [
     // an unfinished piece goes on with another reader
     &[
         (
@@ -165,7 +165,10 @@ const READERS: [&[ReaderRow]; 9] = [
         ),
     ],
     // each outcome
+    &[(Given::Bytes(DAMAGED, 1), OUTCOMES, 19)],
+    &[(Given::Bytes(DAMAGED, 2), OUTCOMES, 10)],
     &[(Given::Bytes(DAMAGED, 5), OUTCOMES, 5)],
+    &[(Given::Bytes(DAMAGED, 64), OUTCOMES, 2)],
     // a failed read inside a frame loses nothing
     &[(
         Given::Failing(&[2, 5, 0], false),

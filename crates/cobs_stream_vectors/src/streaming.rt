@@ -16,6 +16,9 @@ pub trait StreamingDecoder: FrameDecoder + WriteBuffer {
 
     fn whole_buffer(&self) -> &[u8];
 
+    /// Whether the buffer begins with these bytes, read by `dest` and by `dest_mut`.
+    fn begins_with(&mut self, bytes: &[u8]) -> bool;
+
     /// Resets the decoder, and says whether it can be reset.
     fn begin_anew(&mut self) -> bool;
 }
@@ -31,6 +34,10 @@ impl StreamingDecoder for CobsDecoder<'_> {
 
     fn whole_buffer(&self) -> &[u8] {
         self.dest()
+    }
+
+    fn begins_with(&mut self, bytes: &[u8]) -> bool {
+        self.dest().starts_with(bytes) && self.dest_mut().starts_with(bytes)
     }
 
     fn begin_anew(&mut self) -> bool {
@@ -51,6 +58,10 @@ impl<const N: usize> StreamingDecoder for CobsDecoderHeapless<N> {
         self.dest()
     }
 
+    fn begins_with(&mut self, bytes: &[u8]) -> bool {
+        self.dest().starts_with(bytes) && self.dest_mut().starts_with(bytes)
+    }
+
     fn begin_anew(&mut self) -> bool {
         self.reset();
         true
@@ -68,6 +79,10 @@ impl StreamingDecoder for CobsDecoderOwned {
 
     fn whole_buffer(&self) -> &[u8] {
         self.dest()
+    }
+
+    fn begins_with(&mut self, bytes: &[u8]) -> bool {
+        self.dest().starts_with(bytes) && self.dest_mut().starts_with(bytes)
     }
 
     fn begin_anew(&mut self) -> bool {

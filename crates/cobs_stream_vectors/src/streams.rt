@@ -41,7 +41,7 @@ const OUTCOMES: [Wanted; 4] = [
     Wanted::Message(&[9]),
 ];
 
-const CASES: [Case; 5] = [
+const CASES: [Case; 6] = [
     (
         2,
         &[4, 7, 8, 9, 0, 2, 5, 0, 3, 1, 0, 0, 1, 0],
@@ -73,6 +73,11 @@ const CASES: [Case; 5] = [
             Wanted::TooLong,
             Wanted::Message(&[9]),
         ],
+    ),
+    (
+        32,
+        b"\0\x0chello world\0",
+        &[Wanted::Message(b"hello world")],
     ),
     // the frames of the three messages
     (
@@ -109,7 +114,9 @@ fn push_all<D: StreamingDecoder>(
                     panic!(rt; "a message longer than the buffer");
                 };
                 assert!(rt; is_ended);
-                outcomes.push(FrameOutcome::Message(message.to_vec(alloc)?))?;
+                let message = message.to_vec(alloc)?;
+                assert!(rt; decoder.begins_with(&message));
+                outcomes.push(FrameOutcome::Message(message))?;
             }
             CallResult::InvalidFrame(count) => {
                 assert!(rt; is_ended);
