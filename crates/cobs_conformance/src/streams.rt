@@ -1,4 +1,6 @@
 //! The calls over streams.
+ghost use Rattle.std.specs.Prelude.{◌≤◌};
+
 use crate::arguments::{MAX_BYTES, NONE, bytes_of, number_of};
 use crate::call_result::CallResult;
 use crate::fault::CaseFault;
@@ -100,6 +102,9 @@ impl Streaming for ByBytes {
 /// A streaming decoder over a buffer, given pieces: each of the three decoders by pushes, byte by byte, and by
 /// `feed_piece`, whose results are compared with those to the zeros. If one comes to something else than the first, its
 /// result follows, so the case differs.
+///
+/// # Errors
+/// `Malformed` too where [`heapless`] knows no buffer of this length.
 pub fn decoder(alloc: Global, arguments: &[&str]) -> Result<CallResult, CaseFault> {
     let [buffer, pieces @ ..] = arguments else {
         return Err(CaseFault::Malformed);
@@ -109,17 +114,13 @@ pub fn decoder(alloc: Global, arguments: &[&str]) -> Result<CallResult, CaseFaul
     returned.append_other(owned(alloc, &buffer, pieces, &Feeding::Bytes)?)?;
     returned.append_other(borrowed(alloc, &buffer, pieces, &Feeding::Pushes)?)?;
     returned.append_other(borrowed(alloc, &buffer, pieces, &Feeding::Bytes)?)?;
-    if buffer.len() == 4 {
-        returned.append_other(heapless(alloc, &buffer, pieces, &Feeding::Pushes)?)?;
-        returned.append_other(heapless(alloc, &buffer, pieces, &Feeding::Bytes)?)?;
-    }
+    returned.append_other(heapless(alloc, &buffer, pieces, &Feeding::Pushes)?)?;
+    returned.append_other(heapless(alloc, &buffer, pieces, &Feeding::Bytes)?)?;
     let ends = owned(alloc, &buffer, pieces, &Feeding::Zeros)?;
     returned.append_unlike(&ends, owned(alloc, &buffer, pieces, &Feeding::Pieces)?)?;
     returned.append_unlike(&ends, borrowed(alloc, &buffer, pieces, &Feeding::Pieces)?)?;
+    returned.append_unlike(&ends, heapless(alloc, &buffer, pieces, &Feeding::Pieces)?)?;
     returned.append_unlike(&ends, by_bytes(alloc, &buffer, pieces)?)?;
-    if buffer.len() == 4 {
-        returned.append_unlike(&ends, heapless(alloc, &buffer, pieces, &Feeding::Pieces)?)?;
-    }
     Ok(returned)
 }
 
@@ -145,13 +146,70 @@ fn borrowed(
     given(alloc, &mut decoder, pieces, feeding)
 }
 
+/// A decoder with its buffer in itself, of each length that the cases have: a new one has to be listed.
 fn heapless(
     alloc: Global,
     buffer: &[u8],
     pieces: &[&str],
     feeding: &Feeding,
 ) -> Result<CallResult, CaseFault> {
-    let mut decoder = CobsDecoderHeapless::<4>::new();
+    match buffer.len() {
+        0 => in_itself::<0>(alloc, buffer, pieces, feeding),
+        1 => in_itself::<1>(alloc, buffer, pieces, feeding),
+        2 => in_itself::<2>(alloc, buffer, pieces, feeding),
+        3 => in_itself::<3>(alloc, buffer, pieces, feeding),
+        4 => in_itself::<4>(alloc, buffer, pieces, feeding),
+        5 => in_itself::<5>(alloc, buffer, pieces, feeding),
+        6 => in_itself::<6>(alloc, buffer, pieces, feeding),
+        7 => in_itself::<7>(alloc, buffer, pieces, feeding),
+        16 => in_itself::<16>(alloc, buffer, pieces, feeding),
+        17 => in_itself::<17>(alloc, buffer, pieces, feeding),
+        32 => in_itself::<32>(alloc, buffer, pieces, feeding),
+        128 => in_itself::<128>(alloc, buffer, pieces, feeding),
+        129 => in_itself::<129>(alloc, buffer, pieces, feeding),
+        200 => in_itself::<200>(alloc, buffer, pieces, feeding),
+        252 => in_itself::<252>(alloc, buffer, pieces, feeding),
+        253 => in_itself::<253>(alloc, buffer, pieces, feeding),
+        254 => in_itself::<254>(alloc, buffer, pieces, feeding),
+        255 => in_itself::<255>(alloc, buffer, pieces, feeding),
+        _ => heapless_of_more(alloc, buffer, pieces, feeding),
+    }
+}
+
+/// The same of more than 255 bytes.
+fn heapless_of_more(
+    alloc: Global,
+    buffer: &[u8],
+    pieces: &[&str],
+    feeding: &Feeding,
+) -> Result<CallResult, CaseFault> {
+    match buffer.len() {
+        299 => in_itself::<299>(alloc, buffer, pieces, feeding),
+        506 => in_itself::<506>(alloc, buffer, pieces, feeding),
+        507 => in_itself::<507>(alloc, buffer, pieces, feeding),
+        508 => in_itself::<508>(alloc, buffer, pieces, feeding),
+        8192 => in_itself::<8192>(alloc, buffer, pieces, feeding),
+        8193 => in_itself::<8193>(alloc, buffer, pieces, feeding),
+        8194 => in_itself::<8194>(alloc, buffer, pieces, feeding),
+        8499 => in_itself::<8499>(alloc, buffer, pieces, feeding),
+        8500 => in_itself::<8500>(alloc, buffer, pieces, feeding),
+        8501 => in_itself::<8501>(alloc, buffer, pieces, feeding),
+        65_535 => in_itself::<65_535>(alloc, buffer, pieces, feeding),
+        65_536 => in_itself::<65_536>(alloc, buffer, pieces, feeding),
+        70_000 => in_itself::<70_000>(alloc, buffer, pieces, feeding),
+        _ => Err(CaseFault::Malformed),
+    }
+}
+
+fn in_itself<const N: usize>(
+    alloc: Global,
+    buffer: &[u8],
+    pieces: &[&str],
+    feeding: &Feeding,
+) -> Result<CallResult, CaseFault>
+    requires { N ≤ MAX_BYTES }
+{
+    let mut decoder = CobsDecoderHeapless::<N>::new();
     write_over(decoder.dest_mut(), buffer);
     given(alloc, &mut decoder, pieces, feeding)
 }
