@@ -1,4 +1,4 @@
-use Rattle.std.proofs.Common.{◌≡◌, ◌≤◌, ◌<◌, ◌+◌, ◌-◌, ◌∙◌, sym, subst, arith, None, Err, true, refl, get_or, length, drop, take, length-drop, length-take, List, ℕ}
+use Rattle.std.proofs.Common.{◌≡◌, ◌≤◌, ◌<◌, ◌+◌, ◌-◌, ◌∙◌, ap, sym, subst, arith, None, Err, Some, true, refl, get_or, length, drop, take, length-drop, length-take, List, ℕ}
 use Rattle.std.proofs.lemmas.List.{get_or-drop, take_all, take_rest}
 use Rattle.cobs.specs.Feed.{Feeds, Idle, Overlong}
 use Rattle.cobs.specs.FeedPiece.{TakesPiece}
@@ -10,15 +10,15 @@ use Rattle.cobs.proofs.streaming.ByByteLemmas.{piece-nothing, piece-more, piece-
 use Rattle.cobs.proofs.streaming.FeedLemmas.{Feeds-step}
 use Rattle.cobs.proofs.streaming.RunLemmas.{piece-run, piece-over}
 use Rattle.cobs.proofs.dec.unbuffered.UnbufferedDecoder.feed_piece.Goals as goal
-use Rattle.cobs.proofs.dec.unbuffered.UnbufferedDecoder.feed_piece.Goals.{After-position_or_len-taken, After-take_quiet-taken}
+use Rattle.cobs.proofs.dec.unbuffered.UnbufferedDecoder.feed_piece.Goals.{After-position_or_len-len, After-take_quiet-taken}
 
 over_is : (decoder : UnbufferedDecoder) → decoder.over ≡ true → phase_of decoder ≡ Overlong
 over_is decoder e = rw e refl
 
 -- through a piece that is too long
-passed : (c : After-position_or_len-taken) → TakesPiece c.args.dest.now (phase_of c.args.self.now) (take (c.by_run.taken + c.position_or_len-taken.result) c.args.bytes.now) None c.by_run.dest Overlong
+passed : (c : After-position_or_len-len) → TakesPiece c.args.dest.now (phase_of c.args.self.now) (take (c.by_run.taken + c.position_or_len-len.result) c.args.bytes.now) None c.by_run.dest Overlong
 passed c =
-    let e = c.position_or_len-taken.ensures in
+    let e = c.position_or_len-len.ensures in
     piece-over c.args.bytes.now c.by_run.taken _ (omega (arith, e.within, length-take (length c.args.bytes.now - c.by_run.taken) (drop c.by_run.taken c.args.bytes.now), length-drop c.by_run.taken c.args.bytes.now))
     (rw (take_rest c.args.bytes.now c.by_run.taken) at e.before) (rw (over_is c.by_run.self c.if-self.true) at c.by_run.invariant.none_ended)
 
@@ -32,38 +32,38 @@ ran c =
 pub by_run-init : goal.by_run-init
 by_run-init c = record { within = omega arith; none_ended = piece-nothing _ _ }
 
-pub returns-then-taken-bytes : goal.returns-then-taken-bytes
-returns-then-taken-bytes c =
+pub returns-then-len-rest : goal.returns-then-len-rest
+returns-then-len-rest c =
     let bytes : List ℕ = c.args.bytes.now in
-    let all : length bytes ≤ c.by_run.taken + c.position_or_len-taken.result = omega (arith, c.if-taken-bytes.true, length-take (length bytes - c.by_run.taken) (drop c.by_run.taken bytes), length-drop c.by_run.taken bytes) in
-    record { takes = rw (over_is c.by_run.self c.if-self.true) (rw (take_all (c.by_run.taken + c.position_or_len-taken.result) bytes all) at (passed (goal.at.returns-then-taken-bytes c).After-position_or_len-taken)) }
+    let all : length bytes ≤ c.by_run.taken + c.position_or_len-len.result = omega (arith, c.if-len-rest.true, length-take (length bytes - c.by_run.taken) (drop c.by_run.taken bytes), length-drop c.by_run.taken bytes) in
+    record { takes = rw (over_is c.by_run.self c.if-self.true) (rw (take_all (c.by_run.taken + c.position_or_len-len.result) bytes all) at (passed (goal.at.returns-then-len-rest c).After-position_or_len-len)) }
 
 pub returns-then-self : goal.returns-then-self
 returns-then-self c =
     let bytes : List ℕ = c.args.bytes.now in
-    let e = c.position_or_len-taken.ensures in
-    let i : ℕ = c.by_run.taken + c.position_or_len-taken.result in
+    let e = c.position_or_len-len.ensures in
+    let i : ℕ = c.by_run.taken + c.position_or_len-len.result in
     let long = length-take (length bytes - c.by_run.taken) (drop c.by_run.taken bytes) in
     let inside : i < length bytes = omega (arith, e.within, long, length-drop c.by_run.taken bytes) in
     let stop = rw (take_rest bytes c.by_run.taken) at e.stop in
-    let zero : get_or bytes i 0 ≡ 0 = sym (get_or-drop c.by_run.taken bytes c.position_or_len-taken.result 0) ∙ stop (omega (arith, length-drop c.by_run.taken bytes)) in
+    let zero : get_or bytes i 0 ≡ 0 = sym (get_or-drop c.by_run.taken bytes c.position_or_len-len.result 0) ∙ stop (omega (arith, length-drop c.by_run.taken bytes)) in
     let ends : Feeds c.by_run.dest Overlong (get_or bytes i 0) (Err TargetBufTooSmall) c.by_run.dest Idle
     = subst (λ b. Feeds c.by_run.dest Overlong b (Err TargetBufTooSmall) c.by_run.dest Idle) (sym zero) (Feeds-step c.by_run.dest Overlong 0) in
-    record { takes = rw c.reset.ensures.idle (piece-ended bytes i inside (passed (goal.at.returns-then-self c).After-position_or_len-taken) ends TooLong zero refl) }
+    record { takes = rw c.reset.ensures.idle (piece-ended bytes i inside (passed (goal.at.returns-then-self c).After-position_or_len-len) ends TooLong zero refl) }
 
 pub returns-in-Some : goal.returns-in-Some
-returns-in-Some c = record { takes = piece-ended _ _ c.if-taken-bytes-2.true (ran (goal.at.returns-in-Some c).After-take_quiet-taken) c.feed-returned.ensures.feeds _ c.if-byte-eq0.true (sym c.in-Some.ensures) }
+returns-in-Some c = record { takes = piece-ended _ _ c.if-taken-bytes.true (ran (goal.at.returns-in-Some c).After-take_quiet-taken) c.feed-returned.ensures.feeds _ c.if-byte-eq0.true (sym c.in-Some.ensures) }
 
 pub by_run-preserved-in_default : goal.by_run-preserved-in_default
 by_run-preserved-in_default c = record {
   within = omega arith;
-  none_ended = piece-more _ _ c.if-taken-bytes-2.true (ran (goal.at.by_run-preserved-in_default c).After-take_quiet-taken) c.feed-returned.ensures.feeds (λ _. sym c.in_default.ensures);
+  none_ended = piece-more _ _ c.if-taken-bytes.true (ran (goal.at.by_run-preserved-in_default c).After-take_quiet-taken) c.feed-returned.ensures.feeds (λ _. sym c.in_default.ensures);
 }
 
 pub by_run-preserved-else-byte-eq0 : goal.by_run-preserved-else-byte-eq0
 by_run-preserved-else-byte-eq0 c = record {
   within = omega arith;
-  none_ended = piece-more _ _ c.if-taken-bytes-2.true (ran (goal.at.by_run-preserved-else-byte-eq0 c).After-take_quiet-taken) c.feed-returned.ensures.feeds (λ z. absurd (c.if-byte-eq0.false z));
+  none_ended = piece-more _ _ c.if-taken-bytes.true (ran (goal.at.by_run-preserved-else-byte-eq0 c).After-take_quiet-taken) c.feed-returned.ensures.feeds (λ z. absurd (c.if-byte-eq0.false z));
 }
 
 pub by_run-preserved : goal.by_run-preserved
