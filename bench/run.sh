@@ -139,6 +139,7 @@ if [ -n "$docs" ]; then
         lscpu | sed -n 's/^Model name: */- Processor: /p; s/^CPU(s): */- Processors: /p; s/^CPU family: */- Family: /p; s/^Model: */- Model: /p'
         rustc --version | sed 's/^/- Rust: /'
         cc --version | sed 's/^/- C: /; q'
+        "$out/driver-0" call
         sed 's/^\([0-9.]*\).*/- Load of the machine by all that ran on it, as the run ended: \1/' /proc/loadavg
     } >"$out/machine.md"
     put docs/PERFORMANCE.md machine pairs shipped

@@ -7,6 +7,7 @@
 //!     driver c|rust FILE..     every figure that `run` printed, the best of several places in memory
 //!     driver pairs|shipped|readme|chart FILE..    what the documents have of them
 //!     driver before|beside OLD NEW    the times of two libraries: in few words, each row
+//!     driver call              how long a call and its return take
 
 mod c;
 mod calls;
@@ -76,6 +77,21 @@ fn run(chosen: &[&str]) {
     }
 }
 
+#[inline(never)]
+fn next(number: u64) -> u64 {
+    black_box(number + 1)
+}
+
+/// Nanoseconds that a call and its return take. On some machines they aren't predicted, as under protections against attacks.
+fn call_time() -> f64 {
+    let times = (0..8).map(|_| {
+        let start = Instant::now();
+        black_box((0..10_000_000).fold(0, |number, _| next(number)));
+        start.elapsed().as_secs_f64() / 0.01
+    });
+    times.fold(f64::INFINITY, f64::min)
+}
+
 /// The call, under a name by which valgrind counts nothing else.
 #[unsafe(no_mangle)]
 #[inline(never)]
@@ -102,6 +118,7 @@ fn main() {
         ["shipped", files @ ..] => report::shipped(files),
         ["readme", files @ ..] => report::readme(files),
         ["chart", files @ ..] => report::chart(files),
+        ["call"] => println!("- A call and its return: {:.1} ns", call_time()),
         ["before", old, new] => report::before(old, new, false),
         ["beside", old, new] => report::before(old, new, true),
         _ => {
