@@ -67,7 +67,9 @@ impl UnbufferedDecoder {
             self.left -= len as u8;
         } else {
             // What the open block is missing is what a code of one more would open.
-            (self.code, self.left) = write_zeros_at_codes(&mut dest[at..at + len], left + 1);
+            let (code, left) = write_zeros_at_codes(&mut dest[at..at + len], left + 1);
+            self.code = code;
+            self.left = left;
         }
         len
     }
@@ -92,7 +94,9 @@ impl UnbufferedDecoder {
         if len <= left {
             self.left -= len as u8;
         } else {
-            (self.code, self.left) = write_zeros_at_codes(&mut dest[at..at + len], left + 1);
+            let (code, left) = write_zeros_at_codes(&mut dest[at..at + len], left + 1);
+            self.code = code;
+            self.left = left;
         }
         true
     }

@@ -308,12 +308,13 @@ impl UnbufferedDecoder {
         'by_run: while taken < bytes.len() {
             if self.over {
                 // Of a piece that is too long for the buffer, all through its zero is taken.
-                taken += position_or_len(&bytes[taken..], 0);
-                if taken == bytes.len() {
+                let rest = &bytes[taken..];
+                let len = position_or_len(rest, 0);
+                if len == rest.len() {
                     return None;
                 }
                 self.reset();
-                return Some((PieceEnd::TooLong, taken + 1));
+                return Some((PieceEnd::TooLong, taken + len + 1));
             }
             taken += self.take_quiet(dest, &bytes[taken..]);
             if taken < bytes.len() {
