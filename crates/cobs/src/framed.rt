@@ -286,8 +286,7 @@ impl<D: FrameDecoder> FrameReader<D> {
     ///
     /// # Errors
     /// `Io` where the last read of this call failed, and `TooManyReads` where this call made 65,536 reads that all gave
-    /// bytes. In both no piece ended, the decoder has taken all bytes that were read, and the next call goes on after
-    /// them.
+    /// bytes. In both no piece ended, the decoder has taken all bytes that were read, and the next call goes on.
     ///
     /// ```
     /// let mut reader = FrameReader::new(CobsDecoderHeapless::<8>::new());

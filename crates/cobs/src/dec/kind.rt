@@ -27,8 +27,7 @@ pub enum FrameKind {
 /// Returns whether the bytes are a frame, and whether they are the one that encoders give for its message.
 ///
 /// The bytes are taken without sentinels around them. A frame is longer than its message's encoded one exactly if
-/// its last two blocks are a full one and the block that has no bytes; decoders read the two alike. No memory is
-/// taken.
+/// its last two blocks are a full one and an empty one; decoders read the two alike. No memory is taken.
 ///
 /// A frame is defined by its blocks, after Cheshire and Baker; which of two frames is the canonical one is said by
 /// their encoder, which gives the shorter.

@@ -67,9 +67,7 @@ impl UnbufferedDecoder {
             self.left -= len as u8;
         } else {
             // What the open block is missing is what a code of one more would open.
-            let (code, left) = write_zeros_at_codes(&mut dest[at..at + len], left + 1);
-            self.code = code;
-            self.left = left;
+            (self.code, self.left) = write_zeros_at_codes(&mut dest[at..at + len], left + 1);
         }
         len
     }
@@ -94,9 +92,7 @@ impl UnbufferedDecoder {
         if len <= left {
             self.left -= len as u8;
         } else {
-            let (code, left) = write_zeros_at_codes(&mut dest[at..at + len], left + 1);
-            self.code = code;
-            self.left = left;
+            (self.code, self.left) = write_zeros_at_codes(&mut dest[at..at + len], left + 1);
         }
         true
     }

@@ -258,7 +258,10 @@ pub(crate) fn append(source: &[u8], dest: &mut [u8], progress: EncoderProgress) 
     if fits_window_and_block(progress, left.len()) {
         append_short(left, dest, progress, false)
     } else {
-        append_rest(left, position_or_len(left, 0), dest, progress)
+        // Field by field, so that what `append_short` returns stays in registers.
+        let start = EncoderProgress { ..progress };
+        let behind = append_rest(left, position_or_len(left, 0), dest, start);
+        EncoderProgress { ..behind }
     }
 }
 

@@ -69,11 +69,11 @@ pub(crate) fn try_append(source: &[u8], dest: &mut [u8], progress: &mut EncoderP
             None => return false,
         }
     }
-    let behind = if run == 0 {
+    *progress = if run == 0 {
         append(source, dest, start)
     } else {
-        append_rest(source, run, dest, start)
+        let behind = append_rest(source, run, dest, start);
+        EncoderProgress { ..behind }
     };
-    *progress = EncoderProgress { ..behind };
     true
 }

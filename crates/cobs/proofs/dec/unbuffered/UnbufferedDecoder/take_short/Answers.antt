@@ -28,7 +28,7 @@ pub returns-else-len-left-clause-fed : goal.returns-else-len-left-clause-fed
 returns-else-len-left-clause-fed c done =
     let same = xor_each-zero c.args.bytes.now in
     let e = c.if-not-copy_xored_short.ensures in
-    let w = c.write_zeros_at_codes-code.ensures in
+    let w = c.write_zeros_at_codes.ensures in
     open_fed c.args.self.now (length c.args.bytes.now) c.args.dest.now _ _ refl (omega (arith, c.saturating_sub.ensures))
     (part_put c.args.self.now.dest_idx (length c.args.bytes.now) c.args.dest.now _ _ (rw same at e.copied done)) _ _ _ c.if-self.false
     (λ full. omega (arith, c.stretch_len.ensures.full full)) (rw same at e.nonzero done) (omega arith) (omega arith) w.written w.code w.left

@@ -26,7 +26,7 @@ pub returns-else-len-left-clause-fed : goal.returns-else-len-left-clause-fed
 returns-else-len-left-clause-fed c =
     let within = c.copy_to_zero-len.ensures.within in
     let room : c.args.self.now.dest_idx + c.copy_to_zero-len.result ≤ length c.args.dest.now = grind (arith, length-take) in
-    let e = c.write_zeros_at_codes-code.ensures in
+    let e = c.write_zeros_at_codes.ensures in
     rw (copied-is c.args.bytes.now c.args.sentinel _ _ within) at
     (open_fed c.args.self.now _ c.args.dest.now _ _ (copied-long c.args.bytes.now c.args.sentinel _ _ within) room (part_put c.args.self.now.dest_idx c.copy_to_zero-len.result c.args.dest.now _ _ c.copy_to_zero-len.ensures.copied) _ _ _ c.requires.going
     (λ full. omega (arith, c.stretch_len-most.ensures.full full, within, length-take c.stretch_len-most.result c.args.bytes.now)) c.copy_to_zero-len.ensures.nonzero (omega arith) (omega (arith, c.copy_to_zero-len.ensures.few)) e.written e.code e.left)
