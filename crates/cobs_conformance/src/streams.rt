@@ -146,6 +146,16 @@ fn borrowed(
     given(alloc, &mut decoder, pieces, feeding)
 }
 
+/// Matches the buffer's length with each of these.
+macro_rules! of_length {
+    ($($len:literal)*; $alloc:expr, $buffer:expr, $pieces:expr, $feeding:expr) => {
+        match $buffer.len() {
+            $($len => in_itself::<$len>($alloc, $buffer, $pieces, $feeding),)*
+            _ => Err(CaseFault::Malformed),
+        }
+    };
+}
+
 /// A decoder with its buffer in itself, of each length that the cases have: a new one has to be listed.
 fn heapless(
     alloc: Global,
@@ -153,52 +163,11 @@ fn heapless(
     pieces: &[&str],
     feeding: &Feeding,
 ) -> Result<CallResult, CaseFault> {
-    match buffer.len() {
-        0 => in_itself::<0>(alloc, buffer, pieces, feeding),
-        1 => in_itself::<1>(alloc, buffer, pieces, feeding),
-        2 => in_itself::<2>(alloc, buffer, pieces, feeding),
-        3 => in_itself::<3>(alloc, buffer, pieces, feeding),
-        4 => in_itself::<4>(alloc, buffer, pieces, feeding),
-        5 => in_itself::<5>(alloc, buffer, pieces, feeding),
-        6 => in_itself::<6>(alloc, buffer, pieces, feeding),
-        7 => in_itself::<7>(alloc, buffer, pieces, feeding),
-        16 => in_itself::<16>(alloc, buffer, pieces, feeding),
-        17 => in_itself::<17>(alloc, buffer, pieces, feeding),
-        32 => in_itself::<32>(alloc, buffer, pieces, feeding),
-        128 => in_itself::<128>(alloc, buffer, pieces, feeding),
-        129 => in_itself::<129>(alloc, buffer, pieces, feeding),
-        200 => in_itself::<200>(alloc, buffer, pieces, feeding),
-        252 => in_itself::<252>(alloc, buffer, pieces, feeding),
-        253 => in_itself::<253>(alloc, buffer, pieces, feeding),
-        254 => in_itself::<254>(alloc, buffer, pieces, feeding),
-        255 => in_itself::<255>(alloc, buffer, pieces, feeding),
-        _ => heapless_of_more(alloc, buffer, pieces, feeding),
-    }
-}
-
-/// The same of more than 255 bytes.
-fn heapless_of_more(
-    alloc: Global,
-    buffer: &[u8],
-    pieces: &[&str],
-    feeding: &Feeding,
-) -> Result<CallResult, CaseFault> {
-    match buffer.len() {
-        299 => in_itself::<299>(alloc, buffer, pieces, feeding),
-        506 => in_itself::<506>(alloc, buffer, pieces, feeding),
-        507 => in_itself::<507>(alloc, buffer, pieces, feeding),
-        508 => in_itself::<508>(alloc, buffer, pieces, feeding),
-        8192 => in_itself::<8192>(alloc, buffer, pieces, feeding),
-        8193 => in_itself::<8193>(alloc, buffer, pieces, feeding),
-        8194 => in_itself::<8194>(alloc, buffer, pieces, feeding),
-        8499 => in_itself::<8499>(alloc, buffer, pieces, feeding),
-        8500 => in_itself::<8500>(alloc, buffer, pieces, feeding),
-        8501 => in_itself::<8501>(alloc, buffer, pieces, feeding),
-        65_535 => in_itself::<65_535>(alloc, buffer, pieces, feeding),
-        65_536 => in_itself::<65_536>(alloc, buffer, pieces, feeding),
-        70_000 => in_itself::<70_000>(alloc, buffer, pieces, feeding),
-        _ => Err(CaseFault::Malformed),
-    }
+    of_length!(
+        0 1 2 3 4 5 6 7 16 17 32 128 129 200 252 253 254 255 299 506 507 508
+        8192 8193 8194 8499 8500 8501 65_535 65_536 70_000;
+        alloc, buffer, pieces, feeding
+    )
 }
 
 fn in_itself<const N: usize>(

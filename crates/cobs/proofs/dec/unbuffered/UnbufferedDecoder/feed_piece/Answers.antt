@@ -1,4 +1,4 @@
-use Rattle.std.proofs.Common.{◌≡◌, ◌≤◌, ◌<◌, ◌+◌, ◌-◌, ◌∙◌, ap, sym, subst, arith, None, Err, Some, true, refl, get_or, length, drop, take, length-drop, length-take, List, ℕ}
+use Rattle.std.proofs.Common.{◌≡◌, ◌≤◌, ◌<◌, ◌+◌, ◌-◌, ◌∙◌, sym, subst, arith, None, Err, true, refl, get_or, length, drop, take, length-drop, length-take, List, ℕ}
 use Rattle.std.proofs.lemmas.List.{get_or-drop, take_all, take_rest}
 use Rattle.cobs.specs.Feed.{Feeds, Idle, Overlong}
 use Rattle.cobs.specs.FeedPiece.{TakesPiece}
