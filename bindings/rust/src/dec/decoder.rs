@@ -35,9 +35,95 @@ impl Progress {
                 frame_size,
             }));
         }
+        self.push_more(dest, data)
+    }
+
+    #[cfg(feature = "small")]
+    #[inline]
+    fn push_more(
+        &mut self,
+        dest: &mut [u8],
+        data: &[u8],
+    ) -> Result<Option<DecodeReport>, DecodeError> {
         let (taken, pushed) = push_stream(&mut self.decoder, dest, data);
         self.parsed_size = taken;
         pushed
+    }
+
+    /// Compiled into the caller's loop, but for long data.
+    #[cfg(not(feature = "small"))]
+    #[inline]
+    fn push_more(
+        &mut self,
+        dest: &mut [u8],
+        data: &[u8],
+    ) -> Result<Option<DecodeReport>, DecodeError> {
+        if data.len() <= FEW {
+            if self.decoder.take_short(dest, data) {
+                self.parsed_size = data.len();
+                return Ok(None);
+            }
+        } else if !has_zero(data) {
+            return self.push_long(dest, data, 0);
+        }
+        for (taken, &byte) in data.iter().enumerate().take(FEW) {
+            let parsed_size = taken + 1;
+            match self.decoder.feed(dest, byte) {
+                Ok(None) => {}
+                Ok(Some(frame_size)) => {
+                    self.parsed_size = parsed_size;
+                    return Ok(Some(DecodeReport {
+                        parsed_size,
+                        frame_size,
+                    }));
+                }
+                Err(error) => {
+                    self.pass(dest, data, parsed_size);
+                    return Err(error);
+                }
+            }
+        }
+        if data.len() > FEW {
+            return self.push_long(dest, data, FEW);
+        }
+        self.parsed_size = data.len();
+        Ok(None)
+    }
+
+    /// Pushes the bytes after the first `before`, of which none has ended a frame.
+    #[cfg(not(feature = "small"))]
+    #[inline(never)]
+    fn push_long(
+        &mut self,
+        dest: &mut [u8],
+        data: &[u8],
+        before: usize,
+    ) -> Result<Option<DecodeReport>, DecodeError> {
+        self.parsed_size = data.len();
+        match self.decoder.push_long(dest, &data[before..]) {
+            Ok(None) => Ok(None),
+            Ok(Some(mut report)) => {
+                report.parsed_size += before;
+                self.parsed_size = report.parsed_size;
+                Ok(Some(report))
+            }
+            Err(PushError { error, parsed_size }) => {
+                self.pass(dest, data, before + parsed_size);
+                Err(error)
+            }
+        }
+    }
+
+    /// Counts what was taken before an error, and takes the rest of a message that is too long.
+    #[cfg(not(feature = "small"))]
+    #[cold]
+    fn pass(&mut self, dest: &mut [u8], data: &[u8], taken: usize) {
+        self.parsed_size = taken;
+        if self.decoder.phase() == DecoderPhase::TooLong {
+            let rest = &data[taken..];
+            let ended = self.decoder.feed_piece(dest, rest);
+            self.parsed_size += ended.map_or(rest.len(), |(_, more)| more);
+        }
     }
 
     #[inline]
@@ -51,92 +137,12 @@ impl Progress {
 #[cfg(not(feature = "small"))]
 const FEW: usize = 16;
 
-/// Pushes bytes one by one.
-#[cfg(not(feature = "small"))]
-#[inline(always)]
-fn feed_each(
-    decoder: &mut UnbufferedDecoder,
-    dest: &mut [u8],
-    data: &[u8],
-) -> Result<Option<DecodeReport>, PushError> {
-    for (i, &byte) in data.iter().enumerate() {
-        let parsed_size = i + 1;
-        match decoder.feed(dest, byte) {
-            Ok(None) => {}
-            Ok(Some(frame_size)) => {
-                return Ok(Some(DecodeReport {
-                    parsed_size,
-                    frame_size,
-                }));
-            }
-            Err(error) => return Err(PushError { error, parsed_size }),
-        }
-    }
-    Ok(None)
-}
-
-/// Takes bytes of a stream, and returns how many; of a message that is too long, all through its zero.
-#[cfg(not(feature = "small"))]
-fn push_stream(
-    decoder: &mut UnbufferedDecoder,
-    dest: &mut [u8],
-    data: &[u8],
-) -> (usize, Result<Option<DecodeReport>, DecodeError>) {
-    if data.len() <= FEW {
-        if decoder.take_short(dest, data) {
-            return (data.len(), Ok(None));
-        }
-        let pushed = feed_each(decoder, dest, data);
-        return after_push(decoder, dest, data, 0, pushed);
-    }
-    let mut taken = 0;
-    if has_zero(data) {
-        let pushed = feed_each(decoder, dest, &data[..FEW]);
-        if pushed != Ok(None) {
-            return after_push(decoder, dest, data, 0, pushed);
-        }
-        taken = FEW;
-    }
-    let pushed = decoder.push_long(dest, &data[taken..]);
-    after_push(decoder, dest, data, taken, pushed)
-}
-
 /// Whether a frame ends in the first bytes.
 #[cfg(not(feature = "small"))]
 #[inline(always)]
 fn has_zero(data: &[u8]) -> bool {
     let first = Simd::<u8, FEW>::from_slice(data);
     first.simd_eq(Simd::splat(0)).to_bitmask() != 0
-}
-
-/// Counts what a push took after the first `before` bytes, with the rest of a message that is too long.
-#[cfg(not(feature = "small"))]
-#[inline(always)]
-fn after_push(
-    decoder: &mut UnbufferedDecoder,
-    dest: &mut [u8],
-    data: &[u8],
-    before: usize,
-    pushed: Result<Option<DecodeReport>, PushError>,
-) -> (usize, Result<Option<DecodeReport>, DecodeError>) {
-    match pushed {
-        Ok(None) => (data.len(), Ok(None)),
-        Ok(Some(mut report)) => {
-            report.parsed_size += before;
-            (report.parsed_size, Ok(Some(report)))
-        }
-        Err(PushError { error, parsed_size }) => {
-            let taken = before + parsed_size;
-            let rest = &data[taken..];
-            let more = if decoder.phase() == DecoderPhase::TooLong {
-                let ended = decoder.feed_piece(dest, rest);
-                ended.map_or(rest.len(), |(_, taken)| taken)
-            } else {
-                0
-            };
-            (taken + more, Err(error))
-        }
-    }
 }
 
 /// The methods that the three decoders share, over their fields `dest` and `progress`.

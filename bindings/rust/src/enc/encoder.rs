@@ -5,6 +5,10 @@ use crate::proved::UnbufferedEncoder;
 #[cfg(feature = "small")]
 use crate::small;
 
+/// Pushes of up to this many bytes are compiled into the caller's loop.
+#[cfg(not(feature = "small"))]
+const FEW: usize = 16;
+
 /// Encodes a message that comes in pieces into a slice.
 ///
 /// ```
@@ -44,9 +48,9 @@ impl<'a> CobsEncoder<'a> {
         match *data {
             // Compiled into the caller's loop.
             #[cfg(not(feature = "small"))]
-            [byte] => self.take([byte]),
+            [byte] => self.take(&[byte]),
             #[cfg(not(feature = "small"))]
-            [_, _] | [_, _, _] | [_, _, _, _] => self.push_few(data),
+            [_, _, ..] if data.len() <= FEW => self.take(data),
             #[cfg(not(feature = "small"))]
             _ => self.push_more(data),
             #[cfg(feature = "small")]
@@ -54,29 +58,17 @@ impl<'a> CobsEncoder<'a> {
         }
     }
 
-    /// A function of its own, so that a loop of pushes of one byte has no call.
+    /// A function of its own, so that a loop of short pushes has no call.
     #[cfg(not(feature = "small"))]
     #[inline(never)]
     fn push_more(&mut self, data: &[u8]) -> Result<(), DestBufTooSmallError> {
         self.encoder.push(self.dest, data)
     }
 
-    /// Takes 2 to 4 bytes, compiled for each length.
-    #[cfg(not(feature = "small"))]
-    #[inline(never)]
-    fn push_few(&mut self, data: &[u8]) -> Result<(), DestBufTooSmallError> {
-        match *data {
-            [a, b] => self.take([a, b]),
-            [a, b, c] => self.take([a, b, c]),
-            [a, b, c, d] => self.take([a, b, c, d]),
-            _ => self.push_more(data),
-        }
-    }
-
     #[cfg(not(feature = "small"))]
     #[inline(always)]
-    fn take<const N: usize>(&mut self, bytes: [u8; N]) -> Result<(), DestBufTooSmallError> {
-        if self.encoder.take(self.dest, &bytes) {
+    fn take(&mut self, data: &[u8]) -> Result<(), DestBufTooSmallError> {
+        if self.encoder.take(self.dest, data) {
             Ok(())
         } else {
             Err(DestBufTooSmallError)
