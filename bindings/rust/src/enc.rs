@@ -61,25 +61,38 @@ pub fn encode(source: &[u8], dest: &mut [u8]) -> usize {
 #[inline]
 pub fn try_encode(source: &[u8], dest: &mut [u8]) -> Result<usize, DestBufTooSmallError> {
     #[cfg(not(feature = "small"))]
-    if source.len() < dest.len() {
-        // Compiled for each of these lengths: 2.5 times as fast as vectors of 1, 2 and 4 bytes.
-        match *source {
-            [a] => return Ok(encode_few([a], dest)),
-            [a, b] => return Ok(encode_few([a, b], dest)),
-            [a, b, c] => return Ok(encode_few([a, b, c], dest)),
-            [a, b, c, d] => return Ok(encode_few([a, b, c, d], dest)),
-            _ => {}
-        }
+    if let Some(len) = encode_few(source, dest, 0) {
+        return Ok(len);
     }
     engine::try_encode(source, dest)
 }
 
-/// A message that can't fill a block, and has room for its frame.
+/// Encodes a message of 1 to 4 bytes that has room for its frame: compiled for each length, it takes a third of the time.
 #[cfg(not(feature = "small"))]
 #[inline(always)]
-fn encode_few<const N: usize>(source: [u8; N], dest: &mut [u8]) -> usize {
+fn encode_few(source: &[u8], dest: &mut [u8], sentinel: u8) -> Option<usize> {
+    if dest.len() <= source.len() {
+        return None;
+    }
+    match *source {
+        [a] => Some(encode_array([a], dest, sentinel)),
+        [a, b] => Some(encode_array([a, b], dest, sentinel)),
+        [a, b, c] => Some(encode_array([a, b, c], dest, sentinel)),
+        [a, b, c, d] => Some(encode_array([a, b, c, d], dest, sentinel)),
+        _ => None,
+    }
+}
+
+/// Encodes a message whose frame has a byte more, and room for it.
+#[cfg(not(feature = "small"))]
+#[inline(always)]
+fn encode_array<const N: usize>(source: [u8; N], dest: &mut [u8], sentinel: u8) -> usize {
     let progress = append_short(&source, dest, START, false);
-    close(dest, progress)
+    let len = close(dest, progress);
+    for byte in &mut dest[..N + 1] {
+        *byte ^= sentinel;
+    }
+    len
 }
 
 /// Writes 0, the frame of `source`, and 0 to the front of `dest`, and returns the length of all three. The bytes after
@@ -180,7 +193,11 @@ pub fn try_encode_with_sentinel(
     dest: &mut [u8],
     sentinel: u8,
 ) -> Result<usize, DestBufTooSmallError> {
-    let len = try_encode(source, dest)?;
+    #[cfg(not(feature = "small"))]
+    if let Some(len) = encode_few(source, dest, sentinel) {
+        return Ok(len);
+    }
+    let len = engine::try_encode(source, dest)?;
     xor_bytes(&mut dest[..len], sentinel);
     Ok(len)
 }

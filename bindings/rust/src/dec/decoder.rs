@@ -7,6 +7,8 @@ use crate::dec::{DecodeError, DecodeReport, FrameDecoder, PieceEnd, UnbufferedDe
 #[cfg(not(feature = "small"))]
 use crate::dec::{DecoderPhase, PushError};
 #[cfg(not(feature = "small"))]
+use crate::proved::dec::unbuffered::FULL;
+#[cfg(not(feature = "small"))]
 use crate::simd::Simd;
 
 #[cfg(feature = "small")]
@@ -26,17 +28,23 @@ impl Progress {
         parsed_size: 0,
     };
 
-    /// One byte is taken by `feed`: a loop of such pushes then takes a fifth of the time.
     #[inline]
     fn push(&mut self, dest: &mut [u8], data: &[u8]) -> Result<Option<DecodeReport>, DecodeError> {
-        if let [byte] = *data {
-            let length = self.feed(dest, byte)?;
-            return Ok(length.map(|frame_size| DecodeReport {
-                parsed_size: 1,
-                frame_size,
-            }));
+        match *data {
+            [] => {
+                self.parsed_size = 0;
+                Ok(None)
+            }
+            // By `feed`: a loop of such pushes then takes a fifth of the time.
+            [byte] => {
+                let length = self.feed(dest, byte)?;
+                Ok(length.map(|frame_size| DecodeReport {
+                    parsed_size: 1,
+                    frame_size,
+                }))
+            }
+            _ => self.push_more(dest, data),
         }
-        self.push_more(dest, data)
     }
 
     #[cfg(feature = "small")]
@@ -60,7 +68,7 @@ impl Progress {
         data: &[u8],
     ) -> Result<Option<DecodeReport>, DecodeError> {
         if data.len() <= FEW {
-            if self.decoder.take_short(dest, data) {
+            if self.take_few(dest, data) {
                 self.parsed_size = data.len();
                 return Ok(None);
             }
@@ -89,6 +97,25 @@ impl Progress {
         }
         self.parsed_size = data.len();
         Ok(None)
+    }
+
+    /// Takes two bytes or more at once if none is a zero, inside a frame or from its first code on, and says whether it
+    /// did.
+    #[cfg(not(feature = "small"))]
+    #[inline(always)]
+    fn take_few(&mut self, dest: &mut [u8], data: &[u8]) -> bool {
+        if self.decoder.take_short(dest, data) {
+            return true;
+        }
+        // Where the first block is shorter, the frame may end in these bytes.
+        if data[0] as usize >= data.len() && is_idle(&self.decoder) {
+            self.decoder.take_joint(dest, data[0]);
+            if self.decoder.take_short(dest, &data[1..]) {
+                return true;
+            }
+            self.decoder.reset();
+        }
+        false
     }
 
     /// Pushes the bytes after the first `before`, of which none has ended a frame.
@@ -137,6 +164,13 @@ impl Progress {
 /// Up to this many bytes cost less one by one than a search among them does.
 #[cfg(not(feature = "small"))]
 const FEW: usize = 16;
+
+/// What `phase` says, without its other phases.
+#[cfg(not(feature = "small"))]
+#[inline(always)]
+fn is_idle(decoder: &UnbufferedDecoder) -> bool {
+    decoder.dest_idx == 0 && decoder.left == 0 && decoder.code == FULL && !decoder.over
+}
 
 /// Whether a frame ends in the first bytes.
 #[cfg(not(feature = "small"))]

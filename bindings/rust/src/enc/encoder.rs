@@ -2,12 +2,9 @@
 
 use crate::enc::DestBufTooSmallError;
 use crate::proved::UnbufferedEncoder;
+use crate::proved::enc::blocks::close;
 #[cfg(feature = "small")]
 use crate::small;
-
-/// Pushes of up to this many bytes are compiled into the caller's loop: a fifth less time for 8 bytes.
-#[cfg(not(feature = "small"))]
-const FEW: usize = 16;
 
 /// Encodes a message that comes in pieces into a slice.
 ///
@@ -46,23 +43,16 @@ impl<'a> CobsEncoder<'a> {
     #[inline]
     pub fn push(&mut self, data: &[u8]) -> Result<(), DestBufTooSmallError> {
         match *data {
-            // Compiled into the caller's loop.
+            // The step of one byte alone is compiled for it.
             #[cfg(not(feature = "small"))]
             [byte] => self.take(&[byte]),
             #[cfg(not(feature = "small"))]
-            [_, _, ..] if data.len() <= FEW => self.take(data),
+            [] if self.dest.is_empty() => Err(DestBufTooSmallError),
             #[cfg(not(feature = "small"))]
-            _ => self.push_more(data),
+            _ => self.take(data),
             #[cfg(feature = "small")]
             _ => small::push_message(&mut self.encoder, self.dest, data),
         }
-    }
-
-    /// A function of its own, so that a loop of short pushes has no call.
-    #[cfg(not(feature = "small"))]
-    #[inline(never)]
-    fn push_more(&mut self, data: &[u8]) -> Result<(), DestBufTooSmallError> {
-        self.encoder.push(self.dest, data)
     }
 
     #[cfg(not(feature = "small"))]
@@ -79,7 +69,10 @@ impl<'a> CobsEncoder<'a> {
     /// that [`encode`](crate::encode) writes, and the bytes after it are as they were at first. The length is 0 if the
     /// slice is empty, and only then.
     #[inline]
-    pub fn finalize(mut self) -> usize {
-        self.encoder.finalize(self.dest).unwrap_or(0)
+    pub fn finalize(self) -> usize {
+        if self.dest.is_empty() {
+            return 0;
+        }
+        close(self.dest, self.encoder.progress())
     }
 }

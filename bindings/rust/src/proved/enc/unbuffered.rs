@@ -116,9 +116,12 @@ impl UnbufferedEncoder {
         {
             append_short(bytes, dest, at, true)
         } else {
-            return bytes.is_empty() || try_append(bytes, dest, &mut self.progress);
+            // A copy, so that the encoder stays in registers; field by field, so that no byte between them is copied.
+            let mut behind = EncoderProgress { ..at };
+            let fits = bytes.is_empty() || try_append(bytes, dest, &mut behind);
+            self.progress = EncoderProgress { ..behind };
+            return fits;
         };
-        // Field by field, so that no byte between the fields is copied.
         self.progress = EncoderProgress { ..behind };
         true
     }

@@ -1,0 +1,72 @@
+//! Whether a push does what its bytes do, fed one by one: short pushes have paths of their own.
+
+use jcobs::{CobsDecoder, DecodeError};
+
+/// Takes the bytes one by one, as far as a push of them goes. Returns how many that is, and the last result.
+fn fed(decoder: &mut CobsDecoder<'_>, data: &[u8]) -> (usize, Result<Option<usize>, DecodeError>) {
+    let mut result = Ok(None);
+    for (before, &byte) in data.iter().enumerate() {
+        let next = decoder.feed(byte);
+        match next {
+            // All of a frame that is too long is taken, through its zero.
+            Err(DecodeError::TargetBufTooSmall) if byte != 0 => result = next,
+            Ok(None) => {}
+            _ => return (before + 1, next),
+        }
+    }
+    (data.len(), result)
+}
+
+/// Pushes the bytes, and takes what is left after each result, until none is left.
+fn compare(room: usize, pieces: [&[u8]; 3]) {
+    let (mut dest, mut dest_of_fed) = ([0xAA; 4], [0xAA; 4]);
+    let mut pushed = CobsDecoder::new(&mut dest[..room]);
+    let mut by_bytes = CobsDecoder::new(&mut dest_of_fed[..room]);
+    for piece in pieces {
+        let mut rest = piece;
+        loop {
+            let report = pushed.push(rest);
+            let (taken, result) = fed(&mut by_bytes, rest);
+            let place = format!("{rest:?} of {pieces:?}, room for {room}");
+            assert_eq!(pushed.parsed_size(), taken, "{place}");
+            if let Ok(Some(report)) = report {
+                assert_eq!(report.parsed_size(), taken, "{place}");
+            }
+            assert_eq!(report.map(|r| r.map(|r| r.frame_size())), result, "{place}");
+            assert_eq!(pushed.dest(), by_bytes.dest(), "{place}");
+            rest = &rest[taken..];
+            if rest.is_empty() {
+                break;
+            }
+        }
+    }
+}
+
+#[test]
+fn short_pushes_are_feeds() {
+    const BYTES: [u8; 6] = [0, 1, 2, 3, 9, 255];
+    // Each state that a push can begin in.
+    let starts: [&[u8]; 9] = [
+        b"",
+        b"\x01",
+        b"\x02",
+        b"\x03a",
+        b"\x01\x01",
+        b"\xFF",
+        b"\xFFa",
+        b"\x09abcde",
+        b"\x09a\0",
+    ];
+    for start in starts {
+        for room in 0..=4 {
+            for number in 0..BYTES.len().pow(4) {
+                let digits =
+                    [0, 1, 2, 3].map(|place| number / BYTES.len().pow(place) % BYTES.len());
+                let data = digits.map(|digit| BYTES[digit]);
+                for length in 2..=data.len() {
+                    compare(room, [start, &data[..length], b""]);
+                }
+            }
+        }
+    }
+}
