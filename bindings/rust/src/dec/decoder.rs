@@ -107,7 +107,7 @@ impl Progress {
         if self.decoder.take_short(dest, data) {
             return true;
         }
-        // Where the first block is shorter, the frame may end in these bytes.
+        // If the first block is shorter, the frame may end in these bytes.
         if data[0] as usize >= data.len() && is_idle(&self.decoder) {
             self.decoder.take_joint(dest, data[0]);
             if self.decoder.take_short(dest, &data[1..]) {
