@@ -85,7 +85,7 @@ fn message_in_its_own_buffer() {
 #[test]
 fn encoder_over_an_empty_slice() {
     let mut encoder = CobsEncoder::new(&mut []);
-    for data in [&b"a"[..], b""] {
+    for data in [&b""[..], b"a", b"\0", b"ab", &[0; 32], &FULL, &[0; 300]] {
         assert_eq!(encoder.push(data), Err(DestBufTooSmallError));
     }
     assert_eq!(encoder.finalize(), 0);

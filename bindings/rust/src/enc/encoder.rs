@@ -46,6 +46,7 @@ impl<'a> CobsEncoder<'a> {
             // The step of one byte alone is compiled for it.
             #[cfg(not(feature = "small"))]
             [byte] => self.take(&[byte]),
+            // The contract of `take` leaves the empty slice out. That it rejects all other data there is tested.
             #[cfg(not(feature = "small"))]
             [] if self.dest.is_empty() => Err(DestBufTooSmallError),
             #[cfg(not(feature = "small"))]
