@@ -67,7 +67,7 @@ pub fn try_encode(source: &[u8], dest: &mut [u8]) -> Result<usize, DestBufTooSma
     engine::try_encode(source, dest)
 }
 
-/// Encodes a message of 1 to 4 bytes that has room for its frame: compiled for each length, it takes a third of the time.
+/// Encodes a message of 1 to 4 bytes that has room for its frame: compiled for each length, it takes half the time.
 #[cfg(not(feature = "small"))]
 #[inline(always)]
 fn encode_few(source: &[u8], dest: &mut [u8], sentinel: u8) -> Option<usize> {
