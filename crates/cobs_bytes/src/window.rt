@@ -91,8 +91,7 @@ fn copy_two<const N: usize>(source: &[u8], dest: &mut [u8], at: usize) -> u64
     zeros
 }
 
-/// Copies up to 32 bytes to `dest`, from `at` on, and returns which of them are zeros: bit `i` is set where byte `i` is
-/// one.
+/// Copies up to 32 bytes to `dest`, from `at` on, and returns which are zeros: bit `i` is set where byte `i` is one.
 #[inline(always)]
 pub fn copy_window(source: &[u8], dest: &mut [u8], at: usize) -> u64
     requires some { 0 < length source.now }

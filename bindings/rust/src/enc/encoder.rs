@@ -2,7 +2,7 @@
 
 use crate::enc::DestBufTooSmallError;
 use crate::proved::UnbufferedEncoder;
-use crate::proved::enc::blocks::close;
+use crate::proved::enc::blocks::close_inlined;
 #[cfg(feature = "small")]
 use crate::small;
 
@@ -43,9 +43,11 @@ impl<'a> CobsEncoder<'a> {
     #[inline]
     pub fn push(&mut self, data: &[u8]) -> Result<(), DestBufTooSmallError> {
         match *data {
-            // The step of one byte alone is compiled for it.
+            // The steps of one byte and of two are compiled for them.
             #[cfg(not(feature = "small"))]
             [byte] => self.take(&[byte]),
+            #[cfg(not(feature = "small"))]
+            [first, second] => self.take(&[first, second]),
             // The contract of `take` leaves the empty slice out. That it rejects all other data there is tested.
             #[cfg(not(feature = "small"))]
             [] if self.dest.is_empty() => Err(DestBufTooSmallError),
@@ -74,6 +76,6 @@ impl<'a> CobsEncoder<'a> {
         if self.dest.is_empty() {
             return 0;
         }
-        close(self.dest, self.encoder.progress())
+        close_inlined(self.dest, self.encoder.progress())
     }
 }

@@ -54,8 +54,7 @@ pub fn encode(source: &[u8], dest: &mut [u8]) -> usize {
     encode_long(source, dest)
 }
 
-/// Does what [`encode`] does, for messages of any length: a function of its own, so that a message of one window
-/// doesn't pay for the registers that the loop over windows takes.
+/// Does what [`encode`] does, for any length: apart, so that a short message doesn't pay for the loop's registers.
 #[inline(never)]
 fn encode_long(source: &[u8], dest: &mut [u8]) -> usize {
     if source.is_empty() {

@@ -45,8 +45,8 @@
 //! # Which call for what
 //!
 //! - A whole message: [`encode`] into a slice with room, [`try_encode`] if it may not fit, [`encode_vec`] into a
-//!   vector, [`encode_in_place`] in its own buffer. The forms `.._with_sentinel` use another sentinel than 0, and the forms `.._including_sentinels` write a
-//!   sentinel on each side.
+//!   vector, [`encode_in_place`] in its own buffer. The forms `.._with_sentinel` use another sentinel than 0, and
+//!   the forms `.._including_sentinels` write a sentinel on each side.
 //! - A message that comes in pieces: [`CobsEncoder`] over a slice, [`UnbufferedEncoder`] with a buffer that is passed
 //!   to each call, [`EncoderState`] into a container of your own.
 //! - A whole frame: [`decode`] into a slice, [`decode_vec`] into a vector, [`decode_in_place`] in its own buffer.

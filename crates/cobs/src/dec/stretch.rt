@@ -11,9 +11,8 @@ use cobs_bytes::window::WIDE_WINDOW;
 
 /// Writes a zero over each code in the bytes that follow the first code of a stretch in which no code is behind a full
 /// block. Returns the code of the last part, and how many of its bytes are missing.
-// A recursion, which compilers make a loop that keeps the address of what is left: the next code is loaded from that and the
-// code, a cycle sooner than from an index, which is a sum. Each code waits for the one before it, so blocks of one or two
-// bytes take a sixth less time.
+// A recursion, which compilers make a loop that keeps the address of what is left: the next code is loaded a cycle
+// sooner than by an index, a sum. Each code waits for the one before it, so short blocks take a sixth less time.
 #[inline(always)]
 pub(crate) fn write_zeros_at_codes(dest: &mut [u8], first: usize) -> (u8, u8)
     requires few { length dest.old < 254 }
@@ -31,9 +30,8 @@ pub(crate) fn write_zeros_at_codes(dest: &mut [u8], first: usize) -> (u8, u8)
     write_zeros_at_codes(&mut dest[first..], code as usize)
 }
 
-/// Decodes a source of 2 to 65 bytes of which none is the sentinel, and returns how many bytes its last block misses; `None`
-/// if it is no such source, or its output may not fit. Each byte is XORed with the sentinel, and each byte of `dest` after
-/// the output stays.
+/// Decodes 2 to 65 bytes, each XORed with the sentinel, if none is one and there is room for as many but one. Returns
+/// how many bytes the last block misses. The bytes of `dest` after the output stay.
 #[inline(always)]
 pub(crate) fn decode_short(source: &[u8], dest: &mut [u8], sentinel: u8) -> Option<u8>
     ensures some { IfSome result (λ left. 0 < length source.now) }
@@ -57,9 +55,8 @@ pub(crate) fn decode_short(source: &[u8], dest: &mut [u8], sentinel: u8) -> Opti
     Some(left)
 }
 
-/// How many of a piece's last bytes give what a decoder keeps of it: all, or those through the code of a last block that
-/// is broken; and whether it is whole. The bytes before these miss `left` bytes of their last block. Each byte is XORed
-/// with the sentinel.
+/// How many of a piece's last bytes give what a decoder keeps of it: all, or those through a broken last block's code;
+/// and whether it is whole. The bytes before miss `left` bytes of their last block. Each is XORed with the sentinel.
 pub(crate) fn kept_len(bytes: &[u8], left: usize, sentinel: u8) -> (usize, bool)
     requires left { left ≤ length bytes.now }
     requires nonzero { HasNoZero (xor_each sentinel bytes.now) }

@@ -69,8 +69,7 @@ pub enum DecoderPhase {
 /// assert!(rt; buffer.starts_with(b"hello"));
 /// ```
 // No field says whether a piece has begun: a code at its front is taken as one after a full block is, which no zero
-// joins to anything. So a nonzero byte asks how much of its block is missing and, if it is a code, whether the block
-// before it was full, and nothing else.
+// joins to anything. So a nonzero byte asks only how much of its block is missing, and a code if a full one was before.
 #[derive(Debug, Drop)]
 pub struct UnbufferedDecoder {
     /// How many bytes of this piece's output are written.

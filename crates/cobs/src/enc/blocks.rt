@@ -41,9 +41,8 @@ pub(crate) fn fits_window_and_block(progress: EncoderProgress, len: usize) -> bo
     0 < len && len <= WINDOW && progress.code as usize + len < FULL_CODE
 }
 
-/// Writes the code of the open block, which the mask's first zero closes, and returns where the next code belongs,
-/// and the mask without that zero. No branch asks whether there is a zero: with none the block stays open, and what
-/// is in the place of its code then doesn't matter.
+/// Writes the code of the open block, which the mask's first zero closes, and returns where the next code belongs, and
+/// the mask without that zero. No branch asks whether there is one: if not, the open block's code doesn't matter.
 #[inline(always)]
 fn mark_first(dest: &mut [u8], index: usize, next: usize, zeros: u64) -> (usize, u64)
     requires inside { index < length dest.old }
@@ -59,8 +58,7 @@ fn mark_first(dest: &mut [u8], index: usize, next: usize, zeros: u64) -> (usize,
     (index, zeros & zeros.wrapping_sub(1))
 }
 
-/// Marks all zeros of the mask, two a turn, which costs less where every other byte is a zero. Returns where the code
-/// of the block belongs that is open then.
+/// Marks all zeros of the mask, two a turn, since every other byte may be one. Returns where the next code belongs.
 #[inline(always)]
 fn mark_zeros(dest: &mut [u8], index: usize, next: usize, zeros: u64) -> usize
     requires inside { index < length dest.old }
@@ -80,8 +78,7 @@ fn mark_zeros(dest: &mut [u8], index: usize, next: usize, zeros: u64) -> usize
     index
 }
 
-/// Takes the first byte. It calls nothing, so that a loop of pushes of one byte keeps the progress in registers: in the
-/// Rust crate it is 1.5 times as fast.
+/// Takes the first byte. It calls nothing, so that a loop of such pushes stays in registers: 1.5 times as fast in Rust.
 #[inline(always)]
 #[tactic(auto, using(crate::proofs::encoding::TakingLemmas::next_steps))]
 pub(crate) fn append_byte(
@@ -119,20 +116,21 @@ fn append_few(source: &[u8], dest: &mut [u8], progress: EncoderProgress) -> Enco
     ensures { TakesFront dest.old (reached_at progress) source.now (length source.now) dest.new (reached_at result) }
 {
     let mut index = progress.index;
-    let mut next = index + progress.code as usize;
+    let mut code = progress.code;
+    let mut next = index + code as usize;
     'by_byte: for read in 0..source.len() {
         let byte = source[read];
         dest[next] = byte;
-        dest[index] = (next - index) as u8;
+        dest[index] = code;
         index = if byte == 0 { next } else { index };
+        code = if byte == 0 { 1 } else { code + 1 };
         next += 1;
     }
     progress_at(index, next, false)
 }
 
-/// Takes a `source` of up to 32 bytes that can't fill the open block, by few branches that could be guessed wrong:
-/// two zeros are marked before the first question is how many there are. With `test_for_none` a source without zeros is
-/// asked for before that.
+/// Takes a `source` of up to 32 bytes that can't fill the open block, by few branches that could be guessed wrong: two
+/// zeros are marked before it is asked how many there are. With `test_for_none` it is asked first whether there is one.
 #[inline(always)]
 #[tactic(auto, using(crate::proofs::encoding::TakingLemmas::next_steps))]
 pub(crate) fn append_short(
@@ -175,8 +173,7 @@ fn is_behind_long_run(dest: &[u8], index: usize) -> bool
         && dest[index - 3 * FULL_CODE] == FULL_CODE as u8
 }
 
-/// Writes the codes of the zeros that a source begins with, 32 at a time while more than a window is left, and returns how
-/// many.
+/// Writes the codes of the zeros that a source begins with, 32 at a time while more are left, and returns how many.
 #[inline(always)]
 fn write_codes_of_zeros(source: &[u8], dest: &mut [u8], at: usize) -> usize
     requires some { 0 < length source.now }
@@ -199,9 +196,8 @@ fn write_codes_of_zeros(source: &[u8], dest: &mut [u8], at: usize) -> usize
 ///
 /// Each window is copied to where the next byte goes. If no zero is near enough to keep the open block from being full,
 /// that block is closed, and what doesn't belong to it is copied anew. Else each zero of the window gives its place to
-/// the code of the block that it begins, and the last block stays open for the next window. A row of zeros behind such a
-/// window needs no copy. Nothing is written after what the frame needs at the least, so a slice of exactly the frame's
-/// length is enough. A full block that no window follows ends the loop where it is closed.
+/// the code of the block that it begins, and the last block stays open for the next window. A row of zeros needs
+/// no copy. Nothing is written after the frame. A full block that no window follows ends the loop.
 #[inline(always)]
 #[tactic(auto, using(crate::proofs::encoding::TakingLemmas::next_steps))]
 pub(crate) fn append_windows(
@@ -258,8 +254,7 @@ pub(crate) fn append_windows(
 }
 
 /// Takes the first run of `source`, which has `run` bytes, and the zero after it. The run is cut into blocks of at most
-/// 254 bytes, and each stretch of it is copied as one slice. Returns how many bytes these are, and how far the frame has
-/// come.
+/// 254 bytes, each copied as one slice. Returns how many bytes these are, and how far the frame has come.
 #[inline(always)]
 #[tactic(auto, using(crate::proofs::encoding::TakingLemmas::next_steps))]
 fn append_long_run(
@@ -327,8 +322,7 @@ pub(crate) fn append_rest(
 /// Takes `source` into the frame that `dest` holds as far as `progress` says, and returns how far it has come then. The
 /// code of the open block is written only by [`close`]: what is in its place before that doesn't matter.
 ///
-/// Most of a message goes by windows. What they leave is mostly short; a long run, and last bytes that may fill the
-/// open block, go by [`append_rest`].
+/// Most of it goes by windows. What they leave is mostly short; a long run, or a full block, goes by [`append_rest`].
 #[inline(always)]
 pub(crate) fn append(source: &[u8], dest: &mut [u8], progress: EncoderProgress) -> EncoderProgress
     requires some { 0 < length source.now }
@@ -348,8 +342,7 @@ pub(crate) fn append(source: &[u8], dest: &mut [u8], progress: EncoderProgress) 
     }
 }
 
-/// Writes the code of the open block where that block is part of the frame, and returns where the frame ends.
-/// Only this writes that code: what is in its place before doesn't matter.
+/// Writes the open block's code, if that is part of the frame, and returns where the frame ends. Its place is free before.
 pub(crate) fn close(dest: &mut [u8], progress: EncoderProgress) -> usize
     requires { IsPlaceIn (length dest.old) (reached_at progress) }
     ensures frame { (m : List ℕ) → CobsEncoderAfter dest.old (reached_at progress) m
@@ -362,4 +355,24 @@ pub(crate) fn close(dest: &mut [u8], progress: EncoderProgress) -> usize
     }
     dest[progress.index] = progress.code;
     progress.index + progress.code as usize
+}
+
+/// Does what [`close`] does, but asks for the room first: else compilers move the question whether the block is full into a
+/// loop of single bytes before it, which takes up to twice the time in the Rust crate with link-time optimization.
+#[inline(always)]
+pub(crate) fn close_inlined(dest: &mut [u8], progress: EncoderProgress) -> usize
+    requires { IsPlaceIn (length dest.old) (reached_at progress) }
+    ensures frame { (m : List ℕ) → CobsEncoderAfter dest.old (reached_at progress) m
+        → IsEncodedFrame (take result dest.new) m }
+    ensures end { result ≡ end_of (reached_at progress) }
+    ensures rest { drop result dest.new ≡ drop result dest.old }
+{
+    let EncoderProgress { index, code, .. } = progress;
+    if index < dest.len() {
+        dest[index] = if progress.is_full { dest[index] } else { code };
+    }
+    if progress.is_full {
+        return index;
+    }
+    index + code as usize
 }

@@ -61,10 +61,9 @@ fn fits(code: usize, source: &[u8], room: usize) -> Option<usize>
     None
 }
 
-/// Takes `source` as [`append`] does, if the frame fits `dest` then, and says whether it does. Most of the time the lengths
-/// decide it, since the frame is longest where no byte is a zero; for pushes of 64 bytes a call of [`fits`] would take a
-/// tenth longer. A long run that it has found isn't searched for again. A function of its own, so that a short push doesn't
-/// pay for the registers that this takes.
+/// Takes `source` as [`append`] does, if the frame fits `dest` then, and says whether it does. The lengths mostly decide,
+/// as a frame is longest without zeros; pushes of 64 bytes would take a tenth longer by [`fits`]. A long run that it has
+/// found isn't searched for again. A function of its own, so that short pushes don't pay for the registers.
 #[inline(never)]
 #[tactic(auto, using(crate::proofs::encoding::TakingLemmas::short_room))]
 pub(crate) fn try_append(source: &[u8], dest: &mut [u8], progress: &mut EncoderProgress) -> bool

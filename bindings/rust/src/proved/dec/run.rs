@@ -51,8 +51,7 @@ impl UnbufferedDecoder {
         1 + copied
     }
 
-    /// Takes up to 192 first bytes up to a zero, in which no full block ends, and returns how many, none only if the first
-    /// has no room.
+    /// Takes up to 192 bytes before a zero, in which no full block ends. Returns how many: 0 if the first has no room.
     #[inline(always)]
     fn take_stretch(&mut self, dest: &mut [u8], bytes: &[u8], sentinel: u8) -> usize {
         let at = self.dest_idx;
@@ -97,9 +96,8 @@ impl UnbufferedDecoder {
         true
     }
 
-    /// Takes first bytes up to a zero, as many as one step can take, and returns how many: a code that nothing is joined to,
-    /// or that of a long block; a row of 32 blocks without bytes behind such a block; or a stretch. None only if the first
-    /// has no room.
+    /// Takes bytes before a zero, as many as one step can, and returns how many: a code that nothing is joined to, or of
+    /// a long block; a row of 32 blocks without bytes behind such a block; or a stretch. None if the first has no room.
     #[inline(always)]
     fn take_part(&mut self, dest: &mut [u8], bytes: &[u8], sentinel: u8) -> usize {
         if self.left != 0 {
@@ -120,8 +118,7 @@ impl UnbufferedDecoder {
         self.take_stretch(dest, bytes, sentinel)
     }
 
-    /// Takes first bytes that each return `Ok(None)`, each XORed with the sentinel, up to one that is the sentinel or has no
-    /// room, and returns how many.
+    /// Takes bytes, XORed with the sentinel, that return `Ok(None)`, up to a sentinel or the room's end; returns how many.
     #[inline(always)]
     pub(crate) fn take_run(&mut self, dest: &mut [u8], bytes: &[u8], sentinel: u8) -> usize {
         // A piece that is too long has a result for each byte.

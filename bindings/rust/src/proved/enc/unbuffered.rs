@@ -101,8 +101,7 @@ impl UnbufferedEncoder {
         0 < code && code < FULL_CODE && at.index <= len && (at.is_full || code <= len - at.index)
     }
 
-    /// Takes the next bytes if the frame fits the buffer with them, and says whether it does: one byte, or a few that
-    /// can't fill the open block, at once.
+    /// Takes the next bytes if the frame fits with them, and says whether it does: one, or a few in a block, at once.
     #[inline(always)]
     pub(crate) fn take(&mut self, dest: &mut [u8], bytes: &[u8]) -> bool {
         let at = self.progress;
