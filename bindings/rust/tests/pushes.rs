@@ -19,7 +19,7 @@ fn fed(decoder: &mut CobsDecoder<'_>, data: &[u8]) -> (usize, Result<Option<usiz
 
 /// Pushes the bytes, and takes what is left after each result, until none is left.
 fn compare(room: usize, pieces: [&[u8]; 3]) {
-    let (mut dest, mut dest_of_fed) = ([0xAA; 4], [0xAA; 4]);
+    let (mut dest, mut dest_of_fed) = ([0xAA; 24], [0xAA; 24]);
     let mut pushed = CobsDecoder::new(&mut dest[..room]);
     let mut by_bytes = CobsDecoder::new(&mut dest_of_fed[..room]);
     for piece in pieces {
@@ -65,6 +65,28 @@ fn short_pushes_are_feeds() {
                 let data = digits.map(|digit| BYTES[digit]);
                 for length in 2..=data.len() {
                     compare(room, [start, &data[..length], b""]);
+                }
+            }
+        }
+    }
+}
+
+#[test]
+fn short_frames_are_feeds() {
+    // A block, or its first bytes, with a zero at each place or none, and more behind it.
+    for code in 1..=20 {
+        for zero in 0..=24 {
+            let mut data = [7; 24];
+            data[0] = code;
+            if let Some(byte) = data.get_mut(zero) {
+                *byte = 0;
+            }
+            let len = usize::from(code) - 1;
+            for room in [0, len.saturating_sub(1), len, len + 1, 24] {
+                for length in 2..=data.len() {
+                    for start in [b"".as_slice(), b"\x02", b"\x05abcd"] {
+                        compare(room, [start, &data[..length], &data]);
+                    }
                 }
             }
         }

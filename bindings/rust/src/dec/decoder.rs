@@ -7,7 +7,7 @@ use crate::dec::{DecodeError, DecodeReport, FrameDecoder, PieceEnd, UnbufferedDe
 #[cfg(not(feature = "small"))]
 use crate::dec::{DecoderPhase, PushError};
 #[cfg(not(feature = "small"))]
-use crate::proved::dec::unbuffered::FULL;
+use crate::proved::{cobs_bytes::lanes::copy_xored_short, dec::unbuffered::FULL};
 #[cfg(not(feature = "small"))]
 use crate::simd::Simd;
 
@@ -68,14 +68,28 @@ impl Progress {
         data: &[u8],
     ) -> Result<Option<DecodeReport>, DecodeError> {
         if data.len() <= FEW {
-            if self.take_few(dest, data) {
-                self.parsed_size = data.len();
-                return Ok(None);
+            if self.decoder.dest_idx > 0 {
+                if self.decoder.take_short(dest, data) {
+                    self.parsed_size = data.len();
+                    return Ok(None);
+                }
+            } else if is_idle(&self.decoder) {
+                if let Some(report) = self.take_frame(dest, data) {
+                    return Ok(Some(report));
+                }
+                if self.take_begin(dest, data) {
+                    self.parsed_size = data.len();
+                    return Ok(None);
+                }
             }
         } else if !has_zero(data) {
             return self.push_long(dest, data, 0);
+        } else if is_idle(&self.decoder) {
+            if let Some(report) = self.take_frame(dest, data) {
+                return Ok(Some(report));
+            }
         }
-        for (taken, &byte) in data.iter().enumerate().take(FEW) {
+        for (taken, &byte) in data[..data.len().min(FEW)].iter().enumerate() {
             let parsed_size = taken + 1;
             match self.decoder.feed(dest, byte) {
                 Ok(None) => {}
@@ -99,16 +113,29 @@ impl Progress {
         Ok(None)
     }
 
-    /// Takes two bytes or more at once if none is a zero, inside a frame or from its first code on, and says whether it
-    /// did.
+    /// Takes the frame that the data begin with, if it is a short one of one block.
     #[cfg(not(feature = "small"))]
     #[inline(always)]
-    fn take_few(&mut self, dest: &mut [u8], data: &[u8]) -> bool {
-        if self.decoder.take_short(dest, data) {
-            return true;
+    fn take_frame(&mut self, dest: &mut [u8], data: &[u8]) -> Option<DecodeReport> {
+        let code = data[0] as usize;
+        if (2..=FEW.min(dest.len())).contains(&code)
+            && data.get(code) == Some(&0)
+            && copy_xored_short(&data[1..code], dest, 0)
+        {
+            self.parsed_size = code + 1;
+            return Some(DecodeReport {
+                parsed_size: code + 1,
+                frame_size: code - 1,
+            });
         }
-        // If the first block is shorter, the frame may end in these bytes.
-        if data[0] as usize >= data.len() && is_idle(&self.decoder) {
+        None
+    }
+
+    /// Takes the first bytes of a frame, if its first block goes on behind them, and says whether it did.
+    #[cfg(not(feature = "small"))]
+    #[inline(always)]
+    fn take_begin(&mut self, dest: &mut [u8], data: &[u8]) -> bool {
+        if data[0] as usize >= data.len() {
             self.decoder.take_joint(dest, data[0]);
             if self.decoder.take_short(dest, &data[1..]) {
                 return true;
