@@ -15,7 +15,7 @@
 # It needs rustc, cc, and the crate `memchr` (Debian's librust-memchr-dev); --old needs valgrind. It takes three minutes, with
 # --quick half of one, on a machine with no other load. C is built with -O3 for x86-64-v2, for which libjcobs is, and Rust as
 # `cargo build --release` does it. The driver is built at four places in memory: on some processors a loop is half as fast where
-# one of its jumps crosses a multiple of 32 bytes. The best place counts, for each implementation, in two rounds.
+# one of its jumps crosses a multiple of 32 bytes. The best place counts, for each implementation, in three rounds.
 set -eu
 here=$(cd "$(dirname "$0")" && pwd)
 top=$(dirname "$here")
@@ -25,7 +25,7 @@ old=
 docs=
 check=
 places="0 16 32 48"
-rounds="1 2"
+rounds="1 2 3"
 quick=
 while [ $# -gt 0 ]; do
     case $1 in

@@ -32,7 +32,7 @@ fi
 
 # A copy, as cargo writes beside what it builds.
 mkdir -p "$work/tree/bindings" && cp -R "$rust" "$work/tree/bindings/rust" && rm -rf "$work/tree/bindings/rust/target" &&
-    ln -s "$root/conformance" "$work/tree" || exit
+    ln -s "$root/conformance" "$root/bench" "$work/tree" || exit
 cd "$work/tree/bindings/rust" || exit
 CARGO_TARGET_DIR=$work/target
 export CARGO_TARGET_DIR
