@@ -99,6 +99,25 @@ impl<const N: usize> Simd<u8, N> {
         Mask(mask)
     }
 
+    /// Of each byte and the other's, the lesser one.
+    #[inline(always)]
+    pub fn simd_min(mut self, other: Self) -> Self {
+        for (part, others) in self.0.chunks_mut(16).zip(other.0.chunks(16)) {
+            let least = way::least(widened(part), widened(others));
+            part.copy_from_slice(&least[..part.len()]);
+        }
+        self
+    }
+
+    /// The bytes from `K` on, and then those before it.
+    #[inline(always)]
+    pub fn rotate_elements_left<const K: usize>(self) -> Self {
+        let mut turned = [0; N];
+        turned[..N - K].copy_from_slice(&self.0[K..]);
+        turned[N - K..].copy_from_slice(&self.0[..K]);
+        Self(turned)
+    }
+
     #[inline(always)]
     fn compare(self, other: Self, has: impl Fn(u8, u8) -> bool) -> Mask<N> {
         let mut mask = [0; N];
@@ -142,6 +161,18 @@ impl<const N: usize> Mask<N> {
             bytes[i] = (yes.0[i] & self.0[i]) | (no.0[i] & !self.0[i]);
         }
         Simd(bytes)
+    }
+
+    /// Whether a byte has the property.
+    #[inline(always)]
+    pub fn any(self) -> bool {
+        let mut folded = [0; 16];
+        for part in self.0.chunks(16) {
+            for i in 0..part.len() {
+                folded[i] |= part[i];
+            }
+        }
+        way::of_sixteen(&folded) != 0
     }
 
     /// The property of byte `i` as bit `i`.
@@ -196,6 +227,11 @@ mod portable {
     }
 
     #[inline(always)]
+    pub fn least(bytes: [u8; 16], other: [u8; 16]) -> [u8; 16] {
+        core::array::from_fn(|i| bytes[i].min(other[i]))
+    }
+
+    #[inline(always)]
     fn of_word(mask: u64) -> u64 {
         (mask & 0x0101_0101_0101_0101).wrapping_mul(0x0102_0408_1020_4080) >> 56
     }
@@ -238,6 +274,16 @@ mod sse2 {
         }
     }
 
+    /// Said as one vector: else the loop around it isn't unrolled, and long blocks are decoded .8 times as fast.
+    #[inline(always)]
+    pub fn least(bytes: [u8; 16], other: [u8; 16]) -> [u8; 16] {
+        // SAFETY: the target has SSE2, and each vector has the 16 bytes of an array.
+        unsafe {
+            let [bytes, other] = transmute::<[[u8; 16]; 2], [__m128i; 2]>([bytes, other]);
+            transmute(_mm_min_epu8(bytes, other))
+        }
+    }
+
     #[inline(always)]
     pub fn of_sixteen(mask: &[u8; 16]) -> u64 {
         // SAFETY: the target has SSE2, and 16 bytes are loaded from any address.
@@ -253,7 +299,7 @@ mod sse2 {
 ))]
 #[allow(unsafe_code)]
 mod neon {
-    pub use super::portable::{equal, less};
+    pub use super::portable::{equal, least, less};
     use core::arch::aarch64::{vaddv_u8, vand_u8, vld1_u8};
 
     #[inline(always)]
@@ -324,6 +370,7 @@ mod tests {
         assert!(stored[0] == 0xAA && stored[N + 1..] == [0xAA; 80][N..]);
         for (mask, expected) in masks {
             assert_eq!(mask.to_bitmask(), expected, "{N}, {byte}");
+            assert_eq!(mask.any(), expected != 0);
             let plain = bits_by(&mask.0, portable::of_sixteen);
             assert_eq!(plain, expected, "{N}, {byte}");
             let mut chosen = [0; N];
@@ -334,6 +381,8 @@ mod tests {
             }
         }
         assert_eq!(Simd::from_array(vector.0).0, bytes);
+        let lesser: Vec<u8> = bytes.iter().map(|b| (*b).min(byte)).collect();
+        assert_eq!(vector.simd_min(splat).0[..], lesser[..]);
     }
 
     /// Each width from 1 to 64.
@@ -346,6 +395,21 @@ mod tests {
         widths! {
             0: 1 2 3 4 5 6 7 8; 1: 1 2 3 4 5 6 7 8; 2: 1 2 3 4 5 6 7 8; 3: 1 2 3 4 5 6 7 8;
             4: 1 2 3 4 5 6 7 8; 5: 1 2 3 4 5 6 7 8; 6: 1 2 3 4 5 6 7 8; 7: 1 2 3 4 5 6 7 8;
+        }
+    }
+
+    #[test]
+    fn turned() {
+        let all = with(0, 7);
+        let vector = Simd::<u8, 64>::from_slice(&all);
+        for (turned, by) in [
+            (vector.rotate_elements_left::<16>(), 16),
+            (vector.rotate_elements_left::<32>(), 32),
+            (vector.rotate_elements_left::<1>(), 1),
+        ] {
+            let mut expected = all[..64].to_vec();
+            expected.rotate_left(by);
+            assert_eq!(turned.0[..], expected[..]);
         }
     }
 

@@ -1,9 +1,8 @@
-use Rattle.std.proofs.Common.{◌≡◌, List, ℕ, bit_xor, length, take, drop, sym, ap, ◌∙◌, arith}
+use Rattle.std.proofs.Common.{◌≡◌, List, ℕ, bit_xor, length, ap, ◌∙◌, subst, arith}
 use Rattle.std.proofs.lemmas.List.{length-map}
-use Rattle.cobs_bytes.specs.Bytes.{xor_each}
-use Rattle.cobs_bytes.proofs.bytes.MaskLemmas.{zero_mask-none}
+use Rattle.cobs_bytes.specs.Bytes.{HasNoZero, xor_each}
 use Rattle.cobs_bytes.proofs.bytes.NonzeroCopies.{more-nonzero, more-copied}
-use Rattle.cobs_bytes.proofs.bytes.XoredLemmas.{mask-is, part-is}
+use Rattle.cobs_bytes.proofs.bytes.XoredLemmas.{part, part-is, part-long, least-nonzero}
 use lib.Lanes.{put_chunk}
 use Rattle.cobs_bytes.proofs.lanes.copy_nonzero.Goals as goal
 
@@ -20,5 +19,6 @@ by_window-preserved c =
       copied = ap (put_chunk start c.by_window.dest) (part-is source c.args.sentinel 64 start (omega arith))
           ∙ more-copied h c.by_window.done start 64 (omega arith) (omega arith) (omega arith) c.args.dest.now c.by_window.dest (omega arith) (omega arith) i.copied;
       nonzero = more-nonzero h c.by_window.done start 64 (omega arith) (omega arith) (omega arith) i.nonzero
-          (zero_mask-none (take 64 (drop start h)) (sym (mask-is source c.args.sentinel 64 start (omega arith) (omega arith)) ∙ c.if-bytes-ne0.false));
+          (subst HasNoZero (part-is source c.args.sentinel 64 start (omega arith))
+          (least-nonzero (part source c.args.sentinel 64 start) (part-long source c.args.sentinel 64 start (omega arith)) c.if-least-ne0.false));
     }
