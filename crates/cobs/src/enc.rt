@@ -46,6 +46,8 @@ pub use vector::{encode_vec, encode_vec_including_sentinels, encode_vec_with_sen
 /// assert_eq!(rt; len, 5);
 /// assert_eq!(rt; dest, [3, 10, 11, 2, 12, 170]);
 /// ```
+// A short message is encoded in the caller's code then: the library for C encodes 1 to 4 bytes 1.3 to 1.4 times as fast.
+#[inline(always)]
 #[tactic(auto, using(crate::proofs::encoding::TakingLemmas::from_start))]
 pub fn encode(source: &[u8], dest: &mut [u8]) -> usize
     requires { encoded_len source.now ≤ length dest.old }

@@ -2,7 +2,7 @@
 
 use crate::enc::DestBufTooSmallError;
 use crate::proved::UnbufferedEncoder;
-use crate::proved::enc::blocks::close_inlined;
+use crate::proved::enc::blocks::close;
 #[cfg(feature = "small")]
 use crate::small;
 
@@ -76,6 +76,6 @@ impl<'a> CobsEncoder<'a> {
         if self.dest.is_empty() {
             return 0;
         }
-        close_inlined(self.dest, self.encoder.progress())
+        close(self.dest, self.encoder.progress())
     }
 }

@@ -46,6 +46,8 @@ pub use vector::{encode_vec, encode_vec_including_sentinels, encode_vec_with_sen
 /// assert_eq!(len, 5);
 /// assert_eq!(dest, [3, 10, 11, 2, 12, 170]);
 /// ```
+// A short message is encoded in the caller's code then: the library for C encodes 1 to 4 bytes 1.3 to 1.4 times as fast.
+#[inline(always)]
 pub fn encode(source: &[u8], dest: &mut [u8]) -> usize {
     if 0 < source.len() && source.len() <= WINDOW {
         let progress = append_short(source, dest, START, false);

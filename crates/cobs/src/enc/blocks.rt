@@ -343,24 +343,10 @@ pub(crate) fn append(source: &[u8], dest: &mut [u8], progress: EncoderProgress) 
 }
 
 /// Writes the open block's code, if that is part of the frame, and returns where the frame ends. Its place is free before.
-pub(crate) fn close(dest: &mut [u8], progress: EncoderProgress) -> usize
-    requires { IsPlaceIn (length dest.old) (reached_at progress) }
-    ensures frame { (m : List ℕ) → CobsEncoderAfter dest.old (reached_at progress) m
-        → IsEncodedFrame (take result dest.new) m }
-    ensures end { result ≡ end_of (reached_at progress) }
-    ensures rest { drop result dest.new ≡ drop result dest.old }
-{
-    if progress.is_full {
-        return progress.index;
-    }
-    dest[progress.index] = progress.code;
-    progress.index + progress.code as usize
-}
-
-/// Does what [`close`] does, but asks for the room first: else compilers move the question whether the block is full into a
-/// loop of single bytes before it, which takes up to twice the time in the Rust crate with link-time optimization.
+// The room is asked for first: else compilers ask whether the block is full in the caller's loop of single bytes, which takes
+// up to twice the time in the Rust crate with link-time optimization.
 #[inline(always)]
-pub(crate) fn close_inlined(dest: &mut [u8], progress: EncoderProgress) -> usize
+pub(crate) fn close(dest: &mut [u8], progress: EncoderProgress) -> usize
     requires { IsPlaceIn (length dest.old) (reached_at progress) }
     ensures frame { (m : List ℕ) → CobsEncoderAfter dest.old (reached_at progress) m
         → IsEncodedFrame (take result dest.new) m }

@@ -4,7 +4,7 @@ ghost use Rattle.cobs.specs.OpenBlock.{IsPlaceIn};
 ghost use Rattle.cobs.specs.Fields.Progress.{reached_by};
 
 use crate::enc::UnbufferedEncoder;
-use crate::enc::blocks::close_inlined;
+use crate::enc::blocks::close;
 use crate::error::DestBufTooSmallError;
 
 /// Encodes a message that comes in pieces, straight into a slice of the caller's.
@@ -113,6 +113,6 @@ impl<'a> CobsEncoder<'a> {
         ensures rest { drop result self.exit.0.now ≡ drop result (slice_of self.entry) }
     {
         let CobsEncoder { dest, encoder } = self;
-        close_inlined(dest, encoder.progress())
+        close(dest, encoder.progress())
     }
 }

@@ -260,19 +260,11 @@ pub(crate) fn append(source: &[u8], dest: &mut [u8], progress: EncoderProgress) 
 }
 
 /// Writes the open block's code, if that is part of the frame, and returns where the frame ends. Its place is free before.
+// The room is asked for first: else compilers ask whether the block is full in the caller's loop of single bytes, which takes
+// up to twice the time in the Rust crate with link-time optimization.
+#[inline(always)]
 #[inline]
 pub(crate) fn close(dest: &mut [u8], progress: EncoderProgress) -> usize {
-    if progress.is_full {
-        return progress.index;
-    }
-    dest[progress.index] = progress.code;
-    progress.index + progress.code as usize
-}
-
-/// Does what [`close`] does, but asks for the room first: else compilers move the question whether the block is full into a
-/// loop of single bytes before it, which takes up to twice the time in the Rust crate with link-time optimization.
-#[inline(always)]
-pub(crate) fn close_inlined(dest: &mut [u8], progress: EncoderProgress) -> usize {
     let EncoderProgress { index, code, .. } = progress;
     if index < dest.len() {
         dest[index] = if progress.is_full { dest[index] } else { code };

@@ -2,7 +2,7 @@
 //! An encoder into a slice, of a message that comes in pieces.
 
 use crate::proved::enc::UnbufferedEncoder;
-use crate::proved::enc::blocks::close_inlined;
+use crate::proved::enc::blocks::close;
 use crate::proved::error::DestBufTooSmallError;
 
 /// Encodes a message that comes in pieces, straight into a slice of the caller's.
@@ -89,6 +89,6 @@ impl<'a> CobsEncoder<'a> {
     /// ```
     pub fn finalize(self) -> usize {
         let CobsEncoder { dest, encoder } = self;
-        close_inlined(dest, encoder.progress())
+        close(dest, encoder.progress())
     }
 }

@@ -9,12 +9,8 @@
 /// let mut buffer = [0; 64];
 /// let mut encoder = UnbufferedEncoder::new();
 /// encoder.push(&mut buffer, b"hello")?;
-/// let progress = EncoderProgress {
-///     index: 0,
-///     code: 6,
-///     is_full: false,
-/// };
-/// assert_eq!(encoder.progress(), progress);
+/// let progress = encoder.progress();
+/// assert_eq!((progress.index, progress.code, progress.is_full), (0, 6, false));
 /// # Ok::<(), Box<dyn std::error::Error>>(())
 /// ```
 #[derive(Debug, Clone, Copy, PartialEq, Eq)]

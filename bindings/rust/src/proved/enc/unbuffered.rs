@@ -68,10 +68,7 @@ impl UnbufferedEncoder {
     /// ```
     /// # use jcobs::proved::*;
     /// let progress = UnbufferedEncoder::new().progress();
-    /// assert_eq!(
-    ///     (progress.index, progress.code, progress.is_full),
-    ///     (0, 1, false)
-    /// );
+    /// assert_eq!((progress.index, progress.code), (0, 1));
     /// ```
     #[inline]
     pub fn progress(&self) -> EncoderProgress {
@@ -139,10 +136,8 @@ impl UnbufferedEncoder {
     /// # use jcobs::proved::*;
     /// let mut buffer = [170; 3];
     /// let mut encoder = UnbufferedEncoder::new();
-    /// assert_eq!(
-    ///     encoder.push(&mut buffer, &[7, 8, 9]),
-    ///     Err(DestBufTooSmallError)
-    /// );
+    /// let rejected = encoder.push(&mut buffer, &[7, 8, 9]);
+    /// assert_eq!(rejected, Err(DestBufTooSmallError));
     /// assert_eq!(encoder.push(&mut buffer, &[7, 8]), Ok(()));
     /// assert_eq!(encoder.finalize(&mut buffer), Ok(3));
     /// assert_eq!(buffer, [3, 7, 8]);

@@ -1,9 +1,25 @@
-use Rattle.cobs.proofs.encoding.CoreLemmas.{closed-full, closed-open}
+use Rattle.std.proofs.Common.{arith}
+use Rattle.std.proofs.lemmas.List.{take-set}
 use Rattle.cobs.specs.Fields.Progress.{reached_at}
+use Rattle.cobs.proofs.encoding.CoreLemmas.{closed-full, closed-open}
+use Rattle.cobs.proofs.enc.blocks.close.Goals.{then-index-dest, then-progress, else-progress, else-index-dest}
 use Rattle.cobs.proofs.enc.blocks.close.Goals as goal
 
-pub returns-then-progress-clause-frame : goal.returns-then-progress-clause-frame
-returns-then-progress-clause-frame c = λ m h. closed-full c.args.dest.now m (reached_at c.args.progress) h c.if-progress.true
+pub returns-then-progress-2-clause-frame : goal.returns-then-progress-2-clause-frame
+returns-then-progress-2-clause-frame c = λ m h.
+    let frame = closed-full c.args.dest.now m (reached_at c.args.progress) h c.if-progress-2.true in
+    elim c.if-index-dest.branch [
+      | then-index-dest w ↦ rw w.dest-is (rw (take-set c.args.dest.now c.args.progress.index w.if-progress.dest) frame)
+      | else-index-dest w ↦ rw w.dest-is frame
+    ]
 
 pub returns-clause-frame : goal.returns-clause-frame
-returns-clause-frame c = λ m h. closed-open c.args.dest.now m (reached_at c.args.progress) h c.if-progress.false c.requires.some
+returns-clause-frame c = λ m h.
+    let frame = closed-open c.args.dest.now m (reached_at c.args.progress) h c.if-progress-2.false c.requires.some in
+    elim c.if-index-dest.branch [
+      | then-index-dest w ↦ elim w.if-progress.branch [
+        | then-progress v ↦ absurd (grind arith)
+        | else-progress v ↦ rw w.dest-is (rw v.dest-is frame)
+      ]
+      | else-index-dest w ↦ absurd (grind arith)
+    ]
