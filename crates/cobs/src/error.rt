@@ -20,10 +20,8 @@ pub struct DestBufTooSmallError;
 ///
 /// ```
 /// assert_eq!(rt; decode(&[], &mut [0; 4]), Err(DecodeError::EmptyFrame));
-/// assert_eq!(rt;
-///     decode(&[3, 1, 2], &mut [0; 1]),
-///     Err(DecodeError::TargetBufTooSmall)
-/// );
+/// let rejected = decode(&[3, 1, 2], &mut [0; 1]);
+/// assert_eq!(rt; rejected, Err(DecodeError::TargetBufTooSmall));
 /// ```
 #[derive(Debug, Drop, PartialEq, Eq, Error, Serialize, Deserialize)]
 pub enum DecodeError {
@@ -69,11 +67,8 @@ pub struct PushError {
 /// Why a source gave no vector. (A choice of this library: memory may run out, and nothing aborts.)
 ///
 /// ```
-/// let rejected = decode_vec(alloc, &[]);
-/// assert_eq!(rt;
-///     rejected,
-///     Err(DecodeVecError::Decode(DecodeError::EmptyFrame))
-/// );
+/// let rejected = Err(DecodeVecError::Decode(DecodeError::EmptyFrame));
+/// assert_eq!(rt; decode_vec(alloc, &[]), rejected);
 /// ```
 #[derive(Debug, Drop, PartialEq, Eq, Error)]
 pub enum DecodeVecError {

@@ -1,5 +1,5 @@
 //! Where pieces begin and end.
-ghost use Rattle.std.specs.Prelude.{All, ◌≢◌, ◌≡◌, ◌<◌, ◌≤◌, length, take, slice_index};
+ghost use Rattle.std.specs.Prelude.{All, ◌≢◌, ◌≡◌, ◌<◌, ◌≤◌, ◌+◌, length, take, slice_index};
 ghost use Rattle.cobs.specs.Decode.{leading_zeros};
 
 use memchr::memchr;
@@ -18,6 +18,7 @@ pub(crate) fn position_or_len(source: &[u8], byte: u8) -> usize
 pub(crate) fn len_without_end(source: &[u8], sentinel: u8) -> usize
     requires some { 0 < length source.now }
     ensures within { result ≤ length source.now }
+    ensures last { length source.now ≤ result + 1 }
     ensures stop { result < length source.now → slice_index source.now result ≡ sentinel }
 {
     let last = source.len() - 1;

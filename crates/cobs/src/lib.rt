@@ -72,8 +72,8 @@ mod stream;
 pub use dec::{
     CobsDecoder, CobsDecoderHeapless, CobsDecoderOwned, DecodeResult, DecoderPhase, DecoderState,
     FrameDecoder, FrameKind, PieceEnd, UnbufferedDecoder, WriteBuffer, decode, decode_in_place,
-    decode_in_place_report, decode_in_place_with_sentinel, decode_vec, decode_vec_with_sentinel,
-    decode_with_sentinel, frame_kind,
+    decode_in_place_report, decode_in_place_with_sentinel, decode_short, decode_short_in_place,
+    decode_vec, decode_vec_with_sentinel, decode_with_sentinel, frame_kind,
 };
 pub use enc::{
     CobsEncoder, EncoderProgress, EncoderState, PushResult, UnbufferedEncoder, encode,

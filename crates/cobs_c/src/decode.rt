@@ -1,15 +1,16 @@
 //! Whole frames to messages.
-ghost use Rattle.std.specs.Prelude.{◌≡◌, ◌≢◌, ◌+◌, ◌≤◌, ◌<◌, ℕ, List, length, min, take, slice_index, IfSome, Some, None};
+ghost use Rattle.std.specs.Prelude.{◌≡◌, ◌≢◌, ◌+◌, ◌≤◌, ◌<◌, ℕ, List, length, min, take, slice_index, IfSome, Some, None, Err};
 ghost use Rattle.std.specs.List.{All};
-ghost use Rattle.cobs.specs.Decode.{len_through_piece, leading_zeros};
+ghost use Rattle.cobs.specs.Decode.{first_output, len_through_piece, leading_zeros, result_of_decode};
+ghost use Rattle.cobs.specs.Overwritten.{overwritten};
 ghost use Rattle.cobs.specs.Sentinel.{xor_each};
 ghost use Rattle.cobs.specs.Stream.{first_piece};
 ghost use Rattle.cobs_abi.specs.Answer.{head_end};
 ghost use Rattle.cobs_abi.specs.Decode.{Decodes, DecodesFor, DecodesInPlace, DecodesInPlaceFor, IsKindOf};
 
 use cobs::laws::{law_1, law_6, law_12};
-use cobs::{DecodeError, FrameKind};
-use cobs_abi::{Answer, CANONICAL, EMPTY, LONGER, NOT_A_FRAME, done, result_by};
+use cobs::{DecodeError, FrameKind, decode_short, decode_short_in_place};
+use cobs_abi::{Answer, CANONICAL, EMPTY, LONGER, NOT_A_FRAME, OK, done, result_by};
 use memchr::memchr;
 
 /// The place of the first sentinel, or how many bytes there are if none is one.
@@ -62,23 +63,56 @@ fn first_piece_end(source: &[u8]) -> Option<usize>
     Some(if end < source.len() { end + 1 } else { end })
 }
 
+/// Returns the status and the length for a source whose first frame has this error, or that has none, and a buffer of `room`
+/// bytes. These stay in registers so.
+#[inline(never)]
+fn rejected(source: &[u8], room: usize, error: DecodeError, consumed: &mut usize) -> (u32, usize)
+    requires { Err error ≡ result_of_decode source.now room }
+    ensures { (message message' : List ℕ) → length message ≡ room
+        → message' ≡ overwritten message (first_output source.now) → Decodes source.now message
+        record { status = result.0; consumed = consumed.new; length = result.1 } message' }
+{
+    law_1();
+    let Some(end) = first_piece_end(source) else {
+        *consumed = source.len();
+        return (EMPTY, 0);
+    };
+    let returned = result_by(end, room, Err(error));
+    *consumed = returned.consumed;
+    (returned.status, returned.length)
+}
+
+/// Does what [`jcobs_decode`] does if that isn't by [`decode_short`], with a result as that of [`rejected`]. It is apart so
+/// that a short frame doesn't pay for the registers that it needs.
+#[inline(never)]
+fn decode_long(source: &[u8], message: &mut [u8], consumed: &mut usize) -> (u32, usize)
+    ensures decodes { Decodes source.now message.old
+        record { status = result.0; consumed = consumed.new; length = result.1 } message.new }
+{
+    match cobs::decode(source, message) {
+        Ok(report) => {
+            *consumed = report.parsed_size();
+            (OK, report.frame_size())
+        }
+        Err(error) => rejected(source, message.len(), error, consumed),
+    }
+}
+
 /// The first frame of the source, decoded to the front of `message`.
 #[unsafe(no_mangle)]
 pub extern "C" fn jcobs_decode(source: &[u8], message: &mut [u8]) -> Answer
     ensures decodes { Decodes source.now message.old result message.new }
 {
-    law_1();
-    let room = message.len();
-    match cobs::decode(source, message) {
-        Ok(report) => result_by(report.parsed_size(), room, Ok(report.frame_size())),
-        Err(error) => match first_piece_end(source) {
-            Some(end) => result_by(end, room, Err(error)),
-            None => Answer {
-                status: EMPTY,
-                consumed: source.len(),
-                length: 0,
-            },
-        },
+    let mut consumed = 0;
+    let (status, length) = match decode_short(source, message) {
+        Some(Ok(report)) => return done(report.parsed_size(), report.frame_size()),
+        Some(Err(error)) => rejected(source, message.len(), error, &mut consumed),
+        None => decode_long(source, message, &mut consumed),
+    };
+    Answer {
+        status,
+        consumed,
+        length,
     }
 }
 
@@ -107,15 +141,17 @@ fn with_zero(end: usize, len: usize) -> usize
     if end < len { end + 1 } else { len }
 }
 
-/// The frame at the front of the buffer, decoded in its own place.
-#[unsafe(no_mangle)]
-pub extern "C" fn jcobs_decode_in_place(buffer: &mut [u8]) -> Answer
-    ensures decodes { DecodesInPlace buffer.old result buffer.new }
+/// Does what [`jcobs_decode_in_place`] does if that isn't by [`decode_short_in_place`]; apart, and in registers, as
+/// [`decode_long`].
+#[inline(never)]
+fn decode_long_in_place(buffer: &mut [u8], consumed: &mut usize) -> (u32, usize)
+    ensures decodes { DecodesInPlace buffer.old
+        record { status = result.0; consumed = consumed.new; length = result.1 } buffer.new }
 {
     law_1();
     law_12();
     let room = buffer.len();
-    match cobs::decode_in_place_report(buffer) {
+    let returned = match cobs::decode_in_place_report(buffer) {
         Ok(report) => {
             let consumed = with_zero(report.parsed_size(), room);
             result_by(consumed, room, Ok(report.frame_size()))
@@ -127,6 +163,26 @@ pub extern "C" fn jcobs_decode_in_place(buffer: &mut [u8]) -> Answer
             result_by(with_zero(end, room), room, Err(error))
         }
         Err(error) => result_by(0, room, Err(error)),
+    };
+    *consumed = returned.consumed;
+    (returned.status, returned.length)
+}
+
+/// The frame at the front of the buffer, decoded in its own place.
+#[unsafe(no_mangle)]
+pub extern "C" fn jcobs_decode_in_place(buffer: &mut [u8]) -> Answer
+    ensures decodes { DecodesInPlace buffer.old result buffer.new }
+{
+    if let Some(report) = decode_short_in_place(buffer) {
+        let consumed = with_zero(report.parsed_size(), buffer.len());
+        return done(consumed, report.frame_size());
+    }
+    let mut consumed = 0;
+    let (status, length) = decode_long_in_place(buffer, &mut consumed);
+    Answer {
+        status,
+        consumed,
+        length,
     }
 }
 

@@ -3,8 +3,12 @@ ghost use Rattle.std.specs.Prelude.{◌≡◌, ◌≤◌, ◌<◌, ◌^◌};
 ghost use Rattle.cobs.specs.Length.{max_encoded_len};
 ghost use Rattle.cobs_abi.specs.Encode.{Encodes, EncodesFor, EncodesInPlace, EncodesTerminated};
 
-use cobs::{max_encoding_overhead, try_encode, try_encode_with_sentinel};
+use cobs::laws::law_4;
+use cobs::{encode, max_encoding_overhead, try_encode, try_encode_with_sentinel};
 use cobs_abi::{Answer, OK, done, encode_within, too_small};
+
+/// The code of a full block. A shorter message can't fill one.
+const FULL_CODE: usize = 255;
 
 /// Returns how many bytes the longest frame of a message of `message_len` bytes has, or 0 if that number doesn't fit.
 #[unsafe(no_mangle)]
@@ -19,11 +23,18 @@ pub extern "C" fn jcobs_max_length(message_len: usize) -> usize
 
 /// Writes the frame of the message to the front of the buffer `frame`, if it fits. Otherwise nothing is written.
 #[unsafe(no_mangle)]
+#[inline(always)]
 pub extern "C" fn jcobs_encode(message: &[u8], frame: &mut [u8]) -> Answer
     ensures encodes { Encodes message.now frame.old result frame.new }
 {
+    law_4();
+    let len = message.len();
+    // A message that can't fill a block is seen to fit at once, and a short one encoded here, without a call.
+    if len < frame.len().min(FULL_CODE) {
+        return done(len, encode(message, frame));
+    }
     match try_encode(message, frame) {
-        Ok(length) => done(message.len(), length),
+        Ok(length) => done(len, length),
         Err(_) => too_small(),
     }
 }

@@ -7,8 +7,8 @@
 use cobs::{
     CobsDecoder, DecodeError, DecodeResult, DecodeVecError, DecoderState, DecodingResult,
     DestBufTooSmallError, FrameKind, PushError, decode, decode_in_place, decode_in_place_report,
-    decode_in_place_with_sentinel, decode_vec, decode_vec_with_sentinel, decode_with_sentinel,
-    frame_kind,
+    decode_in_place_with_sentinel, decode_short, decode_short_in_place, decode_vec,
+    decode_vec_with_sentinel, decode_with_sentinel, frame_kind,
 };
 use std::test::Fail;
 
@@ -23,10 +23,8 @@ fn dest_buf_too_small_error_example(rt: HostRuntime) -> Result<(), Fail> {
 #[test]
 fn decode_error_example(rt: HostRuntime) {
     assert_eq!(rt; decode(&[], &mut [0; 4]), Err(DecodeError::EmptyFrame));
-    assert_eq!(rt;
-        decode(&[3, 1, 2], &mut [0; 1]),
-        Err(DecodeError::TargetBufTooSmall)
-    );
+    let rejected = decode(&[3, 1, 2], &mut [0; 1]);
+    assert_eq!(rt; rejected, Err(DecodeError::TargetBufTooSmall));
 }
 
 #[test]
@@ -43,11 +41,8 @@ fn push_error_example(rt: HostRuntime) {
 #[test]
 fn decode_vec_error_example(rt: HostRuntime) {
     let alloc = rt.alloc();
-    let rejected = decode_vec(alloc, &[]);
-    assert_eq!(rt;
-        rejected,
-        Err(DecodeVecError::Decode(DecodeError::EmptyFrame))
-    );
+    let rejected = Err(DecodeVecError::Decode(DecodeError::EmptyFrame));
+    assert_eq!(rt; decode_vec(alloc, &[]), rejected);
 }
 
 #[test]
@@ -109,6 +104,13 @@ fn decode_in_place_report_example(rt: HostRuntime) -> Result<(), Fail> {
     assert_eq!(rt; report.frame_size(), 4);
     assert_eq!(rt; buf, [10, 11, 0, 12, 12, 0]);
     Ok(())
+}
+
+#[test]
+fn decode_short_in_place_example(rt: HostRuntime) {
+    let mut buf = [3, 10, 11, 0];
+    assert!(rt; decode_short_in_place(&mut buf).is_some());
+    assert_eq!(rt; buf, [10, 11, 11, 0]);
 }
 
 #[test]
@@ -187,4 +189,11 @@ fn decode_example(rt: HostRuntime) -> Result<(), Fail> {
     assert_eq!(rt; decode(&[4, 1, 2, 0], &mut dest), Err(broken));
     assert_eq!(rt; dest, [1, 2, 170]);
     Ok(())
+}
+
+#[test]
+fn decode_short_example(rt: HostRuntime) {
+    let mut dest = [170; 3];
+    assert!(rt; decode_short(b"\x03hi\0", &mut dest).is_some());
+    assert_eq!(rt; &dest, b"hi\xaa");
 }

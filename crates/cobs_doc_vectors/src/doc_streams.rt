@@ -133,10 +133,8 @@ fn frame_reader_decoder_example(rt: HostRuntime) {
 fn frame_reader_next_frame_example(rt: HostRuntime) {
     let mut reader = FrameReader::new(CobsDecoderHeapless::<8>::new());
     let mut first = Recorded::new([2].as_slice());
-    assert_eq!(rt;
-        reader.next_frame(&mut first),
-        Ok(Next::End { unfinished: true })
-    );
+    let end = reader.next_frame(&mut first);
+    assert_eq!(rt; end, Ok(Next::End { unfinished: true }));
     let mut second = Recorded::new([7, 0].as_slice());
     assert_eq!(rt; reader.next_frame(&mut second), Ok(Next::Message(1)));
 }

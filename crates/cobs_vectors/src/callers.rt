@@ -3,7 +3,8 @@
 //! There is no test here: each function has a contract, and the prover derives it from the clauses of the calls that it
 //! makes. So a clause that said too little for its users would be noticed here.
 ghost use Rattle.std.specs.Prelude.{◌≡◌, ◌≢◌, ◌≤◌, ◌<◌, ◌+◌, ◌^◌, ◌↔◌, ◌∷◌, ◌++◌, [], All, length, take, drop, slice_index, slice_set, List, ℕ, Ok, Some, option_to_list, IfOk, IfSome, IsSomeAnd, IsTrue};
-ghost use Rattle.cobs.specs.Overwritten.{message_in, written_at};
+ghost use Rattle.cobs.specs.Decode.{first_output, in_place, in_place_report, result_of_decode};
+ghost use Rattle.cobs.specs.Overwritten.{message_in, overwritten, written_at};
 ghost use Rattle.cobs.specs.Fields.Decoders.{borrowed_buffer, borrowed_phase, borrowed_slice, heapless_buffer, heapless_phase, owned_buffer, owned_phase};
 ghost use Rattle.cobs.specs.Fields.Report.{frame_size_of, parsed_size_of};
 ghost use Rattle.cobs.specs.Feed.{state_in, Idle, Overlong, PhaseAfter};
@@ -17,10 +18,10 @@ ghost use Rattle.cobs.specs.Table.{data_of};
 use cobs::laws::{law_2, law_4};
 use cobs::{
     CobsDecoder, CobsDecoderHeapless, CobsDecoderOwned, DecodeError, DecodeReport, DecodeResult,
-    DecoderState, DestBufTooSmallError, PushError, WriteBuffer, decode, decode_with_sentinel,
-    encode_frames, encode_frames_room, encode_in_place, encode_including_sentinels, encode_vec,
-    encode_vec_including_sentinels, encode_vec_with_sentinel, encode_with_sentinel,
-    try_encode_including_sentinels,
+    DecoderState, DestBufTooSmallError, PushError, WriteBuffer, decode, decode_in_place_report,
+    decode_short, decode_short_in_place, decode_with_sentinel, encode_frames, encode_frames_room,
+    encode_in_place, encode_including_sentinels, encode_vec, encode_vec_including_sentinels,
+    encode_vec_with_sentinel, encode_with_sentinel, try_encode_including_sentinels,
 };
 use std::alloc::{AllocError, Global};
 
@@ -44,6 +45,28 @@ pub fn reads_for(sentinel: u8, piece: &[u8], message: &[u8], buffer: &mut [u8]) 
     match decode_with_sentinel(piece, buffer, sentinel) {
         Ok(len) => len == message.len() && buffer.starts_with(message),
         Err(_) => false,
+    }
+}
+
+/// Decodes a short frame at once and any other one by a call, with the results of [`decode`].
+pub fn decode_either(source: &[u8], dest: &mut [u8]) -> Result<DecodeReport, DecodeError>
+    ensures returned { result ≡ result_of_decode source.now (length dest.old) }
+    ensures buffer { dest.new ≡ overwritten dest.old (first_output source.now) }
+{
+    match decode_short(source, dest) {
+        Some(returned) => returned,
+        None => decode(source, dest),
+    }
+}
+
+/// The same in its own place.
+pub fn decode_either_in_place(buffer: &mut [u8]) -> Result<DecodeReport, DecodeError>
+    ensures returned { result ≡ in_place_report buffer.old }
+    ensures buffer { buffer.new ≡ in_place buffer.old }
+{
+    match decode_short_in_place(buffer) {
+        Some(report) => Ok(report),
+        None => decode_in_place_report(buffer),
     }
 }
 

@@ -21,8 +21,10 @@ pub use forms::decode_with_sentinel;
 pub use forms::{decode_vec, decode_vec_with_sentinel};
 pub use frame_decoder::{FrameDecoder, PieceEnd, WriteBuffer};
 pub use heapless::CobsDecoderHeapless;
-pub use in_place::{decode_in_place, decode_in_place_report, decode_in_place_with_sentinel};
+pub use in_place::{
+    decode_in_place, decode_in_place_report, decode_in_place_with_sentinel, decode_short_in_place,
+};
 pub use kind::{FrameKind, frame_kind};
 pub use state::{DecodeResult, DecoderState};
 pub use unbuffered::{DecoderPhase, UnbufferedDecoder};
-pub use whole::decode;
+pub use whole::{decode, decode_short};

@@ -30,10 +30,8 @@ impl core::error::Error for DestBufTooSmallError {}
 /// ```
 /// # use jcobs::proved::*;
 /// assert_eq!(decode(&[], &mut [0; 4]), Err(DecodeError::EmptyFrame));
-/// assert_eq!(
-///     decode(&[3, 1, 2], &mut [0; 1]),
-///     Err(DecodeError::TargetBufTooSmall)
-/// );
+/// let rejected = decode(&[3, 1, 2], &mut [0; 1]);
+/// assert_eq!(rejected, Err(DecodeError::TargetBufTooSmall));
 /// ```
 #[derive(Debug, Clone, Copy, PartialEq, Eq)]
 #[cfg_attr(feature = "serde", derive(serde::Serialize, serde::Deserialize))]
@@ -105,11 +103,8 @@ impl core::error::Error for PushError {}
 /// ```
 /// # use jcobs::proved::*;
 /// # #[cfg(feature = "alloc")] {
-/// let rejected = decode_vec(&[]);
-/// assert_eq!(
-///     rejected,
-///     Err(DecodeVecError::Decode(DecodeError::EmptyFrame))
-/// );
+/// let rejected = Err(DecodeVecError::Decode(DecodeError::EmptyFrame));
+/// assert_eq!(decode_vec(&[]), rejected);
 /// # }
 /// ```
 #[derive(Debug, PartialEq, Eq)]

@@ -259,10 +259,8 @@ impl<D: FrameDecoder> FrameReader<D> {
     /// # #[cfg(feature = "std")] {
     /// let mut reader = FrameReader::new(CobsDecoderHeapless::<8>::new());
     /// let mut first = Recorded::new([2].as_slice());
-    /// assert_eq!(
-    ///     reader.next_frame(&mut first),
-    ///     Ok(Next::End { unfinished: true })
-    /// );
+    /// let end = reader.next_frame(&mut first);
+    /// assert_eq!(end, Ok(Next::End { unfinished: true }));
     /// let mut second = Recorded::new([7, 0].as_slice());
     /// assert_eq!(reader.next_frame(&mut second), Ok(Next::Message(1)));
     /// # }

@@ -1,11 +1,12 @@
 -- What `decode` returns: an outcome by the counts of a piece, and a source's result by its first piece.
-use Rattle.std.proofs.Common.{◌≡◌, ◌≢◌, ℕ, ◌<◌, ◌≤◌, Bool, List, [], length, take, drop, None, Result, Ok, Err, if◌then◌else◌, sym, ap, arith, length-take-le, take-append-drop, take_all}
-use Rattle.std.proofs.lemmas.Bool.{le-leb, lt-leb, ne_eqb, eq-eqb}
+use Rattle.std.proofs.Common.{◌≡◌, ◌≢◌, ℕ, ◌+◌, ◌<◌, ◌≤◌, Bool, false, IsTrue, eqb, List, [], ◌∷◌, length, take, drop, min, None, Some, Result, Ok, Err, if◌then◌else◌, sym, ap, arith, length-take-le, take-append-drop, take_all}
+use Rattle.std.specs.Prelude.{IfOk}
+use Rattle.std.proofs.lemmas.Bool.{cases_eq, le-leb, lt-leb, ne_eqb, eq-eqb}
 use Rattle.cobs.specs.Piece.{output, last_part, missing, is_whole}
 use Rattle.cobs.specs.Stream.{Message, Broken, TooLong, outcome_of, first_piece, head}
 use Rattle.cobs.specs.Overwritten.{overwritten}
 use Rattle.cobs.specs.Fields.Report.{report_of}
-use Rattle.cobs.specs.Decode.{outcome_result, result_of_decode, head_result, in_place_report}
+use Rattle.cobs.specs.Decode.{leading_zeros, outcome_result, report_result, result_of_decode, head_result, in_place_report}
 use Rattle.cobs.specs.declared.error.DecodeReport.{DecodeReport}
 use Rattle.cobs.specs.declared.error.DecodeError.{DecodeError}
 use Rattle.cobs.specs.declared.error.DecodeError.TheVariants.{InvalidFrame, TargetBufTooSmall}
@@ -45,3 +46,19 @@ module _ (buffer h : List ℕ) (some : 0 < length buffer) (is : h ≡ head buffe
 
   pub in_place_report-decoded : (size parsed : ℕ) → result ≡ Ok size → parsed ≡ length h → (report : DecodeReport) → report ≡ report_of parsed size → Ok report ≡ in_place_report buffer
   in_place_report-decoded size parsed e count report r = grind arith
+
+-- the result for a piece whose output fits
+pub result-by : (p : List ℕ) (n k left : ℕ) (r : Result ℕ DecodeError) → 0 < length p → length (output p) ≤ n → k ≡ length (output p) → left ≡ missing (last_part p)
+    → (IsTrue (eqb left 0) → r ≡ Ok k) → (eqb left 0 ≡ false → r ≡ Err (InvalidFrame k)) → r ≡ outcome_result (outcome_of p n)
+result-by p n k left r some fits count is whole broken = grind (arith, cases_eq, eq-eqb, ne_eqb, outcome_result_whole, outcome_result_broken)
+
+-- whatever is returned
+pub always : {P : Type 0} (r : Result ℕ DecodeError) → P → IfOk r (λ size. P)
+always r p = grind arith
+
+-- what is parsed counts only if the message is returned
+pub answer-by : (source p : List ℕ) (n parsed len : ℕ) (r : Result ℕ DecodeError) → 0 < length source → first_piece source ≡ Some p → parsed ≡ min (length source) (leading_zeros source + len + 1) → r ≡ outcome_result (outcome_of p n) → IfOk r (λ size. len ≡ length p)
+    → report_result parsed r ≡ result_of_decode source n
+answer-by [] p n parsed len r some found parsed-is returned count = absurd (omega arith)
+answer-by (byte ∷ bytes) p n parsed len (Ok size) some found parsed-is returned count = grind arith
+answer-by (byte ∷ bytes) p n parsed len (Err error) some found parsed-is returned count = grind arith

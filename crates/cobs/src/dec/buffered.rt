@@ -39,10 +39,8 @@ impl<'a> CobsDecoder<'a> {
     ///
     /// ```
     /// let mut decoder = CobsDecoder::new(&mut []);
-    /// assert_eq!(rt;
-    ///     decoder.push(&[1, 0])?.map(|report| report.frame_size()),
-    ///     Some(0)
-    /// );
+    /// let size = decoder.push(&[1, 0])?.map(|report| report.frame_size());
+    /// assert_eq!(rt; size, Some(0));
     /// ```
     pub fn new(dest: &'a mut [u8]) -> CobsDecoder<'a>
         ensures same_slice { borrowed_slice result ≡ dest.entry.ghost_name }
@@ -99,10 +97,8 @@ impl<'a> CobsDecoder<'a> {
     /// let mut buffer = [0; 2];
     /// let mut decoder = CobsDecoder::new(&mut buffer);
     /// let bytes = [2, 7, 0, 2, 8, 0];
-    /// assert_eq!(rt;
-    ///     decoder.push(&bytes)?.map(|report| report.parsed_size()),
-    ///     Some(3)
-    /// );
+    /// let taken = decoder.push(&bytes)?.map(|report| report.parsed_size());
+    /// assert_eq!(rt; taken, Some(3));
     /// ```
     #[tactic(auto, using(crate::proofs::streaming::PushHeadline::push_message, crate::proofs::streaming::PushHeadline::push_only))]
     pub fn push(&mut self, bytes: &[u8]) -> Result<Option<DecodeReport>, PushError>
@@ -250,10 +246,8 @@ impl CobsDecoderOwned {
     /// ```
     /// let mut decoder = CobsDecoderOwned::new(alloc, 8)?;
     /// assert_eq!(rt; decoder.push(b"\x06hel"), Ok(None));
-    /// assert_eq!(rt;
-    ///     decoder.push(b"lo\0")?.map(|report| report.frame_size()),
-    ///     Some(5)
-    /// );
+    /// let size = decoder.push(b"lo\0")?.map(|report| report.frame_size());
+    /// assert_eq!(rt; size, Some(5));
     /// assert!(rt; decoder.dest().starts_with(b"hello"));
     /// ```
     pub fn push(&mut self, bytes: &[u8]) -> Result<Option<DecodeReport>, PushError>
@@ -275,10 +269,8 @@ impl CobsDecoderOwned {
     /// let mut decoder = CobsDecoderOwned::new(alloc, 8)?;
     /// assert_eq!(rt; decoder.push(&[9, 9]), Ok(None));
     /// decoder.reset();
-    /// assert_eq!(rt;
-    ///     decoder.push(&[1, 0])?.map(|report| report.frame_size()),
-    ///     Some(0)
-    /// );
+    /// let size = decoder.push(&[1, 0])?.map(|report| report.frame_size());
+    /// assert_eq!(rt; size, Some(0));
     /// ```
     pub fn reset(&mut self)
         ensures buffer { owned_buffer self.new ≡ owned_buffer self.old }

@@ -10,7 +10,7 @@ ghost use Rattle.cobs.specs.Stream.{head};
 ghost use Rattle.cobs.specs.declared.error.DecodeError.TheVariants.{EmptyFrame, TargetBufTooSmall};
 
 use crate::block::FULL_BLOCK_BYTES;
-use crate::dec::stretch::{decode_short, kept_len, message_len};
+use crate::dec::stretch::{decode_stretch, kept_len, message_len};
 use crate::dec::{UnbufferedDecoder, decode};
 use crate::error::{DecodeError, DecodeVecError};
 use crate::find::{len_without_end, position_or_len};
@@ -77,7 +77,7 @@ pub fn decode_with_sentinel(
     let len = len_without_end(source, sentinel);
     // A broken frame is not to change the bytes behind what it gives, so a short one is decoded beside.
     let mut short = [0; WIDE_WINDOW];
-    if len <= dest.len() + 1 && decode_short(&source[..len], &mut short, sentinel) == Some(0) {
+    if len <= dest.len() + 1 && decode_stretch(&source[..len], &mut short, sentinel) == Some(0) {
         dest[..len - 1].copy_from_slice(&short[..len - 1]);
         return Ok(len - 1);
     }

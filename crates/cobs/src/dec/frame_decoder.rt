@@ -12,10 +12,8 @@ use crate::error::DecodeError;
 ///
 /// ```
 /// let mut decoder = CobsDecoderHeapless::<1>::new();
-/// assert_eq!(rt;
-///     decoder.feed_piece(&[2, 7, 0]),
-///     Some((PieceEnd::Message(1), 3))
-/// );
+/// let end = decoder.feed_piece(&[2, 7, 0]);
+/// assert_eq!(rt; end, Some((PieceEnd::Message(1), 3)));
 /// ```
 #[derive(Debug, Clone, Copy, PartialEq, Eq)]
 pub enum PieceEnd {
@@ -84,10 +82,8 @@ pub trait FrameDecoder {
     /// ```
     /// let mut decoder = CobsDecoderHeapless::<1>::new();
     /// assert_eq!(rt; decoder.feed_piece(&[2]), None);
-    /// assert_eq!(rt;
-    ///     decoder.feed_piece(&[7, 0, 1]),
-    ///     Some((PieceEnd::Message(1), 2))
-    /// );
+    /// let end = decoder.feed_piece(&[7, 0, 1]);
+    /// assert_eq!(rt; end, Some((PieceEnd::Message(1), 2)));
     /// ```
     fn feed_piece(&mut self, stream: &[u8]) -> Option<(PieceEnd, usize)>
         ensures takes { TakesPiece (bytes self.old) (phase self.old) stream.now result

@@ -93,10 +93,8 @@ impl<const N: usize> CobsDecoderHeapless<N> {
     /// ```
     /// let mut decoder = CobsDecoderHeapless::<8>::new();
     /// assert_eq!(rt; decoder.push(b"\x06hel"), Ok(None));
-    /// assert_eq!(rt;
-    ///     decoder.push(b"lo\0")?.map(|report| report.frame_size()),
-    ///     Some(5)
-    /// );
+    /// let size = decoder.push(b"lo\0")?.map(|report| report.frame_size());
+    /// assert_eq!(rt; size, Some(5));
     /// assert!(rt; decoder.dest().starts_with(b"hello"));
     /// ```
     pub fn push(&mut self, bytes: &[u8]) -> Result<Option<DecodeReport>, PushError>
@@ -118,10 +116,8 @@ impl<const N: usize> CobsDecoderHeapless<N> {
     /// let mut decoder = CobsDecoderHeapless::<8>::new();
     /// assert_eq!(rt; decoder.push(&[9, 9]), Ok(None));
     /// decoder.reset();
-    /// assert_eq!(rt;
-    ///     decoder.push(&[1, 0])?.map(|report| report.frame_size()),
-    ///     Some(0)
-    /// );
+    /// let size = decoder.push(&[1, 0])?.map(|report| report.frame_size());
+    /// assert_eq!(rt; size, Some(0));
     /// ```
     pub fn reset(&mut self)
         ensures buffer { heapless_buffer self.new ≡ heapless_buffer self.old }

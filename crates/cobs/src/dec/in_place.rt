@@ -1,5 +1,5 @@
 //! Decoding a frame in its own buffer.
-ghost use Rattle.std.specs.Prelude.{All, ◌≡◌, ◌≢◌, ◌↔◌, ◌+◌, ◌-◌, ◌<◌, ◌≤◌, ◌++◌, ℕ, IsTrue, false, List, Ok, length, take, drop, IfErr};
+ghost use Rattle.std.specs.Prelude.{All, ◌≡◌, ◌≢◌, ◌↔◌, ◌+◌, ◌-◌, ◌<◌, ◌≤◌, ◌++◌, ℕ, IsTrue, false, List, None, Ok, length, take, drop, IfSome, IfErr};
 ghost use Rattle.cobs.specs.Overwritten.{overwritten};
 ghost use Rattle.cobs.specs.Decode.{head_result, in_place, result_in_place, in_place_report};
 ghost use Rattle.cobs.specs.Grammar.{HasNoZero, Reads};
@@ -121,7 +121,7 @@ fn decode_blocks_in_place(buffer: &mut [u8], end: usize) -> Result<usize, Decode
 ///
 /// A broken frame is not to change the bytes behind what it gives, so all are kept beside, and put back then.
 #[inline(always)]
-fn decode_short_in_place(buffer: &mut [u8], len: usize) -> bool
+fn decode_stretch_in_place(buffer: &mut [u8], len: usize) -> bool
     requires within { len ≤ length buffer.old }
     ensures nonzero { IsTrue result → HasNoZero (take len buffer.old) }
     ensures some { IsTrue result → 0 < len }
@@ -192,18 +192,42 @@ pub fn decode_in_place_report(buf: &mut [u8]) -> Result<DecodeReport, DecodeErro
     if has_none(buf) {
         return Err(DecodeError::EmptyFrame);
     }
-    let len = len_without_end(buf, 0);
-    if decode_short_in_place(buf, len) {
-        return Ok(DecodeReport {
-            parsed_size: len,
-            frame_size: len - 1,
-        });
+    if let Some(report) = decode_short_in_place(buf) {
+        return Ok(report);
     }
     let end = position_or_len(buf, 0);
     let frame_size = decode_blocks_in_place(buf, end)?;
     Ok(DecodeReport {
         parsed_size: end,
         frame_size,
+    })
+}
+
+/// Does what [`decode_in_place_report`] does, or returns `None` and leaves the buffer as it was: that call asks this first, as
+/// [`decode`](crate::decode) asks [`decode_short`](crate::decode_short). Contracts leave open which buffers it takes. They
+/// are frames of 2 to 65 bytes, with or without a zero after them.
+///
+/// ```
+/// let mut buf = [3, 10, 11, 0];
+/// assert!(rt; decode_short_in_place(&mut buf).is_some());
+/// assert_eq!(rt; buf, [10, 11, 11, 0]);
+/// ```
+#[inline(always)]
+pub fn decode_short_in_place(buf: &mut [u8]) -> Option<DecodeReport>
+    ensures returned { IfSome result (λ report. Ok report ≡ in_place_report buf.old) }
+    ensures buffer { IfSome result (λ report. buf.new ≡ in_place buf.old) }
+    ensures kept { result ≡ None → buf.new ≡ buf.old }
+{
+    if buf.is_empty() {
+        return None;
+    }
+    let len = len_without_end(buf, 0);
+    if !decode_stretch_in_place(buf, len) {
+        return None;
+    }
+    Some(DecodeReport {
+        parsed_size: len,
+        frame_size: len - 1,
     })
 }
 

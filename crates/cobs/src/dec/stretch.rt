@@ -33,7 +33,7 @@ pub(crate) fn write_zeros_at_codes(dest: &mut [u8], first: usize) -> (u8, u8)
 /// Decodes 2 to 65 bytes, each XORed with the sentinel, if none is one and there is room for as many but one. Returns
 /// how many bytes the last block misses. The bytes of `dest` after the output stay.
 #[inline(always)]
-pub(crate) fn decode_short(source: &[u8], dest: &mut [u8], sentinel: u8) -> Option<u8>
+pub(crate) fn decode_stretch(source: &[u8], dest: &mut [u8], sentinel: u8) -> Option<u8>
     ensures some { IfSome result (λ left. 0 < length source.now) }
     ensures nonzero { IfSome result (λ left. HasNoZero (xor_each sentinel source.now)) }
     ensures len { IfSome result (λ left. length (output (xor_each sentinel source.now)) + 1 ≡ length source.now) }

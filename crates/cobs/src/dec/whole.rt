@@ -1,38 +1,14 @@
 //! Decoding a whole frame into another buffer.
-ghost use Rattle.std.specs.Prelude.{◌≡◌, ◌<◌, ◌≤◌, List, length, ℕ, IfOk};
+ghost use Rattle.std.specs.Prelude.{◌≡◌, ◌≤◌, List, length, ℕ, None, IfSome};
 ghost use Rattle.cobs.specs.Overwritten.{overwritten};
-ghost use Rattle.cobs.specs.Decode.{result_of_decode, first_output, outcome_result};
+ghost use Rattle.cobs.specs.Decode.{result_of_decode, first_output};
 ghost use Rattle.cobs.specs.Grammar.{Reads};
 ghost use Rattle.cobs.specs.Headline.{IsPiece, ReportsMessage};
-ghost use Rattle.cobs.specs.Piece.{output};
-ghost use Rattle.cobs.specs.Stream.{head, outcome_of};
 
 use crate::dec::UnbufferedDecoder;
-use crate::dec::stretch::{decode_short, message_len};
+use crate::dec::stretch::{decode_stretch, message_len};
 use crate::error::{DecodeError, DecodeReport};
-use crate::find::leading_zeros;
-
-/// Decodes what a source has in front of its first zero, where that begins with a code: returns how many bytes that is,
-/// if its output has room, and the result for it.
-#[inline(always)]
-fn decode_at_code(source: &[u8], dest: &mut [u8]) -> (usize, Result<usize, DecodeError>)
-    requires begun { 0 < length (head source.now) }
-    ensures within { result.0 ≤ length source.now }
-    ensures len { IfOk result.1 (λ size. result.0 ≡ length (head source.now)) }
-    ensures returned { result.1 ≡ outcome_result (outcome_of (head source.now) (length dest.old)) }
-    ensures buffer { dest.new ≡ overwritten dest.old (output (head source.now)) }
-{
-    if let Some(left) = decode_short(source, dest, 0) {
-        let len = source.len();
-        return (len, message_len(len - 1, left == 0));
-    }
-    let mut decoder = UnbufferedDecoder::new();
-    let len = decoder.take_run(dest, source, 0);
-    if len < source.len() && source[len] != 0 {
-        return (len, Err(DecodeError::TargetBufTooSmall));
-    }
-    (len, message_len(decoder.dest_idx, decoder.left == 0))
-}
+use crate::find::{leading_zeros, len_without_end};
 
 /// Decodes the first frame of the source into `dest`, and returns how many bytes were consumed and how many the
 /// message has.
@@ -69,6 +45,18 @@ pub fn decode(source: &[u8], dest: &mut [u8]) -> Result<DecodeReport, DecodeErro
     ensures only { IsPiece source.now → (m : List ℕ) → ReportsMessage result dest.new m
         → Reads source.now m × (length m ≤ length dest.old) }
 {
+    if let Some(result) = decode_short(source, dest) {
+        return result;
+    }
+    decode_long(source, dest)
+}
+
+/// Does what [`decode`] does, for any source: apart, so that a short frame doesn't pay for the registers that this needs.
+#[inline(never)]
+fn decode_long(source: &[u8], dest: &mut [u8]) -> Result<DecodeReport, DecodeError>
+    ensures returned { result ≡ result_of_decode source.now (length dest.old) }
+    ensures buffer { dest.new ≡ overwritten dest.old (first_output source.now) }
+{
     if source.is_empty() {
         return Err(DecodeError::EmptyFrame);
     }
@@ -76,10 +64,43 @@ pub fn decode(source: &[u8], dest: &mut [u8]) -> Result<DecodeReport, DecodeErro
     if start == source.len() {
         return Err(DecodeError::InvalidFrame { decoded_bytes: 0 });
     }
-    let (len, result) = decode_at_code(&source[start..], dest);
+    let rest = &source[start..];
+    let mut decoder = UnbufferedDecoder::new();
+    let len = decoder.take_run(dest, rest, 0);
+    if len < rest.len() && rest[len] != 0 {
+        return Err(DecodeError::TargetBufTooSmall);
+    }
     let parsed_size = (start + len + 1).min(source.len());
+    let result = message_len(decoder.dest_idx, decoder.left == 0);
     result.map(|frame_size| DecodeReport {
         parsed_size,
         frame_size,
     })
+}
+
+/// Does what [`decode`] does, or returns `None` and leaves `dest` as it was: [`decode`] asks this first, and it calls nothing,
+/// to be compiled into code that decodes small frames. Contracts leave open which sources it takes. They are those of 2 to
+/// 65 bytes that are no zeros, with or without a zero after them, if `dest` has room for all of these bytes but one.
+///
+/// ```
+/// let mut dest = [170; 3];
+/// assert!(rt; decode_short(b"\x03hi\0", &mut dest).is_some());
+/// assert_eq!(rt; &dest, b"hi\xaa");
+/// ```
+#[inline(always)]
+pub fn decode_short(source: &[u8], dest: &mut [u8]) -> Option<Result<DecodeReport, DecodeError>>
+    ensures returned { IfSome result (λ returned. returned ≡ result_of_decode source.now (length dest.old)) }
+    ensures buffer { IfSome result (λ returned. dest.new ≡ overwritten dest.old (first_output source.now)) }
+    ensures kept { result ≡ None → dest.new ≡ dest.old }
+{
+    if source.is_empty() {
+        return None;
+    }
+    let len = len_without_end(source, 0);
+    let left = decode_stretch(&source[..len], dest, 0)?;
+    let result = message_len(len - 1, left == 0);
+    Some(result.map(|frame_size| DecodeReport {
+        parsed_size: source.len(),
+        frame_size,
+    }))
 }

@@ -38,10 +38,8 @@ impl<'a> CobsDecoder<'a> {
     /// ```
     /// # use jcobs::proved::*;
     /// let mut decoder = CobsDecoder::new(&mut []);
-    /// assert_eq!(
-    ///     decoder.push(&[1, 0])?.map(|report| report.frame_size()),
-    ///     Some(0)
-    /// );
+    /// let size = decoder.push(&[1, 0])?.map(|report| report.frame_size());
+    /// assert_eq!(size, Some(0));
     /// # Ok::<(), Box<dyn std::error::Error>>(())
     /// ```
     pub fn new(dest: &'a mut [u8]) -> CobsDecoder<'a> {
@@ -92,10 +90,8 @@ impl<'a> CobsDecoder<'a> {
     /// let mut buffer = [0; 2];
     /// let mut decoder = CobsDecoder::new(&mut buffer);
     /// let bytes = [2, 7, 0, 2, 8, 0];
-    /// assert_eq!(
-    ///     decoder.push(&bytes)?.map(|report| report.parsed_size()),
-    ///     Some(3)
-    /// );
+    /// let taken = decoder.push(&bytes)?.map(|report| report.parsed_size());
+    /// assert_eq!(taken, Some(3));
     /// # Ok::<(), Box<dyn std::error::Error>>(())
     /// ```
     pub fn push(&mut self, bytes: &[u8]) -> Result<Option<DecodeReport>, PushError> {
@@ -220,10 +216,8 @@ impl CobsDecoderOwned {
     /// # #[cfg(feature = "alloc")] {
     /// let mut decoder = CobsDecoderOwned::new(8)?;
     /// assert_eq!(decoder.push(b"\x06hel"), Ok(None));
-    /// assert_eq!(
-    ///     decoder.push(b"lo\0")?.map(|report| report.frame_size()),
-    ///     Some(5)
-    /// );
+    /// let size = decoder.push(b"lo\0")?.map(|report| report.frame_size());
+    /// assert_eq!(size, Some(5));
     /// assert!(decoder.dest().starts_with(b"hello"));
     /// # }
     /// # Ok::<(), Box<dyn std::error::Error>>(())
@@ -240,10 +234,8 @@ impl CobsDecoderOwned {
     /// let mut decoder = CobsDecoderOwned::new(8)?;
     /// assert_eq!(decoder.push(&[9, 9]), Ok(None));
     /// decoder.reset();
-    /// assert_eq!(
-    ///     decoder.push(&[1, 0])?.map(|report| report.frame_size()),
-    ///     Some(0)
-    /// );
+    /// let size = decoder.push(&[1, 0])?.map(|report| report.frame_size());
+    /// assert_eq!(size, Some(0));
     /// # }
     /// # Ok::<(), Box<dyn std::error::Error>>(())
     /// ```

@@ -3,7 +3,7 @@
 
 use crate::proved::block::FULL_BLOCK_BYTES;
 use crate::proved::cobs_bytes::window::WIDE_WINDOW;
-use crate::proved::dec::stretch::{decode_short, kept_len, message_len};
+use crate::proved::dec::stretch::{decode_stretch, kept_len, message_len};
 use crate::proved::dec::{UnbufferedDecoder, decode};
 use crate::proved::error::{DecodeError, DecodeVecError};
 use crate::proved::find::{len_without_end, position_or_len};
@@ -60,7 +60,7 @@ pub fn decode_with_sentinel(
     let len = len_without_end(source, sentinel);
     // A broken frame is not to change the bytes behind what it gives, so a short one is decoded beside.
     let mut short = [0; WIDE_WINDOW];
-    if len <= dest.len() + 1 && decode_short(&source[..len], &mut short, sentinel) == Some(0) {
+    if len <= dest.len() + 1 && decode_stretch(&source[..len], &mut short, sentinel) == Some(0) {
         dest[..len - 1].copy_from_slice(&short[..len - 1]);
         return Ok(len - 1);
     }

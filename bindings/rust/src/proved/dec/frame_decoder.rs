@@ -8,10 +8,8 @@ use crate::proved::error::DecodeError;
 /// ```
 /// # use jcobs::proved::*;
 /// let mut decoder = CobsDecoderHeapless::<1>::new();
-/// assert_eq!(
-///     decoder.feed_piece(&[2, 7, 0]),
-///     Some((PieceEnd::Message(1), 3))
-/// );
+/// let end = decoder.feed_piece(&[2, 7, 0]);
+/// assert_eq!(end, Some((PieceEnd::Message(1), 3)));
 /// ```
 #[derive(Debug, Clone, Copy, PartialEq, Eq)]
 pub enum PieceEnd {
@@ -70,10 +68,8 @@ pub trait FrameDecoder {
     /// # use jcobs::proved::*;
     /// let mut decoder = CobsDecoderHeapless::<1>::new();
     /// assert_eq!(decoder.feed_piece(&[2]), None);
-    /// assert_eq!(
-    ///     decoder.feed_piece(&[7, 0, 1]),
-    ///     Some((PieceEnd::Message(1), 2))
-    /// );
+    /// let end = decoder.feed_piece(&[7, 0, 1]);
+    /// assert_eq!(end, Some((PieceEnd::Message(1), 2)));
     /// ```
     fn feed_piece(&mut self, stream: &[u8]) -> Option<(PieceEnd, usize)> {
         'by_byte: for (i, byte) in stream.iter().enumerate() {

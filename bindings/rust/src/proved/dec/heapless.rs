@@ -80,10 +80,8 @@ impl<const N: usize> CobsDecoderHeapless<N> {
     /// # use jcobs::proved::*;
     /// let mut decoder = CobsDecoderHeapless::<8>::new();
     /// assert_eq!(decoder.push(b"\x06hel"), Ok(None));
-    /// assert_eq!(
-    ///     decoder.push(b"lo\0")?.map(|report| report.frame_size()),
-    ///     Some(5)
-    /// );
+    /// let size = decoder.push(b"lo\0")?.map(|report| report.frame_size());
+    /// assert_eq!(size, Some(5));
     /// assert!(decoder.dest().starts_with(b"hello"));
     /// # Ok::<(), Box<dyn std::error::Error>>(())
     /// ```
@@ -98,10 +96,8 @@ impl<const N: usize> CobsDecoderHeapless<N> {
     /// let mut decoder = CobsDecoderHeapless::<8>::new();
     /// assert_eq!(decoder.push(&[9, 9]), Ok(None));
     /// decoder.reset();
-    /// assert_eq!(
-    ///     decoder.push(&[1, 0])?.map(|report| report.frame_size()),
-    ///     Some(0)
-    /// );
+    /// let size = decoder.push(&[1, 0])?.map(|report| report.frame_size());
+    /// assert_eq!(size, Some(0));
     /// # Ok::<(), Box<dyn std::error::Error>>(())
     /// ```
     pub fn reset(&mut self) {

@@ -22,7 +22,7 @@ pub(crate) fn write_zeros_at_codes(dest: &mut [u8], first: usize) -> (u8, u8) {
 /// Decodes 2 to 65 bytes, each XORed with the sentinel, if none is one and there is room for as many but one. Returns
 /// how many bytes the last block misses. The bytes of `dest` after the output stay.
 #[inline(always)]
-pub(crate) fn decode_short(source: &[u8], dest: &mut [u8], sentinel: u8) -> Option<u8> {
+pub(crate) fn decode_stretch(source: &[u8], dest: &mut [u8], sentinel: u8) -> Option<u8> {
     let len = source.len();
     if len < 2 || WIDE_WINDOW + 1 < len || dest.len() < len - 1 || source[0] == sentinel {
         return None;

@@ -18,12 +18,7 @@ pub(crate) const FULL: u8 = FULL_CODE as u8;
 /// let mut decoder = UnbufferedDecoder::new();
 /// assert_eq!(decoder.phase(), DecoderPhase::Idle);
 /// assert_eq!(decoder.push(&mut buffer, &[4, 7, 8]), Ok(None));
-/// let phase = DecoderPhase::Within {
-///     is_full: false,
-///     lacking: 1,
-///     written: 2,
-/// };
-/// assert_eq!(decoder.phase(), phase);
+/// assert!(matches!(decoder.phase(), DecoderPhase::Within { lacking: 1, .. }));
 /// ```
 #[derive(Debug, Clone, Copy, PartialEq, Eq)]
 pub enum DecoderPhase {
@@ -86,12 +81,8 @@ impl UnbufferedDecoder {
     /// ```
     /// # use jcobs::proved::*;
     /// let mut decoder = UnbufferedDecoder::new();
-    /// assert_eq!(
-    ///     decoder
-    ///         .push(&mut [], &[1, 0])?
-    ///         .map(|report| report.frame_size()),
-    ///     Some(0)
-    /// );
+    /// let report = decoder.push(&mut [], &[1, 0])?;
+    /// assert_eq!(report.map(|report| report.frame_size()), Some(0));
     /// # Ok::<(), Box<dyn std::error::Error>>(())
     /// ```
     pub const fn new() -> Self {
@@ -245,11 +236,8 @@ impl UnbufferedDecoder {
     /// # use jcobs::proved::*;
     /// let mut buffer = [0; 2];
     /// let mut decoder = UnbufferedDecoder::new();
-    /// let rejected = PushError {
-    ///     error: DecodeError::TargetBufTooSmall,
-    ///     parsed_size: 4,
-    /// };
-    /// assert_eq!(decoder.push(&mut buffer, &[4, 7, 8, 9, 0]), Err(rejected));
+    /// let rejected = decoder.push(&mut buffer, &[4, 7, 8, 9, 0]);
+    /// assert_eq!(rejected.map_err(|rejected| rejected.parsed_size), Err(4));
     /// assert_eq!(buffer, [7, 8]);
     /// ```
     pub fn push(
@@ -296,11 +284,8 @@ impl UnbufferedDecoder {
     /// # use jcobs::proved::*;
     /// let mut decoder = UnbufferedDecoder::new();
     /// let mut buffer = [0; 4];
-    /// let stream = b"\x06hello\0\x03hi\0";
-    /// assert_eq!(
-    ///     decoder.feed_piece(&mut buffer, stream),
-    ///     Some((PieceEnd::TooLong, 7))
-    /// );
+    /// let end = decoder.feed_piece(&mut buffer, b"\x06hello\0\x03hi\0");
+    /// assert_eq!(end, Some((PieceEnd::TooLong, 7)));
     /// ```
     pub fn feed_piece(&mut self, dest: &mut [u8], bytes: &[u8]) -> Option<(PieceEnd, usize)> {
         let mut taken = 0;

@@ -31,14 +31,8 @@ returns-clause-reads c = in_place_reads _ _ _ (returns-clause-answer c) (returns
 pub returns-clause-only : goal.returns-clause-only
 returns-clause-only c = in_place_only _ _ _ (returns-clause-answer c) (returns-clause-buffer c) c.has_none.ensures.bytes
 
-pub returns-then-decode_short_in_place-clause-answer : goal.returns-then-decode_short_in_place-clause-answer
-returns-then-decode_short_in_place-clause-answer c = grind (arith, eqb-false, front_is_head, in_place_report-decoded, length-take-le)
+pub returns-in-Some-clause-reads : goal.returns-in-Some-clause-reads
+returns-in-Some-clause-reads c = in_place_reads _ _ _ c.in-Some.ensures.returned c.in-Some.ensures.buffer c.has_none.ensures.bytes
 
-pub returns-then-decode_short_in_place-clause-buffer : goal.returns-then-decode_short_in_place-clause-buffer
-returns-then-decode_short_in_place-clause-buffer c = grind (arith, front_is_head)
-
-pub returns-then-decode_short_in_place-clause-reads : goal.returns-then-decode_short_in_place-clause-reads
-returns-then-decode_short_in_place-clause-reads c = in_place_reads _ _ _ (returns-then-decode_short_in_place-clause-answer c) (returns-then-decode_short_in_place-clause-buffer c) c.has_none.ensures.bytes
-
-pub returns-then-decode_short_in_place-clause-only : goal.returns-then-decode_short_in_place-clause-only
-returns-then-decode_short_in_place-clause-only c = in_place_only _ _ _ (returns-then-decode_short_in_place-clause-answer c) (returns-then-decode_short_in_place-clause-buffer c) c.has_none.ensures.bytes
+pub returns-in-Some-clause-only : goal.returns-in-Some-clause-only
+returns-in-Some-clause-only c = in_place_only _ _ _ c.in-Some.ensures.returned c.in-Some.ensures.buffer c.has_none.ensures.bytes

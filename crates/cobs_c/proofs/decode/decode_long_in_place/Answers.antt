@@ -4,7 +4,7 @@ use Rattle.cobs.specs.Stream.{head}
 use Rattle.cobs.specs.declared.DecodeError.TheVariants.{InvalidFrame}
 use Rattle.cobs_abi.specs.Answer.{result_by, head_end}
 use Rattle.cobs_c.proofs.HeadLemmas.{behind-kept, broken-within, head-drop, reported}
-use Rattle.cobs_c.proofs.decode.jcobs_decode_in_place.Goals as goal
+use Rattle.cobs_c.proofs.decode.decode_long_in_place.Goals as goal
 
 pub slice_bounds-first_sentinel-count : goal.slice_bounds-first_sentinel-count
 slice_bounds-first_sentinel-count c =
@@ -33,7 +33,7 @@ returns-in-Err-InvalidFrame c =
     let end : min (length old) (d + c.first_sentinel.result + 1) ≡ head_end old = omega (arith, len, head-drop d old b.1) in
     record {
       decodes = record {
-        returned = c.result_by-in-Err-InvalidFrame.ensures
+        returned = c.result_by-returned-in-Err-InvalidFrame.ensures
             ∙ ap (λ (k : ℕ). result_by k (length old) (Err (InvalidFrame d))) (c.with_zero.ensures ∙ end)
             ∙ ap (result_by (head_end old) (length old)) (reported (length (head old)) (result_in_place old) (InvalidFrame d) is);
         buffer = c.decode_in_place_report.ensures.buffer;

@@ -1,0 +1,69 @@
+use Rattle.std.proofs.Common.{◌≡◌, ◌≢◌, ◌<◌, ◌+◌, ◌-◌, ℕ, zero, suc, min, List, [], ◌∷◌, length, take, get_or, Some, refl, sym, ap, ◌∙◌, subst, arith, rules, length-take-le}
+use Rattle.std.proofs.lemmas.List.Elements.{All-head}
+use Rattle.cobs.specs.Decode.{leading_zeros, report_result, outcome_result, output_of}
+use Rattle.cobs.specs.Grammar.{HasNoZero}
+use Rattle.cobs.specs.Overwritten.{overwritten}
+use Rattle.cobs.specs.Piece.{output}
+use Rattle.cobs.specs.Sentinel.{xor_each}
+use Rattle.cobs.specs.Stream.{first_piece, head, outcome_of}
+use Rattle.cobs.proofs.format.SentinelLemmas.{xor_each-zero}
+use Rattle.cobs.proofs.decoding.HeadLemmas.{front_is_head}
+use Rattle.cobs.proofs.decoding.OutcomeLemmas.{first_piece_head}
+use Rattle.cobs.proofs.decoding.OutcomeSteps.{answer-by, result-by, always, overwritten-front}
+use Rattle.cobs.proofs.dec.whole.decode_short.Goals as goal
+
+-- a source that begins with a code
+at_once : (source : List ℕ) → 0 < length source → get_or source 0 0 ≢ 0 → first_piece source ≡ Some (head source)
+at_once [] some nz = absurd (omega arith)
+at_once (byte ∷ bytes) some nz = first_piece_head byte bytes nz
+
+no_leading : (source : List ℕ) → get_or source 0 0 ≢ 0 → leading_zeros source ≡ 0
+no_leading [] nz = refl
+no_leading (byte ∷ bytes) nz = grind arith
+
+nonzero_first : (source : List ℕ) (n : ℕ) → 0 < length (take n source) → HasNoZero (take n source) → get_or source 0 0 ≢ 0
+nonzero_first source zero some none = absurd (omega arith)
+nonzero_first [] (suc n) some none = absurd (omega arith)
+nonzero_first (byte ∷ source) (suc n) some none = All-head (λ b. b ≢ 0) byte (take n source) none
+
+-- a frame that was decoded
+module _ (c : goal.After-map) where
+  abbrev source : List ℕ
+  source = c.args.source.now
+
+  abbrev len : ℕ
+  len = c.len_without_end-len.result
+
+  abbrev p : List ℕ
+  p = xor_each 0 (take len source)
+
+  same : p ≡ take len source
+  same = xor_each-zero (take len source)
+
+  is : p ≡ head source
+  is = same ∙ front_is_head source len c.len_without_end-len.ensures.within (rw same at c.in_ok-left.ensures.nonzero) c.len_without_end-len.ensures.stop
+
+  long : length (take len source) ≡ len
+  long = length-take-le len source c.len_without_end-len.ensures.within
+
+  first : get_or source 0 0 ≢ 0
+  first = nonzero_first source len c.in_ok-left.ensures.some (rw same at c.in_ok-left.ensures.nonzero)
+
+  found : first_piece source ≡ Some (head source)
+  found = at_once source (omega (arith, c.in_ok-left.ensures.some, long, c.len_without_end-len.ensures.within)) first
+
+pub returns-clause-returned : goal.returns-clause-returned
+returns-clause-returned c =
+    let e = c.in_ok-left.ensures in
+    let answer : c.map.result ≡ report_result (length (source c)) c.message_len-result.result = search rules in
+    let parsed : length (source c) ≡ min (length (source c)) (leading_zeros (source c) + len c + 1) = omega (arith, no_leading (source c) (first c), c.len_without_end-len.ensures.last) in
+    answer ∙ answer-by (source c) (head (source c)) _ _ (len c) _ (omega (arith, e.some, long c, c.len_without_end-len.ensures.within)) (found c) parsed
+    (subst (λ (l : List ℕ). c.message_len-result.result ≡ outcome_result (outcome_of l (length c.args.dest.now))) (is c)
+    (result-by (p c) _ _ _ _ (omega (arith, e.some, ap length (same c))) (omega (arith, e.len, e.room)) (omega (arith, e.len, long c)) e.left c.message_len-result.ensures.whole c.message_len-result.ensures.broken))
+    (always _ (sym (long c) ∙ sym (ap length (same c)) ∙ ap length (is c)))
+
+pub returns-clause-buffer : goal.returns-clause-buffer
+returns-clause-buffer c =
+    let e = c.in_ok-left.ensures in
+    overwritten-front _ _ (output (p c)) (length (take (len c) (source c)) - 1) c.decode_stretch.auto.dest (omega (arith, e.room)) e.rest e.begins
+    ∙ ap (λ (l : List ℕ). overwritten c.args.dest.now (output l)) (is c) ∙ ap (λ (l : _). overwritten c.args.dest.now (output_of l)) (sym (found c))

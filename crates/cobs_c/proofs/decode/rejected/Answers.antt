@@ -1,0 +1,30 @@
+use Rattle.std.proofs.Common.{◌≡◌, ℕ, List, Err, sym, ap, ◌∙◌, length, arith}
+use Rattle.cobs.specs.Decode.{len_through_piece, outcome_result, result_of_decode}
+use Rattle.cobs.specs.Stream.{outcome_of}
+use Rattle.cobs_abi.specs.Answer.{result_by}
+use Rattle.cobs_abi.specs.declared.answer.Answer.{Answer}
+use Rattle.cobs_abi.proofs.RoomLemmas.{too_long-output, too_small-only}
+use Rattle.cobs_c.proofs.SourceLemmas.{result-some, report_result-err}
+use Rattle.cobs_c.proofs.decode.rejected.Goals as goal
+
+pub returns : goal.returns
+returns c message message' long written =
+    let source : List ℕ = c.args.source.now in
+    let n : ℕ = length message in
+    let found = c.in-Some.ensures.some in
+    let answered = c.result_by-returned.ensures ∙ ap (λ (k : ℕ). result_by c.in-Some.end k (Err c.args.error)) (sym long) in
+    let asked = c.requires ∙ ap (result_of_decode source) (sym long) in
+    record {
+      none = λ is. absurd (let e = sym found.1 ∙ is in cc);
+      some = λ p is.
+          let same : found.0 ≡ p = let e = sym found.1 ∙ is in cc in
+          let rejected = report_result-err (len_through_piece source p) (outcome_result (outcome_of p n)) c.args.error (asked ∙ result-some source p n is) in
+          answered ∙ ap (λ (k : ℕ). result_by k n (Err c.args.error)) (found.2 ∙ ap (len_through_piece source) same) ∙ ap (result_by (len_through_piece source p) n) rejected;
+      buffer = written;
+      room = λ enough small.
+          let p : List ℕ = found.0 in
+          let rejected = report_result-err (len_through_piece source p) (outcome_result (outcome_of p n)) c.args.error (asked ∙ result-some source p n found.1) in
+          let error = too_small-only c.in-Some.end n c.args.error (sym (ap (λ (a : Answer). a.status) answered) ∙ small) in
+          let longer = too_long-output p n (sym (ap Err error) ∙ rejected) in
+          absurd (omega (arith, longer, c.law_1.ensures.within p, found.3, enough));
+    }
