@@ -22,13 +22,13 @@ BUILDS = {
     "c": (
         "cobs_c",
         "make -C bindings/c prebuilt",
-        ["bindings/c/prebuilt.sh"],
+        ["bindings/c/prebuilt.sh", "bindings/c/kit.sh"],
         ["bindings/c/prebuilt/*-linux/libjcobs.a"],
     ),
     "device": (
         "cobs_small",
         "PREBUILT=1 bindings/c/device/build.sh",
-        ["bindings/c/device/build.sh", "bindings/c/device/calls/*", "bindings/c/include/jcobs.h", "bindings/c/source/simplify.py"],
+        ["bindings/c/device/build.sh", "bindings/c/kit.sh", "bindings/c/device/calls/*", "bindings/c/include/jcobs.h", "bindings/c/source/simplify.py"],
         ["bindings/c/device/src/*/*", "bindings/c/source/cobs_small.ll"],
     ),
     "web": (

@@ -22,26 +22,12 @@ if [ "${PREBUILT:-}" = 1 ] && [ $# -gt 0 ]; then
 fi
 [ $# -gt 0 ] || set -- thumbv6m-none-eabi thumbv7em-none-eabi riscv32imac-unknown-none-elf
 
-links() { # FROM TO BUT..: a folder of links to what is in another, but for these names
-    mkdir -p "$2"
-    for it in "$1"/*; do
-        name=${it##*/}
-        case " $3 " in *" $name "*) ;; *) ln -sf "$it" "$2/$name" ;; esac
-    done
-}
-
-rm -rf "$build/kit" "$build/module.bc"
-links "$kit" "$build/kit" 'bin toolchain'
-links "$kit/bin" "$build/kit/bin" 'rt rtlib.py'
-cp "$kit/bin/rt" "$kit/bin/rtlib.py" "$build/kit/bin/"
-links "$kit/toolchain" "$build/kit/toolchain" bin
-links "$kit/toolchain/bin" "$build/kit/toolchain/bin" clang
-cat >"$build/kit/toolchain/bin/clang" <<SCRIPT
-#!/bin/sh
+rm -rf "$build/module.bc"
+mkdir -p "$build"
+"$here/../kit.sh" "$build/kit" <<SCRIPT
 for word; do case \$word in *.bc) cp "\$word" "$build/module.bc" ;; esac; done
-exec "$clang" "\$@"
+exec "\$CLANG" "\$@"
 SCRIPT
-chmod +x "$build/kit/toolchain/bin/clang"
 (cd "$crate" && "$build/kit/bin/rt" lib --cpu x86-64) >"$build/rt.log" 2>&1 || {
     tail "$build/rt.log"
     exit 1
