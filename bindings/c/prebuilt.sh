@@ -11,17 +11,16 @@ folder=${1:-prebuilt}
 
 # Intel's processors from Skylake to Cascade Lake decode a jump anew each time if it touches a multiple of 32 bytes, so that a
 # loop may take a fifth longer, as it happens to lie. For x86-64 clang keeps jumps off these places.
-mkdir -p build
-./kit.sh build/kit <<'SCRIPT'
+./kit.sh build/flags/kit <<'SCRIPT'
 exec "$CLANG" -mbranches-within-32B-boundaries "$@"
 SCRIPT
 for arch in x86_64 aarch64; do
     rt=rt
-    [ "$arch" = aarch64 ] || rt=$PWD/build/kit/bin/rt
+    [ "$arch" = aarch64 ] || rt=$PWD/build/flags/kit/bin/rt
     (cd "$crate" && "$rt" lib --target "$arch-unknown-linux-gnu")
     install -D -m 644 "$crate/out/libcobs_c.a" "$folder/$arch-linux/libjcobs.a"
 done
-rm -rf build/kit
+rm -rf build/flags
 [ $# -eq 0 ] || exit 0
 (cd prebuilt && sha256sum ./*-linux/libjcobs.a | sed 's|\./||') >prebuilt.new
 mv prebuilt.new prebuilt/SHA256SUMS

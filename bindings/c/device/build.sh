@@ -23,16 +23,15 @@ fi
 [ $# -gt 0 ] || set -- thumbv6m-none-eabi thumbv7em-none-eabi riscv32imac-unknown-none-elf
 
 rm -rf "$build/module.bc"
-mkdir -p "$build"
-"$here/../kit.sh" "$build/kit" <<SCRIPT
+"$here/../kit.sh" "$build/keep/kit" <<SCRIPT
 for word; do case \$word in *.bc) cp "\$word" "$build/module.bc" ;; esac; done
 exec "\$CLANG" "\$@"
 SCRIPT
-(cd "$crate" && "$build/kit/bin/rt" lib --cpu x86-64) >"$build/rt.log" 2>&1 || {
+(cd "$crate" && "$build/keep/kit/bin/rt" lib --cpu x86-64) >"$build/rt.log" 2>&1 || {
     tail "$build/rt.log"
     exit 1
 }
-rm -rf "$build/kit"
+rm -rf "$build/keep"
 
 # The proved functions get names of their own, and lose what is said of x86-64.
 "$clang" --no-default-config -S -emit-llvm -Xclang -disable-llvm-passes -x ir "$build/module.bc" -o - |

@@ -210,8 +210,8 @@ else.4.i:                                         ; preds = %start
   %r10.i = icmp ne i64 %r8.i, 0
   %r16.i = zext i1 %r10.i to i64
   %r4.0.i = add nuw nsw i64 %r6.i, %r16.i
-  %r23.i53 = icmp ult i64 %r19.i, %r4.0.i
-  br i1 %r23.i53, label %"cobs_abi::encoding::encode_within.exit", label %"cobs::max_encoding_overhead.exit.i"
+  %r23.i57 = icmp ult i64 %r19.i, %r4.0.i
+  br i1 %r23.i57, label %"cobs_abi::encoding::encode_within.exit", label %"cobs::max_encoding_overhead.exit.i"
 
 "cobs::max_encoding_overhead.exit.i":             ; preds = %"cobs::max_encoding_overhead.exit.thread", %"cobs::max_encoding_overhead.exit"
   %common.ret.op.i.i = phi i64 [ 1, %"cobs::max_encoding_overhead.exit" ], [ %r4.0.i, %"cobs::max_encoding_overhead.exit.thread" ]
@@ -263,19 +263,33 @@ join.6.i:                                         ; preds = %join.3.i8
   br label %loop.2.i
 
 "cobs::enc::in_place::encode_in_place.exit":      ; preds = %loop.2.i
-  br i1 %r4.i.sroa.12.0, label %"cobs_abi::encoding::encode_within.exit", label %join.3.i20
+  %r29.i = icmp ult i64 %r4.i.sroa.0.0, %a2
+  br i1 %r29.i, label %then.1.i21, label %"cobs::enc::blocks::close.exit"
 
-join.3.i20:                                       ; preds = %"cobs::enc::in_place::encode_in_place.exit"
-  %r22.i = getelementptr inbounds nuw i8, ptr %a1, i64 %r4.i.sroa.0.0
-  store i8 %r4.i.sroa.9.0, ptr %r22.i, align 1
-  %r27.i = zext i8 %r4.i.sroa.9.0 to i64
-  %r30.i = add i64 %r4.i.sroa.0.0, %r27.i
+then.1.i21:                                       ; preds = %"cobs::enc::in_place::encode_in_place.exit"
+  br i1 %r4.i.sroa.12.0, label %then.4.i24, label %join.6.i22
+
+then.4.i24:                                       ; preds = %then.1.i21
+  %r42.i = getelementptr inbounds nuw i8, ptr %a1, i64 %r4.i.sroa.0.0
+  %r44.i25 = load i8, ptr %r42.i, align 1
+  br label %join.6.i22
+
+join.6.i22:                                       ; preds = %then.4.i24, %then.1.i21
+  %r11.0.i = phi i8 [ %r44.i25, %then.4.i24 ], [ %r4.i.sroa.9.0, %then.1.i21 ]
+  %r51.i23 = getelementptr inbounds nuw i8, ptr %a1, i64 %r4.i.sroa.0.0
+  store i8 %r11.0.i, ptr %r51.i23, align 1
+  br label %"cobs::enc::blocks::close.exit"
+
+"cobs::enc::blocks::close.exit":                  ; preds = %"cobs::enc::in_place::encode_in_place.exit", %join.6.i22
+  %r65.i = zext i8 %r4.i.sroa.9.0 to i64
+  %r68.i = select i1 %r4.i.sroa.12.0, i64 0, i64 %r65.i
+  %common.ret.op.i20 = add i64 %r68.i, %r4.i.sroa.0.0
   br label %"cobs_abi::encoding::encode_within.exit"
 
-"cobs_abi::encoding::encode_within.exit":         ; preds = %join.3.i20, %"cobs::enc::in_place::encode_in_place.exit", %"cobs::max_encoding_overhead.exit.thread", %start, %"cobs::max_encoding_overhead.exit"
-  %r0.sroa.0.0 = phi i32 [ 2, %"cobs::max_encoding_overhead.exit.thread" ], [ 2, %"cobs::max_encoding_overhead.exit" ], [ 2, %start ], [ 0, %"cobs::enc::in_place::encode_in_place.exit" ], [ 0, %join.3.i20 ]
-  %r0.sroa.6.0 = phi i64 [ 0, %"cobs::max_encoding_overhead.exit.thread" ], [ 0, %"cobs::max_encoding_overhead.exit" ], [ 0, %start ], [ %a3, %"cobs::enc::in_place::encode_in_place.exit" ], [ %a3, %join.3.i20 ]
-  %r0.sroa.8.0 = phi i64 [ 0, %"cobs::max_encoding_overhead.exit.thread" ], [ 0, %"cobs::max_encoding_overhead.exit" ], [ 0, %start ], [ %r4.i.sroa.0.0, %"cobs::enc::in_place::encode_in_place.exit" ], [ %r30.i, %join.3.i20 ]
+"cobs_abi::encoding::encode_within.exit":         ; preds = %"cobs::max_encoding_overhead.exit.thread", %start, %"cobs::max_encoding_overhead.exit", %"cobs::enc::blocks::close.exit"
+  %r0.sroa.0.0 = phi i32 [ 0, %"cobs::enc::blocks::close.exit" ], [ 2, %"cobs::max_encoding_overhead.exit" ], [ 2, %start ], [ 2, %"cobs::max_encoding_overhead.exit.thread" ]
+  %r0.sroa.6.0 = phi i64 [ %a3, %"cobs::enc::blocks::close.exit" ], [ 0, %"cobs::max_encoding_overhead.exit" ], [ 0, %start ], [ 0, %"cobs::max_encoding_overhead.exit.thread" ]
+  %r0.sroa.8.0 = phi i64 [ %common.ret.op.i20, %"cobs::enc::blocks::close.exit" ], [ 0, %"cobs::max_encoding_overhead.exit" ], [ 0, %start ], [ 0, %"cobs::max_encoding_overhead.exit.thread" ]
   store i32 %r0.sroa.0.0, ptr %a0, align 1
   %r0.sroa.4.0.a0.sroa_idx = getelementptr inbounds nuw i8, ptr %a0, i64 4
   store i32 0, ptr %r0.sroa.4.0.a0.sroa_idx, align 1

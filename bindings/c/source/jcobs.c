@@ -165,7 +165,7 @@ jcobs_answer jcobs_encode_in_place(void *buffer, size_t buffer_len, size_t messa
     unsigned char *const to = (unsigned char *)buffer;
     jcobs_answer answer;
     size_t n, n2, i, i2, n3, n4;
-    unsigned char byte, byte2, byte3;
+    unsigned char byte, byte2, byte3, byte4;
     int is, is2;
 
     if (buffer_len < message_len) {
@@ -222,16 +222,17 @@ jcobs_answer jcobs_encode_in_place(void *buffer, size_t buffer_len, size_t messa
         is = is2;
         i2++;
     }
-    if (is) {
-        answer.status = JCOBS_OK;
-        answer.consumed = message_len;
-        answer.length = i;
-        return answer;
+    if (i < buffer_len) {
+        if (is) {
+            byte4 = to[i];
+        } else {
+            byte4 = byte;
+        }
+        to[i] = byte4;
     }
-    to[i] = byte;
     answer.status = JCOBS_OK;
     answer.consumed = message_len;
-    answer.length = i + (size_t)byte;
+    answer.length = (is ? 0 : (size_t)byte) + i;
     return answer;
 }
 
