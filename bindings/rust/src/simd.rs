@@ -381,8 +381,8 @@ mod tests {
             }
         }
         assert_eq!(Simd::from_array(vector.0).0, bytes);
-        let lesser: Vec<u8> = bytes.iter().map(|b| (*b).min(byte)).collect();
-        assert_eq!(vector.simd_min(splat).0[..], lesser[..]);
+        let lesser = vector.0.map(|each| each.min(byte));
+        assert_eq!(vector.simd_min(splat).0, lesser);
     }
 
     /// Each width from 1 to 64.

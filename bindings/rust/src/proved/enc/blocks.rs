@@ -263,7 +263,6 @@ pub(crate) fn append(source: &[u8], dest: &mut [u8], progress: EncoderProgress) 
 // The room is asked for first: else compilers ask whether the block is full in the caller's loop of single bytes, which takes
 // up to twice the time in the Rust crate with link-time optimization.
 #[inline(always)]
-#[inline]
 pub(crate) fn close(dest: &mut [u8], progress: EncoderProgress) -> usize {
     let EncoderProgress { index, code, .. } = progress;
     if index < dest.len() {
