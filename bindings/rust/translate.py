@@ -59,6 +59,7 @@ REWORDED = {
     " state to the next.": "[`FrameReader::next_frame`] panics if a read says that it gave more than 64 bytes.",
     " Contracts see it as its decoder and the bytes that it has read and not yet fed to the decoder.": "",
     "Contracts see it as the bytes of its buffer and its phase. ": "",
+    "[`decode_short`](crate::decode_short)": "`decode_short`",
 }
 # Calls that are `const fn` in the crate `cobs`, or called by one.
 CONST = {"max_encoding_overhead", "max_encoding_length", "UnbufferedDecoder::new", "UnbufferedEncoder::new"}

@@ -145,7 +145,7 @@ pub fn decode_in_place_report(buf: &mut [u8]) -> Result<DecodeReport, DecodeErro
 }
 
 /// Does what [`decode_in_place_report`] does, or returns `None` and leaves the buffer as it was: that call asks this first, as
-/// [`decode`](crate::decode) asks [`decode_short`](crate::decode_short). Contracts leave open which buffers it takes. They
+/// [`decode`](crate::decode) asks `decode_short`. Contracts leave open which buffers it takes. They
 /// are frames of 2 to 65 bytes, with or without a zero after them.
 ///
 /// ```
