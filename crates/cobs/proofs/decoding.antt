@@ -3,7 +3,6 @@ pub mod OutcomeLemmas
 pub mod PieceLemmas
 pub mod PieceCuts
 pub mod TailLemmas
-pub mod JointLemmas
 pub mod HeadLemmas
 pub mod OutcomeSteps
 pub mod KeptLemmas

@@ -2,3 +2,4 @@
 pub mod Taking
 pub mod FeedsQuietly
 pub mod KeptBytes
+pub mod Walk

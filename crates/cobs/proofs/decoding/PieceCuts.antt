@@ -1,6 +1,5 @@
 -- A piece is its first part and what follows it: what that says of its output and of its last part.
-use Rattle.std.proofs.Common.{◌≡◌, ◌≢◌, ℕ, zero, suc, ◌+◌, ◌-◌, ◌/◌, ◌⊎◌, ◌<◌, ◌≤◌, eqb, List, [], ◌∷◌, ◌++◌, length, take, drop, if◌then◌else◌, ◌==◌, refl, ap, ◌∙◌, arith, length-append, take_all, length-take-le, length-drop, inl, inr}
-use Rattle.std.proofs.lemmas.Bool.{cases_lt, cases_eq, ne_eqb, eq-eqb}
+use Rattle.std.proofs.Common.{◌≡◌, ℕ, ◌-◌, ◌<◌, ◌≤◌, eqb, List, [], ◌∷◌, ◌++◌, length, take, drop, if◌then◌else◌, ◌==◌, refl, ap, ◌∙◌, arith, take_all, length-drop}
 use Rattle.cobs.specs.Grammar.{bytes_of, joint, message_of, last_of}
 use Rattle.cobs.specs.Piece.{last_part, is_whole, missing, parts, parts_after, output}
 use Rattle.cobs.proofs.format.FrameLemmas.{parts_after-drop, parts_after-past}
@@ -27,9 +26,6 @@ pub output-more : (code : ℕ) (bytes : List ℕ) → code - 1 < length bytes �
 unfolding output parts parts_after
 output-more code bytes more = grind (arith, parts_after-drop, length-drop, message_of-cons, parts_after-some)
 
-pub joint-length : (code : ℕ) → (code ≡ 255) × (length (joint_of code) ≡ 0) ⊎ (code ≢ 255) × (length (joint_of code) ≡ 1)
-joint-length code = grind (arith, cases_eq, eq-eqb, ne_eqb)
-
 pub output-empty : (p : List ℕ) → length p ≡ 0 → output p ≡ []
 unfolding output parts parts_after
 output-empty [] e = refl
@@ -49,26 +45,3 @@ last_part-last code bytes short = grind (arith, parts_after-past, take_all)
 pub is_whole-of : (p : List ℕ) → 0 < length p → is_whole p ≡ eqb (missing (last_part p)) 0
 unfolding is_whole
 is_whole-of p h = grind arith
-
--- an output is shorter than its piece, by one byte and at most one in 255
-record Shorter (p : List ℕ) : Type 0 where
-  less : length (output p) + 1 ≤ length p
-  long : length p ≤ length (output p) + 1 + length p / 255
-
-shorter_step : (code : ℕ) (bytes : List ℕ) → code - 1 < length bytes → Shorter (drop (code - 1) bytes) → Shorter (code ∷ bytes)
-shorter_step code bytes more rest = record {
-  less = grind (arith, output-more, length-append, joint_of, length-take-le, length-drop, joint-length, rest.less);
-  long = grind (arith, output-more, length-append, joint_of, length-take-le, length-drop, joint-length, rest.long);
-}
-
-shorter_by : (n : ℕ) (p : List ℕ) → length p ≤ n → 0 < length p → Shorter p
-shorter_by n [] h some = absurd (omega arith)
-shorter_by zero (code ∷ bytes) h some = absurd (omega arith)
-shorter_by (suc n) (code ∷ bytes) h some = elim (cases_lt (code - 1) (length bytes)) [
-  | inl more ↦ let d = length-drop (code - 1) bytes in shorter_step code bytes more (shorter_by n (drop (code - 1) bytes) (omega arith) (omega arith))
-  | inr last ↦ let o = ap length (output-last code bytes last) in record { less = omega arith; long = omega arith }
-]
-
--- a short piece has no full part before its last one
-pub output_short : (p : List ℕ) → 0 < length p → length p < 255 → length (output p) + 1 ≡ length p
-output_short p some few = let s = shorter_by (length p) p (omega arith) some in omega arith

@@ -30,10 +30,6 @@ outcome_result-fits p n fits = grind (arith, le-leb)
 
 -- THE FIRST PIECE
 
--- a length that is some other one, which isn't 0
-pub above_zero : {k n : ℕ} → k ≡ n → n ≢ 0 → 0 < k
-above_zero is some = omega (arith, is, some)
-
 module _ (source : List ℕ) (n : ℕ) (room : n ≡ length source) where
   abbrev Rejected : Result (List ℕ) DecodeError → DecodeError → Type 0
   Rejected returned error = (returned ≡ Err error) × (error ≢ TargetBufTooSmall)

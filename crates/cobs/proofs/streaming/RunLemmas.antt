@@ -1,10 +1,9 @@
 -- Bytes of a block, taken at once, are as many feeds.
-use Rattle.std.proofs.Common.{◌≡◌, ◌≢◌, ℕ, zero, suc, ◌+◌, ◌-◌, ◌<◌, ◌≤◌, Bool, false, cond, eqb, List, [], ◌∷◌, ◌++◌, length, take, drop, replicate, set, get_or, sym, ap, ◌∙◌, subst, refl, arith, append_assoc, None, Ok}
-use Rattle.std.proofs.lemmas.List.{length-replicate, set-append_right, length_push, drop_more, take_more_set, drop-set-lt, length-set, take-append-drop, length-take-le, take-take, drop-take, drop-drop}
-use Rattle.std.proofs.Math.Seq.{set-append_seam}
+use Rattle.std.proofs.Common.{◌≡◌, ◌≢◌, ℕ, zero, suc, ◌+◌, ◌-◌, ◌<◌, ◌≤◌, Bool, List, [], ◌∷◌, ◌++◌, length, take, drop, set, get_or, sym, ap, ◌∙◌, subst, refl, arith, append_assoc, None, Ok}
+use Rattle.std.proofs.lemmas.List.{drop_more, take_more_set, drop-set-lt, take-append-drop, take-take, drop-take, drop-drop}
 use Rattle.cobs.specs.declared.dec.unbuffered.UnbufferedDecoder.{UnbufferedDecoder}
 use Rattle.std.proofs.lemmas.List.Elements.{All-head, All-tail, All-take, All-drop}
-use Rattle.std.proofs.lemmas.Bool.{ne_eqb, lt-ltb, cases_lt}
+use Rattle.std.proofs.lemmas.Bool.{ne_eqb, cases_lt}
 use Rattle.cobs.specs.Grammar.{HasNoZero}
 use Rattle.cobs.specs.Feed.{Phase, Within, Overlong, written_in}
 use Rattle.cobs.specs.FeedPiece.{TakesPiece, end_reported}
@@ -21,42 +20,8 @@ over count buffer xs = take count buffer ++ (xs ++ drop (count + length xs) buff
 pub over-nil : (count : ℕ) (buffer : List ℕ) → over count buffer [] ≡ buffer
 over-nil count buffer = ap (λ (k : ℕ). take count buffer ++ drop k buffer) (omega arith) ∙ take-append-drop count buffer
 
-over-cons : (count x : ℕ) (xs buffer : List ℕ) → count < length buffer → over (count + 1) (set buffer count x) xs ≡ over count buffer (x ∷ xs)
+pub over-cons : (count x : ℕ) (xs buffer : List ℕ) → count < length buffer → over (count + 1) (set buffer count x) xs ≡ over count buffer (x ∷ xs)
 over-cons count x xs buffer room = grind (arith, take_more_set, append_assoc, drop-set-lt)
-
--- one more byte behind what was written at a place
-pub over-push : (base : ℕ) (buffer xs : List ℕ) (x : ℕ) → base + length xs < length buffer → set (over base buffer xs) (base + length xs) x ≡ over base buffer (xs ++ x ∷ [])
-over-push base buffer xs x room =
-    let front : length (take base buffer) ≡ base = length-take-le base buffer (omega arith) in
-    let one : length (xs ++ x ∷ []) ≡ length xs + 1 = length_push xs x in
-    set-append_right (take base buffer) (xs ++ drop (base + length xs) buffer) base (base + length xs) x front (omega arith)
-    ∙ ap (λ (k : ℕ). take base buffer ++ set (xs ++ drop (base + length xs) buffer) k x) (omega arith)
-    ∙ ap (λ (l : List ℕ). take base buffer ++ set (xs ++ l) (length xs) x) (drop_more buffer (base + length xs) 0 room)
-    ∙ ap (λ (l : List ℕ). take base buffer ++ l) (set-append_seam xs _ (drop (base + length xs + 1) buffer) x
-    ∙ sym (append_assoc xs (x ∷ []) (drop (base + length xs + 1) buffer))
-    ∙ ap (λ (k : ℕ). (xs ++ x ∷ []) ++ drop k buffer) (omega arith))
-
--- THE BULK LEMMA: bytes of a block that fit are fed by one copy
-pub FeedsQuietly-within : (xs buffer : List ℕ) (full : Bool) (left count : ℕ) → HasNoZero xs → length xs ≤ left → count + length xs ≤ length buffer
-    → FeedsQuietly buffer (Within full left count) xs (over count buffer xs) (Within full (left - length xs) (count + length xs))
-FeedsQuietly-within [] buffer full left count h l r = grind (arith, over-nil)
-FeedsQuietly-within (x ∷ xs) buffer full zero count h l r = absurd (omega arith)
-FeedsQuietly-within (x ∷ xs) buffer full (suc left) count h l r =
-    let nz : 0 < x = omega (arith, All-head (λ b. b ≢ 0) x xs h) in
-    let room : count < length buffer = omega arith in
-    let again : FeedsQuietly (set buffer count x) (Within full left (count + 1)) xs (over (count + 1) (set buffer count x) xs) (Within full (left - length xs) (count + 1 + length xs))
-    = FeedsQuietly-within xs (set buffer count x) full left (count + 1) (All-tail (λ b. b ≢ 0) x xs h) (omega arith) (omega (arith, length-set buffer count x)) in
-    grind (arith, ne_eqb, lt-ltb, over-cons)
-
--- blocks without bytes behind a block of which nothing is missing
-FeedsQuietly-ones : (n : ℕ) (buffer : List ℕ) (count : ℕ) → count + n ≤ length buffer
-    → FeedsQuietly buffer (Within false 0 count) (replicate n 1) (over count buffer (replicate n 0)) (Within false 0 (count + n))
-FeedsQuietly-ones zero buffer count r = grind (arith, over-nil)
-FeedsQuietly-ones (suc n) buffer count r =
-    let room : count < length buffer = omega arith in
-    let again : FeedsQuietly (set buffer count 0) (Within false 0 (count + 1)) (replicate n 1) (over (count + 1) (set buffer count 0) (replicate n 0)) (Within false 0 (count + 1 + n))
-    = FeedsQuietly-ones n (set buffer count 0) (count + 1) (omega (arith, length-set buffer count 0)) in
-    grind (arith, lt-ltb, over-cons)
 
 -- the first of the bytes behind a place
 from_here : (bytes : List ℕ) (i r : ℕ) → i < length bytes → take (suc r) (drop i bytes) ≡ get_or bytes i 0 ∷ take r (drop (i + 1) bytes)
@@ -96,11 +61,6 @@ piece-over {buffer₀} {buffer} {phase₀} bytes i (suc r) within some t =
 pub begun : (full : Bool) (left count : ℕ) → 0 < left + count → phase_with full left count ≡ Within full left count
 begun full left count h = grind arith
 
--- bytes of the open block that fit, written behind what was written
-pub run_written : (full : Bool) (left count run : ℕ) (dest bytes : List ℕ) → 0 < left → run ≤ left → count + run ≤ length dest → run ≤ length bytes → HasNoZero (take run bytes)
-    → FeedsQuietly dest (phase_with full left count) (take run bytes) (over count dest (take run bytes)) (phase_with full (left - run) (count + run))
-run_written full left count run dest bytes some most room within nz = grind (arith, length-take-le, FeedsQuietly-within, begun)
-
 -- the bytes behind what was written stay
 quiet_step : (buffer : List ℕ) (phase : Phase) (x : ℕ) → x ≢ 0 → next_result (length buffer) phase x ≡ Ok None → let n = written_in (next_phase (length buffer) phase x) in
     (written_in phase ≤ n) × ((k : ℕ) → n ≤ k → drop k (next_buffer buffer phase x) ≡ drop k buffer)
@@ -130,31 +90,3 @@ pub rest_read : (buffer buffer' : List ℕ) (inner inner' : UnbufferedDecoder) (
 rest_read buffer buffer' inner inner' read at end order within nz f past =
     rest_kept _ buffer buffer' inner inner' at (part_nonzero 0 (at - read) (end - read) (drop read buffer) nz (omega arith)) f past
     ∙ ap (λ (k : ℕ). drop k buffer) (omega arith) ∙ sym (drop-drop (at - read) read buffer)
-
--- bytes of the open block, which a decoder put behind what it wrote
-pub block_fed : (inner : UnbufferedDecoder) (run : ℕ) (dest bytes new : List ℕ) → inner.over ≡ false → run ≤ inner.left → inner.dest_idx + run ≤ length dest → run ≤ length bytes
-    → HasNoZero (take run bytes) → new ≡ take inner.dest_idx dest ++ (take run bytes ++ drop (inner.dest_idx + run) dest)
-    → FeedsQuietly dest (phase_of inner) (take run bytes) new (phase_of (record { dest_idx = inner.dest_idx + run; left = inner.left - run; code = inner.code; over = inner.over }))
-block_fed inner zero dest bytes new going most room within nz is = (is ∙ ap (λ (k : ℕ). take inner.dest_idx dest ++ drop k dest) (omega arith) ∙ take-append-drop inner.dest_idx dest, grind arith)
-block_fed inner (suc run) dest bytes new going most room within nz is =
-    let put : new ≡ over inner.dest_idx dest (take (suc run) bytes)
-    = is ∙ ap (λ (k : ℕ). take inner.dest_idx dest ++ (take (suc run) bytes ++ drop (inner.dest_idx + k) dest)) (sym (length-take-le (suc run) bytes within)) in
-    rw (put, going) (run_written (eqb inner.code 255) inner.left inner.dest_idx (suc run) dest bytes (omega arith) most room within nz)
-
--- a row of n blocks without bytes
-pub row_fed : (n : ℕ) (inner : UnbufferedDecoder) (dest bytes new : List ℕ) → inner.over ≡ false → inner.left ≡ 0 → inner.code ≡ 1 → inner.dest_idx + n ≤ length dest → take n bytes ≡ replicate n 1
-    → new ≡ take inner.dest_idx dest ++ (replicate n 0 ++ drop (inner.dest_idx + n) dest)
-    → FeedsQuietly dest (phase_of inner) (take n bytes) new (phase_of (record { dest_idx = inner.dest_idx + n; left = inner.left; code = inner.code; over = inner.over }))
-row_fed n inner dest bytes new going none empty room ones is =
-    let at : (count : ℕ) → phase_of (record { dest_idx = count; left = inner.left; code = inner.code; over = inner.over }) ≡ Within false 0 count
-    = λ count. ap (λ (v : Bool). cond v Overlong (phase_with (eqb inner.code 255) inner.left count)) going ∙ ap (λ (k : ℕ). phase_with (eqb k 255) inner.left count) empty
-    ∙ ap (λ (k : ℕ). phase_with false k count) none in
-    let written : new ≡ over inner.dest_idx dest (replicate n 0)
-    = is ∙ ap (λ (k : ℕ). take inner.dest_idx dest ++ (replicate n 0 ++ drop (inner.dest_idx + k) dest)) (sym (length-replicate n 0)) in
-    let fed = FeedsQuietly-ones n dest inner.dest_idx room in
-    let to : List ℕ = over inner.dest_idx dest (replicate n 0) in
-    let later : Phase = phase_of (record { dest_idx = inner.dest_idx + n; left = inner.left; code = inner.code; over = inner.over }) in
-    subst (λ (l : List ℕ). FeedsQuietly dest (phase_of inner) l new later) (sym ones)
-    (subst (λ (b : List ℕ). FeedsQuietly dest (phase_of inner) (replicate n 1) b later) (sym written)
-    (subst (λ (p : Phase). FeedsQuietly dest p (replicate n 1) to later) (sym (at inner.dest_idx))
-    (subst (λ (p : Phase). FeedsQuietly dest (Within false 0 inner.dest_idx) (replicate n 1) to p) (sym (at (inner.dest_idx + n))) fed)))

@@ -1,21 +1,19 @@
--- A stretch without zeros behind a block boundary, fed as a whole: its output is written, and the phase is that of its last part.
-use Rattle.std.proofs.Common.{◌≡◌, ◌≢◌, ℕ, zero, suc, ◌+◌, ◌-◌, ◌<◌, ◌≤◌, Bool, true, false, cond, eqb, List, [], ◌∷◌, ◌++◌, length, take, drop, refl, sym, ap, ◌∙◌, subst, arith, append_assoc, length-append, length-drop, None, Ok}
-use Rattle.std.proofs.lemmas.List.{append-nil, length_push, length-take-le, drop_all, drop-drop, take_rest}
+-- Bytes behind an open block in which no full block ends, fed as a whole: what is written is what they are from code to code.
+use Rattle.std.proofs.Common.{◌≡◌, ◌≢◌, ℕ, zero, suc, ◌+◌, ◌-◌, ◌<◌, ◌≤◌, Bool, false, eqb, List, [], ◌∷◌, ◌++◌, length, set, take, drop, refl, sym, ap, ◌∙◌, subst, arith, inl, inr, length-take-le, length-drop, length-set, replicate, take-append-drop}
+use Rattle.std.proofs.lemmas.List.{append-nil, drop_all, drop-drop, length-replicate, take_rest}
 use Rattle.std.proofs.Math.Seq.{drop-append_seam, take-add, take-append_seam}
-use Rattle.std.proofs.lemmas.List.Elements.{All-cons, All-head, All-tail}
-use Rattle.std.proofs.lemmas.Bool.{ne_eqb, eqb-true, lt-ltb, cases_lt}
+use Rattle.std.proofs.lemmas.List.Elements.{All-head, All-tail, All-replicate}
+use Rattle.std.proofs.lemmas.Bool.{ne_eqb, lt-ltb, cases_eq}
 use borrow.Rule.Slice.PartMut.{put_mid}
-use Rattle.cobs.specs.Grammar.{HasNoZero, code_of, is_full}
-use Rattle.cobs.specs.Piece.{output, last_part, missing}
-use Rattle.cobs.specs.Feed.{Phase, Within, Overlong}
+use Rattle.cobs.specs.Grammar.{HasNoZero}
+use Rattle.cobs.specs.Feed.{Phase, Within}
 use Rattle.cobs.specs.declared.dec.unbuffered.UnbufferedDecoder.{UnbufferedDecoder}
 use Rattle.cobs.specs.Fields.Decoders.{phase_of, phase_with}
 use Rattle.cobs.specs.Internal.FeedsQuietly.{FeedsQuietly}
-use Rattle.cobs.specs.Step.{grows, next_phase, next_buffer, next_result, end_result, error_if_overlong}
-use Rattle.cobs.proofs.decoding.PieceLemmas.{output-one, last_part-one, output-push_more, output-push_next, last_part-push_next, missing-push_more, is_full-push_more}
-use Rattle.cobs.proofs.decoding.PieceCuts.{last_part-more, last_part-last, output-last, output-more, joint_of, output_short}
-use Rattle.cobs.proofs.streaming.LastPiece.{output-grows}
-use Rattle.cobs.proofs.streaming.RunLemmas.{over, over-nil, over-push, begun}
+use Rattle.cobs.specs.Internal.Walk.{walked}
+use Rattle.cobs.specs.Step.{next_phase, next_buffer}
+use Rattle.cobs.proofs.streaming.RunLemmas.{over, over-nil, over-cons, begun}
+use Rattle.cobs.proofs.streaming.WalkLemmas.{length-walked, walked-past}
 
 -- the bytes are fed in two parts
 pub FeedsQuietly-append : (xs ys buffer buffer' buffer'' : List ℕ) (phase phase' phase'' : Phase)
@@ -29,73 +27,26 @@ pub joined : (bytes buffer buffer' buffer'' : List ℕ) (phase phase' phase'' : 
     → FeedsQuietly buffer' phase' (take more (drop run bytes)) buffer'' phase'' → FeedsQuietly buffer phase (take (run + more) bytes) buffer'' phase''
 joined bytes buffer buffer' buffer'' phase phase' phase'' run more f g = grind (arith, take-add, FeedsQuietly-append)
 
-length-over : (base : ℕ) (buffer xs : List ℕ) → base + length xs ≤ length buffer → length (over base buffer xs) ≡ length buffer
-length-over base buffer xs room = omega (arith, length-append (take base buffer) (xs ++ drop (base + length xs) buffer), length-append xs (drop (base + length xs) buffer), length-take-le base buffer (omega arith), length-drop (base + length xs) buffer)
-
--- the phase behind the front q of a stretch whose output begins at base
-abbrev pub phase_at : ℕ → List ℕ → Phase
-phase_at base q = Within (is_full (last_part q)) (missing (last_part q)) (base + length (output q))
-
--- a byte behind a front of the stretch
-record Steps (base : ℕ) (buffer : List ℕ) (phase : Phase) (before q' : List ℕ) (x : ℕ) : Type 0 where
-  returned : next_result (length buffer) phase x ≡ Ok None
-  phase_is : next_phase (length buffer) phase x ≡ phase_at base q'
-  buffer_is : next_buffer (over base buffer before) phase x ≡ over base buffer (output q')
-
-result_if : (n : ℕ) (phase phase' : Phase) (x : ℕ) → x ≢ 0 → next_phase n phase x ≡ phase' → error_if_overlong phase' ≡ Ok None → next_result n phase x ≡ Ok None
-result_if n phase phase' x nz e o = ap (λ (v : Bool). cond v (end_result n phase) (error_if_overlong (next_phase n phase x))) (ne_eqb x 0 nz) ∙ ap error_if_overlong e ∙ o
-
-grown_phase : (n : ℕ) (full : Bool) (left count : ℕ) → count < n → grows n full left count ≡ Within full left (count + 1)
-grown_phase n full left count room = ap (λ (v : Bool). cond v (Within full left (count + 1)) Overlong) (lt-ltb count n room)
-
-pub within_same : (full full' : Bool) (left left' count count' : ℕ) → full ≡ full' → left ≡ left' → count ≡ count' → Within full left count ≡ Within full' left' count'
-within_same full full' left left' count count' f l c = ap (λ (v : Bool). Within v left count) f ∙ ap (λ (k : ℕ). Within full' k count) l ∙ ap (λ (k : ℕ). Within full' left' k) c
-
-step_at : (base : ℕ) (buffer : List ℕ) (c : ℕ) (q : List ℕ) (x : ℕ) (full : Bool) (left : ℕ) → is_full (last_part (c ∷ q)) ≡ full → missing (last_part (c ∷ q)) ≡ left → x ≢ 0
-    → base + length (output (c ∷ q ++ x ∷ [])) ≤ length buffer → Steps base buffer (Within full left (base + length (output (c ∷ q)))) (output (c ∷ q)) (c ∷ q ++ x ∷ []) x
-step_at base buffer c q x full (suc left) f l nz room =
-    grind (arith, output-push_more (c ∷ q) x, missing-push_more (c ∷ q) x, is_full-push_more (c ∷ q) x, length_push, ne_eqb, grown_phase, within_same, result_if, over, over-push)
-step_at base buffer c q x true zero f l nz room = grind (arith, output-push_next, append-nil, ne_eqb, within_same, last_part-push_next, result_if, over)
-step_at base buffer c q x false zero f l nz room = grind (arith, output-push_next, length_push, ne_eqb, grown_phase, within_same, last_part-push_next, result_if, over, over-push)
-
--- a stretch behind the front of it that was fed
-FeedsQuietly-on : (base : ℕ) (buffer : List ℕ) (c : ℕ) (q tail : List ℕ) → HasNoZero tail → base + length (output (c ∷ q ++ tail)) ≤ length buffer
-    → FeedsQuietly (over base buffer (output (c ∷ q))) (phase_at base (c ∷ q)) tail (over base buffer (output (c ∷ q ++ tail))) (phase_at base (c ∷ q ++ tail))
-FeedsQuietly-on base buffer c q [] h room = (ap (λ (z : List ℕ). over base buffer (output z)) (append-nil (c ∷ q)), ap (phase_at base) (append-nil (c ∷ q)))
-FeedsQuietly-on base buffer c q (x ∷ tail) h room =
-    let same : (c ∷ q ++ x ∷ []) ++ tail ≡ c ∷ q ++ x ∷ tail = append_assoc (c ∷ q) (x ∷ []) tail in
-    let long : length (over base buffer (output (c ∷ q))) ≡ length buffer = length-over base buffer (output (c ∷ q)) (omega (arith, output-grows (c ∷ q) (x ∷ tail))) in
-    let fits : base + length (output ((c ∷ q ++ x ∷ []) ++ tail)) ≤ length buffer = omega (arith, ap (λ (z : List ℕ). length (output z)) same) in
-    let s : Steps base buffer (phase_at base (c ∷ q)) (output (c ∷ q)) (c ∷ q ++ x ∷ []) x
-    = step_at base buffer c q x _ _ refl refl (All-head (λ b. b ≢ 0) x tail h) (omega (arith, output-grows (c ∷ q ++ x ∷ []) tail)) in
-    let again : FeedsQuietly (over base buffer (output (c ∷ q ++ x ∷ []))) (phase_at base (c ∷ q ++ x ∷ [])) tail (over base buffer (output ((c ∷ q ++ x ∷ []) ++ tail))) (phase_at base ((c ∷ q ++ x ∷ []) ++ tail))
-    = FeedsQuietly-on base buffer c (q ++ x ∷ []) tail (All-tail (λ b. b ≢ 0) x tail h) fits in
-    grind (arith, append_assoc, over, length-over, output-grows, step_at, All-head, All-tail)
-
-over-start : (base c : ℕ) (buffer : List ℕ) → over base buffer (output (c ∷ [])) ≡ buffer
-over-start base c buffer = ap (over base buffer) (output-one c) ∙ over-nil base buffer
-
-phase-start : (base c : ℕ) → phase_at base (c ∷ []) ≡ Within (eqb c 255) (c - 1) base
-phase-start base c = within_same _ _ _ _ _ _ (ap is_full (last_part-one c)) (ap missing (last_part-one c)) (omega (arith, ap length (output-one c)))
-
--- a full part that is whole has written bytes
-written_by : (n : ℕ) (p : List ℕ) → length p ≤ n → 0 < length p → is_full (last_part p) ≡ true → missing (last_part p) ≡ 0 → 0 < length (output p)
-written_by n [] h some f l = absurd (omega arith)
-written_by zero (code ∷ bytes) h some f l = absurd (omega arith)
-written_by (suc n) (code ∷ bytes) h some f l = grind (arith, cases_lt, length-drop, last_part-more, output-more, length-append, joint_of, eqb-true, last_part-last, output-last)
-
--- the phase behind a stretch, by the fields of a decoder
-phase_with-at : (base : ℕ) (p : List ℕ) (full : Bool) (left : ℕ) → 0 < length p → is_full (last_part p) ≡ full → missing (last_part p) ≡ left
-    → phase_with full left (base + length (output p)) ≡ Within full left (base + length (output p))
-phase_with-at base p full left h e q = grind (arith, begun, written_by)
-
--- THE RUN OF A DECODER
+-- behind an open block
+fed_walked : (bytes buffer : List ℕ) (code left count : ℕ) → HasNoZero bytes → (code ≡ 255 → length bytes ≤ left) → (left < length bytes → length bytes < 254) → count + length bytes ≤ length buffer
+    → let w = walked code left bytes in FeedsQuietly buffer (Within (eqb code 255) left count) bytes (over count buffer w.0) (Within (eqb w.1 255) w.2 (count + length bytes))
+fed_walked [] buffer code left count nz full few room = grind (arith, over-nil)
+fed_walked (x ∷ xs) buffer code (suc left) count nz full few room =
+    let some : 0 < x = omega (arith, All-head (λ b. b ≢ 0) x xs nz) in
+    let more : count < length buffer = omega arith in
+    let again = fed_walked xs (set buffer count x) code left (count + 1) (All-tail (λ b. b ≢ 0) x xs nz) (λ e. omega (arith, full e)) (λ h. omega (arith, few (omega arith))) (omega (arith, length-set buffer count x)) in
+    grind (arith, ne_eqb, lt-ltb, over-cons)
+fed_walked (x ∷ xs) buffer code zero count nz full few room =
+    let some : 0 < x = omega (arith, All-head (λ b. b ≢ 0) x xs nz) in
+    let more : count < length buffer = omega arith in
+    let w = walked x (x - 1) xs in
+    let again = fed_walked xs (set buffer count 0) x (x - 1) (count + 1) (All-tail (λ b. b ≢ 0) x xs nz) (λ e. omega (arith, few (omega arith))) (λ h. omega (arith, few (omega arith))) (omega (arith, length-set buffer count 0)) in
+    subst (λ (v : Bool). FeedsQuietly buffer (Within v zero count) (x ∷ xs) (over count buffer (0 ∷ w.0)) (Within (eqb w.1 255) w.2 (count + length (x ∷ xs)))) (sym (ne_eqb code 255 (λ e. absurd (omega (arith, full e)))))
+    (grind (arith, ne_eqb, lt-ltb, over-cons))
 
 -- n bytes that were written to the front of a part
 pub part_put : (at n : ℕ) (dest ys xs : List ℕ) → ys ≡ xs ++ drop n (take (length dest - at) (drop at dest)) → put_mid at (length dest - at) dest ys ≡ take at dest ++ (xs ++ drop (at + n) dest)
 part_put at n dest ys xs is = grind (arith, drop_all, length-drop, take_rest, drop-drop, append-nil)
-
--- THE OPEN BLOCK
 
 module _ (base : ℕ) (buffer xs : List ℕ) (room : base + length xs ≤ length buffer) where
   front-of : length (take base buffer) ≡ base
@@ -104,8 +55,8 @@ module _ (base : ℕ) (buffer xs : List ℕ) (room : base + length xs ≤ length
   behind : drop base (over base buffer xs) ≡ xs ++ drop (base + length xs) buffer
   behind = ap (λ (k : ℕ). drop k (over base buffer xs)) (sym front-of) ∙ drop-append_seam (take base buffer) (xs ++ drop (base + length xs) buffer)
 
-  -- a stretch that was copied behind the output so far
-  pub over-stretch : take (base + length xs - base) (drop base (over base buffer xs)) ≡ xs
+  -- bytes that were copied behind the output so far
+  over-stretch : take (base + length xs - base) (drop base (over base buffer xs)) ≡ xs
   over-stretch = ap (take (base + length xs - base)) behind ∙ ap (λ (k : ℕ). take k (xs ++ drop (base + length xs) buffer)) (omega arith) ∙ take-append_seam xs (drop (base + length xs) buffer)
 
   -- written over by as many bytes
@@ -118,43 +69,56 @@ module _ (base : ℕ) (buffer xs : List ℕ) (room : base + length xs ≤ length
       ∙ ap (λ (l : List ℕ). take base buffer ++ (ys ++ l)) (drop-append_seam xs (drop (base + length xs) buffer))
       ∙ ap (λ (k : ℕ). take base buffer ++ (ys ++ drop (base + k) buffer)) (sym same)
 
--- an open block that isn't full is like one whose code is one more than it is missing
-module _ (inner : UnbufferedDecoder) (len : ℕ) (before dest xs : List ℕ) (long : length xs ≡ len) (room : inner.dest_idx + len ≤ length before)
-    (copied : dest ≡ take inner.dest_idx before ++ (xs ++ drop (inner.dest_idx + len) before)) where
-  abbrev piece : List ℕ
-  piece = (inner.left + 1) ∷ take (inner.dest_idx + len - inner.dest_idx) (drop inner.dest_idx dest)
+-- what was copied is there
+pub copied-there : (at len : ℕ) (before dest xs : List ℕ) → at + len ≤ length before → length xs ≡ len → dest ≡ take at before ++ (xs ++ drop (at + len) before) → take len (drop at dest) ≡ xs
+copied-there at len before dest xs room long is =
+    ap (λ (l : List ℕ). take len (drop at l)) (is ∙ ap (λ (k : ℕ). take at before ++ (xs ++ drop (at + k) before)) (sym long))
+    ∙ ap (λ (k : ℕ). take k (drop at (over at before xs))) (omega arith) ∙ over-stretch at before xs (omega arith)
 
-  dest-is : dest ≡ over inner.dest_idx before xs
-  dest-is = copied ∙ ap (λ (k : ℕ). take inner.dest_idx before ++ (xs ++ drop (inner.dest_idx + k) before)) (sym long)
+-- a decoder takes bytes, and they are written as what they are from code to code
+module _ (inner : UnbufferedDecoder) (len : ℕ) (before xs : List ℕ) (room : inner.dest_idx + len ≤ length before) (long : length xs ≡ len)
+    (going : inner.over ≡ false) (full : inner.code ≡ 255 → len ≤ inner.left) (nz : HasNoZero xs) (some : 0 < len) (few : inner.left < len → len < 254) (ys : List ℕ) (code left : ℕ) (w : ◌≡◌ {A = List ℕ × ℕ × ℕ} (ys, code, left) (walked inner.code inner.left xs)) where
+  from : phase_of inner ≡ Within (eqb inner.code 255) inner.left inner.dest_idx
+  from = elim (cases_eq inner.code 255) [
+    | inl e ↦ rw going (begun (eqb inner.code 255) inner.left inner.dest_idx (omega (arith, full e)))
+    | inr other ↦ rw going (ap (λ (v : Bool). phase_with v inner.left inner.dest_idx) (ne_eqb inner.code 255 other) ∙ ap (λ (v : Bool). Within v inner.left inner.dest_idx) (sym (ne_eqb inner.code 255 other)))
+  ]
 
-  piece-is : piece ≡ (inner.left + 1) ∷ xs
-  piece-is =
-      ap (λ (k : ℕ). (inner.left + 1) ∷ take (inner.dest_idx + k - inner.dest_idx) (drop inner.dest_idx dest)) (sym long)
-      ∙ ap (λ (l : List ℕ). (inner.left + 1) ∷ take (inner.dest_idx + length xs - inner.dest_idx) (drop inner.dest_idx l)) dest-is
-      ∙ ap (λ (l : List ℕ). (inner.left + 1) ∷ l) (over-stretch inner.dest_idx before xs (omega arith))
+  pub open_fed : FeedsQuietly before (phase_of inner) xs (over inner.dest_idx before ys) (phase_of (record { dest_idx = inner.dest_idx + len; left = left; code = code; over = inner.over }))
+  open_fed =
+      let v = walked inner.code inner.left xs in
+      let to : phase_of (record { dest_idx = inner.dest_idx + len; left = left; code = code; over = inner.over }) ≡ Within (eqb v.1 255) v.2 (inner.dest_idx + length xs)
+      = rw going (begun (eqb code 255) left (inner.dest_idx + len) (omega arith)) ∙ ap (λ (t : List ℕ × ℕ × ℕ). Within (eqb t.1 255) t.2 (inner.dest_idx + len)) w ∙ ap (λ (k : ℕ). Within (eqb v.1 255) v.2 (inner.dest_idx + k)) (sym long) in
+      rw (from, to, ap (λ (t : List ℕ × ℕ × ℕ). t.0) w) (fed_walked xs before inner.code inner.left inner.dest_idx nz (λ e. omega (arith, full e)) (λ h. omega (arith, few (omega arith))) (omega arith))
 
-  pub open_nonzero : HasNoZero xs → HasNoZero piece
-  open_nonzero nz = subst HasNoZero (sym piece-is) (All-cons (λ b. b ≢ 0) (inner.left + 1) xs (omega arith) nz)
+  -- written over a copy of them
+  pub written_over : (dest : List ℕ) → dest ≡ over inner.dest_idx before xs → put_mid inner.dest_idx (inner.dest_idx + len - inner.dest_idx) dest ys ≡ over inner.dest_idx before ys
+  written_over dest is = ap (λ (l : List ℕ). put_mid inner.dest_idx (inner.dest_idx + len - inner.dest_idx) l ys) is ∙ ap (λ (k : ℕ). put_mid inner.dest_idx (inner.dest_idx + k - inner.dest_idx) (over inner.dest_idx before xs) ys) (sym long)
+      ∙ over-over inner.dest_idx before xs (omega arith) ys (ap (λ (t : List ℕ × ℕ × ℕ). length t.0) w ∙ length-walked inner.code inner.left xs)
 
-  pub open_fed : (code left : ℕ) (ys : List ℕ) → inner.over ≡ false → inner.code ≢ 255 → HasNoZero xs → inner.left < len → len < 254
-      → ys ≡ output piece → code ≡ code_of (last_part piece) → left ≡ missing (last_part piece)
-      → FeedsQuietly before (phase_of inner) xs (put_mid inner.dest_idx (inner.dest_idx + len - inner.dest_idx) dest ys)
-      (phase_of (record { dest_idx = inner.dest_idx + len; left = left; code = code; over = inner.over }))
-  open_fed code left ys going other nz more few ys-is code-is left-is =
-      let at : ℕ = inner.dest_idx in
-      let c : ℕ = inner.left + 1 in
-      let out : ys ≡ output (c ∷ xs) = ys-is ∙ ap output piece-is in
-      let short : length (output (c ∷ xs)) ≡ length xs = omega (arith, output_short (c ∷ xs)) in
-      let fed : FeedsQuietly (over at before (output (c ∷ []))) (phase_at at (c ∷ [])) xs (over at before (output (c ∷ xs))) (phase_at at (c ∷ xs))
-      = FeedsQuietly-on at before c [] xs nz (omega arith) in
-      let written : put_mid at (at + len - at) dest ys ≡ over at before (output (c ∷ xs))
-      = ap (λ (l : List ℕ). put_mid at (at + len - at) l ys) dest-is ∙ ap (λ (k : ℕ). put_mid at (at + k - at) (over at before xs) ys) (sym long)
-      ∙ over-over at before xs (omega arith) ys (ap length out ∙ short) ∙ ap (over at before) out in
-      let from : phase_at at (c ∷ []) ≡ Within false inner.left at = phase-start at c ∙ within_same _ _ _ _ _ _ (ne_eqb c 255 (λ e. omega arith)) (omega arith) refl in
-      let code-at : code ≡ code_of (last_part (c ∷ xs)) = code-is ∙ ap (λ (p : List ℕ). code_of (last_part p)) piece-is in
-      let left-at : left ≡ missing (last_part (c ∷ xs)) = left-is ∙ ap (λ (p : List ℕ). missing (last_part p)) piece-is in
-      let to : phase_with (eqb code 255) left (at + len) ≡ phase_at at (c ∷ xs)
-      = ap (λ (k : ℕ). phase_with (eqb code 255) left (at + k)) (sym (short ∙ long))
-      ∙ phase_with-at at (c ∷ xs) (eqb code 255) left (omega arith) (ap (λ (k : ℕ). eqb k 255) (sym code-at)) (sym left-at)
-      ∙ within_same _ _ _ _ _ _ (ap (λ (k : ℕ). eqb k 255) code-at) left-at refl in
-      grind (arith, over-start, ne_eqb)
+-- bytes of the open block
+pub block_fed : (inner : UnbufferedDecoder) (run : ℕ) (dest bytes new : List ℕ) → inner.over ≡ false → run ≤ inner.left → inner.dest_idx + run ≤ length dest → run ≤ length bytes
+    → HasNoZero (take run bytes) → new ≡ take inner.dest_idx dest ++ (take run bytes ++ drop (inner.dest_idx + run) dest)
+    → FeedsQuietly dest (phase_of inner) (take run bytes) new (phase_of (record { dest_idx = inner.dest_idx + run; left = inner.left - run; code = inner.code; over = inner.over }))
+block_fed inner zero dest bytes new going most room within nz is = (is ∙ ap (λ (k : ℕ). take inner.dest_idx dest ++ drop k dest) (omega arith) ∙ take-append-drop inner.dest_idx dest, grind arith)
+block_fed inner (suc run) dest bytes new going most room within nz is =
+    let xs : List ℕ = take (suc run) bytes in
+    let long : length xs ≡ suc run = length-take-le (suc run) bytes within in
+    rw (is ∙ ap (λ (k : ℕ). take inner.dest_idx dest ++ (xs ++ drop (inner.dest_idx + k) dest)) (sym long)) (open_fed inner (suc run) dest xs room long going (λ _. most) nz (omega arith) (λ h. absurd (omega arith)) xs inner.code (inner.left - suc run)
+    (ap (λ (k : ℕ). (xs, inner.code, inner.left - k)) (sym long) ∙ sym (walked-past inner.code inner.left xs (omega arith))))
+
+walked-ones : (n : ℕ) → walked 1 0 (replicate n 1) ≡ (replicate n 0, 1, 0)
+walked-ones zero = refl
+walked-ones (suc n) = ap (λ (t : List ℕ × ℕ × ℕ). (0 ∷ t.0, t.1, t.2)) (walked-ones n)
+
+ones-nonzero : (n : ℕ) → HasNoZero (replicate n 1)
+ones-nonzero n = All-replicate (λ b. b ≢ 0) n 1 (omega arith)
+
+-- a row of n blocks without bytes
+pub row_fed : (n : ℕ) (inner : UnbufferedDecoder) (dest bytes new : List ℕ) → 0 < n → n < 254 → inner.over ≡ false → inner.left ≡ 0 → inner.code ≡ 1 → inner.dest_idx + n ≤ length dest → take n bytes ≡ replicate n 1
+    → new ≡ take inner.dest_idx dest ++ (replicate n 0 ++ drop (inner.dest_idx + n) dest)
+    → FeedsQuietly dest (phase_of inner) (take n bytes) new (phase_of (record { dest_idx = inner.dest_idx + n; left = inner.left; code = inner.code; over = inner.over }))
+row_fed n inner dest bytes new some few going none empty room ones is =
+    rw (ones, is ∙ ap (λ (k : ℕ). take inner.dest_idx dest ++ (replicate n 0 ++ drop (inner.dest_idx + k) dest)) (sym (length-replicate {A = ℕ} n 0)))
+    (open_fed inner n dest (replicate n 1) room (length-replicate {A = ℕ} n 1) going (λ e. absurd (omega arith)) (ones-nonzero n) some (λ _. few) (replicate n 0) inner.code inner.left
+    (ap (λ (k : ℕ). (replicate n 0, k, inner.left)) empty ∙ ap (λ (k : ℕ). (replicate n 0, 1, k)) none ∙ sym (walked-ones n) ∙ ap (λ (k : ℕ). walked k 0 (replicate n 1)) (sym empty) ∙ ap (λ (k : ℕ). walked inner.code k (replicate n 1)) (sym none)))

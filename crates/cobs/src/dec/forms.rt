@@ -113,13 +113,9 @@ pub fn decode_vec(alloc: Global, source: &[u8]) -> Result<Vec<u8>, DecodeVecErro
         return Err(DecodeVecError::Decode(DecodeError::EmptyFrame));
     }
     let mut message = vec![in alloc; 0; source.len()].map_err(DecodeVecError::Memory)?;
-    match decode(source, &mut message) {
-        Ok(report) => {
-            message.truncate(report.frame_size());
-            Ok(message)
-        }
-        Err(error) => Err(DecodeVecError::Decode(error)),
-    }
+    let report = decode(source, &mut message).map_err(DecodeVecError::Decode)?;
+    message.truncate(report.frame_size());
+    Ok(message)
 }
 
 /// Returns the message of the frame at the front of the source, where the sentinel may be any byte, in a vector of
@@ -150,11 +146,7 @@ pub fn decode_vec_with_sentinel(
         return Err(DecodeVecError::Decode(DecodeError::EmptyFrame));
     }
     let mut message = vec![in alloc; 0; source.len()].map_err(DecodeVecError::Memory)?;
-    match decode_with_sentinel(source, &mut message, sentinel) {
-        Ok(len) => {
-            message.truncate(len);
-            Ok(message)
-        }
-        Err(error) => Err(DecodeVecError::Decode(error)),
-    }
+    let len = decode_with_sentinel(source, &mut message, sentinel).map_err(DecodeVecError::Decode)?;
+    message.truncate(len);
+    Ok(message)
 }

@@ -1,5 +1,5 @@
 //! Decoding a frame in its own buffer.
-ghost use Rattle.std.specs.Prelude.{All, ◌≡◌, ◌≢◌, ◌↔◌, ◌+◌, ◌-◌, ◌<◌, ◌≤◌, ◌++◌, ℕ, IsTrue, false, List, None, Ok, length, take, drop, IfSome, IfErr};
+ghost use Rattle.std.specs.Prelude.{◌≡◌, ◌≢◌, ◌+◌, ◌-◌, ◌<◌, ◌≤◌, ◌++◌, ℕ, IsTrue, false, List, None, Ok, length, take, drop, IfSome, IfErr};
 ghost use Rattle.cobs.specs.Overwritten.{overwritten};
 ghost use Rattle.cobs.specs.Decode.{head_result, in_place, result_in_place, in_place_report};
 ghost use Rattle.cobs.specs.Grammar.{HasNoZero, Reads};
@@ -66,13 +66,7 @@ impl UnbufferedDecoder {
             return WINDOW;
         }
         move_back(buffer, at, read, most);
-        self.dest_idx = at + most;
-        if most <= left {
-            self.left -= most as u8;
-        } else {
-            // What the open block is missing is what a code of one more would open.
-            (self.code, self.left) = write_zeros_at_codes(&mut buffer[at..at + most], left + 1);
-        }
+        self.take_copied(buffer, most);
         most
     }
 
@@ -102,7 +96,6 @@ impl UnbufferedDecoder {
 #[inline(never)]
 fn decode_blocks_in_place(buffer: &mut [u8], end: usize) -> Result<usize, DecodeError>
     requires within { end ≤ length buffer.old }
-    requires bytes { All (λ byte. byte < 256) buffer.old }
     requires nonzero { HasNoZero (take end buffer.old) }
     ensures returned { result ≡ head_result (take end buffer.old) }
     ensures buffer { buffer.new ≡ overwritten buffer.old (kept_output (take end buffer.old)) }
@@ -148,15 +141,6 @@ fn decode_stretch_in_place(buffer: &mut [u8], len: usize) -> bool
     true
 }
 
-/// Whether a buffer is empty. `bytes` restates that elements are below 256, for callers that later overwrite it.
-#[inline(always)]
-fn has_none(buffer: &[u8]) -> bool
-    ensures none { IsTrue result ↔ (length buffer.now ≡ 0) }
-    ensures bytes { All (λ byte. byte < 256) buffer.now }
-{
-    buffer.is_empty()
-}
-
 /// Decodes the frame at the front of the buffer in its own place, up to the first zero or the buffer's end, and returns
 /// how many bytes the frame and the message have.
 ///
@@ -189,7 +173,7 @@ pub fn decode_in_place_report(buf: &mut [u8]) -> Result<DecodeReport, DecodeErro
     ensures only { IsPiece buf.old → (m : List ℕ) → ReportsMessage result buf.new m → Reads buf.old m }
     ensures room { IfErr result (λ error. error ≢ TargetBufTooSmall) }
 {
-    if has_none(buf) {
+    if buf.is_empty() {
         return Err(DecodeError::EmptyFrame);
     }
     if let Some(report) = decode_short_in_place(buf) {

@@ -1,19 +1,17 @@
 //! What every decoder takes at once: bytes up to a zero, copied in stretches, and then a zero written at each code.
-ghost use Rattle.std.specs.Prelude.{IsTrue, ◌≡◌, ◌≢◌, ◌<◌, ◌≤◌, ◌+◌, ◌∷◌, [], length, take, slice_index, false, List, ℕ};
+ghost use Rattle.std.specs.Prelude.{IsTrue, ◌++◌, drop, ◌≡◌, ◌≢◌, ◌<◌, ◌≤◌, ◌+◌, ◌∷◌, [], length, take, slice_index, false, List, ℕ};
 ghost use Rattle.cobs.specs.Feed.{Overlong};
 ghost use Rattle.cobs.specs.Fields.Decoders.{phase_of};
+ghost use Rattle.cobs.specs.Grammar.{HasNoZero};
 ghost use Rattle.cobs.specs.Internal.FeedsQuietly.{FeedsQuietly};
 ghost use Rattle.cobs.specs.Sentinel.{xor_each};
 ghost use Rattle.cobs.specs.Step.{next_phase};
 
 use crate::block::FULL_BLOCK_BYTES;
-use crate::dec::stretch::write_zeros_at_codes;
+use crate::dec::stretch::{is_dense, write_zeros_at_codes, write_zeros_by_vector};
 use crate::dec::unbuffered::{FULL, UnbufferedDecoder};
 use cobs_bytes::lanes::{copy_to_zero, copy_windows, copy_xored_short};
 use cobs_bytes::window::{WIDE_WINDOW, WINDOW, is_all, write_row};
-
-/// So few bytes are fed one by one: a run takes some 130 instructions, however short it is.
-const BY_BYTE_MAX: usize = 4;
 
 impl UnbufferedDecoder {
     /// Takes a code behind a whole block, and writes the zero that joins the two.
@@ -81,6 +79,37 @@ impl UnbufferedDecoder {
         1 + copied
     }
 
+    /// Takes `len` bytes that are copied behind the output, none of them a zero, in which no full block ends.
+    #[inline(always)]
+    pub(crate) fn take_copied(&mut self, dest: &mut [u8], len: usize)
+        requires going { self.old.over ≡ false }
+        requires few { (0 < len) × (len < 254) }
+        requires full { self.old.code ≡ 255 → len ≤ self.old.left }
+        requires room { self.old.dest_idx + len ≤ length dest.old }
+        requires nonzero { HasNoZero (take len (drop self.old.dest_idx dest.old)) }
+        ensures fed { let at = self.old.dest_idx in (before xs : List ℕ) → at + len ≤ length before → length xs ≡ len
+            → dest.old ≡ take at before ++ (xs ++ drop (at + len) before)
+            → FeedsQuietly before (phase_of self.old) xs dest.new (phase_of self.new) }
+        ensures going { self.new.over ≡ false }
+        ensures written { self.new.dest_idx ≡ self.old.dest_idx + len }
+        ensures full { self.old.code ≡ 255 → self.new.code ≡ 255 }
+    {
+        let at = self.dest_idx;
+        let left = self.left as usize;
+        self.dest_idx = at + len;
+        if len <= left {
+            self.left -= len as u8;
+            return;
+        }
+        // What the open block is missing is what a code of one more would open.
+        let bytes = &mut dest[at..at + len];
+        if is_dense(bytes, left) {
+            (self.code, self.left) = write_zeros_by_vector(bytes, left + 1);
+        } else {
+            (self.code, self.left) = write_zeros_at_codes(bytes, left + 1);
+        }
+    }
+
     /// Takes up to 192 bytes before a zero, in which no full block ends. Returns how many: 0 if the first has no room.
     #[inline(always)]
     fn take_stretch(&mut self, dest: &mut [u8], bytes: &[u8], sentinel: u8) -> usize
@@ -95,19 +124,12 @@ impl UnbufferedDecoder {
             (slice_index (xor_each sentinel bytes.now) 0) ≡ Overlong }
     {
         let at = self.dest_idx;
-        let left = self.left as usize;
         let most = self.stretch_len(bytes.len().min(dest.len().saturating_sub(at)));
         if most == 0 {
             return 0;
         }
         let len = copy_to_zero(&bytes[..most], &mut dest[at..], sentinel);
-        self.dest_idx = at + len;
-        if len <= left {
-            self.left -= len as u8;
-        } else {
-            // What the open block is missing is what a code of one more would open.
-            (self.code, self.left) = write_zeros_at_codes(&mut dest[at..at + len], left + 1);
-        }
+        self.take_copied(dest, len);
         len
     }
 
@@ -129,13 +151,7 @@ impl UnbufferedDecoder {
         {
             return false;
         }
-        self.dest_idx = at + len;
-        let left = self.left as usize;
-        if len <= left {
-            self.left -= len as u8;
-        } else {
-            (self.code, self.left) = write_zeros_at_codes(&mut dest[at..at + len], left + 1);
-        }
+        self.take_copied(dest, len);
         true
     }
 
@@ -152,20 +168,18 @@ impl UnbufferedDecoder {
         ensures full { result ≡ 0 → next_phase (length dest.new) (phase_of self.new)
             (slice_index (xor_each sentinel bytes.now) 0) ≡ Overlong }
     {
-        if self.left != 0 {
-            return self.take_stretch(dest, bytes, sentinel);
-        }
-        if self.code == FULL || (bytes[0] ^ sentinel) as usize > WIDE_WINDOW {
-            return self.take_block(dest, bytes, sentinel);
-        }
-        let at = self.dest_idx;
-        if self.code == 1
-            && WINDOW <= bytes.len().min(dest.len().saturating_sub(at))
-            && is_all(bytes, 0, 1 ^ sentinel)
-        {
-            write_row(dest, at, 0);
-            self.dest_idx = at + WINDOW;
-            return WINDOW;
+        if self.left == 0 {
+            if self.code == FULL || (bytes[0] ^ sentinel) as usize > WIDE_WINDOW {
+                return self.take_block(dest, bytes, sentinel);
+            }
+            if self.code == 1
+                && WINDOW <= bytes.len().min(dest.len().saturating_sub(self.dest_idx))
+                && is_all(bytes, 0, 1 ^ sentinel)
+            {
+                write_row(dest, self.dest_idx, 0);
+                self.dest_idx += WINDOW;
+                return WINDOW;
+            }
         }
         self.take_stretch(dest, bytes, sentinel)
     }
@@ -185,12 +199,7 @@ impl UnbufferedDecoder {
             return 0;
         }
         // A copy, so that it stays in registers.
-        let mut here = UnbufferedDecoder {
-            dest_idx: self.dest_idx,
-            left: self.left,
-            code: self.code,
-            over: false,
-        };
+        let mut here = UnbufferedDecoder { ..*self };
         let mut run = 0;
         'by_step: while run < bytes.len() && bytes[run] ^ sentinel != 0 {
             let step = here.take_part(dest, &bytes[run..], sentinel);
@@ -199,21 +208,7 @@ impl UnbufferedDecoder {
                 break;
             }
         }
-        self.dest_idx = here.dest_idx;
-        self.left = here.left;
-        self.code = here.code;
+        *self = here;
         run
-    }
-
-    /// Does what `take_run` does, for the sentinel 0, if the bytes are more than a few.
-    #[inline(always)]
-    pub(crate) fn take_quiet(&mut self, dest: &mut [u8], bytes: &[u8]) -> usize
-        ensures within { result ≤ length bytes.now }
-        ensures fed { FeedsQuietly dest.old (phase_of self.old) (take result bytes.now) dest.new (phase_of self.new) }
-    {
-        if bytes.len() <= BY_BYTE_MAX {
-            return 0;
-        }
-        self.take_run(dest, bytes, 0)
     }
 }

@@ -1,41 +1,36 @@
-use Rattle.std.proofs.Common.{◌≡◌, ◌≢◌, ℕ, length, take, refl, sym, ap, ◌∙◌, Ok, rules}
+use Rattle.std.proofs.Common.{◌≡◌, ◌<◌, ℕ, length, take, refl, sym, ap, ◌∙◌, arith, Ok, Err, rules}
 use Rattle.std.proofs.lemmas.Bool.{eqb-false}
-use Rattle.cobs.specs.Decode.{decoded}
+use Rattle.cobs.specs.declared.error.DecodeError.{DecodeError}
+use Rattle.cobs.specs.declared.error.DecodeVecError.TheVariants.{Decode}
 use Rattle.cobs.proofs.decoding.HeadlineLemmas.{bytes_below}
 use Rattle.cobs.proofs.decoding.ReadsLemmas.{frame_piece}
 use Rattle.cobs.proofs.decoding.VectorHeadline.{decoded_reads, one_message, no_message, truncated}
-use Rattle.cobs.proofs.decoding.VectorSteps.{above_zero, decoded-rejected, decoded-message}
+use Rattle.cobs.proofs.decoding.VectorSteps.{decoded-rejected, decoded-message}
 use Rattle.cobs.proofs.dec.forms.decode_vec.Goals as goal
 
-pub returns-in-Ok : goal.returns-in-Ok
-returns-in-Ok c =
-    let some : length c.args.source.now ≢ 0 = eqb-false _ 0 (sym c.is_empty.ensures ∙ c.if-is_empty.false) in
-    let long : length c.deref_mut.result.now ≡ length c.args.source.now = search rules in
+pub returns-clause-message : goal.returns-clause-message
+returns-clause-message c =
+    let is : c.decode.result ≡ Ok c.in_ok-report.report = search rules in
     let new : length c.decode.new.dest ≡ length c.deref_mut.result.now = c.decode.auto.dest in
     let items = c.truncate.ensures.items ∙ truncated c.decode.new.dest _ _ _ (new ∙ c.deref_mut.ensures.len) ∙ ap (λ (k : ℕ). take k c.decode.new.dest) c.frame_size.ensures.size in
-    let is : decoded c.args.source.now ≡ Ok c.truncate.new.self.items =
-    decoded-message c.args.source.now _ long c.in-Ok.report c.deref_mut.result.now c.decode.new.dest (above_zero refl some) refl (sym c.in-Ok.is ∙ c.decode.ensures.answer) c.decode.ensures.buffer
-    ∙ sym (ap Ok items) in
-    let stated = decoded_reads c.args.source.now (bytes_below _ c.type_inv.source) in
-    record {
-      message = is;
-      refused = tt;
-      empty = λ none. absurd (some (ap length none));
-      room = tt;
-      reads = λ found m r. one_message is ((stated m (frame_piece r)).1 r);
-      only = λ piece m same. (stated m piece).0 (is ∙ ap Ok same);
-    }
+    decoded-message c.args.source.now (length c.deref_mut.result.now) (search rules) c.in_ok-report.report _ _ (grind (arith, eqb-false)) refl (sym is ∙ c.decode.ensures.answer) c.decode.ensures.buffer ∙ sym (ap Ok items)
 
-pub returns-in-Err : goal.returns-in-Err
-returns-in-Err c =
-    let some : length c.args.source.now ≢ 0 = eqb-false _ 0 (sym c.is_empty.ensures ∙ c.if-is_empty.false) in
-    let long : length c.deref_mut.result.now ≡ length c.args.source.now = search rules in
-    let is = decoded-rejected c.args.source.now _ long c.in-Err.error (above_zero refl some) (sym c.in-Err.is ∙ c.decode.ensures.answer) in
-    record {
+pub returns-clause-reads : goal.returns-clause-reads
+returns-clause-reads c found m r = one_message (returns-clause-message c) ((decoded_reads c.args.source.now (bytes_below _ c.type_inv.source) m (frame_piece r)).1 r)
+
+pub returns-clause-only : goal.returns-clause-only
+returns-clause-only c piece m same = (decoded_reads c.args.source.now (bytes_below _ c.type_inv.source) m piece).0 (returns-clause-message c ∙ ap Ok same)
+
+pub returns-in_err-report : goal.returns-in_err-report
+returns-in_err-report c =
+    let some : 0 < length c.args.source.now = grind (arith, eqb-false) in
+    let is : (error : DecodeError) × (c.decode.result ≡ Err error) × (c.from_residual-in_err-report.result ≡ Err (Decode error)) = search rules in
+    let no = decoded-rejected c.args.source.now (length c.deref_mut.result.now) (search rules) is.0 some (sym is.1 ∙ c.decode.ensures.answer) in
+    rw is.2 (record {
       message = tt;
-      refused = is.0;
-      empty = λ none. absurd (some (ap length none));
-      room = λ e. is.1 (cc);
-      reads = λ found m r. absurd (no_message is.0 ((decoded_reads c.args.source.now (bytes_below _ c.type_inv.source) m (frame_piece r)).1 r));
+      refused = no.0;
+      empty = λ none. absurd (omega (arith, ap length none));
+      room = λ same. no.1 (cc);
+      reads = λ found m r. absurd (no_message no.0 ((decoded_reads c.args.source.now (bytes_below _ c.type_inv.source) m (frame_piece r)).1 r));
       only = λ piece m e. absurd e;
-    }
+    })

@@ -1,4 +1,4 @@
-use Rattle.std.proofs.Common.{◌≡◌, refl, ◌+◌, ◌-◌, ◌<◌, ◌∙◌, ◌++◌, ℕ, List, take, drop, ap, sym, subst, arith, length-take, length-drop, length-take-le}
+use Rattle.std.proofs.Common.{◌≡◌, refl, ◌+◌, ◌-◌, ◌<◌, ◌∙◌, ◌++◌, ℕ, List, take, drop, ap, sym, subst, arith, length-take, length-drop, length-take-le, rules}
 use Rattle.std.proofs.lemmas.List.{take-take}
 use Rattle.std.proofs.lemmas.List.Elements.{All-take}
 use Rattle.std.proofs.Math.Seq.{take-add}
@@ -11,6 +11,7 @@ use Rattle.cobs.specs.Piece.{last_part, missing, kept_output}
 use Rattle.cobs.specs.Sentinel.{xor_each}
 use Rattle.cobs.specs.Internal.FeedsQuietly.{FeedsQuietly}
 use Rattle.cobs.proofs.format.SentinelLemmas.{xor_each-zero}
+use Rattle.cobs.proofs.decoding.HeadlineLemmas.{bytes_below}
 use Rattle.cobs.proofs.streaming.RunLemmas.{part_nonzero, rest_read}
 use Rattle.cobs.proofs.streaming.QuietLemmas.{quiet, quiet-at}
 use Rattle.cobs.proofs.streaming.KeptQuiet.{kept_fed, tail_left}
@@ -57,7 +58,7 @@ pub kept_len-len-requires-clause-left : goal.kept_len-len-requires-clause-left
 kept_len-len-requires-clause-left c =
     let at = (goal.at.kept_len-len-requires-clause-left c).After-take_in_place in
     let l = length-take-le (tail at) (old at) (omega arith) in
-    omega (arith, left at, tail_left (take (tail at) (old at)) c.args.end (omega arith) (All-take (λ b. b < 256) (tail at) (old at) c.requires.bytes), length-take (c.args.end - tail at) (drop (tail at) (new at)), length-drop (tail at) (new at))
+    omega (arith, left at, tail_left (take (tail at) (old at)) c.args.end (omega arith) (All-take (λ b. b < 256) (tail at) (old at) (bytes_below _ (search rules))), length-take (c.args.end - tail at) (drop (tail at) (new at)), length-drop (tail at) (new at))
 
 pub kept_len-len-requires-clause-nonzero : goal.kept_len-len-requires-clause-nonzero
 kept_len-len-requires-clause-nonzero c = let at = (goal.at.kept_len-len-requires-clause-nonzero c).After-take_in_place in subst HasNoZero (sym (bytes-are at)) (last at)

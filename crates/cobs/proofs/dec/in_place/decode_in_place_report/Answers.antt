@@ -1,7 +1,7 @@
-use Rattle.std.proofs.Common.{arith, length-take-le}
+use Rattle.std.proofs.Common.{arith, rules, length-take-le}
 use Rattle.std.proofs.lemmas.Bool.{eqb-false}
 use Rattle.cobs.proofs.decoding.HeadLemmas.{front_is_head}
-use Rattle.cobs.proofs.decoding.HeadlineLemmas.{in_place_reads, in_place_only}
+use Rattle.cobs.proofs.decoding.HeadlineLemmas.{bytes_below, in_place_reads, in_place_only}
 use Rattle.cobs.proofs.decoding.OutcomeSteps.{in_place_report-rejected, in_place_report-decoded}
 use Rattle.cobs.proofs.dec.in_place.decode_in_place_report.Goals as goal
 
@@ -13,10 +13,10 @@ pub returns-in_err-frame_size-clause-buffer : goal.returns-in_err-frame_size-cla
 returns-in_err-frame_size-clause-buffer c = grind (arith, front_is_head)
 
 pub returns-in_err-frame_size-clause-reads : goal.returns-in_err-frame_size-clause-reads
-returns-in_err-frame_size-clause-reads c = in_place_reads _ _ _ (returns-in_err-frame_size-clause-answer c) (returns-in_err-frame_size-clause-buffer c) c.has_none.ensures.bytes
+returns-in_err-frame_size-clause-reads c = in_place_reads _ _ _ (returns-in_err-frame_size-clause-answer c) (returns-in_err-frame_size-clause-buffer c) (bytes_below _ (search rules))
 
 pub returns-in_err-frame_size-clause-only : goal.returns-in_err-frame_size-clause-only
-returns-in_err-frame_size-clause-only c = in_place_only _ _ _ (returns-in_err-frame_size-clause-answer c) (returns-in_err-frame_size-clause-buffer c) c.has_none.ensures.bytes
+returns-in_err-frame_size-clause-only c = in_place_only _ _ _ (returns-in_err-frame_size-clause-answer c) (returns-in_err-frame_size-clause-buffer c) (bytes_below _ (search rules))
 
 pub returns-clause-answer : goal.returns-clause-answer
 returns-clause-answer c =
@@ -26,13 +26,13 @@ pub returns-clause-buffer : goal.returns-clause-buffer
 returns-clause-buffer c = grind (arith, front_is_head)
 
 pub returns-clause-reads : goal.returns-clause-reads
-returns-clause-reads c = in_place_reads _ _ _ (returns-clause-answer c) (returns-clause-buffer c) c.has_none.ensures.bytes
+returns-clause-reads c = in_place_reads _ _ _ (returns-clause-answer c) (returns-clause-buffer c) (bytes_below _ (search rules))
 
 pub returns-clause-only : goal.returns-clause-only
-returns-clause-only c = in_place_only _ _ _ (returns-clause-answer c) (returns-clause-buffer c) c.has_none.ensures.bytes
+returns-clause-only c = in_place_only _ _ _ (returns-clause-answer c) (returns-clause-buffer c) (bytes_below _ (search rules))
 
 pub returns-in-Some-clause-reads : goal.returns-in-Some-clause-reads
-returns-in-Some-clause-reads c = in_place_reads _ _ _ c.in-Some.ensures.returned c.in-Some.ensures.buffer c.has_none.ensures.bytes
+returns-in-Some-clause-reads c = in_place_reads _ _ _ c.in-Some.ensures.returned c.in-Some.ensures.buffer (bytes_below _ (search rules))
 
 pub returns-in-Some-clause-only : goal.returns-in-Some-clause-only
-returns-in-Some-clause-only c = in_place_only _ _ _ c.in-Some.ensures.returned c.in-Some.ensures.buffer c.has_none.ensures.bytes
+returns-in-Some-clause-only c = in_place_only _ _ _ c.in-Some.ensures.returned c.in-Some.ensures.buffer (bytes_below _ (search rules))

@@ -4,11 +4,12 @@ use Rattle.std.proofs.lemmas.List.{drop-drop, drop-set-lt, drop_more}
 use Rattle.std.proofs.lemmas.List.Elements.{All-cons}
 use borrow.Rule.Slice.PartMut.{put_mid}
 use Rattle.cobs.specs.Grammar.{HasNoZero}
+use Rattle.cobs.specs.Internal.Walk.{walked}
 use Rattle.cobs.specs.Sentinel.{xor_each}
 use Rattle.cobs.specs.Piece.{last_part, missing, output}
-use Rattle.cobs.proofs.decoding.PieceCuts.{output_short}
 use Rattle.cobs.proofs.format.SentinelLemmas.{xor_each-zero}
 use Rattle.cobs.proofs.streaming.KeptQuiet.{whole_front, whole_result}
+use Rattle.cobs.proofs.streaming.WalkLemmas.{as_piece, length-walked}
 use Rattle.cobs.proofs.dec.in_place.decode_stretch_in_place.Goals as goal
 
 -- the bytes behind a frame's first code, moved to the front of its buffer
@@ -37,15 +38,15 @@ module _ (old moved : List ℕ) (n : ℕ) (inside : n < length old) (is : moved 
   head_nonzero some rest = All-cons (λ b. b ≢ 0) code bytes some (rw (xor_each-zero bytes) at rest)
 
   -- what was decoded there, and the bytes that are put back over it
-  module _ (out : List ℕ) (written : out ≡ output (code ∷ take n moved)) (some : 0 < n) (few : n < 254) where
+  module _ (out : List ℕ) (last left : ℕ) (written : ◌≡◌ {A = List ℕ × ℕ × ℕ} (out, last, left) (walked code (code - 1) (take n moved))) (some : 0 < n) (few : n < 254) where
     abbrev now : List ℕ
     now = out ++ drop n moved
 
-    out-is : out ≡ output (code ∷ bytes)
-    out-is = written ∙ ap (λ (l : List ℕ). output (code ∷ l)) front-is
+    piece : HasNoZero (code ∷ bytes) → (out ≡ output (code ∷ bytes)) × (left ≡ missing (last_part (code ∷ bytes)))
+    piece nz = as_piece code bytes (written ∙ ap (walked code (code - 1)) front-is) (omega (arith, long)) nz
 
     out-long : length out ≡ n
-    out-long = ap length out-is ∙ omega (arith, output_short (code ∷ bytes), long)
+    out-long = ap (λ (t : List ℕ × ℕ × ℕ). length t.0) written ∙ length-walked code (code - 1) (take n moved) ∙ ap length front-is ∙ long
 
     now-is : now ≡ out ++ drop n old
     now-is = ap (λ (l : List ℕ). out ++ l) behind-is
@@ -74,7 +75,7 @@ returns-then-left-ne0-clause-kept c _ =
     let bytes : List ℕ = take n (drop 1 c.args.buffer.now) in
     let copied : c.copy_from_slice.new.self ≡ bytes
     = c.copy_from_slice.ensures.after ∙ ap (take n) (rw (xor_each-zero bytes) at (c.if-not-copy_xored_short.ensures.copied refl)) ∙ take_at bytes _ n (long c.args.buffer.now _ n (omega arith) c.move_to_front.ensures) in
-    restored c.args.buffer.now _ n (omega arith) c.move_to_front.ensures _ c.write_zeros_at_codes-left.ensures.written (omega arith) (omega arith) _ copied
+    restored c.args.buffer.now _ n (omega arith) c.move_to_front.ensures _ _ _ c.write_zeros_at_codes-left.ensures (omega arith) (omega arith) _ copied
 
 pub returns-clause-nonzero : goal.returns-clause-nonzero
 returns-clause-nonzero c _ =
@@ -89,21 +90,20 @@ module _ (c : goal.Else-left-ne0) where
   h-is : h ≡ get_or c.args.buffer.now 0 0 ∷ take (c.args.len - 1) (drop 1 c.args.buffer.now)
   h-is = head-is c.args.buffer.now _ (c.args.len - 1) (omega arith) c.move_to_front.ensures c.args.len (omega arith)
 
-  out-same : c.write_zeros_at_codes-left.new.dest ≡ output h
-  out-same = out-is c.args.buffer.now _ (c.args.len - 1) (omega arith) c.move_to_front.ensures _ c.write_zeros_at_codes-left.ensures.written (omega arith) (omega arith) ∙ ap output (sym h-is)
+  pieces : (c.write_zeros_at_codes-left.new.dest ≡ output h) × (c.write_zeros_at_codes-left.result.1 ≡ missing (last_part h))
+  pieces = rw h-is (piece c.args.buffer.now _ (c.args.len - 1) (omega arith) c.move_to_front.ensures _ _ _ c.write_zeros_at_codes-left.ensures (omega arith) (omega arith)
+      (head_nonzero c.args.buffer.now _ (c.args.len - 1) (omega arith) c.move_to_front.ensures c.if-buffer-eq0.false (c.if-not-copy_xored_short.ensures.nonzero refl)))
 
   len-is : length c.write_zeros_at_codes-left.new.dest ≡ c.args.len - 1
-  len-is = out-long c.args.buffer.now _ (c.args.len - 1) (omega arith) c.move_to_front.ensures _ c.write_zeros_at_codes-left.ensures.written (omega arith) (omega arith)
+  len-is = out-long c.args.buffer.now _ (c.args.len - 1) (omega arith) c.move_to_front.ensures _ _ _ c.write_zeros_at_codes-left.ensures (omega arith) (omega arith)
 
   whole : missing (last_part h) ≡ 0
-  whole =
-      ap (λ (l : List ℕ). missing (last_part l)) (h-is ∙ ap (λ (l : List ℕ). get_or c.args.buffer.now 0 0 ∷ l) (sym (front-is c.args.buffer.now _ (c.args.len - 1) (omega arith) c.move_to_front.ensures)))
-      ∙ sym c.write_zeros_at_codes-left.ensures.left ∙ c.if-left-ne0.false
+  whole = sym pieces.1 ∙ c.if-left-ne0.false
 
 pub returns-clause-returned : goal.returns-clause-returned
-returns-clause-returned c _ = ap Ok (sym (len-is c) ∙ ap length (out-same c)) ∙ sym (whole_result (h c) (whole c))
+returns-clause-returned c _ = ap Ok (sym (len-is c) ∙ ap length (pieces c).0) ∙ sym (whole_result (h c) (whole c))
 
 pub returns-clause-buffer : goal.returns-clause-buffer
 returns-clause-buffer c _ =
-    now-is c.args.buffer.now _ (c.args.len - 1) (omega arith) c.move_to_front.ensures _ c.write_zeros_at_codes-left.ensures.written (omega arith) (omega arith)
-    ∙ whole_front (h c) c.args.buffer.now _ (c.args.len - 1) (whole c) (out-same c) (omega (arith, len-is c)) (sym (len-is c))
+    now-is c.args.buffer.now _ (c.args.len - 1) (omega arith) c.move_to_front.ensures _ _ _ c.write_zeros_at_codes-left.ensures (omega arith) (omega arith)
+    ∙ whole_front (h c) c.args.buffer.now _ (c.args.len - 1) (whole c) (pieces c).0 (omega (arith, len-is c)) (sym (len-is c))

@@ -6,11 +6,12 @@ use Rattle.cobs.specs.Fields.Decoders.{phase_of}
 use Rattle.cobs.specs.declared.dec.frame_decoder.PieceEnd.TheVariants.{TooLong}
 use Rattle.cobs.specs.declared.dec.unbuffered.UnbufferedDecoder.{UnbufferedDecoder}
 use Rattle.cobs.specs.declared.error.DecodeError.TheVariants.{TargetBufTooSmall}
+use Rattle.cobs.proofs.format.SentinelLemmas.{xor_each-zero}
 use Rattle.cobs.proofs.streaming.ByByteLemmas.{piece-nothing, piece-more, piece-ended}
 use Rattle.cobs.proofs.streaming.FeedLemmas.{Feeds-step}
 use Rattle.cobs.proofs.streaming.RunLemmas.{piece-run, piece-over}
 use Rattle.cobs.proofs.dec.unbuffered.UnbufferedDecoder.feed_piece.Goals as goal
-use Rattle.cobs.proofs.dec.unbuffered.UnbufferedDecoder.feed_piece.Goals.{After-position_or_len-len, After-take_quiet-taken}
+use Rattle.cobs.proofs.dec.unbuffered.UnbufferedDecoder.feed_piece.Goals.{After-position_or_len-len, Joined-bytes-taken-gt-BY_BYTE_MAX, then-bytes-taken-gt-BY_BYTE_MAX, else-bytes-taken-gt-BY_BYTE_MAX}
 
 over_is : (decoder : UnbufferedDecoder) → decoder.over ≡ true → phase_of decoder ≡ Overlong
 over_is decoder e = rw e refl
@@ -23,11 +24,13 @@ passed c =
     (rw (take_rest c.args.bytes.now c.by_run.taken) at e.before) (rw (over_is c.by_run.self c.if-self.true) at c.by_run.invariant.none_ended)
 
 -- behind the run
-ran : (c : After-take_quiet-taken) → TakesPiece c.args.dest.now (phase_of c.args.self.now) (take (c.by_run.taken + c.take_quiet-taken.result) c.args.bytes.now) None c.take_quiet-taken.new.dest (phase_of c.take_quiet-taken.new.self)
-ran c =
-    let e = c.take_quiet-taken.ensures in
-    piece-run c.args.bytes.now c.by_run.taken _ (omega (arith, e.within, length-take (length c.args.bytes.now - c.by_run.taken) (drop c.by_run.taken c.args.bytes.now), length-drop c.by_run.taken c.args.bytes.now))
-    c.by_run.invariant.none_ended (rw (take_rest c.args.bytes.now c.by_run.taken) at e.fed)
+ran : (c : Joined-bytes-taken-gt-BY_BYTE_MAX)
+    → TakesPiece c.args.dest.now (phase_of c.args.self.now) (take c.if-bytes-taken-gt-BY_BYTE_MAX.taken c.args.bytes.now) None c.if-bytes-taken-gt-BY_BYTE_MAX.dest (phase_of c.if-bytes-taken-gt-BY_BYTE_MAX.self)
+ran c = elim c.if-bytes-taken-gt-BY_BYTE_MAX.branch [
+  | then-bytes-taken-gt-BY_BYTE_MAX w ↦ rw (w.taken-is, w.self-is, w.dest-is)
+      (piece-run c.args.bytes.now _ _ (grind (arith, length-drop, length-take)) c.by_run.invariant.none_ended (rw (xor_each-zero, take_rest) at w.take_run-taken.ensures.fed))
+  | else-bytes-taken-gt-BY_BYTE_MAX w ↦ rw (w.taken-is, w.self-is, w.dest-is) c.by_run.invariant.none_ended
+]
 
 pub by_run-init : goal.by_run-init
 by_run-init c = record { within = omega arith; none_ended = piece-nothing _ _ }
@@ -52,27 +55,22 @@ returns-then-self c =
     record { takes = rw c.reset.ensures.idle (piece-ended bytes i inside (passed (goal.at.returns-then-self c).After-position_or_len-len) ends TooLong zero refl) }
 
 pub returns-in-Some : goal.returns-in-Some
-returns-in-Some c = record { takes = piece-ended _ _ c.if-taken-bytes.true (ran (goal.at.returns-in-Some c).After-take_quiet-taken) c.feed-returned.ensures.feeds _ c.if-byte-eq0.true (sym c.in-Some.ensures) }
+returns-in-Some c = record { takes = piece-ended _ _ c.if-taken-bytes.true (ran (goal.at.returns-in-Some c).Joined-bytes-taken-gt-BY_BYTE_MAX) c.feed-returned.ensures.feeds _ c.if-byte-eq0.true (sym c.in-Some.ensures) }
 
 pub by_run-preserved-in_default : goal.by_run-preserved-in_default
 by_run-preserved-in_default c = record {
   within = omega arith;
-  none_ended = piece-more _ _ c.if-taken-bytes.true (ran (goal.at.by_run-preserved-in_default c).After-take_quiet-taken) c.feed-returned.ensures.feeds (λ _. sym c.in_default.ensures);
+  none_ended = piece-more _ _ c.if-taken-bytes.true (ran (goal.at.by_run-preserved-in_default c).Joined-bytes-taken-gt-BY_BYTE_MAX) c.feed-returned.ensures.feeds (λ _. sym c.in_default.ensures);
 }
 
 pub by_run-preserved-else-byte-eq0 : goal.by_run-preserved-else-byte-eq0
 by_run-preserved-else-byte-eq0 c = record {
   within = omega arith;
-  none_ended = piece-more _ _ c.if-taken-bytes.true (ran (goal.at.by_run-preserved-else-byte-eq0 c).After-take_quiet-taken) c.feed-returned.ensures.feeds (λ z. absurd (c.if-byte-eq0.false z));
+  none_ended = piece-more _ _ c.if-taken-bytes.true (ran (goal.at.by_run-preserved-else-byte-eq0 c).Joined-bytes-taken-gt-BY_BYTE_MAX) c.feed-returned.ensures.feeds (λ z. absurd (c.if-byte-eq0.false z));
 }
 
 pub by_run-preserved : goal.by_run-preserved
-by_run-preserved c =
-    let bytes : List ℕ = c.args.bytes.now in
-    record {
-      within = omega (arith, c.take_quiet-taken.ensures.within, length-take (length bytes - c.by_run.taken) (drop c.by_run.taken bytes), length-drop c.by_run.taken bytes);
-      none_ended = ran (goal.at.by_run-preserved c).After-take_quiet-taken;
-    }
+by_run-preserved c = record { within = grind (arith, length-drop, length-take); none_ended = ran (goal.at.by_run-preserved c).Joined-bytes-taken-gt-BY_BYTE_MAX }
 
 pub returns : goal.returns
 returns c = grind (arith, take_all)

@@ -4,8 +4,7 @@ use Rattle.cobs.specs.Sentinel.{xor_each}
 use Rattle.cobs.specs.Internal.FeedsQuietly.{FeedsQuietly}
 use Rattle.cobs.specs.Fields.Decoders.{phase_of}
 use Rattle.cobs.proofs.format.SentinelLemmas.{first_xored, rest_xored}
-use Rattle.cobs.proofs.streaming.RunLemmas.{block_fed}
-use Rattle.cobs.proofs.streaming.StretchLemmas.{joined, part_put}
+use Rattle.cobs.proofs.streaming.StretchLemmas.{block_fed, joined, part_put}
 use Rattle.cobs.proofs.dec.unbuffered.UnbufferedDecoder.take_block.Goals as goal
 
 pub returns-clause-fed : goal.returns-clause-fed

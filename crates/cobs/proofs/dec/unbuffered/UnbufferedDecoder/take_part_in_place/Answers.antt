@@ -2,14 +2,17 @@ use Rattle.std.proofs.Common.{get_or, ◌≤◌, ◌+◌, ◌≡◌, ◌∷◌, 
 use Rattle.std.proofs.lemmas.List.{length-take-le, drop_more, drop-drop}
 use Rattle.cobs.specs.Fields.Decoders.{phase_of}
 use Rattle.cobs.specs.Internal.FeedsQuietly.{FeedsQuietly}
-use Rattle.cobs.proofs.streaming.RunLemmas.{block_fed, part_nonzero, rest_kept, row_fed}
-use Rattle.cobs.proofs.streaming.StretchLemmas.{joined, open_fed, open_nonzero}
+use Rattle.cobs.proofs.streaming.RunLemmas.{part_nonzero, rest_kept}
+use Rattle.cobs.proofs.streaming.StretchLemmas.{block_fed, joined, copied-there, row_fed}
 use Rattle.cobs.proofs.dec.unbuffered.UnbufferedDecoder.take_part_in_place.Goals as goal
 use Rattle.cobs.proofs.dec.unbuffered.UnbufferedDecoder.take_part_in_place.Goals.{then-self, else-self}
 
-pub write_zeros_at_codes-requires-clause-nonzero : goal.write_zeros_at_codes-requires-clause-nonzero
-write_zeros_at_codes-requires-clause-nonzero c =
-    open_nonzero c.args.self.now _ c.args.buffer.now _ _ (length-take-le _ _ (omega (arith, length-drop c.args.read c.args.buffer.now))) (omega arith) c.move_back-2.ensures (part_nonzero 0 _ _ _ c.requires.nonzero (omega arith))
+pub take_copied-requires-clause-nonzero : goal.take_copied-requires-clause-nonzero
+take_copied-requires-clause-nonzero c =
+    let n : ℕ = c.stretch_len-most.result in
+    let bytes : List ℕ = drop c.args.read c.args.buffer.now in
+    let long = length-take-le n bytes (omega (arith, length-drop c.args.read c.args.buffer.now)) in
+    rw (sym (copied-there c.args.self.now.dest_idx n c.args.buffer.now c.move_back-2.new.buffer (take n bytes) (omega arith) long c.move_back-2.ensures)) at (part_nonzero 0 n _ bytes c.requires.nonzero (omega arith))
 
 pub returns-then-code-gt-WIDE_WINDOW-clause-fed : goal.returns-then-code-gt-WIDE_WINDOW-clause-fed
 returns-then-code-gt-WIDE_WINDOW-clause-fed c =
@@ -26,14 +29,7 @@ returns-then-code-gt-WIDE_WINDOW-clause-fed c =
     (part_nonzero 1 n _ bytes c.requires.nonzero (omega arith)) moved)
 
 pub returns-then-is_all-clause-fed : goal.returns-then-is_all-clause-fed
-returns-then-is_all-clause-fed c = row_fed 32 c.args.self.now c.args.buffer.now _ _ c.requires.going c.if-left-eq0-2.true c.if-self-eq1.true (omega arith) (c.is_all.ensures c.if-is_all.true) c.write_row.ensures
+returns-then-is_all-clause-fed c = row_fed 32 c.args.self.now c.args.buffer.now _ _ (omega arith) (omega arith) c.requires.going c.if-left-eq0-2.true c.if-self-eq1.true (omega arith) (c.is_all.ensures c.if-is_all.true) c.write_row.ensures
 
-pub returns-then-most-left-clause-fed : goal.returns-then-most-left-clause-fed
-returns-then-most-left-clause-fed c =
-    block_fed c.args.self.now _ c.args.buffer.now (drop c.args.read c.args.buffer.now) _ c.requires.going (omega arith) (omega arith) (omega (arith, length-drop c.args.read c.args.buffer.now)) (part_nonzero 0 _ _ _ c.requires.nonzero (omega arith)) c.move_back-2.ensures
-
-pub returns-else-most-left-clause-fed : goal.returns-else-most-left-clause-fed
-returns-else-most-left-clause-fed c =
-    let w = c.write_zeros_at_codes.ensures in
-    open_fed c.args.self.now _ c.args.buffer.now _ _ (length-take-le _ _ (omega (arith, length-drop c.args.read c.args.buffer.now))) (omega arith) c.move_back-2.ensures
-    _ _ _ c.requires.going (λ full. absurd (omega (arith, c.stretch_len-most.ensures.full full))) (part_nonzero 0 _ _ _ c.requires.nonzero (omega arith)) (omega arith) (omega arith) w.written w.code w.left
+pub returns-clause-fed : goal.returns-clause-fed
+returns-clause-fed c = c.take_copied.ensures.fed c.args.buffer.now _ (omega arith) (length-take-le _ _ (omega (arith, length-drop c.args.read c.args.buffer.now))) c.move_back-2.ensures

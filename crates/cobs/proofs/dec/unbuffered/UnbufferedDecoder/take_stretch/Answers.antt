@@ -2,8 +2,7 @@ use Rattle.std.proofs.Common.{◌≡◌, ◌≤◌, ◌+◌, List, ℕ, bit_xor,
 use Rattle.std.proofs.lemmas.List.{length-map}
 use Rattle.cobs.specs.Sentinel.{xor_each}
 use Rattle.cobs.proofs.format.SentinelLemmas.{part_xored}
-use Rattle.cobs.proofs.streaming.RunLemmas.{block_fed}
-use Rattle.cobs.proofs.streaming.StretchLemmas.{open_fed, part_put}
+use Rattle.cobs.proofs.streaming.StretchLemmas.{part_put}
 use Rattle.cobs.proofs.dec.unbuffered.UnbufferedDecoder.take_stretch.Goals as goal
 
 -- the bytes that were copied
@@ -17,16 +16,9 @@ module _ (bytes : List ℕ) (s most len : ℕ) (within : len ≤ length (take mo
   copied-long : length copied ≡ len
   copied-long = length-take-le _ _ (omega (arith, length-map (take most bytes) (λ (b : ℕ). bit_xor b s)))
 
-pub returns-then-len-left-clause-fed : goal.returns-then-len-left-clause-fed
-returns-then-len-left-clause-fed c =
-    let copied = part_put c.args.self.now.dest_idx c.copy_to_zero-len.result c.args.dest.now _ _ c.copy_to_zero-len.ensures.copied in
-    grind (arith, block_fed, copied-is, copied-long, length-take, length-map)
-
-pub returns-else-len-left-clause-fed : goal.returns-else-len-left-clause-fed
-returns-else-len-left-clause-fed c =
+pub returns-clause-fed : goal.returns-clause-fed
+returns-clause-fed c =
     let within = c.copy_to_zero-len.ensures.within in
     let room : c.args.self.now.dest_idx + c.copy_to_zero-len.result ≤ length c.args.dest.now = grind (arith, length-take) in
-    let e = c.write_zeros_at_codes.ensures in
     rw (copied-is c.args.bytes.now c.args.sentinel _ _ within) at
-    (open_fed c.args.self.now _ c.args.dest.now _ _ (copied-long c.args.bytes.now c.args.sentinel _ _ within) room (part_put c.args.self.now.dest_idx c.copy_to_zero-len.result c.args.dest.now _ _ c.copy_to_zero-len.ensures.copied) _ _ _ c.requires.going
-    (λ full. omega (arith, c.stretch_len-most.ensures.full full, within, length-take c.stretch_len-most.result c.args.bytes.now)) c.copy_to_zero-len.ensures.nonzero (omega arith) (omega (arith, c.copy_to_zero-len.ensures.few)) e.written e.code e.left)
+    (c.take_copied.ensures.fed c.args.dest.now _ room (copied-long c.args.bytes.now c.args.sentinel _ _ within) (part_put c.args.self.now.dest_idx c.copy_to_zero-len.result c.args.dest.now _ _ c.copy_to_zero-len.ensures.copied))

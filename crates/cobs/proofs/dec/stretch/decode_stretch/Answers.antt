@@ -1,0 +1,47 @@
+use Rattle.std.proofs.Common.{◌≡◌, ◌≢◌, ◌-◌, ◌<◌, ◌≤◌, ◌∷◌, ◌++◌, ◌∙◌, ℕ, List, get_or, bit_xor, arith, length, take, drop, ap, refl, sym, length-drop}
+use Rattle.std.proofs.Math.Seq.{take-append_seam}
+use Rattle.std.proofs.lemmas.List.{drop_more, length-map, take_rest}
+use Rattle.std.proofs.lemmas.List.Elements.{All-cons}
+use Rattle.cobs.specs.Grammar.{HasNoZero}
+use Rattle.cobs.specs.Internal.Walk.{walked}
+use Rattle.cobs.specs.Piece.{last_part, missing, output}
+use Rattle.cobs.specs.Sentinel.{xor_each}
+use Rattle.cobs.proofs.format.SentinelLemmas.{xor_twice}
+use Rattle.cobs.proofs.streaming.WalkLemmas.{as_piece, length-walked}
+use Rattle.cobs.proofs.dec.stretch.decode_stretch.Goals as goal
+
+-- the bytes behind the first one, copied
+module _ (source dest rest : List ℕ) (s : ℕ) (some : 0 < length source) (copied : dest ≡ xor_each s (take (length source - 1) (drop 1 source)) ++ rest) where
+  abbrev behind : List ℕ
+  behind = take (length source - 1) dest
+
+  behind-is : behind ≡ xor_each s (drop 1 source)
+  behind-is = ap (take (length source - 1)) (copied ∙ ap (λ (l : List ℕ). xor_each s l ++ rest) (take_rest source 1))
+      ∙ ap (λ (k : ℕ). take k (xor_each s (drop 1 source) ++ rest)) (omega (arith, length-map (drop 1 source) (λ (b : ℕ). bit_xor b s), length-drop 1 source)) ∙ take-append_seam (xor_each s (drop 1 source)) rest
+
+  long : length behind ≡ length source - 1
+  long = omega (arith, ap length behind-is, length-map (drop 1 source) (λ (b : ℕ). bit_xor b s), length-drop 1 source)
+
+  source-is : xor_each s source ≡ bit_xor (get_or source 0 0) s ∷ behind
+  source-is = ap (xor_each s) (drop_more source 0 0 some) ∙ ap (λ (l : List ℕ). bit_xor (get_or source 0 0) s ∷ l) (sym behind-is)
+
+  piece : length source ≤ 65 → get_or source 0 0 ≢ s → HasNoZero (xor_each s (take (length source - 1) (drop 1 source))) → {ys : List ℕ} {code left : ℕ} → ◌≡◌ {A = List ℕ × ℕ × ℕ} (ys, code, left) (walked (bit_xor (get_or source 0 0) s) (bit_xor (get_or source 0 0) s - 1) behind)
+      → (ys ≡ output (xor_each s source)) × (left ≡ missing (last_part (xor_each s source)))
+  piece few other nz w = rw source-is (as_piece _ _ w (omega (arith, long))
+      (All-cons (λ b. b ≢ 0) _ behind (λ e. other (sym (xor_twice (get_or source 0 0) s) ∙ ap (λ (x : ℕ). bit_xor x s) e)) (rw behind-is (rw (take_rest source 1) at nz))))
+
+module _ (c : goal.After-slice_known-3-1) where
+  whole : (c.write_zeros_at_codes-left.new.dest ≡ output (xor_each c.args.sentinel c.args.source.now)) × (c.write_zeros_at_codes-left.result.1 ≡ missing (last_part (xor_each c.args.sentinel c.args.source.now)))
+  whole = piece c.args.source.now c.copy_xored_short.new.dest _ c.args.sentinel (omega arith) (c.if-not-copy_xored_short.ensures.copied refl) (omega arith) c.if-source-sentinel.false (c.if-not-copy_xored_short.ensures.nonzero refl) c.write_zeros_at_codes-left.ensures
+
+  len-is : length c.write_zeros_at_codes-left.new.dest ≡ length c.args.source.now - 1
+  len-is = ap (λ (t : List ℕ × ℕ × ℕ). length t.0) c.write_zeros_at_codes-left.ensures ∙ length-walked _ _ _ ∙ long c.args.source.now c.copy_xored_short.new.dest _ c.args.sentinel (omega arith) (c.if-not-copy_xored_short.ensures.copied refl)
+
+pub returns-clause-len : goal.returns-clause-len
+returns-clause-len c = omega (arith, ap length (whole c).0, len-is c)
+
+pub returns-clause-left : goal.returns-clause-left
+returns-clause-left c = (whole c).1
+
+pub returns-clause-begins : goal.returns-clause-begins
+returns-clause-begins c = ap (λ (k : ℕ). take k (c.write_zeros_at_codes-left.new.dest ++ drop k c.copy_xored_short.new.dest)) (sym (len-is c)) ∙ take-append_seam c.write_zeros_at_codes-left.new.dest _ ∙ (whole c).0

@@ -1,0 +1,9 @@
+-- Bytes behind the front of a block, read from code to code.
+use Rattle.std.specs.Prelude.{List, [], ◌∷◌, ℕ, zero, suc, ◌-◌}
+
+-- the bytes with a zero for each code, the last code, and how many bytes its block misses then, if before them a block
+-- with this code misses n bytes
+abbrev pub walked : ℕ → ℕ → List ℕ → List ℕ × ℕ × ℕ
+walked code n [] = ([], code, n)
+walked code (suc n) (byte ∷ bytes) = let w = walked code n bytes in (byte ∷ w.0, w.1, w.2)
+walked code zero (next ∷ bytes) = let w = walked next (next - 1) bytes in (0 ∷ w.0, w.1, w.2)
