@@ -49,7 +49,7 @@ is_small() { # FILE BYTES
 }
 
 echo "The module"
-part "cobs.wasm is at most 92,160 bytes" is_small "$web/cobs.wasm" 92160
+part "cobs.wasm is at most 75,776 bytes" is_small "$web/cobs.wasm" 75776
 
 if has "$node" nodejs "Node"; then
     if ! "$node" --input-type=module -e "import { isSupported } from '$web/jcobs.js'; process.exit(isSupported() ? 0 : 1)" 2>"$work/said"; then
