@@ -1,12 +1,12 @@
 //! Vectors of bytes as `std::simd` has them, on stable Rust and for any target: what the proved source uses of it.
 //!
-//! The crate's only `unsafe` code is here: the calls of SSE2 and NEON. The tests compare every operation with the same
-//! on single bytes, for each width from 1 to 64.
+//! The crate's only `unsafe` code is here: the calls of SSE2, SSSE3 and NEON. The tests compare every operation with the
+//! same on single bytes, for each width from 1 to 64.
 
 // Loops over indices, of which rustc makes vectors.
 #![allow(clippy::needless_range_loop)]
 
-use core::ops::{BitOr, BitXor};
+use core::ops::{Add, BitAnd, BitOr, BitOrAssign, BitXor, Index, Sub};
 
 #[cfg(all(
     target_feature = "neon",
@@ -26,10 +26,18 @@ use portable as way;
 #[cfg(all(target_feature = "sse2", target_arch = "x86_64"))]
 use sse2 as way;
 
+/// Whether `swizzle_dyn` is one instruction. If not, following one code after the other is faster than 16 bytes at once, so
+/// translate.py has the proved source ask this first.
+pub const HAS_SHUFFLE: bool = way::HAS_SHUFFLE;
+
 /// A vector of `N` bytes.
 #[derive(Clone, Copy)]
 #[repr(transparent)]
 pub struct Simd<T, const N: usize>([T; N]);
+
+/// A vector of 16 bytes.
+#[allow(non_camel_case_types)]
+pub type u8x16 = Simd<u8, 16>;
 
 /// A vector of 32 bytes.
 #[allow(non_camel_case_types)]
@@ -118,6 +126,15 @@ impl<const N: usize> Simd<u8, N> {
         Self(turned)
     }
 
+    /// Each byte and the other's, by an operation.
+    #[inline(always)]
+    fn with(mut self, other: Self, by: impl Fn(u8, u8) -> u8) -> Self {
+        for i in 0..N {
+            self.0[i] = by(self.0[i], other.0[i]);
+        }
+        self
+    }
+
     #[inline(always)]
     fn compare(self, other: Self, has: impl Fn(u8, u8) -> bool) -> Mask<N> {
         let mut mask = [0; N];
@@ -128,27 +145,50 @@ impl<const N: usize> Simd<u8, N> {
     }
 }
 
-impl<const N: usize> BitXor for Simd<u8, N> {
-    type Output = Self;
-
+impl Simd<u8, 16> {
+    /// The bytes at these places, and zeros for places from 128 on. No place is from 16 to 127, for which SSSE3 has others.
     #[inline(always)]
-    fn bitxor(mut self, other: Self) -> Self {
-        for i in 0..N {
-            self.0[i] ^= other.0[i];
-        }
-        self
+    pub fn swizzle_dyn(self, places: Self) -> Self {
+        debug_assert!(places.0.iter().all(|place| !(16..128).contains(place)));
+        Self(way::shuffled(self.0, places.0))
     }
 }
 
-impl<const N: usize> BitOr for Mask<N> {
-    type Output = Self;
+/// The operators of each byte and the other's; `+` and `-` wrap.
+macro_rules! operators {
+    ($($operator:ident $call:ident $by:expr;)*) => { $(
+        impl<const N: usize> $operator for Simd<u8, N> {
+            type Output = Self;
+
+            #[inline(always)]
+            fn $call(self, other: Self) -> Self {
+                self.with(other, $by)
+            }
+        }
+    )* };
+}
+
+operators! {
+    Add add u8::wrapping_add;
+    Sub sub u8::wrapping_sub;
+    BitAnd bitand |a, b| a & b;
+    BitOr bitor |a, b| a | b;
+    BitXor bitxor |a, b| a ^ b;
+}
+
+impl<const N: usize> BitOrAssign for Simd<u8, N> {
+    #[inline(always)]
+    fn bitor_assign(&mut self, other: Self) {
+        *self = *self | other;
+    }
+}
+
+impl<const N: usize> Index<usize> for Simd<u8, N> {
+    type Output = u8;
 
     #[inline(always)]
-    fn bitor(mut self, other: Self) -> Self {
-        for i in 0..N {
-            self.0[i] |= other.0[i];
-        }
-        self
+    fn index(&self, i: usize) -> &u8 {
+        &self.0[i]
     }
 }
 
@@ -216,6 +256,8 @@ fn bits(mask: &[u8]) -> u64 {
 /// For any target: the product has one bit of each byte, side by side, in its highest byte.
 #[allow(dead_code)]
 mod portable {
+    pub const HAS_SHUFFLE: bool = false;
+
     #[inline(always)]
     pub fn equal(bytes: [u8; 16], other: [u8; 16]) -> [u8; 16] {
         core::array::from_fn(|i| if bytes[i] == other[i] { 0xFF } else { 0 })
@@ -229,6 +271,11 @@ mod portable {
     #[inline(always)]
     pub fn least(bytes: [u8; 16], other: [u8; 16]) -> [u8; 16] {
         core::array::from_fn(|i| bytes[i].min(other[i]))
+    }
+
+    #[inline(always)]
+    pub fn shuffled(bytes: [u8; 16], places: [u8; 16]) -> [u8; 16] {
+        places.map(|place| *bytes.get(usize::from(place)).unwrap_or(&0))
     }
 
     #[inline(always)]
@@ -246,10 +293,16 @@ mod portable {
 #[cfg(all(target_feature = "sse2", target_arch = "x86_64"))]
 #[allow(unsafe_code)]
 mod sse2 {
+    #[cfg(not(target_feature = "ssse3"))]
+    pub use super::portable::shuffled;
+    #[cfg(target_feature = "ssse3")]
+    use core::arch::x86_64::_mm_shuffle_epi8;
     use core::arch::x86_64::{
         __m128i, _mm_andnot_si128, _mm_cmpeq_epi8, _mm_loadu_si128, _mm_min_epu8, _mm_movemask_epi8,
     };
     use core::mem::transmute;
+
+    pub const HAS_SHUFFLE: bool = cfg!(target_feature = "ssse3");
 
     /// Said as one vector, since rustc compares bytes of an integer one by one: a message of 8 bytes is encoded 1.9
     /// times as fast by this.
@@ -262,8 +315,7 @@ mod sse2 {
         }
     }
 
-    /// Said as vectors, since rustc widens a byte that all are compared with to 64 bits: short frames in pushes of 64 bytes
-    /// are decoded 1.1 times as fast by this.
+    /// Said as one vector, since rustc compares some bytes with constants one by one, and the rest in vectors of 4 and 8.
     #[inline(always)]
     pub fn less(bytes: [u8; 16], other: [u8; 16]) -> [u8; 16] {
         // SAFETY: the target has SSE2, and each vector has the 16 bytes of an array.
@@ -284,6 +336,16 @@ mod sse2 {
         }
     }
 
+    #[cfg(target_feature = "ssse3")]
+    #[inline(always)]
+    pub fn shuffled(bytes: [u8; 16], places: [u8; 16]) -> [u8; 16] {
+        // SAFETY: the target has SSSE3, and each vector has the 16 bytes of an array.
+        unsafe {
+            let [bytes, places] = transmute::<[[u8; 16]; 2], [__m128i; 2]>([bytes, places]);
+            transmute(_mm_shuffle_epi8(bytes, places))
+        }
+    }
+
     #[inline(always)]
     pub fn of_sixteen(mask: &[u8; 16]) -> u64 {
         // SAFETY: the target has SSE2, and 16 bytes are loaded from any address.
@@ -300,7 +362,19 @@ mod sse2 {
 #[allow(unsafe_code)]
 mod neon {
     pub use super::portable::{equal, least, less};
-    use core::arch::aarch64::{vaddv_u8, vand_u8, vld1_u8};
+    use core::arch::aarch64::{uint8x16_t, vaddv_u8, vand_u8, vld1_u8, vqtbl1q_u8};
+    use core::mem::transmute;
+
+    pub const HAS_SHUFFLE: bool = true;
+
+    #[inline(always)]
+    pub fn shuffled(bytes: [u8; 16], places: [u8; 16]) -> [u8; 16] {
+        // SAFETY: the target has NEON, and each vector has the 16 bytes of an array.
+        unsafe {
+            let [bytes, places] = transmute::<[[u8; 16]; 2], [uint8x16_t; 2]>([bytes, places]);
+            transmute(vqtbl1q_u8(bytes, places))
+        }
+    }
 
     #[inline(always)]
     fn of_eight(mask: &[u8; 8]) -> u64 {
@@ -349,6 +423,11 @@ mod tests {
                 }
             }
         }
+        for byte in 0..=255 {
+            let vector = Simd::<u8, N>::from_slice(&with(0, byte)[byte as usize % 16..]);
+            operators(vector, Simd::splat(byte));
+            operators(Simd::splat(byte), vector);
+        }
     }
 
     fn one_place<const N: usize>(bytes: &[u8], byte: u8) {
@@ -359,14 +438,10 @@ mod tests {
             (vector.simd_ne(splat), plain(bytes, |b| b != byte)),
             (vector.simd_lt(splat), plain(bytes, |b| b < byte)),
             (splat.simd_lt(vector), plain(bytes, |b| byte < b)),
-            (
-                vector.simd_eq(splat) | vector.simd_lt(splat),
-                plain(bytes, |b| b <= byte),
-            ),
         ];
         let mut stored = [0xAA; 81];
-        (vector ^ splat).copy_to_slice(&mut stored[1..]);
-        assert!(stored[1..=N].iter().zip(bytes).all(|(a, b)| *a == b ^ byte));
+        vector.copy_to_slice(&mut stored[1..]);
+        assert_eq!(stored[1..=N], *bytes);
         assert!(stored[0] == 0xAA && stored[N + 1..] == [0xAA; 80][N..]);
         for (mask, expected) in masks {
             assert_eq!(mask.to_bitmask(), expected, "{N}, {byte}");
@@ -383,6 +458,23 @@ mod tests {
         assert_eq!(Simd::from_array(vector.0).0, bytes);
         let lesser = vector.0.map(|each| each.min(byte));
         assert_eq!(vector.simd_min(splat).0, lesser);
+    }
+
+    fn operators<const N: usize>(vector: Simd<u8, N>, other: Simd<u8, N>) {
+        let each = |by: fn(u8, u8) -> u8| core::array::from_fn(|i| by(vector.0[i], other.0[i]));
+        let mut assigned = vector;
+        assigned |= other;
+        for (made, expected) in [
+            (vector + other, each(u8::wrapping_add)),
+            (vector - other, each(u8::wrapping_sub)),
+            (vector & other, each(|a, b| a & b)),
+            (vector | other, each(|a, b| a | b)),
+            (vector ^ other, each(|a, b| a ^ b)),
+            (assigned, each(|a, b| a | b)),
+        ] {
+            assert_eq!(made.0, expected);
+        }
+        assert!((0..N).all(|i| vector[i] == vector.0[i]));
     }
 
     /// Each width from 1 to 64.
@@ -424,6 +516,19 @@ mod tests {
             assert_eq!(way::equal(mask, [0xFF; 16]), mask);
             assert_eq!(portable::less([0; 16], mask), mask);
             assert_eq!(way::less([0; 16], mask), mask);
+        }
+    }
+
+    /// Each of the places that are used, at each place, beside others, by each way that this target has.
+    #[test]
+    fn every_shuffle() {
+        let vector = u8x16::from_slice(&with(0, 7));
+        let places: [u8; 144] = core::array::from_fn(|i| if i < 16 { i } else { i + 112 } as u8);
+        for first in 0..144 {
+            let taken: [u8; 16] = core::array::from_fn(|i| places[(first + 37 * i) % 144]);
+            let expected = taken.map(|place| if place < 16 { vector[place.into()] } else { 0 });
+            assert_eq!(portable::shuffled(vector.0, taken), expected);
+            assert_eq!(vector.swizzle_dyn(u8x16::from_array(taken)).0, expected);
         }
     }
 

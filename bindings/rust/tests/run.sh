@@ -41,6 +41,11 @@ units() { # FEATURES..: the library and its tests, with overflow checks, and war
     RUSTFLAGS='-D warnings' cargo test --lib --tests "$@"
 }
 
+# By itself cargo builds for x86-64 without SSSE3, and then no bytes are shuffled.
+shuffled() {
+    CARGO_TARGET_DIR=$work/shuffled RUSTFLAGS='-D warnings -C target-cpu=x86-64-v2' cargo test --lib --tests
+}
+
 documentation() {
     RUSTDOCFLAGS='-D warnings' cargo doc --no-deps --features "$1"
 }
@@ -107,6 +112,11 @@ oldest() {
 }
 
 part 'units, signatures, differences and cases' units
+if grep -q -s -w ssse3 /proc/cpuinfo && grep -q -w sse4_2 /proc/cpuinfo; then
+    part 'with shuffles of bytes' shuffled
+else
+    skip 'with shuffles of bytes' 'needs a processor of x86-64-v2'
+fi
 part 'without a feature' units --no-default-features
 part 'byte by byte' units --features small
 part 'byte by byte, without an allocator' units --no-default-features --features small

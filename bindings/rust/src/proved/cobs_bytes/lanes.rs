@@ -52,22 +52,10 @@ fn copy_window_to_zero(source: &[u8], dest: &mut [u8], sentinel: u8) -> usize {
     let bytes = u8x32::from_slice(source) ^ u8x32::splat(sentinel);
     let zeros = bytes.simd_eq(u8x32::splat(0)).to_bitmask();
     let len = (zeros.trailing_zeros() as usize).min(WINDOW);
-    let kept = u8x32::from_slice(dest);
-    places
-        .simd_lt(u8x32::splat(len as u8))
-        .select(bytes, kept)
-        .copy_to_slice(dest);
+    let taken = places.simd_lt(u8x32::splat(len as u8));
+    let merged = taken.select(bytes, u8x32::from_slice(dest));
+    merged.copy_to_slice(dest);
     len
-}
-
-/// Copies the first of 64 bytes, up to a sentinel, and returns how many.
-#[inline(always)]
-fn copy_wide_to_zero(wide: &[u8], dest: &mut [u8], sentinel: u8) -> usize {
-    let front = copy_window_to_zero(wide, dest, sentinel);
-    if front < WINDOW {
-        return front;
-    }
-    WINDOW + copy_window_to_zero(&wide[WINDOW..], &mut dest[WINDOW..], sentinel)
 }
 
 /// Copies the first of at most 32 bytes, up to a sentinel, and returns how many.
@@ -90,17 +78,19 @@ fn copy_few_to_zero(few: &[u8], dest: &mut [u8], sentinel: u8) -> usize {
 #[inline(always)]
 pub fn copy_to_zero(chunk: &[u8], dest: &mut [u8], sentinel: u8) -> usize {
     if WIDE_WINDOW <= chunk.len() {
-        let most = chunk.len().min(STRETCH);
-        let len = copy_windows::<STRETCH>(chunk, most, dest, sentinel);
+        let len = copy_windows::<STRETCH>(chunk, chunk.len().min(STRETCH), dest, sentinel);
         if len > 0 {
             return len;
         }
-        copy_wide_to_zero(chunk, dest, sentinel)
-    } else if WINDOW <= chunk.len() {
-        copy_window_to_zero(chunk, dest, sentinel)
-    } else {
-        copy_few_to_zero(chunk, dest, sentinel)
     }
+    if chunk.len() < WINDOW {
+        return copy_few_to_zero(chunk, dest, sentinel);
+    }
+    let front = copy_window_to_zero(chunk, dest, sentinel);
+    if front < WINDOW || chunk.len() < WIDE_WINDOW {
+        return front;
+    }
+    WINDOW + copy_window_to_zero(&chunk[WINDOW..], &mut dest[WINDOW..], sentinel)
 }
 
 /// Moves `N` to `2 * N` bytes, as two parts that may overlap.

@@ -40,13 +40,6 @@ pub fn zeros_at<const N: usize>(bytes: &[u8], at: usize) -> u64 {
         .to_bitmask()
 }
 
-/// Which of `N` to `2 * N` bytes are zeros, looked at as two parts that may overlap: bit `i` is set where byte `i` is one.
-#[inline(always)]
-fn zeros_two<const N: usize>(bytes: &[u8]) -> u64 {
-    let start = bytes.len() - N;
-    zeros_at::<N>(bytes, 0) | (zeros_at::<N>(bytes, start) << start)
-}
-
 /// Copies the `N` bytes from `read` on, and returns which of them are zeros.
 #[inline(always)]
 pub fn copy_at<const N: usize>(source: &[u8], read: usize, dest: &mut [u8], at: usize) -> u64 {
@@ -55,13 +48,13 @@ pub fn copy_at<const N: usize>(source: &[u8], read: usize, dest: &mut [u8], at: 
     bytes.simd_eq(Simd::splat(0)).to_bitmask()
 }
 
-/// Copies `N` to `2 * N` bytes, as two parts that may overlap.
+/// Copies `N` to `2 * N` bytes, as two parts that may overlap, and returns which of them are zeros.
 #[inline(always)]
 fn copy_two<const N: usize>(source: &[u8], dest: &mut [u8], at: usize) -> u64 {
     let len = source.len();
     let front = Simd::<u8, N>::from_slice(source);
     let back = Simd::<u8, N>::from_slice(&source[len - N..]);
-    let zeros = zeros_two::<N>(source);
+    let zeros = zeros_at::<N>(source, 0) | (zeros_at::<N>(source, len - N) << (len - N));
     front.copy_to_slice(&mut dest[at..]);
     back.copy_to_slice(&mut dest[at + len - N..]);
     zeros

@@ -92,13 +92,9 @@ pub fn decode_vec(source: &[u8]) -> Result<Vec<u8>, DecodeVecError> {
         return Err(DecodeVecError::Decode(DecodeError::EmptyFrame));
     }
     let mut message = crate::memory::filled(0, source.len()).map_err(DecodeVecError::Memory)?;
-    match decode(source, &mut message) {
-        Ok(report) => {
-            message.truncate(report.frame_size());
-            Ok(message)
-        }
-        Err(error) => Err(DecodeVecError::Decode(error)),
-    }
+    let report = decode(source, &mut message).map_err(DecodeVecError::Decode)?;
+    message.truncate(report.frame_size());
+    Ok(message)
 }
 
 /// Returns the message of the frame at the front of the source, where the sentinel may be any byte, in a vector of
@@ -121,11 +117,8 @@ pub fn decode_vec_with_sentinel(source: &[u8], sentinel: u8) -> Result<Vec<u8>, 
         return Err(DecodeVecError::Decode(DecodeError::EmptyFrame));
     }
     let mut message = crate::memory::filled(0, source.len()).map_err(DecodeVecError::Memory)?;
-    match decode_with_sentinel(source, &mut message, sentinel) {
-        Ok(len) => {
-            message.truncate(len);
-            Ok(message)
-        }
-        Err(error) => Err(DecodeVecError::Decode(error)),
-    }
+    let len =
+        decode_with_sentinel(source, &mut message, sentinel).map_err(DecodeVecError::Decode)?;
+    message.truncate(len);
+    Ok(message)
 }

@@ -39,13 +39,7 @@ impl UnbufferedDecoder {
             return WINDOW;
         }
         move_back(buffer, at, read, most);
-        self.dest_idx = at + most;
-        if most <= left {
-            self.left -= most as u8;
-        } else {
-            // What the open block is missing is what a code of one more would open.
-            (self.code, self.left) = write_zeros_at_codes(&mut buffer[at..at + most], left + 1);
-        }
+        self.take_copied(buffer, most);
         most
     }
 
@@ -96,12 +90,6 @@ fn decode_stretch_in_place(buffer: &mut [u8], len: usize) -> bool {
     true
 }
 
-/// Whether a buffer is empty. `bytes` restates that elements are below 256, for callers that later overwrite it.
-#[inline(always)]
-fn has_none(buffer: &[u8]) -> bool {
-    buffer.is_empty()
-}
-
 /// Decodes the frame at the front of the buffer in its own place, up to the first zero or the buffer's end, and returns
 /// how many bytes the frame and the message have.
 ///
@@ -130,7 +118,7 @@ fn has_none(buffer: &[u8]) -> bool {
 // For a frame of some bytes, a call with its result in memory takes as long as the decoding.
 #[inline(always)]
 pub fn decode_in_place_report(buf: &mut [u8]) -> Result<DecodeReport, DecodeError> {
-    if has_none(buf) {
+    if buf.is_empty() {
         return Err(DecodeError::EmptyFrame);
     }
     if let Some(report) = decode_short_in_place(buf) {

@@ -4,11 +4,8 @@
 use crate::proved::block::FULL_BLOCK_BYTES;
 use crate::proved::cobs_bytes::lanes::{copy_to_zero, copy_windows, copy_xored_short};
 use crate::proved::cobs_bytes::window::{WIDE_WINDOW, WINDOW, is_all, write_row};
-use crate::proved::dec::stretch::write_zeros_at_codes;
+use crate::proved::dec::stretch::{is_dense, write_zeros_at_codes, write_zeros_by_vector};
 use crate::proved::dec::unbuffered::{FULL, UnbufferedDecoder};
-
-/// So few bytes are fed one by one: a run takes some 130 instructions, however short it is.
-const BY_BYTE_MAX: usize = 4;
 
 impl UnbufferedDecoder {
     /// Takes a code behind a whole block, and writes the zero that joins the two.
@@ -51,23 +48,35 @@ impl UnbufferedDecoder {
         1 + copied
     }
 
+    /// Takes `len` bytes that are copied behind the output, none of them a zero, in which no full block ends.
+    #[inline(always)]
+    pub(crate) fn take_copied(&mut self, dest: &mut [u8], len: usize) {
+        let at = self.dest_idx;
+        let left = self.left as usize;
+        self.dest_idx = at + len;
+        if len <= left {
+            self.left -= len as u8;
+            return;
+        }
+        // What the open block is missing is what a code of one more would open.
+        let bytes = &mut dest[at..at + len];
+        if crate::simd::HAS_SHUFFLE && is_dense(bytes, left) {
+            (self.code, self.left) = write_zeros_by_vector(bytes, left + 1);
+        } else {
+            (self.code, self.left) = write_zeros_at_codes(bytes, left + 1);
+        }
+    }
+
     /// Takes up to 192 bytes before a zero, in which no full block ends. Returns how many: 0 if the first has no room.
     #[inline(always)]
     fn take_stretch(&mut self, dest: &mut [u8], bytes: &[u8], sentinel: u8) -> usize {
         let at = self.dest_idx;
-        let left = self.left as usize;
         let most = self.stretch_len(bytes.len().min(dest.len().saturating_sub(at)));
         if most == 0 {
             return 0;
         }
         let len = copy_to_zero(&bytes[..most], &mut dest[at..], sentinel);
-        self.dest_idx = at + len;
-        if len <= left {
-            self.left -= len as u8;
-        } else {
-            // What the open block is missing is what a code of one more would open.
-            (self.code, self.left) = write_zeros_at_codes(&mut dest[at..at + len], left + 1);
-        }
+        self.take_copied(dest, len);
         len
     }
 
@@ -86,13 +95,7 @@ impl UnbufferedDecoder {
         {
             return false;
         }
-        self.dest_idx = at + len;
-        let left = self.left as usize;
-        if len <= left {
-            self.left -= len as u8;
-        } else {
-            (self.code, self.left) = write_zeros_at_codes(&mut dest[at..at + len], left + 1);
-        }
+        self.take_copied(dest, len);
         true
     }
 
@@ -100,20 +103,18 @@ impl UnbufferedDecoder {
     /// a long block; a row of 32 blocks without bytes behind such a block; or a stretch. None if the first has no room.
     #[inline(always)]
     fn take_part(&mut self, dest: &mut [u8], bytes: &[u8], sentinel: u8) -> usize {
-        if self.left != 0 {
-            return self.take_stretch(dest, bytes, sentinel);
-        }
-        if self.code == FULL || (bytes[0] ^ sentinel) as usize > WIDE_WINDOW {
-            return self.take_block(dest, bytes, sentinel);
-        }
-        let at = self.dest_idx;
-        if self.code == 1
-            && WINDOW <= bytes.len().min(dest.len().saturating_sub(at))
-            && is_all(bytes, 0, 1 ^ sentinel)
-        {
-            write_row(dest, at, 0);
-            self.dest_idx = at + WINDOW;
-            return WINDOW;
+        if self.left == 0 {
+            if self.code == FULL || (bytes[0] ^ sentinel) as usize > WIDE_WINDOW {
+                return self.take_block(dest, bytes, sentinel);
+            }
+            if self.code == 1
+                && WINDOW <= bytes.len().min(dest.len().saturating_sub(self.dest_idx))
+                && is_all(bytes, 0, 1 ^ sentinel)
+            {
+                write_row(dest, self.dest_idx, 0);
+                self.dest_idx += WINDOW;
+                return WINDOW;
+            }
         }
         self.take_stretch(dest, bytes, sentinel)
     }
@@ -126,12 +127,7 @@ impl UnbufferedDecoder {
             return 0;
         }
         // A copy, so that it stays in registers.
-        let mut here = UnbufferedDecoder {
-            dest_idx: self.dest_idx,
-            left: self.left,
-            code: self.code,
-            over: false,
-        };
+        let mut here = UnbufferedDecoder { ..*self };
         let mut run = 0;
         'by_step: while run < bytes.len() && bytes[run] ^ sentinel != 0 {
             let step = here.take_part(dest, &bytes[run..], sentinel);
@@ -140,18 +136,7 @@ impl UnbufferedDecoder {
                 break;
             }
         }
-        self.dest_idx = here.dest_idx;
-        self.left = here.left;
-        self.code = here.code;
+        *self = here;
         run
-    }
-
-    /// Does what `take_run` does, for the sentinel 0, if the bytes are more than a few.
-    #[inline(always)]
-    pub(crate) fn take_quiet(&mut self, dest: &mut [u8], bytes: &[u8]) -> usize {
-        if bytes.len() <= BY_BYTE_MAX {
-            return 0;
-        }
-        self.take_run(dest, bytes, 0)
     }
 }

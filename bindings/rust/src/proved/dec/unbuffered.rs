@@ -10,6 +10,9 @@ use core::mem;
 /// The code of a full block, as a byte.
 pub(crate) const FULL: u8 = FULL_CODE as u8;
 
+/// So few bytes are fed one by one: a run takes some 130 instructions, however short it is.
+const BY_BYTE_MAX: usize = 4;
+
 /// The state of an [`UnbufferedDecoder`]. (A choice of this library.)
 ///
 /// ```
@@ -144,10 +147,8 @@ impl UnbufferedDecoder {
                 over: false,
             },
             DecoderPhase::TooLong => UnbufferedDecoder {
-                dest_idx: 0,
-                left: 0,
-                code: FULL,
                 over: true,
+                ..UnbufferedDecoder::new()
             },
         }
     }
@@ -259,7 +260,9 @@ impl UnbufferedDecoder {
     ) -> Result<Option<DecodeReport>, PushError> {
         let mut at = 0;
         'by_run: while at < bytes.len() {
-            at += self.take_quiet(dest, &bytes[at..]);
+            if BY_BYTE_MAX < bytes.len() - at {
+                at += self.take_run(dest, &bytes[at..], 0);
+            }
             if at < bytes.len() {
                 let parsed_size = at + 1;
                 match self.feed(dest, bytes[at]) {
@@ -300,7 +303,9 @@ impl UnbufferedDecoder {
                 self.reset();
                 return Some((PieceEnd::TooLong, taken + len + 1));
             }
-            taken += self.take_quiet(dest, &bytes[taken..]);
+            if BY_BYTE_MAX < bytes.len() - taken {
+                taken += self.take_run(dest, &bytes[taken..], 0);
+            }
             if taken < bytes.len() {
                 let byte = bytes[taken];
                 let returned = self.feed(dest, byte);

@@ -84,9 +84,10 @@ pub fn decode_short(source: &[u8], dest: &mut [u8]) -> Option<Result<DecodeRepor
     }
     let len = len_without_end(source, 0);
     let left = decode_stretch(&source[..len], dest, 0)?;
-    let result = message_len(len - 1, left == 0);
-    Some(result.map(|frame_size| DecodeReport {
-        parsed_size: source.len(),
-        frame_size,
-    }))
+    Some(
+        message_len(len - 1, left == 0).map(|frame_size| DecodeReport {
+            parsed_size: source.len(),
+            frame_size,
+        }),
+    )
 }
