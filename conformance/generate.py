@@ -92,6 +92,15 @@ def round_words():
         yield b"\1\0" * (length // 2) + b"\2"
 
 
+def dense_messages():
+    """Short blocks behind a first one, so that the codes of some bytes in turn lead from each place to each other."""
+    for first in [0, 1, 6, 14, 15, 16, 40]:
+        for period in [1, 2, 3, 4]:
+            yield counting(first) + b"\0" + (counting(period - 1) + b"\0") * (72 // period) + b"\1"
+        yield counting(first) + b"\0" + b"\0".join(counting(length % 5, 7) for length in range(0, 90, 3))
+        yield counting(first) + b"\0" + b"\0".join(counting(length * length % 11) for length in range(24))
+
+
 def short_sources():
     """Pieces, broken pieces and zeros in every order, up to four bytes."""
     return lists([0, 1, 2, 3], 4)
@@ -187,6 +196,8 @@ def sentinels():
             group.choice("room", "decode_with_sentinel", sentinel, given, filled(room, 255))
             cut = masked(FRAME[:4], sentinel[0])
             group.choice("cut-into", "decode_with_sentinel", sentinel, cut, filled(room, 7))
+    for message in dense_messages():
+        group.choice("dense", "decode_with_sentinel", b"\x55", masked(encoded_frame(message), 0x55), filled(len(message), 7))
     for frame in long_frames():
         group.choice("long", "decode_with_sentinel", b"\x55", masked(frame, 0x55), filled(len(output(frame[:509])), 7))
     return group
@@ -221,6 +232,11 @@ def decoding():
         group.choice("long-out", "decode_vec", frame)
         for room in range(needed - 1, needed + 2):
             group.choice("long-into", "decode", frame, filled(room))
+    for message in dense_messages():
+        frame = encoded_frame(message)
+        group.choice("dense", "decode", frame, filled(len(message) + 1))
+        group.choice("dense-cut", "decode", frame[:-1], filled(len(message)))
+        group.choice("dense-room", "decode", frame, filled(len(message) // 2))
     group.choice("padded", "decode", b"DEADBEEF" + bytes(24), filled(32, 0))
     group.choice("padded", "decode", bytes([68, 69, 65, 68, 66, 69, 69, 70]) + bytes(24), filled(32, 0))
     group.choice("padded", "decode", encoded_frame(filled(254, 1)) + b"\0", filled(254, 0))
@@ -255,6 +271,9 @@ def in_place():
     for frame in long_frames():
         group.choice("long-report", "decode_in_place_report", frame)
         group.choice("long-report", "decode_in_place_report", frame + b"\0\x07")
+    for message in dense_messages():
+        group.choice("dense", "decode_in_place", encoded_frame(message) + b"\0\7")
+        group.choice("dense-cut", "decode_in_place_report", encoded_frame(message)[:-1])
     for length in range(1, len(FRAME) + 1):
         group.choice("cut", "decode_in_place", FRAME[:length])
         group.choice("cut", "decode_in_place", FRAME[:length] + b"\0\x63")
@@ -319,6 +338,10 @@ def decoder():
     for frame in long_frames():
         room = len(output(frame.rstrip(b"\0")))
         group.choice("long", "decoder", filled(room), *in_pieces(frame.rstrip(b"\0") + b"\0\2\5\0", 100))
+    for message in dense_messages():
+        frame = encoded_frame(message)
+        group.choice("dense", "decoder", filled(200), frame + b"\0" + FRAME + b"\0")
+        group.choice("dense", "decoder", filled(128), frame[:20], frame[20:64], frame[64:] + b"\0")
     frame = encoded_frame(with_zero(300, 254))
     group.choice("long", "decoder", filled(299), frame[:255], frame[255:256], frame[256:-1], frame[-1:], b"\0")
     return group
