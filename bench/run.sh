@@ -118,7 +118,11 @@ linked=
 if [ -n "$crate" ] && [ -z "$quick" ]; then
     for place in $places; do
         build "$place" "$top" "lto-$place" -C lto=fat
-        "$out/lto-$place" run jcobs cobs >"$out/lto-$place.csv"
+    done
+    for round in $rounds; do
+        for place in $places; do
+            "$out/lto-$place" run jcobs cobs >"$out/lto-$place-$round.csv"
+        done
     done
     linked="$out/lto-*.csv"
     # shellcheck disable=SC2086 # the files are words
