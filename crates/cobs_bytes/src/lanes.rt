@@ -168,7 +168,7 @@ pub fn move_to_front(buffer: &mut [u8], from: usize, len: usize)
     requires { from + len ≤ length buffer.old }
     ensures { buffer.new ≡ take len (drop from buffer.old) ++ drop len buffer.old }
 {
-    if len >= 64 {
+    if len > 64 {
         move_long(buffer, from, len);
     } else if len > 0 {
         by_width!(len, move_two(buffer, from, len));
