@@ -341,7 +341,7 @@ def decoder():
     for message in dense_messages():
         frame = encoded_frame(message)
         group.choice("dense", "decoder", filled(200), frame + b"\0" + FRAME + b"\0")
-        group.choice("dense", "decoder", filled(128), frame[:20], frame[20:64], frame[64:] + b"\0")
+        group.choice("dense", "decoder", filled(128), frame[:5], frame[5:70], frame[70:] + b"\0")
     frame = encoded_frame(with_zero(300, 254))
     group.choice("long", "decoder", filled(299), frame[:255], frame[255:256], frame[256:-1], frame[-1:], b"\0")
     return group
