@@ -118,7 +118,7 @@ fn move_long(buffer: &mut [u8], from: usize, len: usize) {
 /// Moves the `len` bytes from `from` on to the front of the buffer; the bytes after them there stay.
 #[inline(always)]
 pub fn move_to_front(buffer: &mut [u8], from: usize, len: usize) {
-    if len >= 64 {
+    if len > 64 {
         move_long(buffer, from, len);
     } else if len > 0 {
         by_width!(len, move_two(buffer, from, len));

@@ -10,16 +10,18 @@ pub const WINDOW: usize = 32;
 pub const WIDE_WINDOW: usize = 64;
 
 /// Calls a function over vectors of `N` bytes with the greatest `N`, up to 32, that is at most `len`: two of them, which
-/// may overlap, are `len` bytes, if these are at least one and at most 64.
+/// may overlap, are `len` bytes, if these are at least one and at most 64. Halved, so that a few bytes ask three times.
 macro_rules! by_width {
     ($len:expr, $call:ident($($value:expr),*)) => {{
         let len = $len;
-        if len >= 32 {
-            $call::<32>($($value),*)
-        } else if len >= 16 {
-            $call::<16>($($value),*)
-        } else if len >= 8 {
-            $call::<8>($($value),*)
+        if len >= 8 {
+            if len >= 32 {
+                $call::<32>($($value),*)
+            } else if len >= 16 {
+                $call::<16>($($value),*)
+            } else {
+                $call::<8>($($value),*)
+            }
         } else if len >= 4 {
             $call::<4>($($value),*)
         } else if len >= 2 {

@@ -66,9 +66,7 @@ fn decode_blocks_in_place(buffer: &mut [u8], end: usize) -> Result<usize, Decode
 }
 
 /// Decodes the first `len` bytes of the buffer, if these are 2 to 65 and a frame, and says whether it did. If not, every byte
-/// stays.
-///
-/// A broken frame is not to change the bytes behind what it gives, so all are kept beside, and put back then.
+/// stays: all are kept beside, and put back where a broken frame has changed bytes behind what it gives.
 #[inline(always)]
 fn decode_stretch_in_place(buffer: &mut [u8], len: usize) -> bool {
     let mut old = [0; WIDE_WINDOW];

@@ -128,15 +128,15 @@ impl UnbufferedDecoder {
         }
         // A copy, so that it stays in registers.
         let mut here = UnbufferedDecoder { ..*self };
-        let mut run = 0;
-        'by_step: while run < bytes.len() && bytes[run] ^ sentinel != 0 {
-            let step = here.take_part(dest, &bytes[run..], sentinel);
-            run += step;
+        let mut rest = bytes;
+        'by_step: while !rest.is_empty() && rest[0] ^ sentinel != 0 {
+            let step = here.take_part(dest, rest, sentinel);
+            rest = &rest[step..];
             if step == 0 {
                 break;
             }
         }
         *self = here;
-        run
+        bytes.len() - rest.len()
     }
 }

@@ -23,12 +23,12 @@ pub(crate) fn write_zeros_at_codes(dest: &mut [u8], first: usize) -> (u8, u8) {
     write_zeros_at_codes(&mut dest[first..], code as usize)
 }
 
-/// Whether the first three codes are near enough for vectors to pay: so are those of integers below 65,536, structs and
-/// alternating zeros, which are decoded in half the time. If two were asked, messages of 20 to 600 bytes would take longer.
+/// Whether the first three codes of a long stretch are near enough for vectors to pay, as in structs, integers below 65,536 and
+/// alternating zeros: half the time. With two codes, or in short stretches, telemetry and messages to 600 bytes take longer.
 #[inline(always)]
 pub(crate) fn is_dense(bytes: &[u8], left: usize) -> bool {
     let second = left + bytes[left] as usize;
-    VECTOR <= bytes.len() && second <= 7 && second + (bytes[second] as usize) <= 12
+    WIDE_WINDOW <= bytes.len() && second <= 7 && second + (bytes[second] as usize) <= 12
 }
 
 /// Writes a zero over each code in 16 bytes, of which the first is behind `left` bytes; returns the last code, and how many
