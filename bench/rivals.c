@@ -118,6 +118,52 @@ size_t bytes_decode_in_place(unsigned char *buffer, size_t len)
     return decode_bytes(buffer, len, buffer, len);
 }
 
+/* The same, with the library's answer. */
+
+jcobs_answer reported_encode(const unsigned char *source, size_t len, unsigned char *dest, size_t room)
+{
+    size_t length = bytes_encode(source, len, dest, room);
+
+    if (length == RIVAL_FAILED)
+        return (jcobs_answer){JCOBS_TOO_SMALL, 0, 0};
+    return (jcobs_answer){JCOBS_OK, len, length};
+}
+
+static jcobs_answer reported(const unsigned char *source, size_t len, unsigned char *dest, size_t room)
+{
+    size_t from = 0, to = 0;
+
+    if (len == 0)
+        return (jcobs_answer){JCOBS_EMPTY, 0, 0};
+    while (from < len && source[from] != 0) {
+        unsigned char code = source[from++], i;
+
+        for (i = 1; i < code; i++) {
+            if (from >= len || source[from] == 0)
+                return (jcobs_answer){JCOBS_BROKEN, from + (from < len), to};
+            if (to >= room)
+                return (jcobs_answer){JCOBS_TOO_SMALL, from, to};
+            dest[to++] = source[from++];
+        }
+        if (code != 255 && from < len && source[from] != 0) {
+            if (to >= room)
+                return (jcobs_answer){JCOBS_TOO_SMALL, from, to};
+            dest[to++] = 0;
+        }
+    }
+    return (jcobs_answer){JCOBS_OK, from + (from < len), to};
+}
+
+jcobs_answer reported_decode(const unsigned char *source, size_t len, unsigned char *dest, size_t room)
+{
+    return reported(source, len, dest, room);
+}
+
+jcobs_answer reported_decode_in_place(unsigned char *buffer, size_t len)
+{
+    return reported(buffer, len, buffer, len);
+}
+
 static void add(struct rival_decoder *decoder, unsigned char *buffer, size_t room, unsigned char byte)
 {
     if (decoder->written < room)

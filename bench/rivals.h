@@ -1,8 +1,10 @@
 /* What a C programmer would write in place of the library: COBS without checks, with every check byte by byte, and with
  * every check by memchr and memcpy. Byte and streaming calls are as such code usually has them: a state by its address and a
- * length as the result. */
+ * length as the result. Byte by byte there are also calls that return as much as the library's. */
 #ifndef RIVALS_H
 #define RIVALS_H
+
+#include "../bindings/c/include/jcobs.h"
 
 #include <stddef.h>
 
@@ -24,6 +26,11 @@ struct rival_encoder {
 /* Whole messages. They return the length of the result. The calls of `unchecked` trust the frame and the room. */
 typedef size_t rival_code(const unsigned char *source, size_t len, unsigned char *dest, size_t room);
 rival_code unchecked_encode, unchecked_decode, bytes_encode, bytes_decode, memchr_encode, memchr_decode;
+
+/* The same, with every check and with the library's answer. */
+typedef jcobs_answer rival_reported(const unsigned char *source, size_t len, unsigned char *dest, size_t room);
+rival_reported reported_encode, reported_decode;
+jcobs_answer reported_decode_in_place(unsigned char *buffer, size_t len);
 
 /* In the buffer itself, up to its first zero. */
 typedef size_t rival_in_place(unsigned char *buffer, size_t len);

@@ -39,6 +39,9 @@ unsafe extern "C" {
     fn bytes_decoder_push(decoder: &mut State, buffer: *mut u8, room: usize, bytes: *const u8, len: usize, length: &mut usize) -> usize;
     fn bytes_encoder_feed(encoder: &mut State, buffer: *mut u8, room: usize, byte: u8) -> i32;
     fn bytes_encoder_push(encoder: &mut State, buffer: *mut u8, room: usize, bytes: *const u8, len: usize) -> i32;
+    fn reported_encode(source: *const u8, len: usize, dest: *mut u8, room: usize) -> Answer;
+    fn reported_decode(source: *const u8, len: usize, dest: *mut u8, room: usize) -> Answer;
+    fn reported_decode_in_place(buffer: *mut u8, len: usize) -> Answer;
     fn memchr_encode(source: *const u8, len: usize, dest: *mut u8, room: usize) -> usize;
     fn memchr_decode(source: *const u8, len: usize, dest: *mut u8, room: usize) -> usize;
     fn memchr_decode_in_place(buffer: *mut u8, len: usize) -> usize;
@@ -47,7 +50,7 @@ unsafe extern "C" {
     fn rival_encoder_finish(encoder: &mut State, buffer: *mut u8, room: usize) -> usize;
 }
 
-/// The length in an answer of libjcobs whose status is "ok".
+/// The length in an answer whose status is "ok".
 fn ok(answer: Answer) -> usize {
     assert_eq!(answer.status, 0);
     answer.length
@@ -122,6 +125,21 @@ fn encoded(
         sum += finish(&mut state);
     }
     sum
+}
+
+/// Byte by byte, with the answer of libjcobs.
+pub fn reported(call: &str, work: &mut Work) -> Option<usize> {
+    let Work { messages, frames, room, copies, .. } = work;
+    let (to, room) = (room.as_mut_ptr(), room.len());
+    // SAFETY: each pointer comes with its slice's length.
+    Some(unsafe {
+        match call {
+            "encode" => messages.iter().map(|m| ok(reported_encode(m.as_ptr(), m.len(), to, room))).sum(),
+            "decode" => frames.iter().map(|f| ok(reported_decode(f.as_ptr(), f.len(), to, room))).sum(),
+            "in place" => copies.iter_mut().map(|f| ok(reported_decode_in_place(f.as_mut_ptr(), f.len()))).sum(),
+            _ => return None,
+        }
+    })
 }
 
 /// The calls of a rival that rivals.c has.

@@ -22,7 +22,7 @@ pub const CALLS: [&str; 13] = [
 ];
 
 /// What ships, then what someone would take instead, then the limit.
-pub const WHO: [&str; 8] = ["libjcobs", "jcobs", "cobs", "unchecked", "bytes", "memchr", "simd", "limit"];
+pub const WHO: [&str; 9] = ["libjcobs", "jcobs", "cobs", "unchecked", "bytes", "reported", "memchr", "simd", "limit"];
 
 /// The sentinel of the calls that take one.
 pub const SENTINEL: u8 = 0x7E;
@@ -84,6 +84,7 @@ pub fn once(call: &str, who: &str, work: &mut Work) -> Option<usize> {
         "jcobs" => crates::jcobs::once(call, work),
         #[cfg(with_crate)]
         "cobs" => crates::cobs::once(call, work),
+        "reported" => c::reported(call, work),
         "unchecked" | "bytes" | "memchr" => c::rival(who, call, work),
         "simd" => simd::once(call, work),
         "limit" => limit(call, work),

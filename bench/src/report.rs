@@ -46,6 +46,7 @@ fn name_of(who: &str) -> &str {
         "cobs" => "the crate `cobs`",
         "unchecked" => "C without checks",
         "bytes" => "checked C",
+        "reported" => "checked C with `jcobs_answer`",
         "memchr" => "C by memchr",
         "simd" => "SIMD by hand",
         "limit" => "memcpy",
@@ -55,7 +56,7 @@ fn name_of(who: &str) -> &str {
 
 /// Whom each of the two is compared with.
 fn rivals(who: &str) -> &'static [&'static str] {
-    if who == "jcobs" { &["cobs"] } else { &["unchecked", "bytes", "memchr", "simd", "limit"] }
+    if who == "jcobs" { &["cobs"] } else { &["unchecked", "bytes", "reported", "memchr", "simd", "limit"] }
 }
 
 /// A table with a row for each of these workloads and a column for each call that has a value.
