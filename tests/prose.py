@@ -38,7 +38,7 @@ NAME_WORDS = re.compile(r"answer(s|ed)?|refus\w*|lack\w*|tell\w*|told", re.I)
 NAMED = re.compile(r"crates/[^/]+/(src|specs)/.*\.(rt|antt)")
 # The public names that stay, by the files that have them. The clauses `answer` and `refused` of public calls stay too.
 PUBLIC_NAMES = [
-    (r"crates/cobs(_abi|_live|_doc_vectors)?/", r"\blacking\b"),  # of `DecoderPhase` and `jcobs_decoder`
+    (r"crates/cobs(_abi|_c|_live|_doc_vectors)?/", r"\blacking\b"),  # of `DecoderPhase` and `jcobs_decoder`
     (r"crates/cobs_(abi|c|small)/", r"\bAnswer\b|(?:\bcrate::|\bdeclared\.|\bmod |\buse )answer\b"),  # `jcobs_answer`
 ]
 LIMITS = {"README.md": 900}

@@ -36,13 +36,13 @@ known P Q weaker t = record {
   full_block = t.full_block;
 }
 
+-- one more byte of the source
+pub more_by : (source : List ℕ) (i : ℕ) (m : List ℕ) (b : ℕ) → get_or source i 0 ≡ b → i < length source → (m ++ take i source) ++ b ∷ [] ≡ m ++ take (i + 1) source
+more_by source i m b is more = append_assoc m (take i source) (b ∷ []) ∙ ap (λ (x : ℕ). m ++ (take i source ++ x ∷ [])) (sym is) ∙ ap (λ (x : List ℕ). m ++ x) (sym (take_more source i 0 more))
+
 module _ (law : StepLaw) (H : List ℕ → Type 0) (source old slice : List ℕ) (end i index code : ℕ) where
   least_by : (index' code' i' : ℕ) → 0 < code' → index' + open_len code' (drop i' source) ≡ end → index' + code' + (length source - i') ≤ end
   least_by index' code' i' some room = omega (arith, room, length-drop i' source, len-least law.lower code' (drop i' source) some)
-
-  -- one more byte of the source
-  more_by : (m : List ℕ) (b : ℕ) → get_or source i 0 ≡ b → i < length source → (m ++ take i source) ++ b ∷ [] ≡ m ++ take (i + 1) source
-  more_by m b is more = append_assoc m (take i source) (b ∷ []) ∙ ap (λ (x : ℕ). m ++ (take i source ++ x ∷ [])) (sym is) ∙ ap (λ (x : List ℕ). m ++ x) (sym (take_more source i 0 more))
 
   module _ (more : i < length source) (fits : end ≤ length slice) where
     -- a full block is closed, since the message goes on
@@ -77,13 +77,13 @@ module _ (law : StepLaw) (H : List ℕ → Type 0) (source old slice : List ℕ)
                 let o = t.open_block short m h in (
                   false,
                   refl,
-                  subst (CobsEncoderAfter (set slice (index + code) b) (place_at index (code + 1) false)) (more_by m b is more)
+                  subst (CobsEncoderAfter (set slice (index + code) b) (place_at index (code + 1) false)) (more_by source i m b is more)
                       (law.joins slice (m ++ take i source) (place_at index code o.0) b o.2 nz (omega (arith, open')) within),
                 )
                 );
             full_block = λ full m h. (
                 let o = t.open_block short m h in
-                subst (CobsEncoderAfter (set (set slice (index + code) b) index 255) (place_at (index + 255) 1 true)) (more_by m b is more)
+                subst (CobsEncoderAfter (set (set slice (index + code) b) index 255) (place_at (index + 255) 1 true)) (more_by source i m b is more)
                 (law.fills slice (m ++ take i source) (place_at index code o.0) b o.2 nz (omega (arith, full)) within)
                 );
           }
@@ -102,7 +102,7 @@ module _ (law : StepLaw) (H : List ℕ → Type 0) (source old slice : List ℕ)
                 let o = t.open_block short m h in (
                   false,
                   refl,
-                  subst (CobsEncoderAfter (set slice index code) (place_at (index + code) 1 false)) (more_by m 0 is more) (law.closes slice (m ++ take i source) (place_at index code o.0) o.2 within),
+                  subst (CobsEncoderAfter (set slice index code) (place_at (index + code) 1 false)) (more_by source i m 0 is more) (law.closes slice (m ++ take i source) (place_at index code o.0) o.2 within),
                 )
                 );
             full_block = λ e. absurd (omega (arith, e));

@@ -2,6 +2,7 @@ mod BlockLemmas
 mod BlockSteps
 mod CoderLaws
 pub mod FinishLemmas
+mod OpenSteps
 mod PlaceLemmas
 pub mod RoomLemmas
 pub mod WritesLemmas

@@ -89,3 +89,42 @@ pub(crate) fn append(bytes: &[u8], buffer: &mut [u8], start: EncoderProgress) ->
         is_full: true,
     }
 }
+
+/// Takes some bytes that fit and can't fill the open block into the frame that the buffer holds as far as `start` says, and
+/// returns how far it has come then. What is in the place of the open block's code isn't said.
+///
+/// No branch asks for a zero, which could be guessed wrong: among random bytes with 30 % zeros 8 take half the time of
+/// [`append`].
+#[inline(always)]
+pub(crate) fn append_open(
+    bytes: &[u8],
+    buffer: &mut [u8],
+    start: EncoderProgress,
+) -> EncoderProgress
+    requires some { bytes.now ≢ [] }
+    requires code { 0 < start.code }
+    requires short { start.code + length bytes.now < 255 }
+    requires fits { start.index + start.code + length bytes.now ≤ length buffer.old }
+    ensures taken { (m : List ℕ) → CobsEncoderAfter buffer.old (reached_at start) m
+        → CobsEncoderAfter buffer.new (reached_at result) (m ++ bytes.now) }
+    ensures end { end_of (reached_at result) ≡ start.index + start.code + length bytes.now }
+    ensures code { 0 < result.code }
+    ensures rest { let end = end_of (reached_at result) in
+        drop end buffer.new ≡ drop end buffer.old }
+{
+    law_16();
+    let mut index = start.index;
+    let mut next = start.index + start.code as usize;
+    'by_byte: for i in 0..bytes.len() {
+        let byte = bytes[i];
+        buffer[next] = byte;
+        buffer[index] = (next - index) as u8;
+        index = if byte == 0 { next } else { index };
+        next += 1;
+    }
+    EncoderProgress {
+        index,
+        code: (next - index) as u8,
+        is_full: false,
+    }
+}

@@ -7,7 +7,8 @@ ghost use Rattle.cobs_abi.specs.Stream.{EncodesNext, Finishes, IsFreshEncoder};
 use cobs::UnbufferedEncoder;
 use cobs::laws::{law_2, law_6, law_13};
 use cobs_abi::{
-    Answer, Encoder, OK, done, encode_each, end_of, finish, finish_terminated, too_small,
+    Answer, Encoder, OK, done, encode_each, encode_short, end_of, finish, finish_terminated,
+    too_small,
 };
 
 /// Makes the encoder one that has taken nothing, even if its state is corrupt.
@@ -30,6 +31,9 @@ pub extern "C" fn jcobs_encoder_push(
         encoder.new buffer.new }
 {
     law_13();
+    if let Some(returned) = encode_short(encoder, buffer, bytes) {
+        return returned;
+    }
     let mut unbuffered = UnbufferedEncoder::from_progress(encoder.progress());
     if unbuffered.push(buffer, bytes).is_err() {
         return too_small();
@@ -55,6 +59,9 @@ pub extern "C" fn jcobs_encoder_feed(encoder: &mut Encoder, buffer: &mut [u8], b
     ensures encodes { EncodesNext encoder.old buffer.old (byte ∷ []) result
         encoder.new buffer.new }
 {
+    if let Some(returned) = encode_short(encoder, buffer, &[byte]) {
+        return returned;
+    }
     encode_each(encoder, buffer, &[byte])
 }
 
