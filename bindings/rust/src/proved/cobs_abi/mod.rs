@@ -16,5 +16,5 @@ pub use answer::{Answer, BROKEN, EMPTY, MORE, OK, TOO_SMALL, done, result_by, to
 pub use decoder::{DECODER_START, Decoder};
 pub use decoding::{decode_each, piece_end, result_of};
 pub use encoder::{ENCODER_START, Encoder, end_of};
-pub use encoding::{encode_each, encode_within, finish, finish_terminated};
+pub use encoding::{encode_each, encode_short, encode_within, finish, finish_terminated};
 pub use kind::{CANONICAL, LONGER, NOT_A_FRAME};
