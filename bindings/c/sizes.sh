@@ -15,6 +15,10 @@ linker() { # ARCH
     if [ "$1" = "$(uname -m)" ]; then echo ld; else echo "$1-linux-gnu-ld"; fi
 }
 
+for arch in x86_64 aarch64; do
+    command -v "$(linker $arch)" >/dev/null || { echo "sizes.sh: it needs $(linker $arch)" >&2; exit 1; }
+done
+
 bytes() { # ARCH FLAGS CALL..
     arch=$1
     flags=$2
