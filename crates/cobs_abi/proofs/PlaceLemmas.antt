@@ -8,6 +8,7 @@ use Rattle.cobs.specs.OpenBlock.{Reached, CobsEncoderAfter, end_of, next_of}
 use Rattle.cobs_abi.specs.Frames.{IsFrameOnWire}
 use Rattle.cobs_abi.specs.State.{reached_in}
 use Rattle.cobs_abi.specs.Stream.{Finishes}
+use Rattle.cobs_abi.specs.declared.answer.Answer.{Answer}
 use Rattle.cobs_abi.specs.declared.answer.TheConstants.{TOO_SMALL}
 use Rattle.cobs_abi.specs.declared.encoder.Encoder.{Encoder}
 
@@ -30,6 +31,17 @@ nothing (b ∷ bytes) e = absurd (omega arith)
 
 pub something : (bytes : List ℕ) → length bytes ≢ 0 → bytes ≢ []
 something bytes some e = some (ap length e)
+
+pub some-length : (bytes : List ℕ) → bytes ≢ [] → 0 < length bytes
+some-length [] some = absurd (some refl)
+some-length (b ∷ bytes) some = omega arith
+
+-- what two results have alike that are equal
+abbrev pub length_of : Answer → ℕ
+length_of returned = returned.length
+
+abbrev pub status_of : Answer → ℕ
+status_of returned = returned.status
 
 -- behind the frame it is as it was
 pub closed-rest : (slice after : List ℕ) (r : Reached) → 0 < r.block.code → (r.full ≡ false → after ≡ set slice r.block.index r.block.code) → (r.full ≡ true → after ≡ slice)

@@ -50,7 +50,9 @@ pub extern "C" fn jcobs_encoder_finish(encoder: &mut Encoder, buffer: &mut [u8])
     ensures finishes { Finishes 0 IsFrameOnWire encoder.old buffer.old result
         encoder.new buffer.new }
 {
-    finish(encoder, buffer)
+    let returned = finish(encoder, buffer);
+    // Field by field, as compilers join the results of two ends in memory else.
+    Answer { ..returned }
 }
 
 /// Takes the next byte of a message, as `jcobs_encoder_push` does.
@@ -124,5 +126,6 @@ pub extern "C" fn jcobs_encoder_finish_terminated(
     ensures finishes { Finishes 1 (IsTerminatedFrame 0) encoder.old buffer.old result
         encoder.new buffer.new }
 {
-    finish_terminated(encoder, buffer)
+    let returned = finish_terminated(encoder, buffer);
+    Answer { ..returned }
 }

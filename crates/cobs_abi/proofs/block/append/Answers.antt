@@ -1,4 +1,4 @@
-use Rattle.std.proofs.Common.{◌+◌, ◌-◌, ◌≡◌, ◌≢◌, ◌<◌, ◌≤◌, false, arith, refl, sym, ◌∙◌, Bool, List, [], ◌∷◌, append-nil, drop, length, length-drop, get_or, subst, ℕ}
+use Rattle.std.proofs.Common.{◌+◌, ◌-◌, ◌≡◌, ◌<◌, ◌≤◌, false, arith, refl, sym, ◌∙◌, Bool, append-nil, drop, length, length-drop, get_or, subst, ℕ}
 use Rattle.std.proofs.lemmas.List.{drop-set-lt}
 use Rattle.cobs.specs.OpenBlock.{CobsEncoderAfter}
 use Rattle.cobs.specs.Fields.Encoders.{reached_at}
@@ -6,6 +6,7 @@ use Rattle.cobs.specs.Length.{open_len}
 use Rattle.cobs_abi.proofs.BlockLemmas.{len-full, len-least}
 use Rattle.cobs_abi.proofs.BlockSteps.{Any, Taken, byte-joined, ends, full-closed, full-taken, known, open-taken, zero-closed}
 use Rattle.cobs_abi.proofs.CoderLaws.{LengthLaw, StepLaw}
+use Rattle.cobs_abi.proofs.PlaceLemmas.{some-length}
 use Rattle.cobs_abi.proofs.block.append.Goals as goal
 use Rattle.cobs_abi.proofs.block.append.Goals.{Then-code, Then-code-2, then-code, else-code, then-byte-ne0, else-byte-ne0}
 
@@ -21,10 +22,6 @@ by_byte-init c =
       open_block = λ _ m h. (p.is_full, λ none. absurd (omega (arith, none)), subst (CobsEncoderAfter c.args.buffer.now (reached_at p)) (sym (append-nil m)) h);
       full_block = λ full. absurd (omega (arith, full, c.requires.open_block));
     }
-
-some-length : (xs : List ℕ) → xs ≢ [] → 0 < length xs
-some-length [] some = absurd (some refl)
-some-length (x ∷ xs) some = omega arith
 
 pub by_byte-preserved : goal.by_byte-preserved
 by_byte-preserved c =

@@ -1,10 +1,11 @@
-use Rattle.std.proofs.Common.{◌≡◌, ◌+◌, ◌-◌, ◌<◌, ◌++◌, Bool, false, ℕ, List, [], ◌∷◌, length, take, get_or, refl, sym, ◌∙◌, subst, arith, append-nil, take_all}
+use Rattle.std.proofs.Common.{◌≡◌, ◌+◌, ◌-◌, ◌<◌, ◌++◌, Bool, false, ℕ, List, [], length, take, get_or, refl, sym, ◌∙◌, subst, arith, append-nil, take_all}
 use Rattle.std.proofs.Math.ListN.{set}
 use Rattle.std.proofs.lemmas.List.{drop-set-lt}
 use Rattle.cobs.specs.OpenBlock.{CobsEncoderAfter, place_at}
 use Rattle.cobs.specs.Fields.Encoders.{reached_at}
 use Rattle.cobs_abi.proofs.BlockSteps.{more_by}
 use Rattle.cobs_abi.proofs.OpenSteps.{joined, closed}
+use Rattle.cobs_abi.proofs.PlaceLemmas.{some-length}
 use Rattle.cobs_abi.proofs.block.append_open.Goals as goal
 use Rattle.cobs_abi.proofs.block.append_open.Goals.{then-byte-eq0, else-byte-eq0}
 
@@ -66,10 +67,6 @@ by_byte-preserved c =
             ),
       )
     ]
-
-some-length : (xs : List ℕ) → (xs ≡ [] → ⊥) → 0 < length xs
-some-length [] some = absurd (some refl)
-some-length (x ∷ xs) some = omega arith
 
 pub returns-clause-taken : goal.returns-clause-taken
 returns-clause-taken c = λ m h.

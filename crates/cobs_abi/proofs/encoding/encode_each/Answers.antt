@@ -4,16 +4,9 @@ use Rattle.cobs.specs.Length.{encoded_len}
 use Rattle.cobs.specs.OpenBlock.{Reached, CobsEncoderAfter, end_of}
 use Rattle.cobs.specs.Fields.Encoders.{reached_at}
 use Rattle.cobs_abi.specs.State.{reached_in}
-use Rattle.cobs_abi.specs.declared.answer.Answer.{Answer}
 use Rattle.cobs_abi.proofs.BlockLemmas.{after-len}
-use Rattle.cobs_abi.proofs.PlaceLemmas.{nothing, something}
+use Rattle.cobs_abi.proofs.PlaceLemmas.{length_of, nothing, something, status_of}
 use Rattle.cobs_abi.proofs.encoding.encode_each.Goals as goal
-
-abbrev length_of : Answer → ℕ
-length_of returned = returned.length
-
-abbrev status_of : Answer → ℕ
-status_of returned = returned.status
 
 pub returns-then-not-is_place : goal.returns-then-not-is_place
 returns-then-not-is_place c = record {

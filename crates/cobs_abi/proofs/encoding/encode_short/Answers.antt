@@ -2,15 +2,9 @@ use Rattle.std.proofs.Common.{rules, ◌++◌, ℕ, List, sym, ap, subst, arith}
 use Rattle.cobs.specs.OpenBlock.{Reached, CobsEncoderAfter}
 use Rattle.cobs.specs.Fields.Encoders.{reached_at}
 use Rattle.cobs_abi.specs.State.{reached_in}
-use Rattle.cobs_abi.specs.declared.answer.Answer.{Answer}
+use Rattle.cobs_abi.proofs.PlaceLemmas.{length_of, status_of}
 use Rattle.cobs_abi.proofs.encoding.encode_short.Goals as goal
 use Rattle.cobs_abi.proofs.encoding.encode_short.Goals.{After-done}
-
-abbrev length_of : Answer → ℕ
-length_of returned = returned.length
-
-abbrev status_of : Answer → ℕ
-status_of returned = returned.status
 
 abbrev bytes_of : After-done → List ℕ
 bytes_of c = c.args.bytes.now
