@@ -164,6 +164,158 @@ jcobs_answer reported_decode_in_place(unsigned char *buffer, size_t len)
     return reported(buffer, len, buffer, len);
 }
 
+/* Streams with the library's states, whose numbers may be any, and its answer. */
+
+/* The end of a frame, or MORE if none has begun. */
+static jcobs_answer end_reported(jcobs_decoder was, size_t room, size_t consumed)
+{
+    if (was.too_long || (was.lacking == 0 && was.written > room))
+        return (jcobs_answer){JCOBS_TOO_SMALL, consumed, room};
+    if (was.lacking > 0)
+        return (jcobs_answer){JCOBS_BROKEN, consumed, was.written < room ? was.written : room};
+    return (jcobs_answer){was.written == 0 && !was.joint ? JCOBS_MORE : JCOBS_OK, consumed, was.written};
+}
+
+static void take_reported(jcobs_decoder *decoder, unsigned char *buffer, size_t room, unsigned char byte)
+{
+    if (decoder->too_long)
+        return;
+    if (decoder->lacking > 0 || decoder->joint) {
+        if (decoder->written >= room) {
+            decoder->too_long = 1;
+            return;
+        }
+        buffer[decoder->written++] = decoder->lacking > 0 ? byte : 0;
+    }
+    if (decoder->lacking > 0) {
+        decoder->lacking--;
+    } else {
+        decoder->lacking = (unsigned char)(byte - 1);
+        decoder->joint = byte != 255;
+    }
+}
+
+/* `bytes` are as many as `len` says. The state is kept in registers until the end. */
+jcobs_answer reported_decoder_push(jcobs_decoder *decoder, unsigned char *buffer, size_t room,
+                                   const unsigned char *bytes, size_t len)
+{
+    jcobs_decoder here = *decoder;
+    size_t i;
+
+    for (i = 0; i < len; i++) {
+        if (bytes[i] == 0) {
+            jcobs_answer answer = end_reported(here, room, i + 1);
+
+            here = (jcobs_decoder)JCOBS_DECODER_INIT;
+            if (answer.status != JCOBS_MORE) {
+                *decoder = here;
+                return answer;
+            }
+        } else {
+            take_reported(&here, buffer, room, bytes[i]);
+        }
+    }
+    *decoder = here;
+    return (jcobs_answer){JCOBS_MORE, len, here.too_long || here.written > room ? room : here.written};
+}
+
+jcobs_answer reported_decoder_feed(jcobs_decoder *decoder, unsigned char *buffer, size_t room, unsigned char byte)
+{
+    if (byte == 0) {
+        jcobs_decoder was = *decoder;
+
+        *decoder = (jcobs_decoder)JCOBS_DECODER_INIT;
+        return end_reported(was, room, 1);
+    }
+    take_reported(decoder, buffer, room, byte);
+    return (jcobs_answer){JCOBS_MORE, 1, decoder->too_long || decoder->written > room ? room : decoder->written};
+}
+
+/* Whether the numbers are those of an encoder over such a buffer. */
+static int is_place(const jcobs_encoder *encoder, size_t room)
+{
+    return encoder->taken < 254 && encoder->index <= room && (encoder->full || encoder->taken < room - encoder->index);
+}
+
+static size_t frame_end(const jcobs_encoder *encoder)
+{
+    return encoder->full ? encoder->index : encoder->index + encoder->taken + 1;
+}
+
+static void append_reported(jcobs_encoder *encoder, unsigned char *buffer, unsigned char byte)
+{
+    size_t next = encoder->index + encoder->taken + 1;
+
+    encoder->full = 0;
+    if (byte == 0) {
+        buffer[encoder->index] = (unsigned char)(encoder->taken + 1);
+        encoder->index = next;
+        encoder->taken = 0;
+        return;
+    }
+    buffer[next] = byte;
+    if (++encoder->taken == 254) {
+        buffer[encoder->index] = 255;
+        encoder->index = next + 1;
+        encoder->taken = 0;
+        encoder->full = 1;
+    }
+}
+
+/* Where the frame ends once the bytes are taken. */
+static size_t end_after(jcobs_encoder encoder, const unsigned char *bytes, size_t len)
+{
+    size_t i;
+
+    for (i = 0; i < len; i++) {
+        encoder.taken++;
+        encoder.full = 0;
+        if (bytes[i] == 0 || encoder.taken == 254) {
+            encoder.index += encoder.taken + (bytes[i] != 0);
+            encoder.taken = 0;
+            encoder.full = bytes[i] != 0;
+        }
+    }
+    return frame_end(&encoder);
+}
+
+/* A push without room changes nothing: the bytes are counted first, but if the longest frame has room. */
+jcobs_answer reported_encoder_push(jcobs_encoder *encoder, unsigned char *buffer, size_t room,
+                                   const unsigned char *bytes, size_t len)
+{
+    jcobs_encoder here = *encoder;
+    size_t i;
+
+    if (!is_place(encoder, room))
+        return (jcobs_answer){JCOBS_TOO_SMALL, 0, 0};
+    if (room - here.index <= here.taken + len + (here.taken + len) / 254 && end_after(here, bytes, len) > room)
+        return (jcobs_answer){JCOBS_TOO_SMALL, 0, 0};
+    for (i = 0; i < len; i++)
+        append_reported(&here, buffer, bytes[i]);
+    *encoder = here;
+    return (jcobs_answer){JCOBS_OK, len, frame_end(&here)};
+}
+
+jcobs_answer reported_encoder_feed(jcobs_encoder *encoder, unsigned char *buffer, size_t room, unsigned char byte)
+{
+    if (!is_place(encoder, room) || encoder->taken + 1u >= room - encoder->index)
+        return (jcobs_answer){JCOBS_TOO_SMALL, 0, 0};
+    append_reported(encoder, buffer, byte);
+    return (jcobs_answer){JCOBS_OK, 1, frame_end(encoder)};
+}
+
+jcobs_answer reported_encoder_finish(jcobs_encoder *encoder, unsigned char *buffer, size_t room)
+{
+    size_t length = frame_end(encoder);
+
+    if (room == 0 || !is_place(encoder, room))
+        return (jcobs_answer){JCOBS_TOO_SMALL, 0, 0};
+    if (!encoder->full)
+        buffer[encoder->index] = (unsigned char)(encoder->taken + 1);
+    *encoder = (jcobs_encoder)JCOBS_ENCODER_INIT;
+    return (jcobs_answer){JCOBS_OK, 0, length};
+}
+
 static void add(struct rival_decoder *decoder, unsigned char *buffer, size_t room, unsigned char byte)
 {
     if (decoder->written < room)

@@ -1,6 +1,6 @@
 /* What a C programmer would write in place of the library: COBS without checks, with every check byte by byte, and with
  * every check by memchr and memcpy. Byte and streaming calls are as such code usually has them: a state by its address and a
- * length as the result. Byte by byte there are also calls that return as much as the library's. */
+ * length as the result. Byte by byte there are also calls that check and return as much as the library's. */
 #ifndef RIVALS_H
 #define RIVALS_H
 
@@ -35,6 +35,15 @@ jcobs_answer reported_decode_in_place(unsigned char *buffer, size_t len);
 /* In the buffer itself, up to its first zero. */
 typedef size_t rival_in_place(unsigned char *buffer, size_t len);
 rival_in_place unchecked_decode_in_place, bytes_decode_in_place, memchr_decode_in_place;
+
+/* Streams with every check, and with the library's state, which may hold any numbers, and answer. */
+jcobs_answer reported_decoder_feed(jcobs_decoder *decoder, unsigned char *buffer, size_t room, unsigned char byte);
+jcobs_answer reported_decoder_push(jcobs_decoder *decoder, unsigned char *buffer, size_t room,
+                                   const unsigned char *bytes, size_t len);
+jcobs_answer reported_encoder_feed(jcobs_encoder *encoder, unsigned char *buffer, size_t room, unsigned char byte);
+jcobs_answer reported_encoder_push(jcobs_encoder *encoder, unsigned char *buffer, size_t room,
+                                   const unsigned char *bytes, size_t len);
+jcobs_answer reported_encoder_finish(jcobs_encoder *encoder, unsigned char *buffer, size_t room);
 
 /* One byte of a stream. */
 size_t bytes_decoder_feed(struct rival_decoder *decoder, unsigned char *buffer, size_t room, unsigned char byte);

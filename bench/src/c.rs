@@ -15,6 +15,9 @@ type Code = unsafe extern "C" fn(*const u8, usize, *mut u8, usize) -> usize;
 type InPlace = unsafe extern "C" fn(*mut u8, usize) -> usize;
 type Push = unsafe extern "C" fn(&mut State, *mut u8, usize, *const u8, usize, &mut usize) -> usize;
 type Take = unsafe extern "C" fn(&mut State, *mut u8, usize, *const u8, usize) -> i32;
+type FeedOne = unsafe extern "C" fn(&mut State, *mut u8, usize, u8) -> Answer;
+type PushSome = unsafe extern "C" fn(&mut State, *mut u8, usize, *const u8, usize) -> Answer;
+type Finish = unsafe extern "C" fn(&mut State, *mut u8, usize) -> Answer;
 
 #[rustfmt::skip]
 unsafe extern "C" {
@@ -42,6 +45,11 @@ unsafe extern "C" {
     fn reported_encode(source: *const u8, len: usize, dest: *mut u8, room: usize) -> Answer;
     fn reported_decode(source: *const u8, len: usize, dest: *mut u8, room: usize) -> Answer;
     fn reported_decode_in_place(buffer: *mut u8, len: usize) -> Answer;
+    fn reported_decoder_push(decoder: &mut State, buffer: *mut u8, room: usize, bytes: *const u8, len: usize) -> Answer;
+    fn reported_decoder_feed(decoder: &mut State, buffer: *mut u8, room: usize, byte: u8) -> Answer;
+    fn reported_encoder_push(encoder: &mut State, buffer: *mut u8, room: usize, bytes: *const u8, len: usize) -> Answer;
+    fn reported_encoder_feed(encoder: &mut State, buffer: *mut u8, room: usize, byte: u8) -> Answer;
+    fn reported_encoder_finish(encoder: &mut State, buffer: *mut u8, room: usize) -> Answer;
     fn memchr_encode(source: *const u8, len: usize, dest: *mut u8, room: usize) -> usize;
     fn memchr_decode(source: *const u8, len: usize, dest: *mut u8, room: usize) -> usize;
     fn memchr_decode_in_place(buffer: *mut u8, len: usize) -> usize;
@@ -63,10 +71,19 @@ fn ended(length: usize) -> Option<usize> {
 }
 
 pub fn libjcobs(call: &str, work: &mut Work) -> Option<usize> {
-    let chunk = chunk_of(call, work);
-    let Work { messages, frames, sentinel_frames, stream, room, copies, .. } = work;
+    let streams = Streams {
+        feed: jcobs_decoder_feed,
+        push: jcobs_decoder_push,
+        encoder_feed: jcobs_encoder_feed,
+        encoder_push: jcobs_encoder_push,
+        finish: jcobs_encoder_finish,
+    };
+    if let Some(sum) = streams.once(call, work) {
+        return Some(sum);
+    }
+    let Work { messages, frames, sentinel_frames, room, copies, .. } = work;
     let (to, room) = (room.as_mut_ptr(), room.len());
-    // SAFETY: a state is large enough and zeros at first, and each pointer comes with its slice's length.
+    // SAFETY: each pointer comes with its slice's length.
     Some(unsafe {
         match call {
             "encode" => messages.iter().map(|m| ok(jcobs_encode(m.as_ptr(), m.len(), to, room))).sum(),
@@ -78,35 +95,57 @@ pub fn libjcobs(call: &str, work: &mut Work) -> Option<usize> {
                 sentinel_frames.iter().map(|f| ok(jcobs_decode_with_sentinel(f.as_ptr(), f.len(), to, room, SENTINEL))).sum()
             }
             "in place" => copies.iter_mut().map(|f| ok(jcobs_decode_in_place(f.as_mut_ptr(), f.len()))).sum(),
-            "encoder feed" => encoded(
-                messages,
-                1,
-                |state, piece| jcobs_encoder_feed(state, to, room, piece[0]).status == 0,
-                |state| ok(jcobs_encoder_finish(state, to, room)),
-            ),
-            "encoder 8" | "encoder 64" => encoded(
-                messages,
-                chunk,
-                |state, piece| jcobs_encoder_push(state, to, room, piece.as_ptr(), piece.len()).status == 0,
-                |state| ok(jcobs_encoder_finish(state, to, room)),
-            ),
-            "feed" => {
-                let mut state: State = [0; 4];
-                through(stream, 1, |piece| {
-                    let answer = jcobs_decoder_feed(&mut state, to, room, piece[0]);
-                    (1, (answer.status == 0).then_some(answer.length))
-                })
-            }
-            "push 1" | "push 8" | "push 64" | "push whole" => {
-                let mut state: State = [0; 4];
-                through(stream, chunk, |piece| {
-                    let answer = jcobs_decoder_push(&mut state, to, room, piece.as_ptr(), piece.len());
-                    (answer.consumed, (answer.status == 0).then_some(answer.length))
-                })
-            }
             _ => return None,
         }
     })
+}
+
+/// The streaming calls of libjcobs, and of code with its states and answers.
+struct Streams {
+    feed: FeedOne,
+    push: PushSome,
+    encoder_feed: FeedOne,
+    encoder_push: PushSome,
+    finish: Finish,
+}
+
+impl Streams {
+    #[inline(always)]
+    fn once(&self, call: &str, work: &mut Work) -> Option<usize> {
+        let chunk = chunk_of(call, work);
+        let Work { messages, stream, room, .. } = work;
+        let (to, room) = (room.as_mut_ptr(), room.len());
+        let finish = |state: &mut State| ok(unsafe { (self.finish)(state, to, room) });
+        // SAFETY: a state is large enough and zeros at first, and each pointer comes with its slice's length.
+        Some(unsafe {
+            match call {
+                "encoder feed" => {
+                    encoded(messages, 1, |state, piece| (self.encoder_feed)(state, to, room, piece[0]).status == 0, finish)
+                }
+                "encoder 8" | "encoder 64" => encoded(
+                    messages,
+                    chunk,
+                    |state, piece| (self.encoder_push)(state, to, room, piece.as_ptr(), piece.len()).status == 0,
+                    finish,
+                ),
+                "feed" => {
+                    let mut state: State = [0; 4];
+                    through(stream, 1, |piece| {
+                        let answer = (self.feed)(&mut state, to, room, piece[0]);
+                        (1, (answer.status == 0).then_some(answer.length))
+                    })
+                }
+                "push 1" | "push 8" | "push 64" | "push whole" => {
+                    let mut state: State = [0; 4];
+                    through(stream, chunk, |piece| {
+                        let answer = (self.push)(&mut state, to, room, piece.as_ptr(), piece.len());
+                        (answer.consumed, (answer.status == 0).then_some(answer.length))
+                    })
+                }
+                _ => return None,
+            }
+        })
+    }
 }
 
 /// Each message in pieces, with a state that is at its start again after each one.
@@ -127,8 +166,18 @@ fn encoded(
     sum
 }
 
-/// Byte by byte, with the answer of libjcobs.
+/// Byte by byte, with the states and answers of libjcobs.
 pub fn reported(call: &str, work: &mut Work) -> Option<usize> {
+    let streams = Streams {
+        feed: reported_decoder_feed,
+        push: reported_decoder_push,
+        encoder_feed: reported_encoder_feed,
+        encoder_push: reported_encoder_push,
+        finish: reported_encoder_finish,
+    };
+    if let Some(sum) = streams.once(call, work) {
+        return Some(sum);
+    }
     let Work { messages, frames, room, copies, .. } = work;
     let (to, room) = (room.as_mut_ptr(), room.len());
     // SAFETY: each pointer comes with its slice's length.
