@@ -89,6 +89,17 @@ impl Progress {
                 return Ok(Some(report));
             }
         }
+        self.push_each(dest, data)
+    }
+
+    /// Takes the first bytes one by one, and then the others.
+    #[cfg(not(feature = "small"))]
+    #[inline(always)]
+    fn push_each(
+        &mut self,
+        dest: &mut [u8],
+        data: &[u8],
+    ) -> Result<Option<DecodeReport>, DecodeError> {
         for (taken, &byte) in data[..data.len().min(FEW)].iter().enumerate() {
             let parsed_size = taken + 1;
             match self.decoder.feed(dest, byte) {
