@@ -25,7 +25,7 @@ impl Dice {
 }
 
 /// The rows. The last ones are 64 messages of so many bytes, in turn, so that the processor learns their branches.
-pub const WORKLOADS: [&str; 26] = [
+pub const WORKLOADS: [&str; 27] = [
     "zeros",
     "none",
     "every 16",
@@ -42,6 +42,7 @@ pub const WORKLOADS: [&str; 26] = [
     "f32",
     "struct",
     "full, every 16",
+    "packets",
     "text",
     "70 to 600",
     "telemetry",
@@ -82,6 +83,7 @@ pub fn messages(workload: &str) -> Vec<Vec<u8>> {
         "struct" => vec![structs(dice)],
         // One full block, and then the workload.
         "full, every 16" => vec![[some_zeros(u64::MAX, 254, dice), periodic(16, SIZE, dice)].concat()],
+        "packets" => (0..SIZE.div_ceil(1500)).map(|_| (0..1500).map(|_| dice.next() as u8).collect()).collect(),
         "text" => lines(dice),
         "70 to 600" => short(70, 600, dice),
         "telemetry" => short(20, 64, dice),
