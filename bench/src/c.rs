@@ -115,8 +115,8 @@ impl Streams {
         let chunk = chunk_of(call, work);
         let Work { messages, stream, room, .. } = work;
         let (to, room) = (room.as_mut_ptr(), room.len());
-        let finish = |state: &mut State| ok(unsafe { (self.finish)(state, to, room) });
         // SAFETY: a state is large enough and zeros at first, and each pointer comes with its slice's length.
+        let finish = |state: &mut State| ok(unsafe { (self.finish)(state, to, room) });
         Some(unsafe {
             match call {
                 "encoder feed" => {
