@@ -31,9 +31,9 @@ then.7.i:                                         ; preds = %join.6.i
 
 define void @jcobs_decoder_push(ptr noundef writeonly captures(none) %a0, ptr noundef captures(none) %a1, ptr noundef writeonly captures(none) %a2, i64 noundef %a3, ptr noundef readonly captures(none) %a4, i64 noundef %a5) {
 start:
-  %r15.i = getelementptr i8, ptr %a1, i64 10
+  %r14.i = getelementptr i8, ptr %a1, i64 10
   %r22.i = getelementptr i8, ptr %a1, i64 8
-  %r54.i = getelementptr i8, ptr %a1, i64 9
+  %r51.i = getelementptr i8, ptr %a1, i64 9
   br label %loop.3.i
 
 loop.3.i:                                         ; preds = %after.7.i, %start
@@ -45,88 +45,85 @@ join.6.i:                                         ; preds = %loop.3.i
   %r33.i = getelementptr i8, ptr %a4, i64 %r5.0.i
   %r36.i = load i8, ptr %r33.i, align 1
   %r40.not.i = icmp eq i8 %r36.i, 0
-  %r15.i3 = load i8, ptr %r15.i, align 1
-  %r17.not.i = icmp eq i8 %r15.i3, 0
+  %r15.i3 = load i8, ptr %r14.i, align 1
+  %r17.not.i4 = icmp eq i8 %r15.i3, 0
   br i1 %r40.not.i, label %else.9.i, label %then.8.i
 
 then.8.i:                                         ; preds = %join.6.i
-  br i1 %r17.not.i, label %join.3.i, label %after.7.i
+  br i1 %r17.not.i4, label %join.3.i, label %after.7.i
 
 join.3.i:                                         ; preds = %then.8.i
-  %r23.i = load i8, ptr %r22.i, align 1
+  %r21.i = load i64, ptr %a1, align 8
+  %r23.i = load i8, ptr %r22.i, align 8
   %r25.not.i = icmp eq i8 %r23.i, 0
   br i1 %r25.not.i, label %join.6.i1, label %then.4.i
 
 then.4.i:                                         ; preds = %join.3.i
-  %r31.i = load i64, ptr %a1, align 8
-  %r34.not.i = icmp ugt i64 %a3, %r31.i
-  br i1 %r34.not.i, label %join.9.i, label %then.7.i
+  %r33.not.i = icmp ugt i64 %a3, %r21.i
+  br i1 %r33.not.i, label %join.9.i, label %then.7.i
 
 then.7.i:                                         ; preds = %then.4.i
-  store i8 1, ptr %r15.i, align 1
+  store i8 1, ptr %r14.i, align 1
   br label %after.7.i
 
 join.9.i:                                         ; preds = %then.4.i
-  %r42.i = getelementptr inbounds nuw i8, ptr %a2, i64 %r31.i
-  store i8 %r36.i, ptr %r42.i, align 1
-  %r44.i = load i64, ptr %a1, align 8
-  %r46.i = add i64 %r44.i, 1
-  store i64 %r46.i, ptr %a1, align 8
-  %r49.i = load i8, ptr %r22.i, align 8
-  %r51.i = add i8 %r49.i, -1
-  store i8 %r51.i, ptr %r22.i, align 8
+  %r40.i = getelementptr inbounds nuw i8, ptr %a2, i64 %r21.i
+  store i8 %r36.i, ptr %r40.i, align 1
+  %r43.i = add nuw i64 %r21.i, 1
+  store i64 %r43.i, ptr %a1, align 8
+  %r46.i = load i8, ptr %r22.i, align 8
+  %r48.i = add i8 %r46.i, -1
+  store i8 %r48.i, ptr %r22.i, align 8
   br label %after.7.i
 
 join.6.i1:                                        ; preds = %join.3.i
-  %r55.i = load i8, ptr %r54.i, align 1
-  %r57.not.i = icmp eq i8 %r55.i, 0
-  br i1 %r57.not.i, label %join.12.i, label %then.10.i
+  %r52.i = load i8, ptr %r51.i, align 1
+  %r54.not.i = icmp eq i8 %r52.i, 0
+  br i1 %r54.not.i, label %join.12.i, label %then.10.i
 
 then.10.i:                                        ; preds = %join.6.i1
-  %r63.i2 = load i64, ptr %a1, align 8
-  %r66.not.i = icmp ugt i64 %a3, %r63.i2
-  br i1 %r66.not.i, label %join.15.i, label %then.13.i
+  %r62.not.i = icmp ugt i64 %a3, %r21.i
+  br i1 %r62.not.i, label %join.15.i, label %then.13.i
 
 then.13.i:                                        ; preds = %then.10.i
-  store i8 1, ptr %r15.i, align 1
+  store i8 1, ptr %r14.i, align 1
   br label %after.7.i
 
 join.15.i:                                        ; preds = %then.10.i
-  %r74.i = getelementptr inbounds nuw i8, ptr %a2, i64 %r63.i2
-  store i8 0, ptr %r74.i, align 1
-  %r76.i = load i64, ptr %a1, align 8
-  %r78.i = add i64 %r76.i, 1
-  store i64 %r78.i, ptr %a1, align 8
+  %r69.i = getelementptr inbounds nuw i8, ptr %a2, i64 %r21.i
+  store i8 0, ptr %r69.i, align 1
+  %r72.i = add nuw i64 %r21.i, 1
+  store i64 %r72.i, ptr %a1, align 8
   br label %join.12.i
 
 join.12.i:                                        ; preds = %join.15.i, %join.6.i1
-  %r80.i = add i8 %r36.i, -1
-  store i8 %r80.i, ptr %r22.i, align 1
-  %r83.i = icmp ne i8 %r36.i, -1
-  %..i = zext i1 %r83.i to i8
-  store i8 %..i, ptr %r54.i, align 1
+  %r74.i = add i8 %r36.i, -1
+  store i8 %r74.i, ptr %r22.i, align 1
+  %r77.i = icmp ne i8 %r36.i, -1
+  %..i = zext i1 %r77.i to i8
+  store i8 %..i, ptr %r51.i, align 1
   br label %after.7.i
 
 else.9.i:                                         ; preds = %join.6.i
-  br i1 %r17.not.i, label %join.3.i4, label %arm.7.i
+  br i1 %r17.not.i4, label %join.3.i5, label %arm.7.i
 
-join.3.i4:                                        ; preds = %else.9.i
+join.3.i5:                                        ; preds = %else.9.i
   %r35.i = load i8, ptr %r22.i, align 1
   %r37.not.i = icmp eq i8 %r35.i, 0
   %r57.i = load i64, ptr %a1, align 8
   br i1 %r37.not.i, label %join.6.i8, label %arm.6.i
 
-join.6.i8:                                        ; preds = %join.3.i4
+join.6.i8:                                        ; preds = %join.3.i5
   %r59.i9 = icmp ult i64 %a3, %r57.i
   br i1 %r59.i9, label %arm.7.i, label %join.9.i10
 
 join.9.i10:                                       ; preds = %join.6.i8
-  %r78.i11 = icmp eq i64 %r57.i, 0
-  br i1 %r78.i11, label %then.11.i, label %arm.5.i
+  %r78.i = icmp eq i64 %r57.i, 0
+  br i1 %r78.i, label %then.11.i, label %arm.5.i
 
 then.11.i:                                        ; preds = %join.9.i10
-  %r83.i12 = load i8, ptr %r54.i, align 1
-  %r85.i = icmp eq i8 %r83.i12, 0
+  %r83.i = load i8, ptr %r51.i, align 1
+  %r85.i = icmp eq i8 %r83.i, 0
   br i1 %r85.i, label %after.7.i, label %arm.5.i
 
 after.7.i:                                        ; preds = %then.11.i, %join.12.i, %then.13.i, %join.9.i, %then.7.i, %then.8.i
@@ -134,8 +131,8 @@ after.7.i:                                        ; preds = %then.11.i, %join.12
   br label %loop.3.i
 
 arm.2.i:                                          ; preds = %loop.3.i
-  %r6.i21 = load i8, ptr %r15.i, align 1
-  %r8.not.i = icmp eq i8 %r6.i21, 0
+  %r6.i20 = load i8, ptr %r14.i, align 1
+  %r8.not.i = icmp eq i8 %r6.i20, 0
   br i1 %r8.not.i, label %else.2.i, label %"cobs_abi::decoding::result_of.exit"
 
 else.2.i:                                         ; preds = %arm.2.i
@@ -144,25 +141,25 @@ else.2.i:                                         ; preds = %arm.2.i
   br label %"cobs_abi::decoding::result_of.exit"
 
 arm.5.i:                                          ; preds = %join.9.i10, %then.11.i
-  %r68.i48 = add nuw i64 %r5.0.i, 1
+  %r68.i47 = add nuw i64 %r5.0.i, 1
   tail call void @llvm.memset.p0.i64(ptr noundef nonnull align 1 dereferenceable(16) %a1, i8 0, i64 16, i1 false)
   br label %"cobs_abi::decoding::result_of.exit"
 
-arm.6.i:                                          ; preds = %join.3.i4
+arm.6.i:                                          ; preds = %join.3.i5
   %r68.i = add nuw i64 %r5.0.i, 1
   tail call void @llvm.memset.p0.i64(ptr noundef nonnull align 1 dereferenceable(16) %a1, i8 0, i64 16, i1 false)
-  %a1.a0.i25 = tail call i64 @llvm.umin.i64(i64 %a3, i64 %r57.i)
+  %a1.a0.i24 = tail call i64 @llvm.umin.i64(i64 %a3, i64 %r57.i)
   br label %"cobs_abi::decoding::result_of.exit"
 
 arm.7.i:                                          ; preds = %join.6.i8, %else.9.i
-  %r68.i60 = add nuw i64 %r5.0.i, 1
+  %r68.i59 = add nuw i64 %r5.0.i, 1
   tail call void @llvm.memset.p0.i64(ptr noundef nonnull align 1 dereferenceable(16) %a1, i8 0, i64 16, i1 false)
   br label %"cobs_abi::decoding::result_of.exit"
 
 "cobs_abi::decoding::result_of.exit":             ; preds = %arm.5.i, %arm.6.i, %arm.7.i, %else.2.i, %arm.2.i
   %r0.i.sroa.0.0 = phi i32 [ 1, %else.2.i ], [ 1, %arm.2.i ], [ 0, %arm.5.i ], [ 3, %arm.6.i ], [ 2, %arm.7.i ]
-  %r0.i.sroa.8.0 = phi i64 [ %a5, %else.2.i ], [ %a5, %arm.2.i ], [ %r68.i48, %arm.5.i ], [ %r68.i, %arm.6.i ], [ %r68.i60, %arm.7.i ]
-  %r0.i.sroa.10.0 = phi i64 [ %a1.a0.i, %else.2.i ], [ %a3, %arm.2.i ], [ %r57.i, %arm.5.i ], [ %a1.a0.i25, %arm.6.i ], [ %a3, %arm.7.i ]
+  %r0.i.sroa.8.0 = phi i64 [ %a5, %else.2.i ], [ %a5, %arm.2.i ], [ %r68.i47, %arm.5.i ], [ %r68.i, %arm.6.i ], [ %r68.i59, %arm.7.i ]
+  %r0.i.sroa.10.0 = phi i64 [ %a1.a0.i, %else.2.i ], [ %a3, %arm.2.i ], [ %r57.i, %arm.5.i ], [ %a1.a0.i24, %arm.6.i ], [ %a3, %arm.7.i ]
   store i32 %r0.i.sroa.0.0, ptr %a0, align 1
   %r0.sroa.3.0.a0.sroa_idx = getelementptr inbounds nuw i8, ptr %a0, i64 4
   store i32 0, ptr %r0.sroa.3.0.a0.sroa_idx, align 1

@@ -48,7 +48,7 @@ jcobs_answer jcobs_decoder_push(jcobs_decoder *decoder, void *buffer, size_t buf
     unsigned char *const to = (unsigned char *)buffer;
     const unsigned char *const from = (const unsigned char *)bytes;
     jcobs_answer answer;
-    size_t i, written, written2, written3, written4;
+    size_t i, written, written2, written3;
     unsigned char byte;
     int is;
 
@@ -93,23 +93,22 @@ jcobs_answer jcobs_decoder_push(jcobs_decoder *decoder, void *buffer, size_t buf
             return answer;
         }
         if (is) {
+            written2 = decoder->written;
             if (decoder->lacking == 0) {
                 if (decoder->joint != 0) {
-                    written2 = decoder->written;
                     if (buffer_len <= written2) {
                         decoder->too_long = 1;
                         goto at_1;
                     }
                     to[written2] = 0;
-                    decoder->written = decoder->written + 1;
+                    decoder->written = written2 + 1;
                 }
                 decoder->lacking = (unsigned char)(byte - 1);
                 decoder->joint = (unsigned char)(byte != 255);
             } else {
-                written3 = decoder->written;
-                if (buffer_len > written3) {
-                    to[written3] = byte;
-                    decoder->written = decoder->written + 1;
+                if (buffer_len > written2) {
+                    to[written2] = byte;
+                    decoder->written = written2 + 1;
                     decoder->lacking = (unsigned char)(decoder->lacking - 1);
                 } else {
                     decoder->too_long = 1;
@@ -120,10 +119,10 @@ at_1:
         i++;
     }
     if (decoder->too_long == 0) {
-        written4 = decoder->written;
+        written3 = decoder->written;
         answer.status = JCOBS_MORE;
         answer.consumed = len;
-        answer.length = buffer_len < written4 ? buffer_len : written4;
+        answer.length = buffer_len < written3 ? buffer_len : written3;
         return answer;
     }
     answer.status = JCOBS_MORE;
