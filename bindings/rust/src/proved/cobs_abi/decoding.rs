@@ -44,23 +44,25 @@ fn take_byte(decoder: &mut Decoder, buffer: &mut [u8], byte: u8) {
     if decoder.too_long != 0 {
         return;
     }
+    // Read once, as compilers read it again after a byte of the buffer is written.
+    let at = decoder.written;
     if decoder.lacking != 0 {
-        if buffer.len() <= decoder.written {
+        if buffer.len() <= at {
             decoder.too_long = 1;
             return;
         }
-        buffer[decoder.written] = byte;
-        decoder.written += 1;
+        buffer[at] = byte;
+        decoder.written = at + 1;
         decoder.lacking -= 1;
         return;
     }
     if decoder.joint != 0 {
-        if buffer.len() <= decoder.written {
+        if buffer.len() <= at {
             decoder.too_long = 1;
             return;
         }
-        buffer[decoder.written] = 0;
-        decoder.written += 1;
+        buffer[at] = 0;
+        decoder.written = at + 1;
     }
     decoder.lacking = byte - 1;
     decoder.joint = if byte == FULL { 0 } else { 1 };
