@@ -15,7 +15,7 @@ usage: tests/docs.py [--write]
 - docs/MAP.md names each file of the repository, or a folder that it is in.
 - Each block of tests/wrong_code.txt can be applied. `tests/REFUSED.md` counts and names these and the edits of must-fail/.
 - No imports of the libraries go in a ring; files have at most 450 lines and functions 40 (layout.py).
-- Each document is in plain words and short enough; its links, the paths and commands that it shows, and the clauses
+- Each document is in plain words; its links, the paths and commands that it shows, and the clauses
   that it names are there; all versions are that of the file VERSION (prose.py).
 - Counts, sizes and the toolchain in documents are those of the tree, and addresses can exist (facts.py).
 

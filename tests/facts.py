@@ -1,4 +1,4 @@
-"""The facts that tests/docs.py checks in documents: counts, limits, laws, copies, the toolchain, addresses, bytes read."""
+"""The facts that tests/docs.py checks in documents: counts, laws, copies, the toolchain, addresses, bytes read."""
 import re
 from pathlib import Path
 
@@ -42,17 +42,6 @@ def wrong_counts():
             for found in re.findall(pattern, text):
                 if abs(number(found) - count) > count / 20:
                     yield f"{name}: it says {found}, and there are {count} ({pattern})"
-
-
-def wrong_edits():
-    """A line for each crate that has more edits than CONTRIBUTING.md allows."""
-    of_cobs, of_others = re.search(
-        r"at most (\d+) of `cobs`, (\d+) of another crate", (TOP / "CONTRIBUTING.md").read_text()
-    ).groups()
-    for folder in sorted((TOP / "crates").glob("*/must-fail")):
-        edits, most = len(list(folder.glob("*.edit"))), int(of_cobs if folder.parent.name == "cobs" else of_others)
-        if edits > most:
-            yield f"{folder.relative_to(TOP)}: {edits} edits, and CONTRIBUTING.md says at most {most}"
 
 
 def laws_left_out():
@@ -104,7 +93,7 @@ def other_copies():
             yield f"{copy}: it isn't {original}"
 
 
-CHECKS = (other_copies, wrong_counts, wrong_edits, laws_left_out, other_toolchains, dead_addresses, unread_bytes)
+CHECKS = (other_copies, wrong_counts, laws_left_out, other_toolchains, dead_addresses, unread_bytes)
 
 
 def complaints():

@@ -1,4 +1,4 @@
-"""What tests/docs.py checks in the documents as text: words, lengths, links, commands, names and versions.
+"""What tests/docs.py checks in the documents as text: words, links, commands, names and versions.
 
 A document is each Markdown file of the repository. Of the sources the comments are read, and the names in src/ and specs/.
 """
@@ -41,10 +41,6 @@ PUBLIC_NAMES = [
     (r"crates/cobs(_abi|_c|_live|_doc_vectors)?/", r"\blacking\b"),  # of `DecoderPhase` and `jcobs_decoder`
     (r"crates/cobs_(abi|c|small)/", r"\bAnswer\b|(?:\bcrate::|\bdeclared\.|\bmod |\buse )answer\b"),  # `jcobs_answer`
 ]
-LIMITS = {"README.md": 900}
-ALL_DOCUMENTS = 18_000
-DOCS = 16_000
-CALLING_LINES = 120
 RT_COMMANDS = set("all check ci doc expand fmt lemma lib must-fail new plant run selftest test tidy try verdict version".split())
 
 
@@ -143,28 +139,6 @@ def unplain_names():
                 parts = re.findall(r"[A-Z]?[a-z]+|[A-Z]+(?![a-z])", found)
                 if any(NAME_WORDS.fullmatch(part) for part in parts):
                     yield f"{name}:{number}: the name {found}: write it with result, returned, known, missing, rejected or the like"
-
-
-def count(text):
-    """How many words a document's prose has: what has a letter, outside code and generated parts."""
-    return sum(1 for word in prose(text).split() if re.search("[A-Za-z]", word))
-
-
-def lengths():
-    """A line for each document that is too long."""
-    for name, limit in LIMITS.items():
-        words = len((TOP / name).read_text().split())
-        if words > limit:
-            yield f"{name}: {words} words, of at most {limit}"
-    docs = sum(len((TOP / name).read_text().split()) for name in documents() if name.startswith("docs/"))
-    if docs > DOCS:
-        yield f"docs/: {docs} words with its tables, of at most {DOCS}"
-    total = sum(count((TOP / name).read_text()) for name in documents())
-    if total > ALL_DOCUMENTS:
-        yield f"all documents have {total} words, of at most {ALL_DOCUMENTS}"
-    lines = len((TOP / "crates/cobs/CALLING.md").read_text().splitlines())
-    if lines > CALLING_LINES:
-        yield f"crates/cobs/CALLING.md: {lines} lines, of at most {CALLING_LINES}"
 
 
 def anchors(text):
@@ -307,5 +281,5 @@ def unknown_names():
 
 def complaints():
     """Everything that is wrong in the documents as text."""
-    checks = (unplain_words, unplain_names, lengths, dead_links, dead_commands, other_versions, unknown_names)
+    checks = (unplain_words, unplain_names, dead_links, dead_commands, other_versions, unknown_names)
     return [line for check in checks for line in check()]
