@@ -9,8 +9,6 @@ pub mod SoFar
 pub mod ReadingLemmas
 pub mod StretchLemmas
 pub mod WalkLemmas
-pub mod DoublingLemmas
-pub mod CodeMarks
 pub mod BorrowedSlice
 pub mod PushHeadline
 pub mod TableLemmas

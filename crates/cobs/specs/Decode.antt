@@ -1,5 +1,5 @@
 -- What the free decoders return, and what their buffers hold then.
-use Rattle.std.specs.Prelude.{◌≡◌, ⊤, ℕ, ◌+◌, ◌==◌, nat_le, min, List, [], ◌∷◌, length, Option, Some, None, Result, Ok, Err, if◌then◌else◌}
+use Rattle.std.specs.Prelude.{◌≡◌, ⊤, ℕ, ◌+◌, ◌≤◌, ◌==◌, nat_le, min, List, [], ◌∷◌, length, Option, Some, None, Result, Ok, Err, if◌then◌else◌}
 use Rattle.std.specs.List.{prefix_len}
 use Rattle.std.specs.Result.{result_map_both}
 use Rattle.cobs.specs.Overwritten.{overwritten}
@@ -15,6 +15,10 @@ use Rattle.cobs.specs.declared.error.DecodeVecError.TheVariants.{Decode, Memory}
 -- how many zeros a source begins with
 abbrev pub leading_zeros : List ℕ → ℕ
 leading_zeros source = prefix_len (λ byte. byte == 0) source
+
+-- a source of 2 to 65 bytes before its first zero, and at most this zero after them
+abbrev pub IsShortPiece : List ℕ → Type 0
+IsShortPiece source = let n = length (head source) in (2 ≤ n) × (n ≤ 65) × (length source ≤ n + 1)
 
 -- how many bytes a source has up to the end of its first piece p, with the zero after it if there is one
 abbrev pub len_through_piece : List ℕ → List ℕ → ℕ

@@ -6,6 +6,7 @@ mod frame_decoder;
 mod heapless;
 mod in_place;
 mod kind;
+mod progress;
 mod run;
 mod state;
 mod stretch;

@@ -1,7 +1,9 @@
 //! Where pieces begin and end.
-ghost use Rattle.std.specs.Prelude.{All, ◌≢◌, ◌≡◌, ◌<◌, ◌≤◌, ◌+◌, length, take, slice_index};
+ghost use Rattle.std.specs.Prelude.{All, ◌≢◌, ◌≡◌, ◌<◌, ◌≤◌, ◌+◌, ◌-◌, length, take, slice_index};
 ghost use Rattle.cobs.specs.Decode.{leading_zeros};
+ghost use Rattle.cobs.specs.Grammar.{HasNoZero};
 
+use cobs_bytes::window::{WIDE_WINDOW, first_zero, has_vectors};
 use memchr::memchr;
 
 /// Where the first such byte of a source is, or the source's length if there is none.
@@ -13,12 +15,27 @@ pub(crate) fn position_or_len(source: &[u8], byte: u8) -> usize
     memchr(byte, source).unwrap_or(source.len())
 }
 
+/// Where the first zero of a source is, or the source's length if there is none.
+#[inline(always)]
+pub(crate) fn zero_or_len(source: &[u8]) -> usize
+    ensures within { result ≤ length source.now }
+    ensures before { HasNoZero (take result source.now) }
+    ensures stop { result < length source.now → slice_index source.now result ≡ 0 }
+{
+    if has_vectors() && source.len() < WIDE_WINDOW {
+        first_zero(source)
+    } else {
+        position_or_len(source, 0)
+    }
+}
+
 /// The length of the source without a sentinel that ends it.
 #[inline(always)]
 pub(crate) fn len_without_end(source: &[u8], sentinel: u8) -> usize
     requires some { 0 < length source.now }
     ensures within { result ≤ length source.now }
     ensures last { length source.now ≤ result + 1 }
+    ensures other { result ≡ length source.now → slice_index source.now (result - 1) ≢ sentinel }
     ensures stop { result < length source.now → slice_index source.now result ≡ sentinel }
 {
     let last = source.len() - 1;

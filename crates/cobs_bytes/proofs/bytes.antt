@@ -3,5 +3,3 @@ pub mod MaskLemmas
 pub mod PartMasks
 pub mod NonzeroCopies
 pub mod XoredLemmas
-pub mod MoveLemmas
-pub mod DropLemmas

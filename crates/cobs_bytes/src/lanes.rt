@@ -1,135 +1,10 @@
-//! Stretches of bytes of other lengths than a window's: copied up to a sentinel, copied if none is one, and moved within
-//! one buffer, where the places may overlap. All of a part is loaded before any of it is stored.
-ghost use Rattle.std.specs.Prelude.{◌≡◌, ◌≢◌, ◌<◌, ◌≤◌, ◌+◌, ◌++◌, length, take, drop, slice_index, IsTrue, false};
+//! Stretches of bytes of other lengths than a window's: copied, copied if none is a sentinel, and moved within one buffer,
+//! where the places may overlap. All of a part is loaded before any of it is stored.
+ghost use Rattle.std.specs.Prelude.{◌≡◌, ◌<◌, ◌≤◌, ◌+◌, ◌++◌, length, take, drop, IsTrue, false};
 ghost use Rattle.cobs_bytes.specs.Bytes.{HasNoZero, xor_each};
 
-use crate::window::{WIDE_WINDOW, WINDOW, by_width};
+use crate::window::{WIDE_WINDOW, WINDOW, by_width, has_vectors};
 use std::simd::prelude::*;
-
-/// How many bytes of a long chunk are copied at once.
-pub const STRETCH: usize = 3 * WIDE_WINDOW;
-
-/// Copies the first `len` bytes, at least 64, each XORed with the sentinel, up to the first 64 of which one is the sentinel,
-/// and returns how many: in windows of 64 bytes, of which the last may overlap the one before it. Each has one test, for the
-/// least bytes of its quarters: long blocks are decoded 1.1 to 1.2 times as fast as by a test of each quarter.
-#[inline(always)]
-fn copy_nonzero(source: &[u8], len: usize, dest: &mut [u8], sentinel: u8) -> usize
-    requires some { 64 ≤ len }
-    requires source { len ≤ length source.now }
-    requires room { len ≤ length dest.old }
-    ensures within { result ≤ len }
-    ensures nonzero { HasNoZero (take result (xor_each sentinel source.now)) }
-    ensures copied { dest.new ≡ take result (xor_each sentinel source.now) ++ drop result dest.old }
-{
-    let mut done = 0;
-    'by_window: while done < len {
-        let start = done.min(len - WIDE_WINDOW);
-        let bytes = u8x64::from_slice(&source[start..]) ^ u8x64::splat(sentinel);
-        let least = bytes.simd_min(bytes.rotate_elements_left::<32>());
-        let least = least.simd_min(least.rotate_elements_left::<16>());
-        if least.simd_eq(u8x64::splat(0)).any() {
-            return done;
-        }
-        bytes.copy_to_slice(&mut dest[start..]);
-        done = start + WIDE_WINDOW;
-    }
-    done
-}
-
-/// Does what `copy_nonzero` does. `N` bytes are copied without a loop.
-#[inline(always)]
-pub fn copy_windows<const N: usize>(
-    source: &[u8],
-    len: usize,
-    dest: &mut [u8],
-    sentinel: u8,
-) -> usize
-    requires some { 64 ≤ len }
-    requires source { len ≤ length source.now }
-    requires room { len ≤ length dest.old }
-    ensures within { result ≤ len }
-    ensures nonzero { HasNoZero (take result (xor_each sentinel source.now)) }
-    ensures copied { dest.new ≡ take result (xor_each sentinel source.now) ++ drop result dest.old }
-{
-    if len == N {
-        return copy_nonzero(source, N, dest, sentinel);
-    }
-    copy_nonzero(source, len, dest, sentinel)
-}
-
-/// Copies the first of 32 bytes, up to a sentinel, with one load and one store, however many they are, and returns how many.
-#[inline(always)]
-fn copy_window_to_zero(source: &[u8], dest: &mut [u8], sentinel: u8) -> usize
-    requires source { 32 ≤ length source.now }
-    requires room { 32 ≤ length dest.old }
-    ensures within { result ≤ 32 }
-    ensures nonzero { HasNoZero (take result (xor_each sentinel source.now)) }
-    ensures some { slice_index (xor_each sentinel source.now) 0 ≢ 0 → 0 < result }
-    ensures copied { dest.new ≡ take result (xor_each sentinel source.now) ++ drop result dest.old }
-{
-    let places = u8x32::from_array([
-        0, 1, 2, 3, 4, 5, 6, 7, 8, 9, 10, 11, 12, 13, 14, 15, 16, 17, 18, 19, 20, 21, 22, 23, 24,
-        25, 26, 27, 28, 29, 30, 31,
-    ]);
-    let bytes = u8x32::from_slice(source) ^ u8x32::splat(sentinel);
-    let zeros = bytes.simd_eq(u8x32::splat(0)).to_bitmask();
-    let len = (zeros.trailing_zeros() as usize).min(WINDOW);
-    let taken = places.simd_lt(u8x32::splat(len as u8));
-    let merged = taken.select(bytes, u8x32::from_slice(dest));
-    merged.copy_to_slice(dest);
-    len
-}
-
-/// Copies the first of at most 32 bytes, up to a sentinel, and returns how many.
-fn copy_few_to_zero(few: &[u8], dest: &mut [u8], sentinel: u8) -> usize
-    requires some { 0 < length few.now }
-    requires few { length few.now ≤ 32 }
-    requires room { length few.now ≤ length dest.old }
-    ensures within { result ≤ length few.now }
-    ensures nonzero { HasNoZero (take result (xor_each sentinel few.now)) }
-    ensures some { slice_index (xor_each sentinel few.now) 0 ≢ 0 → 0 < result }
-    ensures copied { dest.new ≡ take result (xor_each sentinel few.now) ++ drop result dest.old }
-{
-    if copy_xored_short(few, dest, sentinel) {
-        return few.len();
-    }
-    'by_byte: for i in 0..few.len() {
-        let byte = few[i] ^ sentinel;
-        if byte == 0 {
-            return i;
-        }
-        dest[i] = byte;
-    }
-    few.len()
-}
-
-/// Copies the first bytes of a chunk, each XORed with the sentinel, up to a sentinel: up to 192 of them, or fewer of a
-/// shorter chunk; and returns how many, none only if the first is the sentinel.
-#[inline(always)]
-pub fn copy_to_zero(chunk: &[u8], dest: &mut [u8], sentinel: u8) -> usize
-    requires some { 0 < length chunk.now }
-    requires room { length chunk.now ≤ length dest.old }
-    ensures within { result ≤ length chunk.now }
-    ensures few { result ≤ 192 }
-    ensures some { slice_index (xor_each sentinel chunk.now) 0 ≢ 0 → 0 < result }
-    ensures nonzero { HasNoZero (take result (xor_each sentinel chunk.now)) }
-    ensures copied { dest.new ≡ take result (xor_each sentinel chunk.now) ++ drop result dest.old }
-{
-    if WIDE_WINDOW <= chunk.len() {
-        let len = copy_windows::<STRETCH>(chunk, chunk.len().min(STRETCH), dest, sentinel);
-        if len > 0 {
-            return len;
-        }
-    }
-    if chunk.len() < WINDOW {
-        return copy_few_to_zero(chunk, dest, sentinel);
-    }
-    let front = copy_window_to_zero(chunk, dest, sentinel);
-    if front < WINDOW || chunk.len() < WIDE_WINDOW {
-        return front;
-    }
-    WINDOW + copy_window_to_zero(&chunk[WINDOW..], &mut dest[WINDOW..], sentinel)
-}
 
 /// Moves `N` to `2 * N` bytes, as two parts that may overlap.
 #[inline(always)]
@@ -145,31 +20,15 @@ fn move_two<const N: usize>(buffer: &mut [u8], from: usize, len: usize)
     back.copy_to_slice(&mut buffer[len - N..]);
 }
 
-/// Moves 64 bytes or more: in windows of 64, of which the last, loaded first, may overlap the one before it.
-#[inline(always)]
-fn move_long(buffer: &mut [u8], from: usize, len: usize)
-    requires within { from + len ≤ length buffer.old }
-    requires some { 64 ≤ len }
-    ensures { buffer.new ≡ take len (drop from buffer.old) ++ drop len buffer.old }
-{
-    let back = u8x64::from_slice(&buffer[from + len - WIDE_WINDOW..]);
-    let mut done = 0;
-    'by_window: while WIDE_WINDOW <= len - done {
-        let bytes = u8x64::from_slice(&buffer[from + done..]);
-        bytes.copy_to_slice(&mut buffer[done..]);
-        done += WIDE_WINDOW;
-    }
-    back.copy_to_slice(&mut buffer[len - WIDE_WINDOW..]);
-}
-
 /// Moves the `len` bytes from `from` on to the front of the buffer; the bytes after them there stay.
+// A call of `copy_within` costs more than the moves themselves if these are a few windows.
 #[inline(always)]
 pub fn move_to_front(buffer: &mut [u8], from: usize, len: usize)
     requires { from + len ≤ length buffer.old }
     ensures { buffer.new ≡ take len (drop from buffer.old) ++ drop len buffer.old }
 {
-    if len > 64 {
-        move_long(buffer, from, len);
+    if !has_vectors() || len > WIDE_WINDOW {
+        buffer.copy_within(from..from + len, 0);
     } else if len > 0 {
         by_width!(len, move_two(buffer, from, len));
     }
@@ -182,6 +41,7 @@ fn copy_xored_two<const N: usize>(source: &[u8], dest: &mut [u8], sentinel: u8) 
     requires some { N ≤ length source.now }
     requires few { length source.now ≤ N + N }
     requires room { length source.now ≤ length dest.old }
+    ensures taken { HasNoZero (xor_each sentinel source.now) → IsTrue result }
     ensures nonzero { IsTrue result → HasNoZero (xor_each sentinel source.now) }
     ensures copied { IsTrue result → dest.new ≡ xor_each sentinel source.now ++ drop (length source.now) dest.old }
     ensures kept { result ≡ false → dest.new ≡ dest.old }
@@ -199,17 +59,68 @@ fn copy_xored_two<const N: usize>(source: &[u8], dest: &mut [u8], sentinel: u8) 
     true
 }
 
+/// Copies all bytes if none is the sentinel, and says whether it did, a byte a turn.
+#[inline(always)]
+fn copy_xored_by_byte(source: &[u8], dest: &mut [u8], sentinel: u8) -> bool
+    requires room { length source.now ≤ length dest.old }
+    ensures taken { HasNoZero (xor_each sentinel source.now) → IsTrue result }
+    ensures nonzero { IsTrue result → HasNoZero (xor_each sentinel source.now) }
+    ensures copied { IsTrue result → dest.new ≡ xor_each sentinel source.now ++ drop (length source.now) dest.old }
+    ensures kept { result ≡ false → dest.new ≡ dest.old }
+{
+    'by_byte: for i in 0..source.len() {
+        if source[i] == sentinel {
+            return false;
+        }
+    }
+    'by_copy: for i in 0..source.len() {
+        dest[i] = source[i] ^ sentinel;
+    }
+    true
+}
+
 /// Copies up to 64 bytes if none is the sentinel, and says whether it did.
 #[inline(always)]
 pub fn copy_xored_short(source: &[u8], dest: &mut [u8], sentinel: u8) -> bool
     requires some { 0 < length source.now }
     requires few { length source.now ≤ 64 }
     requires room { length source.now ≤ length dest.old }
+    ensures taken { HasNoZero (xor_each sentinel source.now) → IsTrue result }
     ensures nonzero { IsTrue result → HasNoZero (xor_each sentinel source.now) }
     ensures copied { IsTrue result → dest.new ≡ xor_each sentinel source.now ++ drop (length source.now) dest.old }
     ensures kept { result ≡ false → dest.new ≡ dest.old }
 {
-    by_width!(source.len(), copy_xored_two(source, dest, sentinel))
+    if has_vectors() {
+        by_width!(source.len(), copy_xored_two(source, dest, sentinel))
+    } else {
+        copy_xored_by_byte(source, dest, sentinel)
+    }
+}
+
+/// Copies all bytes as one slice, and XORs each with the sentinel if that isn't 0.
+#[inline(always)]
+fn copy_xored_slice(source: &[u8], dest: &mut [u8], sentinel: u8)
+    requires { length source.now ≤ length dest.old }
+    ensures { dest.new ≡ xor_each sentinel source.now ++ drop (length source.now) dest.old }
+{
+    let copy = &mut dest[..source.len()];
+    copy.copy_from_slice(source);
+    if sentinel != 0 {
+        xor_bytes(copy, sentinel);
+    }
+}
+
+/// Copies all bytes, each XORed with the sentinel, to the front of `dest`: as one slice if they are more than 32.
+// Up to that a call costs more than the copy. The bytes that are copied so have no sentinel.
+#[inline(always)]
+pub fn copy_xored(source: &[u8], dest: &mut [u8], sentinel: u8)
+    requires { length source.now ≤ length dest.old }
+    ensures { dest.new ≡ xor_each sentinel source.now ++ drop (length source.now) dest.old }
+{
+    let is_short = has_vectors() && !source.is_empty() && source.len() <= WINDOW;
+    if !is_short || !copy_xored_short(source, dest, sentinel) {
+        copy_xored_slice(source, dest, sentinel);
+    }
 }
 
 /// XORs each byte with `sentinel`.

@@ -196,4 +196,5 @@ fn decode_short_example(rt: HostRuntime) {
     let mut dest = [170; 3];
     assert!(rt; decode_short(b"\x03hi\0", &mut dest).is_some());
     assert_eq!(rt; &dest, b"hi\xaa");
+    assert_eq!(rt; decode_short(b"\x03hi\0\x02", &mut dest), None);
 }

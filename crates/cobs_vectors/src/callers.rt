@@ -13,9 +13,10 @@ ghost use Rattle.cobs.specs.Headline.{IsPiece, PushesMessage};
 ghost use Rattle.cobs.specs.Length.{encoded_len, max_encoded_len};
 ghost use Rattle.cobs.specs.Sentinel.{IsFreeOf, xor_each};
 ghost use Rattle.cobs.specs.Messages.{AreFrames, messages_in};
+ghost use Rattle.cobs.specs.Piece.{last_part, missing};
 ghost use Rattle.cobs.specs.Table.{data_of};
 
-use cobs::laws::{law_2, law_4};
+use cobs::laws::{law_2, law_4, law_12};
 use cobs::{
     CobsDecoder, CobsDecoderHeapless, CobsDecoderOwned, DecodeError, DecodeReport, DecodeResult,
     DecoderState, DestBufTooSmallError, PushError, WriteBuffer, decode, decode_in_place_report,
@@ -68,6 +69,28 @@ pub fn decode_either_in_place(buffer: &mut [u8]) -> Result<DecodeReport, DecodeE
         Some(report) => Ok(report),
         None => decode_in_place_report(buffer),
     }
+}
+
+/// Decodes a frame that is known to be short, for which no other call is needed. It says whether that is so.
+pub fn decode_known_short(frame: &[u8], dest: &mut [u8]) -> bool
+    requires nonzero { HasNoZero frame.now }
+    requires few { (2 ≤ length frame.now) × (length frame.now ≤ 65) }
+    requires room { length frame.now ≤ length dest.old + 1 }
+    ensures { IsTrue result }
+{
+    law_12();
+    decode_short(frame, dest).is_some()
+}
+
+/// The same in its own place, of a frame whose blocks are all whole.
+pub fn decode_known_short_in_place(frame: &mut [u8]) -> bool
+    requires nonzero { HasNoZero frame.old }
+    requires few { (2 ≤ length frame.old) × (length frame.old ≤ 65) }
+    requires whole { missing (last_part frame.old) ≡ 0 }
+    ensures { IsTrue result }
+{
+    law_12();
+    decode_short_in_place(frame).is_some()
 }
 
 /// Writes the frame of the message for the sentinel, and the sentinel after it, and returns its place: it is

@@ -1,11 +1,11 @@
 -- What is before the first zero of a list, and the first piece behind its leading zeros.
-use Rattle.std.proofs.Common.{◌≡◌, ◌≢◌, ℕ, zero, suc, ◌+◌, ◌<◌, ◌≤◌, Bool, cond, List, [], ◌∷◌, length, take, drop, get_or, Some, None, refl, sym, ap, ◌∙◌, arith, length-drop}
-use Rattle.std.proofs.lemmas.Bool.{ne_eqb}
+use Rattle.std.proofs.Common.{◌≡◌, ◌≢◌, ℕ, zero, suc, ◌+◌, ◌-◌, ◌<◌, ◌≤◌, Bool, cond, List, [], ◌∷◌, length, take, drop, get_or, Some, None, refl, sym, ap, ◌∙◌, arith, inl, inr, length-drop}
+use Rattle.std.proofs.lemmas.Bool.{cases_eq, cases_lt, ne_eqb}
 use Rattle.std.proofs.lemmas.List.Elements.{All-head, All-tail}
 use Rattle.cobs.specs.Grammar.{HasNoZero}
 use Rattle.cobs.specs.Stream.{first_piece, head}
 use Rattle.cobs.specs.Decode.{leading_zeros}
-use Rattle.cobs.proofs.decoding.OutcomeLemmas.{head-zero, head-cons, first_piece_head}
+use Rattle.cobs.proofs.decoding.OutcomeLemmas.{head-zero, head-cons, length-head, first_piece_head}
 
 -- the front up to the first zero, or the whole list
 pub front_is_head : (t : List ℕ) (n : ℕ) → n ≤ length t → HasNoZero (take n t) → (n < length t → get_or t n 0 ≡ 0) → take n t ≡ head t
@@ -16,6 +16,42 @@ front_is_head (byte ∷ t) zero within none stop = sym (ap (λ (x : ℕ). head (
 front_is_head (byte ∷ t) (suc n) within none stop =
     ap (λ (x : List ℕ). byte ∷ x) (front_is_head t n (omega arith) (All-tail (λ b. b ≢ 0) byte (take n t) none) (λ more. stop (omega arith)))
     ∙ sym (head-cons byte t (All-head (λ b. b ≢ 0) byte (take n t) none))
+
+-- what is before the first zero, by its length
+pub head-front : (t : List ℕ) → take (length (head t)) t ≡ head t
+unfolding head
+head-front [] = refl
+head-front (byte ∷ t) = elim (cases_eq byte 0) [
+  | inl none ↦ rw (none, head-zero t) refl
+  | inr some ↦ rw (head-cons byte t some) (ap (λ (l : List ℕ). byte ∷ l) (head-front t))
+]
+
+pub head-stop : (t : List ℕ) → length (head t) < length t → get_or t (length (head t)) 0 ≡ 0
+unfolding head
+head-stop [] more = absurd (omega arith)
+head-stop (byte ∷ t) more = elim (cases_eq byte 0) [
+  | inl none ↦ rw none refl
+  | inr some ↦ (let l = ap length (head-cons byte t some) in ap (λ (k : ℕ). get_or (byte ∷ t) k 0) l ∙ head-stop t (omega arith))
+]
+
+pub head-most : (t : List ℕ) (i : ℕ) → i < length t → get_or t i 0 ≡ 0 → length (head t) ≤ i
+unfolding head
+head-most [] i more found = absurd (omega arith)
+head-most (byte ∷ t) zero more none = omega (arith, ap (λ (b : ℕ). length (head (b ∷ t))) none, ap length (head-zero t))
+head-most (byte ∷ t) (suc i) more found = elim (cases_eq byte 0) [
+  | inl none ↦ omega (arith, ap (λ (b : ℕ). length (head (b ∷ t))) none, ap length (head-zero t))
+  | inr some ↦ omega (arith, ap length (head-cons byte t some), head-most t i (omega arith) found)
+]
+
+-- a source without the zero that ends it, if nothing follows its first zero
+pub short_head : (t : List ℕ) (n : ℕ) → length t ≤ length (head t) + 1 → n ≤ length t → length t ≤ n + 1 → 0 < length t → (n < length t → get_or t n 0 ≡ 0) → (n ≡ length t → get_or t (n - 1) 0 ≢ 0) → n ≡ length (head t)
+short_head t n few within last some stop other = elim (cases_lt n (length t)) [
+  | inl less ↦ omega (arith, head-most t n less (stop less))
+  | inr all ↦ elim (cases_lt (length (head t)) (length t)) [
+    | inl less ↦ absurd (other (omega arith) (ap (λ (k : ℕ). get_or t k 0) (omega arith) ∙ head-stop t less))
+    | inr whole ↦ omega (arith, length-head t)
+  ]
+]
 
 -- a list that begins with a code has one in front of its first zero
 pub head_some : (t : List ℕ) → 0 < length t → get_or t 0 0 ≢ 0 → 0 < length (head t)

@@ -29,6 +29,11 @@ module _ (bytes : List ℕ) (s : ℕ) where
   pub rest_xored : (i : ℕ) → xor_each s (take (length bytes - i) (drop i bytes)) ≡ drop i (xor_each s bytes)
   rest_xored i = ap (xor_each s) (take_rest bytes i) ∙ sym (drop-map (λ b. bit_xor b s) i bytes)
 
+  pub slice_xored : (i n : ℕ) → xor_each s (take (i + n - i) (drop i bytes)) ≡ take n (drop i (xor_each s bytes))
+  slice_xored i n =
+      ap (λ (k : ℕ). xor_each s (take k (drop i bytes))) {x = i + n - i} {y = n} (omega arith)
+      ∙ sym (take-map (λ b. bit_xor b s) n (drop i bytes)) ∙ ap (take n) (sym (drop-map (λ b. bit_xor b s) i bytes))
+
   pub part_xored : (n k : ℕ) → n ≤ k → take n (xor_each s (take k bytes)) ≡ take n (xor_each s bytes)
   part_xored n k few = ap (take n) (front_xored k) ∙ take-take n k (xor_each s bytes) few
 

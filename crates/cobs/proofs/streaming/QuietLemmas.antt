@@ -7,8 +7,8 @@ use Rattle.cobs.specs.Grammar.{HasNoZero}
 use Rattle.cobs.specs.Piece.{last_part, missing, output, parts, parts_after}
 use Rattle.cobs.specs.Overwritten.{overwritten}
 use Rattle.cobs.specs.Feed.{Phase, Idle, Overlong, phase_after, PhaseAfter, DecoderAfter, result_for, fed}
-use Rattle.cobs.specs.declared.dec.unbuffered.UnbufferedDecoder.{UnbufferedDecoder}
-use Rattle.cobs.specs.Fields.Decoders.{phase_of, phase_with}
+use Rattle.cobs.specs.declared.dec.progress.DecoderProgress.{DecoderProgress}
+use Rattle.cobs.specs.Fields.Decoders.{phase_in, phase_with}
 use Rattle.cobs.specs.Internal.FeedsQuietly.{FeedsQuietly}
 use Rattle.cobs.specs.Step.{next_phase, next_buffer, next_result}
 use Rattle.cobs.proofs.decoding.PieceLemmas.{output-push}
@@ -87,10 +87,10 @@ full-by [] n x nz fits e = absurd (grind (arith, ne_eqb))
 full-by (c ∷ p) n x nz fits e = grind (arith, ne_eqb, le-leb, cases_Bool, leb-false)
 
 -- where a decoder is, by its fields
-at-by : (p : List ℕ) (n : ℕ) (over full : Bool) (left count : ℕ) → cond over Overlong (phase_with full left count) ≡ phase_after p n → length (output p) ≤ n → (count ≡ length (output p)) × (left ≡ missing (last_part p))
+at-by : (p : List ℕ) (n : ℕ) (going full : Bool) (left count : ℕ) → cond going (phase_with full left count) Overlong ≡ phase_after p n → length (output p) ≤ n → (count ≡ length (output p)) × (left ≡ missing (last_part p))
 unfolding phase_after last_part output parts parts_after
-at-by [] n over full left count e fits = grind arith
-at-by (c ∷ p) n over full left count e fits = grind (arith, le-leb)
+at-by [] n going full left count e fits = grind arith
+at-by (c ∷ p) n going full left count e fits = grind (arith, le-leb)
 
 module _ (old new p : List ℕ) (phase : Phase) (s : Quiet old new phase p) where
   pub quiet-written : new ≡ overwritten old (output p)
@@ -113,8 +113,8 @@ module _ (old new p : List ℕ) (phase : Phase) (s : Quiet old new phase p) wher
         grind (arith, quiet-written, output-begins, take_all, drop_all, append-nil)
 
   -- where the decoder is
-  pub quiet-at : (inner : UnbufferedDecoder) → phase_of inner ≡ phase → (inner.dest_idx ≡ length (output p)) × (inner.left ≡ missing (last_part p))
-  quiet-at inner is = at-by p (length new) inner.over (eqb inner.code 255) inner.left inner.dest_idx (is ∙ s.after.phased.phase_is) (omega (arith, s.len, s.fits))
+  pub quiet-at : (inner : DecoderProgress) → phase_in inner ≡ phase → (inner.written ≡ length (output p)) × (inner.missing ≡ missing (last_part p))
+  quiet-at inner is = at-by p (length new) (eqb inner.too_long 0) (eqb inner.joint 0) inner.missing inner.written (is ∙ s.after.phased.phase_is) (omega (arith, s.len, s.fits))
 
 -- the same of a place in a piece, where the bytes before it were fed
 pub quiet-stop : (p old new : List ℕ) (phase : Phase) (run : ℕ) → HasNoZero p → run < length p → FeedsQuietly old Idle (take run p) new phase → next_phase (length new) phase (get_or p run 0) ≡ Overlong

@@ -1,5 +1,5 @@
 -- Bytes behind an open block in which no full block ends, fed as a whole: what is written is what they are from code to code.
-use Rattle.std.proofs.Common.{◌≡◌, ◌≢◌, ℕ, zero, suc, ◌+◌, ◌-◌, ◌<◌, ◌≤◌, Bool, false, eqb, List, [], ◌∷◌, ◌++◌, length, set, take, drop, refl, sym, ap, ◌∙◌, subst, arith, inl, inr, length-take-le, length-drop, length-set, replicate, take-append-drop}
+use Rattle.std.proofs.Common.{◌≡◌, ◌≢◌, ℕ, zero, suc, ◌+◌, ◌-◌, ◌<◌, ◌≤◌, Bool, eqb, List, [], ◌∷◌, ◌++◌, length, set, take, drop, refl, sym, ap, ◌∙◌, subst, arith, inl, inr, length-take-le, length-drop, length-set, replicate, take-append-drop}
 use Rattle.std.proofs.lemmas.List.{append-nil, drop_all, drop-drop, length-replicate, take_rest}
 use Rattle.std.proofs.Math.Seq.{drop-append_seam, take-add, take-append_seam}
 use Rattle.std.proofs.lemmas.List.Elements.{All-head, All-tail, All-replicate}
@@ -7,13 +7,14 @@ use Rattle.std.proofs.lemmas.Bool.{ne_eqb, lt-ltb, cases_eq}
 use borrow.Rule.Slice.PartMut.{put_mid}
 use Rattle.cobs.specs.Grammar.{HasNoZero}
 use Rattle.cobs.specs.Feed.{Phase, Within}
-use Rattle.cobs.specs.declared.dec.unbuffered.UnbufferedDecoder.{UnbufferedDecoder}
-use Rattle.cobs.specs.Fields.Decoders.{phase_of, phase_with}
+use Rattle.cobs.specs.declared.dec.progress.DecoderProgress.{DecoderProgress}
+use Rattle.cobs.specs.Fields.Decoders.{phase_in, phase_with}
 use Rattle.cobs.specs.Internal.FeedsQuietly.{FeedsQuietly}
 use Rattle.cobs.specs.Internal.Walk.{walked}
+use Rattle.cobs.specs.Sentinel.{xor_each}
 use Rattle.cobs.specs.Step.{next_phase, next_buffer}
 use Rattle.cobs.proofs.streaming.RunLemmas.{over, over-nil, over-cons, begun}
-use Rattle.cobs.proofs.streaming.WalkLemmas.{length-walked, walked-past}
+use Rattle.cobs.proofs.streaming.WalkLemmas.{length-walked, walked-past, walked-any}
 
 -- the bytes are fed in two parts
 pub FeedsQuietly-append : (xs ys buffer buffer' buffer'' : List ℕ) (phase phase' phase'' : Phase)
@@ -48,6 +49,13 @@ fed_walked (x ∷ xs) buffer code zero count nz full few room =
 pub part_put : (at n : ℕ) (dest ys xs : List ℕ) → ys ≡ xs ++ drop n (take (length dest - at) (drop at dest)) → put_mid at (length dest - at) dest ys ≡ take at dest ++ (xs ++ drop (at + n) dest)
 part_put at n dest ys xs is = grind (arith, drop_all, length-drop, take_rest, drop-drop, append-nil)
 
+-- the same of a part that was copied, each byte XORed
+pub copied_put : (at n s : ℕ) (dest ys part xs : List ℕ) → ys ≡ xor_each s part ++ drop (length part) (take (length dest - at) (drop at dest)) → xor_each s part ≡ xs → length part ≡ n
+    → put_mid at (length dest - at) dest ys ≡ take at dest ++ (xs ++ drop (at + n) dest)
+copied_put at n s dest ys part xs is same long =
+    let rest : List ℕ = take (length dest - at) (drop at dest) in
+    part_put at n dest ys xs (is ∙ ap (λ (l : List ℕ). l ++ drop (length part) rest) same ∙ ap (λ (k : ℕ). xs ++ drop k rest) long)
+
 module _ (base : ℕ) (buffer xs : List ℕ) (room : base + length xs ≤ length buffer) where
   front-of : length (take base buffer) ≡ base
   front-of = length-take-le base buffer (omega arith)
@@ -75,50 +83,70 @@ copied-there at len before dest xs room long is =
     ap (λ (l : List ℕ). take len (drop at l)) (is ∙ ap (λ (k : ℕ). take at before ++ (xs ++ drop (at + k) before)) (sym long))
     ∙ ap (λ (k : ℕ). take k (drop at (over at before xs))) (omega arith) ∙ over-stretch at before xs (omega arith)
 
--- a decoder takes bytes, and they are written as what they are from code to code
-module _ (inner : UnbufferedDecoder) (len : ℕ) (before xs : List ℕ) (room : inner.dest_idx + len ≤ length before) (long : length xs ≡ len)
-    (going : inner.over ≡ false) (full : inner.code ≡ 255 → len ≤ inner.left) (nz : HasNoZero xs) (some : 0 < len) (few : inner.left < len → len < 254) (ys : List ℕ) (code left : ℕ) (w : ◌≡◌ {A = List ℕ × ℕ × ℕ} (ys, code, left) (walked inner.code inner.left xs)) where
-  from : phase_of inner ≡ Within (eqb inner.code 255) inner.left inner.dest_idx
-  from = elim (cases_eq inner.code 255) [
-    | inl e ↦ rw going (begun (eqb inner.code 255) inner.left inner.dest_idx (omega (arith, full e)))
-    | inr other ↦ rw going (ap (λ (v : Bool). phase_with v inner.left inner.dest_idx) (ne_eqb inner.code 255 other) ∙ ap (λ (v : Bool). Within v inner.left inner.dest_idx) (sym (ne_eqb inner.code 255 other)))
-  ]
+-- a code of the block whose `joint` is this: a full one, or another
+abbrev pub code_by : ℕ → ℕ
+code_by zero = 255
+code_by (suc joint) = 1
 
-  pub open_fed : FeedsQuietly before (phase_of inner) xs (over inner.dest_idx before ys) (phase_of (record { dest_idx = inner.dest_idx + len; left = left; code = code; over = inner.over }))
+pub code_by-full : (joint : ℕ) → eqb joint 0 ≡ eqb (code_by joint) 255
+code_by-full zero = refl
+code_by-full (suc joint) = ne_eqb (suc joint) 0 (λ e. omega (arith, e))
+
+full_by : (joint : ℕ) → code_by joint ≡ 255 → joint ≡ 0
+full_by zero is = refl
+full_by (suc joint) is = absurd (omega arith)
+
+-- a decoder takes bytes, and they are written as what they are from code to code
+module _ (inner : DecoderProgress) (len : ℕ) (before xs : List ℕ) (room : inner.written + len ≤ length before) (long : length xs ≡ len)
+    (going : inner.too_long ≡ 0) (full : inner.joint ≡ 0 → len ≤ inner.missing) (nz : HasNoZero xs) (some : 0 < len) (few : inner.missing < len → len < 254)
+    (ys : List ℕ) (code left joint : ℕ) (w : ◌≡◌ {A = List ℕ × ℕ × ℕ} (ys, code, left) (walked (code_by inner.joint) inner.missing xs)) (joint-is : eqb joint 0 ≡ eqb code 255) where
+  from : phase_in inner ≡ Within (eqb (code_by inner.joint) 255) inner.missing inner.written
+  from = elim (cases_eq inner.joint 0) [
+    | inl e ↦ rw going (begun (eqb inner.joint 0) inner.missing inner.written (omega (arith, full e)))
+    | inr other ↦ rw going (ap (λ (v : Bool). phase_with v inner.missing inner.written) (ne_eqb inner.joint 0 other) ∙ ap (λ (v : Bool). Within v inner.missing inner.written) (sym (ne_eqb inner.joint 0 other)))
+  ] ∙ ap (λ (v : Bool). Within v inner.missing inner.written) (code_by-full inner.joint)
+
+  pub open_fed : FeedsQuietly before (phase_in inner) xs (over inner.written before ys) (phase_in (record { written = inner.written + len; missing = left; joint = joint; too_long = inner.too_long }))
   open_fed =
-      let v = walked inner.code inner.left xs in
-      let to : phase_of (record { dest_idx = inner.dest_idx + len; left = left; code = code; over = inner.over }) ≡ Within (eqb v.1 255) v.2 (inner.dest_idx + length xs)
-      = rw going (begun (eqb code 255) left (inner.dest_idx + len) (omega arith)) ∙ ap (λ (t : List ℕ × ℕ × ℕ). Within (eqb t.1 255) t.2 (inner.dest_idx + len)) w ∙ ap (λ (k : ℕ). Within (eqb v.1 255) v.2 (inner.dest_idx + k)) (sym long) in
-      rw (from, to, ap (λ (t : List ℕ × ℕ × ℕ). t.0) w) (fed_walked xs before inner.code inner.left inner.dest_idx nz (λ e. omega (arith, full e)) (λ h. omega (arith, few (omega arith))) (omega arith))
+      let v = walked (code_by inner.joint) inner.missing xs in
+      let to : phase_in (record { written = inner.written + len; missing = left; joint = joint; too_long = inner.too_long }) ≡ Within (eqb v.1 255) v.2 (inner.written + length xs)
+      = rw going (begun (eqb joint 0) left (inner.written + len) (omega arith)) ∙ ap (λ (b : Bool). Within b left (inner.written + len)) joint-is
+      ∙ ap (λ (t : List ℕ × ℕ × ℕ). Within (eqb t.1 255) t.2 (inner.written + len)) w ∙ ap (λ (k : ℕ). Within (eqb v.1 255) v.2 (inner.written + k)) (sym long) in
+      rw (from, to, ap (λ (t : List ℕ × ℕ × ℕ). t.0) w)
+      (fed_walked xs before (code_by inner.joint) inner.missing inner.written nz (λ e. omega (arith, full (full_by inner.joint e))) (λ h. omega (arith, few (omega arith))) (omega arith))
 
   -- written over a copy of them
-  pub written_over : (dest : List ℕ) → dest ≡ over inner.dest_idx before xs → put_mid inner.dest_idx (inner.dest_idx + len - inner.dest_idx) dest ys ≡ over inner.dest_idx before ys
-  written_over dest is = ap (λ (l : List ℕ). put_mid inner.dest_idx (inner.dest_idx + len - inner.dest_idx) l ys) is ∙ ap (λ (k : ℕ). put_mid inner.dest_idx (inner.dest_idx + k - inner.dest_idx) (over inner.dest_idx before xs) ys) (sym long)
-      ∙ over-over inner.dest_idx before xs (omega arith) ys (ap (λ (t : List ℕ × ℕ × ℕ). length t.0) w ∙ length-walked inner.code inner.left xs)
+  pub written_over : (dest : List ℕ) → dest ≡ over inner.written before xs → put_mid inner.written (inner.written + len - inner.written) dest ys ≡ over inner.written before ys
+  written_over dest is = ap (λ (l : List ℕ). put_mid inner.written (inner.written + len - inner.written) l ys) is ∙ ap (λ (k : ℕ). put_mid inner.written (inner.written + k - inner.written) (over inner.written before xs) ys) (sym long)
+      ∙ over-over inner.written before xs (omega arith) ys (ap (λ (t : List ℕ × ℕ × ℕ). length t.0) w ∙ length-walked (code_by inner.joint) inner.missing xs)
 
 -- bytes of the open block
-pub block_fed : (inner : UnbufferedDecoder) (run : ℕ) (dest bytes new : List ℕ) → inner.over ≡ false → run ≤ inner.left → inner.dest_idx + run ≤ length dest → run ≤ length bytes
-    → HasNoZero (take run bytes) → new ≡ take inner.dest_idx dest ++ (take run bytes ++ drop (inner.dest_idx + run) dest)
-    → FeedsQuietly dest (phase_of inner) (take run bytes) new (phase_of (record { dest_idx = inner.dest_idx + run; left = inner.left - run; code = inner.code; over = inner.over }))
-block_fed inner zero dest bytes new going most room within nz is = (is ∙ ap (λ (k : ℕ). take inner.dest_idx dest ++ drop k dest) (omega arith) ∙ take-append-drop inner.dest_idx dest, grind arith)
+pub block_fed : (inner : DecoderProgress) (run : ℕ) (dest bytes new : List ℕ) → inner.too_long ≡ 0 → run ≤ inner.missing → inner.written + run ≤ length dest → run ≤ length bytes
+    → HasNoZero (take run bytes) → new ≡ take inner.written dest ++ (take run bytes ++ drop (inner.written + run) dest)
+    → FeedsQuietly dest (phase_in inner) (take run bytes) new (phase_in (record { written = inner.written + run; missing = inner.missing - run; joint = inner.joint; too_long = inner.too_long }))
+block_fed inner zero dest bytes new going most room within nz is = (is ∙ ap (λ (k : ℕ). take inner.written dest ++ drop k dest) (omega arith) ∙ take-append-drop inner.written dest, grind arith)
 block_fed inner (suc run) dest bytes new going most room within nz is =
     let xs : List ℕ = take (suc run) bytes in
+    let code : ℕ = code_by inner.joint in
     let long : length xs ≡ suc run = length-take-le (suc run) bytes within in
-    rw (is ∙ ap (λ (k : ℕ). take inner.dest_idx dest ++ (xs ++ drop (inner.dest_idx + k) dest)) (sym long)) (open_fed inner (suc run) dest xs room long going (λ _. most) nz (omega arith) (λ h. absurd (omega arith)) xs inner.code (inner.left - suc run)
-    (ap (λ (k : ℕ). (xs, inner.code, inner.left - k)) (sym long) ∙ sym (walked-past inner.code inner.left xs (omega arith))))
+    rw (is ∙ ap (λ (k : ℕ). take inner.written dest ++ (xs ++ drop (inner.written + k) dest)) (sym long))
+    (open_fed inner (suc run) dest xs room long going (λ _. most) nz (omega arith) (λ h. absurd (omega arith)) xs code (inner.missing - suc run) inner.joint
+    (ap (λ (k : ℕ). (xs, code, inner.missing - k)) (sym long) ∙ sym (walked-past code inner.missing xs (omega arith))) (code_by-full inner.joint))
 
-walked-ones : (n : ℕ) → walked 1 0 (replicate n 1) ≡ (replicate n 0, 1, 0)
-walked-ones zero = refl
-walked-ones (suc n) = ap (λ (t : List ℕ × ℕ × ℕ). (0 ∷ t.0, t.1, t.2)) (walked-ones n)
+row_ones : (n : ℕ) → walked 1 0 (replicate n 1) ≡ (replicate n 0, 1, 0)
+row_ones zero = refl
+row_ones (suc n) = ap (λ (t : List ℕ × ℕ × ℕ). (0 ∷ t.0, t.1, t.2)) (row_ones n)
 
 ones-nonzero : (n : ℕ) → HasNoZero (replicate n 1)
 ones-nonzero n = All-replicate (λ b. b ≢ 0) n 1 (omega arith)
 
 -- a row of n blocks without bytes
-pub row_fed : (n : ℕ) (inner : UnbufferedDecoder) (dest bytes new : List ℕ) → 0 < n → n < 254 → inner.over ≡ false → inner.left ≡ 0 → inner.code ≡ 1 → inner.dest_idx + n ≤ length dest → take n bytes ≡ replicate n 1
-    → new ≡ take inner.dest_idx dest ++ (replicate n 0 ++ drop (inner.dest_idx + n) dest)
-    → FeedsQuietly dest (phase_of inner) (take n bytes) new (phase_of (record { dest_idx = inner.dest_idx + n; left = inner.left; code = inner.code; over = inner.over }))
-row_fed n inner dest bytes new some few going none empty room ones is =
-    rw (ones, is ∙ ap (λ (k : ℕ). take inner.dest_idx dest ++ (replicate n 0 ++ drop (inner.dest_idx + k) dest)) (sym (length-replicate {A = ℕ} n 0)))
-    (open_fed inner n dest (replicate n 1) room (length-replicate {A = ℕ} n 1) going (λ e. absurd (omega arith)) (ones-nonzero n) some (λ _. few) (replicate n 0) inner.code inner.left
-    (ap (λ (k : ℕ). (replicate n 0, k, inner.left)) empty ∙ ap (λ (k : ℕ). (replicate n 0, 1, k)) none ∙ sym (walked-ones n) ∙ ap (λ (k : ℕ). walked k 0 (replicate n 1)) (sym empty) ∙ ap (λ (k : ℕ). walked inner.code k (replicate n 1)) (sym none)))
+pub row_fed : (n : ℕ) (inner : DecoderProgress) (dest bytes new : List ℕ) → 0 < n → n < 254 → inner.too_long ≡ 0 → inner.missing ≡ 0 → inner.joint ≢ 0 → inner.written + n ≤ length dest → take n bytes ≡ replicate n 1
+    → new ≡ take inner.written dest ++ (replicate n 0 ++ drop (inner.written + n) dest)
+    → FeedsQuietly dest (phase_in inner) (take n bytes) new (phase_in (record { written = inner.written + n; missing = inner.missing; joint = inner.joint; too_long = inner.too_long }))
+row_fed n inner dest bytes new some few going none due room ones is =
+    let code : ℕ = code_by inner.joint in
+    let long : length (replicate {A = ℕ} n 1) ≡ n = length-replicate {A = ℕ} n 1 in
+    rw (ones, is ∙ ap (λ (k : ℕ). take inner.written dest ++ (replicate n 0 ++ drop (inner.written + k) dest)) (sym (length-replicate {A = ℕ} n 0)))
+    (open_fed inner n dest (replicate n 1) room long going (λ e. absurd (due e)) (ones-nonzero n) some (λ _. few) (replicate n 0) 1 inner.missing inner.joint
+    (ap (λ (k : ℕ). (replicate n 0, 1, k)) none ∙ sym (row_ones n) ∙ walked-any 1 code 0 (replicate n 1) (omega (arith, long)) ∙ ap (λ (k : ℕ). walked code k (replicate n 1)) (sym none)) (ne_eqb inner.joint 0 due))

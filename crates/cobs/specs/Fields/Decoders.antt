@@ -14,6 +14,7 @@ use Rattle.cobs.specs.contracts.dec.buffered.CobsDecoder.{the_row as borrowed_ro
 use Rattle.cobs.specs.contracts.dec.buffered.CobsDecoderOwned.{the_row as owned_row}
 use Rattle.cobs.specs.contracts.dec.heapless.CobsDecoderHeapless.{the_row as heapless_row}
 use Rattle.cobs.specs.Feed.{Phase, Idle, Within, Overlong}
+use Rattle.cobs.specs.declared.dec.progress.DecoderProgress.{DecoderProgress}
 use Rattle.cobs.specs.declared.dec.unbuffered.UnbufferedDecoder.{UnbufferedDecoder}
 use Rattle.cobs.specs.declared.dec.unbuffered.DecoderPhase.{DecoderPhase}
 use Rattle.cobs.specs.declared.dec.unbuffered.DecoderPhase.TheVariants.{Idle as TheIdle, Within as TheWithin, TooLong}
@@ -32,10 +33,14 @@ phase_at TheIdle = Idle
 phase_at (TheWithin is_full left written) = phase_with is_full left written
 phase_at TooLong = Overlong
 
+-- the phase that a decoder's numbers stand for, whatever they are
+abbrev pub phase_in : DecoderProgress → Phase
+phase_in progress = if progress.too_long == 0 then phase_with (progress.joint == 0) progress.missing progress.written else Overlong
+
 -- where a decoder is whose buffer is passed to each call, as the three others do by the one in them. It reads the
--- private fields: contracts name where a decoder is by this word, and know nothing else of those fields.
+-- private field: contracts name where a decoder is by this word, and know nothing else of that field.
 abbrev pub phase_of : UnbufferedDecoder → Phase
-phase_of inner = if inner.over then Overlong else phase_with (inner.code == 255) inner.left inner.dest_idx
+phase_of decoder = phase_in decoder.progress
 
 -- the bytes of the slice that was borrowed by a `CobsDecoder`
 abbrev pub borrowed_buffer : CobsDecoder → List ℕ

@@ -1,148 +1,153 @@
-//! What every decoder takes at once: bytes up to a zero, copied in stretches, and then a zero written at each code.
+//! What every decoder takes at once: bytes up to a sentinel, copied as slices, and then a zero written at each code.
 ghost use Rattle.std.specs.Prelude.{IsTrue, ◌++◌, drop, ◌≡◌, ◌≢◌, ◌<◌, ◌≤◌, ◌+◌, ◌∷◌, [], length, take, slice_index, false, List, ℕ};
 ghost use Rattle.cobs.specs.Feed.{Overlong};
-ghost use Rattle.cobs.specs.Fields.Decoders.{phase_of};
+ghost use Rattle.cobs.specs.Fields.Decoders.{phase_in};
 ghost use Rattle.cobs.specs.Grammar.{HasNoZero};
 ghost use Rattle.cobs.specs.Internal.FeedsQuietly.{FeedsQuietly};
 ghost use Rattle.cobs.specs.Sentinel.{xor_each};
 ghost use Rattle.cobs.specs.Step.{next_phase};
 
 use crate::block::FULL_BLOCK_BYTES;
-use crate::dec::stretch::{is_dense, write_zeros_at_codes, write_zeros_by_vector};
-use crate::dec::unbuffered::{FULL, UnbufferedDecoder};
-use cobs_bytes::lanes::{copy_to_zero, copy_windows, copy_xored_short};
-use cobs_bytes::window::{WIDE_WINDOW, WINDOW, is_all, write_row};
+use crate::dec::progress::{DecoderProgress, joint_after};
+use crate::dec::stretch::write_zeros_at_codes;
+use crate::find::zero_or_len;
+use cobs_bytes::lanes::{copy_xored, copy_xored_short};
+use cobs_bytes::window::{WIDE_WINDOW, WINDOW, has_vectors, is_all, write_row};
 
-impl UnbufferedDecoder {
-    /// Takes a code behind a whole block, and writes the zero that joins the two.
+/// The most bytes that one stretch has: so few that none of its codes can have a whole full block after it.
+pub(crate) const STRETCH_MAX: usize = FULL_BLOCK_BYTES - 1;
+
+impl DecoderProgress {
+    /// Takes the code of the block after a whole one, and writes the zero that joins the two.
     #[inline(always)]
     pub(crate) fn take_joint(&mut self, dest: &mut [u8], code: u8)
-        requires going { self.old.over ≡ false }
-        requires whole { self.old.left ≡ 0 }
+        requires going { self.old.too_long ≡ 0 }
+        requires whole { self.old.missing ≡ 0 }
         requires nonzero { code ≢ 0 }
-        requires room { self.old.code ≢ 255 → self.old.dest_idx < length dest.old }
-        ensures fed { FeedsQuietly dest.old (phase_of self.old) (code ∷ []) dest.new (phase_of self.new) }
-        ensures going { self.new.over ≡ false }
-        ensures code { self.new.code ≡ code }
-        ensures left { self.new.left + 1 ≡ code }
-        ensures written { self.new.dest_idx ≤ self.old.dest_idx + 1 }
-        ensures full { self.old.code ≡ 255 → self.new.dest_idx ≡ self.old.dest_idx }
+        requires room { self.old.joint ≢ 0 → self.old.written < length dest.old }
+        ensures fed { FeedsQuietly dest.old (phase_in self.old) (code ∷ []) dest.new (phase_in self.new) }
+        ensures going { self.new.too_long ≡ 0 }
+        ensures missing { self.new.missing + 1 ≡ code }
+        ensures written { self.new.written ≤ self.old.written + 1 }
+        ensures full { self.old.joint ≡ 0 → self.new.written ≡ self.old.written }
     {
-        if self.code != FULL {
-            dest[self.dest_idx] = 0;
-            self.dest_idx += 1;
+        if self.joint != 0 {
+            dest[self.written] = 0;
+            self.written += 1;
         }
-        self.code = code;
-        self.left = code - 1;
+        self.joint = joint_after(code);
+        self.missing = code - 1;
     }
 
-    /// How many of `len` bytes one stretch can have: it ends where a full block does.
+    /// Returns how many of `len` bytes one stretch can have: it ends where a full block does.
     #[inline(always)]
     pub(crate) fn stretch_len(&self, len: usize) -> usize
         ensures within { result ≤ len }
-        ensures full { self.now.code ≡ 255 → result ≤ self.now.left }
-        ensures some { 0 < len → (self.now.left ≡ 0 → self.now.code ≢ 255) → 0 < result }
+        ensures full { self.now.joint ≡ 0 → result ≤ self.now.missing }
+        ensures some { 0 < len → (self.now.missing ≡ 0 → self.now.joint ≢ 0) → 0 < result }
     {
-        if self.code == FULL {
-            len.min(self.left as usize)
+        if self.joint == 0 {
+            len.min(self.missing as usize)
         } else {
             len
         }
     }
 
-    /// Takes a code behind a whole block, with the first bytes of that block, or all, if it is long and these are at hand and
-    /// have room. Returns how many bytes that is, none only if the zero that joins the two blocks has no room.
+    /// Takes the code of the block after a whole one, and the bytes of the block that are at hand and have room. Returns how
+    /// many bytes that is: 0 only if the zero that joins the two blocks has no room.
     #[inline(always)]
     fn take_block(&mut self, dest: &mut [u8], bytes: &[u8], sentinel: u8) -> usize
-        requires going { self.old.over ≡ false }
-        requires whole { self.old.left ≡ 0 }
-        requires nonzero { slice_index (xor_each sentinel bytes.now) 0 ≢ 0 }
+        requires going { self.old.too_long ≡ 0 }
+        requires whole { self.old.missing ≡ 0 }
+        requires some { 0 < length bytes.now }
+        requires nonzero { HasNoZero (xor_each sentinel bytes.now) }
         ensures within { result ≤ length bytes.now }
-        ensures fed { FeedsQuietly dest.old (phase_of self.old)
-            (take result (xor_each sentinel bytes.now)) dest.new (phase_of self.new) }
-        ensures going { self.new.over ≡ false }
-        ensures full { result ≡ 0 → next_phase (length dest.new) (phase_of self.new)
+        ensures fed { FeedsQuietly dest.old (phase_in self.old)
+            (take result (xor_each sentinel bytes.now)) dest.new (phase_in self.new) }
+        ensures going { self.new.too_long ≡ 0 }
+        ensures full { result ≡ 0 → next_phase (length dest.new) (phase_in self.new)
             (slice_index (xor_each sentinel bytes.now) 0) ≡ Overlong }
     {
-        if self.code != FULL && dest.len() <= self.dest_idx {
+        if self.joint != 0 && dest.len() <= self.written {
             return 0;
         }
         self.take_joint(dest, bytes[0] ^ sentinel);
-        let at = self.dest_idx;
-        let len = self.left as usize;
-        if len < WIDE_WINDOW || bytes.len() <= len || dest.len().saturating_sub(at) < len {
+        let at = self.written;
+        let len = (self.missing as usize)
+            .min(bytes.len() - 1)
+            .min(dest.len().saturating_sub(at));
+        if len == 0 {
             return 1;
         }
-        let copied = copy_windows::<FULL_BLOCK_BYTES>(&bytes[1..], len, &mut dest[at..], sentinel);
-        self.dest_idx = at + copied;
-        self.left -= copied as u8;
-        1 + copied
+        copy_xored(&bytes[1..1 + len], &mut dest[at..], sentinel);
+        self.written = at + len;
+        self.missing -= len as u8;
+        1 + len
     }
 
-    /// Takes `len` bytes that are copied behind the output, none of them a zero, in which no full block ends.
+    /// Takes `len` bytes that are copied after the output, none of them a zero, in which no full block ends.
     #[inline(always)]
     pub(crate) fn take_copied(&mut self, dest: &mut [u8], len: usize)
-        requires going { self.old.over ≡ false }
+        requires going { self.old.too_long ≡ 0 }
         requires few { (0 < len) × (len < 254) }
-        requires full { self.old.code ≡ 255 → len ≤ self.old.left }
-        requires room { self.old.dest_idx + len ≤ length dest.old }
-        requires nonzero { HasNoZero (take len (drop self.old.dest_idx dest.old)) }
-        ensures fed { let at = self.old.dest_idx in (before xs : List ℕ) → at + len ≤ length before → length xs ≡ len
+        requires full { self.old.joint ≡ 0 → len ≤ self.old.missing }
+        requires room { self.old.written + len ≤ length dest.old }
+        requires nonzero { HasNoZero (take len (drop self.old.written dest.old)) }
+        ensures fed { let at = self.old.written in (before xs : List ℕ) → at + len ≤ length before → length xs ≡ len
             → dest.old ≡ take at before ++ (xs ++ drop (at + len) before)
-            → FeedsQuietly before (phase_of self.old) xs dest.new (phase_of self.new) }
-        ensures going { self.new.over ≡ false }
-        ensures written { self.new.dest_idx ≡ self.old.dest_idx + len }
-        ensures full { self.old.code ≡ 255 → self.new.code ≡ 255 }
+            → FeedsQuietly before (phase_in self.old) xs dest.new (phase_in self.new) }
+        ensures going { self.new.too_long ≡ 0 }
+        ensures written { self.new.written ≡ self.old.written + len }
+        ensures full { self.old.joint ≡ 0 → self.new.joint ≡ 0 }
     {
-        let at = self.dest_idx;
-        let left = self.left as usize;
-        self.dest_idx = at + len;
-        if len <= left {
-            self.left -= len as u8;
+        let at = self.written;
+        let missing = self.missing as usize;
+        self.written = at + len;
+        if len <= missing {
+            self.missing -= len as u8;
             return;
         }
-        // What the open block is missing is what a code of one more would open.
-        let bytes = &mut dest[at..at + len];
-        if is_dense(bytes, left) {
-            (self.code, self.left) = write_zeros_by_vector(bytes, left + 1);
-        } else {
-            (self.code, self.left) = write_zeros_at_codes(bytes, left + 1);
-        }
+        // The open block is missing as many bytes as one that a code of one more opens.
+        let (code, missing) = write_zeros_at_codes(&mut dest[at..at + len], missing + 1);
+        self.joint = joint_after(code);
+        self.missing = missing;
     }
 
-    /// Takes up to 192 bytes before a zero, in which no full block ends. Returns how many: 0 if the first has no room.
+    /// Takes up to 253 bytes, in which no full block ends. Returns how many: 0 if the first has no room.
     #[inline(always)]
     fn take_stretch(&mut self, dest: &mut [u8], bytes: &[u8], sentinel: u8) -> usize
-        requires going { self.old.over ≡ false }
-        requires within { self.old.left ≡ 0 → self.old.code ≢ 255 }
-        requires nonzero { slice_index (xor_each sentinel bytes.now) 0 ≢ 0 }
+        requires going { self.old.too_long ≡ 0 }
+        requires within { self.old.missing ≡ 0 → self.old.joint ≢ 0 }
+        requires some { 0 < length bytes.now }
+        requires nonzero { HasNoZero (xor_each sentinel bytes.now) }
         ensures within { result ≤ length bytes.now }
-        ensures fed { FeedsQuietly dest.old (phase_of self.old)
-            (take result (xor_each sentinel bytes.now)) dest.new (phase_of self.new) }
-        ensures going { self.new.over ≡ false }
-        ensures full { result ≡ 0 → next_phase (length dest.new) (phase_of self.new)
+        ensures fed { FeedsQuietly dest.old (phase_in self.old)
+            (take result (xor_each sentinel bytes.now)) dest.new (phase_in self.new) }
+        ensures going { self.new.too_long ≡ 0 }
+        ensures full { result ≡ 0 → next_phase (length dest.new) (phase_in self.new)
             (slice_index (xor_each sentinel bytes.now) 0) ≡ Overlong }
     {
-        let at = self.dest_idx;
-        let most = self.stretch_len(bytes.len().min(dest.len().saturating_sub(at)));
-        if most == 0 {
+        let at = self.written;
+        let most = bytes.len().min(STRETCH_MAX);
+        let len = self.stretch_len(most.min(dest.len().saturating_sub(at)));
+        if len == 0 {
             return 0;
         }
-        let len = copy_to_zero(&bytes[..most], &mut dest[at..], sentinel);
+        copy_xored(&bytes[..len], &mut dest[at..], sentinel);
         self.take_copied(dest, len);
         len
     }
 
     /// Takes all bytes at once if they are fewer than 32, none is a zero, they have room and no full block ends in them, and
-    /// says whether it did. In the Rust crate pushes of 8 bytes of a long frame take half the time, of 16 a third.
+    /// says whether it did.
     #[inline(always)]
     pub(crate) fn take_short(&mut self, dest: &mut [u8], bytes: &[u8]) -> bool
-        ensures fed { IsTrue result → FeedsQuietly dest.old (phase_of self.old) bytes.now dest.new (phase_of self.new) }
+        ensures fed { IsTrue result → FeedsQuietly dest.old (phase_in self.old) bytes.now dest.new (phase_in self.new) }
         ensures kept { result ≡ false → (dest.new ≡ dest.old) × (self.new ≡ self.old) }
     {
-        let at = self.dest_idx;
+        let at = self.written;
         let len = bytes.len();
-        if self.over
+        if self.too_long != 0
             || len == 0
             || WINDOW <= len
             || self.stretch_len(len) < len
@@ -155,60 +160,74 @@ impl UnbufferedDecoder {
         true
     }
 
-    /// Takes bytes before a zero, as many as one step can, and returns how many: a code that nothing is joined to, or of
-    /// a long block; a row of 32 blocks without bytes behind such a block; or a stretch. None if the first has no room.
+    /// Takes bytes before a sentinel, as many as one step can, and returns how many: a block of 64 bytes or more or after a
+    /// full one; 32 codes of blocks without bytes; or a stretch. It is 0 only if the first byte has no room.
     #[inline(always)]
     fn take_part(&mut self, dest: &mut [u8], bytes: &[u8], sentinel: u8) -> usize
-        requires going { self.old.over ≡ false }
-        requires nonzero { slice_index (xor_each sentinel bytes.now) 0 ≢ 0 }
+        requires going { self.old.too_long ≡ 0 }
+        requires some { 0 < length bytes.now }
+        requires nonzero { HasNoZero (xor_each sentinel bytes.now) }
         ensures within { result ≤ length bytes.now }
-        ensures fed { FeedsQuietly dest.old (phase_of self.old)
-            (take result (xor_each sentinel bytes.now)) dest.new (phase_of self.new) }
-        ensures going { self.new.over ≡ false }
-        ensures full { result ≡ 0 → next_phase (length dest.new) (phase_of self.new)
+        ensures fed { FeedsQuietly dest.old (phase_in self.old)
+            (take result (xor_each sentinel bytes.now)) dest.new (phase_in self.new) }
+        ensures going { self.new.too_long ≡ 0 }
+        ensures full { result ≡ 0 → next_phase (length dest.new) (phase_in self.new)
             (slice_index (xor_each sentinel bytes.now) 0) ≡ Overlong }
     {
-        if self.left == 0 {
-            if self.code == FULL || (bytes[0] ^ sentinel) as usize > WIDE_WINDOW {
+        if self.missing == 0 {
+            let code = bytes[0] ^ sentinel;
+            if self.joint == 0 || code as usize > WIDE_WINDOW {
                 return self.take_block(dest, bytes, sentinel);
             }
-            if self.code == 1
-                && WINDOW <= bytes.len().min(dest.len().saturating_sub(self.dest_idx))
-                && is_all(bytes, 0, 1 ^ sentinel)
-            {
-                write_row(dest, self.dest_idx, 0);
-                self.dest_idx += WINDOW;
+            let most = bytes.len().min(dest.len().saturating_sub(self.written));
+            if has_vectors() && code == 1 && WINDOW <= most && is_all(bytes, 0, 1 ^ sentinel) {
+                write_row(dest, self.written, 0);
+                self.written += WINDOW;
                 return WINDOW;
             }
         }
         self.take_stretch(dest, bytes, sentinel)
     }
 
-    /// Takes bytes, XORed with the sentinel, that return `Ok(None)`, up to a sentinel or the room's end; returns how many.
+    /// Takes bytes that have no sentinel, up to the room's end, and returns how many.
     #[inline(always)]
-    pub(crate) fn take_run(&mut self, dest: &mut [u8], bytes: &[u8], sentinel: u8) -> usize
+    pub(crate) fn take_blocks(&mut self, dest: &mut [u8], bytes: &[u8], sentinel: u8) -> usize
+        requires going { self.old.too_long ≡ 0 }
+        requires nonzero { HasNoZero (xor_each sentinel bytes.now) }
         ensures within { result ≤ length bytes.now }
-        ensures fed { FeedsQuietly dest.old (phase_of self.old)
-            (take result (xor_each sentinel bytes.now)) dest.new (phase_of self.new) }
-        ensures stop { result < length bytes.now → slice_index (xor_each sentinel bytes.now) result ≢ 0
-            → next_phase (length dest.new) (phase_of self.new)
+        ensures fed { FeedsQuietly dest.old (phase_in self.old)
+            (take result (xor_each sentinel bytes.now)) dest.new (phase_in self.new) }
+        ensures going { self.new.too_long ≡ 0 }
+        ensures stop { result < length bytes.now → next_phase (length dest.new) (phase_in self.new)
             (slice_index (xor_each sentinel bytes.now) result) ≡ Overlong }
     {
-        // A piece that is too long has a result for each byte.
-        if self.over {
-            return 0;
-        }
         // A copy, so that it stays in registers.
-        let mut here = UnbufferedDecoder { ..*self };
-        let mut rest = bytes;
-        'by_step: while !rest.is_empty() && rest[0] ^ sentinel != 0 {
-            let step = here.take_part(dest, rest, sentinel);
-            rest = &rest[step..];
+        let mut here = *self;
+        let mut taken = 0;
+        'by_step: while taken < bytes.len() {
+            let step = here.take_part(dest, &bytes[taken..], sentinel);
+            taken += step;
             if step == 0 {
                 break;
             }
         }
         *self = here;
-        bytes.len() - rest.len()
+        taken
+    }
+
+    /// Takes bytes that return `Ok(None)`, up to a zero or the room's end, and returns how many. One search finds the zero.
+    #[inline(always)]
+    pub(crate) fn take_run(&mut self, dest: &mut [u8], bytes: &[u8]) -> usize
+        ensures within { result ≤ length bytes.now }
+        ensures fed { FeedsQuietly dest.old (phase_in self.old) (take result bytes.now) dest.new (phase_in self.new) }
+        ensures stop { result < length bytes.now → slice_index bytes.now result ≢ 0
+            → next_phase (length dest.new) (phase_in self.new) (slice_index bytes.now result) ≡ Overlong }
+    {
+        // A piece that is too long has a result for each byte.
+        if self.too_long != 0 {
+            return 0;
+        }
+        let end = zero_or_len(bytes);
+        self.take_blocks(dest, &bytes[..end], 0)
     }
 }

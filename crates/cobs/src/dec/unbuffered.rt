@@ -1,23 +1,15 @@
 //! The streaming decoder whose buffer is passed to each call. The three others are built on it.
-ghost use Rattle.std.specs.Prelude.{◌≡◌, ◌<◌, ◌≤◌, ◌+◌, ℕ, false, List, [], length, take, Err, IfOk, IfSome, ◌++◌};
-ghost use Rattle.cobs.specs.Feed.{DecoderAfter, Feeds, Idle, Overlong, Phase};
-ghost use Rattle.cobs.specs.declared.error.DecodeError.TheVariants.{TargetBufTooSmall};
+ghost use Rattle.std.specs.Prelude.{◌≡◌, List, [], ℕ};
+ghost use Rattle.cobs.specs.Feed.{DecoderAfter, Feeds, Idle};
 ghost use Rattle.cobs.specs.Fields.Decoders.{phase_at, phase_of};
-ghost use Rattle.cobs.specs.Step.{next_phase, next_buffer, next_result, end_result};
 ghost use Rattle.cobs.specs.Push.{PushesBytes};
 ghost use Rattle.cobs.specs.FeedPiece.{TakesPiece};
 
-use crate::block::FULL_CODE;
 use crate::dec::frame_decoder::{PieceEnd, piece_end};
+use crate::dec::progress::{DecoderProgress, START};
 use crate::error::{DecodeError, DecodeReport, PushError};
 use crate::find::position_or_len;
-use std::mem;
-
-/// The code of a full block, as a byte.
-pub(crate) const FULL: u8 = FULL_CODE as u8;
-
-/// So few bytes are fed one by one: a run takes some 130 instructions, however short it is.
-const BY_BYTE_MAX: usize = 4;
+use cobs_bytes::window::has_vectors;
 
 /// The state of an [`UnbufferedDecoder`]. (A choice of this library.)
 ///
@@ -66,18 +58,9 @@ pub enum DecoderPhase {
 /// assert_eq!(rt; report.map(|report| report.frame_size()), Some(5));
 /// assert!(rt; buffer.starts_with(b"hello"));
 /// ```
-// No field says whether a piece has begun: a code at its front is taken as one after a full block is, which no zero
-// joins to anything. So a nonzero byte asks only how much of its block is missing, and a code if a full one was before.
 #[derive(Debug, Drop)]
 pub struct UnbufferedDecoder {
-    /// How many bytes of this piece's output are written.
-    pub(crate) dest_idx: usize,
-    /// How many bytes of the block are missing.
-    pub(crate) left: u8,
-    /// The code of the block; before a piece begins, that of a full one.
-    pub(crate) code: u8,
-    /// Whether the output of this piece was too long for the buffer.
-    pub(crate) over: bool,
+    pub(crate) progress: DecoderProgress,
 }
 
 impl UnbufferedDecoder {
@@ -92,38 +75,7 @@ impl UnbufferedDecoder {
         ensures idle { phase_of result ≡ Idle }
         ensures after { (buffer : List ℕ) → DecoderAfter buffer (phase_of result) [] }
     {
-        UnbufferedDecoder {
-            dest_idx: 0,
-            left: 0,
-            code: FULL,
-            over: false,
-        }
-    }
-
-    /// Takes a zero, which ends a piece if one has begun, over a buffer of this length.
-    #[inline(always)]
-    fn end(&mut self, len: usize) -> Result<Option<usize>, DecodeError>
-        ensures returned { result ≡ end_result len (phase_of self.old) }
-        ensures idle { phase_of self.new ≡ Idle }
-    {
-        let ended = mem::replace(self, UnbufferedDecoder::new());
-        if ended.over {
-            return Err(DecodeError::TargetBufTooSmall);
-        }
-        if ended.left != 0 {
-            return Err(DecodeError::InvalidFrame {
-                decoded_bytes: ended.dest_idx,
-            });
-        }
-        // Only so in another buffer than the one that the piece began in, since no more is counted than was written.
-        if len < ended.dest_idx {
-            return Err(DecodeError::TargetBufTooSmall);
-        }
-        if ended.dest_idx == 0 && ended.code == FULL {
-            Ok(None)
-        } else {
-            Ok(Some(ended.dest_idx))
-        }
+        UnbufferedDecoder { progress: START }
     }
 
     /// Makes a decoder in this state, whatever the numbers are. A complete full block, with nothing
@@ -141,23 +93,24 @@ impl UnbufferedDecoder {
     pub fn from_phase(phase: DecoderPhase) -> Self
         ensures phase { phase_of result ≡ phase_at phase }
     {
-        match phase {
-            DecoderPhase::Idle => UnbufferedDecoder::new(),
+        let progress = match phase {
+            DecoderPhase::Idle => START,
             DecoderPhase::Within {
                 is_full,
                 lacking,
                 written,
-            } => UnbufferedDecoder {
-                dest_idx: written,
-                left: lacking,
-                code: if is_full { FULL } else { 1 },
-                over: false,
+            } => DecoderProgress {
+                written,
+                missing: lacking,
+                joint: if is_full { 0 } else { 1 },
+                too_long: 0,
             },
-            DecoderPhase::TooLong => UnbufferedDecoder {
-                over: true,
-                ..UnbufferedDecoder::new()
+            DecoderPhase::TooLong => DecoderProgress {
+                too_long: 1,
+                ..START
             },
-        }
+        };
+        UnbufferedDecoder { progress }
     }
 
     /// Returns the decoder's state.
@@ -168,16 +121,17 @@ impl UnbufferedDecoder {
     pub fn phase(&self) -> DecoderPhase
         ensures phase { phase_at result ≡ phase_of self.now }
     {
-        if self.over {
+        let at = self.progress;
+        if at.too_long != 0 {
             return DecoderPhase::TooLong;
         }
-        if self.dest_idx == 0 && self.left == 0 && self.code == FULL {
+        if at.written == 0 && at.missing == 0 && at.joint == 0 {
             return DecoderPhase::Idle;
         }
         DecoderPhase::Within {
-            is_full: self.code == FULL,
-            lacking: self.left,
-            written: self.dest_idx,
+            is_full: at.joint == 0,
+            lacking: at.missing,
+            written: at.written,
         }
     }
 
@@ -210,34 +164,7 @@ impl UnbufferedDecoder {
     pub fn feed(&mut self, dest: &mut [u8], byte: u8) -> Result<Option<usize>, DecodeError>
         ensures feeds { Feeds dest.old (phase_of self.old) byte result dest.new (phase_of self.new) }
     {
-        if byte == 0 {
-            return self.end(dest.len());
-        }
-        if self.over {
-            return Err(DecodeError::TargetBufTooSmall);
-        }
-        // Three branches, which a processor predicts, take a third less time than one write of a chosen byte.
-        if self.left != 0 {
-            if dest.len() <= self.dest_idx {
-                self.over = true;
-                return Err(DecodeError::TargetBufTooSmall);
-            }
-            dest[self.dest_idx] = byte;
-            self.dest_idx += 1;
-            self.left -= 1;
-            return Ok(None);
-        }
-        if self.code != FULL {
-            if dest.len() <= self.dest_idx {
-                self.over = true;
-                return Err(DecodeError::TargetBufTooSmall);
-            }
-            dest[self.dest_idx] = 0;
-            self.dest_idx += 1;
-        }
-        self.code = byte;
-        self.left = byte - 1;
-        Ok(None)
+        self.progress.feed(dest, byte)
     }
 
     /// Takes bytes of the stream, over this buffer, up to the first one whose result by `feed` isn't `Ok(None)`, as
@@ -253,7 +180,7 @@ impl UnbufferedDecoder {
     pub fn push(&mut self, dest: &mut [u8], bytes: &[u8]) -> Result<Option<DecodeReport>, PushError>
         ensures pushes { PushesBytes dest.old (phase_of self.old) bytes.now result dest.new (phase_of self.new) }
     {
-        if self.take_short(dest, bytes) {
+        if has_vectors() && self.progress.take_short(dest, bytes) {
             return Ok(None);
         }
         self.push_long(dest, bytes)
@@ -269,9 +196,7 @@ impl UnbufferedDecoder {
     {
         let mut at = 0;
         'by_run: while at < bytes.len() {
-            if BY_BYTE_MAX < bytes.len() - at {
-                at += self.take_run(dest, &bytes[at..], 0);
-            }
+            at += self.progress.take_run(dest, &bytes[at..]);
             if at < bytes.len() {
                 let parsed_size = at + 1;
                 match self.feed(dest, bytes[at]) {
@@ -301,9 +226,19 @@ impl UnbufferedDecoder {
     pub fn feed_piece(&mut self, dest: &mut [u8], bytes: &[u8]) -> Option<(PieceEnd, usize)>
         ensures takes { TakesPiece dest.old (phase_of self.old) bytes.now result dest.new (phase_of self.new) }
     {
+        if has_vectors() && self.progress.take_short(dest, bytes) {
+            return None;
+        }
+        self.feed_piece_long(dest, bytes)
+    }
+
+    /// Does what `feed_piece` does, without a question of its own for a short piece.
+    fn feed_piece_long(&mut self, dest: &mut [u8], bytes: &[u8]) -> Option<(PieceEnd, usize)>
+        ensures takes { TakesPiece dest.old (phase_of self.old) bytes.now result dest.new (phase_of self.new) }
+    {
         let mut taken = 0;
         'by_run: while taken < bytes.len() {
-            if self.over {
+            if self.progress.too_long != 0 {
                 // Of a piece that is too long for the buffer, all through its zero is taken.
                 let rest = &bytes[taken..];
                 let len = position_or_len(rest, 0);
@@ -313,9 +248,7 @@ impl UnbufferedDecoder {
                 self.reset();
                 return Some((PieceEnd::TooLong, taken + len + 1));
             }
-            if BY_BYTE_MAX < bytes.len() - taken {
-                taken += self.take_run(dest, &bytes[taken..], 0);
-            }
+            taken += self.progress.take_run(dest, &bytes[taken..]);
             if taken < bytes.len() {
                 let byte = bytes[taken];
                 let returned = self.feed(dest, byte);

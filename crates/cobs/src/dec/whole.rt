@@ -1,11 +1,12 @@
 //! Decoding a whole frame into another buffer.
-ghost use Rattle.std.specs.Prelude.{◌≡◌, ◌≤◌, List, length, ℕ, None, IfSome};
+ghost use Rattle.std.specs.Prelude.{◌≡◌, ◌≤◌, ◌+◌, List, length, ℕ, None, IfSome, IsSome};
 ghost use Rattle.cobs.specs.Overwritten.{overwritten};
-ghost use Rattle.cobs.specs.Decode.{result_of_decode, first_output};
+ghost use Rattle.cobs.specs.Decode.{IsShortPiece, result_of_decode, first_output};
 ghost use Rattle.cobs.specs.Grammar.{Reads};
 ghost use Rattle.cobs.specs.Headline.{IsPiece, ReportsMessage};
+ghost use Rattle.cobs.specs.Stream.{head};
 
-use crate::dec::UnbufferedDecoder;
+use crate::dec::progress::START;
 use crate::dec::stretch::{decode_stretch, message_len};
 use crate::error::{DecodeError, DecodeReport};
 use crate::find::{leading_zeros, len_without_end};
@@ -65,30 +66,34 @@ fn decode_long(source: &[u8], dest: &mut [u8]) -> Result<DecodeReport, DecodeErr
         return Err(DecodeError::InvalidFrame { decoded_bytes: 0 });
     }
     let rest = &source[start..];
-    let mut decoder = UnbufferedDecoder::new();
-    let len = decoder.take_run(dest, rest, 0);
+    let mut progress = START;
+    let len = progress.take_run(dest, rest);
     if len < rest.len() && rest[len] != 0 {
         return Err(DecodeError::TargetBufTooSmall);
     }
     let parsed_size = (start + len + 1).min(source.len());
-    let result = message_len(decoder.dest_idx, decoder.left == 0);
+    let result = message_len(progress.written, progress.missing == 0);
     result.map(|frame_size| DecodeReport {
         parsed_size,
         frame_size,
     })
 }
 
-/// Does what [`decode`] does, or returns `None` and leaves `dest` as it was: [`decode`] asks this first, and it calls nothing,
-/// to be compiled into code that decodes small frames. Contracts leave open which sources it takes. They are those of 2 to
-/// 65 bytes that are no zeros, with or without a zero after them, if `dest` has room for all of these bytes but one.
+/// Decodes a short frame as [`decode`] does, or returns `None` and leaves `dest` as it was.
+///
+/// A source is taken if it has 2 to 65 bytes before its first zero, at most this zero after them, and `dest` has room for one
+/// byte fewer than the frame has. [`decode`] asks this first. It calls nothing, to be compiled into the code of a function
+/// that decodes small frames. (A choice of this library.)
 ///
 /// ```
 /// let mut dest = [170; 3];
 /// assert!(rt; decode_short(b"\x03hi\0", &mut dest).is_some());
 /// assert_eq!(rt; &dest, b"hi\xaa");
+/// assert_eq!(rt; decode_short(b"\x03hi\0\x02", &mut dest), None);
 /// ```
 #[inline(always)]
 pub fn decode_short(source: &[u8], dest: &mut [u8]) -> Option<Result<DecodeReport, DecodeError>>
+    ensures taken { IsShortPiece source.now → length (head source.now) ≤ length dest.old + 1 → IsSome result }
     ensures returned { IfSome result (λ returned. returned ≡ result_of_decode source.now (length dest.old)) }
     ensures buffer { IfSome result (λ returned. dest.new ≡ overwritten dest.old (first_output source.now)) }
     ensures kept { result ≡ None → dest.new ≡ dest.old }

@@ -4,7 +4,7 @@ use Rattle.std.proofs.Math.Nat.{pow-suc, pow-le-pow_right}
 use Rattle.std.proofs.lemmas.Bool.{ne_eqb, eq-eqb, eqb-true, not-true, not-false, cases_eq, cases_lt}
 use Rattle.std.proofs.lemmas.List.{get_or-take, drop-drop, length-map, length-replicate, take-take}
 use Rattle.std.proofs.Math.Seq.{drop-append-add}
-use Rattle.std.proofs.lemmas.List.Elements.{All-nil, All-cons, All-take, All-from_get_or}
+use Rattle.std.proofs.lemmas.List.Elements.{All-cons, All-from_get_or, All-head, All-nil, All-tail, All-take}
 use Rattle.std.proofs.lemmas.List.Sums.{prefix_len_passes, prefix_len_stops}
 use Rattle.std.proofs.lemmas.Simd.{bitmask_splat, mask_l-lt, trailing_mask_l, put_chunk_is, length-chunk}
 use Rattle.std.specs.List.{prefix_len}
@@ -44,6 +44,13 @@ clear_if b other = ap (λ t. if t then 1 else 0) (ne_eqb b 0 other)
 pub zero_mask-none : (bytes : List ℕ) → zero_mask bytes ≡ 0 → All (λ b. b ≢ 0) bytes
 zero_mask-none [] e = All-nil (λ b. b ≢ 0)
 zero_mask-none (b ∷ bytes) e = grind (arith, cases_eq, set_if, All-cons, (zero_mask-none bytes (omega arith)))
+
+-- and without a zero no bit is set
+pub zero_mask-clear : (bytes : List ℕ) → HasNoZero bytes → zero_mask bytes ≡ 0
+zero_mask-clear [] nz = refl
+zero_mask-clear (b ∷ bytes) nz =
+    let rest = zero_mask-clear bytes (All-tail (λ b. b ≢ 0) b bytes nz) in
+    omega (arith, clear_if b (All-head (λ b. b ≢ 0) b bytes nz), rest)
 
 -- how many bytes are before the first zero
 abbrev pub nonzero_len : List ℕ → ℕ

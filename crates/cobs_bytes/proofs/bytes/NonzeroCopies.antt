@@ -21,13 +21,6 @@ module _ (source : List ℕ) (done start n : ℕ) (inside : start + n ≤ length
       let high = All-get_or (λ b. b ≢ 0) (take n (drop start source)) (i - start) 0 in
       grind (arith, places))
 
-  pub more-copied : (old dest : List ℕ) → start + n ≤ length old → length dest ≡ length old → dest ≡ take done source ++ drop done old
-      → put_chunk start dest (take n (drop start source)) ≡ take (start + n) source ++ drop (start + n) old
-  more-copied old dest room same is =
-      put_is dest (take n (drop start source)) start n (length-chunk start n source (omega arith)) (omega arith)
-      ∙ ap (λ (x : List ℕ). take start x ++ (take n (drop start source) ++ drop (start + n) x)) is
-      ∙ same_lists _ _ (search (rules, places)) (λ k d h. grind (arith, places))
-
 -- two parts of n bytes, which may overlap
 pub two-copied : (source dest : List ℕ) (read at len n from to end : ℕ) → read + len ≤ length source → at + len ≤ length dest → n ≤ len → len ≤ n + n → from + n ≡ read + len → to + n ≡ at + len → end ≡ at + len
     → put_chunk to (put_chunk at dest (take n (drop read source))) (take n (drop from source)) ≡ take at dest ++ (take len (drop read source) ++ drop end dest)

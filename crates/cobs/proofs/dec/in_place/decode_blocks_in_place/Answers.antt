@@ -2,7 +2,8 @@ use Rattle.std.proofs.Common.{◌≡◌, refl, ◌+◌, ◌-◌, ◌<◌, ◌∙
 use Rattle.std.proofs.lemmas.List.{take-take}
 use Rattle.std.proofs.lemmas.List.Elements.{All-take}
 use Rattle.std.proofs.Math.Seq.{take-add}
-use Rattle.cobs.specs.Fields.Decoders.{phase_of}
+use Rattle.cobs.specs.Fields.Decoders.{phase_in}
+use Rattle.cobs.specs.declared.dec.progress.TheConstants.{START}
 use Rattle.cobs.specs.Grammar.{HasNoZero}
 use Rattle.cobs.specs.Feed.{Phase, Idle}
 use Rattle.cobs.specs.Decode.{head_result}
@@ -33,19 +34,19 @@ module _ (c : After-take_in_place) where
   new = c.take_in_place.new.buffer
 
   abbrev phase : Phase
-  phase = phase_of c.take_in_place.new.self
+  phase = phase_in c.take_in_place.new.self
 
   first : HasNoZero (take tail old)
   first = part_nonzero 0 tail c.args.end old c.requires.nonzero (omega arith)
 
   fed : FeedsQuietly old Idle (take tail old) new phase
-  fed = subst (λ (k : ℕ). FeedsQuietly old Idle (take k old) new phase) (omega arith) (subst (λ (from : Phase). FeedsQuietly old from (take (tail - 0) old) new phase) c.new-decoder.ensures.idle c.take_in_place.ensures.fed)
+  fed = subst (λ (k : ℕ). FeedsQuietly old Idle (take k old) new phase) (omega arith) c.take_in_place.ensures.fed
 
   rest : drop tail new ≡ drop tail old
-  rest = rest_read old new c.new-decoder.result c.take_in_place.new.self 0 tail tail (omega arith) (omega arith) (part_nonzero 0 (tail - 0) c.args.end old c.requires.nonzero (omega arith)) c.take_in_place.ensures.fed c.take_in_place.ensures.behind
+  rest = rest_read old new START c.take_in_place.new.self 0 tail tail (omega arith) (omega arith) (part_nonzero 0 (tail - 0) c.args.end old c.requires.nonzero (omega arith)) c.take_in_place.ensures.fed c.take_in_place.ensures.behind
       ∙ ap (λ (k : ℕ). drop k old) (omega arith)
 
-  left : c.take_in_place.new.self.left ≡ missing (last_part (take tail old))
+  left : c.take_in_place.new.self.missing ≡ missing (last_part (take tail old))
   left = (quiet-at old new (take tail old) phase (quiet (take tail old) old new phase first fed) c.take_in_place.new.self refl).1
 
   bytes-are : xor_each 0 (take (c.args.end - tail) (drop tail new)) ≡ take (c.args.end - tail) (drop tail old)

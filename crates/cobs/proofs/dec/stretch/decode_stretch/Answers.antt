@@ -1,12 +1,12 @@
 use Rattle.std.proofs.Common.{◌≡◌, ◌≢◌, ◌-◌, ◌<◌, ◌≤◌, ◌∷◌, ◌++◌, ◌∙◌, ℕ, List, get_or, bit_xor, arith, length, take, drop, ap, refl, sym, length-drop}
 use Rattle.std.proofs.Math.Seq.{take-append_seam}
 use Rattle.std.proofs.lemmas.List.{drop_more, length-map, take_rest}
-use Rattle.std.proofs.lemmas.List.Elements.{All-cons}
+use Rattle.std.proofs.lemmas.List.Elements.{All-cons, All-drop}
 use Rattle.cobs.specs.Grammar.{HasNoZero}
 use Rattle.cobs.specs.Internal.Walk.{walked}
 use Rattle.cobs.specs.Piece.{last_part, missing, output}
 use Rattle.cobs.specs.Sentinel.{xor_each}
-use Rattle.cobs.proofs.format.SentinelLemmas.{xor_twice}
+use Rattle.cobs.proofs.format.SentinelLemmas.{rest_xored, xor_twice}
 use Rattle.cobs.proofs.streaming.WalkLemmas.{as_piece, length-walked}
 use Rattle.cobs.proofs.dec.stretch.decode_stretch.Goals as goal
 
@@ -29,6 +29,10 @@ module _ (source dest rest : List ℕ) (s : ℕ) (some : 0 < length source) (cop
       → (ys ≡ output (xor_each s source)) × (left ≡ missing (last_part (xor_each s source)))
   piece few other nz w = rw source-is (as_piece _ _ w (omega (arith, long))
       (All-cons (λ b. b ≢ 0) _ behind (λ e. other (sym (xor_twice (get_or source 0 0) s) ∙ ap (λ (x : ℕ). bit_xor x s) e)) (rw behind-is (rw (take_rest source 1) at nz))))
+
+pub returns-then-not-copy_xored_short-clause-taken : goal.returns-then-not-copy_xored_short-clause-taken
+returns-then-not-copy_xored_short-clause-taken c few room nz =
+    c.if-not-copy_xored_short.ensures.taken (rw (rest_xored c.args.source.now c.args.sentinel 1) (All-drop (λ b. b ≢ 0) 1 (xor_each c.args.sentinel c.args.source.now) nz))
 
 module _ (c : goal.After-slice_known-3-1) where
   whole : (c.write_zeros_at_codes-left.new.dest ≡ output (xor_each c.args.sentinel c.args.source.now)) × (c.write_zeros_at_codes-left.result.1 ≡ missing (last_part (xor_each c.args.sentinel c.args.source.now)))

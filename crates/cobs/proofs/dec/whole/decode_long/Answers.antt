@@ -6,15 +6,13 @@ use Rattle.cobs.specs.Stream.{first_piece, head}
 use Rattle.cobs.proofs.decoding.HeadLemmas.{first_piece_empty, first_piece_none, first_piece_found, head_some, leading_zeros-stop, front_is_head}
 use Rattle.cobs.proofs.decoding.OutcomeSteps.{answer-by, result_of_decode-none, overwritten-none, outcome_result-too_long, result-by, always}
 use Rattle.std.proofs.lemmas.List.Elements.{All-head, All-tail}
-use Rattle.cobs.specs.Fields.Decoders.{phase_of}
+use Rattle.cobs.specs.Fields.Decoders.{phase_in}
 use Rattle.cobs.specs.Feed.{Phase, Idle, Overlong}
 use Rattle.cobs.specs.Grammar.{HasNoZero}
 use Rattle.cobs.specs.Internal.FeedsQuietly.{FeedsQuietly}
 use Rattle.cobs.specs.Overwritten.{overwritten}
 use Rattle.cobs.specs.Piece.{output}
-use Rattle.cobs.specs.Sentinel.{xor_each}
 use Rattle.cobs.specs.Step.{next_phase}
-use Rattle.cobs.proofs.format.SentinelLemmas.{xor_each-zero}
 use Rattle.cobs.proofs.decoding.OutcomeLemmas.{head-cons, head-zero}
 use Rattle.cobs.proofs.streaming.QuietLemmas.{Quiet, quiet, quiet-piece, quiet-at, quiet-full, quiet-long, quiet-written}
 use Rattle.cobs.proofs.dec.whole.decode_long.Goals as goal
@@ -36,26 +34,20 @@ head-at : (source : List ℕ) (n : ℕ) → HasNoZero (take n source) → n < le
 head-at source n none more nz = ap (λ (l : List ℕ). take n source ++ l) (sym (ap head (drop_more source n 0 more) ∙ head-cons _ _ nz)) ∙ sym (head-front source n none)
 
 -- a run of a source that begins with a code
-module _ (source old new : List ℕ) (phase : Phase) (run : ℕ) (begins : 0 < length (head source)) (fed : FeedsQuietly old Idle (take run (xor_each 0 source)) new phase) where
-  quietly : FeedsQuietly old Idle (take run source) new phase
-  quietly = rw (xor_each-zero source) at fed
-
+module _ (source old new : List ℕ) (phase : Phase) (run : ℕ) (begins : 0 < length (head source)) (fed : FeedsQuietly old Idle (take run source) new phase) where
   none : HasNoZero (take run source)
-  none = quiet-piece (take run source) old new phase (code_first source run begins) quietly
+  none = quiet-piece (take run source) old new phase (code_first source run begins) fed
 
   front : Quiet old new phase (take run source)
-  front = quiet (take run source) old new phase none quietly
+  front = quiet (take run source) old new phase none fed
 
   -- up to a byte that has no room
-  module _ (more : run < length source) (nz : get_or source run 0 ≢ 0) (over : next_phase (length new) phase (get_or (xor_each 0 source) run 0) ≡ Overlong) where
-    over' : next_phase (length new) phase (get_or source run 0) ≡ Overlong
-    over' = rw (xor_each-zero source) at over
-
+  module _ (more : run < length source) (nz : get_or source run 0 ≢ 0) (over : next_phase (length new) phase (get_or source run 0) ≡ Overlong) where
     long : length old < length (output (head source))
-    long = subst (λ (l : List ℕ). length old < length (output l)) (head-at source run none more nz) (quiet-long old new _ phase front _ _ nz over')
+    long = subst (λ (l : List ℕ). length old < length (output l)) (head-at source run none more nz) (quiet-long old new _ phase front _ _ nz over)
 
     full : new ≡ overwritten old (output (head source))
-    full = subst (λ (l : List ℕ). new ≡ overwritten old (output l)) (head-at source run none more nz) (quiet-full old new _ phase front _ _ nz over')
+    full = subst (λ (l : List ℕ). new ≡ overwritten old (output l)) (head-at source run none more nz) (quiet-full old new _ phase front _ _ nz over)
 
   -- or up to its end
   module _ (within : run ≤ length source) (stop : run < length source → get_or source run 0 ≡ 0) where
@@ -98,8 +90,8 @@ pub returns-then-rest-len-ne0-clause-returned : goal.returns-then-rest-len-ne0-c
 returns-then-rest-len-ne0-clause-returned c =
     let source : List ℕ = c.args.source.now in
     let start = c.leading_zeros-start.ensures.count in
-    let fed = rw c.new-decoder.ensures.idle at c.take_run-len.ensures.fed in
-    let over = c.take_run-len.ensures.stop c.if-len-rest.true (rw (xor_each-zero (rest source _ start (omega arith))) c.if-rest-len-ne0.true) in
+    let fed = c.take_run-len.ensures.fed in
+    let over = c.take_run-len.ensures.stop c.if-len-rest.true c.if-rest-len-ne0.true in
     answer-by source _ _ _ 0 _ (omega arith) (found source _ start (omega arith)) refl
     (outcome_result-too_long _ _ (long _ _ _ _ _ (begun source _ start (omega arith)) fed c.if-len-rest.true c.if-rest-len-ne0.true over)) tt
 
@@ -107,8 +99,8 @@ pub returns-then-rest-len-ne0-clause-buffer : goal.returns-then-rest-len-ne0-cla
 returns-then-rest-len-ne0-clause-buffer c =
     let source : List ℕ = c.args.source.now in
     let start = c.leading_zeros-start.ensures.count in
-    let fed = rw c.new-decoder.ensures.idle at c.take_run-len.ensures.fed in
-    let over = c.take_run-len.ensures.stop c.if-len-rest.true (rw (xor_each-zero (rest source _ start (omega arith))) c.if-rest-len-ne0.true) in
+    let fed = c.take_run-len.ensures.fed in
+    let over = c.take_run-len.ensures.stop c.if-len-rest.true c.if-rest-len-ne0.true in
     full _ _ _ _ _ (begun source _ start (omega arith)) fed c.if-len-rest.true c.if-rest-len-ne0.true over
     ∙ ap (λ (l : _). overwritten c.args.dest.now (output_of l)) (sym (found source _ start (omega arith)))
 
@@ -120,13 +112,13 @@ module _ (c : goal.After-map) where
   begins : 0 < length (head piece)
   begins = begun c.args.source.now _ c.leading_zeros-start.ensures.count (omega arith)
 
-  fed : FeedsQuietly c.args.dest.now Idle (take c.take_run-len.result (xor_each 0 piece)) c.take_run-len.new.dest (phase_of c.take_run-len.new.self)
-  fed = rw c.new-decoder.ensures.idle at c.take_run-len.ensures.fed
+  fed : FeedsQuietly c.args.dest.now Idle (take c.take_run-len.result piece) c.take_run-len.new.dest (phase_in c.take_run-len.new.self)
+  fed = c.take_run-len.ensures.fed
 
   stop : c.take_run-len.result < length piece → get_or piece c.take_run-len.result 0 ≡ 0
   stop = grind arith
 
-  decoded : Quiet c.args.dest.now c.take_run-len.new.dest (phase_of c.take_run-len.new.self) (head piece)
+  decoded : Quiet c.args.dest.now c.take_run-len.new.dest (phase_in c.take_run-len.new.self) (head piece)
   decoded = whole piece _ _ _ _ begins fed (omega arith) stop
 
   is-found : first_piece c.args.source.now ≡ Some (head piece)

@@ -1,4 +1,5 @@
 use Rattle.std.proofs.Common.{◌≡◌, ◌≢◌, ◌<◌, ◌+◌, ◌-◌, ℕ, zero, suc, min, List, [], ◌∷◌, length, take, get_or, Some, refl, sym, ap, ◌∙◌, subst, arith, rules, length-take-le}
+use Rattle.std.proofs.lemmas.Bool.{eqb-true}
 use Rattle.std.proofs.lemmas.List.Elements.{All-head}
 use Rattle.cobs.specs.Decode.{leading_zeros, report_result, outcome_result, output_of}
 use Rattle.cobs.specs.Grammar.{HasNoZero}
@@ -7,8 +8,8 @@ use Rattle.cobs.specs.Piece.{output}
 use Rattle.cobs.specs.Sentinel.{xor_each}
 use Rattle.cobs.specs.Stream.{first_piece, head, outcome_of}
 use Rattle.cobs.proofs.format.SentinelLemmas.{xor_each-zero}
-use Rattle.cobs.proofs.decoding.HeadLemmas.{front_is_head}
-use Rattle.cobs.proofs.decoding.OutcomeLemmas.{first_piece_head}
+use Rattle.cobs.proofs.decoding.HeadLemmas.{front_is_head, head-front, short_head}
+use Rattle.cobs.proofs.decoding.OutcomeLemmas.{first_piece_head, head_nonzero, length-head}
 use Rattle.cobs.proofs.decoding.OutcomeSteps.{answer-by, result-by, always, overwritten-front}
 use Rattle.cobs.proofs.dec.whole.decode_short.Goals as goal
 
@@ -25,6 +26,22 @@ nonzero_first : (source : List ℕ) (n : ℕ) → 0 < length (take n source) →
 nonzero_first source zero some none = absurd (omega arith)
 nonzero_first [] (suc n) some none = absurd (omega arith)
 nonzero_first (byte ∷ source) (suc n) some none = All-head (λ b. b ≢ 0) byte (take n source) none
+
+pub returns-then-is_empty-clause-taken : goal.returns-then-is_empty-clause-taken
+returns-then-is_empty-clause-taken c short room =
+    let none = eqb-true _ 0 (sym c.is_empty.ensures ∙ c.if-is_empty.true) in
+    absurd (omega (arith, short.0, length-head c.args.source.now, none))
+
+pub returns-in_err-left-clause-taken : goal.returns-in_err-left-clause-taken
+returns-in_err-left-clause-taken c short room =
+    let source : List ℕ = c.args.source.now in
+    let len : ℕ = c.len_without_end-len.result in
+    let e = c.len_without_end-len.ensures in
+    let is = short_head source len short.2 e.within e.last (omega (arith, short.0, length-head source)) e.stop e.other in
+    let p-is : xor_each 0 (take len source) ≡ head source = xor_each-zero (take len source) ∙ ap (λ (k : ℕ). take k source) is ∙ head-front source in
+    let long : length (take len source) ≡ len = length-take-le len source e.within in
+    let taken = c.decode_stretch.ensures.taken (omega (arith, short.0), omega (arith, short.1)) (omega arith) (subst HasNoZero (sym p-is) (head_nonzero source)) in
+    absurd (let none = rw c.in_err-left.was at taken in cc)
 
 -- a frame that was decoded
 module _ (c : goal.After-map) where

@@ -86,9 +86,9 @@ by_window-smaller-then-window-eq-ALL_ZEROS c =
     let t = row at.After-write_codes_of_zeros-zeros (copied at.After-copy_at-window) in
     omega arith
 
-pub by_window-preserved-then-place-index-lt-FULL_CODE : goal.by_window-preserved-then-place-index-lt-FULL_CODE
-by_window-preserved-then-place-index-lt-FULL_CODE c =
-    let w = copied (goal.at.by_window-preserved-then-place-index-lt-FULL_CODE c).After-copy_at-window in
+pub by_window-preserved : goal.by_window-preserved
+by_window-preserved c =
+    let w = copied (goal.at.by_window-preserved c).After-copy_at-window in
     let fits = length-after w in
     let o = c.by_window.invariant.reaches.ordered in
     let l = length-set c.copy_at-window.new.dest c.by_window.index (c.by_window.next + count_trailing_zeros 64 c.copy_at-window.result - c.by_window.index) in
@@ -103,23 +103,17 @@ none-near c first = elim c.if-window-eq0.branch [
   | else-window-eq0+else-place-index-lt-FULL_CODE b ↦ (let within = first b.if-window-eq0.false in omega arith)
 ]
 
-pub by_window-preserved : goal.by_window-preserved
-by_window-preserved c =
-    let w = copied (goal.at.by_window-preserved c).After-copy_at-window in
-    let none = none-near (goal.at.by_window-preserved c).Joined-window-eq0 (first-within w) in
-    record { more = omega arith; open' = omega arith; reaches = Reaches-weaker (λ noted is done. absurd (omega arith)) (filled w none (omega arith)) }
-
-pub returns-then-read-last-clause-within : goal.returns-then-read-last-clause-within
-returns-then-read-last-clause-within c =
-    let w = copied (goal.at.returns-then-read-last-clause-within c).After-copy_at-window in
-    let none = none-near (goal.at.returns-then-read-last-clause-within c).Joined-window-eq0 (first-within w) in
+pub returns-in-by_window-clause-within : goal.returns-in-by_window-clause-within
+returns-in-by_window-clause-within c =
+    let w = copied (goal.at.returns-in-by_window-clause-within c).After-copy_at-window in
+    let none = none-near (goal.at.returns-in-by_window-clause-within c).Joined-window-eq0 (first-within w) in
     omega arith
 
-pub returns-then-read-last-clause-taken : goal.returns-then-read-last-clause-taken
-returns-then-read-last-clause-taken c =
-    let w = copied (goal.at.returns-then-read-last-clause-taken c).After-copy_at-window in
+pub returns-in-by_window-clause-taken : goal.returns-in-by_window-clause-taken
+returns-in-by_window-clause-taken c =
+    let w = copied (goal.at.returns-in-by_window-clause-taken c).After-copy_at-window in
     let fits = length-after w in
-    let none = none-near (goal.at.returns-then-read-last-clause-taken c).Joined-window-eq0 (first-within w) in
+    let none = none-near (goal.at.returns-in-by_window-clause-taken c).Joined-window-eq0 (first-within w) in
     let l = length-set c.copy_at-window.new.dest c.by_window.index 255 in
     front-taken (omega arith) (filled w none (omega arith)) (omega arith) (λ all. absurd (omega arith)) c.progress_at.ensures
 

@@ -2,6 +2,7 @@ use Rattle.std.proofs.Common.{List, ℕ, arith, length}
 use Rattle.std.proofs.Math.Seq.{take-length}
 use Rattle.cobs.proofs.streaming.PushLemmas.{Pushed-start, pushed_none, pushed_fed}
 use Rattle.cobs.proofs.dec.unbuffered.UnbufferedDecoder.push.Goals as goal
+use Rattle.cobs.proofs.dec.unbuffered.UnbufferedDecoder.push.Goals.{else-has_vectors-via-then-has_vectors+else-take_short, else-has_vectors-via-else-has_vectors}
 
 pub returns-then-take_short : goal.returns-then-take_short
 returns-then-take_short c =
@@ -10,6 +11,8 @@ returns-then-take_short c =
     record { pushes = pushed_none bytes _ (omega arith) fed }
 
 pub returns : goal.returns
-returns c =
-    let kept = c.take_short.ensures.kept c.if-take_short.false in
-    record { pushes = rw (kept.0, kept.1) at c.push_long.ensures.pushes }
+returns c = elim c.else-has_vectors.branch [
+  | else-has_vectors-via-then-has_vectors+else-take_short w ↦
+      (let kept = w.take_short.ensures.kept w.if-take_short.false in record { pushes = rw (w.dest-is, w.self-is, kept.0, kept.1) at c.push_long.ensures.pushes })
+  | else-has_vectors-via-else-has_vectors w ↦ record { pushes = rw (w.dest-is, w.self-is) at c.push_long.ensures.pushes }
+]

@@ -1,0 +1,12 @@
+use Rattle.std.proofs.Common.{◌≡◌, ◌∙◌, ℕ, List, ap, length, sym, arith, take_all}
+use Rattle.cobs.specs.Stream.{head}
+use Rattle.cobs_vectors.proofs.callers.decode_known_short.Goals as goal
+
+pub returns : goal.returns
+returns c =
+    let frame : List ℕ = c.args.frame.now in
+    let all = take_all (length frame) frame (omega arith) in
+    let is : frame ≡ head frame = sym all ∙ c.law_12.ensures.head frame (length frame) (omega arith) (rw all c.requires.nonzero) (λ more. absurd (omega arith)) in
+    let long = ap length is in
+    let few = c.requires.few in
+    c.is_some.ensures ∙ c.decode_short.ensures.taken (omega (arith, long, few.0), omega (arith, long, few.1), omega (arith, long)) (omega (arith, long, c.requires.room))
