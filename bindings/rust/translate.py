@@ -4,8 +4,9 @@
 usage: translate.py [TO [CRATES]]
 
 Drops what is for the prover, such as contracts, ghost fields and laws, and gives the names that Rust has: of modules, of
-the vectors and of memory, where Rust has no allocator to pass. Function bodies stay as they are otherwise, but for GUARDED,
-and docs but for REWORDED. A form that it doesn't know is an error, with its file and line. Then rustfmt lays the files out.
+the vectors and of memory, where Rust has no allocator to pass. Function bodies stay as they are otherwise, except for
+BY_TARGET, and docs except for REWORDED. A form that it doesn't know is an error, with its file and line. Then rustfmt lays
+the files out.
 tests/proved.py says what may differ.
 """
 import re
@@ -61,16 +62,14 @@ REWORDED = {
     "Contracts see it as the bytes of its buffer and its phase. ": "",
     "[`decode_short`](crate::decode_short)": "`decode_short`",
 }
-# Questions that ask the target too. Codes are followed in vectors of 16 bytes, by up to 14 shuffles each: a target without an
-# instruction for those, such as x86-64 without SSSE3, which is what cargo builds for by itself, would do them byte by byte,
-# and take longer than by one code after the other. The other branch does the same, and the proof is for each.
-GUARDED = {"if is_dense(": "if crate::simd::HAS_SHUFFLE && is_dense("}
+# Functions whose result depends on the target, and that result here. No proof rests on it.
+BY_TARGET = {"cobs_bytes::has_vectors": {"true": "crate::simd::HAS_VECTORS"}}
 # Calls that are `const fn` in the crate `cobs`, or called by one.
 CONST = {"max_encoding_overhead", "max_encoding_length", "UnbufferedDecoder::new", "UnbufferedEncoder::new"}
 # Calls for one byte, which are to be compiled into the caller's loop.
 INLINE = set(
     "UnbufferedDecoder::feed DecoderState::feed EncoderState::push UnbufferedEncoder::progress"
-    " UnbufferedEncoder::from_progress cobs_abi::done cobs_abi::too_small cobs_abi::end_of cobs_abi::fits cobs_abi::append"
+    " UnbufferedEncoder::from_progress cobs_abi::done cobs_abi::too_small cobs_abi::end_of cobs_abi::has_room cobs_abi::append"
     " cobs_abi::Encoder::at cobs_abi::Encoder::progress".split()
 )
 # The feature that an item needs, if its code has this word.
@@ -83,7 +82,7 @@ class Source:
     """The lines of a file, and where the translation has come to."""
 
     def __init__(self, path, name, crate):
-        self.name, self.crate, self.at, self.owner = name, crate, 0, ""
+        self.name, self.crate, self.at, self.owner, self.function = name, crate, 0, "", ""
         self.lines = path.read_text().splitlines()
         self.prefix = SOURCES[crate][0]
 
@@ -255,6 +254,7 @@ def signature(source):
     if call in CONST:
         head[0] = head[0].replace("fn ", "const fn ", 1)
     source.seen.add(call)
+    source.function = call
     marks = [indent + "#[inline]"] if call in INLINE else []
     return marks + without_allocator("\n".join(head)).split("\n")
 
@@ -264,10 +264,9 @@ def code(source, line):
     if unknown := re.search(r"\.\w+\(alloc\b|\bVec::(?!new\(alloc\)|from_slice\(alloc, )\w+", bare(line)):
         source.fail(f"{unknown[0]} isn't known", source.at - 1)
     line = without_allocator(line)
-    for question, instead in GUARDED.items():
-        if question in line:
-            line = line.replace(question, instead)
-            source.seen.add(question)
+    if instead := BY_TARGET.get(source.function, {}).get(line.strip()):
+        line = line.replace(line.strip(), instead)
+        source.seen.add(source.function + ", by target")
     if found := re.match(r"\s*let mut (\w+) = Vec::new\(\);", line):
         source.vectors.add(found[1])
     if (found := re.match(r"(\s*)(\w+)\.push\((.*)\)\?;$", line)) and found[2] in source.vectors:
@@ -467,7 +466,7 @@ def main():
         (to / place).parent.mkdir(parents=True, exist_ok=True)
         (to / place).write_text(text)
         written.append(to / place)
-    if missing := (set(MORE_DERIVES) | CONST | INLINE | set(REWORDED) | set(GUARDED)) - seen - reworded:
+    if missing := (set(MORE_DERIVES) | CONST | INLINE | set(REWORDED) | {f"{name}, by target" for name in BY_TARGET}) - seen - reworded:
         raise SystemExit(f"translate.py: no source has {sorted(missing)[0]}")
     for path in set(to.rglob("*.rs")) - set(written):
         path.unlink()

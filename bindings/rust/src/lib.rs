@@ -64,7 +64,8 @@
 //!
 //! # Features
 //!
-//! - `std` (default): `alloc`, and [`Recorded`], a source of bytes over any [`std::io::Read`].
+//! - `std` (default): `alloc`; [`Recorded`], a source of bytes over any [`std::io::Read`]; and `std` of `memchr`, which then
+//!   searches with AVX2 if the processor has it.
 //! - `alloc`: the calls that make vectors, and [`CobsDecoderOwned`].
 //! - `small`: bodies that go byte by byte, for firmware: of [`frame_kind`] and the calls of the crate `cobs`, except
 //!   [`decode_with_sentinel`] and `decode_vec_with_sentinel`. These and all others keep those with vectors.

@@ -7,7 +7,7 @@ use crate::dec::{DecodeError, DecodeReport, FrameDecoder, PieceEnd, UnbufferedDe
 #[cfg(not(feature = "small"))]
 use crate::dec::{DecoderPhase, PushError};
 #[cfg(not(feature = "small"))]
-use crate::proved::{cobs_bytes::lanes::copy_xored_short, dec::unbuffered::FULL};
+use crate::proved::cobs_bytes::{lanes::copy_xored_short, window::has_vectors};
 #[cfg(not(feature = "small"))]
 use crate::simd::Simd;
 
@@ -59,7 +59,9 @@ impl Progress {
         pushed
     }
 
-    /// Compiled into the caller's loop, but for long data.
+    /// Takes two bytes or more. It is compiled into the caller's loop, except for long data.
+    // With vectors, one step each takes a few bytes inside a frame, a frame of one short block, or the first bytes of a block.
+    // Without them, taking a few bytes one by one is faster, and smaller.
     #[cfg(not(feature = "small"))]
     #[inline]
     fn push_more(
@@ -67,9 +69,13 @@ impl Progress {
         dest: &mut [u8],
         data: &[u8],
     ) -> Result<Option<DecodeReport>, DecodeError> {
-        if data.len() <= FEW {
-            if self.decoder.dest_idx > 0 {
-                if self.decoder.take_short(dest, data) {
+        if !has_vectors() {
+            if data.len() > FEW {
+                return self.push_long(dest, data, 0);
+            }
+        } else if data.len() <= FEW {
+            if self.decoder.progress.written > 0 {
+                if self.decoder.progress.take_short(dest, data) {
                     self.parsed_size = data.len();
                     return Ok(None);
                 }
@@ -147,8 +153,8 @@ impl Progress {
     #[inline(always)]
     fn take_begin(&mut self, dest: &mut [u8], data: &[u8]) -> bool {
         if data[0] as usize >= data.len() {
-            self.decoder.take_joint(dest, data[0]);
-            if self.decoder.take_short(dest, &data[1..]) {
+            self.decoder.progress.take_joint(dest, data[0]);
+            if self.decoder.progress.take_short(dest, &data[1..]) {
                 return true;
             }
             self.decoder.reset();
@@ -203,11 +209,12 @@ impl Progress {
 #[cfg(not(feature = "small"))]
 const FEW: usize = 16;
 
-/// What `phase` says, without its other phases.
+/// Whether no piece has begun.
 #[cfg(not(feature = "small"))]
 #[inline(always)]
 fn is_idle(decoder: &UnbufferedDecoder) -> bool {
-    decoder.dest_idx == 0 && decoder.left == 0 && decoder.code == FULL && !decoder.over
+    let at = &decoder.progress;
+    at.written == 0 && at.missing == 0 && at.joint == 0 && at.too_long == 0
 }
 
 /// Whether a frame ends in the first bytes.

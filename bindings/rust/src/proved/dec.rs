@@ -7,6 +7,7 @@ pub(crate) mod frame_decoder;
 pub(crate) mod heapless;
 pub(crate) mod in_place;
 pub(crate) mod kind;
+pub(crate) mod progress;
 pub(crate) mod run;
 pub(crate) mod state;
 pub(crate) mod stretch;

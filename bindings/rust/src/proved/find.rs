@@ -1,11 +1,22 @@
 // Made by bindings/rust/translate.py from `crates/cobs/src/find.rt`: change that file, and run it again.
 //! Where pieces begin and end.
 
+use crate::proved::cobs_bytes::window::{WIDE_WINDOW, first_zero, has_vectors};
 use memchr::memchr;
 
 /// Where the first such byte of a source is, or the source's length if there is none.
 pub(crate) fn position_or_len(source: &[u8], byte: u8) -> usize {
     memchr(byte, source).unwrap_or(source.len())
+}
+
+/// Where the first zero of a source is, or the source's length if there is none.
+#[inline(always)]
+pub(crate) fn zero_or_len(source: &[u8]) -> usize {
+    if has_vectors() && source.len() < WIDE_WINDOW {
+        first_zero(source)
+    } else {
+        position_or_len(source, 0)
+    }
 }
 
 /// The length of the source without a sentinel that ends it.

@@ -6,8 +6,15 @@ use crate::simd::*;
 /// How many bytes a whole window has.
 pub const WINDOW: usize = 32;
 
-/// How many bytes of a long block are copied at once.
+/// How many bytes two windows have, which is the most that short data is copied or moved by.
 pub const WIDE_WINDOW: usize = 64;
+
+/// Whether the target has vectors that pay for short data: if not, a byte a turn is faster, and much smaller.
+// A function without a clause, so that what asks it is proved for both kinds of target.
+#[inline(always)]
+pub fn has_vectors() -> bool {
+    crate::simd::HAS_VECTORS
+}
 
 /// Calls a function over vectors of `N` bytes with the greatest `N`, up to 32, that is at most `len`: two of them, which
 /// may overlap, are `len` bytes, if these are at least one and at most 64. Halved, so that a few bytes ask three times.
@@ -50,13 +57,35 @@ pub fn copy_at<const N: usize>(source: &[u8], read: usize, dest: &mut [u8], at: 
     bytes.simd_eq(Simd::splat(0)).to_bitmask()
 }
 
+/// Which of `N` to `2 * N` bytes are zeros, by two parts that may overlap.
+#[inline(always)]
+fn zeros_of_two<const N: usize>(source: &[u8]) -> u64 {
+    let rest = source.len() - N;
+    zeros_at::<N>(source, 0) | (zeros_at::<N>(source, rest) << rest)
+}
+
+/// Which of up to 64 bytes are zeros.
+#[inline(always)]
+fn zeros_of(bytes: &[u8]) -> u64 {
+    by_width!(bytes.len(), zeros_of_two(bytes))
+}
+
+/// Returns the index of the first zero of at most 64 bytes, or how many bytes there are if none is one.
+#[inline(always)]
+pub fn first_zero(bytes: &[u8]) -> usize {
+    if bytes.is_empty() {
+        return 0;
+    }
+    (zeros_of(bytes).trailing_zeros() as usize).min(bytes.len())
+}
+
 /// Copies `N` to `2 * N` bytes, as two parts that may overlap, and returns which of them are zeros.
 #[inline(always)]
 fn copy_two<const N: usize>(source: &[u8], dest: &mut [u8], at: usize) -> u64 {
     let len = source.len();
     let front = Simd::<u8, N>::from_slice(source);
     let back = Simd::<u8, N>::from_slice(&source[len - N..]);
-    let zeros = zeros_at::<N>(source, 0) | (zeros_at::<N>(source, len - N) << (len - N));
+    let zeros = zeros_of_two::<N>(source);
     front.copy_to_slice(&mut dest[at..]);
     back.copy_to_slice(&mut dest[at + len - N..]);
     zeros

@@ -3,8 +3,9 @@
 
 use crate::proved::block::FULL_BLOCK_BYTES;
 use crate::proved::cobs_bytes::window::WIDE_WINDOW;
+use crate::proved::dec::decode;
+use crate::proved::dec::progress::START;
 use crate::proved::dec::stretch::{decode_stretch, kept_len, message_len};
-use crate::proved::dec::{UnbufferedDecoder, decode};
 use crate::proved::error::{DecodeError, DecodeVecError};
 use crate::proved::find::{len_without_end, position_or_len};
 #[cfg(feature = "alloc")]
@@ -14,15 +15,15 @@ use alloc::vec::Vec;
 fn decode_blocks(source: &[u8], dest: &mut [u8], sentinel: u8) -> Result<usize, DecodeError> {
     // A block that begins before the last 254 bytes is whole.
     let tail = source.len().saturating_sub(FULL_BLOCK_BYTES);
-    let mut decoder = UnbufferedDecoder::new();
-    if decoder.take_run(dest, &source[..tail], sentinel) < tail {
+    let mut progress = START;
+    if progress.take_blocks(dest, &source[..tail], sentinel) < tail {
         return Err(DecodeError::TargetBufTooSmall);
     }
-    let (len, whole) = kept_len(&source[tail..], decoder.left as usize, sentinel);
-    if decoder.take_run(dest, &source[tail..tail + len], sentinel) < len {
+    let (len, whole) = kept_len(&source[tail..], progress.missing as usize, sentinel);
+    if progress.take_blocks(dest, &source[tail..tail + len], sentinel) < len {
         return Err(DecodeError::TargetBufTooSmall);
     }
-    message_len(decoder.dest_idx, whole)
+    message_len(progress.written, whole)
 }
 
 /// Decodes the frame at the front of the source, where the sentinel may be any byte, and returns the message's length.
@@ -58,7 +59,7 @@ pub fn decode_with_sentinel(
         return Err(DecodeError::EmptyFrame);
     }
     let len = len_without_end(source, sentinel);
-    // A broken frame is not to change the bytes behind what it gives, so a short one is decoded beside.
+    // A broken frame must not change bytes after its output, so a short frame is decoded into a buffer of its own.
     let mut short = [0; WIDE_WINDOW];
     if len <= dest.len() + 1 && decode_stretch(&source[..len], &mut short, sentinel) == Some(0) {
         dest[..len - 1].copy_from_slice(&short[..len - 1]);

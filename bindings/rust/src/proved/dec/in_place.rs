@@ -3,11 +3,12 @@
 
 use crate::proved::block::FULL_BLOCK_BYTES;
 use crate::proved::cobs_bytes::lanes::{copy_xored_short, move_to_front, xor_bytes};
-use crate::proved::cobs_bytes::window::{WIDE_WINDOW, WINDOW, is_all, write_row};
-use crate::proved::dec::stretch::{kept_len, message_len, write_zeros_at_codes};
-use crate::proved::dec::unbuffered::{FULL, UnbufferedDecoder};
+use crate::proved::cobs_bytes::window::{WIDE_WINDOW, WINDOW, has_vectors, is_all, write_row};
+use crate::proved::dec::progress::{DecoderProgress, START};
+use crate::proved::dec::run::STRETCH_MAX;
+use crate::proved::dec::stretch::{decode_stretch, kept_len, message_len};
 use crate::proved::error::{DecodeError, DecodeReport};
-use crate::proved::find::{len_without_end, position_or_len};
+use crate::proved::find::{len_without_end, zero_or_len};
 
 /// Moves the `len` bytes from `read` on to where `at` is, before them; each other byte there stays.
 #[inline(always)]
@@ -15,32 +16,32 @@ fn move_back(buffer: &mut [u8], at: usize, read: usize, len: usize) {
     move_to_front(&mut buffer[at..], read - at, len);
 }
 
-impl UnbufferedDecoder {
+impl DecoderProgress {
     /// Takes bytes of the buffer that it writes to, from `read` to `end`, as many as one step can take, and returns how
     /// many: as `take_part`, and a block's first bytes with its code.
     #[inline(always)]
     fn take_part_in_place(&mut self, buffer: &mut [u8], read: usize, end: usize) -> usize {
         let code = buffer[read];
-        let left = self.left as usize;
-        if left == 0 && (self.code == FULL || code as usize > WIDE_WINDOW) {
+        let missing = self.missing;
+        if missing == 0 && (self.joint == 0 || code as usize > WIDE_WINDOW) {
             self.take_joint(buffer, code);
-            let at = self.dest_idx;
-            let len = (self.left as usize).min(end - read - 1);
+            let at = self.written;
+            let len = (self.missing as usize).min(end - read - 1);
             move_back(buffer, at, read + 1, len);
-            self.dest_idx = at + len;
-            self.left -= len as u8;
+            self.written = at + len;
+            self.missing -= len as u8;
             return 1 + len;
         }
-        let at = self.dest_idx;
-        let most = self.stretch_len((end - read).min(3 * WIDE_WINDOW));
-        if left == 0 && self.code == 1 && WINDOW <= most && is_all(buffer, read, 1) {
+        let at = self.written;
+        let len = self.stretch_len((end - read).min(STRETCH_MAX));
+        if has_vectors() && missing == 0 && code == 1 && WINDOW <= len && is_all(buffer, read, 1) {
             write_row(buffer, at, 0);
-            self.dest_idx = at + WINDOW;
+            self.written = at + WINDOW;
             return WINDOW;
         }
-        move_back(buffer, at, read, most);
-        self.take_copied(buffer, most);
-        most
+        move_back(buffer, at, read, len);
+        self.take_copied(buffer, len);
+        len
     }
 
     /// Takes the bytes of the buffer that it writes to, from `read` to `end`.
@@ -58,34 +59,30 @@ impl UnbufferedDecoder {
 fn decode_blocks_in_place(buffer: &mut [u8], end: usize) -> Result<usize, DecodeError> {
     // A block that begins before the last 254 bytes is whole.
     let tail = end.saturating_sub(FULL_BLOCK_BYTES);
-    let mut decoder = UnbufferedDecoder::new();
-    decoder.take_in_place(buffer, 0, tail);
-    let (len, whole) = kept_len(&buffer[tail..end], decoder.left as usize, 0);
-    decoder.take_in_place(buffer, tail, tail + len);
-    message_len(decoder.dest_idx, whole)
+    let mut progress = START;
+    progress.take_in_place(buffer, 0, tail);
+    let (len, whole) = kept_len(&buffer[tail..end], progress.missing as usize, 0);
+    progress.take_in_place(buffer, tail, tail + len);
+    message_len(progress.written, whole)
 }
 
 /// Decodes the first `len` bytes of the buffer, if these are 2 to 65 and a frame, and says whether it did. If not, every byte
-/// stays: all are kept beside, and put back where a broken frame has changed bytes behind what it gives.
+/// stays. They are decoded from a copy, which is put back if the frame is broken.
 #[inline(always)]
 fn decode_stretch_in_place(buffer: &mut [u8], len: usize) -> bool {
-    let mut old = [0; WIDE_WINDOW];
-    if len < 2
-        || WIDE_WINDOW + 1 < len
-        || buffer[0] == 0
-        || !copy_xored_short(&buffer[1..len], &mut old, 0)
-    {
+    let mut coded = [0; WIDE_WINDOW + 1];
+    if len < 2 || WIDE_WINDOW + 1 < len || !copy_xored_short(&buffer[1..len], &mut coded[1..], 0) {
         return false;
     }
-    let code = buffer[0];
-    move_to_front(buffer, 1, len - 1);
-    let (_, left) = write_zeros_at_codes(&mut buffer[..len - 1], code as usize);
-    if left != 0 {
-        buffer[0] = code;
-        buffer[1..len].copy_from_slice(&old[..len - 1]);
-        return false;
+    coded[0] = buffer[0];
+    match decode_stretch(&coded[..len], buffer, 0) {
+        Some(0) => true,
+        Some(_) => {
+            buffer[..len].copy_from_slice(&coded[..len]);
+            false
+        }
+        None => false,
     }
-    true
 }
 
 /// Decodes the frame at the front of the buffer in its own place, up to the first zero or the buffer's end, and returns
@@ -119,10 +116,12 @@ pub fn decode_in_place_report(buf: &mut [u8]) -> Result<DecodeReport, DecodeErro
     if buf.is_empty() {
         return Err(DecodeError::EmptyFrame);
     }
-    if let Some(report) = decode_short_in_place(buf) {
-        return Ok(report);
+    if has_vectors() {
+        if let Some(report) = decode_short_in_place(buf) {
+            return Ok(report);
+        }
     }
-    let end = position_or_len(buf, 0);
+    let end = zero_or_len(buf);
     let frame_size = decode_blocks_in_place(buf, end)?;
     Ok(DecodeReport {
         parsed_size: end,
@@ -130,9 +129,11 @@ pub fn decode_in_place_report(buf: &mut [u8]) -> Result<DecodeReport, DecodeErro
     })
 }
 
-/// Does what [`decode_in_place_report`] does, or returns `None` and leaves the buffer as it was: that call asks this first, as
-/// [`decode`](crate::decode) asks `decode_short`. Contracts leave open which buffers it takes. They
-/// are frames of 2 to 65 bytes, with or without a zero after them.
+/// Decodes a short frame as [`decode_in_place_report`] does, or returns `None` and leaves the buffer as it was.
+///
+/// A buffer is taken if it has 2 to 65 bytes before its first zero, which are a whole frame, and at most this zero after them.
+/// [`decode_in_place_report`] asks this first. It calls nothing, as `decode_short`. (A choice of this
+/// library.)
 ///
 /// ```
 /// # use jcobs::proved::*;

@@ -1,92 +1,96 @@
 // Made by bindings/rust/translate.py from `crates/cobs/src/dec/run.rt`: change that file, and run it again.
-//! What every decoder takes at once: bytes up to a zero, copied in stretches, and then a zero written at each code.
+//! What every decoder takes at once: bytes up to a sentinel, copied as slices, and then a zero written at each code.
 
 use crate::proved::block::FULL_BLOCK_BYTES;
-use crate::proved::cobs_bytes::lanes::{copy_to_zero, copy_windows, copy_xored_short};
-use crate::proved::cobs_bytes::window::{WIDE_WINDOW, WINDOW, is_all, write_row};
-use crate::proved::dec::stretch::{is_dense, write_zeros_at_codes, write_zeros_by_vector};
-use crate::proved::dec::unbuffered::{FULL, UnbufferedDecoder};
+use crate::proved::cobs_bytes::lanes::{copy_xored, copy_xored_short};
+use crate::proved::cobs_bytes::window::{WIDE_WINDOW, WINDOW, has_vectors, is_all, write_row};
+use crate::proved::dec::progress::{DecoderProgress, joint_after};
+use crate::proved::dec::stretch::write_zeros_at_codes;
+use crate::proved::find::zero_or_len;
 
-impl UnbufferedDecoder {
-    /// Takes a code behind a whole block, and writes the zero that joins the two.
+/// The most bytes that one stretch has: so few that none of its codes can have a whole full block after it.
+pub(crate) const STRETCH_MAX: usize = FULL_BLOCK_BYTES - 1;
+
+impl DecoderProgress {
+    /// Takes the code of the block after a whole one, and writes the zero that joins the two.
     #[inline(always)]
     pub(crate) fn take_joint(&mut self, dest: &mut [u8], code: u8) {
-        if self.code != FULL {
-            dest[self.dest_idx] = 0;
-            self.dest_idx += 1;
+        if self.joint != 0 {
+            dest[self.written] = 0;
+            self.written += 1;
         }
-        self.code = code;
-        self.left = code - 1;
+        self.joint = joint_after(code);
+        self.missing = code - 1;
     }
 
-    /// How many of `len` bytes one stretch can have: it ends where a full block does.
+    /// Returns how many of `len` bytes one stretch can have: it ends where a full block does.
     #[inline(always)]
     pub(crate) fn stretch_len(&self, len: usize) -> usize {
-        if self.code == FULL {
-            len.min(self.left as usize)
+        if self.joint == 0 {
+            len.min(self.missing as usize)
         } else {
             len
         }
     }
 
-    /// Takes a code behind a whole block, with the first bytes of that block, or all, if it is long and these are at hand and
-    /// have room. Returns how many bytes that is, none only if the zero that joins the two blocks has no room.
+    /// Takes the code of the block after a whole one, and the bytes of the block that are at hand and have room. Returns how
+    /// many bytes that is: 0 only if the zero that joins the two blocks has no room.
     #[inline(always)]
     fn take_block(&mut self, dest: &mut [u8], bytes: &[u8], sentinel: u8) -> usize {
-        if self.code != FULL && dest.len() <= self.dest_idx {
+        if self.joint != 0 && dest.len() <= self.written {
             return 0;
         }
         self.take_joint(dest, bytes[0] ^ sentinel);
-        let at = self.dest_idx;
-        let len = self.left as usize;
-        if len < WIDE_WINDOW || bytes.len() <= len || dest.len().saturating_sub(at) < len {
+        let at = self.written;
+        let len = (self.missing as usize)
+            .min(bytes.len() - 1)
+            .min(dest.len().saturating_sub(at));
+        if len == 0 {
             return 1;
         }
-        let copied = copy_windows::<FULL_BLOCK_BYTES>(&bytes[1..], len, &mut dest[at..], sentinel);
-        self.dest_idx = at + copied;
-        self.left -= copied as u8;
-        1 + copied
+        copy_xored(&bytes[1..1 + len], &mut dest[at..], sentinel);
+        self.written = at + len;
+        self.missing -= len as u8;
+        1 + len
     }
 
-    /// Takes `len` bytes that are copied behind the output, none of them a zero, in which no full block ends.
+    /// Takes `len` bytes that are copied after the output, none of them a zero, in which no full block ends.
     #[inline(always)]
     pub(crate) fn take_copied(&mut self, dest: &mut [u8], len: usize) {
-        let at = self.dest_idx;
-        let left = self.left as usize;
-        self.dest_idx = at + len;
-        if len <= left {
-            self.left -= len as u8;
+        let at = self.written;
+        let missing = self.missing as usize;
+        self.written = at + len;
+        if len <= missing {
+            self.missing -= len as u8;
             return;
         }
-        // What the open block is missing is what a code of one more would open.
-        let bytes = &mut dest[at..at + len];
-        if crate::simd::HAS_SHUFFLE && is_dense(bytes, left) {
-            (self.code, self.left) = write_zeros_by_vector(bytes, left + 1);
-        } else {
-            (self.code, self.left) = write_zeros_at_codes(bytes, left + 1);
-        }
+        // The open block is missing as many bytes as one that a code of one more opens.
+        let (code, missing) = write_zeros_at_codes(&mut dest[at..at + len], missing + 1);
+        self.joint = joint_after(code);
+        self.missing = missing;
     }
 
-    /// Takes up to 192 bytes before a zero, in which no full block ends. Returns how many: 0 if the first has no room.
+    /// Takes up to 253 bytes, in which no full block ends. Returns how many: 0 if the first has no room.
     #[inline(always)]
     fn take_stretch(&mut self, dest: &mut [u8], bytes: &[u8], sentinel: u8) -> usize {
-        let at = self.dest_idx;
-        let most = self.stretch_len(bytes.len().min(dest.len().saturating_sub(at)));
-        if most == 0 {
+        let at = self.written;
+        let most = bytes.len().min(STRETCH_MAX);
+        let len = self.stretch_len(most.min(dest.len().saturating_sub(at)));
+        if len == 0 {
             return 0;
         }
-        let len = copy_to_zero(&bytes[..most], &mut dest[at..], sentinel);
+        copy_xored(&bytes[..len], &mut dest[at..], sentinel);
         self.take_copied(dest, len);
         len
     }
 
     /// Takes all bytes at once if they are fewer than 32, none is a zero, they have room and no full block ends in them, and
-    /// says whether it did. In the Rust crate pushes of 8 bytes of a long frame take half the time, of 16 a third.
+    /// says whether it did.
     #[inline(always)]
     pub(crate) fn take_short(&mut self, dest: &mut [u8], bytes: &[u8]) -> bool {
-        let at = self.dest_idx;
+        let at = self.written;
         let len = bytes.len();
-        if self.over
+        if self.too_long != 0
             || len == 0
             || WINDOW <= len
             || self.stretch_len(len) < len
@@ -99,44 +103,50 @@ impl UnbufferedDecoder {
         true
     }
 
-    /// Takes bytes before a zero, as many as one step can, and returns how many: a code that nothing is joined to, or of
-    /// a long block; a row of 32 blocks without bytes behind such a block; or a stretch. None if the first has no room.
+    /// Takes bytes before a sentinel, as many as one step can, and returns how many: a block of 64 bytes or more or after a
+    /// full one; 32 codes of blocks without bytes; or a stretch. It is 0 only if the first byte has no room.
     #[inline(always)]
     fn take_part(&mut self, dest: &mut [u8], bytes: &[u8], sentinel: u8) -> usize {
-        if self.left == 0 {
-            if self.code == FULL || (bytes[0] ^ sentinel) as usize > WIDE_WINDOW {
+        if self.missing == 0 {
+            let code = bytes[0] ^ sentinel;
+            if self.joint == 0 || code as usize > WIDE_WINDOW {
                 return self.take_block(dest, bytes, sentinel);
             }
-            if self.code == 1
-                && WINDOW <= bytes.len().min(dest.len().saturating_sub(self.dest_idx))
-                && is_all(bytes, 0, 1 ^ sentinel)
-            {
-                write_row(dest, self.dest_idx, 0);
-                self.dest_idx += WINDOW;
+            let most = bytes.len().min(dest.len().saturating_sub(self.written));
+            if has_vectors() && code == 1 && WINDOW <= most && is_all(bytes, 0, 1 ^ sentinel) {
+                write_row(dest, self.written, 0);
+                self.written += WINDOW;
                 return WINDOW;
             }
         }
         self.take_stretch(dest, bytes, sentinel)
     }
 
-    /// Takes bytes, XORed with the sentinel, that return `Ok(None)`, up to a sentinel or the room's end; returns how many.
+    /// Takes bytes that have no sentinel, up to the room's end, and returns how many.
     #[inline(always)]
-    pub(crate) fn take_run(&mut self, dest: &mut [u8], bytes: &[u8], sentinel: u8) -> usize {
-        // A piece that is too long has a result for each byte.
-        if self.over {
-            return 0;
-        }
+    pub(crate) fn take_blocks(&mut self, dest: &mut [u8], bytes: &[u8], sentinel: u8) -> usize {
         // A copy, so that it stays in registers.
-        let mut here = UnbufferedDecoder { ..*self };
-        let mut rest = bytes;
-        'by_step: while !rest.is_empty() && rest[0] ^ sentinel != 0 {
-            let step = here.take_part(dest, rest, sentinel);
-            rest = &rest[step..];
+        let mut here = *self;
+        let mut taken = 0;
+        'by_step: while taken < bytes.len() {
+            let step = here.take_part(dest, &bytes[taken..], sentinel);
+            taken += step;
             if step == 0 {
                 break;
             }
         }
         *self = here;
-        bytes.len() - rest.len()
+        taken
+    }
+
+    /// Takes bytes that return `Ok(None)`, up to a zero or the room's end, and returns how many. One search finds the zero.
+    #[inline(always)]
+    pub(crate) fn take_run(&mut self, dest: &mut [u8], bytes: &[u8]) -> usize {
+        // A piece that is too long has a result for each byte.
+        if self.too_long != 0 {
+            return 0;
+        }
+        let end = zero_or_len(bytes);
+        self.take_blocks(dest, &bytes[..end], 0)
     }
 }

@@ -1,17 +1,11 @@
 // Made by bindings/rust/translate.py from `crates/cobs/src/dec/unbuffered.rt`: change that file, and run it again.
 //! The streaming decoder whose buffer is passed to each call. The three others are built on it.
 
-use crate::proved::block::FULL_CODE;
+use crate::proved::cobs_bytes::window::has_vectors;
 use crate::proved::dec::frame_decoder::{PieceEnd, piece_end};
+use crate::proved::dec::progress::{DecoderProgress, START};
 use crate::proved::error::{DecodeError, DecodeReport, PushError};
 use crate::proved::find::position_or_len;
-use core::mem;
-
-/// The code of a full block, as a byte.
-pub(crate) const FULL: u8 = FULL_CODE as u8;
-
-/// So few bytes are fed one by one: a run takes some 130 instructions, however short it is.
-const BY_BYTE_MAX: usize = 4;
 
 /// The state of an [`UnbufferedDecoder`]. (A choice of this library.)
 ///
@@ -64,18 +58,9 @@ pub enum DecoderPhase {
 /// assert!(buffer.starts_with(b"hello"));
 /// # Ok::<(), Box<dyn std::error::Error>>(())
 /// ```
-// No field says whether a piece has begun: a code at its front is taken as one after a full block is, which no zero
-// joins to anything. So a nonzero byte asks only how much of its block is missing, and a code if a full one was before.
 #[derive(Debug, Clone)]
 pub struct UnbufferedDecoder {
-    /// How many bytes of this piece's output are written.
-    pub(crate) dest_idx: usize,
-    /// How many bytes of the block are missing.
-    pub(crate) left: u8,
-    /// The code of the block; before a piece begins, that of a full one.
-    pub(crate) code: u8,
-    /// Whether the output of this piece was too long for the buffer.
-    pub(crate) over: bool,
+    pub(crate) progress: DecoderProgress,
 }
 
 impl UnbufferedDecoder {
@@ -89,35 +74,7 @@ impl UnbufferedDecoder {
     /// # Ok::<(), Box<dyn std::error::Error>>(())
     /// ```
     pub const fn new() -> Self {
-        UnbufferedDecoder {
-            dest_idx: 0,
-            left: 0,
-            code: FULL,
-            over: false,
-        }
-    }
-
-    /// Takes a zero, which ends a piece if one has begun, over a buffer of this length.
-    #[inline(always)]
-    fn end(&mut self, len: usize) -> Result<Option<usize>, DecodeError> {
-        let ended = mem::replace(self, UnbufferedDecoder::new());
-        if ended.over {
-            return Err(DecodeError::TargetBufTooSmall);
-        }
-        if ended.left != 0 {
-            return Err(DecodeError::InvalidFrame {
-                decoded_bytes: ended.dest_idx,
-            });
-        }
-        // Only so in another buffer than the one that the piece began in, since no more is counted than was written.
-        if len < ended.dest_idx {
-            return Err(DecodeError::TargetBufTooSmall);
-        }
-        if ended.dest_idx == 0 && ended.code == FULL {
-            Ok(None)
-        } else {
-            Ok(Some(ended.dest_idx))
-        }
+        UnbufferedDecoder { progress: START }
     }
 
     /// Makes a decoder in this state, whatever the numbers are. A complete full block, with nothing
@@ -134,23 +91,24 @@ impl UnbufferedDecoder {
     /// assert!(buffer.starts_with(&[7, 8, 9]));
     /// ```
     pub fn from_phase(phase: DecoderPhase) -> Self {
-        match phase {
-            DecoderPhase::Idle => UnbufferedDecoder::new(),
+        let progress = match phase {
+            DecoderPhase::Idle => START,
             DecoderPhase::Within {
                 is_full,
                 lacking,
                 written,
-            } => UnbufferedDecoder {
-                dest_idx: written,
-                left: lacking,
-                code: if is_full { FULL } else { 1 },
-                over: false,
+            } => DecoderProgress {
+                written,
+                missing: lacking,
+                joint: if is_full { 0 } else { 1 },
+                too_long: 0,
             },
-            DecoderPhase::TooLong => UnbufferedDecoder {
-                over: true,
-                ..UnbufferedDecoder::new()
+            DecoderPhase::TooLong => DecoderProgress {
+                too_long: 1,
+                ..START
             },
-        }
+        };
+        UnbufferedDecoder { progress }
     }
 
     /// Returns the decoder's state.
@@ -160,16 +118,17 @@ impl UnbufferedDecoder {
     /// assert_eq!(UnbufferedDecoder::new().phase(), DecoderPhase::Idle);
     /// ```
     pub fn phase(&self) -> DecoderPhase {
-        if self.over {
+        let at = self.progress;
+        if at.too_long != 0 {
             return DecoderPhase::TooLong;
         }
-        if self.dest_idx == 0 && self.left == 0 && self.code == FULL {
+        if at.written == 0 && at.missing == 0 && at.joint == 0 {
             return DecoderPhase::Idle;
         }
         DecoderPhase::Within {
-            is_full: self.code == FULL,
-            lacking: self.left,
-            written: self.dest_idx,
+            is_full: at.joint == 0,
+            lacking: at.missing,
+            written: at.written,
         }
     }
 
@@ -200,34 +159,7 @@ impl UnbufferedDecoder {
     /// ```
     #[inline]
     pub fn feed(&mut self, dest: &mut [u8], byte: u8) -> Result<Option<usize>, DecodeError> {
-        if byte == 0 {
-            return self.end(dest.len());
-        }
-        if self.over {
-            return Err(DecodeError::TargetBufTooSmall);
-        }
-        // Three branches, which a processor predicts, take a third less time than one write of a chosen byte.
-        if self.left != 0 {
-            if dest.len() <= self.dest_idx {
-                self.over = true;
-                return Err(DecodeError::TargetBufTooSmall);
-            }
-            dest[self.dest_idx] = byte;
-            self.dest_idx += 1;
-            self.left -= 1;
-            return Ok(None);
-        }
-        if self.code != FULL {
-            if dest.len() <= self.dest_idx {
-                self.over = true;
-                return Err(DecodeError::TargetBufTooSmall);
-            }
-            dest[self.dest_idx] = 0;
-            self.dest_idx += 1;
-        }
-        self.code = byte;
-        self.left = byte - 1;
-        Ok(None)
+        self.progress.feed(dest, byte)
     }
 
     /// Takes bytes of the stream, over this buffer, up to the first one whose result by `feed` isn't `Ok(None)`.
@@ -246,7 +178,7 @@ impl UnbufferedDecoder {
         dest: &mut [u8],
         bytes: &[u8],
     ) -> Result<Option<DecodeReport>, PushError> {
-        if self.take_short(dest, bytes) {
+        if has_vectors() && self.progress.take_short(dest, bytes) {
             return Ok(None);
         }
         self.push_long(dest, bytes)
@@ -260,9 +192,7 @@ impl UnbufferedDecoder {
     ) -> Result<Option<DecodeReport>, PushError> {
         let mut at = 0;
         'by_run: while at < bytes.len() {
-            if BY_BYTE_MAX < bytes.len() - at {
-                at += self.take_run(dest, &bytes[at..], 0);
-            }
+            at += self.progress.take_run(dest, &bytes[at..]);
             if at < bytes.len() {
                 let parsed_size = at + 1;
                 match self.feed(dest, bytes[at]) {
@@ -291,9 +221,17 @@ impl UnbufferedDecoder {
     /// assert_eq!(end, Some((PieceEnd::TooLong, 7)));
     /// ```
     pub fn feed_piece(&mut self, dest: &mut [u8], bytes: &[u8]) -> Option<(PieceEnd, usize)> {
+        if has_vectors() && self.progress.take_short(dest, bytes) {
+            return None;
+        }
+        self.feed_piece_long(dest, bytes)
+    }
+
+    /// Does what `feed_piece` does, without a question of its own for a short piece.
+    fn feed_piece_long(&mut self, dest: &mut [u8], bytes: &[u8]) -> Option<(PieceEnd, usize)> {
         let mut taken = 0;
         'by_run: while taken < bytes.len() {
-            if self.over {
+            if self.progress.too_long != 0 {
                 // Of a piece that is too long for the buffer, all through its zero is taken.
                 let rest = &bytes[taken..];
                 let len = position_or_len(rest, 0);
@@ -303,9 +241,7 @@ impl UnbufferedDecoder {
                 self.reset();
                 return Some((PieceEnd::TooLong, taken + len + 1));
             }
-            if BY_BYTE_MAX < bytes.len() - taken {
-                taken += self.take_run(dest, &bytes[taken..], 0);
-            }
+            taken += self.progress.take_run(dest, &bytes[taken..]);
             if taken < bytes.len() {
                 let byte = bytes[taken];
                 let returned = self.feed(dest, byte);

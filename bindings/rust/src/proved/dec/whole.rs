@@ -1,7 +1,7 @@
 // Made by bindings/rust/translate.py from `crates/cobs/src/dec/whole.rt`: change that file, and run it again.
 //! Decoding a whole frame into another buffer.
 
-use crate::proved::dec::UnbufferedDecoder;
+use crate::proved::dec::progress::START;
 use crate::proved::dec::stretch::{decode_stretch, message_len};
 use crate::proved::error::{DecodeError, DecodeReport};
 use crate::proved::find::{leading_zeros, len_without_end};
@@ -54,28 +54,31 @@ fn decode_long(source: &[u8], dest: &mut [u8]) -> Result<DecodeReport, DecodeErr
         return Err(DecodeError::InvalidFrame { decoded_bytes: 0 });
     }
     let rest = &source[start..];
-    let mut decoder = UnbufferedDecoder::new();
-    let len = decoder.take_run(dest, rest, 0);
+    let mut progress = START;
+    let len = progress.take_run(dest, rest);
     if len < rest.len() && rest[len] != 0 {
         return Err(DecodeError::TargetBufTooSmall);
     }
     let parsed_size = (start + len + 1).min(source.len());
-    let result = message_len(decoder.dest_idx, decoder.left == 0);
+    let result = message_len(progress.written, progress.missing == 0);
     result.map(|frame_size| DecodeReport {
         parsed_size,
         frame_size,
     })
 }
 
-/// Does what [`decode`] does, or returns `None` and leaves `dest` as it was: [`decode`] asks this first, and it calls nothing,
-/// to be compiled into code that decodes small frames. Contracts leave open which sources it takes. They are those of 2 to
-/// 65 bytes that are no zeros, with or without a zero after them, if `dest` has room for all of these bytes but one.
+/// Decodes a short frame as [`decode`] does, or returns `None` and leaves `dest` as it was.
+///
+/// A source is taken if it has 2 to 65 bytes before its first zero, at most this zero after them, and `dest` has room for one
+/// byte fewer than the frame has. [`decode`] asks this first. It calls nothing, to be compiled into the code of a function
+/// that decodes small frames. (A choice of this library.)
 ///
 /// ```
 /// # use jcobs::proved::*;
 /// let mut dest = [170; 3];
 /// assert!(decode_short(b"\x03hi\0", &mut dest).is_some());
 /// assert_eq!(&dest, b"hi\xaa");
+/// assert_eq!(decode_short(b"\x03hi\0\x02", &mut dest), None);
 /// ```
 #[inline(always)]
 pub fn decode_short(source: &[u8], dest: &mut [u8]) -> Option<Result<DecodeReport, DecodeError>> {

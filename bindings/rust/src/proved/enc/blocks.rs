@@ -116,15 +116,6 @@ pub(crate) fn append_short(
     progress_at(index, next + len, false)
 }
 
-/// Whether three full blocks end at `index`, by the bytes in the places of their codes. It only says which way is
-/// taken: one of these may be another byte that happens to be 255.
-#[inline(always)]
-fn is_behind_long_run(dest: &[u8], index: usize) -> bool {
-    index >= 3 * FULL_CODE
-        && dest[index - 2 * FULL_CODE] == FULL_CODE as u8
-        && dest[index - 3 * FULL_CODE] == FULL_CODE as u8
-}
-
 /// Writes the codes of the zeros that a source begins with, 32 at a time while more are left, and returns how many.
 #[inline(always)]
 fn write_codes_of_zeros(source: &[u8], dest: &mut [u8], at: usize) -> usize {
@@ -136,13 +127,13 @@ fn write_codes_of_zeros(source: &[u8], dest: &mut [u8], at: usize) -> usize {
     len
 }
 
-/// Takes whole windows of 32 bytes while more than one is left, up to where a run has filled three blocks. Returns how
-/// many bytes these are, and how far the frame has come.
+/// Takes whole windows of 32 bytes while more than one is left, up to a full block. Returns how many bytes these are, and
+/// how far the frame has come.
 ///
 /// Each window is copied to where the next byte goes. If no zero is near enough to keep the open block from being full,
-/// that block is closed, and what doesn't belong to it is copied anew. Else each zero of the window gives its place to
-/// the code of the block that it begins, and the last block stays open for the next window. A row of zeros needs
-/// no copy. Nothing is written after the frame. A full block that no window follows ends the loop.
+/// that block is closed, and the caller goes on by slices after it, since a run that fills one block often fills more.
+/// Otherwise each zero of the window gives its place to the code of the block that it begins, and the last block stays open
+/// for the next window. A row of zeros needs no copy. Nothing is written after the frame.
 #[inline(always)]
 pub(crate) fn append_windows(
     source: &[u8],
@@ -181,12 +172,8 @@ pub(crate) fn append_windows(
             }
         }
         dest[index] = FULL_CODE as u8;
-        index += FULL_CODE;
-        read += index - next;
-        next = index + 1;
-        if read >= last || is_behind_long_run(dest, index) {
-            return (read, progress_at(index, next, true));
-        }
+        let end = index + FULL_CODE;
+        return (read + (end - next), progress_at(end, end + 1, true));
     }
     (read, progress_at(index, next, false))
 }
