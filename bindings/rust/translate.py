@@ -70,7 +70,7 @@ CONST = {"max_encoding_overhead", "max_encoding_length", "UnbufferedDecoder::new
 # Calls for one byte, which are to be compiled into the caller's loop.
 INLINE = set(
     "UnbufferedDecoder::feed DecoderState::feed EncoderState::push UnbufferedEncoder::progress"
-    " UnbufferedEncoder::from_progress cobs_abi::done cobs_abi::too_small cobs_abi::end_of cobs_abi::fits cobs_abi::append"
+    " UnbufferedEncoder::from_progress cobs_abi::done cobs_abi::too_small cobs_abi::end_of cobs_abi::has_room cobs_abi::append"
     " cobs_abi::Encoder::at cobs_abi::Encoder::progress".split()
 )
 # The feature that an item needs, if its code has this word.

@@ -22,8 +22,9 @@ HERE = Path(__file__).resolve().parent
 # the module changes: a name that isn't there is an error, but not one that now means something else.
 NAMES = {
     "jcobs_encode_in_place": {"at": "start", "at2": "index", "at3": "next", "code2": "last"},
+    "jcobs_encoder_feed": {"index2": "next"},
+    "jcobs_encoder_push": {"n": "held", "left2": "room", "full2": "is_full", "code2": "open"},
     "jcobs_encoder_finish_terminated": {"left": "room"},
-    "jcobs_encoder_push": {"full2": "is_full", "code2": "open"},
     "jcobs_max_length": {"n": "overhead"},
     "jcobs_decode_in_place": {"at": "read", "at2": "next", "left": "count"},
     "jcobs_decode": {"is": "is_empty"},

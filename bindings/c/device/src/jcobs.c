@@ -33,6 +33,76 @@ static jcobs_answer jcobs_answered(JCOBS_STATUS status, size_t consumed, size_t 
     return answer;
 }
 
+/* Takes one byte of the stream, as a push of that byte.
+ * Proved, in decoder.rt:
+ *     ensures decodes { DecodesNext decoder.old buffer.old (byte :: []) result decoder.new buffer.new } */
+jcobs_answer jcobs_decoder_feed(jcobs_decoder *decoder, void *buffer, size_t buffer_len, unsigned char byte)
+{
+    unsigned char *const to = (unsigned char *)buffer;
+    unsigned char too_long;
+    size_t written, length;
+
+    too_long = decoder->too_long;
+    if (byte == 0) {
+        if (too_long == 0) {
+            written = decoder->written;
+            if (decoder->lacking != 0) {
+                length = buffer_len < written ? buffer_len : written;
+                decoder->written = 0;
+                decoder->lacking = 0;
+                decoder->joint = 0;
+                decoder->too_long = 0;
+                return jcobs_answered(JCOBS_BROKEN, 1, length);
+            }
+            if (buffer_len >= written) {
+                if (written == 0 && decoder->joint == 0) {
+                    return jcobs_answered(JCOBS_MORE, 1, 0);
+                }
+                decoder->written = 0;
+                decoder->lacking = 0;
+                decoder->joint = 0;
+                decoder->too_long = 0;
+                return jcobs_answered(JCOBS_OK, 1, written);
+            }
+        }
+        decoder->written = 0;
+        decoder->lacking = 0;
+        decoder->joint = 0;
+        decoder->too_long = 0;
+        return jcobs_answered(JCOBS_TOO_SMALL, 1, buffer_len);
+    }
+    if (too_long != 0) {
+        return jcobs_answered(JCOBS_MORE, 1, buffer_len);
+    }
+    written = decoder->written;
+    if (decoder->lacking == 0) {
+        if (decoder->joint != 0) {
+            if (buffer_len <= written) {
+                decoder->too_long = 1;
+                return jcobs_answered(JCOBS_MORE, 1, buffer_len);
+            }
+            to[written] = 0;
+            written++;
+            decoder->written = written;
+        }
+        decoder->lacking = (unsigned char)(byte - 1);
+        decoder->joint = (unsigned char)(byte != 255);
+    } else {
+        if (buffer_len <= written) {
+            decoder->too_long = 1;
+            return jcobs_answered(JCOBS_MORE, 1, buffer_len);
+        }
+        to[written] = byte;
+        written++;
+        decoder->written = written;
+        decoder->lacking = (unsigned char)(decoder->lacking - 1);
+    }
+    if (decoder->too_long == 0) {
+        return jcobs_answered(JCOBS_MORE, 1, buffer_len < written ? buffer_len : written);
+    }
+    return jcobs_answered(JCOBS_MORE, 1, buffer_len);
+}
+
 /* Returns 1 if no piece is open, and 0 otherwise.
  * Proved, in decoder.rt:
  *     ensures idle { ReportsIdle decoder.now result } */
@@ -52,16 +122,18 @@ jcobs_answer jcobs_decoder_push(jcobs_decoder *decoder, void *buffer, size_t buf
 {
     unsigned char *const to = (unsigned char *)buffer;
     const unsigned char *const from = (const unsigned char *)bytes;
-    size_t i, written;
-    unsigned char byte, too_long;
+    size_t written, i;
+    unsigned char lacking, joint, too_long, byte;
 
+    written = decoder->written;
+    lacking = decoder->lacking;
+    joint = decoder->joint;
+    too_long = decoder->too_long;
     for (i = 0; i != len; i++) {
         byte = from[i];
-        too_long = decoder->too_long;
         if (byte == 0) {
             if (too_long == 0) {
-                written = decoder->written;
-                if (decoder->lacking != 0) {
+                if (lacking != 0) {
                     decoder->written = 0;
                     decoder->lacking = 0;
                     decoder->joint = 0;
@@ -69,7 +141,7 @@ jcobs_answer jcobs_decoder_push(jcobs_decoder *decoder, void *buffer, size_t buf
                     return jcobs_answered(JCOBS_BROKEN, i + 1, buffer_len < written ? buffer_len : written);
                 }
                 if (buffer_len >= written) {
-                    if (written == 0 && decoder->joint == 0) {
+                    if (written == 0 && joint == 0) {
                         continue;
                     }
                     decoder->written = 0;
@@ -86,45 +158,34 @@ jcobs_answer jcobs_decoder_push(jcobs_decoder *decoder, void *buffer, size_t buf
             return jcobs_answered(JCOBS_TOO_SMALL, i + 1, buffer_len);
         }
         if (too_long == 0) {
-            written = decoder->written;
-            if (decoder->lacking == 0) {
-                if (decoder->joint != 0) {
+            if (lacking == 0) {
+                if (joint != 0) {
                     if (buffer_len <= written) {
-                        decoder->too_long = 1;
+                        too_long = 1;
                         continue;
                     }
                     to[written] = 0;
-                    decoder->written = written + 1;
+                    written++;
                 }
-                decoder->lacking = (unsigned char)(byte - 1);
-                decoder->joint = (unsigned char)(byte != 255);
+                lacking = (unsigned char)(byte - 1);
+                joint = (unsigned char)(byte != 255);
             } else if (buffer_len > written) {
                 to[written] = byte;
-                decoder->written = written + 1;
-                decoder->lacking = (unsigned char)(decoder->lacking - 1);
+                written++;
+                lacking = (unsigned char)(lacking - 1);
             } else {
-                decoder->too_long = 1;
+                too_long = 1;
             }
         }
     }
-    if (decoder->too_long != 0) {
-        return jcobs_answered(JCOBS_MORE, len, buffer_len);
+    decoder->written = written;
+    decoder->lacking = lacking;
+    decoder->joint = joint;
+    decoder->too_long = too_long;
+    if (too_long == 0) {
+        return jcobs_answered(JCOBS_MORE, len, buffer_len < written ? buffer_len : written);
     }
-    written = decoder->written;
-    return jcobs_answered(JCOBS_MORE, len, buffer_len < written ? buffer_len : written);
-}
-
-/* Takes one byte of the stream, as a push of that byte.
- * Proved, in decoder.rt:
- *     ensures decodes { DecodesNext decoder.old buffer.old (byte :: []) result decoder.new buffer.new } */
-jcobs_answer jcobs_decoder_feed(jcobs_decoder *decoder, void *buffer, size_t buffer_len, unsigned char byte)
-{
-    jcobs_answer answer;
-    unsigned char bytes_here[1];
-
-    bytes_here[0] = byte;
-    answer = jcobs_decoder_push(decoder, buffer, buffer_len, bytes_here, 1);
-    return answer;
+    return jcobs_answered(JCOBS_MORE, len, buffer_len);
 }
 
 /* Makes the decoder one that has taken nothing, even if its state is corrupt.
@@ -136,6 +197,72 @@ void jcobs_decoder_reset(jcobs_decoder *decoder)
     decoder->lacking = 0;
     decoder->joint = 0;
     decoder->too_long = 0;
+}
+
+/* Writes the frame of the message to the front of the buffer frame, if it fits. Otherwise nothing is written.
+ * Proved, in encode.rt:
+ *     ensures encodes { Encodes message.now frame.old result frame.new } */
+jcobs_answer jcobs_encode(const void *message, size_t message_len, void *frame, size_t frame_len)
+{
+    const unsigned char *const from = (const unsigned char *)message;
+    unsigned char *const to = (unsigned char *)frame;
+    size_t i, left, at;
+    unsigned char code, byte;
+
+    if (frame_len <= message_len) {
+        return jcobs_answered(JCOBS_TOO_SMALL, 0, 0);
+    }
+    if (message_len >= 255 && (message_len >> 7) >= frame_len - message_len) {
+        code = 1;
+        left = frame_len;
+        for (i = 0; i != message_len; i++) {
+            if (code == 255) {
+                if (left < 255) {
+                    return jcobs_answered(JCOBS_TOO_SMALL, 0, 0);
+                }
+                code = 1;
+                left -= 255;
+            }
+            if (from[i] == 0) {
+                if (left < (size_t)code) {
+                    return jcobs_answered(JCOBS_TOO_SMALL, 0, 0);
+                }
+                left -= (size_t)code;
+                code = 1;
+            } else {
+                code = (unsigned char)(code + 1);
+            }
+        }
+        if (left < (size_t)code) {
+            return jcobs_answered(JCOBS_TOO_SMALL, 0, 0);
+        }
+    }
+    code = 1;
+    at = 0;
+    if (message_len != 0) {
+        for (i = 0; i != message_len; i++) {
+            if (code == 255) {
+                to[at] = 255;
+                code = 1;
+                at += 255;
+            }
+            byte = from[i];
+            if (byte == 0) {
+                to[at] = code;
+                at += (size_t)code;
+                code = 1;
+            } else {
+                to[at + (size_t)code] = byte;
+                code = (unsigned char)(code + 1);
+            }
+        }
+        if (code == 255) {
+            to[at] = 255;
+            return jcobs_answered(JCOBS_OK, message_len, at + 255);
+        }
+    }
+    to[at] = code;
+    return jcobs_answered(JCOBS_OK, message_len, at + (size_t)code);
 }
 
 /* Encodes the message of message_len bytes that lies in the buffer, behind the room for the longest frame's other
@@ -196,6 +323,69 @@ jcobs_answer jcobs_encode_in_place(void *buffer, size_t buffer_len, size_t messa
         to[index] = last;
     }
     return jcobs_answered(JCOBS_OK, message_len, (is_full ? 0 : (size_t)code) + index);
+}
+
+/* Writes the frame of the message and a zero after it to the front of the buffer frame, if both fit. Otherwise
+ * nothing is written.
+ * Proved, in encode.rt:
+ *     ensures encodes { EncodesTerminated 0 message.now frame.old result frame.new } */
+jcobs_answer jcobs_encode_terminated(const void *message, size_t message_len, void *frame, size_t frame_len)
+{
+    unsigned char *const to = (unsigned char *)frame;
+    jcobs_answer pushed;
+    JCOBS_STATUS status;
+    size_t length;
+
+    if (frame_len == 0) {
+        return jcobs_answered(JCOBS_TOO_SMALL, 0, 0);
+    }
+    pushed = jcobs_encode(message, message_len, frame, frame_len - 1);
+    status = pushed.status;
+    if (status != JCOBS_OK) {
+        return jcobs_answered(status, pushed.consumed, pushed.length);
+    }
+    length = pushed.length;
+    to[length] = 0;
+    return jcobs_answered(JCOBS_OK, pushed.consumed, length + 1);
+}
+
+/* Takes the next byte of a message, as a push of that byte.
+ * Proved, in encoder.rt:
+ *     ensures encodes { EncodesNext encoder.old buffer.old (byte :: []) result encoder.new buffer.new } */
+jcobs_answer jcobs_encoder_feed(jcobs_encoder *encoder, void *buffer, size_t buffer_len, unsigned char byte)
+{
+    unsigned char *const to = (unsigned char *)buffer;
+    size_t index, next;
+    unsigned char taken, full;
+
+    index = encoder->index;
+    taken = encoder->taken;
+    if (buffer_len < index || taken > 253 || buffer_len - index <= (size_t)taken + 1) {
+        return jcobs_answered(JCOBS_TOO_SMALL, 0, 0);
+    }
+    taken = (unsigned char)(taken + 1);
+    next = index + (size_t)taken;
+    if (byte == 0) {
+        to[index] = taken;
+        encoder->index = next;
+        encoder->taken = 0;
+        encoder->full = 0;
+        return jcobs_answered(JCOBS_OK, 1, next + 1);
+    }
+    to[next] = byte;
+    if (taken == 254) {
+        to[index] = 255;
+        index = next + 1;
+        encoder->index = index;
+        taken = 0;
+        full = 1;
+    } else {
+        index = next + 1;
+        full = 0;
+    }
+    encoder->taken = taken;
+    encoder->full = full;
+    return jcobs_answered(JCOBS_OK, 1, index);
 }
 
 /* Ends the message, if its frame fits the buffer. Even if the state is corrupt, the buffer keeps its length, and
@@ -284,7 +474,7 @@ jcobs_answer jcobs_encoder_push(jcobs_encoder *encoder, void *buffer, size_t buf
     unsigned char *const to = (unsigned char *)buffer;
     const unsigned char *const from = (const unsigned char *)bytes;
     unsigned char taken, full, code, open, byte;
-    size_t index, left, i;
+    size_t index, left, room, held, i;
     int is_full;
 
     taken = encoder->taken;
@@ -307,27 +497,37 @@ jcobs_answer jcobs_encoder_push(jcobs_encoder *encoder, void *buffer, size_t buf
         }
         return jcobs_answered(JCOBS_OK, 0, index);
     }
-    open = code;
-    for (i = 0; i != len; i++) {
-        if (open == 255) {
-            if (left < 255) {
-                return jcobs_answered(JCOBS_TOO_SMALL, 0, 0);
-            }
-            open = 1;
-            left -= 255;
-        }
-        if (from[i] == 0) {
-            if (left < (size_t)open) {
-                return jcobs_answered(JCOBS_TOO_SMALL, 0, 0);
-            }
-            left -= (size_t)open;
-            open = 1;
-        } else {
-            open = (unsigned char)(open + 1);
-        }
-    }
-    if (left < (size_t)open) {
+    if (left <= (size_t)taken) {
         return jcobs_answered(JCOBS_TOO_SMALL, 0, 0);
+    }
+    room = left - (size_t)taken;
+    if (room <= len) {
+        return jcobs_answered(JCOBS_TOO_SMALL, 0, 0);
+    }
+    held = len + (size_t)taken;
+    if (held >= 255 && (held >> 7) >= room - len) {
+        open = code;
+        for (i = 0; i != len; i++) {
+            if (open == 255) {
+                if (left < 255) {
+                    return jcobs_answered(JCOBS_TOO_SMALL, 0, 0);
+                }
+                open = 1;
+                left -= 255;
+            }
+            if (from[i] == 0) {
+                if (left < (size_t)open) {
+                    return jcobs_answered(JCOBS_TOO_SMALL, 0, 0);
+                }
+                left -= (size_t)open;
+                open = 1;
+            } else {
+                open = (unsigned char)(open + 1);
+            }
+        }
+        if (left < (size_t)open) {
+            return jcobs_answered(JCOBS_TOO_SMALL, 0, 0);
+        }
     }
     for (i = 0;; i++) {
         is_full = code == 255;
@@ -361,67 +561,6 @@ jcobs_answer jcobs_encoder_push(jcobs_encoder *encoder, void *buffer, size_t buf
         return jcobs_answered(JCOBS_OK, len, index);
     }
     return jcobs_answered(JCOBS_OK, len, index + (size_t)code);
-}
-
-/* Writes the frame of the message to the front of the buffer frame, if it fits. Otherwise nothing is written.
- * Proved, in encode.rt:
- *     ensures encodes { Encodes message.now frame.old result frame.new } */
-jcobs_answer jcobs_encode(const void *message, size_t message_len, void *frame, size_t frame_len)
-{
-    jcobs_encoder encoder;
-    jcobs_answer pushed;
-    JCOBS_STATUS status;
-
-    if (frame_len == 0) {
-        return jcobs_answered(JCOBS_TOO_SMALL, 0, 0);
-    }
-    encoder.index = 0;
-    encoder.taken = 0;
-    encoder.full = 0;
-    pushed = jcobs_encoder_push(&encoder, frame, frame_len, message, message_len);
-    status = pushed.status;
-    if (status != JCOBS_OK) {
-        return jcobs_answered(status, pushed.consumed, pushed.length);
-    }
-    pushed = jcobs_encoder_finish(&encoder, frame, frame_len);
-    return jcobs_answered(JCOBS_OK, message_len, pushed.length);
-}
-
-/* Writes the frame of the message and a zero after it to the front of the buffer frame, if both fit. Otherwise
- * nothing is written.
- * Proved, in encode.rt:
- *     ensures encodes { EncodesTerminated 0 message.now frame.old result frame.new } */
-jcobs_answer jcobs_encode_terminated(const void *message, size_t message_len, void *frame, size_t frame_len)
-{
-    unsigned char *const to = (unsigned char *)frame;
-    jcobs_answer pushed;
-    JCOBS_STATUS status;
-    size_t length;
-
-    if (frame_len == 0) {
-        return jcobs_answered(JCOBS_TOO_SMALL, 0, 0);
-    }
-    pushed = jcobs_encode(message, message_len, frame, frame_len - 1);
-    status = pushed.status;
-    if (status != JCOBS_OK) {
-        return jcobs_answered(status, pushed.consumed, pushed.length);
-    }
-    length = pushed.length;
-    to[length] = 0;
-    return jcobs_answered(JCOBS_OK, pushed.consumed, length + 1);
-}
-
-/* Takes the next byte of a message, as a push of that byte.
- * Proved, in encoder.rt:
- *     ensures encodes { EncodesNext encoder.old buffer.old (byte :: []) result encoder.new buffer.new } */
-jcobs_answer jcobs_encoder_feed(jcobs_encoder *encoder, void *buffer, size_t buffer_len, unsigned char byte)
-{
-    jcobs_answer answer;
-    unsigned char bytes_here[1];
-
-    bytes_here[0] = byte;
-    answer = jcobs_encoder_push(encoder, buffer, buffer_len, bytes_here, 1);
-    return answer;
 }
 
 /* Makes the encoder one that has taken nothing, even if its state is corrupt.

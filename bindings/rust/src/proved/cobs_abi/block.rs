@@ -7,8 +7,7 @@ use crate::proved::EncoderProgress;
 const FULL: u8 = 255;
 
 /// Whether `room` bytes, from the code of an open block, are enough once the block has taken these bytes.
-#[inline]
-pub(crate) fn fits(code: u8, bytes: &[u8], room: usize) -> bool {
+fn fits(code: u8, bytes: &[u8], room: usize) -> bool {
     let mut left = room;
     let mut code = code;
     'by_byte: for i in 0..bytes.len() {
@@ -30,6 +29,25 @@ pub(crate) fn fits(code: u8, bytes: &[u8], room: usize) -> bool {
         }
     }
     code as usize <= left
+}
+
+/// Returns true only if `spare` bytes cover the overhead of every message of `len` bytes. It divides by 128 instead of 254,
+/// because small processors shift but don't divide. So it may return false if `spare` is just enough.
+#[inline(always)]
+fn covers_overhead(len: usize, spare: usize) -> bool {
+    len < FULL as usize || len / 128 < spare
+}
+
+/// Whether `room` bytes, from the code of an open block, are enough once the block has taken these bytes. It reads the
+/// bytes only if their number doesn't decide that.
+#[inline]
+pub(crate) fn has_room(code: u8, bytes: &[u8], room: usize) -> bool {
+    let held = code as usize - 1;
+    if room <= held || room - held <= bytes.len() {
+        return false;
+    }
+    let spare = room - held - bytes.len();
+    covers_overhead(held + bytes.len(), spare) || fits(code, bytes, room)
 }
 
 /// Takes some bytes into the frame that the buffer holds as far as `start` says, and returns how far it has come then.

@@ -95,15 +95,22 @@ fn take_each(
     bytes: &[u8],
     sentinel: u8,
 ) -> Option<(PieceEnd, usize)> {
+    // In a local, as compilers read the fields again after each byte that is written to the buffer.
+    let mut state = *decoder;
     'by_byte: for (i, coded) in bytes.iter().enumerate() {
         let byte = *coded ^ sentinel;
         if byte != 0 {
-            take_byte(decoder, buffer, byte);
-        } else if let Some(end) = piece_end(decoder, buffer.len()) {
+            take_byte(&mut state, buffer, byte);
+        } else if let Some(end) = piece_end(&state, buffer.len()) {
             *decoder = DECODER_START;
             return Some((end, i + 1));
         }
     }
+    // Field by field: a copy of the struct would have its padding too, which has no name in C.
+    decoder.written = state.written;
+    decoder.lacking = state.lacking;
+    decoder.joint = state.joint;
+    decoder.too_long = state.too_long;
     None
 }
 
@@ -112,4 +119,19 @@ fn take_each(
 pub fn decode_each(decoder: &mut Decoder, buffer: &mut [u8], bytes: &[u8], sentinel: u8) -> Answer {
     let found = take_each(decoder, buffer, bytes, sentinel);
     result_of(decoder, found, bytes.len(), buffer.len())
+}
+
+/// Takes the next byte of a stream of frames, whose sentinel is zero.
+#[inline(always)]
+pub fn decode_byte(decoder: &mut Decoder, buffer: &mut [u8], byte: u8) -> Answer {
+    let room = buffer.len();
+    if byte != 0 {
+        take_byte(decoder, buffer, byte);
+        return result_of(decoder, None, 1, room);
+    }
+    let Some(end) = piece_end(decoder, room) else {
+        return result_of(decoder, None, 1, room);
+    };
+    *decoder = DECODER_START;
+    result_of(decoder, Some((end, 1)), 1, room)
 }

@@ -2,7 +2,7 @@
 //! The streaming encoder by a step for each byte, and a message that is encoded in its own buffer.
 
 use crate::proved::cobs_abi::answer::{Answer, OK, done, too_small};
-use crate::proved::cobs_abi::block::{append, append_open, fits};
+use crate::proved::cobs_abi::block::{append, append_open, has_room};
 use crate::proved::cobs_abi::encoder::{ENCODER_START, Encoder, end_of};
 use crate::proved::{EncoderProgress, encode_in_place, max_encoding_overhead};
 
@@ -26,12 +26,44 @@ pub fn encode_each(encoder: &mut Encoder, buffer: &mut [u8], bytes: &[u8]) -> An
     if bytes.is_empty() {
         return done(0, end_of(start));
     }
-    if !fits(start.code, bytes, room - start.index) {
+    if !has_room(start.code, bytes, room - start.index) {
         return too_small();
     }
     let progress = append(bytes, buffer, start);
     *encoder = Encoder::at(progress);
     done(bytes.len(), end_of(progress))
+}
+
+/// Takes the next byte of a message, if the frame of all that was taken fits the buffer.
+#[inline]
+pub fn encode_byte(encoder: &mut Encoder, buffer: &mut [u8], byte: u8) -> Answer {
+    let room = buffer.len();
+    let index = encoder.index;
+    let taken = encoder.taken;
+    if 253 < taken || room < index || room - index <= taken as usize + 1 {
+        return too_small();
+    }
+    let code = taken + 1;
+    let next = index + code as usize;
+    if byte == 0 {
+        buffer[index] = code;
+        encoder.index = next;
+        encoder.taken = 0;
+        encoder.full = 0;
+        return done(1, next + 1);
+    }
+    buffer[next] = byte;
+    if code == 254 {
+        // The block is full.
+        buffer[index] = 255;
+        encoder.index = next + 1;
+        encoder.taken = 0;
+        encoder.full = 1;
+    } else {
+        encoder.taken = code;
+        encoder.full = 0;
+    }
+    done(1, next + 1)
 }
 
 /// So few bytes are taken one after another: a record that is pushed field by field comes in such pieces. Fields of 4 bytes

@@ -2,7 +2,7 @@
 //! Streams of frames to messages.
 
 use crate::proved::UnbufferedDecoder;
-use crate::proved::cobs_abi::{Answer, Decoder, decode_each};
+use crate::proved::cobs_abi::{Answer, Decoder, decode_byte, decode_each};
 
 /// Makes the decoder one that has taken nothing, even if its state is corrupt.
 pub fn jcobs_decoder_reset(decoder: &mut Decoder) {
@@ -22,5 +22,5 @@ pub fn jcobs_decoder_push(decoder: &mut Decoder, buffer: &mut [u8], bytes: &[u8]
 
 /// Takes one byte of the stream, as a push of that byte.
 pub fn jcobs_decoder_feed(decoder: &mut Decoder, buffer: &mut [u8], byte: u8) -> Answer {
-    jcobs_decoder_push(decoder, buffer, &[byte])
+    decode_byte(decoder, buffer, byte)
 }

@@ -1,8 +1,7 @@
 // Made by bindings/rust/translate.py from `crates/cobs_small/src/encode.rt`: change that file, and run it again.
 //! Whole messages to frames, and how long these are at most.
 
-use crate::proved::cobs_abi::{Answer, ENCODER_START, OK, done, encode_within, too_small};
-use crate::proved::cobs_small::encoder::{jcobs_encoder_finish, jcobs_encoder_push};
+use crate::proved::cobs_abi::{Answer, OK, done, encode_message, encode_within, too_small};
 use crate::proved::max_encoding_overhead;
 
 /// Returns how many bytes the longest frame of a message of `message_len` bytes has, or 0 if that number doesn't fit.
@@ -14,16 +13,7 @@ pub fn jcobs_max_length(message_len: usize) -> usize {
 
 /// Writes the frame of the message to the front of the buffer `frame`, if it fits. Otherwise nothing is written.
 pub fn jcobs_encode(message: &[u8], frame: &mut [u8]) -> Answer {
-    if frame.is_empty() {
-        return too_small();
-    }
-    let mut encoder = ENCODER_START;
-    let pushed = jcobs_encoder_push(&mut encoder, frame, message);
-    if pushed.status != OK {
-        return pushed;
-    }
-    let finished = jcobs_encoder_finish(&mut encoder, frame);
-    done(message.len(), finished.length)
+    encode_message(message, frame)
 }
 
 /// Writes the frame of the message and a zero after it to the front of the buffer `frame`, if both fit. Otherwise nothing

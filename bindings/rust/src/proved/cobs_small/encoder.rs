@@ -2,7 +2,9 @@
 //! Messages in pieces to frames.
 
 use crate::proved::UnbufferedEncoder;
-use crate::proved::cobs_abi::{Answer, Encoder, encode_each, finish, finish_terminated};
+use crate::proved::cobs_abi::{
+    Answer, Encoder, encode_byte, encode_each, finish, finish_terminated,
+};
 
 /// Makes the encoder one that has taken nothing, even if its state is corrupt.
 pub fn jcobs_encoder_reset(encoder: &mut Encoder) {
@@ -17,7 +19,7 @@ pub fn jcobs_encoder_push(encoder: &mut Encoder, buffer: &mut [u8], bytes: &[u8]
 
 /// Takes the next byte of a message, as a push of that byte.
 pub fn jcobs_encoder_feed(encoder: &mut Encoder, buffer: &mut [u8], byte: u8) -> Answer {
-    jcobs_encoder_push(encoder, buffer, &[byte])
+    encode_byte(encoder, buffer, byte)
 }
 
 /// Ends the message, if its frame fits the buffer. Even if the state is corrupt, the buffer keeps its length, and the

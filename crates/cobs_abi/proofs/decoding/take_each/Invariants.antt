@@ -6,4 +6,4 @@ use Rattle.cobs_abi.proofs.decoding.take_each.Given as goal
 
 -- no piece has ended in the bytes so far
 abbrev pub invariant-by_byte : goal.invariant-by_byte
-invariant-by_byte l = TakesPiece l.fn.buffer (phase_in l.fn.decoder) (take l.i (xor_each l.sentinel l.bytes)) None l.buffer (phase_in l.decoder)
+invariant-by_byte l = TakesPiece l.fn.buffer (phase_in l.fn.decoder) (take l.i (xor_each l.sentinel l.bytes)) None l.buffer (phase_in l.state)
