@@ -164,89 +164,114 @@ start:
   %r10.i.sroa.6.0.copyload = load i8, ptr %r10.i.sroa.6.0.a1.sroa_idx, align 1
   %r10.i.sroa.7.0.a1.sroa_idx = getelementptr inbounds nuw i8, ptr %a1, i64 10
   %r10.i.sroa.7.0.copyload = load i8, ptr %r10.i.sroa.7.0.a1.sroa_idx, align 1
-  br label %loop.3.i
+  %r39.i = icmp eq i8 %r10.i.sroa.7.0.copyload, 0
+  br i1 %r39.i, label %loop.5.i.outer, label %join.3.i
 
-loop.3.i:                                         ; preds = %after.7.i, %start
-  %r12.i.i = phi i64 [ %r10.i.sroa.0.0.copyload, %start ], [ %r5.i1.sroa.0.2, %after.7.i ]
-  %r5.i1.sroa.11.0 = phi i8 [ %r10.i.sroa.5.0.copyload, %start ], [ %r5.i1.sroa.11.2, %after.7.i ]
-  %r5.i1.sroa.17.0 = phi i8 [ %r10.i.sroa.6.0.copyload, %start ], [ %r5.i1.sroa.17.2, %after.7.i ]
-  %r5.i1.sroa.21.0 = phi i8 [ %r10.i.sroa.7.0.copyload, %start ], [ %r5.i1.sroa.21.2, %after.7.i ]
-  %r6.0.i = phi i64 [ 0, %start ], [ %r97.i, %after.7.i ]
+loop.5.i.outer:                                   ; preds = %start, %loop.5.i.outer.backedge
+  %r5.i1.sroa.0.1.ph = phi i64 [ %r5.i1.sroa.0.1.ph.be, %loop.5.i.outer.backedge ], [ %r10.i.sroa.0.0.copyload, %start ]
+  %r5.i1.sroa.11.1.ph = phi i8 [ %r5.i1.sroa.11.1.ph.be, %loop.5.i.outer.backedge ], [ %r10.i.sroa.5.0.copyload, %start ]
+  %r5.i1.sroa.17.1.ph = phi i8 [ %r5.i1.sroa.17.1.ph.be, %loop.5.i.outer.backedge ], [ %r10.i.sroa.6.0.copyload, %start ]
+  %r6.0.i.ph = phi i64 [ %r59.i, %loop.5.i.outer.backedge ], [ 0, %start ]
+  br label %loop.5.i
+
+loop.5.i:                                         ; preds = %loop.5.i.outer, %join.9.i.i
+  %r5.i1.sroa.0.1 = phi i64 [ %r43.i.i2, %join.9.i.i ], [ %r5.i1.sroa.0.1.ph, %loop.5.i.outer ]
+  %r5.i1.sroa.11.1 = phi i8 [ %r48.i.i, %join.9.i.i ], [ %r5.i1.sroa.11.1.ph, %loop.5.i.outer ]
+  %r6.0.i = phi i64 [ %r59.i, %join.9.i.i ], [ %r6.0.i.ph, %loop.5.i.outer ]
   %exitcond.not = icmp eq i64 %r6.0.i, %a5
-  br i1 %exitcond.not, label %arm.2.i.i, label %join.6.i
+  br i1 %exitcond.not, label %join.3.i, label %join.8.i
 
-join.6.i:                                         ; preds = %loop.3.i
-  %r37.i = getelementptr i8, ptr %a4, i64 %r6.0.i
-  %r40.i = load i8, ptr %r37.i, align 1
-  %r44.not.i = icmp eq i8 %r40.i, 0
-  %r17.not.i16.i = icmp eq i8 %r5.i1.sroa.21.0, 0
-  br i1 %r44.not.i, label %else.9.i, label %then.8.i
+join.8.i:                                         ; preds = %loop.5.i
+  %r53.i = getelementptr inbounds nuw i8, ptr %a4, i64 %r6.0.i
+  %r55.i = load i8, ptr %r53.i, align 1
+  %r59.i = add i64 %r6.0.i, 1
+  %r61.not.i = icmp eq i8 %r55.i, 0
+  %r37.not.i.i = icmp eq i8 %r5.i1.sroa.11.1, 0
+  br i1 %r61.not.i, label %join.3.i34.i, label %join.3.i.i
 
-then.8.i:                                         ; preds = %join.6.i
-  br i1 %r17.not.i16.i, label %join.3.i.i, label %after.7.i
-
-join.3.i.i:                                       ; preds = %then.8.i
-  %r25.not.i.i = icmp eq i8 %r5.i1.sroa.11.0, 0
-  br i1 %r25.not.i.i, label %join.6.i.i, label %then.4.i.i
+join.3.i.i:                                       ; preds = %join.8.i
+  br i1 %r37.not.i.i, label %join.6.i.i, label %then.4.i.i
 
 then.4.i.i:                                       ; preds = %join.3.i.i
-  %r33.not.i.i = icmp ugt i64 %a3, %r12.i.i
-  br i1 %r33.not.i.i, label %join.9.i.i, label %after.7.i
+  %r33.not.i.i = icmp ugt i64 %a3, %r5.i1.sroa.0.1
+  br i1 %r33.not.i.i, label %join.9.i.i, label %join.3.i
 
 join.9.i.i:                                       ; preds = %then.4.i.i
-  %r40.i.i = getelementptr inbounds nuw i8, ptr %a2, i64 %r12.i.i
-  store i8 %r40.i, ptr %r40.i.i, align 1
-  %r43.i.i2 = add nuw i64 %r12.i.i, 1
-  %r48.i.i = add i8 %r5.i1.sroa.11.0, -1
-  br label %after.7.i
+  %r40.i.i = getelementptr inbounds nuw i8, ptr %a2, i64 %r5.i1.sroa.0.1
+  store i8 %r55.i, ptr %r40.i.i, align 1
+  %r43.i.i2 = add nuw i64 %r5.i1.sroa.0.1, 1
+  %r48.i.i = add i8 %r5.i1.sroa.11.1, -1
+  br label %loop.5.i
 
 join.6.i.i:                                       ; preds = %join.3.i.i
-  %r54.not.i.i = icmp eq i8 %r5.i1.sroa.17.0, 0
+  %r54.not.i.i = icmp eq i8 %r5.i1.sroa.17.1.ph, 0
   br i1 %r54.not.i.i, label %join.12.i.i, label %then.10.i.i
 
 then.10.i.i:                                      ; preds = %join.6.i.i
-  %r62.not.i.i = icmp ugt i64 %a3, %r12.i.i
-  br i1 %r62.not.i.i, label %join.15.i.i, label %after.7.i
+  %r62.not.i.i = icmp ugt i64 %a3, %r5.i1.sroa.0.1
+  br i1 %r62.not.i.i, label %join.15.i.i, label %join.3.i
 
 join.15.i.i:                                      ; preds = %then.10.i.i
-  %r69.i.i = getelementptr inbounds nuw i8, ptr %a2, i64 %r12.i.i
+  %r69.i.i = getelementptr inbounds nuw i8, ptr %a2, i64 %r5.i1.sroa.0.1
   store i8 0, ptr %r69.i.i, align 1
-  %r72.i.i = add nuw i64 %r12.i.i, 1
+  %r72.i.i = add nuw i64 %r5.i1.sroa.0.1, 1
   br label %join.12.i.i
 
 join.12.i.i:                                      ; preds = %join.15.i.i, %join.6.i.i
-  %r5.i1.sroa.0.3 = phi i64 [ %r12.i.i, %join.6.i.i ], [ %r72.i.i, %join.15.i.i ]
-  %r74.i.i = add i8 %r40.i, -1
-  %r77.i.i = icmp ne i8 %r40.i, -1
+  %r5.i1.sroa.0.4 = phi i64 [ %r5.i1.sroa.0.1, %join.6.i.i ], [ %r72.i.i, %join.15.i.i ]
+  %r74.i.i = add i8 %r55.i, -1
+  %r77.i.i = icmp ne i8 %r55.i, -1
   %..i.i = zext i1 %r77.i.i to i8
-  br label %after.7.i
+  br label %loop.5.i.outer.backedge
 
-else.9.i:                                         ; preds = %join.6.i
-  br i1 %r17.not.i16.i, label %join.3.i17.i, label %arm.7.i.i
+join.3.i34.i:                                     ; preds = %join.8.i
+  br i1 %r37.not.i.i, label %join.6.i37.i, label %arm.6.i.i
 
-join.3.i17.i:                                     ; preds = %else.9.i
-  %r37.not.i.i = icmp eq i8 %r5.i1.sroa.11.0, 0
-  br i1 %r37.not.i.i, label %join.6.i20.i, label %arm.6.i.i
+join.6.i37.i:                                     ; preds = %join.3.i34.i
+  %r59.i.i = icmp ult i64 %a3, %r5.i1.sroa.0.1
+  br i1 %r59.i.i, label %arm.1.i.i.thread49, label %join.9.i38.i
 
-join.6.i20.i:                                     ; preds = %join.3.i17.i
-  %r59.i.i = icmp ult i64 %a3, %r12.i.i
-  br i1 %r59.i.i, label %arm.7.i.i, label %join.9.i21.i
-
-join.9.i21.i:                                     ; preds = %join.6.i20.i
-  %r78.i.i = icmp eq i64 %r12.i.i, 0
-  %r85.i.i = icmp eq i8 %r5.i1.sroa.17.0, 0
+join.9.i38.i:                                     ; preds = %join.6.i37.i
+  %r78.i.i = icmp eq i64 %r5.i1.sroa.0.1, 0
+  %r85.i.i = icmp eq i8 %r5.i1.sroa.17.1.ph, 0
   %or.cond = select i1 %r78.i.i, i1 %r85.i.i, i1 false
-  br i1 %or.cond, label %after.7.i, label %arm.5.i.i
+  br i1 %or.cond, label %loop.5.i.outer.backedge, label %arm.5.i.i
 
-after.7.i:                                        ; preds = %join.9.i21.i, %then.8.i, %join.9.i.i, %join.12.i.i, %then.4.i.i, %then.10.i.i
-  %r5.i1.sroa.0.2 = phi i64 [ %r12.i.i, %then.10.i.i ], [ %r5.i1.sroa.0.3, %join.12.i.i ], [ %r12.i.i, %then.4.i.i ], [ %r43.i.i2, %join.9.i.i ], [ %r12.i.i, %then.8.i ], [ 0, %join.9.i21.i ]
-  %r5.i1.sroa.11.2 = phi i8 [ 0, %then.10.i.i ], [ %r74.i.i, %join.12.i.i ], [ %r5.i1.sroa.11.0, %then.4.i.i ], [ %r48.i.i, %join.9.i.i ], [ %r5.i1.sroa.11.0, %then.8.i ], [ 0, %join.9.i21.i ]
-  %r5.i1.sroa.17.2 = phi i8 [ %r5.i1.sroa.17.0, %then.10.i.i ], [ %..i.i, %join.12.i.i ], [ %r5.i1.sroa.17.0, %then.4.i.i ], [ %r5.i1.sroa.17.0, %join.9.i.i ], [ %r5.i1.sroa.17.0, %then.8.i ], [ 0, %join.9.i21.i ]
-  %r5.i1.sroa.21.2 = phi i8 [ 1, %then.10.i.i ], [ 0, %join.12.i.i ], [ 1, %then.4.i.i ], [ 0, %join.9.i.i ], [ %r5.i1.sroa.21.0, %then.8.i ], [ 0, %join.9.i21.i ]
-  %r97.i = add i64 %r6.0.i, 1
-  br label %loop.3.i
+loop.5.i.outer.backedge:                          ; preds = %join.9.i38.i, %join.12.i.i
+  %r5.i1.sroa.0.1.ph.be = phi i64 [ %r5.i1.sroa.0.4, %join.12.i.i ], [ 0, %join.9.i38.i ]
+  %r5.i1.sroa.11.1.ph.be = phi i8 [ %r74.i.i, %join.12.i.i ], [ 0, %join.9.i38.i ]
+  %r5.i1.sroa.17.1.ph.be = phi i8 [ %..i.i, %join.12.i.i ], [ 0, %join.9.i38.i ]
+  br label %loop.5.i.outer
 
-arm.2.i.i:                                        ; preds = %loop.3.i
+join.3.i:                                         ; preds = %then.4.i.i, %loop.5.i, %then.10.i.i, %start
+  %r12.i.i = phi i64 [ %r10.i.sroa.0.0.copyload, %start ], [ %r5.i1.sroa.0.1, %then.10.i.i ], [ %r5.i1.sroa.0.1, %loop.5.i ], [ %r5.i1.sroa.0.1, %then.4.i.i ]
+  %r5.i1.sroa.11.0 = phi i8 [ %r10.i.sroa.5.0.copyload, %start ], [ %r5.i1.sroa.11.1, %loop.5.i ], [ %r5.i1.sroa.11.1, %then.4.i.i ], [ 0, %then.10.i.i ]
+  %r5.i1.sroa.17.0 = phi i8 [ %r10.i.sroa.6.0.copyload, %start ], [ %r5.i1.sroa.17.1.ph, %then.10.i.i ], [ %r5.i1.sroa.17.1.ph, %loop.5.i ], [ %r5.i1.sroa.17.1.ph, %then.4.i.i ]
+  %r5.i1.sroa.21.0 = phi i8 [ %r10.i.sroa.7.0.copyload, %start ], [ 1, %then.4.i.i ], [ 0, %loop.5.i ], [ 1, %then.10.i.i ]
+  %r6.1.i = phi i64 [ 0, %start ], [ %r59.i, %then.4.i.i ], [ %a5, %loop.5.i ], [ %r59.i, %then.10.i.i ]
+  br label %loop.20.i
+
+loop.20.i:                                        ; preds = %join.23.i, %join.3.i
+  %r6.2.i = phi i64 [ %r6.1.i, %join.3.i ], [ %r142.i, %join.23.i ]
+  %r122.i = icmp ult i64 %r6.2.i, %a5
+  br i1 %r122.i, label %join.23.i, label %arm.2.i.i
+
+join.23.i:                                        ; preds = %loop.20.i
+  %r128.i = getelementptr inbounds nuw i8, ptr %a4, i64 %r6.2.i
+  %r130.i = load i8, ptr %r128.i, align 1
+  %r134.i = icmp eq i8 %r130.i, 0
+  %r142.i = add nuw i64 %r6.2.i, 1
+  br i1 %r134.i, label %arm.1.i.i.thread, label %loop.20.i
+
+arm.1.i.i.thread:                                 ; preds = %join.23.i
+  tail call void @llvm.memset.p0.i64(ptr noundef nonnull align 1 dereferenceable(16) %a1, i8 0, i64 16, i1 false)
+  br label %"cobs_abi::decoding::decode_each.exit"
+
+arm.1.i.i.thread49:                               ; preds = %join.6.i37.i
+  tail call void @llvm.memset.p0.i64(ptr noundef nonnull align 1 dereferenceable(16) %a1, i8 0, i64 16, i1 false)
+  br label %"cobs_abi::decoding::decode_each.exit"
+
+arm.2.i.i:                                        ; preds = %loop.20.i
   store i64 %r12.i.i, ptr %a1, align 8
   store i8 %r5.i1.sroa.11.0, ptr %r10.i.sroa.5.0.a1.sroa_idx, align 8
   store i8 %r5.i1.sroa.17.0, ptr %r10.i.sroa.6.0.a1.sroa_idx, align 1
@@ -258,26 +283,19 @@ else.2.i.i:                                       ; preds = %arm.2.i.i
   %a1.a0.i.i = tail call i64 @llvm.umin.i64(i64 %a3, i64 %r12.i.i)
   br label %"cobs_abi::decoding::decode_each.exit"
 
-arm.5.i.i:                                        ; preds = %join.9.i21.i
-  %r72.i34 = add nuw i64 %r6.0.i, 1
+arm.5.i.i:                                        ; preds = %join.9.i38.i
   tail call void @llvm.memset.p0.i64(ptr noundef nonnull align 1 dereferenceable(16) %a1, i8 0, i64 16, i1 false)
   br label %"cobs_abi::decoding::decode_each.exit"
 
-arm.6.i.i:                                        ; preds = %join.3.i17.i
-  %r72.i = add nuw i64 %r6.0.i, 1
+arm.6.i.i:                                        ; preds = %join.3.i34.i
   tail call void @llvm.memset.p0.i64(ptr noundef nonnull align 1 dereferenceable(16) %a1, i8 0, i64 16, i1 false)
-  %a1.a0.i6.i = tail call i64 @llvm.umin.i64(i64 %a3, i64 %r12.i.i)
+  %a1.a0.i6.i = tail call i64 @llvm.umin.i64(i64 %a3, i64 %r5.i1.sroa.0.1)
   br label %"cobs_abi::decoding::decode_each.exit"
 
-arm.7.i.i:                                        ; preds = %join.6.i20.i, %else.9.i
-  %r72.i43 = add nuw i64 %r6.0.i, 1
-  tail call void @llvm.memset.p0.i64(ptr noundef nonnull align 1 dereferenceable(16) %a1, i8 0, i64 16, i1 false)
-  br label %"cobs_abi::decoding::decode_each.exit"
-
-"cobs_abi::decoding::decode_each.exit":           ; preds = %arm.5.i.i, %arm.6.i.i, %arm.7.i.i, %arm.2.i.i, %else.2.i.i
-  %r0.i.sroa.0.0 = phi i32 [ 1, %arm.2.i.i ], [ 1, %else.2.i.i ], [ 0, %arm.5.i.i ], [ 3, %arm.6.i.i ], [ 2, %arm.7.i.i ]
-  %r0.i.sroa.8.0 = phi i64 [ %a5, %arm.2.i.i ], [ %a5, %else.2.i.i ], [ %r72.i34, %arm.5.i.i ], [ %r72.i, %arm.6.i.i ], [ %r72.i43, %arm.7.i.i ]
-  %r0.i.sroa.10.0 = phi i64 [ %a3, %arm.2.i.i ], [ %a1.a0.i.i, %else.2.i.i ], [ %r12.i.i, %arm.5.i.i ], [ %a1.a0.i6.i, %arm.6.i.i ], [ %a3, %arm.7.i.i ]
+"cobs_abi::decoding::decode_each.exit":           ; preds = %arm.5.i.i, %arm.6.i.i, %arm.1.i.i.thread49, %arm.1.i.i.thread, %arm.2.i.i, %else.2.i.i
+  %r0.i.sroa.0.0 = phi i32 [ 1, %arm.2.i.i ], [ 1, %else.2.i.i ], [ 0, %arm.5.i.i ], [ 3, %arm.6.i.i ], [ 2, %arm.1.i.i.thread49 ], [ 2, %arm.1.i.i.thread ]
+  %r0.i.sroa.8.0 = phi i64 [ %a5, %arm.2.i.i ], [ %a5, %else.2.i.i ], [ %r59.i, %arm.5.i.i ], [ %r59.i, %arm.6.i.i ], [ %r59.i, %arm.1.i.i.thread49 ], [ %r142.i, %arm.1.i.i.thread ]
+  %r0.i.sroa.10.0 = phi i64 [ %a3, %arm.2.i.i ], [ %a1.a0.i.i, %else.2.i.i ], [ %r5.i1.sroa.0.1, %arm.5.i.i ], [ %a1.a0.i6.i, %arm.6.i.i ], [ %a3, %arm.1.i.i.thread49 ], [ %a3, %arm.1.i.i.thread ]
   store i32 %r0.i.sroa.0.0, ptr %a0, align 1
   %r0.sroa.3.0.a0.sroa_idx = getelementptr inbounds nuw i8, ptr %a0, i64 4
   store i32 0, ptr %r0.sroa.3.0.a0.sroa_idx, align 1

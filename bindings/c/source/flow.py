@@ -220,7 +220,7 @@ def loop_of(label, body, follows):
     body = simple(body)
     if follows:
         body = breaks(body, follows)
-    while body and body[-1] == ("continue", label):
+    while body and body[-1][0] == "continue":
         body.pop()
     return [("loop", None, body)]
 

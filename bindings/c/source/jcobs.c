@@ -122,61 +122,74 @@ jcobs_answer jcobs_decoder_push(jcobs_decoder *decoder, void *buffer, size_t buf
 {
     unsigned char *const to = (unsigned char *)buffer;
     const unsigned char *const from = (const unsigned char *)bytes;
-    size_t written, i;
+    size_t written, consumed, next;
     unsigned char lacking, joint, too_long, byte;
 
     written = decoder->written;
     lacking = decoder->lacking;
     joint = decoder->joint;
     too_long = decoder->too_long;
-    for (i = 0; i != len; i++) {
-        byte = from[i];
-        if (byte == 0) {
-            if (too_long == 0) {
+    consumed = 0;
+    if (too_long == 0) {
+        while (consumed != len) {
+            byte = from[consumed];
+            consumed++;
+            if (byte == 0) {
                 if (lacking != 0) {
                     decoder->written = 0;
                     decoder->lacking = 0;
                     decoder->joint = 0;
                     decoder->too_long = 0;
-                    return jcobs_answered(JCOBS_BROKEN, i + 1, buffer_len < written ? buffer_len : written);
+                    return jcobs_answered(JCOBS_BROKEN, consumed, buffer_len < written ? buffer_len : written);
                 }
-                if (buffer_len >= written) {
-                    if (written == 0 && joint == 0) {
-                        continue;
-                    }
+                if (buffer_len < written) {
                     decoder->written = 0;
                     decoder->lacking = 0;
                     decoder->joint = 0;
                     decoder->too_long = 0;
-                    return jcobs_answered(JCOBS_OK, i + 1, written);
+                    return jcobs_answered(JCOBS_TOO_SMALL, consumed, buffer_len);
                 }
-            }
-            decoder->written = 0;
-            decoder->lacking = 0;
-            decoder->joint = 0;
-            decoder->too_long = 0;
-            return jcobs_answered(JCOBS_TOO_SMALL, i + 1, buffer_len);
-        }
-        if (too_long == 0) {
-            if (lacking == 0) {
+                if (written != 0 || joint != 0) {
+                    decoder->written = 0;
+                    decoder->lacking = 0;
+                    decoder->joint = 0;
+                    decoder->too_long = 0;
+                    return jcobs_answered(JCOBS_OK, consumed, written);
+                }
+            } else {
+                if (lacking != 0) {
+                    if (buffer_len <= written) {
+                        too_long = 1;
+                        break;
+                    }
+                    to[written] = byte;
+                    written++;
+                    lacking = (unsigned char)(lacking - 1);
+                    continue;
+                }
                 if (joint != 0) {
                     if (buffer_len <= written) {
                         too_long = 1;
-                        continue;
+                        break;
                     }
                     to[written] = 0;
                     written++;
                 }
                 lacking = (unsigned char)(byte - 1);
                 joint = (unsigned char)(byte != 255);
-            } else if (buffer_len > written) {
-                to[written] = byte;
-                written++;
-                lacking = (unsigned char)(lacking - 1);
-            } else {
-                too_long = 1;
             }
         }
+    }
+    while (consumed < len) {
+        next = consumed + 1;
+        if (from[consumed] == 0) {
+            decoder->written = 0;
+            decoder->lacking = 0;
+            decoder->joint = 0;
+            decoder->too_long = 0;
+            return jcobs_answered(JCOBS_TOO_SMALL, next, buffer_len);
+        }
+        consumed = next;
     }
     decoder->written = written;
     decoder->lacking = lacking;

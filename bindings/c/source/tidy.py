@@ -4,14 +4,28 @@ import itertools
 import re
 
 from expressions import Expression, both, either, negated
-from flow import if_of, leaves, used_labels
+from flow import if_of, leaves, simple, used_labels
 
 ASSIGNED = re.compile(r"(\w+)(?: [-+]?= .*|\+\+|--);")
 
 
 def tidied(statements):
+    statements = simple(merged(statements))
     statements = labeled(statements, used_labels(statements))
     return with_heads(refusals_joined(without_known(begun_alike(refusals_first(statements)), set())))
+
+
+def merged(statements):
+    """The statements with one loop in place of two, if the outer one does no more than repeat the inner one."""
+    made = []
+    for each in statements:
+        each = inner(each, merged)
+        if each[0] == "loop" and made and made[-1][0] == "label":
+            within = [it for it in each[2] if it[0] != "label"]
+            if len(within) == 1 and within[0][0] == "loop" and not jumps(within[0][2], "break"):
+                each = ("loop", None, continued(within[0][2], made[-1][1]))
+        made.append(each)
+    return made
 
 
 def labeled(statements, labels):
@@ -100,24 +114,29 @@ def known(condition):
     return {tuple(sides), tuple(sides[::-1])} if condition.parts[0] == "==" else set()
 
 
-def assigned(statements, lasting=False):
-    """The variables that statements assign to; if `lasting`, on the ways that go on after them."""
+def assigned(statements, gone=None):
+    """The variables that statements assign to, but in a way of an if that is `gone`."""
     found = set()
     for each in statements:
         if isinstance(each, str):
             found |= {it[1] for it in [ASSIGNED.fullmatch(each)] if it}
         elif each[0] == "if":
-            found |= set().union(*(assigned(it, lasting) for it in each[2:] if not (lasting and leaves(it))))
+            found |= set().union(*(assigned(it, gone) for it in each[2:] if not (gone and gone(it))))
         elif each[0] == "loop":
             found |= assigned(each[2])
     return found
+
+
+def ended(statements):
+    """Whether a loop isn't repeated after these statements."""
+    return statements[-1:] == [("break",)] or (leaves(statements) and isinstance(statements[-1], str))
 
 
 def without_known(statements, facts):
     """The statements without assignments of what a variable has. `facts` are those of `known` that hold before them."""
     made = []
     for each in statements:
-        changed = assigned([each], lasting=True)
+        changed = assigned([each], leaves)
         left = {it for it in facts if not changed & set(it)}
         if isinstance(each, str):
             found = re.fullmatch(r"(\w+) = (\w+);", each)
@@ -130,7 +149,8 @@ def without_known(statements, facts):
             made += if_of(each[1], yes, other)
             continue
         elif each[0] == "loop":
-            each = (*each[:2], without_known(each[2], left | known(each[1])))
+            changed = assigned(each[2], ended)
+            each = (*each[:2], without_known(each[2], {it for it in facts if not changed & set(it)}))
         elif each[0] == "label":
             left = set()
         facts = left

@@ -120,14 +120,30 @@ fn take_each(
     law_17();
     // In a local, as compilers read the fields again after each byte that is written to the buffer.
     let mut state = *decoder;
-    'by_byte: for (i, coded) in bytes.iter().enumerate() {
-        let byte = *coded ^ sentinel;
-        if byte != 0 {
-            take_byte(&mut state, buffer, byte);
-        } else if let Some(end) = piece_end(&state, buffer.len()) {
-            *decoder = DECODER_START;
-            return Some((end, i + 1));
+    let mut i = 0;
+    if state.too_long == 0 {
+        'by_byte: while i < bytes.len() {
+            let byte = bytes[i] ^ sentinel;
+            i += 1;
+            if byte != 0 {
+                take_byte(&mut state, buffer, byte);
+                if state.too_long != 0 {
+                    break;
+                }
+            } else if let Some(end) = piece_end(&state, buffer.len()) {
+                *decoder = DECODER_START;
+                return Some((end, i));
+            }
         }
+    }
+    // If the message is too long, only its end counts.
+    'to_end: while i < bytes.len() {
+        let byte = bytes[i] ^ sentinel;
+        if byte == 0 {
+            *decoder = DECODER_START;
+            return Some((PieceEnd::TooLong, i + 1));
+        }
+        i += 1;
     }
     // Field by field: a copy of the struct would have its padding too, which has no name in C.
     decoder.written = state.written;
