@@ -106,11 +106,12 @@ def a_frame_that_a_hang_up_cuts(room):
         with start(["--reconnect", "--log", room / "log", *words, path]) as watch:
             wanted = b""
             for cut in range(len(frame)):
-                path.write_bytes(frame[:cut])
+                # The sentinel is the first one after the last hang-up.
+                path.write_bytes(b"\0" + frame[:cut])
                 time.sleep(0.3)
                 path.write_bytes(frame[cut:])
                 time.sleep(0.3)
-                wanted += unfinished + hung_up + hung_up if cut else hung_up
+                wanted += (unfinished if cut else b"") + hung_up + hung_up
             watch.kill()
             found = watch.stdout.read()
         if words == ["--pcap"]:
@@ -174,6 +175,15 @@ def documented_loop():
     return found.pop()
 
 
+def is_set(path):
+    """Whether a terminal neither echoes nor waits for lines, as the loop sets it."""
+    ours = os.open(path, os.O_RDWR | os.O_NOCTTY)
+    try:
+        return not termios.tcgetattr(ours)[3] & (termios.ECHO | termios.ICANON)
+    finally:
+        os.close(ours)
+
+
 @part
 def a_device_that_goes_and_comes_back(room):
     """The loop of the documents, in each shell: it sets each terminal, nothing goes back to the device, and nothing is made up."""
@@ -210,15 +220,6 @@ def a_device_that_goes_and_comes_back(room):
         finally:
             os.killpg(running.pid, 9)
             running.wait()
-
-
-def is_set(path):
-    """Whether a terminal neither echoes nor waits for lines, as the loop sets it."""
-    ours = os.open(path, os.O_RDWR | os.O_NOCTTY)
-    try:
-        return not termios.tcgetattr(ours)[3] & (termios.ECHO | termios.ICANON)
-    finally:
-        os.close(ours)
 
 
 @part
