@@ -7,6 +7,7 @@
 import fcntl
 import os
 import pty
+import resource
 import select
 import shutil
 import subprocess
@@ -263,6 +264,14 @@ def help_into_a_closed_pipe(_room):
     with open("/dev/full", "wb") as full:
         done = subprocess.run([WATCH, "--help"], stdout=full, stderr=subprocess.PIPE, check=False)
     same((done.stderr, done.returncode), (b"cobs_watch: write failed: No space left on device (os error 28)\n", 1))
+
+
+@part
+def a_line_that_memory_runs_out_for(_room):
+    limit = lambda: resource.setrlimit(resource.RLIMIT_AS, (20_000 << 10, 20_000 << 10))
+    with start(["send"], stdin=subprocess.PIPE, preexec_fn=limit) as watch:
+        out, errors = watch.communicate(b"ping\n" + b"a" * 30_000_000 + b"\n", timeout=60)
+        same((out, errors, watch.returncode), (FRAME, b"cobs_watch: out of memory\n", 1))
 
 
 def without_waiting(fd):
