@@ -10,6 +10,7 @@ import pty
 import resource
 import select
 import shutil
+import signal
 import subprocess
 import sys
 import tempfile
@@ -23,18 +24,32 @@ WATCH = sys.argv[1]
 FRAME, SHOWN = b"\x05ping\0", b"message 4 70696e67\n"
 COUNTED = "messages {}, broken 0, too long 0, bytes {}\n"
 failed = []
+started = []
 
 
 def part(check):
     """Runs a check in a folder of its own, and says how it ended."""
     name = check.__name__.replace("_", " ")
     with tempfile.TemporaryDirectory() as room:
+        signal.alarm(120)
         try:
             check(Path(room))
-            print(f"ok: {name}")
+            print(f"ok: {name}", flush=True)
         except Exception as error:  # pylint: disable=broad-except
             failed.append(name)
-            print(f"FAILED: {name}: {error!r}")
+            print(f"FAILED: {name}: {error!r}", flush=True)
+        signal.alarm(0)
+        started.clear()
+
+
+def time_is_up(_number, _frame):
+    """Ends the programs of a part that waits for what doesn't come."""
+    for program in started:
+        program.kill()
+    raise TimeoutError("what was awaited didn't come")
+
+
+signal.signal(signal.SIGALRM, time_is_up)
 
 
 def same(found, wanted):
@@ -42,7 +57,9 @@ def same(found, wanted):
 
 
 def start(words, **more):
-    return subprocess.Popen([WATCH, *map(str, words)], stdout=subprocess.PIPE, stderr=subprocess.PIPE, **more)
+    program = subprocess.Popen([WATCH, *map(str, words)], stdout=subprocess.PIPE, stderr=subprocess.PIPE, **more)
+    started.append(program)
+    return program
 
 
 def ended(program):
