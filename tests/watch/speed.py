@@ -48,8 +48,8 @@ def text():
 
 
 def short():
-    """A message of 1 to 7 random bytes."""
-    return random.randbytes(random.randrange(1, 8))
+    """A message of 1 to 7 characters of ASCII, with zeros and control characters."""
+    return bytes(random.randrange(128) for _ in range(random.randrange(1, 8)))
 
 
 def words():
