@@ -78,6 +78,14 @@ export function isSupported(): boolean;
  */
 export function load(source?: Source): Promise<void>;
 
+/**
+ * Loads the module before it returns, for a program that can't wait for a promise. Without an argument it is the file
+ * cobs.wasm beside this one, which only Node can read so. Once the module is loaded, a further call changes nothing.
+ * On a page, outside of a worker, Chrome allows this from version 115 on.
+ * @throws CobsError "unsupported"; or what is wrong with the source
+ */
+export function loadSync(source?: Bytes | WebAssembly.Module): void;
+
 /** The length of the longest frame of a message of this many bytes, without sentinels. */
 export function maxEncodedLength(length: number): number;
 

@@ -1,8 +1,9 @@
+// Written by pack.mjs from serialport.js; edit that.
 // COBS as Node's own streams, as the package serialport pipes them:
 //
 //     port.pipe(new FrameDecoderTransform({ skipFirst: true })).on("data", ({ message }) => ..);
 const { Transform } = require("node:stream");
-const { FrameDecoder, encode, load } = require("./dist/jcobs.cjs");
+const { FrameDecoder, encode, load } = require("./jcobs.cjs");
 
 /** Bytes in, outcomes out: `{message}`, `{broken: n}` or `{tooLong: true}` for each piece that a sentinel ends. */
 class FrameDecoderTransform extends Transform {

@@ -1,5 +1,5 @@
 import { Transform } from "node:stream";
-import type { DecoderOptions, SentinelOptions } from "./dist/jcobs.cjs";
+import type { DecoderOptions, SentinelOptions } from "./jcobs.cjs";
 
 /** Bytes in, an `Outcome` out for each piece that a sentinel ends. The module is loaded by itself. */
 export class FrameDecoderTransform extends Transform {
