@@ -245,7 +245,10 @@ await check("a message in pieces has the frame of the whole", async () => {
   }
   encoder.push(new Uint8Array(60_000));
   await throws(() => encoder.push(new Uint8Array(40_001)), (error) => error instanceof RangeError, "a message that is too long");
-  equal(encoder.finish(), cobs.encode(new Uint8Array(60_000)), "the frame of what was taken");
+  equal(encoder.length, 60_000, "the length after it");
+  encoder.push(new Uint8Array(40_000));
+  equal(encoder.length, 100_000, "the length once it is full");
+  equal(encoder.finish(), cobs.encode(new Uint8Array(100_000)), "the frame of what was taken");
   encoder.close();
   encoder.close();
   await throws(() => encoder.push(bytes(1)), (error) => /closed/.test(error.message), "a push after close");

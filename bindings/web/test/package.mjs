@@ -172,6 +172,24 @@ try {
   await check("jcobs/serialport is imported and required", () => {
     for (const name of ["serialport.mjs", "serialport.cjs"]) equal(run("node", name), "2,7,1\n", `what ${name} prints`);
   });
+  await check("a transform that is destroyed gives its memory back", async () => {
+    await writeFile(join(folder, "destroyed.mjs"), `import { once } from "node:events";
+      import { memoryOf } from ${JSON.stringify(new URL("memory.mjs", import.meta.url).href)};
+      import { FrameDecoderTransform } from "jcobs/serialport";
+      await memoryOf(async (pages) => {
+        const use = async () => {
+          const transform = new FrameDecoderTransform({ maxLength: 1 << 20 });
+          transform.write(Uint8Array.of(2, 7, 0));
+          await once(transform, "data");
+          await once(transform.destroy(), "close");
+        };
+        await use();
+        const before = pages();
+        for (let i = 0; i < 20; i++) await use();
+        console.log(pages() - before);
+      });`);
+    equal(run("node", "destroyed.mjs"), "0\n", "how many pages of memory it takes");
+  });
   if (has("esbuild")) {
     const required = "required.cjs";
     for (const [platform, format, source] of [["browser", "esm", "later.js"], ["browser", "iife", "later.js"], ["neutral", "esm", "later.js"], ["node", "esm", "later.js"], ["node", "cjs", "later.js"], ["node", "cjs", required], ["browser", "iife", required], ["node", "esm", "auto.mjs"], ["browser", "esm", "auto.mjs"], ["node", "cjs", "auto.mjs"], ["node", "cjs", "auto.cjs"], ["node", "esm", "serialport.mjs"], ["node", "cjs", "serialport.cjs"]]) {
