@@ -118,6 +118,10 @@ try {
     await writeFile(join(folder, "autos.mjs"), 'import { encode } from "jcobs/auto";\nimport * as jcobs from "jcobs";\nconsole.log(encode === jcobs.encode, jcobs.encode(Uint8Array.of(0)).join());\n');
     equal(run("node", "autos.mjs"), "true 1,1\n", "what it prints");
   });
+  await check("jcobs/external, the name of a form with its file beside it, is jcobs by now", async () => {
+    await writeFile(join(folder, "external.mjs"), first.replace('"jcobs"', '"jcobs/external"'));
+    equal(run("node", "external.mjs"), SAID, "what it prints");
+  });
   await check("a program of CommonJS has frames without a promise", async () => {
     await writeFile(join(folder, "sync.cjs"), first.replace(/^import (.*) from "jcobs";/, 'const $1 = require("jcobs");').replace(/load\b/, "loadSync").replace("load().then(() => {\n", "loadSync();\n").replace(/\}\);\n$/, ""));
     equal(run("node", "sync.cjs"), SAID, "what it prints");
@@ -158,7 +162,7 @@ try {
   if (has("tsc")) {
     await check("the examples compile in strict TypeScript", () =>
       run("tsc", "--noEmit", "--strict", "--allowJs", "--checkJs", "--target", "es2022", "--module", "node16", "--moduleResolution", "node16", "--lib", "es2022,dom", "first.js", "serial.js"));
-    await writeFile(join(folder, "paths.ts"), 'import { decode } from "jcobs";\nimport { encode } from "jcobs/auto";\nimport { FrameDecoderTransform } from "jcobs/serialport";\nexport const use = (bytes: Uint8Array): Uint8Array => decode(encode(bytes));\nexport type Kept = FrameDecoderTransform["skipped"];\nexport const none: Kept = 0;\n');
+    await writeFile(join(folder, "paths.ts"), 'import { decode } from "jcobs";\nimport { encode } from "jcobs/auto";\nimport { FrameDecoderTransform } from "jcobs/serialport";\nexport { load } from "jcobs/external";\nexport const use = (bytes: Uint8Array): Uint8Array => decode(encode(bytes));\nexport type Kept = FrameDecoderTransform["skipped"];\nexport const none: Kept = 0;\n');
     await mkdir(join(folder, "node_modules/@types/node"), { recursive: true }); // what of Node's types these files use
     await writeFile(join(folder, "node_modules/@types/node/index.d.ts"), 'declare module "node:stream" { export class Transform { constructor(options?: object); } }\n');
     for (const [resolution, module] of [["node", "es2022"], ["node16", "node16"], ["nodenext", "nodenext"]]) {
