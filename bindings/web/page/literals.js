@@ -6,17 +6,21 @@ import { choice } from "./readings.js";
 import { ESCAPED, Unreadable, demandOneReading, unescaped } from "./strings.js";
 import { typesIn, wideFault } from "./types.js";
 
-const LONGEST = 1 << 20; // of a value that is repeated
-const DEEPEST = 16;      // brackets in brackets
+const LONGEST = 1 << 20;   // of a value that is repeated
+const DEEPEST = 16;        // brackets in brackets
+const LONGEST_FRONT = 500; // letters of a declaration that are looked at
 const ENDED = " with a final 00";
 const NONE = "This is no list of bytes, no string, and no call that gives bytes.";
 const COMMENT = /("(?:\\[\s\S]|[^"\\])*"|'(?:\\[\s\S]|[^'\\])*')|\/\*[\s\S]*?\*\/|\/\/[^\n]*|#[^\n]*/g; // or a string
 
-// What each place of the text may hold, with the space after it. BEFORE is what may be before a bracket, and the bracket:
-// names of types and calls, type arguments, a length; or a type of C in round brackets.
+// What each place of the text may hold, with the space after it. No pattern matches a text in more than one way, so none is slow.
 const SPACE = /\s*/y;
-const FRONT = /([\w\s$.,:;&*<>]*(?:\[[\w;\s&[\]]*\][\w\s$.,:;&*<>]*)*)=(?!=)\s*/y;
-const BEFORE = /(\([\w\s]+\[\d*\]\s*\)\s*|&*(?:(?:\[\d*\]\s*)?(?:[A-Za-z_$][\w.]*(?:::\w+)*!?\s*)+(?:<[\w,<>*&:\s]*>\s*\w*\s*)?(?:\[\d*\]\s*|\(\d*\)\s*)?)?)([[({])\s*/y;
+const FRONT = /([\w\s$.,:;&*<>[\]]*)=(?!=)\s*/y; // a declaration, up to its “=”
+const NAME = String.raw`[A-Za-z_$][\w.]*(?:::\w+)*!?`; // Uint8Array.of, std::vector, vec!
+const OF = String.raw`(?:<[\w,<>*&:\s]*>\s*(?:\w+\s*)?)?`; // <uint8_t, 2> f
+const SIZE = String.raw`(?:\[\d*\]\s*|\(\d*\)\s*)?`; // [2], or (2) as Node prints it
+const TYPE = String.raw`\([\w\s]+\[\d*\]\s*\)\s*`; // (uint8_t[])
+const BEFORE = new RegExp(String.raw`(${TYPE}|&*(?:(?:\[\d*\]\s*)?${NAME}(?:\s+${NAME})*\s*${OF}${SIZE})?)([[({])\s*`, "y"); // a bracket, and what is before it
 const CAST = /\((\w+(?:\s+\w+)*)\)\s*(?=[-\d'"(])/y;
 const NUMBER = /(-?)(?:0x([0-9a-f][0-9a-f_]*)|0b([01][01_]*)|(\d[\d_]*))(?:_?(?:[ui]8|ul{0,2}|ll?))?(?![\w.])\s*/iy;
 const SIGN = /'(?:\\[\s\S]|[^'\\])+'\s*/y; // after a number that gdb prints
@@ -59,9 +63,11 @@ class Reader {
   #kinds = new Set();
   #strings = [];
   #isJoined = false; // whether there are strings in a row
+  #isOfGdb;          // which prints strings that repeat, with commas between them
 
   constructor(text) {
     this.#text = text.replaceAll("'static", "").replace(COMMENT, (all, string) => string ?? " ");
+    this.#isOfGdb = this.#text.includes("<repeats ");
     this.#take(SPACE);
   }
 
@@ -85,7 +91,7 @@ class Reader {
 
   whole(wanted) {
     if (/\.\.\.|…/.test(this.#text.replace(/"[^"]*"|'[^']*'/g, ""))) throw new Unreadable("Bytes are left out at the “...”.");
-    const [, front = ""] = this.#take(FRONT);
+    const front = (this.#take(FRONT)[1] ?? "").slice(-LONGEST_FRONT);
     this.#demandBytes(typesIn(front));
     if (this.#stringsHere()) {
       if (front === "") demandCharacters(this.#strings);
@@ -120,7 +126,7 @@ class Reader {
       this.#kinds.add(content.includes("\\") ? "escapes" : "string");
       for (const byte of unescaped(content, { isBytes: /b/i.test(prefix), isRaw: /r/i.test(prefix) })) this.#bytes.push(byte);
       this.#repeated(from);
-      if (this.#depth === 0 && this.#text.includes("<repeats ")) this.#take(COMMA);
+      if (this.#depth === 0 && this.#isOfGdb) this.#take(COMMA);
     }
     this.#isJoined ||= this.#strings.length > before + 1;
     return this.#strings.length > before;

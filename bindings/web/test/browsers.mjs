@@ -37,7 +37,7 @@ const MODULE = [[85, 78, 15], [75, 79, 15]];
 /** Used only if it is there. */
 const GUARDED = "FinalizationRegistry getBuiltinModule unregister register dispose requestPort getPorts getInfo setSignals";
 
-const COMMON = `Array ArrayBuffer Blob Boolean CustomEvent DataView Date Error Float64Array Infinity Int8Array JSON Map Math NaN Number Object Option Promise RangeError
+const COMMON = `Array ArrayBuffer Blob Boolean CustomEvent DataView Date Error Float64Array Infinity Int8Array JSON Map Math NaN Number Object Option Promise RangeError RegExp
   Response Set String Symbol TextDecoder TextEncoder TypeError URL URLSearchParams Uint32Array Uint8Array WebAssembly Instance Module addEventListener dispatchEvent atob fetch
   parseInt setInterval clearInterval setTimeout clearTimeout requestAnimationFrame getSelection
   abort abs add after append arrayBuffer assign cancel catch ceil charCodeAt checkValidity clear click closest codePointAt compile contains createElement createObjectURL decode
