@@ -334,6 +334,7 @@ await check("first: an embedded page posts its height, so that nothing of it is 
     await page.close();
   } finally {
     own.close();
+    own.closeAllConnections();
     await rm(folder, { recursive: true });
   }
 });

@@ -240,6 +240,7 @@ await check("page: opened as a file it says why nothing is there, and so it does
     await part.close();
   } finally {
     own.close();
+    own.closeAllConnections();
     await rm(folder, { recursive: true });
   }
 });
