@@ -3,6 +3,7 @@
 #   - the vectors of conformance/ and the tests of jcobs.js, in Node;
 #   - the package: installed, required, bundled by esbuild and rollup, and the examples of its README;
 #   - the types in jcobs.d.ts, by the TypeScript compiler;
+#   - the speed of decode, which is at least that of plain JavaScript;
 #   - the vectors and the page in Chromium, by keys, clicks and pastes; both in a WebKit engine too;
 #   - the pictures of docs/FORMAT.md and the first drawing of the page, drawn anew and compared.
 # A part whose tool is missing is skipped, and the tool named. The last line counts; the status is 0 only if nothing failed.
@@ -58,6 +59,7 @@ if has "$node" nodejs "Node"; then
         echo "Node $("$node" --version), without a flag"
         begin module "$node" --expose-gc "$web/test/module.mjs" "$web/cobs.wasm"
         begin package "$node" "$web/test/package.mjs"
+        begin decode-speed "$node" "$web/test/decode-speed.mjs"
         begin vectors "$node" "$web/test/vectors.mjs" "$web/cobs.wasm" "$root/conformance"
         if has "$chromium" chromium "the page"; then
             for files in first,message canvas,stream line,whole,pictures; do
