@@ -32,6 +32,19 @@ steps_on() { # PROCESSOR PREFIX C-LIBRARY DEPTH
     fi
 }
 
+# Each theorem in check/coq is one that Headline.v prints, and has no axiom below it.
+theorems() (
+    mkdir "$work/coq" && cp "$root"/check/coq/*.v "$work/coq" && cd "$work/coq" || exit 1
+    for file in Definitions Frames Coders; do
+        coqc -q -Q . Check $file.v || exit 1
+    done
+    coqc -q -Q . Check Headline.v >closed || exit 1
+    sed -n 's/^Theorem \([a-z_]*\) .*/\1/p' ./*.v | sort >stated
+    sed -n 's/^Print Assumptions \([a-z_]*\)\.$/\1/p' Headline.v | sort | diff stated - || exit 1
+    grep -v '^Closed under the global context$' closed && exit 1
+    [ "$(wc -l <closed)" -eq "$(wc -l <stated)" ] && echo "= $(wc -l <stated) theorems without an axiom"
+)
+
 cc=${CC:-cc}
 library=$c/source/jcobs.c
 if has "$cc" gcc 'steps.c'; then
@@ -44,6 +57,12 @@ if has "$cc" gcc 'steps.c'; then
     else
         skip 'steps of libjcobs.a' "it isn't built for $machine"
     fi
+fi
+if has python3 python3 'the definitions in Coq'; then
+    part 'the definitions in Coq are those of specs/' "$root/check/coq/compare.py"
+fi
+if has coqc coq 'the theorems in Coq'; then
+    part 'the theorems in Coq' theorems
 fi
 library=$c/source/jcobs.c
 steps_on 's390x (64 bits, big-endian)' s390x-linux-gnu libc6-dev-s390x-cross 3
