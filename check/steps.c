@@ -40,6 +40,7 @@
 typedef unsigned char u8;
 
 #define SIZE 2048 /* more than the longest string or frame */
+#define ROOMS 14  /* the most lengths of a buffer that are tried for a frame */
 #define FILL 0xEE /* the bytes of a buffer before a call; no string has this byte */
 
 static unsigned long long cases;
@@ -723,20 +724,34 @@ static size_t encoded(const u8 *message, size_t len, u8 *to, reading *r)
     return answer.length;
 }
 
-/* The string as a message, in one call. Its encoded frame, of this length, is in `frame`. */
-static void check_message(size_t len, size_t length, u8 sentinel)
+/* Lengths of buffers for a frame of this length: about that, and for strings of up to four tokens also shorter ones. */
+static size_t rooms_for(size_t length, int shorter, size_t *rooms)
 {
-    size_t n, more;
+    const size_t wanted[ROOMS] = {length, length - 1, length + 1, length - 2, length / 2, 0,   1,
+                                  2,      253,        254,        255,        256,        257, 258};
+    size_t count = 0, i;
+
+    for (i = 0; i < (shorter ? ROOMS : 3); i++) {
+        if (wanted[i] <= length + 1) /* length - 2 may have wrapped round */
+            rooms[count++] = wanted[i];
+    }
+    return count;
+}
+
+/* The string as a message, in one call. Its encoded frame, of this length, is in `frame`. */
+static void check_message(size_t len, size_t length, int shorter, u8 sentinel)
+{
+    size_t rooms[ROOMS], count = rooms_for(length, shorter, rooms), overhead = JCOBS_MAX_OVERHEAD(len), k, n;
     u8 *source, *buffer;
     jcobs_answer answer;
     int with, terminated;
 
-    for (more = 0; more < 4; more++)
+    for (k = 0; k < count; k++)
         for (with = 0; with < 2; with++)
             for (terminated = 0; terminated < 2; terminated++, cases++) {
                 size_t wanted = length + (terminated ? 1 : 0);
 
-                n = length + more - 1; /* one byte too short, .. */
+                n = rooms[k];
                 source = copied(block_b, string, len);
                 buffer = filled(block_a, n);
                 if (with)
@@ -758,18 +773,17 @@ static void check_message(size_t len, size_t length, u8 sentinel)
             }
 
     /* In place: the message is after the room for the longest frame's other bytes. */
-    for (more = 0; more < 4; more++, cases++) {
-        size_t overhead = JCOBS_MAX_OVERHEAD(len), in_buffer;
-
-        n = overhead + len + more - 1;
+    count = rooms_for(overhead + len, shorter, rooms);
+    for (k = 0; k < count; k++, cases++) {
+        n = rooms[k];
         buffer = filled(block_a, n);
-        in_buffer = min_of(len, n - min_of(n, overhead));
-        memcpy(buffer + n - min_of(n, in_buffer + (more ? more - 1 : 0)), string, in_buffer);
+        if (n >= overhead + len)
+            memcpy(buffer + overhead, string, len);
         memcpy(again, buffer, n);
         answer = jcobs_encode_in_place(buffer, n, len);
-        if (more == 0) {
+        if (n < overhead + len) {
             CHECK(answer.status == JCOBS_TOO_SMALL && answer.consumed == 0 && answer.length == 0);
-            CHECK(memcmp(buffer, again, n) == 0 && untouched(buffer, n, n));
+            CHECK(untouched(buffer, 0, n));
             continue;
         }
         CHECK(answer.status == JCOBS_OK && answer.consumed == len && answer.length == length);
@@ -799,18 +813,19 @@ static int has_open_frame(const u8 *buffer, size_t n, const u8 *expected, size_t
 }
 
 /* The string as a message, in two pushes. Its encoded frame, of this length, is in `frame`. */
-static void check_pushes(size_t len, size_t cut, size_t length, const encoder_state *after, u8 sentinel)
+static void check_pushes(size_t len, size_t cut, size_t length, const encoder_state *after, int shorter, u8 sentinel)
 {
     static u8 first_frame[SIZE];
     const encoder_state whole = *after, start = {0, 0, 0};
     reading r;
-    size_t first_length = encoded(string, cut, first_frame, &r), less;
+    size_t first_length = encoded(string, cut, first_frame, &r), rooms[ROOMS],
+           count = rooms_for(length, shorter, rooms), k;
     const encoder_state first = state_after(first_frame, first_length, &r);
     jcobs_encoder encoder;
     jcobs_answer answer;
 
-    for (less = 0; less < 2; less++, cases++) { /* with the room that is needed, and with one byte less */
-        size_t n = length - less;
+    for (k = 0; k < count; k++, cases++) {
+        size_t n = rooms[k];
         u8 *buffer = filled(block_a, n), *source = copied(block_b, string, cut);
 
         jcobs_encoder_reset(&encoder);
@@ -824,7 +839,7 @@ static void check_pushes(size_t len, size_t cut, size_t length, const encoder_st
         CHECK(is_encoder(&encoder, &first) && has_open_frame(buffer, n, first_frame, first_length, &first));
         source = copied(block_b, string + cut, len - cut);
         answer = jcobs_encoder_push(&encoder, buffer, n, source, len - cut);
-        if (less) {
+        if (length > n) {
             CHECK(answer.status == JCOBS_TOO_SMALL && answer.consumed == 0 && answer.length == 0);
             CHECK(is_encoder(&encoder, &first) && has_open_frame(buffer, n, first_frame, first_length, &first));
             answer = jcobs_encoder_finish(&encoder, buffer, n); /* the shorter message */
@@ -834,8 +849,11 @@ static void check_pushes(size_t len, size_t cut, size_t length, const encoder_st
         }
         CHECK(answer.status == JCOBS_OK && answer.consumed == len - cut && answer.length == length);
         CHECK(is_encoder(&encoder, &whole) && has_open_frame(buffer, n, frame, length, &whole));
-        answer = jcobs_encoder_finish_terminated(&encoder, buffer, n); /* one byte too few: nothing changes */
-        CHECK(answer.status == JCOBS_TOO_SMALL && is_encoder(&encoder, &whole));
+        if (length == n) { /* one byte too few for a terminator: nothing changes */
+            answer = jcobs_encoder_finish_terminated(&encoder, buffer, n);
+            CHECK(answer.status == JCOBS_TOO_SMALL && answer.consumed == 0 && answer.length == 0);
+            CHECK(is_encoder(&encoder, &whole) && has_open_frame(buffer, n, frame, length, &whole));
+        }
         answer = jcobs_encoder_finish_with_sentinel(&encoder, buffer, n, sentinel);
         CHECK(answer.status == JCOBS_OK && answer.consumed == 0 && answer.length == length);
         CHECK(is_encoder(&encoder, &start) && untouched(buffer, length, n));
@@ -924,9 +942,9 @@ static void check_string(unsigned long number, unsigned depth)
     len = put_string(number, depth, 0);
     length = encoded(string, len, frame, &whole);
     after = state_after(frame, length, &whole);
-    check_message(len, length, sentinel);
+    check_message(len, length, depth <= 4, sentinel);
     for (i = 0; i < cut_count; i++)
-        check_pushes(len, cuts[i], length, &after, sentinel);
+        check_pushes(len, cuts[i], length, &after, depth <= 4, sentinel);
 }
 
 /* The lengths that no frame has. */

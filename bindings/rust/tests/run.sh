@@ -117,6 +117,7 @@ if grep -q -s -w ssse3 /proc/cpuinfo && grep -q -w sse4_2 /proc/cpuinfo; then
 else
     skip 'with shuffles of bytes' 'needs a processor of x86-64-v2'
 fi
+part 'every step, and every string of six tokens' cargo test --release --test steps
 part 'without a feature' units --no-default-features
 part 'byte by byte' units --features small
 part 'byte by byte, without an allocator' units --no-default-features --features small
