@@ -19,7 +19,8 @@
  * Part 3 takes every string of up to DEPTH tokens. A token is one of the bytes 0, 1, 2, 3 and 255, a full block, or a block
  * with one byte fewer. Each string is decoded as a stream and as a source, and encoded as a message, by each call: with several
  * lengths of the buffer, for several sentinels, and in two pushes. After the first push the state must be the one that the
- * format gives for these bytes, however they came; so pushes of any other number of pieces end in the same states.
+ * format gives for these bytes, however they came; so pushes of any other number of pieces end in the same states. Then it
+ * takes two blocks of each pair of lengths, as a library may have ways of its own for some lengths.
  *
  * Buffers end where their memory ends, so that a compiler's checks for accesses (-fsanitize=address, with -DMARGIN=0) see
  * each byte that is touched after them. Without these checks, only writes are noticed.
@@ -908,13 +909,10 @@ static size_t put_string(unsigned long number, unsigned depth, int of_frame)
     return len;
 }
 
-static void check_string(unsigned long number, unsigned depth)
+/* Every call with the string, which is a stream of pieces, as in a frame or in several. */
+static void check_frames(size_t len, u8 sentinel)
 {
-    static const u8 sentinels[] = {1, 2, 0x5A, 255};
-    const u8 sentinel = sentinels[number % 4];
-    size_t len = put_string(number, depth, 1), longest = 0, length, i, start, rooms[5];
-    encoder_state after;
-    reading whole;
+    size_t longest = 0, i, start, rooms[5];
     unsigned r;
 
     /* Rooms about the longest message of the stream, and fewer. */
@@ -935,16 +933,54 @@ static void check_string(unsigned long number, unsigned depth)
         check_source(len, rooms[r], sentinel);
         for (i = 0; i < cut_count; i++)
             check_stream(len, rooms[r], cuts[i], 0);
-        check_stream(len, rooms[r], cuts[number % cut_count], sentinel);
+        check_stream(len, rooms[r], cuts[len % cut_count], sentinel);
     }
     check_in_place(len, sentinel);
+}
 
-    len = put_string(number, depth, 0);
-    length = encoded(string, len, frame, &whole);
-    after = state_after(frame, length, &whole);
-    check_message(len, length, depth <= 4, sentinel);
+/* Every call with the string as a message. */
+static void check_messages(size_t len, int shorter, u8 sentinel)
+{
+    reading whole;
+    size_t length = encoded(string, len, frame, &whole), i;
+    encoder_state after = state_after(frame, length, &whole);
+
+    check_message(len, length, shorter, sentinel);
     for (i = 0; i < cut_count; i++)
-        check_pushes(len, cuts[i], length, &after, depth <= 4, sentinel);
+        check_pushes(len, cuts[i], length, &after, shorter, sentinel);
+}
+
+static const u8 sentinels[] = {1, 2, 0x5A, 255};
+
+static void check_string(unsigned long number, unsigned depth)
+{
+    const u8 sentinel = sentinels[number % 4];
+
+    check_frames(put_string(number, depth, 1), sentinel);
+    check_messages(put_string(number, depth, 0), depth <= 4, sentinel);
+}
+
+/* Two blocks of each pair of lengths: whole, without the last byte, and with a zero after them; and their message. */
+static void check_pairs(void)
+{
+    unsigned pair[3] = {0, 0, 0}, step = DEPTH < 6 ? 7 : 1;
+
+    subject = string;
+    for (pair[0] = 1; pair[0] < 256; pair[0]++)
+        for (pair[1] = 1; pair[1] < 256; pair[1] += step) {
+            const u8 sentinel = sentinels[(pair[0] + pair[1]) % 4];
+            size_t len = put_blocks(string, pair), longer = len + 1;
+            reading r = read_blocks(string, len, text);
+
+            cuts[0] = pair[0];
+            cut_count = 1;
+            string[len] = 0;
+            for (subject_len = len - 1; subject_len <= longer; subject_len++)
+                check_frames(subject_len, sentinel);
+            subject_len = r.length;
+            memcpy(string, text, r.length);
+            check_messages(r.length, 0, sentinel);
+        }
 }
 
 /* The lengths that no frame has. */
@@ -986,6 +1022,9 @@ int main(void)
         for (number = 0; number < count; number++)
             check_string(number, depth);
     printf("strings of up to %d tokens: %llu cases\n", DEPTH, cases - before);
+    before = cases;
+    check_pairs();
+    printf("pairs of blocks: %llu cases\n", cases - before);
     free(block_a);
     free(block_b);
     return 0;

@@ -338,7 +338,7 @@ fn decoder_steps() {
         let room = read(&front).output.len();
         for byte in 0..=255 {
             let stream = [&front[..], &[byte, 0, 2, 9, 0]].concat();
-            for room in room.saturating_sub(1)..=room + 2 {
+            for room in room.saturating_sub(1)..=room + 1 {
                 check_stream(&stream[..=front.len()], room, front.len());
             }
             if byte < 3 {
@@ -397,35 +397,65 @@ fn string(number: u32, depth: u32, of_frame: bool) -> (Vec<u8>, Vec<usize>) {
     (string, cuts)
 }
 
+/// Every call with this source or stream, with several lengths of the buffer.
+fn check_frames(source: &[u8], cuts: &[usize], sentinel: u8) {
+    let lengths = source
+        .split(|&byte| byte == 0)
+        .map(|piece| read(piece).output.len());
+    let longest = lengths.max().unwrap_or(0);
+    let mut rooms = vec![
+        longest + 3,
+        longest,
+        longest.saturating_sub(1),
+        longest / 2,
+        0,
+    ];
+    rooms.dedup();
+    for room in rooms {
+        check_source(source, room, sentinel);
+        for &cut in cuts {
+            check_stream(source, room, cut);
+        }
+    }
+}
+
+/// Every call with this message.
+fn check_messages(message: &[u8], cuts: &[usize], sentinel: u8) {
+    check_message(message, sentinel);
+    for &cut in cuts {
+        check_pushes(message, cut);
+    }
+}
+
 #[test]
 fn strings() {
     for depth in 0..=DEPTH {
         for number in 0..7_u32.pow(depth) {
             let sentinel = SENTINELS[number as usize % SENTINELS.len()];
             let (source, cuts) = string(number, depth, true);
-            let lengths = source
-                .split(|&byte| byte == 0)
-                .map(|piece| read(piece).output.len());
-            let longest = lengths.max().unwrap_or(0);
-            let mut rooms = vec![
-                longest + 3,
-                longest,
-                longest.saturating_sub(1),
-                longest / 2,
-                0,
-            ];
-            rooms.dedup();
-            for room in rooms {
-                check_source(&source, room, sentinel);
-                for &cut in &cuts {
-                    check_stream(&source, room, cut);
-                }
-            }
+            check_frames(&source, &cuts, sentinel);
             let (message, cuts) = string(number, depth, false);
-            check_message(&message, sentinel);
-            for cut in cuts {
-                check_pushes(&message, cut);
-            }
+            check_messages(&message, &cuts, sentinel);
+        }
+    }
+}
+
+/// Two blocks of each pair of lengths: whole, without the last byte, and with a zero after them; and their message. The
+/// crate has ways of its own for some lengths.
+#[test]
+fn pairs_of_blocks() {
+    let step = if cfg!(debug_assertions) { 23 } else { 1 };
+    for first in 0..255 {
+        for second in (0..255).step_by(step) {
+            let sentinel = SENTINELS[(first + second) % SENTINELS.len()];
+            let cut = [first + 1];
+            let mut source = [block(&run(first)), block(&run(second))].concat();
+            let message = read(&source).output;
+            check_frames(&source, &cut, sentinel);
+            check_frames(&source[..source.len() - 1], &cut, sentinel);
+            source.push(0);
+            check_frames(&source, &cut, sentinel);
+            check_messages(&message, &[first], sentinel);
         }
     }
 }
