@@ -4,17 +4,18 @@
  *
  * Any compiler for C99 will do. Link it with a built library instead of jcobs.c, and it checks that library.
  *
- * This file shares no code with the library. What it compares with stands in three short functions, which a reader can
- * check against a description of COBS:
+ * This file shares no code with the library. Four short functions say what is right. A reader can check them against a
+ * description of COBS:
  *
- *   decode_byte    what a decoder does with one byte
- *   encode_byte    what an encoder does with one byte, and encode_end at the end of a message
- *   read_blocks    the format itself: bytes are read as blocks, without a machine
+ *   decode_byte    the step of a decoder for one byte
+ *   encode_byte    the step of an encoder for one byte
+ *   encode_end     the end of a message
+ *   read_blocks    the format itself: it reads bytes as blocks, without a machine
  *
- * Part 1 calls the decoder with every byte in every state that a stream can leave, as far as the table distinguishes them:
- * bytes missing in the block, the joint, too long, and a buffer with room for 0 to 4 bytes at each place in it. Part 2 does
- * the same with the encoder. Both also try states that no stream leaves: there the header promises only that nothing
- * outside the buffer changes and that the counts are within it.
+ * Part 1 calls the decoder with every byte, for each number of bytes missing in a block, each kind of block, and each place
+ * in buffers of 0 to 4 bytes. Part 2 calls the encoder with every byte, for each length of the open block. Both also try
+ * states that no call leaves. For these the header promises only that nothing outside the buffer changes, and that the
+ * counts are within it.
  *
  * Part 3 takes every string of up to DEPTH tokens. A token is one of the bytes 0, 1, 2, 3 and 255, a full block, or a block
  * with one byte fewer. Each string is decoded as a stream and as a source, and encoded as a message, by each call: with several
@@ -115,7 +116,7 @@ static u8 *block_a, *block_b;
 
 /* Part 1: the decoder. */
 
-/* What a decoder knows between two bytes of a stream. */
+/* The state of a decoder between two bytes of a stream. */
 typedef struct decoder_state {
     size_t written;   /* bytes of the open message in the buffer */
     unsigned lacking; /* bytes missing in the open block */
@@ -125,7 +126,7 @@ typedef struct decoder_state {
 
 static const decoder_state idle = {0, 0, 0, 0};
 
-/* What a byte changes outside the state. */
+/* The effects of a byte outside the state. */
 typedef struct decoder_effect {
     jcobs_status status;
     size_t length;
@@ -133,7 +134,7 @@ typedef struct decoder_effect {
     u8 put;
 } decoder_effect;
 
-/* What a decoder does with one byte, for a buffer of n bytes. */
+/* The step of a decoder for one byte, with a buffer of n bytes. */
 static decoder_effect decode_byte(decoder_state *state, size_t n, u8 byte)
 {
     decoder_effect effect = {JCOBS_MORE, 0, 0, 0};
@@ -277,14 +278,14 @@ static void corrupt_decoders(void)
 
 /* Part 2: the encoder. */
 
-/* What an encoder knows between two bytes of a message. The blocks before the open one are written. */
+/* The state of an encoder between two bytes of a message. The blocks before the open one are written. */
 typedef struct encoder_state {
     size_t index;   /* where the code of the open block belongs */
     unsigned taken; /* bytes that the open block has: they are written after that place */
     int full;       /* whether the last block that was written is full, and nothing has come after it */
 } encoder_state;
 
-/* What a byte, or the end, changes outside the state. */
+/* The effects of a byte, or of the end, outside the state. */
 typedef struct encoder_effect {
     size_t length; /* of the frame, if the message ends here: nothing is done if that doesn't fit */
     int puts;      /* whether the byte is written */
@@ -300,7 +301,7 @@ static size_t frame_length(const encoder_state *state)
     return state->full ? state->index : state->index + 1 + state->taken;
 }
 
-/* What an encoder does with one byte. */
+/* The step of an encoder for one byte. */
 static encoder_effect encode_byte(encoder_state *state, u8 byte)
 {
     encoder_effect effect = {0, 0, 0, 0, 0, 0};
@@ -326,7 +327,7 @@ static encoder_effect encode_byte(encoder_state *state, u8 byte)
     return effect;
 }
 
-/* What it does at the end of a message. */
+/* The end of a message. */
 static encoder_effect encode_end(encoder_state *state, int terminates)
 {
     encoder_effect effect = {0, 0, 0, 0, 0, 0};
@@ -512,7 +513,7 @@ static void corrupt_encoders(void)
 
 /* Part 3: the format. */
 
-/* How bytes without a zero read. */
+/* Bytes without a zero, read as blocks. */
 typedef struct reading {
     size_t length; /* of what they decode to */
     size_t kept;   /* of what the whole blocks decode to, with the zero after them if they aren't full */
