@@ -362,7 +362,7 @@ fn encoder_steps() {
             let cut = message.len();
             message.push(0);
             for byte in 0..=255 {
-                if byte < 3 || byte > 253 || [0, 1, 2, 127, 252, 253].contains(&taken) {
+                if !(3..=253).contains(&byte) || [0, 1, 2, 127, 252, 253].contains(&taken) {
                     message[cut] = byte;
                     check_pushes(&message, cut);
                 }
