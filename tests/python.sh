@@ -56,6 +56,12 @@ unset PYTHONPATH PYTHONHOME JCOBS_BACKEND JCOBS_LIB_DIR
 environment() { # FOLDER
     "$python" -m venv --system-site-packages "$1"
 }
+interpreter() { # MINOR: the CPython of that version, if the machine has one, in the PATH or by pyenv
+    for candidate in "python3.$1" "${PYENV_ROOT:-$HOME/.pyenv}"/versions/"3.$1".*/bin/python3; do
+        "$candidate" -c '' 2>/dev/null && command -v "$candidate" && return
+    done
+    return 1
+}
 in_work() { # COMMAND..
     (cd "$work" && "$@")
 }
@@ -179,7 +185,7 @@ if has_module "$python" build; then
     part "the wheel is unpacked" "$python" -m zipfile -e "$wheel" "$work/wheel"
     others=0
     for minor in 9 10 11 12 13 14 15; do
-        other=$(command -v "python3.$minor") && "$other" -c '' 2>/dev/null || continue
+        other=$(interpreter "$minor") || continue
         others=$((others + 1))
         for backend in prebuilt python; do
             part "the wheel on $("$other" --version), $backend" \

@@ -1,5 +1,6 @@
 """What any CPython from 3.9 on is to do, without pytest: python smoke.py"""
 
+import concurrent.futures
 import threading
 from array import array
 
@@ -38,17 +39,37 @@ INTERPRETER = """if True:
     import jcobs
     assert jcobs.Decoder().feed(b"\\x03hi\\0") == [jcobs.Message(b"hi")]
 """
+# Each call counts references to objects that all interpreters share: bytes of length 1, and None.
+AT_ONCE = """if True:
+    import jcobs
+    decoder = jcobs.Decoder(10)
+    for _ in range(300_000):
+        jcobs.encode(b"a")
+        decoder.reset()
+"""
 
 
-def check_subinterpreters():
+def run_interpreter(program):
     try:
         import _interpreters as interpreters
     except ImportError:
         import _xxsubinterpreters as interpreters
+    interpreter = interpreters.create()
+    failed = interpreters.run_string(interpreter, program)
+    interpreters.destroy(interpreter)
+    if failed is not None:
+        raise AssertionError(failed)
+
+
+def check_subinterpreters():
     for _ in range(3):
-        interpreter = interpreters.create()
-        assert interpreters.run_string(interpreter, INTERPRETER) is None
-        interpreters.destroy(interpreter)
+        run_interpreter(INTERPRETER)
+
+
+def check_interpreters_at_once():
+    """From 3.12 on each interpreter has a GIL of its own: if they shared a count, this would end by a signal."""
+    with concurrent.futures.ThreadPoolExecutor(2) as pool:
+        list(pool.map(run_interpreter, [AT_ONCE] * 2))
 
 
 threads = [threading.Thread(target=check, args=(sentinel,)) for sentinel in range(4)]
@@ -58,3 +79,4 @@ for thread in threads:
     thread.join()
 check(0)
 check_subinterpreters()
+check_interpreters_at_once()

@@ -13,6 +13,17 @@
 
 #include "jcobs.h"
 
+/* Reference counts are changed by calls. Headers before 3.12 do it inline, and know nothing of the objects that never
+ * die, which 3.12 shares between interpreters: with a GIL for each interpreter two of them would count at once. */
+#undef Py_INCREF
+#undef Py_DECREF
+#undef Py_XDECREF
+#undef Py_RETURN_NONE
+#define Py_INCREF(object) Py_IncRef((PyObject *)(object))
+#define Py_DECREF(object) Py_DecRef((PyObject *)(object))
+#define Py_XDECREF(object) Py_DecRef((PyObject *)(object)) /* which takes NULL */
+#define Py_RETURN_NONE return Py_IncRef(Py_None), Py_None
+
 /* From this length on a call releases the GIL. A shorter one takes a few microseconds. */
 #define LONG 32768
 
