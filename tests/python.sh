@@ -96,13 +96,17 @@ part "an empty environment" environment "$work/first"
 here=$work/first/bin/python
 part "pip install" installs "$here" "$package"
 part "the first example" first_example "$here"
+part "its licences" test -f "$(echo "$work"/first/lib/python3*/site-packages/jcobs-*.dist-info/LICENSE-MIT)"
+first_is() { # BACKEND PYTHON
+    first_example "$2" && [ "$(in_work "$2" -m jcobs --version)" = "jcobs $(cat "$root/VERSION"), backend $1" ]
+}
 
-# Nothing but Python is in the PATH, so there is no compiler; and nothing that was built before.
-rm -rf "$package/build"
+# Nothing but Python is in the PATH, so there is no compiler. The extension that was built above is still in build/, and
+# must not be installed again.
 part "an environment without a compiler" environment "$work/second"
 plain=$work/second/bin/python
 part "pip install without a compiler" env "PATH=$work/second/bin" "$plain" -m pip install -q --no-build-isolation "$package"
-part "the first example in plain Python" first_example "$plain"
+part "the first example in plain Python" first_is python "$plain"
 (tests python "$plain" "$package/tests" >"$work/plain" 2>&1; echo $? >"$work/plain.status") &
 part "pytest with the extension" tests prebuilt "$here" "$package/tests"
 counts "$work/said"

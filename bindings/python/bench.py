@@ -101,8 +101,8 @@ def measured(program, length, at_random):
     chunk = (frame + b"\0") * 32
     count = max(10, 4_000_000 // (length + 400))
     rows = (
-        (jcobs.encode, lambda data: _plain.encode(data, 0, False), message, 1),
-        (jcobs.decode, lambda data: _plain.decode(data, 0, jcobs.DecodeError), frame, 1),
+        (jcobs.encode, _plain.encode, message, 1),
+        (jcobs.decode, _plain.decode, frame, 1),
         (jcobs.Decoder(length).feed, fed(_plain.Decoder(length, 0).feed), chunk, 32),
     )
     best = [[9e9] * 3 for _ in rows]

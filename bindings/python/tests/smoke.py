@@ -1,7 +1,9 @@
 """What any CPython from 3.9 on is to do, without pytest: python smoke.py"""
 
 import concurrent.futures
+import sys
 import threading
+import time
 from array import array
 
 import plain
@@ -33,6 +35,78 @@ def check(sentinel):
         pass
     else:
         raise AssertionError("it took an object that isn't contiguous")
+
+
+def check_threads_in_one_decoder():
+    """Two threads feed whole frames to one decoder: each gets its own message, or is refused."""
+    decoder, wrong, refused = jcobs.Decoder(5000), [], []
+    interval = sys.getswitchinterval()
+    sys.setswitchinterval(1e-6)
+    end = time.monotonic() + 2
+
+    def work(letter):
+        message = letter * 3000 + b"\0" + letter * 9
+        frame = jcobs.encode(message, terminated=True)
+        while time.monotonic() < end:
+            try:
+                found = decoder.feed(frame)
+            except RuntimeError:
+                refused.append(letter)
+            else:
+                if found != [jcobs.Message(message)]:
+                    wrong.append(found)
+
+    pair = [threading.Thread(target=work, args=(letter,)) for letter in (b"A", b"B")]
+    for thread in pair:
+        thread.start()
+    for thread in pair:
+        thread.join()
+    sys.setswitchinterval(interval)
+    assert not wrong, (len(wrong), wrong[0])
+
+
+def check_encoder_by_two_threads():
+    """Pieces that two threads feed are whole in the message, and none is counted that isn't there."""
+    interval = sys.getswitchinterval()
+    sys.setswitchinterval(1e-6)
+    end = time.monotonic() + 1
+    while time.monotonic() < end:
+        encoder, taken = jcobs.Encoder(100_000), []
+
+        def work(letter):
+            for _ in range(20):
+                try:
+                    encoder.feed(letter * 50)
+                    taken.append(letter)
+                except RuntimeError:
+                    pass
+
+        pair = [threading.Thread(target=work, args=(letter,)) for letter in (b"A", b"B")]
+        for thread in pair:
+            thread.start()
+        for thread in pair:
+            thread.join()
+        message = jcobs.decode(encoder.finish())
+        pieces = [message[at : at + 50] for at in range(0, len(message), 50)]
+        assert sorted(pieces) == sorted(letter * 50 for letter in taken)
+    sys.setswitchinterval(interval)
+
+
+class Own:
+    """From Python 3.12 on a class may have a method that gives its buffer; an error of its own isn't replaced."""
+
+    def __buffer__(self, flags):
+        raise TypeError("by the object")
+
+
+def check_errors_of_a_buffer():
+    wanted = "by the object" if sys.version_info >= (3, 12) else "data must be a bytes-like object, not Own"
+    try:
+        jcobs.encode(Own())
+    except TypeError as error:
+        assert str(error) == wanted, error
+    else:
+        raise AssertionError("it took an object without a buffer")
 
 
 INTERPRETER = """if True:
@@ -78,5 +152,8 @@ for thread in threads:
 for thread in threads:
     thread.join()
 check(0)
+check_threads_in_one_decoder()
+check_encoder_by_two_threads()
+check_errors_of_a_buffer()
 check_subinterpreters()
 check_interpreters_at_once()

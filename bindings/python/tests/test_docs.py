@@ -18,7 +18,14 @@ README = Path(__file__).resolve().parent.parent / "README.md"
 
 @pytest.mark.parametrize(
     "name, least",
-    [("jcobs", 4), ("jcobs._frames", 11), ("jcobs._streams", 13), ("jcobs._readers", 14), ("jcobs.compat", 5)],
+    [
+        ("jcobs", 4),
+        (jcobs.encode.__module__, 7),
+        ("jcobs._frames", 4),
+        ("jcobs._streams", 13),
+        ("jcobs._readers", 14),
+        ("jcobs.compat", 5),
+    ],
 )
 def test_docstrings(name, least):
     module = importlib.import_module(name)

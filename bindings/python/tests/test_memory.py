@@ -139,9 +139,9 @@ def test_a_million_calls_without_growth():
                     call(wrong)
                 except Exception:
                     pass
-            for words in (("text", 1), (view, 200)):
+            for words in ({"size": 1}, {"sentinel": -1}):
                 try:
-                    jcobs.encode_in_place(*words)
+                    jcobs.encode(view, **words)
                 except (TypeError, ValueError):
                     pass
             try:

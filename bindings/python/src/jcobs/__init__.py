@@ -16,6 +16,8 @@ b'\\x06hello\\x06world\\x00'
 mmap. Each function and method raises TypeError for other objects, and BufferError if the bytes aren't contiguous.
 """
 
+__version__ = "1.0.0"  # which the modules below compare with the extension's
+
 from jcobs._backend import backend
 from jcobs._frames import DecodeError, decode, encode, encode_in_place, frame_kind, max_length
 from jcobs._readers import AsyncFrameReader, FrameReader
@@ -38,4 +40,3 @@ __all__ = [
     "frame_kind",
     "max_length",
 ]
-__version__ = "1.0.0"
