@@ -24,6 +24,7 @@ README = Path(__file__).resolve().parent.parent / "README.md"
         ("jcobs._frames", 4),
         ("jcobs._streams", 13),
         ("jcobs._readers", 14),
+        ("jcobs._async", 3),
         ("jcobs.compat", 5),
     ],
 )

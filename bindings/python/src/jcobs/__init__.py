@@ -18,9 +18,10 @@ mmap. Each function and method raises TypeError for other objects, and BufferErr
 
 __version__ = "1.0.0"  # which the modules below compare with the extension's
 
+from jcobs._async import AsyncFrameReader
 from jcobs._backend import backend
 from jcobs._frames import DecodeError, decode, encode, encode_in_place, frame_kind, max_length
-from jcobs._readers import AsyncFrameReader, FrameReader
+from jcobs._readers import FrameReader, frames
 from jcobs._streams import Broken, Decoder, Encoder, Message, Outcome, TooLong
 
 __all__ = [
@@ -38,5 +39,6 @@ __all__ = [
     "encode",
     "encode_in_place",
     "frame_kind",
+    "frames",
     "max_length",
 ]

@@ -13,7 +13,7 @@ import jcobs
 from jcobs import Message, Outcome
 
 if TYPE_CHECKING:
-    from jcobs._readers import Readable
+    from jcobs._files import Readable
 
 NAMES = {jcobs.Message: "message", jcobs.Broken: "broken", jcobs.TooLong: "too long"}
 

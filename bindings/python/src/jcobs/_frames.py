@@ -10,15 +10,16 @@ from jcobs._backend import core
 if TYPE_CHECKING:
     from _typeshed import WriteableBuffer
 
-ErrorKind = Literal["broken", "empty"]
+ErrorKind = Literal["broken", "empty", "too_long"]
 FrameKind = Literal["not_a_frame", "canonical", "longer"]
 
 
 class DecodeError(ValueError):
-    """Raised by `decode` if there is no message.
+    """Raised by `decode` if there is no message, and by `request` of a reader if there is none in the reply.
 
-    `kind` is "broken" if the frame breaks off inside a block, or "empty" if there are no bytes, or only sentinels.
-    `data` is what the frame decodes to, up to where it ends.
+    `kind` is "broken" if the frame breaks off inside a block, or "empty" if there are no bytes, or only sentinels. For a
+    reader it is "too_long" if the message is longer than `max_length`. `data` is what the frame decodes to, up to where
+    it ends, or to `max_length` bytes.
 
     >>> try:
     ...     jcobs.decode(b"\\x06hel")
@@ -38,6 +39,8 @@ class DecodeError(ValueError):
     def __str__(self) -> str:
         if self.kind == "empty":
             return "there is no frame"
+        if self.kind == "too_long":
+            return f"the message is longer than max_length={len(self.data)}"
         return f"the frame breaks off inside a block, after {len(self.data)} decoded bytes"
 
 

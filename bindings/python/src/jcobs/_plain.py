@@ -8,9 +8,10 @@ from __future__ import annotations
 import functools
 import operator
 import sys
-from typing import TYPE_CHECKING, Any, Callable, Dict, List, Tuple, Type, TypeVar, cast
+from typing import TYPE_CHECKING, Any, Callable, Dict, List, Tuple, Type, TypeVar
 
 from jcobs import __version__ as version
+from jcobs._alone import alone
 
 if TYPE_CHECKING:
     from _typeshed import ReadableBuffer
@@ -18,7 +19,6 @@ if TYPE_CHECKING:
     from jcobs._frames import FrameKind
 
 _T = TypeVar("_T")
-_Method = TypeVar("_Method", bound=Callable[..., Any])
 
 __all__ = ["Decoder", "Encoder", "Outcome", "backend", "decode", "encode", "frame_kind", "max_length", "version"]
 backend = "python"
@@ -203,30 +203,6 @@ class Outcome:
 
     def __reduce__(self) -> Tuple[Any, ...]:
         return type(self), (self._data,), getattr(self, "__dict__", None)
-
-
-def alone(coder: str) -> Callable[[_Method], _Method]:
-    """Has a method raise RuntimeError while another call is at work on its object, in any thread or signal handler.
-
-    The lock is `setdefault`, which no other thread can interrupt, and nobody waits for it. The finally clause tells
-    whose it is, so a signal handler may raise an exception before or after it was taken.
-    """
-
-    def made(method: _Method) -> _Method:
-        @functools.wraps(method)
-        def call(self: Any, *arguments: Any) -> Any:
-            mine = object()
-            try:
-                if self._calls.setdefault("", mine) is not mine:
-                    raise RuntimeError(f"the {coder} is in use by another call")
-                return method(self, *arguments)
-            finally:
-                if self._calls.get("") is mine:
-                    del self._calls[""]
-
-        return cast(_Method, call)
-
-    return made
 
 
 class Decoder:
