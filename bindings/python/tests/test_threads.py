@@ -41,9 +41,10 @@ def lets_others_run(call):
         jcobs.decode,
         jcobs.frame_kind,
         lambda data: jcobs.Decoder(len(data)).feed(data),
+        lambda data: jcobs.Decoder(len(data), 7).feed(data),
         lambda data: jcobs.Encoder(len(data)).feed(data),
     ],
-    ids=["encode", "decode", "frame_kind", "Decoder.feed", "Encoder.feed"],
+    ids=["encode", "decode", "frame_kind", "Decoder.feed", "Decoder.feed for another sentinel", "Encoder.feed"],
 )
 def test_long_calls_release_the_gil(call, make):
     data = make(LONG)

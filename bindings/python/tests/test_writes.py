@@ -126,7 +126,7 @@ def test_a_socket_whose_send_times_out():
         writer = jcobs.FrameReader(here)
         for _ in range(2):
             with pytest.raises(socket.timeout):
-                writer.write(b"\x01\0" * 1_000_000)
+                writer.write(b"\x01\0" * 200_000)
         found = []
         reader = threading.Thread(target=lambda: found.extend(drained(lambda: there.recv(65536), 2)))
         reader.start()
@@ -143,7 +143,7 @@ def test_a_port_whose_write_times_out(pair):
     port.write_timeout = 0.05
     writer = jcobs.FrameReader(port)
     with pytest.raises(OSError):
-        writer.write(b"\x01\0" * 500_000)
+        writer.write(b"\x01\0" * 50_000)
     found = []
     reader = threading.Thread(target=lambda: found.extend(drained(lambda: end.read(65536), 2)))
     reader.start()
@@ -161,7 +161,7 @@ def test_a_write_to_a_port_that_is_cancelled(pair):
     timer = threading.Timer(0.2, port.cancel_write)
     timer.start()
     with pytest.raises(OSError, match="the write was cancelled, with .* bytes of the frame left"):
-        writer.write(b"\x01\0" * 500_000)
+        writer.write(b"\x01\0" * 50_000)
     timer.join()
     found = []
     reader = threading.Thread(target=lambda: found.extend(drained(lambda: end.read(65536), 1)))
