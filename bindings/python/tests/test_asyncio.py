@@ -145,10 +145,10 @@ def test_a_timeout_of_an_asyncio_stream_is_for_the_whole_frame():
         async def trickle():
             while True:
                 stream.feed_data(b"\x01")
-                await asyncio.sleep(0.005)
+                await asyncio.sleep(0)
 
         task = asyncio.ensure_future(trickle())
-        assert await asyncio.wait_for(reader.read(timeout=0.1), 60) is None
+        assert await asyncio.wait_for(reader.read(timeout=0.5), 20) is None
         task.cancel()
 
     asyncio.run(run())

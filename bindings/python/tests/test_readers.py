@@ -319,7 +319,7 @@ def test_bytes_that_pyopenssl_has_decrypted_are_asked_for():
 
     with ends("socket") as (sock, end):
         reader = jcobs.FrameReader(Decrypted(sock))
-        assert [reader.read(timeout=60), reader.read(timeout=0)] == [jcobs.Message(b"hi"), jcobs.Message(b"ho")]
+        assert [reader.read(timeout=5), reader.read(timeout=0)] == [jcobs.Message(b"hi"), jcobs.Message(b"ho")]
         assert reader.read(timeout=0.01) is None
 
 

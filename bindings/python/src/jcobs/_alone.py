@@ -11,9 +11,9 @@ _Method = TypeVar("_Method", bound=Callable[..., Any])
 def alone(what: str, use: Optional[str] = None) -> Callable[[_Method], _Method]:
     """Has a method raise RuntimeError while another call is at work on its object, in any thread or signal handler.
 
-    Methods with different uses don't refuse each other. The object has an empty dictionary `_calls`.
+    Methods with different uses don't exclude each other. The object has an empty dictionary `_calls`.
 
-    The lock is `setdefault`, which no other thread can interrupt. The finally clause tells whose it is, so a signal
+    The lock is `setdefault`, which no other thread can interrupt. The finally clause compares whose it is, so a signal
     handler may raise an exception before it was taken or after; and it calls nothing, as CPython from 3.11 on runs
     signal handlers after calls.
     """

@@ -25,14 +25,14 @@ class ReceivesSome(Protocol):
     """A stream of trio."""
 
     async def receive_some(self, max_bytes: Any = None) -> Any:
-        """Returns at most so many bytes, none at the end."""
+        """Returns at most `max_bytes` bytes, none at the end."""
 
 
 class Receives(Protocol):
     """A stream of anyio."""
 
     async def receive(self, max_bytes: int = CHUNK) -> bytes:
-        """Returns at most so many bytes, or raises `anyio.EndOfStream`."""
+        """Returns at most `max_bytes` bytes, or raises `anyio.EndOfStream`."""
 
 
 class AsyncFrameReader(Frames):

@@ -11,12 +11,12 @@ import sys
 from typing import Any, Callable, Deque, Iterable, Optional, Protocol
 
 CHUNK = 65536
-# Stands for bytes that were read and are lost. It is told from other bytes by its identity.
+# Stands for bytes that were read and are lost. It differs from other bytes by its identity.
 GAP = bytes(bytearray(b"gap"))
 
 Kept = Deque[bytes]
-# Reads what a file has, or waits for it at most so many seconds, and keeps the bytes: none at the end of the stream.
-# Returns whether it did; if not, the time is over, or that of the file itself if no time is passed.
+# Reads what a file has, or waits for it up to a number of seconds, and keeps the bytes: none at the end of the stream.
+# Returns whether it did. If not, that time is over, or without one the timeout of the file itself.
 Read = Callable[[Any, Optional[float], Kept], bool]
 
 

@@ -29,10 +29,10 @@ LONGEST_DISCARD = 1.0
 def closing(count: int, sentinel: int) -> bytes:
     """Returns bytes that end a frame which was cut, and that no decoder takes for the end of a message.
 
-    A sentinel alone would make a shorter message of a frame that was cut between two of its blocks. If a block lacks k
-    bytes, fewer than `count`, the first k of these complete it, and the next one is a code of 255, which has fewer than
-    254 bytes after it. No block lacks more than 254; for a `count` of 255 the first of these is the code of an empty
-    block, as 254 bytes would complete another one.
+    A sentinel alone would make a shorter message of a frame that was cut between two of its blocks. If k bytes of a
+    block are missing, fewer than `count`, the first k of these complete it. The next one is a code of 255, and fewer than
+    254 bytes follow it. Up to 254 bytes of a block can be missing: for a `count` of 255 the first of these is the code of
+    an empty block, as the code of a full one would be followed by 254 bytes.
     """
     spoiling = b"\xff" * count if count < 255 else b"\x01" + b"\xff" * 254
     return bytes(byte ^ sentinel for byte in spoiling + b"\0")
@@ -106,7 +106,7 @@ class Frames(Coder):
     def _decode(self) -> bytes:
         """Decodes the chunk that has arrived, and returns it.
 
-        If an exception ends this, by a signal handler or for want of memory, the chunk stays for the next call, with
+        If an exception ends this, by a signal handler or if memory runs out, the chunk stays for the next call, with
         all its frames but one that had begun before it. To decode, to keep the outcomes and to drop the chunk is one
         step of C, as in `keep`.
         """
@@ -128,7 +128,7 @@ class Frames(Coder):
         """Returns what to send of a message. Until `_sent` it is taken for cut."""
         frame = encode(message, sentinel=self._sentinel, terminated=True)
         lead = closing(self._cut, self._sentinel) if self._cut else self._lead
-        # a block of the frame lacks fewer bytes than the frame has; how many one lacks that was cut before isn't known
+        # of a block fewer bytes are missing than the frame has; of one that was cut before, any number up to 254
         self._cut = 255 if lead else min(len(frame), 255)
         return lead + frame
 
