@@ -161,7 +161,7 @@ else
 fi
 if command -v mypy >/dev/null; then
     part "mypy --strict, the package" strict "$here" src/jcobs
-    part "mypy --strict, a user of the installed package" strict "$here" tests/typed.py examples/protocol.py
+    part "mypy --strict, a user of the installed package" strict "$here" tests/typed.py examples/protocol.py examples/with_trio.py
     sed -n '/^```python$/,/^```$/{/^```$/q;/^```/!p}' "$package/README.md" >"$work/readme.py"
     part "mypy --strict, the first example of the README" strict "$here" "$work/readme.py"
 else

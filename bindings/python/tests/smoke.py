@@ -1,6 +1,7 @@
 """What any CPython from 3.9 on is to do, without pytest: python smoke.py"""
 
 import concurrent.futures
+import socket
 import sys
 import threading
 import time
@@ -10,6 +11,8 @@ import plain
 
 import jcobs
 
+FAILED = []  # what threads raised
+threading.excepthook = FAILED.append
 MESSAGES = [b"\x01" * ones + bytes(zeros) + b"\x02" * 3 for ones in (0, 1, 253, 254, 255, 600) for zeros in range(3)]
 
 
@@ -35,6 +38,25 @@ def check(sentinel):
         pass
     else:
         raise AssertionError("it took an object that isn't contiguous")
+
+
+def check_readers():
+    here, there = socket.socketpair()
+    with jcobs.FrameReader(here) as reader, jcobs.FrameReader(there, sync=True) as device:
+        try:
+            reader.request(b"first", timeout=0.01)
+        except TimeoutError:
+            pass
+        else:
+            raise AssertionError("nobody replied")
+        assert device.read(60) == jcobs.Message(b"first")
+        device.write(b"late")
+        replies = threading.Thread(target=lambda: device.write(device.read(60).data.upper()))
+        replies.start()
+        assert reader.request(b"ask", timeout=60, discard=True) == b"ASK"
+        replies.join()
+    assert bytes(jcobs.Message(b"hi")) == b"hi" and jcobs.Message(b"")
+    assert [one.data for one in jcobs.frames(b"\x03hi\0" * 3)] == [b"hi"] * 3
 
 
 def check_threads_in_one_decoder():
@@ -152,8 +174,10 @@ for thread in threads:
 for thread in threads:
     thread.join()
 check(0)
+check_readers()
 check_threads_in_one_decoder()
 check_encoder_by_two_threads()
 check_errors_of_a_buffer()
 check_subinterpreters()
 check_interpreters_at_once()
+assert not FAILED, FAILED

@@ -114,7 +114,7 @@ def test_a_decoder_is_reset_if_there_is_no_memory_for_a_copy_of_the_chunk():
 @only_extension
 def test_a_message_is_gone_after_a_finish_without_memory():
     testcapi = pytest.importorskip("_testcapi", reason="CPython's own test module makes allocations fail")
-    encoder = jcobs.Encoder(2000)
+    encoder = jcobs.Encoder(1000)
     failed = 0
     for start in range(20):
         encoder.feed(b"a" * 1000)

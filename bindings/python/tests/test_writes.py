@@ -68,9 +68,11 @@ def test_no_cut_makes_another_message(message, sentinel):
 
 
 @pytest.mark.parametrize("sync", [False, True])
-def test_no_two_cuts_make_another_message(sync):
-    first, second = b"\x05\0\0\x03ab", b"\x02\0\x01"
-    for rooms in itertools.product(range(9), range(270)):
+@pytest.mark.parametrize("size", [2, *range(236, 252)])
+def test_no_two_cuts_make_another_message(sync, size):
+    """The second cut may be in the bytes that end the first one, whose last block is then a full one."""
+    first, second = b"\x05\0\0\x03ab", b"\x02" * size
+    for rooms in itertools.product(range(9), range(16)):
         line = Line()
         writer = jcobs.FrameReader(line, sync=sync)
         line.room = rooms[0]

@@ -28,8 +28,11 @@ def alone(what: str, use: Optional[str] = None) -> Callable[[_Method], _Method]:
                     raise RuntimeError(f"the {what} is in use by another call")
                 return method(self, *arguments, **named)
             finally:
-                if use in self._calls and self._calls[use] is mine:
-                    del self._calls[use]
+                try:
+                    if self._calls[use] is mine:
+                        del self._calls[use]
+                except KeyError:  # not taken, or another thread's, which has just ended
+                    pass
 
         return cast(_Method, call)
 

@@ -34,8 +34,8 @@ def bytes_of(data: ReadableBuffer, name: str) -> bytes:
     try:
         view = memoryview(data)
     except TypeError as error:
-        if "a bytes-like object is required" not in str(error):
-            raise  # by a method of the object
+        if hasattr(type(data), "__buffer__") and "a bytes-like object is required" not in str(error):
+            raise  # by the object's own method
         raise TypeError(f"{name} must be a bytes-like object, not {type(data).__name__}") from None
     with view:
         if not view.c_contiguous:
@@ -48,7 +48,7 @@ def index_of(number: Any, name: str) -> int:
         return operator.index(number)
     except TypeError as error:
         if "cannot be interpreted as an integer" not in str(error) and hasattr(number, "__index__"):
-            raise  # by a method of the object
+            raise  # by the object's own method
         raise TypeError(f"{name} must be an integer, not {type(number).__name__}") from None
 
 

@@ -238,8 +238,11 @@ class FrameReader(Frames):
             del self._pending[0]
             return outcome
         finally:
-            if "reader" in self._calls and self._calls["reader"] is mine:
-                del self._calls["reader"]
+            try:
+                if self._calls["reader"] is mine:
+                    del self._calls["reader"]
+            except KeyError:
+                pass
 
     def __iter__(self) -> FrameReader:
         return self
@@ -256,8 +259,11 @@ class FrameReader(Frames):
             del self._pending[0]
             return outcome
         finally:
-            if "reader" in self._calls and self._calls["reader"] is mine:
-                del self._calls["reader"]
+            try:
+                if self._calls["reader"] is mine:
+                    del self._calls["reader"]
+            except KeyError:
+                pass
 
     def messages(self) -> Iterator[bytes]:
         """Yields the bytes of each message, and skips broken and too long frames.
