@@ -56,6 +56,12 @@ unset PYTHONPATH PYTHONHOME JCOBS_BACKEND JCOBS_LIB_DIR
 environment() { # FOLDER
     "$python" -m venv --system-site-packages "$1"
 }
+interpreter() { # MINOR: the CPython of that version, if the machine has one, in the PATH or by pyenv
+    for candidate in "python3.$1" "${PYENV_ROOT:-$HOME/.pyenv}"/versions/"3.$1".*/bin/python3; do
+        "$candidate" -c '' 2>/dev/null && command -v "$candidate" && return
+    done
+    return 1
+}
 in_work() { # COMMAND..
     (cd "$work" && "$@")
 }
@@ -90,13 +96,17 @@ part "an empty environment" environment "$work/first"
 here=$work/first/bin/python
 part "pip install" installs "$here" "$package"
 part "the first example" first_example "$here"
+part "its licences" test -f "$(echo "$work"/first/lib/python3*/site-packages/jcobs-*.dist-info/LICENSE-MIT)"
+first_is() { # BACKEND PYTHON
+    first_example "$2" && [ "$(in_work "$2" -m jcobs --version)" = "jcobs $(cat "$root/VERSION"), backend $1" ]
+}
 
-# Nothing but Python is in the PATH, so there is no compiler; and nothing that was built before.
-rm -rf "$package/build"
+# Nothing but Python is in the PATH, so there is no compiler. The extension that was built above is still in build/, and
+# must not be installed again.
 part "an environment without a compiler" environment "$work/second"
 plain=$work/second/bin/python
 part "pip install without a compiler" env "PATH=$work/second/bin" "$plain" -m pip install -q --no-build-isolation "$package"
-part "the first example in plain Python" first_example "$plain"
+part "the first example in plain Python" first_is python "$plain"
 (tests python "$plain" "$package/tests" >"$work/plain" 2>&1; echo $? >"$work/plain.status") &
 part "pytest with the extension" tests prebuilt "$here" "$package/tests"
 counts "$work/said"
@@ -151,7 +161,7 @@ else
 fi
 if command -v mypy >/dev/null; then
     part "mypy --strict, the package" strict "$here" src/jcobs
-    part "mypy --strict, a user of the installed package" strict "$here" tests/typed.py examples/protocol.py
+    part "mypy --strict, a user of the installed package" strict "$here" tests/typed.py examples/protocol.py examples/with_trio.py
     sed -n '/^```python$/,/^```$/{/^```$/q;/^```/!p}' "$package/README.md" >"$work/readme.py"
     part "mypy --strict, the first example of the README" strict "$here" "$work/readme.py"
 else
@@ -179,7 +189,7 @@ if has_module "$python" build; then
     part "the wheel is unpacked" "$python" -m zipfile -e "$wheel" "$work/wheel"
     others=0
     for minor in 9 10 11 12 13 14 15; do
-        other=$(command -v "python3.$minor") && "$other" -c '' 2>/dev/null || continue
+        other=$(interpreter "$minor") || continue
         others=$((others + 1))
         for backend in prebuilt python; do
             part "the wheel on $("$other" --version), $backend" \

@@ -35,6 +35,11 @@ cases_of_source() {
         "$work/source" "$root"/conformance/*.txt
 }
 
+# Each step of the library, compared with a table: of jcobs.c, or of the built library.
+steps_in_c() { # SOURCE-OR-ARCHIVE
+    cc -std=c99 -O2 -Wall -Wextra -Werror -DDEPTH=4 -I"$c/include" "$root/check/steps.c" "$1" -o "$work/steps" && "$work/steps"
+}
+
 first_in_rust() (
     mkdir -p "$work/app/src" && cd "$work/app" &&
         printf '[package]\nname = "app"\nedition = "2021"\n[dependencies]\ncobs = { package = "jcobs", path = "%s" }\n' \
@@ -77,6 +82,8 @@ if has cc gcc 'C'; then
     part 'C: the first frame' first_in_c
     part 'C: all cases' cases_in_c
     part 'C: all cases by jcobs.c' cases_of_source
+    part 'C: each step' steps_in_c "$JCOBS_LIB_DIR/libjcobs.a"
+    part 'C: each step of jcobs.c' steps_in_c "$c/source/jcobs.c"
 fi
 if [ -x "$root/bindings/programs/$(uname -m)-linux/cobs_tool" ]; then
     part 'programs: the first frame' first_by_program

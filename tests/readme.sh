@@ -60,7 +60,7 @@ why_not() { # LINE
     'cobs: '* | 'cobs_bytes:' | 'app: '*) echo 'a line of crates.txt' ;;
     rt' '* | *'&& '*' rt '*) echo 'needs rt' ;;
     'bindings/web/build.sh '*'# cobs.wasm'*) echo 'needs rt' ;;
-    tests/*.sh*) echo 'a test of its own' ;;
+    tests/*.sh* | check/run.sh*) echo 'a test of its own' ;;
     *'build.sh serve'*) echo "a server, which doesn't end" ;;
     */dev/tty*) echo 'needs a serial port' ;;
     *'build.sh screenshots'*) echo 'takes more than a minute' ;;

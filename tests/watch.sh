@@ -23,6 +23,7 @@ for each in "$watch" "$prebuilt"; do
     python3 tests/watch/line.py "$each"
     python3 tests/watch/recipes.py "$each"
 done
+python3 tests/watch/installed.py "$watch"
 
 cc -O2 -Wall -Wextra -Werror -o "$room/plain" tests/watch/plain.c
 python3 tests/watch/speed.py "$watch" "$room/plain" "${WATCH_MIB:-32}"

@@ -3,8 +3,9 @@
 #   - the vectors of conformance/ and the tests of jcobs.js, in Node;
 #   - the package: installed, required, bundled by esbuild and rollup, and the examples of its README;
 #   - the types in jcobs.d.ts, by the TypeScript compiler;
+#   - the speed of decode, which is at least that of plain JavaScript;
 #   - the vectors and the page in Chromium, by keys, clicks and pastes; both in a WebKit engine too;
-#   - the pictures of docs/FORMAT.md, drawn anew and compared.
+#   - the pictures of docs/FORMAT.md and the first drawing of the page, drawn anew and compared.
 # A part whose tool is missing is skipped, and the tool named. The last line counts; the status is 0 only if nothing failed.
 set -u
 root=$(cd "$(dirname "$0")/.." && pwd)
@@ -58,6 +59,7 @@ if has "$node" nodejs "Node"; then
         echo "Node $("$node" --version), without a flag"
         begin module "$node" --expose-gc "$web/test/module.mjs" "$web/cobs.wasm"
         begin package "$node" "$web/test/package.mjs"
+        begin decode-speed "$node" "$web/test/decode-speed.mjs"
         begin vectors "$node" "$web/test/vectors.mjs" "$web/cobs.wasm" "$root/conformance"
         if has "$chromium" chromium "the page"; then
             for files in first,message canvas,stream line,whole,pictures; do
@@ -71,6 +73,9 @@ if has "$node" nodejs "Node"; then
         fi
         part "the files with the module inside are built" "$node" "$web/pack.mjs" "$work/dist"
         part "dist/ is what pack.mjs writes" diff -r "$work/dist" "$web/dist"
+        part "what index.html shows without a script is drawn" "$node" "$web/first.mjs" "$work/first"
+        part "index.html has that drawing" cmp "$work/first/index.html" "$web/index.html"
+        part "page/picture.css is what first.mjs writes" cmp "$work/first/page/picture.css" "$web/page/picture.css"
         mkdir "$work/docs"
         part "the pictures are drawn" "$node" "$web/figures.mjs" "$work/docs"
         for picture in frame run-of-255 damaged-stream two-frames; do

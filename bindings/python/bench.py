@@ -1,15 +1,20 @@
-"""Measures the package beside its plain Python and the C library that it calls.
+"""Measures the package beside its plain Python, the C library that it calls, and a plain extension.
 
 usage: python bench.py [--random] [LENGTH ..]
 
 The messages are like records: one byte in 16 is zero, at random places. With --random all bytes are random. A frame is
-also fed to a decoder, 32 of them in a chunk. The C library is measured by a loop in C, which this script compiles over
-the same libjcobs.a. All times are of the processor, the least of several runs, which take turns.
+also fed to a decoder, alone, as a serial line gives it, and 32 of them in a chunk.
+
+The C library is measured by a loop in C, and the plain extension has encode and decode as one writes them, in loops over
+the bytes, by the whole interface of CPython. This script compiles both. All times are of the processor, the least of
+several runs, which take turns.
 """
 
+import importlib.util
 import random
 import subprocess
 import sys
+import sysconfig
 import tempfile
 import time
 from pathlib import Path
@@ -22,7 +27,7 @@ import setup  # noqa: E402
 import jcobs  # noqa: E402
 from jcobs import _plain  # noqa: E402
 
-LENGTHS = [16, 64, 256, 1024, 4096, 16384, 65536, 262144, 1048576]
+LENGTHS = [8, 20, 64, 256, 1024, 4096, 65536]
 ROUNDS = 15
 
 LOOP = r"""
@@ -66,6 +71,89 @@ int main(int argc, char **argv)
 """
 
 
+EXTENSION = r"""
+#define PY_SSIZE_T_CLEAN
+#include <Python.h>
+
+static PyObject *encode(PyObject *module, PyObject *data)
+{
+    Py_ssize_t code = 0, at = 1, i;
+    PyObject *frame;
+    Py_buffer view;
+
+    if (PyObject_GetBuffer(data, &view, PyBUF_SIMPLE) < 0)
+        return NULL;
+    frame = PyBytes_FromStringAndSize(NULL, view.len + view.len / 254 + 1);
+    if (frame != NULL) {
+        const unsigned char *from = view.buf;
+        unsigned char *to = (unsigned char *)PyBytes_AS_STRING(frame);
+        for (i = 0; i < view.len; i++) {
+            if (from[i] != 0) {
+                to[at++] = from[i];
+                if (at - code < 255 || i + 1 == view.len)
+                    continue;
+            }
+            to[code] = (unsigned char)(at - code);
+            code = at++;
+        }
+        to[code] = (unsigned char)(at - code);
+        _PyBytes_Resize(&frame, at);
+    }
+    PyBuffer_Release(&view);
+    return frame;
+}
+
+static PyObject *decode(PyObject *module, PyObject *data)
+{
+    Py_ssize_t at = 0, i = 0, end;
+    PyObject *message;
+    Py_buffer view;
+
+    if (PyObject_GetBuffer(data, &view, PyBUF_SIMPLE) < 0)
+        return NULL;
+    message = PyBytes_FromStringAndSize(NULL, view.len);
+    if (message != NULL) {
+        const unsigned char *from = view.buf;
+        unsigned char *to = (unsigned char *)PyBytes_AS_STRING(message), code;
+        while (i < view.len && (code = from[i]) != 0 && i + code <= view.len) {
+            for (end = i + code, i++; i < end && from[i] != 0; i++)
+                to[at++] = from[i];
+            if (code < 255 && i < view.len)
+                to[at++] = 0;
+        }
+        if (i < view.len) {
+            PyErr_SetString(PyExc_ValueError, "no frame");
+            Py_CLEAR(message);
+        } else {
+            _PyBytes_Resize(&message, at);
+        }
+    }
+    PyBuffer_Release(&view);
+    return message;
+}
+
+static PyMethodDef functions[] = {{"encode", encode, METH_O, NULL}, {"decode", decode, METH_O, NULL}, {NULL}};
+static PyModuleDef definition = {PyModuleDef_HEAD_INIT, "plain_extension", NULL, -1, functions};
+
+PyMODINIT_FUNC PyInit_plain_extension(void)
+{
+    return PyModule_Create(&definition);
+}
+"""
+
+
+def extension(folder):
+    """Compiles the plain extension, and returns its module."""
+    source, built = folder / "plain_extension.c", folder / "plain_extension.so"
+    source.write_text(EXTENSION)
+    include = sysconfig.get_path("include")
+    subprocess.run(["cc", "-O2", "-shared", "-fPIC", f"-I{include}", source, "-o", built], check=True)
+    spec = importlib.util.spec_from_file_location("plain_extension", built)
+    module = importlib.util.module_from_spec(spec)
+    spec.loader.exec_module(module)
+    return module
+
+
 def compiled(folder):
     """Compiles the loop over the library that setup.py finds, and returns the program."""
     (folder / "loop.c").write_text(LOOP)
@@ -94,47 +182,53 @@ def fed(decode):
     return lambda chunk: decode(chunk, (jcobs.Message, jcobs.Broken, jcobs.TooLong))
 
 
-def measured(program, length, at_random):
-    """Seconds a call, for encode, decode and a frame in feed: of the package, the C library, plain Python."""
+def measured(program, plain_extension, length, at_random):
+    """Seconds a call, or a frame: of the package, the C library, the plain extension and plain Python, by names."""
     message = made(length, at_random)
     frame = jcobs.encode(message)
-    chunk = (frame + b"\0") * 32
+    assert plain_extension.encode(message) == frame and plain_extension.decode(frame) == message
+    chunk = frame + b"\0"
     count = max(10, 4_000_000 // (length + 400))
-    rows = (
-        (jcobs.encode, lambda data: _plain.encode(data, 0, False), message, 1),
-        (jcobs.decode, lambda data: _plain.decode(data, 0, jcobs.DecodeError), frame, 1),
-        (jcobs.Decoder(length).feed, fed(_plain.Decoder(length, 0).feed), chunk, 32),
-    )
-    best = [[9e9] * 3 for _ in rows]
+    feed = jcobs.Decoder(length).feed
+    rows = {
+        "encode": (jcobs.encode, plain_extension.encode, _plain.encode, message, 1),
+        "decode": (jcobs.decode, plain_extension.decode, _plain.decode, frame, 1),
+        "feed of 1 frame": (feed, None, fed(_plain.Decoder(length, 0).feed), chunk, 1),
+        "feed of 32, a frame": (feed, None, fed(_plain.Decoder(length, 0).feed), chunk * 32, 32),
+    }
+    best = {name: [9e9] * 4 for name in rows}
     for _ in range(ROUNDS):
         ran = subprocess.run([program, str(length), str(count)], input=message, stdout=subprocess.PIPE, check=True)
-        for row, (call, plain, argument, frames), c in zip(best, rows, map(float, ran.stdout.split())):
-            row[0] = min(row[0], timed(call, argument, max(1, count // frames)) / frames)
-            row[1] = min(row[1], c)
-            row[2] = min(row[2], timed(plain, argument, max(1, count // frames // 100)) / frames)
+        encoding, decoding, feeding = map(float, ran.stdout.split())
+        for (name, (ours, extension, plain, argument, frames)), c in zip(
+            rows.items(), (encoding, decoding, feeding, feeding)
+        ):
+            turns = max(1, count // frames)
+            found = [
+                timed(ours, argument, turns) / frames,
+                c,
+                timed(extension, argument, turns) if extension else 9e9,
+                timed(plain, argument, max(1, turns // 100)) / frames,
+            ]
+            best[name] = [min(pair) for pair in zip(best[name], found)]
     return best
 
 
 def shown(seconds):
     microseconds = seconds * 1e6
-    return f"{microseconds:,.2f}" if microseconds < 10 else f"{microseconds:,.0f}"
+    return "" if seconds > 1e6 else f"{microseconds:,.3f}" if microseconds < 1 else f"{microseconds:,.2f}"
 
 
 def main(words):
     lengths = [int(word) for word in words if word != "--random"] or LENGTHS
     with tempfile.TemporaryDirectory() as folder:
-        program = compiled(Path(folder))
-        print("| bytes | call | jcobs | C library | plain Python | times C | times as fast as plain |")
+        program, plain_extension = compiled(Path(folder)), extension(Path(folder))
+        print("| bytes | call | jcobs | C library | plain extension | plain Python | jcobs / plain extension |")
         print("|---:|---|---:|---:|---:|---:|---:|")
         for length in lengths:
-            for name, (ours, c, slow) in zip(
-                ("encode", "decode", "feed, a frame"), measured(program, length, "--random" in words)
-            ):
-                print(
-                    f"| {length:,} | {name} | {shown(ours)} | {shown(c)} | {shown(slow)} |",
-                    f"{ours / c:.2f} | {slow / ours:,.0f} |",
-                    flush=True,
-                )
+            for name, times in measured(program, plain_extension, length, "--random" in words).items():
+                ratio = "" if times[2] > 1e6 else f"{times[0] / times[2]:.2f}"
+                print(f"| {length:,} | {name} |", " | ".join(map(shown, times)), f"| {ratio} |", flush=True)
 
 
 if __name__ == "__main__":

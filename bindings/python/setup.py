@@ -9,12 +9,15 @@ JCOBS_BACKEND asks for one of these ways: prebuilt, compiled, or python, which c
 
 import os
 import platform
+import re
 import shutil
 import sys
 import sysconfig
 from pathlib import Path
 
 from setuptools import Extension, setup
+from setuptools.command.build_ext import build_ext
+from setuptools.command.build_py import build_py
 from setuptools.command.sdist import sdist
 
 try:
@@ -56,6 +59,11 @@ def include():
     return (first((C / "include/jcobs.h", CARRIED / "include/jcobs.h")) or C / "include/jcobs.h").parent
 
 
+def version():
+    """The version of the package, which the extension has too."""
+    return re.search(r'^__version__ = "(.*?)"', (HERE / "src/jcobs/__init__.py").read_text(), re.M)[1]
+
+
 def extensions():
     """The extension over the library or over its source, or nothing: then the package is plain Python."""
     linux = sys.platform.startswith("linux")
@@ -77,23 +85,73 @@ def extensions():
             sources=sources if found else [*sources, os.path.relpath(source(), HERE)],
             depends=["src/_core/core.h", *([str(found)] if found else [])],
             include_dirs=[str(include())],
-            define_macros=[("Py_LIMITED_API", "0x03090000"), *([] if found else [("JCOBS_COMPILED", "1")])],
+            define_macros=[
+                ("Py_LIMITED_API", "0x03090000"),
+                ("JCOBS_PACKAGE", f'"{version()}"'),
+                *([] if found else [("JCOBS_COMPILED", "1")]),
+            ],
             extra_objects=[str(found)] if found else [],
             extra_compile_args=["-std=c99", "-fvisibility=hidden"] if linux else [],
-            extra_link_args=["-Wl,--exclude-libs,ALL"] if linux else [],
+            extra_link_args=["-Wl,--exclude-libs,ALL", "-Wl,--strip-debug"] if linux else [],
             py_limited_api=True,
             optional=not asked,
         )
     ]
 
 
+def licences():
+    """The licences, which a source distribution has beside this file and the repository at its top."""
+    return sorted(HERE.glob("LICENSE-*")) or sorted(HERE.parent.parent.glob("LICENSE-*"))
+
+
+def say(backend):
+    """Says what was built. pip shows it with -v; `python -m jcobs --version` says it of what is installed."""
+    print(f"jcobs {version()}: built with the backend {backend}", file=sys.stderr)
+
+
+class BuildAnew(build_py):
+    """Removes what an earlier build of another state of the package left where this one is built."""
+
+    def run(self):
+        if not getattr(self, "editable_mode", False):
+            shutil.rmtree(Path(self.build_lib) / "jcobs", ignore_errors=True)
+        super().run()
+        if not self.distribution.ext_modules:
+            say("python")
+
+
+class BuildWhatCompiles(build_ext):
+    """Removes an earlier extension, so that it isn't taken for this one if that isn't compiled; and says what was built."""
+
+    def built(self, ext):
+        """Where the extension may be: where it is built, and in an editable installation beside the sources."""
+        name = self.get_ext_filename(self.get_ext_fullname(ext.name))
+        folders = [self.build_lib, HERE / "src"] if self.inplace else [self.build_lib]
+        return [Path(folder) / name for folder in folders]
+
+    def run(self):
+        for ext in self.extensions:
+            for path in self.built(ext):
+                path.unlink(missing_ok=True)
+        super().run()
+        for ext in self.extensions:
+            compiled = all(path.is_file() for path in self.built(ext))
+            way = "compiled" if ("JCOBS_COMPILED", "1") in ext.define_macros else "prebuilt"
+            say(way if compiled else "python")
+
+
 class WheelForWhatWasBuilt(bdist_wheel):
-    """A wheel for every Python and system if nothing was compiled."""
+    """A wheel for every Python and system if nothing was compiled; with the licences."""
 
     def get_tag(self):
         built = self.get_finalized_command("build_ext")
-        compiled = any(Path(built.get_ext_fullpath(ext.name)).is_file() for ext in built.extensions or [])
+        compiled = any(path.is_file() for ext in built.extensions or [] for path in built.built(ext))
         return super().get_tag() if compiled else ("py3", "none", "any")
+
+    def egg2dist(self, egg_info, dist_info):
+        super().egg2dist(egg_info, dist_info)
+        for licence in licences():
+            shutil.copy(licence, dist_info)
 
 
 class SdistWithLibrary(sdist):
@@ -112,14 +170,19 @@ class SdistWithLibrary(sdist):
                 folder = carried / f"{machine}-linux"
                 folder.mkdir(exist_ok=True)
                 shutil.copy(found, folder)
-        for licence in HERE.parent.parent.glob("LICENSE-*"):
+        for licence in licences():
             shutil.copy(licence, base_dir)
 
 
 if __name__ == "__main__":
     modules = extensions()
     setup(
-        cmdclass={"sdist": SdistWithLibrary, "bdist_wheel": WheelForWhatWasBuilt},
+        cmdclass={
+            "build_ext": BuildWhatCompiles,
+            "build_py": BuildAnew,
+            "sdist": SdistWithLibrary,
+            "bdist_wheel": WheelForWhatWasBuilt,
+        },
         # built anew each time, as what was built before may be over another library
         options={"build_ext": {"force": True}, "bdist_wheel": {"py_limited_api": "cp39"}} if modules else {},
         ext_modules=modules,

@@ -60,6 +60,7 @@ export function partOf(places, at) {
 /** A printable ASCII byte as its sign, any other as digits. */
 const sign = (byte) => (byte > 32 && byte < 127 ? String.fromCharCode(byte) : hex(byte));
 
+const counted = (number, noun) => `${number} ${noun}${number === 1 ? "" : "s"}`;
 const escaped = (text) => text.replace(/[&<>"]/g, (c) => ({ "&": "&amp;", "<": "&lt;", ">": "&gt;", '"': "&quot;" })[c]);
 
 /** One part of a piece, as the drawing sees it. */
@@ -101,6 +102,7 @@ export function cellsOf(piece, places, from, to, options = {}) {
     if (isCode || at === from) {
       const inside = part.end < to || (part.end === to && part.end === piece.length);
       arcs.push({
+        at: part.at,
         from: isCode ? at - from : null,
         to: inside ? part.end - from : part.bad && piece.length <= to ? piece.length - from : null,
         full: part.full,
@@ -110,6 +112,33 @@ export function cellsOf(piece, places, from, to, options = {}) {
     }
   }
   return { cells, arcs };
+}
+
+/**
+ * The cells and arcs, from the byte `from` of a piece on, as they are at a step of the encoder or the decoder. Of the piece the
+ * first `frame` bytes are there, and of the message those over the first `over` cells; the codes before `arcs` have their arcs,
+ * and the one at `open` is still counted, as `count`. The zeros of the message that have been read are at `seen` or before it.
+ * `now` is the cell whose byte is read, over the frame or in it; `fresh` is the code that has just got its arc. With `isPlain` the
+ * bytes are those before they are XORed with the sentinel.
+ */
+function staged({ cells, arcs }, from, stage) {
+  const isOver = (at) => at < stage.over && (at < stage.frame || stage.isOver);
+  const notThere = { text: "", kind: "over" };
+  const overOf = ({ over }, at) => {
+    if (over.kind === "note" && at >= stage.frame) return notThere;
+    if (!isOver(at)) return notThere;
+    return over.kind === "zero" && at > stage.seen ? { text: "00", kind: "over" } : over;
+  };
+  let isClosed = true; // whether the block of the cell has its code
+  return {
+    cells: cells.map((cell, i) => {
+      const at = from + i;
+      if (cell.isCode) isClosed = at < stage.arcs;
+      else if (i === 0) isClosed = arcs[0].at < stage.arcs;
+      return { ...cell, over: overOf(cell, at), isTodo: at >= stage.frame, isBare: !isClosed, isOpen: at === stage.open, isNow: at === stage.now && (stage.isOver ? "over" : "frame"), isFresh: at === stage.fresh, ...(at === stage.open && { text: hex(stage.count) }) };
+    }),
+    arcs: arcs.filter((arc) => arc.at < stage.arcs).map((arc) => ({ ...arc, isFresh: arc.at === stage.fresh })),
+  };
 }
 
 /** A side of a block's outline that goes on in another row is left open. */
@@ -138,7 +167,7 @@ function arcPath(arc, x, right) {
   const tip = arc.to === null || arc.bad ? "" : `<path class="tip${kind}" d="M${end} ${top - 1}l-3.5 7h7z"/>`;
   const room = end - start > arc.note.length * 7 + 16;
   const note = room && arc.from !== null ? `<text class="note" x="${(start + end) / 2}" y="${low + 12}">${escaped(arc.note)}</text>` : "";
-  return `<path class="arc${kind}" d="${open}${close}"/>${tip}${note}`;
+  return `<path class="arc${kind}${arc.isFresh ? " fresh" : ""}"${arc.isFresh ? ' pathLength="1"' : ""} d="${open}${close}"/>${tip}${note}`;
 }
 
 function overText(over, x) {
@@ -157,7 +186,7 @@ export function row(cells, arcs, x = 0) {
     const kind = cells[i].ending ? null : (cells[i].full ? " full" : "") + (cells[i].bad ? " bad" : "");
     if (kind !== null) {
       for (let k = i; k < j; k++) out.push(box(cells[k], x + k * CELL));
-      out.push(outline(x + i * CELL, (j - i) * CELL, cells.slice(i, j), kind));
+      if (!cells[i].isBare) out.push(outline(x + i * CELL, (j - i) * CELL, cells.slice(i, j), kind));
     } else {
       out.push(`<rect class="end" x="${x + i * CELL + 2}" y="${TOP}" width="${CELL - 4}" height="${HEIGHT}" rx="4"/>`);
     }
@@ -169,6 +198,7 @@ export function row(cells, arcs, x = 0) {
 }
 
 function box(cell, x) {
+  if (cell.isTodo || cell.isOpen) return `<rect class="${cell.isTodo ? "todo" : "open"}" x="${x + 3}" y="${TOP + 1}" width="${CELL - 6}" height="${HEIGHT - 2}" rx="3"/>`;
   if (cell.gap) return `<rect class="data" x="${x}" y="${TOP}" width="${CELL}" height="${HEIGHT}"/>`;
   const kind = cell.isCode ? `code${cell.full ? " full" : ""}${cell.bad ? " bad" : ""}` : "data";
   const left = cell.first ? 3 : 0;
@@ -177,16 +207,21 @@ function box(cell, x) {
 }
 
 function cellText(cell, x) {
-  const text = `<text${cell.isCode ? ' class="on"' : cell.ending ? ' class="over"' : ""} x="${cell.isCode ? x + 1.5 : x}" y="${TOP + 19}">${escaped(cell.text)}</text>`;
-  return text + overText(cell.over, x);
+  const kind = cell.isOpen ? "open" : cell.isCode ? `on${cell.isFresh ? " fresh" : ""}` : cell.ending ? "over" : "";
+  const text = cell.isTodo ? "" : `<text${kind && ` class="${kind}"`} x="${cell.isCode ? x + 1.5 : x}" y="${TOP + 19}">${escaped(cell.text)}</text>`;
+  const now = cell.isNow ? `<rect class="now" x="${x - 14}" y="${cell.isNow === "over" ? TOP - 28 : TOP - 1}" width="28" height="${cell.isNow === "over" ? 25 : HEIGHT + 2}" rx="4"/>` : "";
+  return text + overText(cell.over, x) + now;
 }
 
 /**
  * A row of a stream as a whole SVG: `lead` sentinels, the bytes `from` up to `to` of a piece, `trail` sentinels. `label` is
- * written in front of it, in a margin of so many pixels. `zoom` is how much larger all of it is.
+ * written in front of it, in a margin of so many pixels. `zoom` is how much larger all of it is. With `stage` it is what is there
+ * at a step of the encoder or the decoder.
  */
-export function rowPicture(piece, places, from, to, { sentinel = 0, margin = 58, label = from, lead = 0, trail = 0, zoom = 1 } = {}) {
-  const part = from < to ? cellsOf(piece, places, from, to, { sentinel }) : { cells: [], arcs: [] };
+export function rowPicture(piece, places, from, to, { sentinel = 0, margin = 58, label = from, lead = 0, trail = 0, zoom = 1, stage = null } = {}) {
+  const show = stage?.isPlain ? (byte) => hex(byte ^ sentinel) : hex;
+  const whole = from < to ? cellsOf(piece, places, from, to, { sentinel, show }) : { cells: [], arcs: [] };
+  const part = stage ? staged(whole, from, stage) : whole;
   const idle = (number) => new Array(number).fill(sentinelCell(hex(sentinel)));
   const arcs = part.arcs.map((arc) => ({ ...arc, from: arc.from === null ? null : arc.from + lead, to: arc.to === null ? null : arc.to + lead }));
   const cells = [...idle(lead), ...part.cells, ...idle(trail)];
@@ -212,7 +247,7 @@ export function curve({ most, length, overhead }) {
   let marks = "";
   for (let at = every; at <= range; at += every) marks += `<path class="axis" d="M${x(at)} ${base}v4"/><text class="at" x="${x(at)}" y="${base + 18}">${at.toLocaleString("en")}</text>`;
   for (const bytes of [1, top]) marks += `<text class="at" x="${left - 14}" y="${y(bytes) + 4}">${bytes.toLocaleString("en")}</text>`;
-  return `<svg width="${width}" height="${height}" viewBox="0 0 ${width} ${height}" role="img" aria-label="A message of ${length} bytes has ${overhead} bytes of overhead, of at most ${most(length)}">`
+  return `<svg width="${width}" height="${height}" viewBox="0 0 ${width} ${height}" role="img" aria-label="A message of ${counted(length, "byte")} has ${counted(overhead, "byte")} of overhead, of at most ${most(length)}">`
     + `<path class="axis" d="M${left} 8V${base}H${width - 20}"/>${marks}<path class="most" d="${path}"/><circle class="here" cx="${x(length)}" cy="${y(overhead)}" r="5"/>`
     + `<text class="at" x="${width / 2}" y="${height - 2}">bytes of the message; up, bytes that the frame has more</text></svg>`;
 }

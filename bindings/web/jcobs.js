@@ -9,17 +9,18 @@
 // decodes to is decided only by the module.
 import { BROKEN, CHUNK_SIZE, CobsError, KINDS, NEAR, OK, STATE_SIZE, TOO_SMALL, bytesOf, loaded, machineFor } from "./machine.js";
 
-export { CobsError, isSupported, load } from "./machine.js";
+export { CobsError, isSupported, load, loadSync } from "./machine.js";
 
 /** The options of a call, each its default if left out. One that the call doesn't have is an error. */
 function optionsOf(given, defaults) {
   if (given === undefined) return defaults;
   if (typeof given !== "object" || given === null) throw new TypeError(`options are wanted, as { ${Object.keys(defaults).join(", ")} }`);
+  const names = Object.keys(defaults);
   for (const name of Object.keys(given)) {
-    if (!Object.hasOwn(defaults, name)) throw new TypeError(`there is no option “${name}” here, but ${Object.keys(defaults).join(", ")}`);
+    if (!names.includes(name)) throw new TypeError(`there is no option “${name}” here, but ${names.join(", ")}`);
   }
   const options = { ...defaults };
-  for (const name of Object.keys(defaults)) if (given[name] !== undefined) options[name] = given[name];
+  for (const name of names) if (given[name] !== undefined) options[name] = given[name];
   return checked(options);
 }
 

@@ -13,6 +13,7 @@ const SCRATCH_SIZE = 1 << 22;        // for the bytes of a call; a call that nee
 export const STATE_SIZE = 64;        // room for a jcobs_decoder or a jcobs_encoder
 export const CHUNK_SIZE = 1 << 14;          // how many bytes of a stream are copied into the module at a time
 export const NEAR = 1024;             // bytes of a short call, whose result has a place that doesn't depend on their number
+const LONG = 4096;                   // bytes of a result that isn't copied by `slice`
 const MEMORY_LIMIT = 2 ** 32;        // no address from here on is given to the module: in 32 bits it would be another
 
 /** What a module must export to be cobs.wasm. */
@@ -57,8 +58,8 @@ class Machine {
   #scratchWord;
   #nearWord;
 
-  constructor(module) {
-    this.#calls = new WebAssembly.Instance(module, {}).exports;
+  constructor(instance) {
+    this.#calls = instance.exports;
     this.#memory = this.#calls.memory;
     this.answerAt = Math.ceil(Number(this.#calls.__heap_base.value) / ANSWER_SIZE) * ANSWER_SIZE;
     this.scratchAt = this.answerAt + ANSWER_SIZE;
@@ -90,9 +91,11 @@ class Machine {
     if (sentinel !== 0) for (let i = at; i < at + bytes.length; i++) memory[i] ^= sentinel;
   }
 
-  /** A copy of the bytes at a place. */
+  /** Returns a copy of the bytes at a place. */
   read(at, length) {
-    return this.#bytes.slice(at, at + length);
+    // of many bytes the constructor makes a copy in half the time, since it doesn't clear them first as `slice` does
+    if (length < LONG) return this.#bytes.slice(at, at + length);
+    return new Uint8Array(this.#bytes.subarray(at, at + length));
   }
 
   /** Copies the bytes at a place to the front of `dest`. */
@@ -197,23 +200,50 @@ let loading;
  * Loads the module: from the file beside this one, or from a URL, a Response, the file's bytes or a compiled module.
  * Every other call of this file needs it. Once it is loaded, or is being loaded, a further call changes nothing.
  */
-export function load(source = moduleAddress()) {
-  loading ??= loadFrom(source).catch((error) => {
+export function load(source) {
+  // made here and not in the parameter list: in dist/ it is the whole module, which is decoded once
+  loading ??= loadFrom(source === undefined ? moduleAddress() : source).catch((error) => {
     loading = undefined;
     throw error;
   });
   return loading;
 }
 
+/** Loads the module before it returns: from the file beside this one, in Node, or from bytes or a compiled module. */
+export function loadSync(source) {
+  if (shared) return;
+  demandSupport();
+  const given = source === undefined ? moduleAddress() : source;
+  const module = given instanceof WebAssembly.Module ? given : new WebAssembly.Module(isBytes(given) ? bytesOf(given) : fileAt(given));
+  demandCalls(module);
+  keep(module, new WebAssembly.Instance(module, {}));
+  loading = Promise.resolve();
+}
+
 const moduleAddress = () => new URL("cobs.wasm", import.meta.url);
 
-async function loadFrom(source) {
+function demandSupport() {
   const why = obstacle();
   if (why !== "") throw new CobsError("unsupported", why);
+}
+
+async function loadFrom(source) {
+  demandSupport();
   const module = await moduleOf(source);
+  demandCalls(module);
+  // not `new WebAssembly.Instance`: Chrome before version 115 doesn't allow that for a module of this size on its main thread
+  const instance = await WebAssembly.instantiate(module, {});
+  if (!shared) keep(module, instance);
+}
+
+function demandCalls(module) {
   const names = new Set(WebAssembly.Module.exports(module).map(({ name }) => name));
   if (!CALLS.every((name) => names.has(name))) throw new TypeError("the module isn't this version's cobs.wasm");
-  shared = new Arena(new Machine(module));
+}
+
+/** Keeps the module and an instance of it, which all calls share from now on. */
+function keep(module, instance) {
+  shared = new Arena(new Machine(instance));
   compiled = module;
 }
 
@@ -226,9 +256,18 @@ async function moduleOf(given) {
     throw new TypeError("load takes a URL, a Response, bytes, or a compiled module");
   }
   const url = new URL(source, import.meta.url);
-  // not `import`, which every bundler for browsers would have to be configured to leave alone
-  const files = url.protocol === "file:" ? globalThis.process?.getBuiltinModule?.("node:fs/promises") : undefined;
-  return WebAssembly.compile(files ? await files.readFile(url) : await bytesOfResponse(await fetch(url)));
+  const files = filesFor(url);
+  return WebAssembly.compile(files ? await files.promises.readFile(url) : await bytesOfResponse(await fetch(url)));
+}
+
+/** Returns what Node reads files by, for the address of a file. It isn't imported: bundlers for browsers would have to leave that alone. */
+const filesFor = (url) => (url.protocol === "file:" ? globalThis.process?.getBuiltinModule?.("node:fs") : undefined);
+
+/** Returns the bytes of the file at an address, which only Node reads without a promise. */
+function fileAt(source) {
+  const files = source instanceof URL ? filesFor(source) : undefined;
+  if (!files) throw new TypeError("loadSync takes bytes or a compiled module; load fetches from an address");
+  return files.readFileSync(source);
 }
 
 async function bytesOfResponse(response) {
@@ -299,7 +338,7 @@ export function loaded() {
 export function machineFor(size) {
   const { machine } = loaded();
   if (size <= SCRATCH_SIZE) return machine;
-  const own = new Machine(compiled);
+  const own = new Machine(new WebAssembly.Instance(compiled, {}));
   own.reach(own.scratchAt + size);
   return own;
 }
@@ -307,11 +346,23 @@ export function machineFor(size) {
 const isBuffer = (source) => /^\[object (Shared)?ArrayBuffer\]$/.test(Object.prototype.toString.call(source)); // of any realm
 const isBytes = (source) => ArrayBuffer.isView(source) || isBuffer(source);
 
-/** The bytes of an ArrayBuffer or of any view of one. */
+/** Returns the bytes of an ArrayBuffer or of any view of one. */
 export function bytesOf(source) {
-  // what a detached buffer had isn't no bytes: the constructor throws
   if (source instanceof Uint8Array && source.length > 0) return source;
-  if (ArrayBuffer.isView(source)) return new Uint8Array(source.buffer, source.byteOffset, source.byteLength);
+  if (ArrayBuffer.isView(source)) {
+    if (isGone(source)) throw new TypeError("these bytes are gone: their buffer was transferred, or made shorter");
+    return new Uint8Array(source.buffer, source.byteOffset, source.byteLength);
+  }
   if (isBuffer(source)) return new Uint8Array(source);
   throw new TypeError("bytes are wanted: a Uint8Array, another view, or an ArrayBuffer");
+}
+
+/** Whether a view has lost its bytes. Its length is 0 then, as is that of an empty view. */
+function isGone(view) {
+  try {
+    if ("length" in view && view.length === 0) Uint8Array.prototype.indexOf.call(view, 0); // throws for a view that is out of bounds
+    return view.byteLength < 0; // which throws for such a DataView
+  } catch {
+    return true;
+  }
 }

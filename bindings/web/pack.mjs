@@ -2,8 +2,9 @@
 //
 //     node pack.mjs FOLDER        # FOLDER/jcobs.js, FOLDER/jcobs.cjs, the types of the second, and the files below
 //
-// In Node `import` gets node.js, which is jcobs.cjs again, so that a program has one module however it gets it. auto.js and
-// auto.node.js load by themselves. integrity.json has the sums for a <script> from elsewhere.
+// In Node `import` gets node.js, which is jcobs.cjs again, so that a program has one module however it gets it. auto.js,
+// auto.cjs and auto.node.js load by themselves. serialport.cjs is serialport.js for `require`. integrity.json has the sums
+// for a <script> from elsewhere.
 //
 // Only the lines that import, export or find cobs.wasm change, and each must be there as this file knows it.
 import { createHash } from "node:crypto";
@@ -30,22 +31,28 @@ machine = replaced(machine, "new URL\\(source, import\\.meta\\.url\\)", "new URL
 let calls = replaced(await read("jcobs.js"), '^import \\{.*\\} from "\\./machine\\.js";\n', "");
 calls = replaced(calls, '^export \\{.*\\} from "\\./machine\\.js";\n', "");
 const names = [...calls.matchAll(/^export (?:async )?(?:function\*?|class|const) (\w+)/gm)].map(([, name]) => name);
-names.push("CobsError", "isSupported", "load");
+names.push("CobsError", "isSupported", "load", "loadSync");
 const body = [machine, calls].map((text) => text.replace(/^export /gm, "")).join("\n");
 const head = `// jcobs ${version}, with the module inside. Written by pack.mjs from jcobs.js, machine.js and cobs.wasm; edit those.\n`;
 const list = names.sort().join(", ");
 
 const folder = process.argv[2];
 await mkdir(folder, { recursive: true });
-const auto = (from) => `// Written by pack.mjs.\nimport { load } from "./${from}";\nexport * from "./${from}";\nawait load();\n`;
+const named = (from) => `// Written by pack.mjs.\nimport jcobs from "./${from}";\nexport const { ${list} } = jcobs;\n`;
+let transforms = replaced(await read("serialport.js"), '^import \\{(.*)\\} from "node:stream";$', 'const { Transform } = require("node:stream");');
+transforms = replaced(transforms, '^import \\{(.*)\\} from "\\./dist/node\\.js";$', 'const { FrameDecoder, encode, load } = require("./jcobs.cjs");');
+const classes = [...transforms.matchAll(/^export class (\w+)/gm)].map(([, name]) => name);
 const files = {
   "jcobs.js": `${head}${body}\nexport { ${list} };\n`,
   "jcobs.cjs": `${head}var jcobs = (() => {\n"use strict";\n${body}\nreturn { ${list} };\n})();\nif (typeof module === "object") module.exports = jcobs;\n`,
-  "node.js": `// Written by pack.mjs.\nimport jcobs from "./jcobs.cjs";\nexport const { ${list} } = jcobs;\n`,
-  "auto.js": auto("jcobs.js"),
-  "auto.node.js": auto("node.js"),
+  "node.js": named("jcobs.cjs"),
+  "auto.js": `// Written by pack.mjs.\nimport { load } from "./jcobs.js";\nexport * from "./jcobs.js";\nawait load();\n`,
+  "auto.cjs": `// Written by pack.mjs.\nconst jcobs = require("./jcobs.cjs");\njcobs.loadSync();\nmodule.exports = jcobs;\n`,
+  "auto.node.js": named("auto.cjs"),
+  "serialport.cjs": `// Written by pack.mjs from serialport.js; edit that.\n${transforms.replace(/^export /gm, "")}\nmodule.exports = { ${classes.join(", ")} };\n`,
 };
 const sumOf = (text) => `sha384-${createHash("sha384").update(text).digest("base64")}`;
 files["integrity.json"] = `${JSON.stringify(Object.fromEntries(["jcobs.js", "jcobs.cjs"].map((name) => [name, sumOf(files[name])])), null, 2)}\n`;
 for (const [name, text] of Object.entries(files)) await writeFile(join(folder, name), text);
 await copyFile(new URL("jcobs.d.ts", import.meta.url), join(folder, "jcobs.d.cts"));
+await writeFile(join(folder, "serialport.d.cts"), replaced(await read("serialport.d.ts"), '"\\./jcobs\\.js"', '"./jcobs.cjs"'));

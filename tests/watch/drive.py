@@ -207,6 +207,8 @@ def every_view():
         words = [style] if style else []
         wanted = b"".join(line(style, *piece) for piece in seen) + (b"" if style == "--raw" else b"unfinished\n")
         same(run(words, STREAM), wanted)
+    same(run(["-"], STREAM), run([], STREAM))
+    same(run(["show", "-"], STREAM), run([], STREAM))
     same(run(["-x"], STREAM), run(["--hexdump"], STREAM))
     same(run(["-j"], STREAM), run(["--json"], STREAM))
     same(run(["-n"], STREAM), run(["--number"], STREAM))
@@ -278,13 +280,15 @@ def colors():
             same(run([*words, "--color", "always", style], stream), run([*words, style], stream))
 
 
-def on_a_terminal(words, no_color):
-    """What is written to a terminal, with the variable NO_COLOR set to a text, or not set."""
+def on_a_terminal(words, no_color, term="xterm"):
+    """What is written to a terminal, with the variables NO_COLOR and TERM set to a text, or not set."""
     master, slave = pty.openpty()
     tty.setraw(slave)
-    env = {name: value for name, value in os.environ.items() if name != "NO_COLOR"}
+    env = {name: value for name, value in os.environ.items() if name not in ("NO_COLOR", "TERM")}
     if no_color is not None:
         env["NO_COLOR"] = no_color
+    if term is not None:
+        env["TERM"] = term
     subprocess.run([WATCH, *words], input=b"\x02a\0\x05b\0", stdout=slave, check=True, timeout=120, env=env)
     os.close(slave)
     found = bytearray()
@@ -313,6 +317,16 @@ def colors_on_a_terminal():
         (["--color", "always"], "1", colored),
     ):
         same(on_a_terminal(when, no_color), wanted)
+    for term in ("dumb", None):
+        same(on_a_terminal([], None, term), plain)
+        same(on_a_terminal(["--color", "always"], None, term), colored)
+    # A log has no colours, so neither has the terminal beside it.
+    with tempfile.TemporaryDirectory() as room:
+        for when in ([], ["--color", "auto"], ["--color", "never"]):
+            log = Path(room, "log")
+            same(on_a_terminal([*when, "--log", str(log)], None), plain)
+            same(log.read_bytes(), plain)
+            log.unlink()
     # Into a pipe there are no colours unless they are asked for.
     same(run([], b"\x02a\0\x05b\0"), plain)
     same(run(["--color", "auto"], b"\x02a\0\x05b\0"), plain)
@@ -462,6 +476,9 @@ def every_filter():
         wanted = b"".join(str(i + 1).encode() + b" " + line(None, *p) for i, p in enumerate(seen) if keeps(p))
         same(run(["--number", *words], STREAM), wanted)
     same(run(["--only", "unfinished"], STREAM), b"unfinished\n")
+    # A filter that lets every piece through is one too.
+    for words in (["--min", "0"], ["--max", "18446744073709551615"], ["--prefix", ""]):
+        same(run(words, STREAM), b"".join(line(None, *piece) for piece in seen))
     same(run(["--json", "--only", "unfinished,broken", "--min", "9"], STREAM), b'{"kind":"unfinished"}\n')
 
 
@@ -635,8 +652,12 @@ def wrong_words():
         ["--crc", "poly=1,last=2"],
         ["--crc", "poly"],
         ["--crc", "init=1"],
+        ["--crc", "poly=1,poly=2"],
+        ["--crc", "poly=1,reflected,reflected"],
         ["--reconnect"],
         ["--reconnect", "--count"],
+        ["--reconnect", "-"],
+        ["--color", "always", "--log", "/dev/null"],
         ["send", "--crc", "crc-7"],
         ["send", "--crc-order", "big"],
     ):
@@ -644,6 +665,10 @@ def wrong_words():
             [WATCH, *words], input=b"\x02a\0", stdout=subprocess.PIPE, stderr=subprocess.PIPE, timeout=120, check=False
         )
         assert (done.returncode, done.stdout) == (2, b"") and done.stderr, (words, done)
+    # The names of checksums are said.
+    for name in ("crc-16", "CRC-32"):
+        done = subprocess.run([WATCH, "--crc", name], input=b"", capture_output=True, timeout=120, check=False)
+        assert done.returncode == 2 and all(known.encode() in done.stderr for known in CHECKSUMS if known.startswith("crc-")), done
     for words in ([b"caf\xe9"], [b"--log", b"\xff"], [b"send", b"\xff"]):
         done = subprocess.run([WATCH, *words], input=b"\x02a\0", capture_output=True, timeout=120, check=False)
         said = b"error: an argument that isn't UTF-8 can't be used\n\nUsage: cobs_watch"

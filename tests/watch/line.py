@@ -7,29 +7,49 @@
 import fcntl
 import os
 import pty
+import resource
+import select
+import shutil
+import signal
 import subprocess
 import sys
 import tempfile
+import termios
 import time
 import tty
 from pathlib import Path
 
+TOP = Path(__file__).resolve().parent.parent.parent
 WATCH = sys.argv[1]
 FRAME, SHOWN = b"\x05ping\0", b"message 4 70696e67\n"
 COUNTED = "messages {}, broken 0, too long 0, bytes {}\n"
 failed = []
+started = []
 
 
 def part(check):
     """Runs a check in a folder of its own, and says how it ended."""
     name = check.__name__.replace("_", " ")
     with tempfile.TemporaryDirectory() as room:
+        signal.alarm(120)
         try:
             check(Path(room))
-            print(f"ok: {name}")
+            print(f"ok: {name}", flush=True)
         except Exception as error:  # pylint: disable=broad-except
             failed.append(name)
-            print(f"FAILED: {name}: {error!r}")
+            print(f"FAILED: {name}: {error!r}", flush=True)
+        signal.alarm(0)
+        started.clear()
+
+
+def time_is_up(_number, _frame):
+    """Ends the programs of a part that waits for what doesn't come."""
+    for program in started:
+        program.kill()
+    raise TimeoutError("what was awaited didn't come")
+
+
+signal.signal(signal.SIGALRM, time_is_up)
 
 
 def same(found, wanted):
@@ -37,7 +57,9 @@ def same(found, wanted):
 
 
 def start(words, **more):
-    return subprocess.Popen([WATCH, *map(str, words)], stdout=subprocess.PIPE, stderr=subprocess.PIPE, **more)
+    program = subprocess.Popen([WATCH, *map(str, words)], stdout=subprocess.PIPE, stderr=subprocess.PIPE, **more)
+    started.append(program)
+    return program
 
 
 def ended(program):
@@ -64,19 +86,74 @@ def a_fifo(room):
         same(ended(watch), (b"1 " + SHOWN + b"unfinished\n", COUNTED.format(1, 8), 0))
 
 
+UNFINISHED, HUNG_UP = b"unfinished\n", b"hung up\n"
+
+
 @part
 def a_fifo_whose_writers_come_and_go(room):
     path = room / "line"
     os.mkfifo(path)
     with start(["--reconnect", "--count", path]) as watch:
-        for _ in range(3):
-            path.write_bytes(FRAME)
-            same(watch.stdout.readline(), SHOWN)
-            time.sleep(0.1)
-        watch.stdout.close()
         path.write_bytes(FRAME)
-        # Each of the three hang-ups gave a sentinel.
-        same((watch.stderr.read().decode(), watch.wait(60)), (COUNTED.format(4, 4 * len(FRAME) + 3), 0))
+        same([watch.stdout.readline() for _ in range(2)], [SHOWN, HUNG_UP])
+        for _ in range(2):
+            time.sleep(0.1)
+            # What comes before the first sentinel may be the end of a frame.
+            path.write_bytes(b"\x02" + FRAME[1:] + FRAME)
+            same([watch.stdout.readline() for _ in range(2)], [SHOWN, HUNG_UP])
+        watch.stdout.close()
+        path.write_bytes(b"\0" + FRAME)
+        same((watch.stderr.read().decode(), watch.wait(60)), (COUNTED.format(4, 6 * len(FRAME) + 1), 0))
+
+
+@part
+def a_frame_that_a_hang_up_cuts(room):
+    """At each of its bytes: no message is shown that wasn't sent whole."""
+    path = room / "line"
+    os.mkfifo(path)
+    frame = b"\x03ab\x05cdef\0"
+    json_up = b'{"kind":"hung-up"}\n'
+    for words, unfinished, hung_up in (
+        ([], UNFINISHED, HUNG_UP),
+        (["--text"], UNFINISHED, HUNG_UP),
+        (["--json"], b'{"kind":"unfinished"}\n', json_up),
+        (["--only", "message"], b"", b""),
+        (["--raw"], b"", b""),
+        (["--pcap"], b"", b""),
+    ):
+        with start(["--reconnect", "--log", room / "log", *words, path]) as watch:
+            wanted = b""
+            for cut in range(len(frame)):
+                # The sentinel is the first one after the last hang-up.
+                path.write_bytes(b"\0" + frame[:cut])
+                time.sleep(0.3)
+                path.write_bytes(frame[cut:])
+                time.sleep(0.3)
+                wanted += (unfinished if cut else b"") + hung_up + hung_up
+            watch.kill()
+            found = watch.stdout.read()
+        if words == ["--pcap"]:
+            same(len(found), 24)
+        else:
+            same(found, wanted)
+        same((room / "log").read_bytes()[-len(found) :] if found else b"", found)
+    # Without the option the run ends there.
+    for cut in range(1, len(frame)):
+        with start([path]) as watch:
+            path.write_bytes(frame[:cut])
+            same(ended(watch), (UNFINISHED, "", 0))
+
+
+@part
+def a_line_that_is_not_there_yet(room):
+    path = room / "line"
+    with start(["--reconnect", path]) as watch:
+        said = f"cobs_watch: {path}: No such file or directory (os error 2): waiting for it\n"
+        same(watch.stderr.readline().decode(), said)
+        os.mkfifo(path)
+        path.write_bytes(FRAME)
+        same(watch.stdout.readline(), SHOWN)
+        watch.kill()
 
 
 def await_read(watch):
@@ -86,30 +163,81 @@ def await_read(watch):
 
 
 def plug(path):
-    """A pseudo-terminal that has this path."""
+    """A pseudo-terminal that has this path, with the settings that the system makes."""
     master, slave = pty.openpty()
-    tty.setraw(slave)
     path.symlink_to(os.ttyname(slave))
-    return master, slave
+    os.close(slave)
+    return master
+
+
+def unplug(path, master):
+    path.unlink()
+    os.close(master)
+
+
+def received(master, seconds):
+    """What the device's side receives until nothing has come for some time."""
+    found = bytearray()
+    while select.select([master], [], [], seconds)[0]:
+        found += os.read(master, 4096)
+    return bytes(found)
+
+
+def documented_loop():
+    """The loop of the documents over a serial line, which is the same in each."""
+    found = set()
+    for name in ("docs/PROGRAMS.md", "crates/cobs_watch/README.md", "crates/cobs_watch/cobs_watch.1"):
+        text = (TOP / name).read_text(encoding="utf-8").replace("\\-", "-")
+        found.update(line.strip() for line in text.splitlines() if line.strip().startswith("while "))
+    assert len(found) == 1, found
+    return found.pop()
+
+
+def is_set(path):
+    """Whether a terminal neither echoes nor waits for lines, as the loop sets it."""
+    ours = os.open(path, os.O_RDWR | os.O_NOCTTY)
+    try:
+        return not termios.tcgetattr(ours)[3] & (termios.ECHO | termios.ICANON)
+    finally:
+        os.close(ours)
 
 
 @part
 def a_device_that_goes_and_comes_back(room):
-    path = room / "line"
-    master, slave = plug(path)
-    with start(["--reconnect", "--number", path]) as watch:
-        for number in (1, 3, 5):
-            os.write(master, FRAME + FRAME[:3])
-            same(watch.stdout.readline(), b"%d " % number + SHOWN)
-            path.unlink()
-            os.close(slave)
-            os.close(master)
-            same(watch.stdout.readline(), b"%d broken 2\n" % (number + 1))
-            time.sleep(0.3)
-            master, slave = plug(path)
-        watch.kill()
-    os.close(slave)
-    os.close(master)
+    """The loop of the documents, in each shell: it sets each terminal, nothing goes back to the device, and nothing is made up."""
+    (room / "bin").mkdir()
+    (room / "bin" / "cobs_watch").symlink_to(Path(WATCH).resolve())
+    env = {**os.environ, "PATH": f"{room}/bin:{os.environ['PATH']}"}
+    loop = documented_loop().replace("/dev/ttyUSB0", f"{room}/line")
+    for shell in (["bash", "--norc"], ["zsh", "-f"]):
+        if not shutil.which(shell[0]):
+            print(f"skipped: the loop in {shell[0]}, which isn't there")
+            continue
+        log = room / "log.txt"
+        log.unlink(missing_ok=True)
+        running = subprocess.Popen([*shell, "-c", loop], cwd=room, env=env, stdout=subprocess.DEVNULL, stderr=subprocess.DEVNULL, start_new_session=True)
+        try:
+            for tail in (b"\x03ng\0", b"g\0", b"ing\0"):
+                master = plug(room / "line")
+                before = log.read_bytes().count(SHOWN) if log.exists() else 0
+                end = time.monotonic() + 60
+                while not log.exists() or log.read_bytes().count(SHOWN) == before:
+                    assert time.monotonic() < end, "nothing is shown"
+                    if is_set(room / "line"):
+                        # The end of a frame that began before the device was plugged in, which may be one itself; then frames.
+                        os.write(master, tail + FRAME)
+                        tail = b""
+                    time.sleep(0.3)
+                os.write(master, FRAME[:3])
+                same(received(master, 0.3), b"")
+                unplug(room / "line", master)
+                time.sleep(1.5)
+                # A frame that was cut off is no message.
+                lines = log.read_bytes().splitlines(keepends=True)
+                same([line for line in lines if line not in (SHOWN, UNFINISHED)], [])
+        finally:
+            os.killpg(running.pid, 9)
+            running.wait()
 
 
 @part
@@ -153,6 +281,14 @@ def help_into_a_closed_pipe(_room):
     with open("/dev/full", "wb") as full:
         done = subprocess.run([WATCH, "--help"], stdout=full, stderr=subprocess.PIPE, check=False)
     same((done.stderr, done.returncode), (b"cobs_watch: write failed: No space left on device (os error 28)\n", 1))
+
+
+@part
+def a_line_that_memory_runs_out_for(_room):
+    limit = lambda: resource.setrlimit(resource.RLIMIT_AS, (20_000 << 10, 20_000 << 10))
+    with start(["send"], stdin=subprocess.PIPE, preexec_fn=limit) as watch:
+        out, errors = watch.communicate(b"ping\n" + b"a" * 30_000_000 + b"\n", timeout=60)
+        same((out, errors, watch.returncode), (FRAME, b"cobs_watch: out of memory\n", 1))
 
 
 def without_waiting(fd):

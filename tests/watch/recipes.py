@@ -1,13 +1,15 @@
 #!/usr/bin/env python3
-"""Runs the recipes of the documents, as they are written, over a pseudo-terminal in place of the serial port.
+"""Pastes the recipes of the documents into shells, over a pseudo-terminal in place of the serial port.
 
     recipes.py WATCH        WATCH is the built program. A recipe is skipped by name if a tool of it isn't there.
 
-The terminal is as a serial port is at first: it echoes. Of each text the first `stty` sets it for those that have none. A
+Each recipe is pasted into an interactive bash and an interactive zsh without settings. The serial port is a pseudo-terminal as
+the system makes it: it echoes, and waits for lines. Of each text the first `stty` sets it for those recipes that have none. A
 recipe that shows gets a frame from the device, whose side then has to receive nothing; of one that sends it has to receive
 the frames.
 """
 
+import fcntl
 import os
 import pty
 import re
@@ -16,6 +18,7 @@ import shutil
 import subprocess
 import sys
 import tempfile
+import termios
 import time
 from pathlib import Path
 
@@ -35,8 +38,8 @@ def recipes_of(text):
         elif not line.startswith("    "):
             continue
         if PORT in line and re.search(r"\b(stty|cobs_\w+) ", line) and not line.startswith("."):
-            found.append(re.sub(r"  +#.*", "", line).strip())
-    setting = next((re.search(r"stty [^;&]*", line)[0] for line in found if "stty " in line), "true")
+            found.append(line.strip())
+    setting = next((re.search(r"stty [^;&]*", line)[0].strip() for line in found if "stty " in line), None)
     return setting, [line for line in found if "cobs_" in line]
 
 
@@ -48,46 +51,81 @@ def received(master, seconds):
     return bytes(found)
 
 
-def shell(command, room, **more):
-    """A shell that runs a command, with the program in its PATH."""
-    env = {**os.environ, "PATH": f"{room}:{os.environ['PATH']}"}
-    return subprocess.Popen(["sh", "-euc", command], cwd=room, env=env, **more)
+class Shell:
+    """An interactive shell on a terminal of its own, with the program in its PATH."""
+
+    def __init__(self, words, room):
+        self.master, slave = pty.openpty()
+        env = {**os.environ, "PATH": f"{room}:{os.environ['PATH']}", "TERM": "dumb", "PS1": "$ "}
+        take = lambda: fcntl.ioctl(0, termios.TIOCSCTTY, 0)
+        self.running = subprocess.Popen(
+            words, cwd=room, env=env, stdin=slave, stdout=slave, stderr=slave, start_new_session=True, preexec_fn=take
+        )
+        os.close(slave)
+        self.said = b""
+
+    def paste(self, command):
+        os.write(self.master, command.encode() + b"\n")
+
+    def hears(self, wanted, seconds, again=lambda: None):
+        """Whether what is wanted is on the terminal within this time. Once a second something is done again."""
+        end = time.monotonic() + seconds
+        while time.monotonic() < end:
+            again()
+            if select.select([self.master], [], [], 1)[0]:
+                self.said += os.read(self.master, 4096)
+                if re.search(wanted, self.said):
+                    return True
+        return False
+
+    def finish(self, seconds=60):
+        """Waits until all that was pasted has ended."""
+        self.paste("echo do''ne")
+        assert self.hears(rb"done", seconds), self.said
+        self.said = b""
+
+    def close(self):
+        os.write(self.master, b"\x03\x03\nexit\n")
+        try:
+            self.running.wait(5)
+        except subprocess.TimeoutExpired:
+            os.killpg(self.running.pid, 9)
+            self.running.wait()
+        os.close(self.master)
 
 
-def show(recipe, room, master):
-    """Sends frames until one is shown, and returns what the device's side has received."""
-    unbuffered = recipe.replace("| jq ", "| jq --unbuffered ")
-    with shell(unbuffered, room, stdout=subprocess.PIPE, start_new_session=True) as running:
-        shown = b""
-        end = time.monotonic() + 60
-        while not shown and time.monotonic() < end and running.poll() is None:
-            os.write(master, FRAME)
-            if select.select([running.stdout], [], [], 0.5)[0]:
-                shown = os.read(running.stdout.fileno(), 4096)
-        back = received(master, 0.2)
-        os.killpg(running.pid, 9)
-    assert re.search(rb"ping|70696e67", shown), f"shown: {shown!r}"
-    return back
-
-
-def run(setting, recipe):
-    """Runs a recipe over a terminal of its own."""
+def run(setting, recipe, words):
+    """Pastes a recipe into a shell, over a port of its own."""
     master, slave = pty.openpty()
+    port = os.ttyname(slave)
     with tempfile.TemporaryDirectory() as room:
         Path(room, "cobs_watch").symlink_to(Path(WATCH).resolve())
         Path(room, "lines.txt").write_text("ping\n", encoding="ascii")
-        port = os.ttyname(slave)
-        with shell(setting.replace(PORT, port), room) as first:
-            assert first.wait(60) == 0
-        if re.search(r"\bsend\b", recipe):
-            with shell(recipe.replace(PORT, port), room) as sender:
-                assert sender.wait(60) == 0
-            back, wanted = received(master, 0.2), FRAME
-        else:
-            back, wanted = show(recipe.replace(PORT, port), room, master), b""
+        shell = Shell(words, room)
+        try:
+            if "stty " not in recipe and setting:
+                shell.paste(setting.replace(PORT, port))
+            shell.finish()
+            shell.paste(recipe.replace(PORT, port))
+            if re.search(r"\bsend\b", recipe):
+                shell.finish()
+                back, wanted = received(master, 0.2), FRAME
+            else:
+                assert shell.hears(rb"\bping|70696e67", 60, lambda: is_set(slave) and os.write(master, FRAME)), f"shown: {shell.said!r}"
+                back, wanted = received(master, 0.2), b""
+        finally:
+            shell.close()
     os.close(slave)
     os.close(master)
     assert back == wanted, f"the device receives {back!r}"
+
+
+def is_set(port):
+    """Whether a terminal neither echoes nor waits for lines: a device that sends before is another matter."""
+    return not termios.tcgetattr(port)[3] & (termios.ECHO | termios.ICANON)
+
+
+SHELLS = (["bash", "--norc", "--noprofile", "-i"], ["zsh", "-f", "-i"])
 
 
 def main():
@@ -100,13 +138,17 @@ def main():
             if missing:
                 print(f"skipped: {name}: {recipe}: it needs {missing[0]}")
                 continue
-            ran += 1
-            try:
-                run(setting, recipe)
-                print(f"ok: {name}: {recipe}")
-            except (AssertionError, subprocess.TimeoutExpired) as error:
-                failed += 1
-                print(f"FAILED: {name}: {recipe}: {error}")
+            for words in SHELLS:
+                if not shutil.which(words[0]):
+                    print(f"skipped: {name}: {recipe}: it needs {words[0]}")
+                    continue
+                ran += 1
+                try:
+                    run(setting, recipe, words)
+                    print(f"ok: {name}, {words[0]}: {recipe}")
+                except AssertionError as error:
+                    failed += 1
+                    print(f"FAILED: {name}, {words[0]}: {recipe}: {error}")
     print(f"{ran} recipes, {failed} failed")
     return failed > 0 or ran < 6
 

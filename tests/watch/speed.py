@@ -1,7 +1,7 @@
 #!/usr/bin/env python3
 """Measures cobs_watch over much data: its speed, beside a plain program's where that has the style, and its memory.
 
-    speed.py WATCH PLAIN [MIB]     PLAIN is the built plain.c. MIB of each of four streams are read, 128 if not given.
+    speed.py WATCH PLAIN [MIB]     PLAIN is the built plain.c. MIB of each of seven streams are read, 128 if not given.
 """
 
 import os
@@ -15,8 +15,16 @@ MIB = int(sys.argv[3]) if len(sys.argv) > 3 else 128
 
 
 def frame_of(message):
-    """The frame of a message of less than 254 bytes, and its sentinel."""
-    return b"".join(bytes([len(run) + 1]) + run for run in message.split(b"\0")) + b"\0"
+    """The frame of a message, and its sentinel."""
+    out, runs = bytearray(), message.split(b"\0")
+    for number, run in enumerate(runs):
+        while len(run) >= 254:
+            out += b"\xff" + run[:254]
+            run = run[254:]
+            if not run and number == len(runs) - 1:
+                return bytes(out) + b"\0"
+        out += bytes([len(run) + 1]) + run
+    return bytes(out) + b"\0"
 
 
 def telemetry():
@@ -37,6 +45,21 @@ def noise():
 def text():
     """A message of text: an object of JSON of 40 to 80 letters and digits, with a newline."""
     return b'{"id":%d,"value":"%s"}\n' % (random.randrange(10**6), random.randbytes(random.randrange(12, 32)).hex().encode())
+
+
+def short():
+    """A message of 1 to 7 characters of ASCII, with zeros and control characters."""
+    return bytes(random.randrange(128) for _ in range(random.randrange(1, 8)))
+
+
+def words():
+    """A message of about 20 bytes of text, of which a third isn't ASCII."""
+    return "".join(random.choice("abcdefghij éüßøñ") for _ in range(15)).encode()
+
+
+def long():
+    """A message of 8 KiB without zeros, in frames of many blocks."""
+    return random.randbytes(8192).replace(b"\0", b"\1")
 
 
 def stream_of(message):
@@ -106,9 +129,9 @@ def measure(name, block):
 
 
 def main():
-    """Measures streams of four kinds, and the memory over the first one."""
-    for name, message in (("telemetry", telemetry), ("text", text), ("dense", dense), ("random", noise)):
-        measure(name, stream_of(message))
+    """Measures streams of each kind, and the memory over the first one."""
+    for message in (telemetry, text, dense, noise, long, short, words):
+        measure(message.__name__, stream_of(message))
     block = stream_of(telemetry)
     memory = max(memory_of([WATCH, *words], block) for words in ([], ["--hexdump"], ["--json"]))
     print(f"{len(block) * MIB} bytes, at most {memory:.1f} MiB")

@@ -10,7 +10,7 @@ PRIMARY, UNARY, MUL, ADD, RELATION, EQUAL, BITS, AND, OR, CHOICE = range(15, 5, 
 COMPARE = {"eq": "==", "ne": "!=", "ult": "<", "ule": "<=", "ugt": ">", "uge": ">="}
 INVERSE = {"==": "!=", "!=": "==", "<": ">=", ">=": "<", ">": "<=", "<=": ">"}
 ARITHMETIC = {"add": ("+", ADD), "sub": ("-", ADD), "mul": ("*", MUL), "udiv": ("/", MUL), "urem": ("%", MUL)}
-ARITHMETIC |= {"and": ("&", BITS), "or": ("|", BITS), "xor": ("^", BITS)}
+ARITHMETIC |= {"lshr": (">>", BITS), "and": ("&", BITS), "or": ("|", BITS), "xor": ("^", BITS)}
 LARGEST = 255  # so that a constant is the same in every width of a length
 
 
@@ -78,11 +78,16 @@ def compared(sign, left, right):
 
 
 def both(left, right):
-    return Expression(f"{left.within(EQUAL)} && {right.within(EQUAL)}", AND, ("&&", left, right))
+    return joined("&&", AND, left, right)
 
 
 def either(left, right):
-    return Expression(f"{left.within(EQUAL)} || {right.within(EQUAL)}", OR, ("||", left, right))
+    return joined("||", OR, left, right)
+
+
+def joined(sign, level, *sides):
+    texts = [it.text if it.level == level else it.within(EQUAL) for it in sides]
+    return Expression(f" {sign} ".join(texts), level, (sign, *sides))
 
 
 def negated(value):

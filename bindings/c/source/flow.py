@@ -220,11 +220,8 @@ def loop_of(label, body, follows):
     body = simple(body)
     if follows:
         body = breaks(body, follows)
-    while body and body[-1] == ("continue", label):
+    while body and body[-1][0] == "continue":
         body.pop()
-    first = body[0] if body else None
-    if first and first[0] == "if" and first[2] == [("break",)] and not first[3]:
-        return [("loop", negated(first[1]), body[1:])]
     return [("loop", None, body)]
 
 
@@ -248,11 +245,18 @@ def printed(statements, labels, depth=1):
             lines.append(f"{pad}{each}")
         elif each[0] == "if":
             lines += [f"{pad}if ({each[1].text}) {{", *printed(each[2], labels, depth + 1)]
+            if len(each[3]) == 1 and each[3][0][0] == "if":
+                first, *others = printed(each[3], labels, depth)
+                lines += [f"{pad}}} else {first.strip()}", *others]
+                continue
             if each[3]:
                 lines += [f"{pad}}} else {{", *printed(each[3], labels, depth + 1)]
             lines.append(f"{pad}}}")
         elif each[0] == "loop":
-            head = f"while ({each[1].text})" if each[1] else "for (;;)"
+            if isinstance(each[1], tuple):
+                head = f"for ({''.join(each[1])})"
+            else:
+                head = f"while ({each[1].text})" if each[1] else "for (;;)"
             lines += [f"{pad}{head} {{", *printed(each[2], labels, depth + 1), f"{pad}}}"]
         elif each[0] == "label":
             if each[1] in labels:

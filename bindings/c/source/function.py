@@ -6,46 +6,31 @@ from expressions import C_TYPES, COMPARE, Expression, arithmetic, cast, chosen, 
 from flow import Flow, Writer, printed, simple, used_labels
 from llvm import Unknown
 from memory import Memory, Place, Root
+from tidy import tidied
+from variables import Variables
 
 STATUS = ["JCOBS_OK", "JCOBS_MORE", "JCOBS_TOO_SMALL", "JCOBS_BROKEN", "JCOBS_EMPTY"]
 KINDS = ["JCOBS_NOT_A_FRAME", "JCOBS_CANONICAL", "JCOBS_LONGER"]
+ENDED = re.compile(
+    r"^( *)answer\.status = (.*);\n *answer\.consumed = (.*);\n *answer\.length = (.*);\n *return answer;$", re.M
+)
 
 
-class Translation(Memory):
+class Translation(Variables, Memory):
     """Makes C of one function."""
 
-    def __init__(self, function, calls, structs, padding=()):
+    def __init__(self, function, calls, structs, names, padding=()):
         self.function, self.calls, self.structs = function, calls, structs
+        self.better, self.found = names, set()  # names in place of those that are found, and the latter
         self.call = calls[function.name]
         self.words = KINDS if self.call.name == "jcobs_frame_kind" else STATUS
         self.flow = Flow(function)
         self.env, self.declared, self.names, self.start = {}, {}, {}, []
-        self.result = None
+        self.result, self.padding = None, set(padding)
         self.take_params()
         self.count_uses()
         self.find_statuses()
-        self.padding = set(padding)
-
-    # What the names of the module become.
-
-    def name_of(self, name):
-        """The name in C of a value: of the member that it is read from, or of its type."""
-        if name not in self.names:
-            taken = {*self.names.values(), *(it for _, it in self.call.params), "answer"}
-            text = self.word_for(name)
-            self.names[name] = next(it for it in [text, *(f"{text}{i}" for i in range(2, 99))] if it not in taken)
-        return self.names[name]
-
-    def word_for(self, name):
-        made = self.made[name][2]
-        if made.op == "load":
-            text = self.member(self.env[made.args[0][1]], made.type).text
-            return "byte" if "[" in text else re.split(r"->|\.", text)[-1]
-        if made.op == "phi" and ("i64", "0") in made.args and len(made.args) == 2:
-            return "i"
-        if made.type == "i32":
-            return "status" if name in self.statuses else "kind"
-        return {"i1": "is", "i8": "byte", "i64": "n"}[made.type]
+        self.find_webs()
 
     def variable(self, name, kind):
         text = self.name_of(name)
@@ -133,21 +118,41 @@ class Translation(Memory):
         return where, at
 
     def is_inlined(self, name):
-        label, index, made = self.made[name]
+        """Whether a value is written where it is used, in place of a variable's name."""
+        made = self.made[name][2]
         if made.op in ("gep", "extract", "alloca"):
             return True
         if made.op == "call" and not made.more.startswith("llvm."):
             return False
+        return self.is_moved(name) or self.is_repeated(name)
+
+    def is_moved(self, name):
+        """Whether a value has one use, and is the same there."""
+        label, index, made = self.made[name]
         users = self.uses.get(name, [])
-        if len(users) != 1 or users[0][0] != label:
+        if made.op == "phi" or len(users) != 1 or users[0][0] != label:
+            return False
+        body = self.function.blocks[label].body
+        user = body[users[0][1]].result if users[0][1] < len(body) else None
+        if user and self.is_repeated(user):
             return False
         where, at = self.effect(name)
-        if where != label:
+        return where == label and not (self.reads(name) and any(map(self.changes, body[index + 1 : at])))
+
+    def is_repeated(self, name):
+        """Whether an expression is written wherever its value is used: a wider type of a variable, or a comparison of one that
+        then still shares its variable with others."""
+        made, users = self.made[name][2], self.uses.get(name, [])
+        if made.op not in ("icmp", "zext") or not users or self.is_moved(name):
             return False
-        if self.reads(name):
-            between = self.function.blocks[label].body[index + 1 : at]
-            return not any(it.op == "store" or (it.op == "call" and not self.is_pure(it)) for it in between)
-        return True
+        return made.op == "zext" or not any(self.is_parted(it, name) for _, it in made.args if it in self.made)
+
+    def changes(self, each):
+        """Whether an instruction may change memory that is read, which the function's result isn't."""
+        if each.op == "store":
+            place = self.place_of(each.args[1][1])
+            return place is None or place.root is not self.result
+        return each.op == "call" and not self.is_pure(each)
 
     @staticmethod
     def is_pure(call):
@@ -200,7 +205,8 @@ class Translation(Memory):
             return []
         name = self.variable(each.result, self.c_type(each))
         self.env[each.result] = name
-        return [f"{name.text} = {value.text};"] if self.uses.get(each.result) else []
+        is_moot = value.text == name.text or not self.uses.get(each.result)
+        return [] if is_moot else [self.assigned(name.text, value, C_TYPES[each.type])]
 
     def computed(self, each):
         status = each.result in self.statuses or (each.op == "icmp" and each.args[0][0] == "i32")
@@ -283,7 +289,7 @@ class Translation(Memory):
 
     @staticmethod
     def assigned(name, value, kind):
-        step = re.fullmatch(rf"(?:\(unsigned char\)\()?{name} ([-+]) ([\w.>-]+)\)?", value.text)
+        step = re.fullmatch(rf"(?:\(unsigned char\)\()?{name} ([-+]) ((?:\(size_t\))?[\w.>-]+)\)?", value.text)
         if step and kind == "size_t":
             return f"{name}{step[1] * 2};" if step[2] == "1" else f"{name} {step[1]}= {step[2]};"
         return f"{name} = {value.text};"
@@ -308,11 +314,14 @@ class Translation(Memory):
         writer = Writer(self.flow, self.block, self.moves, self.end)
         writer.condition = lambda last: self.value(*last.args[0])
         writer.copy = self.copy
-        statements = simple(writer.tree(self.flow.entry, None, None))
+        statements = tidied(simple(writer.tree(self.flow.entry, None, None)))
         if statements[-1] == "return;":
             statements.pop()
         labels = {label: f"at_{i}" for i, label in enumerate(sorted(used_labels(statements)), 1)}
         body = printed(statements, labels)
+        if unknown := set(self.better) - self.found:
+            raise Unknown(f"no {', '.join(sorted(unknown))} in {self.call.name}, which NAMES has")
+        body = ENDED.sub(r"\1return jcobs_answered(\2, \3, \4);", "\n".join(body)).split("\n")
         used = set(re.findall(r"\w+", "\n".join(body)))
         lines = [f"    {text}" for name, text in self.start if name in used]
         kinds = {}

@@ -22,21 +22,96 @@
 typedef char jcobs_bytes_have_8_bits[CHAR_BIT == 8 ? 1 : -1];
 typedef char jcobs_size_t_is_no_shorter_than_int[sizeof(size_t) >= sizeof(unsigned int) ? 1 : -1];
 
+/* Makes a result. It is written by hand. */
+static jcobs_answer jcobs_answered(JCOBS_STATUS status, size_t consumed, size_t length)
+{
+    jcobs_answer answer;
+
+    answer.status = status;
+    answer.consumed = consumed;
+    answer.length = length;
+    return answer;
+}
+
+/* Takes one byte of the stream, as a push of that byte.
+ * Proved, in decoder.rt:
+ *     ensures decodes { DecodesNext decoder.old buffer.old (byte :: []) result decoder.new buffer.new } */
+jcobs_answer jcobs_decoder_feed(jcobs_decoder *decoder, void *buffer, size_t buffer_len, unsigned char byte)
+{
+    unsigned char *const to = (unsigned char *)buffer;
+    unsigned char too_long;
+    size_t written, length;
+
+    too_long = decoder->too_long;
+    if (byte == 0) {
+        if (too_long == 0) {
+            written = decoder->written;
+            if (decoder->lacking != 0) {
+                length = buffer_len < written ? buffer_len : written;
+                decoder->written = 0;
+                decoder->lacking = 0;
+                decoder->joint = 0;
+                decoder->too_long = 0;
+                return jcobs_answered(JCOBS_BROKEN, 1, length);
+            }
+            if (buffer_len >= written) {
+                if (written == 0 && decoder->joint == 0) {
+                    return jcobs_answered(JCOBS_MORE, 1, 0);
+                }
+                decoder->written = 0;
+                decoder->lacking = 0;
+                decoder->joint = 0;
+                decoder->too_long = 0;
+                return jcobs_answered(JCOBS_OK, 1, written);
+            }
+        }
+        decoder->written = 0;
+        decoder->lacking = 0;
+        decoder->joint = 0;
+        decoder->too_long = 0;
+        return jcobs_answered(JCOBS_TOO_SMALL, 1, buffer_len);
+    }
+    if (too_long != 0) {
+        return jcobs_answered(JCOBS_MORE, 1, buffer_len);
+    }
+    written = decoder->written;
+    if (decoder->lacking == 0) {
+        if (decoder->joint != 0) {
+            if (buffer_len <= written) {
+                decoder->too_long = 1;
+                return jcobs_answered(JCOBS_MORE, 1, buffer_len);
+            }
+            to[written] = 0;
+            written++;
+            decoder->written = written;
+        }
+        decoder->lacking = (unsigned char)(byte - 1);
+        decoder->joint = (unsigned char)(byte != 255);
+    } else {
+        if (buffer_len <= written) {
+            decoder->too_long = 1;
+            return jcobs_answered(JCOBS_MORE, 1, buffer_len);
+        }
+        to[written] = byte;
+        written++;
+        decoder->written = written;
+        decoder->lacking = (unsigned char)(decoder->lacking - 1);
+    }
+    if (decoder->too_long == 0) {
+        return jcobs_answered(JCOBS_MORE, 1, buffer_len < written ? buffer_len : written);
+    }
+    return jcobs_answered(JCOBS_MORE, 1, buffer_len);
+}
+
 /* Returns 1 if no piece is open, and 0 otherwise.
  * Proved, in decoder.rt:
  *     ensures idle { ReportsIdle decoder.now result } */
 unsigned int jcobs_decoder_is_idle(const jcobs_decoder *decoder)
 {
-    if (decoder->written == 0) {
-        if (decoder->lacking == 0) {
-            if (decoder->joint == 0) {
-                return (unsigned int)(decoder->too_long == 0);
-            }
-            return 0;
-        }
+    if (decoder->written != 0 || decoder->lacking != 0 || decoder->joint != 0) {
         return 0;
     }
-    return 0;
+    return (unsigned int)(decoder->too_long == 0);
 }
 
 /* Takes bytes of the stream through the zero that ends the first piece, or all of them. Even if the state is
@@ -47,101 +122,83 @@ jcobs_answer jcobs_decoder_push(jcobs_decoder *decoder, void *buffer, size_t buf
 {
     unsigned char *const to = (unsigned char *)buffer;
     const unsigned char *const from = (const unsigned char *)bytes;
-    jcobs_answer answer;
-    size_t i, written, written2, written3;
-    unsigned char byte;
-    int is;
+    size_t written, consumed, next;
+    unsigned char lacking, joint, too_long, byte;
 
-    i = 0;
-    while (i != len) {
-        byte = from[i];
-        is = decoder->too_long == 0;
-        if (byte == 0) {
-            if (is) {
-                written = decoder->written;
-                if (decoder->lacking != 0) {
+    written = decoder->written;
+    lacking = decoder->lacking;
+    joint = decoder->joint;
+    too_long = decoder->too_long;
+    consumed = 0;
+    if (too_long == 0) {
+        while (consumed != len) {
+            byte = from[consumed];
+            consumed++;
+            if (byte == 0) {
+                if (lacking != 0) {
                     decoder->written = 0;
                     decoder->lacking = 0;
                     decoder->joint = 0;
                     decoder->too_long = 0;
-                    answer.status = JCOBS_BROKEN;
-                    answer.consumed = i + 1;
-                    answer.length = buffer_len < written ? buffer_len : written;
-                    return answer;
+                    return jcobs_answered(JCOBS_BROKEN, consumed, buffer_len < written ? buffer_len : written);
                 }
-                if (buffer_len >= written) {
-                    if (written == 0 && decoder->joint == 0) {
-                        goto at_1;
+                if (buffer_len < written) {
+                    decoder->written = 0;
+                    decoder->lacking = 0;
+                    decoder->joint = 0;
+                    decoder->too_long = 0;
+                    return jcobs_answered(JCOBS_TOO_SMALL, consumed, buffer_len);
+                }
+                if (written != 0 || joint != 0) {
+                    decoder->written = 0;
+                    decoder->lacking = 0;
+                    decoder->joint = 0;
+                    decoder->too_long = 0;
+                    return jcobs_answered(JCOBS_OK, consumed, written);
+                }
+            } else {
+                if (lacking != 0) {
+                    if (buffer_len <= written) {
+                        too_long = 1;
+                        break;
                     }
-                    decoder->written = 0;
-                    decoder->lacking = 0;
-                    decoder->joint = 0;
-                    decoder->too_long = 0;
-                    answer.status = JCOBS_OK;
-                    answer.consumed = i + 1;
-                    answer.length = written;
-                    return answer;
+                    to[written] = byte;
+                    written++;
+                    lacking = (unsigned char)(lacking - 1);
+                    continue;
                 }
+                if (joint != 0) {
+                    if (buffer_len <= written) {
+                        too_long = 1;
+                        break;
+                    }
+                    to[written] = 0;
+                    written++;
+                }
+                lacking = (unsigned char)(byte - 1);
+                joint = (unsigned char)(byte != 255);
             }
+        }
+    }
+    while (consumed < len) {
+        next = consumed + 1;
+        if (from[consumed] == 0) {
             decoder->written = 0;
             decoder->lacking = 0;
             decoder->joint = 0;
             decoder->too_long = 0;
-            answer.status = JCOBS_TOO_SMALL;
-            answer.consumed = i + 1;
-            answer.length = buffer_len;
-            return answer;
+            return jcobs_answered(JCOBS_TOO_SMALL, next, buffer_len);
         }
-        if (is) {
-            written2 = decoder->written;
-            if (decoder->lacking == 0) {
-                if (decoder->joint != 0) {
-                    if (buffer_len <= written2) {
-                        decoder->too_long = 1;
-                        goto at_1;
-                    }
-                    to[written2] = 0;
-                    decoder->written = written2 + 1;
-                }
-                decoder->lacking = (unsigned char)(byte - 1);
-                decoder->joint = (unsigned char)(byte != 255);
-            } else {
-                if (buffer_len > written2) {
-                    to[written2] = byte;
-                    decoder->written = written2 + 1;
-                    decoder->lacking = (unsigned char)(decoder->lacking - 1);
-                } else {
-                    decoder->too_long = 1;
-                }
-            }
-        }
-at_1:
-        i++;
+        consumed = next;
     }
-    if (decoder->too_long == 0) {
-        written3 = decoder->written;
-        answer.status = JCOBS_MORE;
-        answer.consumed = len;
-        answer.length = buffer_len < written3 ? buffer_len : written3;
-        return answer;
+    decoder->written = written;
+    decoder->lacking = lacking;
+    decoder->joint = joint;
+    decoder->too_long = too_long;
+    if (too_long == 0) {
+        return jcobs_answered(JCOBS_MORE, len, buffer_len < written ? buffer_len : written);
     }
-    answer.status = JCOBS_MORE;
-    answer.consumed = len;
-    answer.length = buffer_len;
-    return answer;
-}
-
-/* Takes one byte of the stream, as a push of that byte.
- * Proved, in decoder.rt:
- *     ensures decodes { DecodesNext decoder.old buffer.old (byte :: []) result decoder.new buffer.new } */
-jcobs_answer jcobs_decoder_feed(jcobs_decoder *decoder, void *buffer, size_t buffer_len, unsigned char byte)
-{
-    jcobs_answer answer;
-    unsigned char bytes_here[1];
-
-    bytes_here[0] = byte;
-    answer = jcobs_decoder_push(decoder, buffer, buffer_len, bytes_here, 1);
-    return answer;
+    return jcobs_answered(JCOBS_MORE, len, buffer_len);
 }
 
 /* Makes the decoder one that has taken nothing, even if its state is corrupt.
@@ -155,6 +212,72 @@ void jcobs_decoder_reset(jcobs_decoder *decoder)
     decoder->too_long = 0;
 }
 
+/* Writes the frame of the message to the front of the buffer frame, if it fits. Otherwise nothing is written.
+ * Proved, in encode.rt:
+ *     ensures encodes { Encodes message.now frame.old result frame.new } */
+jcobs_answer jcobs_encode(const void *message, size_t message_len, void *frame, size_t frame_len)
+{
+    const unsigned char *const from = (const unsigned char *)message;
+    unsigned char *const to = (unsigned char *)frame;
+    size_t i, left, at;
+    unsigned char code, byte;
+
+    if (frame_len <= message_len) {
+        return jcobs_answered(JCOBS_TOO_SMALL, 0, 0);
+    }
+    if (message_len >= 255 && (message_len >> 7) >= frame_len - message_len) {
+        code = 1;
+        left = frame_len;
+        for (i = 0; i != message_len; i++) {
+            if (code == 255) {
+                if (left < 255) {
+                    return jcobs_answered(JCOBS_TOO_SMALL, 0, 0);
+                }
+                code = 1;
+                left -= 255;
+            }
+            if (from[i] == 0) {
+                if (left < (size_t)code) {
+                    return jcobs_answered(JCOBS_TOO_SMALL, 0, 0);
+                }
+                left -= (size_t)code;
+                code = 1;
+            } else {
+                code = (unsigned char)(code + 1);
+            }
+        }
+        if (left < (size_t)code) {
+            return jcobs_answered(JCOBS_TOO_SMALL, 0, 0);
+        }
+    }
+    code = 1;
+    at = 0;
+    if (message_len != 0) {
+        for (i = 0; i != message_len; i++) {
+            if (code == 255) {
+                to[at] = 255;
+                code = 1;
+                at += 255;
+            }
+            byte = from[i];
+            if (byte == 0) {
+                to[at] = code;
+                at += (size_t)code;
+                code = 1;
+            } else {
+                to[at + (size_t)code] = byte;
+                code = (unsigned char)(code + 1);
+            }
+        }
+        if (code == 255) {
+            to[at] = 255;
+            return jcobs_answered(JCOBS_OK, message_len, at + 255);
+        }
+    }
+    to[at] = code;
+    return jcobs_answered(JCOBS_OK, message_len, at + (size_t)code);
+}
+
 /* Encodes the message of message_len bytes that lies in the buffer, behind the room for the longest frame's other
  * bytes, to the front of the buffer, if the longest frame fits. Otherwise nothing is written.
  * Proved, in encode.rt:
@@ -162,77 +285,120 @@ void jcobs_decoder_reset(jcobs_decoder *decoder)
 jcobs_answer jcobs_encode_in_place(void *buffer, size_t buffer_len, size_t message_len)
 {
     unsigned char *const to = (unsigned char *)buffer;
-    jcobs_answer answer;
-    size_t n, n2, i, i2, n3, n4;
-    unsigned char byte, byte2, byte3, byte4;
-    int is, is2;
+    size_t start, index, i, next;
+    unsigned char code, byte, last;
+    int is_full;
 
     if (buffer_len < message_len) {
-        answer.status = JCOBS_TOO_SMALL;
-        answer.consumed = 0;
-        answer.length = 0;
-        return answer;
+        return jcobs_answered(JCOBS_TOO_SMALL, 0, 0);
     }
     if (message_len == 0) {
         if (buffer_len == 0) {
-            answer.status = JCOBS_TOO_SMALL;
-            answer.consumed = 0;
-            answer.length = 0;
-            return answer;
+            return jcobs_answered(JCOBS_TOO_SMALL, 0, 0);
         }
-        n = 1;
+        start = 1;
     } else {
-        n2 = message_len / 254 + (size_t)(message_len % 254 != 0);
-        if (buffer_len - message_len < n2) {
-            answer.status = JCOBS_TOO_SMALL;
-            answer.consumed = 0;
-            answer.length = 0;
-            return answer;
+        start = message_len / 254 + (size_t)(message_len % 254 != 0);
+        if (buffer_len - message_len < start) {
+            return jcobs_answered(JCOBS_TOO_SMALL, 0, 0);
         }
-        n = n2;
     }
-    i = 0;
-    byte = 1;
-    is = 0;
-    i2 = 0;
-    while (i2 != message_len) {
-        byte2 = to[n + i2];
-        n3 = i + (size_t)byte;
-        if (byte2 == 0) {
-            to[i] = byte;
-            n4 = n3;
-            byte3 = 1;
-            is2 = 0;
+    index = 0;
+    code = 1;
+    is_full = 0;
+    for (i = 0; i != message_len; i++) {
+        byte = to[start + i];
+        next = index + (size_t)code;
+        if (byte == 0) {
+            to[index] = code;
+            index = next;
+            code = 1;
+            is_full = 0;
         } else {
-            to[n3] = byte2;
-            if (byte == 254) {
-                to[i] = 255;
-                n4 = n3 + 1;
-                byte3 = 1;
-                is2 = 1;
+            to[next] = byte;
+            if (code == 254) {
+                to[index] = 255;
+                index = next + 1;
+                code = 1;
+                is_full = 1;
             } else {
-                n4 = i;
-                byte3 = (unsigned char)(byte + 1);
-                is2 = 0;
+                code = (unsigned char)(code + 1);
+                is_full = 0;
             }
         }
-        i = n4;
-        byte = byte3;
-        is = is2;
-        i2++;
     }
-    if (i < buffer_len) {
-        if (is) {
-            byte4 = to[i];
+    if (index < buffer_len) {
+        if (is_full) {
+            last = to[index];
         } else {
-            byte4 = byte;
+            last = code;
         }
-        to[i] = byte4;
+        to[index] = last;
     }
-    answer.status = JCOBS_OK;
-    answer.consumed = message_len;
-    answer.length = (is ? 0 : (size_t)byte) + i;
-    return answer;
+    return jcobs_answered(JCOBS_OK, message_len, (is_full ? 0 : (size_t)code) + index);
+}
+
+/* Writes the frame of the message and a zero after it to the front of the buffer frame, if both fit. Otherwise
+ * nothing is written.
+ * Proved, in encode.rt:
+ *     ensures encodes { EncodesTerminated 0 message.now frame.old result frame.new } */
+jcobs_answer jcobs_encode_terminated(const void *message, size_t message_len, void *frame, size_t frame_len)
+{
+    unsigned char *const to = (unsigned char *)frame;
+    jcobs_answer pushed;
+    JCOBS_STATUS status;
+    size_t length;
+
+    if (frame_len == 0) {
+        return jcobs_answered(JCOBS_TOO_SMALL, 0, 0);
+    }
+    pushed = jcobs_encode(message, message_len, frame, frame_len - 1);
+    status = pushed.status;
+    if (status != JCOBS_OK) {
+        return jcobs_answered(status, pushed.consumed, pushed.length);
+    }
+    length = pushed.length;
+    to[length] = 0;
+    return jcobs_answered(JCOBS_OK, pushed.consumed, length + 1);
+}
+
+/* Takes the next byte of a message, as a push of that byte.
+ * Proved, in encoder.rt:
+ *     ensures encodes { EncodesNext encoder.old buffer.old (byte :: []) result encoder.new buffer.new } */
+jcobs_answer jcobs_encoder_feed(jcobs_encoder *encoder, void *buffer, size_t buffer_len, unsigned char byte)
+{
+    unsigned char *const to = (unsigned char *)buffer;
+    size_t index, next;
+    unsigned char taken, full;
+
+    index = encoder->index;
+    taken = encoder->taken;
+    if (buffer_len < index || taken > 253 || buffer_len - index <= (size_t)taken + 1) {
+        return jcobs_answered(JCOBS_TOO_SMALL, 0, 0);
+    }
+    taken = (unsigned char)(taken + 1);
+    next = index + (size_t)taken;
+    if (byte == 0) {
+        to[index] = taken;
+        encoder->index = next;
+        encoder->taken = 0;
+        encoder->full = 0;
+        return jcobs_answered(JCOBS_OK, 1, next + 1);
+    }
+    to[next] = byte;
+    if (taken == 254) {
+        to[index] = 255;
+        index = next + 1;
+        encoder->index = index;
+        taken = 0;
+        full = 1;
+    } else {
+        index = next + 1;
+        full = 0;
+    }
+    encoder->taken = taken;
+    encoder->full = full;
+    return jcobs_answered(JCOBS_OK, 1, index);
 }
 
 /* Ends the message, if its frame fits the buffer. Even if the state is corrupt, the buffer keeps its length, and
@@ -242,51 +408,33 @@ jcobs_answer jcobs_encode_in_place(void *buffer, size_t buffer_len, size_t messa
 jcobs_answer jcobs_encoder_finish(jcobs_encoder *encoder, void *buffer, size_t buffer_len)
 {
     unsigned char *const to = (unsigned char *)buffer;
-    jcobs_answer answer;
-    unsigned char taken, full, byte;
-    size_t index, n;
+    unsigned char taken, full, code;
+    size_t index;
 
     if (buffer_len == 0) {
-        answer.status = JCOBS_TOO_SMALL;
-        answer.consumed = 0;
-        answer.length = 0;
-        return answer;
+        return jcobs_answered(JCOBS_TOO_SMALL, 0, 0);
     }
     taken = encoder->taken;
     if (taken > 253) {
-        answer.status = JCOBS_TOO_SMALL;
-        answer.consumed = 0;
-        answer.length = 0;
-        return answer;
+        return jcobs_answered(JCOBS_TOO_SMALL, 0, 0);
     }
     index = encoder->index;
     if (buffer_len < index) {
-        answer.status = JCOBS_TOO_SMALL;
-        answer.consumed = 0;
-        answer.length = 0;
-        return answer;
+        return jcobs_answered(JCOBS_TOO_SMALL, 0, 0);
     }
     full = encoder->full;
-    if (full != 0 || buffer_len - index > (size_t)taken) {
-        if (full == 0) {
-            byte = (unsigned char)(taken + 1);
-            to[index] = byte;
-            n = index + (size_t)byte;
-        } else {
-            n = index;
-        }
-        encoder->index = 0;
-        encoder->taken = 0;
-        encoder->full = 0;
-        answer.status = JCOBS_OK;
-        answer.consumed = 0;
-        answer.length = n;
-        return answer;
+    if (full == 0 && buffer_len - index <= (size_t)taken) {
+        return jcobs_answered(JCOBS_TOO_SMALL, 0, 0);
     }
-    answer.status = JCOBS_TOO_SMALL;
-    answer.consumed = 0;
-    answer.length = 0;
-    return answer;
+    if (full == 0) {
+        code = (unsigned char)(taken + 1);
+        to[index] = code;
+        index += (size_t)code;
+    }
+    encoder->index = 0;
+    encoder->taken = 0;
+    encoder->full = 0;
+    return jcobs_answered(JCOBS_OK, 0, index);
 }
 
 /* Ends the message, as jcobs_encoder_finish does, and writes a zero after its frame, if both fit.
@@ -296,59 +444,38 @@ jcobs_answer jcobs_encoder_finish(jcobs_encoder *encoder, void *buffer, size_t b
 jcobs_answer jcobs_encoder_finish_terminated(jcobs_encoder *encoder, void *buffer, size_t buffer_len)
 {
     unsigned char *const to = (unsigned char *)buffer;
-    jcobs_answer answer;
-    size_t n, index, n2;
-    unsigned char taken, full, byte;
+    size_t room, index;
+    unsigned char taken, full, code;
 
     if (buffer_len == 0) {
-        answer.status = JCOBS_TOO_SMALL;
-        answer.consumed = 0;
-        answer.length = 0;
-        return answer;
+        return jcobs_answered(JCOBS_TOO_SMALL, 0, 0);
     }
-    n = buffer_len - 1;
-    if (n == 0) {
-        answer.status = JCOBS_TOO_SMALL;
-        answer.consumed = 0;
-        answer.length = 0;
-        return answer;
+    room = buffer_len - 1;
+    if (room == 0) {
+        return jcobs_answered(JCOBS_TOO_SMALL, 0, 0);
     }
     taken = encoder->taken;
     if (taken > 253) {
-        answer.status = JCOBS_TOO_SMALL;
-        answer.consumed = 0;
-        answer.length = 0;
-        return answer;
+        return jcobs_answered(JCOBS_TOO_SMALL, 0, 0);
     }
     index = encoder->index;
-    if (n < index) {
-        answer.status = JCOBS_TOO_SMALL;
-        answer.consumed = 0;
-        answer.length = 0;
-        return answer;
+    if (room < index) {
+        return jcobs_answered(JCOBS_TOO_SMALL, 0, 0);
     }
     full = encoder->full;
-    if (full != 0 || n - index > (size_t)taken) {
-        if (full == 0) {
-            byte = (unsigned char)(taken + 1);
-            to[index] = byte;
-            n2 = index + (size_t)byte;
-        } else {
-            n2 = index;
-        }
-        encoder->index = 0;
-        encoder->taken = 0;
-        encoder->full = 0;
-        to[n2] = 0;
-        answer.status = JCOBS_OK;
-        answer.consumed = 0;
-        answer.length = n2 + 1;
-        return answer;
+    if (full == 0 && room - index <= (size_t)taken) {
+        return jcobs_answered(JCOBS_TOO_SMALL, 0, 0);
     }
-    answer.status = JCOBS_TOO_SMALL;
-    answer.consumed = 0;
-    answer.length = 0;
-    return answer;
+    if (full == 0) {
+        code = (unsigned char)(taken + 1);
+        to[index] = code;
+        index += (size_t)code;
+    }
+    encoder->index = 0;
+    encoder->taken = 0;
+    encoder->full = 0;
+    to[index] = 0;
+    return jcobs_answered(JCOBS_OK, 0, index + 1);
 }
 
 /* Takes the next bytes of a message, if the frame of all that was taken fits the buffer. Even if the state is
@@ -359,225 +486,94 @@ jcobs_answer jcobs_encoder_push(jcobs_encoder *encoder, void *buffer, size_t buf
 {
     unsigned char *const to = (unsigned char *)buffer;
     const unsigned char *const from = (const unsigned char *)bytes;
-    jcobs_answer answer;
-    unsigned char taken, full, byte, byte2, byte3, byte4, byte5, byte6, byte7, byte8, byte9;
-    size_t index, n, i, n2, n3, n4, n5, i2, n6, n7, n8, n9;
-    int is;
+    unsigned char taken, full, code, open, byte;
+    size_t index, left, room, held, i;
+    int is_full;
 
     taken = encoder->taken;
     if (taken > 253) {
-        answer.status = JCOBS_TOO_SMALL;
-        answer.consumed = 0;
-        answer.length = 0;
-        return answer;
+        return jcobs_answered(JCOBS_TOO_SMALL, 0, 0);
     }
     index = encoder->index;
     if (buffer_len < index) {
-        answer.status = JCOBS_TOO_SMALL;
-        answer.consumed = 0;
-        answer.length = 0;
-        return answer;
+        return jcobs_answered(JCOBS_TOO_SMALL, 0, 0);
     }
     full = encoder->full;
-    n = buffer_len - index;
-    if (full != 0 || n > (size_t)taken) {
-        byte = (unsigned char)(taken + 1);
-        if (len == 0) {
-            if (full == 0) {
-                answer.status = JCOBS_OK;
-                answer.consumed = 0;
-                answer.length = index + (size_t)byte;
-                return answer;
-            }
-            answer.status = JCOBS_OK;
-            answer.consumed = 0;
-            answer.length = index;
-            return answer;
+    left = buffer_len - index;
+    if (full == 0 && left <= (size_t)taken) {
+        return jcobs_answered(JCOBS_TOO_SMALL, 0, 0);
+    }
+    code = (unsigned char)(taken + 1);
+    if (len == 0) {
+        if (full == 0) {
+            return jcobs_answered(JCOBS_OK, 0, index + (size_t)code);
         }
-        i = 0;
-        byte2 = byte;
-        n2 = n;
-        while (i != len) {
-            if (byte2 == 255) {
-                if (n2 < 255) {
-                    answer.status = JCOBS_TOO_SMALL;
-                    answer.consumed = 0;
-                    answer.length = 0;
-                    return answer;
+        return jcobs_answered(JCOBS_OK, 0, index);
+    }
+    if (left <= (size_t)taken) {
+        return jcobs_answered(JCOBS_TOO_SMALL, 0, 0);
+    }
+    room = left - (size_t)taken;
+    if (room <= len) {
+        return jcobs_answered(JCOBS_TOO_SMALL, 0, 0);
+    }
+    held = len + (size_t)taken;
+    if (held >= 255 && (held >> 7) >= room - len) {
+        open = code;
+        for (i = 0; i != len; i++) {
+            if (open == 255) {
+                if (left < 255) {
+                    return jcobs_answered(JCOBS_TOO_SMALL, 0, 0);
                 }
-                byte3 = 1;
-                n3 = n2 - 255;
-            } else {
-                byte3 = byte2;
-                n3 = n2;
+                open = 1;
+                left -= 255;
             }
             if (from[i] == 0) {
-                n4 = (size_t)byte3;
-                if (n3 < n4) {
-                    answer.status = JCOBS_TOO_SMALL;
-                    answer.consumed = 0;
-                    answer.length = 0;
-                    return answer;
+                if (left < (size_t)open) {
+                    return jcobs_answered(JCOBS_TOO_SMALL, 0, 0);
                 }
-                byte4 = 1;
-                n5 = n3 - n4;
+                left -= (size_t)open;
+                open = 1;
             } else {
-                byte4 = (unsigned char)(byte3 + 1);
-                n5 = n3;
+                open = (unsigned char)(open + 1);
             }
-            i++;
-            byte2 = byte4;
-            n2 = n5;
         }
-        if (n2 < (size_t)byte2) {
-            answer.status = JCOBS_TOO_SMALL;
-            answer.consumed = 0;
-            answer.length = 0;
-            return answer;
+        if (left < (size_t)open) {
+            return jcobs_answered(JCOBS_TOO_SMALL, 0, 0);
         }
-        i2 = 0;
-        byte5 = byte;
-        n6 = index;
-        for (;;) {
-            is = byte5 == 255;
-            if (i2 == len) {
-                break;
-            }
-            if (is) {
-                to[n6] = 255;
-                byte6 = 1;
-                n7 = n6 + 255;
-            } else {
-                byte6 = byte5;
-                n7 = n6;
-            }
-            byte7 = from[i2];
-            if (byte7 == 0) {
-                to[n7] = byte6;
-                byte8 = 1;
-                n8 = n7 + (size_t)byte6;
-            } else {
-                to[n7 + (size_t)byte6] = byte7;
-                byte8 = (unsigned char)(byte6 + 1);
-                n8 = n7;
-            }
-            i2++;
-            byte5 = byte8;
-            n6 = n8;
+    }
+    for (i = 0;; i++) {
+        is_full = code == 255;
+        if (i == len) {
+            break;
         }
-        if (is) {
-            to[n6] = 255;
-            n9 = n6 + 255;
-            byte9 = 1;
+        if (is_full) {
+            to[index] = 255;
+            code = 1;
+            index += 255;
+        }
+        byte = from[i];
+        if (byte == 0) {
+            to[index] = code;
+            index += (size_t)code;
+            code = 1;
         } else {
-            n9 = n6;
-            byte9 = byte5;
+            to[index + (size_t)code] = byte;
+            code = (unsigned char)(code + 1);
         }
-        encoder->index = n9;
-        encoder->taken = (unsigned char)(byte9 - 1);
-        encoder->full = (unsigned char)is;
-        if (is) {
-            answer.status = JCOBS_OK;
-            answer.consumed = len;
-            answer.length = n9;
-            return answer;
-        }
-        answer.status = JCOBS_OK;
-        answer.consumed = len;
-        answer.length = n9 + (size_t)byte9;
-        return answer;
     }
-    answer.status = JCOBS_TOO_SMALL;
-    answer.consumed = 0;
-    answer.length = 0;
-    return answer;
-}
-
-/* Writes the frame of the message to the front of the buffer frame, if it fits. Otherwise nothing is written.
- * Proved, in encode.rt:
- *     ensures encodes { Encodes message.now frame.old result frame.new } */
-jcobs_answer jcobs_encode(const void *message, size_t message_len, void *frame, size_t frame_len)
-{
-    jcobs_answer answer, pushed;
-    jcobs_encoder encoder;
-    JCOBS_STATUS status;
-    size_t length, consumed, length2;
-
-    if (frame_len == 0) {
-        answer.status = JCOBS_TOO_SMALL;
-        answer.consumed = 0;
-        answer.length = 0;
-        return answer;
+    if (is_full) {
+        to[index] = 255;
+        index += 255;
+        code = 1;
     }
-    encoder.index = 0;
-    encoder.taken = 0;
-    encoder.full = 0;
-    pushed = jcobs_encoder_push(&encoder, frame, frame_len, message, message_len);
-    status = pushed.status;
-    if (status == JCOBS_OK) {
-        pushed = jcobs_encoder_finish(&encoder, frame, frame_len);
-        length = pushed.length;
-        answer.status = JCOBS_OK;
-        answer.consumed = message_len;
-        answer.length = length;
-        return answer;
+    encoder->index = index;
+    encoder->taken = (unsigned char)(code - 1);
+    encoder->full = (unsigned char)is_full;
+    if (is_full) {
+        return jcobs_answered(JCOBS_OK, len, index);
     }
-    consumed = pushed.consumed;
-    length2 = pushed.length;
-    answer.status = status;
-    answer.consumed = consumed;
-    answer.length = length2;
-    return answer;
-}
-
-/* Writes the frame of the message and a zero after it to the front of the buffer frame, if both fit. Otherwise
- * nothing is written.
- * Proved, in encode.rt:
- *     ensures encodes { EncodesTerminated 0 message.now frame.old result frame.new } */
-jcobs_answer jcobs_encode_terminated(const void *message, size_t message_len, void *frame, size_t frame_len)
-{
-    unsigned char *const to = (unsigned char *)frame;
-    jcobs_answer answer, pushed;
-    JCOBS_STATUS status;
-    size_t length, n, consumed, consumed2, length2;
-
-    if (frame_len == 0) {
-        answer.status = JCOBS_TOO_SMALL;
-        answer.consumed = 0;
-        answer.length = 0;
-        return answer;
-    }
-    pushed = jcobs_encode(message, message_len, frame, frame_len - 1);
-    status = pushed.status;
-    if (status == JCOBS_OK) {
-        length = pushed.length;
-        to[length] = 0;
-        n = length + 1;
-        consumed = pushed.consumed;
-        answer.status = JCOBS_OK;
-        answer.consumed = consumed;
-        answer.length = n;
-        return answer;
-    }
-    consumed2 = pushed.consumed;
-    length2 = pushed.length;
-    answer.status = status;
-    answer.consumed = consumed2;
-    answer.length = length2;
-    return answer;
-}
-
-/* Takes the next byte of a message, as a push of that byte.
- * Proved, in encoder.rt:
- *     ensures encodes { EncodesNext encoder.old buffer.old (byte :: []) result encoder.new buffer.new } */
-jcobs_answer jcobs_encoder_feed(jcobs_encoder *encoder, void *buffer, size_t buffer_len, unsigned char byte)
-{
-    jcobs_answer answer;
-    unsigned char bytes_here[1];
-
-    bytes_here[0] = byte;
-    answer = jcobs_encoder_push(encoder, buffer, buffer_len, bytes_here, 1);
-    return answer;
+    return jcobs_answered(JCOBS_OK, len, index + (size_t)code);
 }
 
 /* Makes the encoder one that has taken nothing, even if its state is corrupt.
@@ -596,14 +592,14 @@ void jcobs_encoder_reset(jcobs_encoder *encoder)
  *     ensures too_long { 2 ^ 64 <= max_encoded_len message_len -> result = 0 } */
 size_t jcobs_max_length(size_t message_len)
 {
-    size_t n;
+    size_t overhead;
 
     if (message_len == 0) {
-        n = 1;
+        overhead = 1;
     } else {
-        n = message_len / 254 + (size_t)(message_len % 254 != 0);
+        overhead = message_len / 254 + (size_t)(message_len % 254 != 0);
     }
-    return message_len > ~n ? 0 : n + message_len;
+    return message_len > ~overhead ? 0 : overhead + message_len;
 }
 
 /* Returns whether the bytes are a frame, and which one of its message.
@@ -612,37 +608,31 @@ size_t jcobs_max_length(size_t message_len)
 unsigned int jcobs_frame_kind(const void *bytes, size_t len)
 {
     const unsigned char *const from = (const unsigned char *)bytes;
-    size_t i, i2, n, n2;
-    int is;
+    size_t i, at, left;
+    int is_full;
     unsigned char byte;
 
     if (len == 0) {
         return JCOBS_NOT_A_FRAME;
     }
-    i = 0;
-    for (;;) {
-        if (i == len) {
-            is = 0;
-            i2 = 0;
-            break;
-        }
+    for (i = 0; i != len; i++) {
         if (from[i] == 0) {
             return JCOBS_NOT_A_FRAME;
         }
-        i++;
     }
+    is_full = 0;
+    at = 0;
     for (;;) {
-        byte = from[i2];
-        n = (size_t)byte;
-        n2 = len - i2;
-        if (n2 < n) {
+        byte = from[at];
+        left = len - at;
+        if (left < (size_t)byte) {
             return JCOBS_NOT_A_FRAME;
         }
-        if (n2 == n) {
-            return is && byte == 1 ? JCOBS_LONGER : JCOBS_CANONICAL;
+        if (left == (size_t)byte) {
+            return is_full && byte == 1 ? JCOBS_LONGER : JCOBS_CANONICAL;
         }
-        is = byte == 255;
-        i2 += n;
+        is_full = byte == 255;
+        at += (size_t)byte;
     }
 }
 
@@ -652,64 +642,44 @@ unsigned int jcobs_frame_kind(const void *bytes, size_t len)
 jcobs_answer jcobs_decode_in_place(void *buffer, size_t buffer_len)
 {
     unsigned char *const to = (unsigned char *)buffer;
-    jcobs_answer answer;
-    size_t i, n, i2, i3, n2, n3, i4, n4, n5, n6, n7;
+    size_t end, length, read, count, i, next, consumed;
     unsigned char byte;
     JCOBS_STATUS status;
 
     if (buffer_len == 0) {
-        answer.status = JCOBS_EMPTY;
-        answer.consumed = 0;
-        answer.length = 0;
-        return answer;
+        return jcobs_answered(JCOBS_EMPTY, 0, 0);
     }
-    i = 0;
-    for (;;) {
-        if (i == buffer_len) {
-            n = buffer_len;
-            break;
-        }
-        if (to[i] == 0) {
-            n = i;
-            break;
-        }
-        i++;
+    end = 0;
+    while (end != buffer_len && to[end] != 0) {
+        end++;
     }
-    i2 = 0;
-    i3 = 0;
+    length = 0;
+    read = 0;
     for (;;) {
-        if (i3 >= n) {
+        if (read >= end) {
             status = JCOBS_OK;
             break;
         }
-        byte = to[i3];
-        n2 = (size_t)byte;
-        if (n - i3 < n2) {
+        byte = to[read];
+        if (end - read < (size_t)byte) {
             status = JCOBS_BROKEN;
             break;
         }
-        n3 = n2 - 1;
-        i4 = 0;
-        while (i4 != n3) {
-            to[i2 + i4] = to[i3 + i4 + 1];
-            i4++;
+        count = (size_t)byte - 1;
+        for (i = 0; i != count; i++) {
+            to[length + i] = to[read + i + 1];
         }
-        n4 = i3 + n2;
-        n5 = n3 + i2;
-        if (byte != 255 && n4 < n) {
-            to[n5] = 0;
-            n6 = i2 + n2;
+        read += (size_t)byte;
+        next = count + length;
+        if (byte != 255 && read < end) {
+            to[next] = 0;
+            length += (size_t)byte;
         } else {
-            n6 = n5;
+            length = next;
         }
-        i2 = n6;
-        i3 = n4;
     }
-    n7 = n + 1;
-    answer.status = status;
-    answer.consumed = n7 < buffer_len ? n7 : buffer_len;
-    answer.length = i2;
-    return answer;
+    consumed = end + 1;
+    return jcobs_answered(status, consumed < buffer_len ? consumed : buffer_len, length);
 }
 
 /* Decodes the first frame of the source to the front of message.
@@ -717,11 +687,11 @@ jcobs_answer jcobs_decode_in_place(void *buffer, size_t buffer_len)
  *     ensures decodes { Decodes source.now message.old result message.new } */
 jcobs_answer jcobs_decode(const void *source, size_t source_len, void *message, size_t message_len)
 {
-    jcobs_answer answer, pushed;
     jcobs_decoder decoder;
+    jcobs_answer pushed;
     JCOBS_STATUS status;
     size_t written;
-    int is;
+    int is_empty;
 
     decoder.written = 0;
     decoder.lacking = 0;
@@ -729,36 +699,21 @@ jcobs_answer jcobs_decode(const void *source, size_t source_len, void *message, 
     decoder.too_long = 0;
     pushed = jcobs_decoder_push(&decoder, message, message_len, source, source_len);
     status = pushed.status;
-    if (status == JCOBS_MORE) {
-        if (decoder.too_long == 0) {
-            written = decoder.written;
-            if (decoder.lacking == 0) {
-                if (message_len < written) {
-                    answer.status = JCOBS_TOO_SMALL;
-                    answer.consumed = source_len;
-                    answer.length = message_len;
-                    return answer;
-                }
-                is = written == 0 && decoder.joint == 0;
-                answer.status = is ? JCOBS_EMPTY : JCOBS_OK;
-                answer.consumed = source_len;
-                answer.length = is ? 0 : written;
-                return answer;
-            }
-            answer.status = JCOBS_BROKEN;
-            answer.consumed = source_len;
-            answer.length = written;
-            return answer;
-        }
-        answer.status = JCOBS_TOO_SMALL;
-        answer.consumed = source_len;
-        answer.length = message_len;
-        return answer;
+    if (status != JCOBS_MORE) {
+        return jcobs_answered(status, pushed.consumed, pushed.length);
     }
-    answer.status = status;
-    answer.consumed = pushed.consumed;
-    answer.length = pushed.length;
-    return answer;
+    if (decoder.too_long != 0) {
+        return jcobs_answered(JCOBS_TOO_SMALL, source_len, message_len);
+    }
+    written = decoder.written;
+    if (decoder.lacking != 0) {
+        return jcobs_answered(JCOBS_BROKEN, source_len, written);
+    }
+    if (message_len < written) {
+        return jcobs_answered(JCOBS_TOO_SMALL, source_len, message_len);
+    }
+    is_empty = written == 0 && decoder.joint == 0;
+    return jcobs_answered(is_empty ? JCOBS_EMPTY : JCOBS_OK, source_len, is_empty ? 0 : written);
 }
 
 /* The calls from here on are written by hand, around those above. */

@@ -103,7 +103,7 @@ FORMS = [
         lambda r, m: Instruction(r, "icmp", "i1", [(m[2], m[3]), (m[2], m[4])], m[1]),
     ),
     (
-        rf"(add|sub|mul|udiv|urem|and|or|xor) {FLAGS}({INTEGER}) ({VALUE}), ({VALUE})",
+        rf"(add|sub|mul|udiv|urem|lshr|and|or|xor) {FLAGS}({INTEGER}) ({VALUE}), ({VALUE})",
         lambda r, m: Instruction(r, m[1], m[2], [(m[2], m[3]), (m[2], m[4])]),
     ),
     (

@@ -21,3 +21,14 @@
  * shorter than unsigned int. */
 typedef char jcobs_bytes_have_8_bits[CHAR_BIT == 8 ? 1 : -1];
 typedef char jcobs_size_t_is_no_shorter_than_int[sizeof(size_t) >= sizeof(unsigned int) ? 1 : -1];
+
+/* Makes a result. It is written by hand. */
+static jcobs_answer jcobs_answered(JCOBS_STATUS status, size_t consumed, size_t length)
+{
+    jcobs_answer answer;
+
+    answer.status = status;
+    answer.consumed = consumed;
+    answer.length = length;
+    return answer;
+}

@@ -18,6 +18,18 @@ from function import Translation
 from llvm import Unknown
 
 HERE = Path(__file__).resolve().parent
+# Names of variables that a reader knows more of than variables.py finds, which numbers those of one name. Look at them again if
+# the module changes: a name that isn't there is an error, but not one that now means something else.
+NAMES = {
+    "jcobs_decoder_push": {"consumed2": "next"},
+    "jcobs_encode_in_place": {"at": "start", "at2": "index", "at3": "next", "code2": "last"},
+    "jcobs_encoder_feed": {"index2": "next"},
+    "jcobs_encoder_push": {"n": "held", "left2": "room", "full2": "is_full", "code2": "open"},
+    "jcobs_encoder_finish_terminated": {"left": "room"},
+    "jcobs_max_length": {"n": "overhead"},
+    "jcobs_decode_in_place": {"at": "read", "at2": "next", "left": "count"},
+    "jcobs_decode": {"is": "is_empty"},
+}
 
 
 def comment(text, clauses, source):
@@ -39,9 +51,10 @@ def translated():
     for name, function in functions.items():
         if name not in contracts:
             raise Unknown(f"function {name}")
-        first = Translation(function, calls, structs)
+        names = NAMES.get(name, {})
+        first = Translation(function, calls, structs, names)
         first.written()
-        lines = Translation(function, calls, structs, first.padding).written()
+        lines = Translation(function, calls, structs, names, first.padding).written()
         parts.append("\n".join([comment(*contracts[name]), *lines]))
     if missing := set(contracts) - set(functions):
         raise Unknown(f"the module has no {missing}")

@@ -1,15 +1,20 @@
-"""Frames from a stream of trio: a socket, a pipe, or a port by trio.lowlevel.FdStream."""
+"""Frames from a stream of trio: a socket, a pipe, or a port by trio.lowlevel.FdStream.
+
+The reader has what came of a frame, so it is made once for a stream. A cancelled call loses nothing:
+
+    reader = jcobs.AsyncFrameReader(stream)
+    with trio.move_on_after(5):
+        await receive(reader, received)
+    await reader.write(b"hello")
+    await receive(reader, received)
+"""
 
 from typing import Callable
-
-import trio
 
 import jcobs
 
 
-async def receive(stream: trio.abc.ReceiveStream, received: Callable[[jcobs.Outcome], None]) -> None:
+async def receive(reader: jcobs.AsyncFrameReader, received: Callable[[jcobs.Outcome], None]) -> None:
     """Passes the outcome of each frame on, until the stream ends."""
-    decoder = jcobs.Decoder()
-    async for chunk in stream:
-        for outcome in decoder.feed(chunk):
-            received(outcome)
+    async for outcome in reader:
+        received(outcome)

@@ -137,6 +137,23 @@ def test_asyncio_read_takes_what_is_there():
     asyncio.run(run())
 
 
+def test_a_timeout_of_an_asyncio_stream_is_for_the_whole_frame():
+    async def run():
+        stream = asyncio.StreamReader()
+        reader = jcobs.AsyncFrameReader(stream)
+
+        async def trickle():
+            while True:
+                stream.feed_data(b"\x01")
+                await asyncio.sleep(0)
+
+        task = asyncio.ensure_future(trickle())
+        assert await asyncio.wait_for(reader.read(timeout=0.5), 20) is None
+        task.cancel()
+
+    asyncio.run(run())
+
+
 def test_asyncio_over_a_socket():
     async def run():
         async def serve(reader, writer):

@@ -4,7 +4,6 @@ import inspect
 import os
 import subprocess
 import sys
-from array import array
 
 import pytest
 
@@ -23,7 +22,7 @@ def backend_of(program="", **environment):
 def test_backend_is_the_code_that_works():
     module = "jcobs._plain" if jcobs.backend == "python" else "jcobs._core"
     assert type(jcobs.Decoder()._core).__module__ == type(jcobs.Encoder()._core).__module__ == module
-    assert jcobs.Message.__base__.__module__ == jcobs._frames._encode.__module__ == module
+    assert jcobs.Message.__base__.__module__ == jcobs.encode.__module__ == module
     # tests/python.sh names the one that it installed
     assert jcobs.backend == os.environ.get("JCOBS_INSTALLED", jcobs.backend)
 
@@ -38,21 +37,37 @@ def test_without_the_extension_the_fallback_works():
         backend_of(JCOBS_BACKEND="Python")
 
 
+OTHER = "import sys, types; other = sys.modules['jcobs._core'] = types.ModuleType('jcobs._core'); other.version = '0.9'"
+
+
+def test_an_extension_of_another_version_is_not_used(recwarn):
+    for program, version in ((OTHER, "0.9"), (OTHER.replace("other.version", "other.backend"), "an older version")):
+        words = [sys.executable, "-c", program + "\nimport jcobs; print(jcobs.backend)"]
+        ran = subprocess.run(words, capture_output=True, text=True, env={**os.environ, "JCOBS_BACKEND": ""})
+        assert ran.stdout == "python\n", ran.stderr
+        assert f"has an extension of {version}, and works in plain Python: install it again" in ran.stderr
+
+
 @pytest.fixture
 def core():
     return pytest.importorskip("jcobs._core", reason="the extension is not there")
 
 
 NOT_CONTIGUOUS = memoryview(b"abcd")[::2]
+
+
+class Index:
+    def __index__(self):
+        raise TypeError("by the object")
+
+
 WRONG = [
-    *(("encode", data, 0, False) for data in ("text", 5, None, NOT_CONTIGUOUS)),
-    *(("decode", data, 0, jcobs.DecodeError) for data in ("text", [1], NOT_CONTIGUOUS, b"\x05a", b"\0", b"")),
-    *(("frame_kind", data, 0) for data in ("text", NOT_CONTIGUOUS)),
-    *(("encode", b"", sentinel, False) for sentinel in (-1, 256, 2**70, -(2**70), "0", None, 1.0)),
-    *(("encode_in_place", data, 1, 0) for data in ("text", 5, b"\0a", NOT_CONTIGUOUS, bytearray(1), array("I"))),
-    *(("encode_in_place", bytearray(9), length, 0) for length in (-1, 9, 2**63 - 1, 2**63, 1.5)),
-    *(("encode_in_place", bytearray(9), 1, sentinel) for sentinel in (-1, 256, "0")),
-    *(("max_length", length) for length in (-1, 2**63, -(2**70), 1.5, "1")),
+    *(("encode", data) for data in ("text", 5, None, NOT_CONTIGUOUS)),
+    *(("decode", data) for data in ("text", [1], NOT_CONTIGUOUS, b"\x05a", b"\0", b"")),
+    *(("frame_kind", data) for data in ("text", NOT_CONTIGUOUS)),
+    *(("encode", b"", sentinel) for sentinel in (-1, 256, 2**70, -(2**70), "0", None, 1.0, Index())),
+    *((call, b"\x01", 300) for call in ("decode", "frame_kind")),
+    *(("max_length", length) for length in (-1, 2**63, -(2**70), 1.5, "1", Index())),
     *((coder, *words) for coder in ("Decoder", "Encoder") for words in ((-1, 0), (2**70, 0), ("1", 0), (1, "1"))),
 ]
 
@@ -62,14 +77,48 @@ def test_errors_are_the_same(core, name, arguments):
     raised = []
     for module in (core, _plain):
         with pytest.raises((TypeError, ValueError, OverflowError, BufferError)) as error:
-            getattr(module, name)(*arguments)
+            if name in ("encode", "decode", "frame_kind"):
+                getattr(module, name)(arguments[0], sentinel=arguments[1] if arguments[1:] else 0)
+            else:
+                getattr(module, name)(*arguments)
         raised.append((type(error.value), str(error.value), getattr(error.value, "data", None)))
     assert raised[0] == raised[1]
 
 
+CALLS = ("encode", "decode", "frame_kind", "max_length")
+
+
+@pytest.mark.parametrize("call", CALLS)
+def test_calls_have_the_same_documents_and_arguments(core, call):
+    ours, plain = getattr(core, call), getattr(_plain, call)
+    assert inspect.getdoc(ours) == inspect.getdoc(plain)
+    kept = [(one.name, one.kind, one.default) for one in inspect.signature(ours).parameters.values()]
+    assert kept == [(one.name, one.kind, one.default) for one in inspect.signature(plain).parameters.values()]
+
+
+@pytest.mark.parametrize("call", CALLS)
+def test_arguments_by_name(call):
+    call = getattr(jcobs, call)
+    names = list(inspect.signature(call).parameters)
+    first = 5 if names[0] == "length" else b"\x06hello"
+    assert call(**{names[0]: first}) == call(first)
+    for words, named, wanted in (
+        ((), {}, "missing 1 required positional argument"),
+        ((first,), {names[0]: first}, "multiple values for argument"),
+        ((first,), {"size": 1}, "unexpected keyword argument 'size'"),
+        ((first, 0), {}, "1 positional argument"),
+    ):
+        with pytest.raises(TypeError, match=wanted):
+            call(*words, **named)
+    if "sentinel" in names:
+        assert call(b"\x06", **{"".join(["sent", "inel"]): 7}) in (b"\x05\x01", b"", "canonical")
+        with pytest.raises(TypeError, match="must be an integer"):
+            call(first, sentinel="7")
+
+
 def test_signatures():
     assert list(inspect.signature(jcobs.Message).parameters) == ["data"]
-    assert str(inspect.signature(jcobs.encode)).startswith("(data: ")
+    assert str(inspect.signature(jcobs.decode)).startswith("(frame")
     for kind in (jcobs.Message, jcobs.Broken, jcobs.TooLong):
         with pytest.raises(TypeError, match=rf"{kind.__name__}\(\) argument 'data' must be bytes, not str"):
             kind("text")

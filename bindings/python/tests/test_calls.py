@@ -285,6 +285,14 @@ def test_compat():
             cobs.decode(frame)
     with pytest.raises(cobs.DecodeError, match="not enough input bytes for length code"):
         cobs.decode(b"\x05abc")
+    for at in range(300):
+        frame = bytearray(b"\xff" + b"a" * 254 + b"\x2db" + b"c" * 43)
+        frame[at] = 0
+        for data in (bytes(frame), frame, memoryview(frame)):
+            with pytest.raises(cobs.DecodeError, match="zero byte found in input"):
+                cobs.decode(data)
+        with pytest.raises(cobs.DecodeError, match="not enough input bytes for length code"):
+            cobs.decode(b"\xff" + b"a" * at if at < 254 else b"\xff" + b"a" * 254 + b"\xf0" + b"b" * at)
     with pytest.raises(TypeError):
         cobs.encode("text")
     with pytest.raises(TypeError):

@@ -20,6 +20,20 @@ def run(*words, data=b"", status=0):
     return ran.stdout if status == 0 else ran.stderr.decode()
 
 
+def test_version_and_backend():
+    assert run("--version") == f"jcobs {jcobs.__version__}, backend {jcobs.backend}\n".encode()
+
+
+def test_a_user_at_a_terminal_is_told_what_it_waits_for(terminals):
+    device, end = terminals
+    with subprocess.Popen([sys.executable, "-m", "jcobs"], stdin=device, stderr=subprocess.PIPE) as waiting:
+        try:
+            said = waiting.stderr.readline().decode()
+        finally:
+            waiting.kill()
+    assert said == f"jcobs {jcobs.__version__}, backend {jcobs.backend}: waits for frames, as typed\n"
+
+
 def test_show():
     lines = b"message 5 hello\nmessage 0\nmessage 2 ff07\nbroken 1\nmessage 3 abc\nunfinished\n"
     assert run(data=STREAM) == run("show", data=STREAM) == lines

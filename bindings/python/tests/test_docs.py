@@ -4,6 +4,7 @@ import doctest
 import importlib
 import os
 import re
+import shutil
 import subprocess
 import sys
 import threading
@@ -18,7 +19,15 @@ README = Path(__file__).resolve().parent.parent / "README.md"
 
 @pytest.mark.parametrize(
     "name, least",
-    [("jcobs", 4), ("jcobs._frames", 11), ("jcobs._streams", 13), ("jcobs._readers", 14), ("jcobs.compat", 5)],
+    [
+        ("jcobs", 4),
+        (jcobs.encode.__module__, 7),
+        ("jcobs._frames", 4),
+        ("jcobs._streams", 13),
+        ("jcobs._readers", 14),
+        ("jcobs._async", 3),
+        ("jcobs.compat", 5),
+    ],
 )
 def test_docstrings(name, least):
     module = importlib.import_module(name)
@@ -41,52 +50,54 @@ def readme_blocks(language):
 
 
 def test_readme_examples():
-    block = readme_blocks("python")[2]
+    block = readme_blocks("python")[1]
     runner = doctest.DocTestRunner()
     runner.run(doctest.DocTestParser().get_doctest(block, {}, "README.md", str(README), 0))
     assert runner.summarize(verbose=False) == (0, 5)
 
 
 def test_readme_request_and_reply(terminals, monkeypatch, capsys):
-    """The first two blocks, with a device at a pseudo-terminal that is asked for its state and replies."""
+    """The first block, with a device at a pseudo-terminal that is asked for its state and replies."""
     serial = pytest.importorskip("serial")
     descriptor, end = terminals
     port = serial.Serial(os.ttyname(descriptor), timeout=2)  # which ends the loop
     monkeypatch.setattr(serial, "Serial", lambda name, baud: port)
     device = jcobs.FrameReader(end)
-    names = {}
+    block = readme_blocks("python")[0]
+    assert "timeout=0.5, discard=True" in block
+    late = threading.Event()
 
     def reply():
+        end.write(b"\x05late\0\x03o")
+        late.set()
         assert device.read(timeout=60) == jcobs.Message(b"status?")
         for part in (b"\x03o", b"k\0", b"\x05a\0"):
             end.write(part)
 
     thread = threading.Thread(target=reply)
-    exec(readme_blocks("python")[0].replace("0.5", "60"), names)
     thread.start()
-    with port:
-        exec(readme_blocks("python")[1], names)
-        thread.join()
-        assert capsys.readouterr().out == "b'ok'\nBroken(b'a')\n"
-        end.write(b"\x05a\0")
-        with pytest.raises(ValueError, match=r"damaged: Broken\(b'a'\)"):
-            names["ask"](names["device"], b"status?")
-        exec(readme_blocks("python")[0].replace("0.5", "0.01"), names)
-        with pytest.raises(TimeoutError, match="no reply"):
-            names["ask"](names["device"], b"status?")
+    assert late.wait(60)
+    while not port.in_waiting:
+        pass
+    exec(block.replace("0.5", "60"), {})
+    thread.join()
+    assert capsys.readouterr().out == "b'ok'\nBroken(b'a')\n"
+    assert not port.is_open
 
 
-def test_readme_commands(tmp_path):
-    python = tmp_path / "python"  # Debian has no command of this name
+@pytest.mark.parametrize("shell", ["sh", "bash", "zsh"])
+def test_readme_commands(shell, tmp_path):
+    """The commands are pasted as they stand: without a prompt, and without comments, which an interactive zsh refuses."""
+    if not shutil.which(shell):
+        pytest.skip(f"{shell} is not there")
+    python = tmp_path / "python3"
     python.write_text(f'#!/bin/sh\nexec "{sys.executable}" "$@"\n')
     python.chmod(0o755)
+    blocks = readme_blocks("sh")
+    assert not re.search(r"^\$ |#", "".join(blocks), re.M) and len(blocks) == 2
     path = os.pathsep.join([str(tmp_path), os.environ["PATH"]])
-    ran = 0
-    for block in readme_blocks("console"):
-        for command, output in re.findall(r"\$ (.*)\n((?:(?!\$ ).*\n)*)", block):
-            result = subprocess.run(
-                ["sh", "-c", command], stdout=subprocess.PIPE, text=True, env={**os.environ, "PATH": path}
-            )
-            assert result.stdout == output, command
-            ran += 1
-    assert ran >= 4
+    words = [shell, "-f"] if shell == "zsh" else [shell]
+    result = subprocess.run(
+        words, input=blocks[1], stdout=subprocess.PIPE, text=True, env={**os.environ, "PATH": path}, timeout=250
+    )
+    assert result.stdout == readme_blocks("text")[0]

@@ -63,6 +63,7 @@ def test_serial_threaded(pair):
 
 
 def test_trio(terminals):
+    """The call is cancelled again and again, and made once more: it goes on in the middle of a frame."""
     trio = pytest.importorskip("trio")
     from with_trio import receive
 
@@ -71,17 +72,14 @@ def test_trio(terminals):
 
     async def run():
         with trio.fail_after(60):
-            async with trio.open_nursery() as nursery:
-
-                def received(outcome):
-                    found.append(outcome)
-                    if len(found) == len(OUTCOMES):
-                        nursery.cancel_scope.cancel()
-
-                async with trio.lowlevel.FdStream(os.dup(device)) as stream:
-                    nursery.start_soon(receive, stream, received)
-                    end.write(STREAM)
-                    await trio.sleep_forever()
+            async with jcobs.AsyncFrameReader(trio.lowlevel.FdStream(os.dup(device))) as reader:
+                for at in range(len(STREAM)):
+                    end.write(STREAM[at : at + 1])
+                    with trio.move_on_after(0.02):
+                        await receive(reader, found.append)
+                while len(found) < len(OUTCOMES):
+                    with trio.move_on_after(0.02):
+                        await receive(reader, found.append)
 
     trio.run(run)
     assert found == OUTCOMES

@@ -94,6 +94,43 @@ def test_decoder_after_failed_allocation():
     assert failed > 5
 
 
+@only_extension
+def test_a_decoder_is_reset_if_there_is_no_memory_for_a_copy_of_the_chunk():
+    testcapi = pytest.importorskip("_testcapi", reason="CPython's own test module makes allocations fail")
+    decoder = jcobs.Decoder(100)
+    decoder.feed(b"\x06hel")
+    chunk, failed = bytearray(b"hh"), False
+    testcapi.set_nomemory(0, 1)
+    try:
+        decoder.feed(chunk)
+    except MemoryError:
+        failed = True
+    finally:
+        testcapi.remove_mem_hooks()
+    assert failed and not decoder.unfinished
+    assert decoder.feed(b"\x03hi\0") == [jcobs.Message(b"hi")]
+
+
+@only_extension
+def test_a_message_is_gone_after_a_finish_without_memory():
+    testcapi = pytest.importorskip("_testcapi", reason="CPython's own test module makes allocations fail")
+    encoder = jcobs.Encoder(1000)
+    failed = 0
+    for start in range(20):
+        encoder.feed(b"a" * 1000)
+        testcapi.set_nomemory(start, start + 1)
+        try:
+            encoder.finish()
+        except MemoryError:
+            testcapi.remove_mem_hooks()
+            failed += 1
+        finally:
+            testcapi.remove_mem_hooks()
+        encoder.feed(b"next")
+        assert encoder.finish() == b"\x05next"
+    assert failed > 0
+
+
 def test_no_room_for_a_buffer():
     for make in (jcobs.Decoder, jcobs.Encoder):
         with pytest.raises(MemoryError):
@@ -139,9 +176,9 @@ def test_a_million_calls_without_growth():
                     call(wrong)
                 except Exception:
                     pass
-            for words in (("text", 1), (view, 200)):
+            for words in ({"size": 1}, {"sentinel": -1}):
                 try:
-                    jcobs.encode_in_place(*words)
+                    jcobs.encode(view, **words)
                 except (TypeError, ValueError):
                     pass
             try:

@@ -12,8 +12,11 @@ import ssl
 import subprocess
 import threading
 import time
+from fractions import Fraction
 
 import pytest
+from hypothesis import given, settings
+from hypothesis import strategies as st
 
 import jcobs
 
@@ -240,8 +243,84 @@ def test_wrong_timeouts():
     for timeout in (-1, float("nan")):
         with pytest.raises(ValueError, match="timeout must not be negative"):
             jcobs.FrameReader(io.BytesIO()).read(timeout)
+    for timeout in ("1", b"1", [1], io.BytesIO()):
+        with pytest.raises(
+            TypeError, match=f"timeout must be a number of seconds or None, not {type(timeout).__name__}"
+        ):
+            jcobs.FrameReader(io.BytesIO()).read(timeout)
+    assert jcobs.FrameReader(io.BytesIO(b"\x03hi\0")).read(Fraction(1, 3)) == jcobs.Message(b"hi")
     with pytest.raises(TypeError, match="Failing has no fileno"):
         jcobs.FrameReader(Failing()).read(timeout=1)
+
+
+def test_wrong_files(tmp_path):
+    for file in ("/dev/ttyUSB0", tmp_path, 5, None, b"\x03hi\0"):
+        with pytest.raises(TypeError, match=f"file must be a serial port, a socket .*, not {type(file).__name__}"):
+            jcobs.FrameReader(file)
+    (tmp_path / "frames").write_bytes(b"\x03hi\0")
+    with (tmp_path / "frames").open() as file:
+        with pytest.raises(TypeError, match="file must be binary"):
+            jcobs.FrameReader(file)
+        assert file.read() == "\x03hi\0"  # nothing is gone
+
+
+@settings(max_examples=200)
+@given(
+    st.sampled_from(["pipe", "buffered pipe", "socket", "memory"]),
+    st.lists(st.tuples(st.integers(0, 14), st.sampled_from([0, 0.0001, None]), st.integers(0, 3))),
+)
+def test_reads_with_timeouts_lose_nothing(kind, schedule):
+    """Some bytes come, and some reads are made, again and again; at last all messages were read, in order."""
+    messages = [b"%d" % number * (number % 3) for number in range(40)]
+    rest = b"".join(jcobs.encode(message, terminated=True) for message in messages)
+    found = []
+    with ends("pipe" if kind == "memory" else kind) as (file, end):
+        reader = jcobs.FrameReader(io.BytesIO(rest) if kind == "memory" else file)
+        for count, timeout, reads in schedule:
+            if kind != "memory":
+                end.write(rest[:count])
+            rest = rest[count:]
+            for _ in range(reads if timeout is not None else 0):
+                found.append(reader.read(timeout))
+        if kind != "memory":
+            end.write(rest)
+        while sum(one is not None for one in found) < len(messages):
+            found.append(reader.read(timeout=60))
+        assert [one.data for one in found if one is not None] == messages
+        assert reader.read(timeout=0) is None if kind != "memory" else not reader.unfinished
+
+
+@pytest.mark.parametrize("kind", KINDS)
+def test_a_timeout_of_0_does_not_wait(kind):
+    with ends(kind) as (file, end):
+        reader = jcobs.FrameReader(file)
+        begun = time.process_time(), time.monotonic()
+        for _ in range(400):
+            assert reader.read(timeout=0) is None
+        # the time beyond that of the processor, which a busy machine makes longer, and each wait
+        assert time.monotonic() - begun[1] < 10
+
+
+def test_bytes_that_pyopenssl_has_decrypted_are_asked_for():
+    """Its sockets have `pending`; the descriptor has nothing more."""
+
+    class Decrypted:
+        def __init__(self, sock):
+            self.sock, self.left = sock, [b"\x03hi\0", b"\x03ho\0"]
+
+        def pending(self):
+            return sum(map(len, self.left))
+
+        def fileno(self):
+            return self.sock.fileno()
+
+        def recv(self, size):
+            return self.left.pop(0)
+
+    with ends("socket") as (sock, end):
+        reader = jcobs.FrameReader(Decrypted(sock))
+        assert [reader.read(timeout=5), reader.read(timeout=0)] == [jcobs.Message(b"hi"), jcobs.Message(b"ho")]
+        assert reader.read(timeout=0.01) is None
 
 
 def test_a_socket_in_full():
@@ -322,6 +401,88 @@ def test_request_and_reply_over_a_serial_port(pair):
         assert reader.read(timeout=30) == jcobs.Broken(b"a")
         assert reader.read(timeout=30) == jcobs.Message(b"%d\0" % number)
     assert port.timeout == 30
+
+
+def test_a_read_never_configures_the_port_anew(pair, monkeypatch):
+    """It would while bytes come in: at a rate of its own that is a new rate for the device each time."""
+    port, end = pair
+    reader = jcobs.FrameReader(port)
+    monkeypatch.setattr(type(port), "_reconfigure_port", lambda *words, **named: pytest.fail("configured"))
+    assert reader.read(timeout=0) is reader.read(timeout=0.01) is None
+    for byte in b"\x06hello":
+        end.write(bytes([byte]))
+        assert reader.read(timeout=0.001) is None
+    end.write(b"\0")
+    assert reader.read(timeout=60) == jcobs.Message(b"hello")
+    reader.discard()
+
+
+def test_a_port_is_read_in_few_calls():
+    class Port:
+        name, timeout, calls = "a port", None, 0
+
+        def __init__(self, data):
+            self.left = data
+
+        @property
+        def in_waiting(self):
+            return len(self.left)
+
+        def read(self, size):
+            self.calls += 1
+            chunk, self.left = self.left[:size], self.left[size:]
+            return chunk
+
+    port = Port(jcobs.encode(b"\x01" * 30_000, terminated=True) * 2)
+    reader = jcobs.FrameReader(port)
+    for timeout in (60, None):
+        assert reader.read(timeout) == jcobs.Message(b"\x01" * 30_000)
+    assert port.calls <= 2
+    assert reader.read(timeout=0) is None and port.timeout is None
+
+
+def test_a_port_at_a_socket():
+    serial = pytest.importorskip("serial")
+    message = b"\x01" * 20_000
+    with socket.create_server(("127.0.0.1", 0)) as server:
+        port = serial.serial_for_url("socket://127.0.0.1:%d" % server.getsockname()[1], timeout=0.02)
+        there, _ = server.accept()
+        with there, jcobs.FrameReader(port) as reader, jcobs.FrameReader(there) as device:
+            assert repr(reader).startswith("<FrameReader of 'socket://127.0.0.1:")
+            calls, own = [], port.read
+            port.read = lambda size: calls.append(size) or own(size)
+            assert reader.read() is reader.read(timeout=0) is reader.read(timeout=0.01) is None
+            device.write(message)
+            assert reader.read(timeout=60) == jcobs.Message(message)
+            assert len(calls) < 200 and port.timeout == 0.02
+            device.write(b"hi")
+            while (one := reader.read()) is None:
+                pass
+            assert one == jcobs.Message(b"hi")
+            reader.write(b"back")
+            assert device.read(60) == jcobs.Message(b"back")
+
+
+def test_a_port_without_a_descriptor():
+    serial = pytest.importorskip("serial")
+    with jcobs.FrameReader(serial.serial_for_url("loop://", timeout=7)) as reader:
+        assert reader.read(timeout=0) is reader.read(timeout=0.01) is None
+        for message in (b"one", b"two\0"):
+            reader.write(message)
+            assert reader.read(timeout=60) == jcobs.Message(message)
+        assert reader._file.timeout == 7
+
+
+def test_a_read_of_a_port_that_is_cancelled(pair):
+    port, end = pair
+    reader = jcobs.FrameReader(port)
+    for timeout in (60, None):
+        timer = threading.Timer(0.1, port.cancel_read)
+        timer.start()
+        assert reader.read(timeout) is None or timeout
+        timer.join()
+    end.write(b"\x03hi\0")
+    assert reader.read(timeout=60) == jcobs.Message(b"hi")
 
 
 def test_the_timeout_of_a_serial_port_ends_the_iteration(pair):

@@ -1,5 +1,7 @@
 """Decoder, Encoder and the outcomes."""
 
+import array
+import contextlib
 import copy
 import io
 import pickle
@@ -64,6 +66,30 @@ def test_encoder_reset():
     assert encoder.finish() == b"\x01"
 
 
+def test_a_refused_piece_takes_no_room():
+    encoder = jcobs.Encoder(10)
+    encoder.feed(b"abc")
+    with pytest.raises(ValueError, match="longer than max_length=10"):
+        encoder.feed(b"12345678")
+    encoder.feed(b"defghij")
+    assert encoder.finish() == jcobs.encode(b"abcdefghij")
+
+
+@pytest.mark.parametrize("run", [252, 253, 254, 255, 508])
+@pytest.mark.parametrize("sentinel", [0, 1])
+def test_each_cut_of_long_blocks(run, sentinel):
+    """A chunk may end with a block, or with the code of one."""
+    messages = [b"\x01" * run + b"\0" + b"\x02" * 5, b"\x03" * run, b"\0\0" + b"\x03" * run + b"\0"]
+    stream = b"".join(jcobs.encode(message, sentinel=sentinel, terminated=True) for message in messages)
+    outcomes = [jcobs.Message(message) for message in messages]
+    for size in range(1, len(stream)):
+        decoder = jcobs.Decoder(1000, sentinel)
+        assert decoder.feed(stream[:size]) + decoder.feed(stream[size:]) == outcomes
+    for size in range(240, 270):
+        found = [one for at in range(0, len(stream), size) for one in decoder.feed(stream[at : at + size])]
+        assert found == outcomes
+
+
 def test_long_messages():
     message = random.Random(1).randbytes(3_000_000)
     for sentinel in (0, 7):
@@ -107,6 +133,54 @@ def test_outcomes(kind):
             kind(*arguments)
     with pytest.raises(TypeError):
         outcome < outcome
+
+
+def test_a_message_is_bytes():
+    assert (bytes(jcobs.Message(b"hi")), len(jcobs.Message(b"hi"))) == (b"hi", 2)
+    assert jcobs.Message(b"") and len(jcobs.Message(b"")) == 0  # a message without bytes is one
+    for damaged in (jcobs.Broken(b"hi"), jcobs.TooLong(b"hi")):
+        assert damaged
+        for call in (bytes, len):
+            with pytest.raises(TypeError):
+                call(damaged)
+
+
+SOURCES = {
+    "bytes": lambda data, path: data,
+    "a memoryview": lambda data, path: memoryview(bytearray(data)),
+    "wider items": lambda data, path: array.array("H", data),
+    "a file": lambda data, path: path.open("rb"),
+    "a file in memory": lambda data, path: io.BytesIO(data),
+}
+
+
+@pytest.mark.parametrize("kind", SOURCES)
+def test_frames(kind, tmp_path):
+    messages = [b"%d" % number * (number % 300) for number in range(3000)]
+    data = b"".join(jcobs.encode(message, sentinel=5, terminated=True) for message in messages) + b"\x06a"
+    path = tmp_path / "log"
+    path.write_bytes(data + b"b" * (len(data) % 2))
+    with contextlib.ExitStack() as stack:
+        source = SOURCES[kind](path.read_bytes(), path)
+        if hasattr(source, "__exit__"):
+            stack.enter_context(source)
+        found = jcobs.frames(source, sentinel=5)
+        assert next(found) == jcobs.Message(messages[0])
+        assert [one.data for one in found] == messages[1:] and found.unfinished
+    assert list(jcobs.frames(b"\x05a\0\x03hi\0\x03ho\0", max_length=2).messages()) == [b"hi", b"ho"]
+
+
+def test_frames_of_a_long_log_are_decoded_as_they_are_asked_for():
+    data = b"\x02a\0" * 1_000_000
+    found = jcobs.frames(data)
+    assert next(found) == jcobs.Message(b"a")
+    assert len(found._pending) < 65536  # not all of them
+
+
+def test_what_has_no_frames():
+    for source in ("text", 5, None, memoryview(b"abcd")[::2]):
+        with pytest.raises(TypeError, match="source must be a contiguous bytes-like object or a binary file"):
+            jcobs.frames(source)
 
 
 @pytest.mark.parametrize("make", [jcobs.Decoder, jcobs.Encoder, lambda: jcobs.FrameReader(io.BytesIO())])

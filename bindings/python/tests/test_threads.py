@@ -41,9 +41,10 @@ def lets_others_run(call):
         jcobs.decode,
         jcobs.frame_kind,
         lambda data: jcobs.Decoder(len(data)).feed(data),
+        lambda data: jcobs.Decoder(len(data), 7).feed(data),
         lambda data: jcobs.Encoder(len(data)).feed(data),
     ],
-    ids=["encode", "decode", "frame_kind", "Decoder.feed", "Encoder.feed"],
+    ids=["encode", "decode", "frame_kind", "Decoder.feed", "Decoder.feed for another sentinel", "Encoder.feed"],
 )
 def test_long_calls_release_the_gil(call, make):
     data = make(LONG)
@@ -54,12 +55,6 @@ def test_long_calls_release_the_gil(call, make):
 
 def test_short_calls_keep_the_gil():
     assert not lets_others_run(lambda: [jcobs.encode(b"hello") for _ in range(1000)])
-
-
-@only_extension
-def test_encoding_in_place_keeps_the_gil():
-    buffer = bytearray(LONG)
-    assert not lets_others_run(lambda: jcobs.encode_in_place(buffer, len(buffer) // 2))
 
 
 SMALL = b"a small frame"
@@ -153,7 +148,7 @@ def test_a_coder_in_use_raises(coder, calls):
         worker = threading.Thread(target=work)
         worker.start()
         try:
-            with pytest.raises(RuntimeError, match="in use by another thread"):
+            with pytest.raises(RuntimeError, match="in use by another call"):
                 while True:  # until the limit of time is over
                     value = getattr(coder, call)
                     if call != "unfinished":

@@ -56,6 +56,19 @@ def readers() -> List[bytes]:
     return [*(outcome.data for outcome in reader), *reader.messages()]
 
 
+def requests(sock: socket.socket) -> bytes:
+    with jcobs.FrameReader(sock, sync=True) as device:
+        try:
+            reply: bytes = device.request(b"ask", timeout=0.5, discard=True)
+        except jcobs.DecodeError as error:
+            return error.data if error.kind == "too_long" else b""
+        device.discard(quiet=0.1)
+        for message in jcobs.frames(reply, max_length=5).messages():
+            reply += message
+        outcome = next(jcobs.frames(io.BytesIO(reply)))
+        return bytes(outcome) * len(outcome) if isinstance(outcome, jcobs.Message) else outcome.data
+
+
 def ends(sock: socket.socket, path: pathlib.Path) -> List[jcobs.FrameReader]:
     pipe = subprocess.Popen(["true"], stdout=subprocess.PIPE).stdout
     assert pipe is not None
@@ -65,6 +78,9 @@ def ends(sock: socket.socket, path: pathlib.Path) -> List[jcobs.FrameReader]:
 async def stream_reader(stream: asyncio.StreamReader, writer: asyncio.StreamWriter) -> List[bytes]:
     reader = jcobs.AsyncFrameReader(stream, writer=writer)
     await reader.write(b"hi")
+    await reader.discard()
+    reply: bytes = await reader.request(b"ask", timeout=None)
+    await reader.write(reply)
     one: Optional[jcobs.Outcome] = await reader.read(timeout=0.5)
     found = [outcome.data async for outcome in reader] + [message async for message in reader.messages()]
     return found if one is None else [one.data, *found]

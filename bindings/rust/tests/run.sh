@@ -41,9 +41,9 @@ units() { # FEATURES..: the library and its tests, with overflow checks, and war
     RUSTFLAGS='-D warnings' cargo test --lib --tests "$@"
 }
 
-# By itself cargo builds for x86-64 without SSSE3, and then no bytes are shuffled.
-shuffled() {
-    CARGO_TARGET_DIR=$work/shuffled RUSTFLAGS='-D warnings -C target-cpu=x86-64-v2' cargo test --lib --tests
+# What a target without vectors gets, such as a Cortex-M4.
+without_vectors() {
+    CARGO_TARGET_DIR=$work/without RUSTFLAGS='-D warnings --cfg jcobs_no_vectors' cargo test --lib --tests
 }
 
 documentation() {
@@ -112,11 +112,8 @@ oldest() {
 }
 
 part 'units, signatures, differences and cases' units
-if grep -q -s -w ssse3 /proc/cpuinfo && grep -q -w sse4_2 /proc/cpuinfo; then
-    part 'with shuffles of bytes' shuffled
-else
-    skip 'with shuffles of bytes' 'needs a processor of x86-64-v2'
-fi
+part 'without vectors' without_vectors
+part 'every step, and every string of six tokens' cargo test --release --test steps
 part 'without a feature' units --no-default-features
 part 'byte by byte' units --features small
 part 'byte by byte, without an allocator' units --no-default-features --features small

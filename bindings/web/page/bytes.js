@@ -1,8 +1,11 @@
 // Bytes as a developer has them at hand: hex digits, dumps, arrays and strings of programs, decimal numbers, base64. Each form
 // is that of the whole text: a part that doesn't belong to it is an error, never left out.
+import { parseColumns } from "./columns.js";
 import { parseCan, parseDump } from "./dumps.js";
 import { parseHex } from "./hex.js";
-import { parseBase64, parseLiteral } from "./literals.js";
+import { parseBase64 } from "./base64.js";
+import { parseLiteral } from "./literals.js";
+import { choice } from "./readings.js";
 
 const INVISIBLE = /[\u200b-\u200d\u2060\ufeff]/g;
 
@@ -17,11 +20,17 @@ export function joined(parts) {
   return whole;
 }
 
-/** `{bytes, as}` of a text in any of these forms, with `as` the name of the form; else `{error}`, which says what is wrong, perhaps with `as`. */
-export function parseBytes(text) {
+const NODE_BUFFER = /^<(?:Buffer\b)?([^<>]*)>$/;
+const NODE_ARRAY_BUFFER = /^(?:Shared)?ArrayBuffer \{\s*\[Uint8Contents\]: <([^<>]*)>,?\s*byteLength: (\d+),?\s*\}$/;
+
+/**
+ * Returns `{bytes, as}` of a text in any of these forms, with `as` the name of the form; else `{error}`, which says what is
+ * wrong, perhaps with `as`. If the text has another reading too, `other` is its name: as `wanted` that one is chosen.
+ */
+export function parseBytes(text, wanted) {
   const clean = text.replace(INVISIBLE, "").replace(/\r\n?/g, "\n");
-  for (const parse of [parseBuffer, parseDump, parseCan, parseLiteral, parseWords, parsePlainHex, parseBase64]) {
-    const found = parse(clean);
+  for (const parse of [parseBuffer, parseColumns, parseDump, parseCan, parseLiteral, parseWords, parseNumbers, parsePlainHex, parseBase64]) {
+    const found = parse(clean, wanted);
     if (found) return found;
   }
   return parseHex(clean);
@@ -34,10 +43,11 @@ function parsePlainHex(text) {
 
 /** A Buffer or an array as Node prints it or JSON has it: `<Buffer 03 0a>`, `{"type":"Buffer","data":[3,10]}`, `{"0":3,"1":10}`. */
 function parseBuffer(text) {
-  const [, inside] = text.trim().match(/^<(?:Buffer\b)?([^<>]*)>$/) ?? [];
+  const [, inside, length] = text.trim().match(NODE_BUFFER) ?? text.trim().match(NODE_ARRAY_BUFFER) ?? [];
   if (inside !== undefined) {
     if (/\.\.\.|…/.test(inside)) return { error: "Bytes are left out at the “...”." };
     const { bytes } = parseHex(inside);
+    if (bytes && length !== undefined && Number(length) !== bytes.length) return { error: `The buffer has ${length} bytes, and ${bytes.length} are here.` };
     return bytes && { bytes, as: "a buffer" };
   }
   if (!/^\s*\{\s*"/.test(text)) return undefined;
@@ -52,27 +62,44 @@ function parseBuffer(text) {
   return { bytes: Uint8Array.from(data), as: "a buffer" };
 }
 
-/** Numbers without brackets: `$03`, `03h`, `0x3 0xA`, and `3, 10, 11`, which are decimal if one of them is no pair of digits. */
-function parseWords(text) {
-  const words = text.trim().split(/[\s,;:]+/).filter((word) => word !== "");
+const wordsOf = (text) => text.split(/[\s,;:]+/).filter((word) => word !== "");
+
+/** Numbers that say what they are: `$03`, `03h`, `0x3 0xA`, `0b101`. */
+function parseWords(text, wanted) {
+  if (!/[$hx]|0b[01]/i.test(text)) return undefined;
+  const words = wordsOf(text);
   const all = (pattern) => words.length > 0 && words.every((word) => pattern.test(word));
   if (all(/^\$[0-9a-f]{1,2}$/i) || all(/^0?[0-9a-f]{2}h$/i)) return { bytes: Uint8Array.from(words, (word) => parseInt(word.replace("$", ""), 16)), as: "hex of an assembler" };
-  if (all(/^0b[01]{8}$/i)) return { error: `“${words[0]}” is a binary number or five bytes: write 0b and then a space for bytes, brackets around it for a number.` };
+  if (all(/^0b[01]{1,8}$/i)) {
+    const binary = { bytes: Uint8Array.from(words, (word) => parseInt(word.slice(2), 2)), as: "binary numbers" };
+    const hex = { ...parseHex(text), as: "hex" };
+    return choice(words.length > 1 || words[0].length === 10 ? [binary, hex] : [hex, binary], wanted); // 0b10 is two bytes rather
+  }
   const prefixed = words.filter((word) => /^0x/i.test(word));
-  if (prefixed.length > 0) return parsePrefixed(words, prefixed);
-  const numbers = text.split(",").map((word) => word.trim());
-  if (numbers.at(-1) === "") numbers.pop();
-  const isDecimal = numbers.length > 1 && numbers.every((word) => /^(0|[1-9]\d{0,2})$/.test(word) && Number(word) < 256);
-  if (!isDecimal || numbers.every((word) => word.length === 2)) return undefined;
-  return { bytes: Uint8Array.from(numbers, Number), as: "decimal numbers" };
+  return prefixed.length > 0 ? parsePrefixed(words, prefixed) : undefined;
 }
 
 /** Words of which some begin with `0x`. */
 function parsePrefixed(words, prefixed) {
   const long = prefixed.find((word) => /^0x[0-9a-f]{3,}$/i.test(word));
   if (words.length > 1 && long) return { error: `“${long}” has several bytes, whose order isn't known: write each byte by itself.` };
-  const others = words.filter((word) => !prefixed.includes(word));
+  const others = words.filter((word) => !/^0x/i.test(word));
   if (others.length > 0 && others.every((word) => /^(0|[1-9]\d*)$/.test(word))) return { error: `“${others[0]}” has no 0x, as others have: it is decimal or hexadecimal.` };
   if (others.length > 0 || !words.every((word) => /^0x[0-9a-f]{1,2}$/i.test(word))) return undefined;
   return { bytes: Uint8Array.from(words, (word) => parseInt(word, 16)), as: "hex" };
+}
+
+/**
+ * Numbers of decimal digits alone, none with a 0 in front. With commas between them they are decimal, however many digits each
+ * has, so that one that is changed doesn't change the others; with spaces they are hex. Either may be read the other way.
+ */
+function parseNumbers(text, wanted) {
+  if (!/^[\d\s,]+$/.test(text)) return undefined;
+  const words = text.split(/[\s,]+/).filter((word) => word !== "");
+  const hasCommas = text.includes(",");
+  if (words.length < (hasCommas ? 1 : 2) || !words.every((word) => /^(0|[1-9]\d*)$/.test(word))) return undefined;
+  const large = words.find((word) => Number(word) > 255);
+  const decimal = { as: "decimal numbers", ...(large ? { error: `“${large}” is no byte: it is more than 255.` } : { bytes: Uint8Array.from(words, Number) }) };
+  const hex = { ...parseHex(text), as: "hex" };
+  return choice(hasCommas ? [decimal, hex] : [hex, decimal], wanted);
 }

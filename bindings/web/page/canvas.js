@@ -30,6 +30,7 @@ export class Canvas {
   #lane = FRAME;
   #digit = "";
   #mouse = { x: -1, y: -1 };
+  #stage = null;
 
   /**
    * `on` has `name`, for the elements' ids; `outcome(element, at)`, which fills the row over a piece; `mark(i)`, a note on a byte
@@ -62,11 +63,20 @@ export class Canvas {
   show(pieces, hasOutcomes = true) {
     const digit = this.#digit !== "" && pieces.stream.every((byte, i) => byte === this.#pieces.stream[i]) ? this.#digit : "";
     this.#pieces = pieces;
+    this.#stage = null;
     this.#hasOutcomes = hasOutcomes;
     this.#active = Math.max(0, Math.min(this.#active, pieces.stream.length - 1));
     if (this.#lane === OVER && !this.#isThere(this.#active)) this.#lane = FRAME;
     this.#layOut();
     this.#begin(digit); // the first of two digits stays, if nothing changed since
+  }
+
+  /** Draws the first piece as it is at a step, as `rowPicture` takes it; null is the whole. Brings what is read into sight. */
+  stage(stage) {
+    this.#stage = stage;
+    this.#rows.refresh();
+    if (stage) this.#rows.reveal(this.#rowStarts[0] + this.#lineOf(Math.max(0, stage.now))[1] + (this.#hasOutcomes ? 1 : 0));
+    this.#mark();
   }
 
   /** Puts the cursor on a byte of the stream. */
@@ -156,7 +166,7 @@ export class Canvas {
     const last = Math.min(Math.max(first, back), to);
     element.className = "row";
     element.innerHTML = rowPicture(pieces.piece(at), pieces.codes(at).places, first - front, last - front, {
-      sentinel: pieces.sentinel, margin: this.#margin, label: from, lead: first - from, trail: to - last, zoom: this.#zoom,
+      sentinel: pieces.sentinel, margin: this.#margin, label: from, lead: first - from, trail: to - last, zoom: this.#zoom, stage: at === 0 ? this.#stage : null,
     }) + `<span class="lane over" role="presentation">${this.#spots(from, to, OVER)}</span><span class="lane frame" role="presentation">${this.#spots(from, to, FRAME)}</span>`;
     for (const lane of element.querySelectorAll(".lane")) lane.style.left = `${this.#margin * this.#zoom}px`; // a style attribute would be against the policy
   }

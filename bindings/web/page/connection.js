@@ -14,7 +14,8 @@ export class Connection {
   #writer = null;
 
   /**
-   * `port` is an open Web Serial port. `on.outcome` gets what each frame decodes to, with its bytes as they came if it is no
+   * `port` is an open Web Serial port. `options` are those of a `FrameDecoder`, for each stream that the port has: a device's have
+   * `skipFirst`. `on.outcome` gets what each frame decodes to, with its bytes as they came if it is no
    * message; `on.left` how many bytes were left out before the first sentinel; `on.fault` what the line reports.
    */
   constructor(port, options, on) {
@@ -25,20 +26,18 @@ export class Connection {
 
   /** Reads until the port closes. A fault of the line ends one stream, and the port then has another, in mid-frame. */
   async receive() {
-    let { skipFirst } = this.#options;
     while (this.#port.readable && !this.#isClosing) {
-      this.#reading = this.#readAll(skipFirst);
+      this.#reading = this.#readAll();
       const fault = await this.#reading;
       if (!fault || this.#isClosing) return;
       this.#on.fault(fault);
       if (fault.name === "NetworkError") return;
-      skipFirst = true;
     }
   }
 
   /** Reads one stream of the port to its end, and returns the fault that ended it, if one did. */
-  async #readAll(skipFirst) {
-    const decoder = new FrameDecoder({ ...this.#options, skipFirst });
+  async #readAll() {
+    const decoder = new FrameDecoder(this.#options);
     const take = this.#taker(decoder);
     const reader = this.#port.readable.getReader();
     this.#reader = reader;

@@ -9,7 +9,7 @@ function rowOf(line) {
   if (line === "*") return { isStar: true };
   const [, digits, colon, gap = "", rest = ""] = line.match(LINE) ?? [];
   if (digits === undefined) return null;
-  const piped = rest.match(/^(.*?)\s+\|.*\|$/);
+  const piped = rest.match(/^(.*?)\s+(?:\|.*\||>.*<)$/); // the signs, as hexdump -C and od -z have them
   const [first, ...others] = piped ? [piped[1].replace(/ {2}/g, " ")] : rest.replaceAll("\t", " ").split(/ {2,}/);
   const groups = first === "" ? [] : first.split(/[ -]/);
   if (!groups.every((group) => GROUP.test(group))) return null;
@@ -30,7 +30,7 @@ export function parseDump(text) {
     if (!isWide) return undefined;
     if (!isZero) return { error: `“${first.digits}” is an offset or bytes: leave it out, or the spaces after it.` };
   }
-  if (!isMarked && rows.length > 1 && !(rows.every((row) => row) && (isWide || (isZero && first.digits.length >= 6)) && unrolled(rows, 16, bytesOf))) return undefined;
+  if (!isMarked && rows.length > 1 && !(rows.every((row) => row) && (isWide || isZero) && unrolled(rows, 16, bytesOf))) return undefined;
   const bad = rows.findIndex((row) => row === null || row.isCut);
   if (bad >= 0) return { error: `Line ${bad + 1} can't be read as a line of a dump: “${lines[bad].slice(0, 60)}”.` };
   return readRows(rows.filter((row) => row));
@@ -54,7 +54,7 @@ const bytesOf = (groups) => groups.flatMap((group) => group.replace(/^0x/i, "").
 const wordsOf = (groups) => groups.flatMap((group) => [parseInt(group.slice(2), 16), parseInt(group.slice(0, 2), 16)]);
 
 /** The bytes of all lines, with those that a star leaves out; null if an offset doesn't fit. */
-function unrolled(rows, base, read) {
+export function unrolled(rows, base, read) {
   const place = ({ digits }) => (base === 16 || !/[a-f89]/i.test(base === 8 ? digits : digits.replace(/[89]/g, "0")) ? parseInt(digits, base) : NaN);
   const start = place(rows[0]);
   const bytes = [];

@@ -1,231 +1,249 @@
 // Bytes as a program has them: arrays of C, Go, Java, JavaScript, Rust and Python, as declared, as printed and in JSON; strings
-// with escapes; and calls that make bytes of hex digits or base64.
+// with escapes; and calls that make bytes of hex digits or base64. A text is read once, from its front to its end.
+import { parseBase64 } from "./base64.js";
 import { parseHex } from "./hex.js";
+import { choice } from "./readings.js";
+import { ESCAPED, Unreadable, demandOneReading, unescaped } from "./strings.js";
+import { typesIn, wideFault } from "./types.js";
 
-const ESCAPES = { a: 7, b: 8, e: 27, f: 12, n: 10, r: 13, t: 9, v: 11, "\\": 92, "'": 39, '"': 34 };
-const LONGEST = 1 << 20; // of a value that is repeated
-const DEEPEST = 16;      // brackets in brackets
-const TOKEN = /(?<space>\s+|\/\*[\s\S]*?\*\/|\/\/[^\n]*|#[^\n]*|'static\b)|(?<string>(?:u8|br|rb|[bruBRUL])?(?:"(?:\\[\s\S]|[^"\\])*"|'(?:\\[\s\S]|[^'\\])*'))|(?<number>-?\d\w*(?:\.\d+)?)|(?<name>[A-Za-z_$][\w.]*(?:::\w+)*!?)|(?<sign>[()[\]{},;:=&*<>])/gy;
-
-const ESCAPED = "a string with escapes";
+const LONGEST = 1 << 20;   // of a value that is repeated
+const DEEPEST = 16;        // brackets in brackets
+const LONGEST_FRONT = 500; // letters of a declaration that are looked at
+const ENDED = " with a final 00";
 const NONE = "This is no list of bytes, no string, and no call that gives bytes.";
+const COMMENT = /("(?:\\[\s\S]|[^"\\])*"|'(?:\\[\s\S]|[^'\\])*')|\/\*[\s\S]*?\*\/|\/\/[^\n]*|#[^\n]*/g; // or a string
 
-class Unreadable extends Error {
-  /** `as`: the form that it has nevertheless, if it surely has one. */
-  constructor(message, as) {
-    super(message);
-    this.as = as;
-  }
-}
+// What each place of the text may hold, with the space after it. No pattern matches a text in more than one way, so none is slow.
+const SPACE = /\s*/y;
+const FRONT = /([\w\s$.,:;&*<>[\]]*)=(?!=)\s*/y; // a declaration, up to its “=”
+const NAME = String.raw`[A-Za-z_$][\w.]*(?:::\w+)*!?`; // Uint8Array.of, std::vector, vec!
+const OF = String.raw`(?:<[\w,<>*&:\s]*>\s*(?:\w+\s*)?)?`; // <uint8_t, 2> f
+const SIZE = String.raw`(?:\[\d*\]\s*|\(\d*\)\s*)?`; // [2], or (2) as Node prints it
+const TYPE = String.raw`\([\w\s]+\[\d*\]\s*\)\s*`; // (uint8_t[])
+const BEFORE = new RegExp(String.raw`(${TYPE}|&*(?:(?:\[\d*\]\s*)?${NAME}(?:\s+${NAME})*\s*${OF}${SIZE})?)([[({])\s*`, "y"); // a bracket, and what is before it
+const CAST = /\((\w+(?:\s+\w+)*)\)\s*(?=[-\d'"(])/y;
+const NUMBER = /(-?)(?:0x([0-9a-f][0-9a-f_]*)|0b([01][01_]*)|(\d[\d_]*))(?:_?(?:[ui]8|ul{0,2}|ll?))?(?![\w.])\s*/iy;
+const SIGN = /'(?:\\[\s\S]|[^'\\])+'\s*/y; // after a number that gdb prints
+const STRING = /(u8|br|rb|[bruL]?)("(?:\\[\s\S]|[^"\\])*"|'(?:\\[\s\S]|[^'\\])*')\s*/iy;
+const AS = /as\s+(\w+)\s*/y;
+const REPEATS = /(?:<repeats (\d+) times>|;\s*(\d+)(?=\s*\]))\s*/y; // as gdb and as Rust have it
+const CODING = /,\s*['"](\w+)['"]\s*/y;
+const ARRAY = /['"](\w)['"]\s*,\s*/y; // the type in front of the list of Python's array
+const DTYPE = /,\s*dtype\s*=\s*['"]?(?:np\.|numpy\.)?(\w+)['"]?\s*/y;
+const COMMA = /,\s*/y;
+const CLOSING = { "[": /\]\s*/y, "(": /\)\s*/y, "{": /\}\s*/y };
+const END = /[;,]?\s*(?:unsigned int \w+_len = (\d+);\s*)?$/y; // with the length that `xxd -i` prints
 
-/** The words and signs of a text, each `{kind, text}`; undefined if there is another one. */
-function tokensOf(text) {
-  const tokens = [];
-  TOKEN.lastIndex = 0;
-  for (let end = 0; end < text.length; end = TOKEN.lastIndex) {
-    const { groups } = TOKEN.exec(text) ?? {};
-    if (!groups) return undefined;
-    const kind = Object.keys(groups).find((name) => groups[name] !== undefined);
-    if (kind !== "space") tokens.push({ kind, text: groups[kind] });
-  }
-  return tokens;
-}
-
-/** An array, a string or a call, or undefined if the text is none. */
-export function parseLiteral(text) {
+/** Returns an array, a string or a call, or undefined if the text is none. `wanted` is the name of the reading that is chosen. */
+export function parseLiteral(text, wanted) {
   const bare = text.trim();
-  if (!/["'`]/.test(bare.replace(/\\["']/g, "")) && /^[^[\](){}]*\\(x[0-9a-f]{2}|[0-7])/i.test(bare)) return read(() => unquoted(bare));
-  if (!/[[({"']/.test(bare)) return undefined;
-  if (/\.\.\.|…/.test(bare.replace(/"[^"]*"|'[^']*'/g, ""))) return { error: "Bytes are left out at the “...”." };
-  const [, pairs] = bare.match(/^[[({]\s*((?:[0-9a-f]{2}\s+)*[0-9a-f]{2})\s*[\])}]$/i) ?? [];
-  if (pairs && /[a-f]/i.test(pairs)) return { ...parseHex(pairs), as: "hex" };
-  const tokens = tokensOf(bare);
-  let depth = 0;
-  if (tokens?.some(({ text }) => (depth += /^[([{]$/.test(text) ? 1 : /^[)\]}]$/.test(text) ? -1 : 0) > DEEPEST)) return { error: NONE };
-  return tokens ? read(() => declared(tokens)) : { error: NONE };
-}
-
-/** The inside of a string, without its quotes. */
-function unquoted(text) {
-  demandOneReading([{ kind: "string", text: `b"${text}"` }], "");
-  return { bytes: unescaped(text, true), as: ESCAPED };
-}
-
-function read(act) {
+  const isUnquoted = !/["'`]/.test(bare.replace(/\\["']/g, "")) && /^[^[\](){}]*\\(x[0-9a-f]{2}|[0-7])/i.test(bare);
+  if (!isUnquoted && !/[[({"']/.test(bare)) return undefined;
+  const digits = bare.match(/^[[({]\s*([0-9a-f]{2}(?:\s+[0-9a-f]{2})*)\s*[\])}]$/i)?.[1] ?? "";
+  if (/[a-f]/i.test(digits)) return { ...parseHex(digits), as: "hex" };
   try {
-    return act();
+    return isUnquoted ? insideOf(bare) : new Reader(bare).whole(wanted);
   } catch (error) {
     if (error instanceof Unreadable) return { error: error.message, as: error.as };
     throw error;
   }
 }
 
-const shapeOf = (tokens) => tokens.map(({ kind, text }) => ({ name: "n", number: "0", string: "s" })[kind] ?? text).join("");
-
-/** What a declaration or an expression holds. */
-function declared(tokens) {
-  const equals = tokens.findIndex(({ text }) => text === "=");
-  const front = tokens.slice(0, Math.max(equals, 0));
-  if (equals >= 0 && !/^[n0[\]<>*&:;,]*n[n0[\]<>*&:;,]*$/.test(shapeOf(front))) throw new Unreadable("What is before the “=” is no declaration.");
-  demandOneReading(tokens, shapeOf(front));
-  const value = tokens.slice(equals + 1);
-  while (value.length > 0 && /^[;,]$/.test(value.at(-1).text)) value.pop();
-  const kinds = new Set();
-  const bytes = valueOf(value, kinds, true);
-  const places = front.filter(({ kind }, at) => kind === "number" && /^[[;]$/.test(front[at - 1]?.text)).reduce((product, { text }) => product * Number(text), 1);
-  if (front.some(({ kind }) => kind === "number") && places !== bytes.length) throw new Unreadable(`The declaration is of ${places} bytes, and ${bytes.length} are here.`);
-  return { bytes: Uint8Array.from(bytes), as: nameOf(kinds) };
+/** The bytes of the inside of a string, without its quotes. */
+function insideOf(text) {
+  demandOneReading([{ prefix: "b", quote: '"', content: text }], false);
+  return { bytes: unescaped(text, { isBytes: true }), as: ESCAPED };
 }
 
-/** `\0` before an octal digit is one byte in C and Python, and two in Rust: an error, unless something in the text isn't Rust's. */
-function demandOneReading(tokens, front) {
-  const strings = tokens.filter(({ kind }) => kind === "string");
-  const escapes = strings.flatMap(({ text }) => text.match(/\\[\s\S][0-7]{0,2}/g) ?? []);
-  const octal = escapes.find((escape) => /^\\0[0-7]/.test(escape));
-  const isRust = strings.every(({ text }) => /^b?"/.test(text)) && escapes.every((escape) => /^\\[0nrtxu\\'"\n]/.test(escape));
-  const isRow = tokens.some(({ kind }, at) => kind === "string" && tokens[at + 1]?.kind === "string");
-  if (octal && isRust && !isRow && !/n\[0?\]$|\*n$/.test(front)) throw new Unreadable(`“${octal}” is octal in C and Python, and a byte 00 before digits in Rust: write it by \\x.`, ESCAPED);
+class Reader {
+  #text;
+  #at = 0;
+  #depth = 0;
+  #bytes = [];
+  #kinds = new Set();
+  #strings = [];
+  #isJoined = false; // whether there are strings in a row
+  #isOfGdb;          // which prints strings that repeat, with commas between them
+
+  constructor(text) {
+    this.#text = text.replaceAll("'static", "").replace(COMMENT, (all, string) => string ?? " ");
+    this.#isOfGdb = this.#text.includes("<repeats ");
+    this.#take(SPACE);
+  }
+
+  /** Takes what a pattern matches at this place, and returns its groups, or none. */
+  #take(pattern) {
+    pattern.lastIndex = this.#at;
+    const found = pattern.exec(this.#text);
+    if (found) this.#at = pattern.lastIndex;
+    return found ?? [];
+  }
+
+  #demandBytes(types) {
+    const fault = types && wideFault(types);
+    if (fault) throw new Unreadable(fault);
+  }
+
+  /** What is at this place, for a sentence. */
+  #rest() {
+    return `“${this.#text.slice(this.#at).match(/^[^,\])}]*/)[0].trim().slice(0, 40)}”`;
+  }
+
+  whole(wanted) {
+    if (/\.\.\.|…/.test(this.#text.replace(/"[^"]*"|'[^']*'/g, ""))) throw new Unreadable("Bytes are left out at the “...”.");
+    const front = (this.#take(FRONT)[1] ?? "").slice(-LONGEST_FRONT);
+    this.#demandBytes(typesIn(front));
+    if (this.#stringsHere()) {
+      if (front === "") demandCharacters(this.#strings);
+    } else this.#value();
+    const [end, length] = this.#take(END);
+    if (end === undefined) throw new Unreadable(this.#at < this.#text.length ? `What is before ${this.#rest()} is a whole value: this belongs to no list of bytes.` : NONE);
+    if (length && Number(length) !== this.#bytes.length) throw new Unreadable(`The length below is ${length}, and ${this.#bytes.length} bytes are here.`);
+    demandOneReading(this.#strings, this.#isJoined || /\w\s*\[\d*\]\s*$|\*\s*\w+\s*$|^\$/.test(front));
+    return this.#declared(front, wanted);
+  }
+
+  /** The bytes as they are declared. A string fills an array of C with 00; one without a length has one at its end, perhaps. */
+  #declared(front, wanted) {
+    const as = nameOf(this.#kinds);
+    const isString = as === ESCAPED || as === "a string";
+    const sizes = [...front.matchAll(/[[;,]\s*(\d+)\s*[\]>]/g)].map(([, size]) => Number(size));
+    const places = sizes.reduce((product, size) => product * size, 1);
+    if (isString && sizes.length === 1 && /\w\s*\[\d+\]\s*$/.test(front)) this.#repeat([0], Math.max(0, places - this.#bytes.length));
+    if (sizes.length > 0 && places !== this.#bytes.length) throw new Unreadable(`The declaration is of ${places} bytes, and ${this.#bytes.length} are here.`);
+    const bytes = Uint8Array.from(this.#bytes);
+    if (!isString || !/\w\s*\[\]\s*$|^\$\d+\s*$/.test(front)) return { bytes, as };
+    return choice([{ bytes, as }, { bytes: Uint8Array.of(...bytes, 0), as: as + ENDED }], wanted);
+  }
+
+  /** Takes strings in a row, as C joins them, or as gdb prints those that repeat; returns whether there are any. */
+  #stringsHere() {
+    const before = this.#strings.length;
+    for (let [, prefix, quoted] = this.#take(STRING); quoted; [, prefix, quoted] = this.#take(STRING)) {
+      const content = quoted.slice(1, -1);
+      const from = this.#bytes.length;
+      this.#strings.push({ prefix, quote: quoted[0], content });
+      this.#kinds.add(content.includes("\\") ? "escapes" : "string");
+      for (const byte of unescaped(content, { isBytes: /b/i.test(prefix), isRaw: /r/i.test(prefix) })) this.#bytes.push(byte);
+      this.#repeated(from);
+      if (this.#depth === 0 && this.#isOfGdb) this.#take(COMMA);
+    }
+    this.#isJoined ||= this.#strings.length > before + 1;
+    return this.#strings.length > before;
+  }
+
+  /** Repeats the bytes from a place on, if the text says how often. */
+  #repeated(from) {
+    const [, byGdb, byRust] = this.#take(REPEATS);
+    if (byGdb ?? byRust) this.#repeat(this.#bytes.splice(from), Number(byGdb ?? byRust));
+  }
+
+  #repeat(bytes, times) {
+    if (bytes.length * times > LONGEST) throw new Unreadable(`${times} bytes are too many.`);
+    for (let i = 0; i < times; i++) this.#bytes.push(...bytes);
+  }
+
+  /** Takes a list in brackets or a call, with what may be before it. */
+  #value() {
+    const [, before, open] = this.#take(BEFORE);
+    if (open === undefined || ++this.#depth > DEEPEST) throw new Unreadable(open === undefined && this.#at < this.#text.length ? `${this.#rest()} is no byte, no string, and no list of bytes.` : NONE);
+    this.#demandBytes(before);
+    const from = this.#bytes.length;
+    const [name] = before.match(/[A-Za-z_$][\w.:]*!?(?=\s*$)/) ?? [];
+    if (open === "(" && name) this.#call(name);
+    else this.#items(open);
+    this.#depth--;
+    const [, size = this.#bytes.length - from] = before.match(/[[(](\d+)[\])]/) ?? [];
+    if (Number(size) !== this.#bytes.length - from) throw new Unreadable(`${size} bytes are named, and ${this.#bytes.length - from} are here.`);
+  }
+
+  /** Takes what is between brackets, up to the closing one, and returns how many things that is. */
+  #items(open) {
+    for (let count = 0; ; count++) {
+      if (this.#take(CLOSING[open]).length > 0) return count;
+      if (count > 0 && this.#take(COMMA).length === 0) throw new Unreadable(this.#at < this.#text.length ? `${this.#rest()} is no byte: a comma belongs between two numbers.` : NONE);
+      if (count > 0 && this.#take(CLOSING[open]).length > 0) return count;
+      this.#item(open === "(");
+    }
+  }
+
+  #item(isGroup) {
+    const from = this.#bytes.length;
+    const [, cast] = this.#take(CAST);
+    const number = this.#take(NUMBER);
+    if (number.length > 0) this.#bytes.push(byteOf(number, this.#kinds));
+    else if (/[-\d,]/.test(this.#text[this.#at])) throw new Unreadable(faultOf(this.#text.slice(this.#at).match(/^[^\s,;()[\]{}]*/)[0]));
+    else if (!this.#stringsHere()) this.#value();
+    else if (!isGroup && this.#bytes.length - from !== 1 && !/b/i.test(this.#strings.at(-1).prefix)) throw new Unreadable(`“${this.#strings.at(-1).content.slice(0, 40)}” is no byte.`);
+    this.#demandBytes(cast);
+    if (",)]}".includes(this.#text[this.#at])) return; // as most items end, in long lists
+    if (number.length > 0) this.#take(SIGN);
+    this.#demandBytes(this.#take(AS)[1]);
+    this.#repeated(from);
+  }
+
+  /** Takes the arguments of a call: digits or base64 in quotes, a list as Python prints it, or one that is passed on. */
+  #call(name) {
+    if (this.#decoded(name)) return;
+    if (/(^|\.)array$/.test(name) && /['"[]/.test(this.#text[this.#at])) {
+      const [, code] = this.#take(ARRAY);
+      this.#item(true);
+      const [, type = "64 bits"] = this.#take(DTYPE);
+      if (this.#take(CLOSING["("]).length === 0) throw new Unreadable(NONE);
+      if (code ? !/b/i.test(code) : type === "64 bits") throw new Unreadable(`The numbers of ${code ? `an array of “${code}”` : "an array without dtype=uint8"} have more than 8 bits: write each byte by itself.`);
+      this.#demandBytes(type);
+      return;
+    }
+    const isAny = /(^|\.)of$|^array$/.test(name);
+    if (!isAny && /^\d+\s*\)/.test(this.#text.slice(this.#at, this.#at + 20))) throw new Unreadable(`${name}(${this.#rest().slice(1, -1)}) gives bytes that aren't written here.`);
+    const count = this.#items("(");
+    if (!isAny && count > 1) throw new Unreadable(`${name}() with ${count} arguments can't be read.`);
+  }
+
+  /** Takes the arguments of a call that decodes hex digits or base64; returns whether it is one. */
+  #decoded(name) {
+    const start = this.#at;
+    let inside = "";
+    for (let [, , quoted] = this.#take(STRING); quoted; [, , quoted] = this.#take(STRING)) inside += quoted.slice(1, -1);
+    const [, coding = ""] = this.#take(CODING);
+    const isHex = /from_?hex$|unhexlify$|(^|\.)hex!$|hex(::|\.)decode(String)?$/i.test(name) || /^hex$/i.test(coding);
+    const isBase64 = /b64decode$|^atob$|from_?base64$|base64(::|\.)decode$/i.test(name) || /^base64$/i.test(coding);
+    if ((!isHex && !isBase64) || start === this.#at || this.#take(CLOSING["("]).length === 0) {
+      this.#at = start;
+      return false;
+    }
+    const { bytes, error } = isHex ? parseHex(inside) : (parseBase64(inside) ?? { error: "What is in the quotes is no base64." });
+    if (!bytes) throw new Unreadable(error);
+    this.#kinds.add(isHex ? "digits" : "base64");
+    this.#repeat(bytes, 1);
+    return true;
+  }
+}
+
+/** Throws if a whole text is a string of digits or base64, which perhaps stand for bytes. */
+function demandCharacters(strings) {
+  const inside = strings.map(({ content }) => content).join("");
+  const mayBeDigits = !inside.includes("\\") && !strings.some(({ prefix }) => /b/i.test(prefix)) && (parseHex(inside).bytes?.length > 0 || parseBase64(inside));
+  if (mayBeDigits) throw new Unreadable("In the quotes are characters, or digits for bytes: leave the quotes out, or put b before them.");
 }
 
 function nameOf(kinds) {
   if (kinds.has("signed")) return "numbers with a sign";
+  if (kinds.has("escapes")) kinds.delete("string");
   if (kinds.size > 1) return "a list of numbers";
   return { hex: "a list", decimal: "decimal numbers", escapes: ESCAPED, string: "a string", digits: "hex", base64: "base64" }[[...kinds][0]] ?? "a list";
 }
 
-/** The bytes of an expression: strings in a row, or a list or call with what may be before it. */
-function valueOf(tokens, kinds, isWhole = false) {
-  if (tokens.length > 0 && tokens.every(({ kind }) => kind === "string")) return stringsOf(tokens, kinds, isWhole);
-  const start = lastGroup(tokens);
-  const [open, close] = [tokens[start]?.text, tokens.at(-1)?.text];
-  const before = tokens.slice(0, Math.max(start, 0));
-  if (start < 0 || !"() [] {}".includes(open + close)) throw new Unreadable(NONE);
-  if (!/^&*(?:(?:\[0?\])?n+(?:<[n0,<>*&:]*>n*)?(?:\[0?\]|\(0\))?)?$/.test(shapeOf(before))) throw new Unreadable(`What is before “${open}” is no declaration, type or call.`);
-  const name = before.findLast(({ kind }) => kind === "name")?.text ?? "";
-  const size = before.find(({ kind }) => kind === "number");
-  const inner = tokens.slice(start + 1, -1);
-  const bytes = open === "(" && name !== "" ? calledOf(name, inner, kinds) : listOf(inner, kinds, open === "(");
-  if (size && Number(size.text) !== bytes.length) throw new Unreadable(`${size.text} bytes are named, and ${bytes.length} are here.`);
-  return bytes;
-}
-
-/** The place of the bracket that opens the group which ends the tokens; -1 if none ends them. */
-function lastGroup(tokens) {
-  let depth = 0;
-  for (let at = tokens.length - 1; at >= 0; at--) {
-    if (/^[)\]}]$/.test(tokens[at].text)) depth++;
-    else if (/^[([{]$/.test(tokens[at].text)) depth--;
-    if (depth === 0) return at === tokens.length - 1 ? -1 : at;
-  }
-  return -1;
-}
-
-/** The parts of tokens between commas that are in no inner brackets. */
-function partsOf(tokens) {
-  const parts = [[]];
-  let depth = 0;
-  for (const token of tokens) {
-    if (/^[([{]$/.test(token.text)) depth++;
-    if (/^[)\]}]$/.test(token.text)) depth--;
-    if (token.text === "," && depth === 0) parts.push([]);
-    else parts.at(-1).push(token);
-  }
-  if (parts.at(-1).length === 0) parts.pop();
-  if (parts.some((part) => part.length === 0)) throw new Unreadable("Between two commas is nothing.");
-  return parts;
-}
-
-function listOf(tokens, kinds, isGroup) {
-  const repeated = shapeOf(tokens).match(/^(.+);0$/) && Number(tokens.at(-1).text);
-  if (repeated > LONGEST) throw new Unreadable(`${repeated} bytes are too many.`);
-  if (repeated) return new Array(repeated).fill(itemOf(tokens.slice(0, -2), kinds)).flat();
-  return partsOf(tokens).flatMap((part) => itemOf(part, kinds, isGroup));
-}
-
-function itemOf(part, kinds, isGroup = false) {
-  const shape = shapeOf(part);
-  const cast = shape.match(/^\(n+\)(?=[0s(-])/)?.[0].length ?? 0; // (uint8_t)0x0a
-  const bare = part.slice(cast, /[0s]nn$/.test(shape) && part.at(-2).text === "as" ? -2 : undefined); // 10 as u8
-  if (bare.length === 1 && bare[0].kind === "number") return [byteOf(bare[0].text, kinds)];
-  if (bare.every(({ kind }) => kind === "string")) {
-    const bytes = stringsOf(bare, kinds, false);
-    if (!isGroup && bytes.length !== 1 && !/^b/i.test(bare[0].text)) throw new Unreadable(`${bare[0].text.slice(0, 40)} is no byte.`);
-    return bytes;
-  }
-  if (bare.some(({ text }) => /^[([{]$/.test(text))) return valueOf(bare, kinds);
-  throw new Unreadable(`“${bare.map(({ text }) => text).join(" ").slice(0, 40)}” is no byte${bare.length > 1 && bare.every(({ kind }) => kind === "number") ? ": a comma belongs between two numbers" : ""}.`);
-}
-
-/** What a call gives of its arguments. */
-function calledOf(name, tokens, kinds) {
-  const parts = partsOf(tokens);
-  const isText = (part) => part?.length > 0 && part.every(({ kind }) => kind === "string");
-  const coding = isText(parts[1]) ? parts[1][0].text.slice(1, -1).toLowerCase() : "";
-  const isHex = /from_?hex$|unhexlify$|(^|\.)hex!$|hex(::|\.)decode(String)?$/i.test(name) || coding === "hex";
-  const isBase64 = /b64decode$|^atob$|from_?base64$|base64(::|\.)decode$/i.test(name) || coding === "base64";
-  if ((isHex || isBase64) && isText(parts[0]) && parts.length <= (coding ? 2 : 1)) {
-    const inside = parts[0].map(({ text }) => text.replace(/^b?["']|["']$/g, "")).join("");
-    const { bytes, error } = isHex ? parseHex(inside) : (parseBase64(inside) ?? { error: "What is in the quotes is no base64." });
-    if (!bytes) throw new Unreadable(error);
-    kinds.add(isHex ? "digits" : "base64");
-    return [...bytes];
-  }
-  if (parts.length > 1 && !/(^|\.)of$/.test(name)) throw new Unreadable(`${name}() with ${parts.length} arguments can't be read.`);
-  if (parts.length === 1 && shapeOf(parts[0]) === "0" && !/(^|\.)of$/.test(name)) throw new Unreadable(`${name}(${parts[0][0].text}) gives bytes that aren't written here.`);
-  return listOf(tokens, kinds, true);
-}
-
-function byteOf(text, kinds) {
-  const [, minus, hex, binary, decimal] = text.match(/^(-?)(?:0x([0-9a-f_]+?)|0b([01_]+?)|(\d[\d_]*?))(?:_?(?:u8|i8|ul?|l))?$/i) ?? [];
-  if (minus === undefined) throw new Unreadable(`“${text}” is no number: in a list, hexadecimal numbers begin with 0x.`);
-  if (/^0\d/.test(decimal)) throw new Unreadable(`“${text}” begins with 0: it is octal, decimal or hexadecimal.`);
+function byteOf([whole, minus, hex, binary, decimal], kinds) {
+  if (/^0\d/.test(decimal)) throw new Unreadable(`“${whole.trim()}” begins with 0: it is octal, decimal or hexadecimal.`);
   const number = parseInt((hex ?? binary ?? decimal).replaceAll("_", ""), hex ? 16 : binary ? 2 : 10);
-  if (number > (minus ? 128 : 255)) throw new Unreadable(`“${text}” is no byte: it is ${minus ? "less than -128" : "more than 255"}.`);
+  if (number > (minus ? 128 : 255)) throw new Unreadable(`“${whole.trim()}” is no byte: it is ${minus ? "less than -128" : "more than 255"}.`);
   kinds.add(minus ? "signed" : hex ? "hex" : binary ? "binary" : "decimal");
-  return minus ? 256 - number & 255 : number;
+  return minus ? (256 - number) & 255 : number;
 }
 
-/** The bytes of strings in a row. The whole text is no string if what is in its quotes are digits or base64: those are meant. */
-function stringsOf(tokens, kinds, isWhole) {
-  const all = tokens.map(({ text }) => text.match(/^([a-z0-9]*)["']([\s\S]*)["']$/i).slice(1));
-  const inside = all.map(([, content]) => content).join("");
-  const isEscaped = inside.includes("\\");
-  if (isWhole && !isEscaped && !all.some(([prefix]) => /b/i.test(prefix)) && (parseHex(inside).bytes?.length > 0 || parseBase64(inside))) {
-    throw new Unreadable("In the quotes are characters, or digits for bytes: leave the quotes out, or put b before them.");
-  }
-  kinds.add(isEscaped ? "escapes" : "string");
-  return all.flatMap(([prefix, content]) => [...unescaped(content, /b/i.test(prefix), /r/i.test(prefix))]);
-}
-
-/** The bytes of a string's inside. `isBytes`: it is one of bytes, which has no escapes for characters. */
-function unescaped(text, isBytes, isRaw = false) {
-  const found = [];
-  const add = (signs) => {
-    for (const byte of new TextEncoder().encode(signs)) found.push(byte);
-  };
-  if (isRaw) add(text);
-  else {
-    if (!isBytes && /\\x[0-9a-f]{3}/i.test(text)) throw new Unreadable("After \\x C takes all digits, other languages two: write the next one as an escape too.", ESCAPED);
-    for (const [whole, pair, octal, point, long, newline, escape, plain] of text.matchAll(/\\x([0-9a-f]{2})|\\([0-7]{1,3})|\\u(?:\{([0-9a-f]{1,6})\}|([0-9a-f]{4}))|\\(\n\s*)|\\(.)|([^\\])/giu)) {
-      if (pair) found.push(parseInt(pair, 16));
-      else if (octal) found.push(parseInt(octal, 8) & 255);
-      else if ((point || long) && !isBytes) add(String.fromCodePoint(parseInt(point ?? long, 16)));
-      else if (newline) continue;
-      else if (escape && escape in ESCAPES) found.push(ESCAPES[escape]);
-      else if (plain) add(plain);
-      else throw new Unreadable(`“${whole}” is no escape that is known here.`);
-    }
-  }
-  return Uint8Array.from(found);
-}
-
-/** Base64, in the alphabet of addresses too. */
-export function parseBase64(text) {
-  const bare = text.trim().replace(/\n/g, "").replaceAll("-", "+").replaceAll("_", "/");
-  if (bare.length < 4 || bare.length % 4 !== 0 || !/^[a-z0-9+/]+={0,2}$/i.test(bare) || !/[G-Z+/=]/.test(bare)) return undefined;
-  try {
-    return { bytes: Uint8Array.from(atob(bare), (sign) => sign.charCodeAt(0)), as: "base64" };
-  } catch {
-    return undefined;
-  }
+/** Says why a word that begins like a number is no byte. */
+function faultOf(word) {
+  if (word === "") return "Between two commas is nothing.";
+  return wideFault(word.replace(/^-?\d[\d_]*/, "")) ?? `“${word}” is no number: in a list, hexadecimal numbers begin with 0x.`;
 }

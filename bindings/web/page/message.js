@@ -9,16 +9,17 @@ import { KINDS, crcOf } from "./crc.js";
 import { Field } from "./field.js";
 import { parseHex, printHex } from "./hex.js";
 import { byId, complain, count, counted, once, readSentinel, statusOf } from "./inputs.js";
-import { BADGES, MESSAGE, Pieces } from "./pieces.js";
+import { BADGES, MESSAGE, Pieces, onlyPiece } from "./pieces.js";
 import { setSteps, startSteps } from "./steps.js";
 import { setStream } from "./stream.js";
-import { ZERO, bytesOfText, endsOf, isBytes, textOf } from "./text.js";
+import { ZERO, bytesOfText, endsOf, isBytes, mayBeBytes, textOf } from "./text.js";
 import { Undo } from "./undo.js";
 
 const HEX_SHOWN = 2048;
 const EDITED = 4096;      // bytes of a frame in its field
 const LINKED = 2000;      // bytes of a message in a link
 const OFFERED = 1 << 20;  // bytes that are looked at for a frame or a stream
+const ASKED = 1 << 16;    // letters of a text that are looked at for bytes
 const SUMMED = 1 << 20;   // bytes whose CRC is shown
 
 let frame = new Uint8Array();
@@ -29,6 +30,8 @@ let message = new Uint8Array();
 let readAs = "";
 let endsNote = "";
 let asKind = "text"; // the kind that the field's text is of
+let reading;         // the reading that was chosen for the field's bytes, if they have several
+let frameReading;    // the same for the frame's
 let field;
 let canvas;
 let undo;
@@ -40,21 +43,24 @@ const kind = () => document.querySelector('input[name="message-kind"]:checked').
 function readMessage() {
   const isText = kind() === "text";
   byId("message-ends").closest("label").hidden = !isText || !field.text.includes("\n");
+  byId("message-other").hidden = true;
   if (isText) {
     readAs = endsNote + (/\p{Surrogate}/u.test(field.text) ? " A lone surrogate has no bytes in UTF-8; it became ef bf bd." : "");
     field.complain(null, byId("message-error"));
     byId("message-read").textContent = `Read as text (UTF-8)${field.text.includes(ZERO) ? `; each ${ZERO} is a byte 00` : ""}.`;
     return bytesOfText(field.text, byId("message-ends").value);
   }
-  const { bytes, error, as } = parseBytes(field.text);
+  const { bytes, error, as, other } = parseBytes(field.text, reading);
   readAs = "";
   byId("message-read").textContent = error ? "" : `Read as ${as}.`;
+  showOther(byId("message-other"), other);
   field.complain(error ? `${error} The drawing below is of the last good input.` : null, byId("message-error"));
   return bytes ?? null;
 }
 
 /** Finds out what is pasted: bytes in some form, if nothing else is in the field; else text, whose line ends the field changes. */
 function notePasted(text, isWhole) {
+  reading = undefined;
   if (kind() === "text" && isWhole && isBytes(text, parseBytes(text).as)) choose("hex");
   const ends = endsOf(text);
   if (kind() !== "text" || ends === "") return;
@@ -92,7 +98,6 @@ function showFacts(shown, isFrame) {
   byId("message-full").textContent = isFrame ? count(places.reduce((full, at) => full + ((shown[at] ^ sentinel) === 255), 0)) : "–";
 }
 
-const steps = () => setSteps(message, frame, sentinel);
 
 /** Reads the fields. `wanted` is shown in place of the frame; null is the frame itself. */
 function update(wanted) {
@@ -106,7 +111,6 @@ function update(wanted) {
   sentinel = byte;
   frame = encode(message, { sentinel });
   offer(message);
-  steps();
   showExtras();
   showFrame();
 }
@@ -129,7 +133,7 @@ const digitsOf = (bytes) => printHex(bytes.subarray(0, LINKED + 1)).replaceAll("
 /** Shows the frame, or what was written in its place. */
 function showFrame() {
   const shown = typed ?? frame;
-  undo.note({ kind: asKind, text: field.text, ends: byId("message-ends").value, sentinel, frame: typed ? printHex(typed) : "" }, isTyped);
+  undo.note({ kind: asKind, text: field.text, reading, ends: byId("message-ends").value, sentinel, frame: typed ? printHex(typed) : "" }, isTyped);
   isTyped = false;
   keepState("message", { hex: digitsOf(message), as: kind(), sentinel: printHex([sentinel]), ...(typed && { frame: digitsOf(typed) }) });
   pieces = new Pieces(joined([shown, [sentinel]]), { maxLength: shown.length, sentinel });
@@ -140,23 +144,25 @@ function showFrame() {
   input.hidden = shown.length > EDITED;
   if (document.activeElement !== input) input.value = shown.length > EDITED ? "" : printHex(shown);
   const fault = typed && faultOf(typed);
-  complainFrame(fault);
+  complainFrame(fault, typed?.includes(sentinel));
   showFacts(shown, fault === null);
   say();
   canvas.show(pieces, pieces.ended !== 1 || pieces.kinds[0] !== MESSAGE);
+  setSteps(typed ? null : message, frame, sentinel); // bytes that are in place of the frame have none
 }
 
 /** What is wrong with bytes that are no frame; null for the longer frame of a message. */
 function faultOf(bytes) {
   if (frameKind(bytes, { sentinel }) !== "notAFrame") return null;
   if (bytes.length === 0) return "A frame has at least one byte.";
-  if (bytes.includes(sentinel)) return `A frame has no sentinel ${printHex([sentinel])} in it. The message above is that of the last frame.`;
-  return "The frame breaks off inside a block. The message above is that of the last frame.";
+  if (bytes.includes(sentinel)) return `These are several pieces, with the sentinel ${printHex([sentinel])} between them, and a frame is one. The message is still that of the last frame.`;
+  return "The frame breaks off inside a block. The message is still that of the last frame.";
 }
 
-function complainFrame(error) {
+function complainFrame(error, isStream = false) {
   complain(byId("message-frame-edit"), error, byId("message-frame-error"));
   byId("message-typed").hidden = error === null;
+  byId("message-frame-stream").hidden = !isStream;
 }
 
 /** Takes bytes in place of the frame. If they are one, its message is that of the field above. */
@@ -167,10 +173,26 @@ function takeFrame(bytes) {
   byId("message-copied").textContent = kindOfFrame === "longer" ? "This is the longer of two frames of the message: encoders leave out its last 01." : "";
 }
 
+/** Takes what is in the frame's field: a frame, as it is or with sentinels around it as it came over a line, or several. */
 function editFrame() {
-  const { bytes, error } = parseBytes(byId("message-frame-edit").value);
-  if (bytes) takeFrame(bytes);
+  const { bytes, error, as, other } = parseBytes(byId("message-frame-edit").value, frameReading);
+  if (bytes) takeFrame(onlyPiece(bytes, sentinel) ?? bytes);
   else complainFrame(error);
+  showOther(byId("message-frame-other"), other);
+  byId("message-frame-read").textContent = other && bytes ? `Read as ${as}.` : "";
+}
+
+/** Shows the button for the other reading of bytes, if they have one. */
+function showOther(button, other) {
+  button.hidden = other === undefined;
+  button.dataset.as = other ?? "";
+  button.textContent = `Read as ${other}`;
+}
+
+function forgetFrameReading() {
+  frameReading = undefined;
+  byId("message-frame-read").textContent = "";
+  byId("message-frame-other").hidden = true;
 }
 
 /** Back from what was written in place of the frame. */
@@ -195,16 +217,26 @@ function splice(at, index, removed, bytes) {
   return undefined;
 }
 
-/** Offers to read bytes that are a frame, or a stream of frames, as such, and as text what is no bytes (null). */
+/** Offers to read bytes that are a frame, or a stream of frames, as such; as text what is no bytes (null); and as bytes what is text. */
 function offer(bytes) {
-  const isOffered = kind() === "hex" && bytes?.length > 1 && bytes.length <= OFFERED;
-  const isFrame = isOffered && frameKind(bytes, { sentinel }) !== "notAFrame";
-  const isStream = isOffered && bytes.at(-1) === sentinel && isAllMessages();
-  byId("message-offer").hidden = !isFrame && !isStream && bytes !== null;
+  const isHex = kind() === "hex";
+  const isOffered = isHex && bytes?.length > 1 && bytes.length <= OFFERED;
+  const isFrame = isOffered && frameKind(onlyPiece(bytes, sentinel) ?? bytes, { sentinel }) !== "notAFrame";
+  const isStream = isOffered && !isFrame && bytes.at(-1) === sentinel && isAllMessages();
+  const form = isHex ? undefined : formOfText();
+  byId("message-offer").hidden = !isFrame && !isStream && bytes !== null && form === undefined;
   byId("message-decode").hidden = !isFrame;
   byId("message-stream").hidden = !isStream;
   byId("message-as-text").hidden = bytes !== null;
-  byId("message-offer-text").textContent = isFrame ? "These bytes are a frame themselves." : isStream ? "These bytes are a stream of frames." : "";
+  byId("message-as-bytes").hidden = form === undefined;
+  byId("message-offer-text").textContent = isFrame ? "These bytes are a frame themselves." : isStream ? "These bytes are a stream of frames." : form ? `This could be bytes (${form}).` : "";
+}
+
+/** The form of bytes that the field's text may have, if it does. */
+function formOfText() {
+  if (field.text.length > ASKED) return undefined;
+  const { bytes, as } = parseBytes(field.text);
+  return bytes && mayBeBytes(field.text, as, bytes.length) ? as : undefined;
 }
 
 function isAllMessages() {
@@ -216,22 +248,23 @@ function isAllMessages() {
   return count > 0;
 }
 
-/** Shows what a link holds: bytes, how they are shown, and the sentinel. */
+/** Shows what a link holds: bytes or text, how they are shown, and the sentinel. */
 export function setMessage(values) {
   byId("message-sentinel").value = values.get("sentinel") ?? "00";
-  const { bytes } = parseHex(values.get("hex"));
-  if (!bytes) setInput("hex", values.get("hex"));
-  else if (values.get("as") !== "text" || !setText(bytes)) setInput("hex", printHex(bytes));
+  const { bytes } = values.has("hex") ? parseHex(values.get("hex")) : { bytes: values.has("text") && bytesOfText(values.get("text"), "LF") };
+  if (!bytes && values.has("hex")) setInput("hex", values.get("hex"));
+  else if (bytes && ((values.has("hex") && values.get("as") !== "text") || !setText(bytes))) setInput("hex", printHex(bytes));
   const { bytes: written } = parseHex(values.get("frame") ?? "?");
   update(written ?? null);
   if (values.has("at")) canvas.open(Number(values.get("at")));
 }
 
 /** Shows what the view held before. */
-function restore({ kind: wanted, text, ends, sentinel: byte, frame: written }) {
+function restore({ kind: wanted, text, reading: chosen, ends, sentinel: byte, frame: written }) {
   byId("message-sentinel").value = printHex([byte]);
   byId("message-ends").value = ends;
   setInput(wanted, text);
+  reading = chosen;
   update(written === "" ? null : parseHex(written).bytes);
 }
 
@@ -255,9 +288,10 @@ function changeKind() {
   if (kind() === "hex") {
     field.text = printHex(bytesOfText(field.text, byId("message-ends").value));
   } else {
-    const { bytes } = parseBytes(field.text);
+    const { bytes } = parseBytes(field.text, reading);
     if (bytes) setText(bytes);
   }
+  reading = undefined;
   asKind = kind();
 }
 
@@ -268,8 +302,7 @@ async function copy() {
   const text = bytes.length === 0 && form !== "link" ? "" : FORMS[form](bytes, { sentinel, link: linkOf("message", canvas.active > 0 ? { at: canvas.active } : {}), pieces: Array.from({ length: pieces.ended }, (_, at) => pieces.piece(at)) });
   const said = byId("message-copied");
   if (text === "") said.textContent = "There is nothing to copy.";
-  else if (text === null) said.textContent = "The frame is too long for a picture.";
-  else if (form === "link" && Math.max(message.length, typed?.length ?? 0) > LINKED) said.textContent = "The message is too long for a link.";
+  else if (text === null) said.textContent = form === "link" ? "The message is too long for a link." : "The frame is too long for a picture.";
   else if (await toClipboard(text)) said.textContent = form === "link" ? "The link is copied." : `${counted(bytes.length, "byte")} copied.`;
   else {
     if (!byId("message-frame-edit").hidden) byId("message-frame-edit").select();
@@ -280,6 +313,7 @@ async function copy() {
 
 function setInput(wanted, text) {
   choose(wanted);
+  reading = undefined;
   endsNote = "";
   field.text = text;
 }
@@ -306,14 +340,25 @@ export function startMessage() {
     soon();
   };
   field = new Field(byId("message-input"), asked, notePasted);
-  startSteps(steps);
+  byId("message-first").remove();
   undo = new Undo(byId("message"), byId("message-undo"), restore);
   byId("message-crc").append(...Object.keys(KINDS).map((name) => new Option(name)));
   byId("message-crc").addEventListener("input", showExtras);
   byId("message-crc-high").addEventListener("click", () => appendCrc(true));
   byId("message-crc-low").addEventListener("click", () => appendCrc(false));
   byId("message-as-text").addEventListener("click", () => setInput("text", field.text));
+  byId("message-as-bytes").addEventListener("click", () => setInput("hex", field.text));
+  byId("message-other").addEventListener("click", ({ target }) => {
+    reading = target.dataset.as;
+    asked();
+  });
+  byId("message-frame-other").addEventListener("click", ({ target }) => {
+    frameReading = target.dataset.as;
+    editFrame();
+    byId("message-frame-edit").focus();
+  });
   canvas = new Canvas(byId("message-drawing"), { name: "message", outcome: fillOutcome, write, splice });
+  startSteps(canvas);
   for (const radio of document.querySelectorAll('input[name="message-kind"]')) radio.addEventListener("change", () => {
     changeKind();
     asked();
@@ -322,18 +367,27 @@ export function startMessage() {
   byId("message-sentinel").addEventListener("input", asked);
   byId("message-copy").addEventListener("click", copy);
   byId("message-frame-edit").addEventListener("input", editFrame);
-  byId("message-frame-edit").addEventListener("blur", () => showFrame());
+  // a press on these leaves the focus in the field: what the field shows when it loses it would move them from under the mouse
+  for (const id of ["message-frame-other", "message-frame-stream", "message-back"]) byId(id).addEventListener("mousedown", (event) => event.preventDefault());
+  byId("message-frame-edit").addEventListener("paste", forgetFrameReading);
+  byId("message-frame-edit").addEventListener("blur", ({ relatedTarget }) => {
+    if (relatedTarget?.id === "message-frame-other") return; // which reads the field once more
+    forgetFrameReading();
+    showFrame();
+  });
   byId("message-back").addEventListener("click", mend);
   byId("message-decode").addEventListener("click", () => {
-    setInput("hex", printHex(decode(message, { sentinel })));
+    setInput("hex", printHex(decode(message, { sentinel }))); // with sentinels around it too
     byId("message-input").focus();
   });
-  byId("message-stream").addEventListener("click", () => {
-    const values = new URLSearchParams({ hex: printHex(message), sentinel: printHex([sentinel]) });
+  const toStream = (bytes) => {
+    const values = new URLSearchParams({ hex: printHex(bytes), sentinel: printHex([sentinel]) });
     dispatchEvent(new CustomEvent("jcobs-open", { detail: "stream" }));
     setStream(values);
-  });
-  for (const button of document.querySelectorAll("#message > .samples button")) button.addEventListener("click", () => sample(button.dataset));
+  };
+  byId("message-stream").addEventListener("click", () => toStream(message));
+  byId("message-frame-stream").addEventListener("click", () => toStream(typed));
+  for (const button of document.querySelectorAll("#message > .samples [data-text], #message > .samples :is([data-hex], [data-run], [data-zeros])")) button.addEventListener("click", () => sample(button.dataset));
   byId("message").querySelector("form").addEventListener("submit", (event) => event.preventDefault());
   sample({ text: `Hello${ZERO}World` });
 }

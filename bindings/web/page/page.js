@@ -1,7 +1,6 @@
 // The page: it loads the module, and then shows one of three views at a time.
 import { load } from "../jcobs.js";
-import { style } from "../draw.js";
-import { VIEWS, isOurChange, nameView, readAddress } from "./address.js";
+import { VIEWS, holdAddress, isOurChange, nameView, readAddress } from "./address.js";
 import { setLine, startLine } from "./line.js";
 import { setMessage, startMessage } from "./message.js";
 import { setStream, startStream } from "./stream.js";
@@ -36,10 +35,11 @@ function startTabs() {
     });
   }
   const take = () => {
-    const { view, values } = readAddress();
+    const { view, values, text } = readAddress();
     show(view);
+    if (text !== "") holdAddress();
     if (view === "line") setLine(values);
-    else if (values.has("hex")) ({ message: setMessage, stream: setStream })[view](values);
+    else if (text !== "") ({ message: setMessage, stream: setStream })[view](values);
   };
   addEventListener("hashchange", () => isOurChange() || take());
   addEventListener("popstate", () => show(readAddress().view));
@@ -50,14 +50,19 @@ function startTabs() {
   take();
 }
 
-/** With `?embed` in its address the page is a drawing for another page, with a link to the whole of it. */
+/**
+ * With `?embed` in its address the page is a drawing for another page, with a link to the whole of it. It posts its height to that
+ * page whenever it changes, which can then make the frame as high: `{ jcobs: "height", height: pixels }`.
+ */
 function startEmbedded() {
-  if (!new URLSearchParams(location.search).has("embed")) return;
-  document.documentElement.classList.add("embed");
+  if (!document.documentElement.classList.contains("embed")) return;
   const link = document.getElementById("embed-open");
   const follow = () => (link.href = location.pathname + location.hash);
   for (const event of ["pointerdown", "focus"]) link.addEventListener(event, follow);
   follow();
+  if (parent === window) return;
+  const post = () => parent.postMessage({ jcobs: "height", height: Math.ceil(document.documentElement.getBoundingClientRect().height) }, "*");
+  new ResizeObserver(post).observe(document.documentElement);
 }
 
 /** Links to the repository's files, if the site was built with its address. */
@@ -67,11 +72,6 @@ function startLinks() {
   for (const link of document.querySelectorAll("a[data-file]")) link.href = content.replace(/\/*$/, "/") + link.dataset.file;
   for (const part of document.querySelectorAll(".proofs")) part.hidden = false;
 }
-
-// not an element, which the content security policy would have to allow
-const pictureStyle = new CSSStyleSheet();
-pictureStyle.replaceSync(style(".picture svg"));
-document.adoptedStyleSheets = [...document.adoptedStyleSheets, pictureStyle];
 
 function complain(text) {
   const place = document.getElementById("unsupported");
@@ -86,13 +86,13 @@ async function isLoaded() {
     return true;
   } catch (error) {
     complain(error.kind === "unsupported" ? `This page can't run here: ${error.message}.` : `The proved code could not be loaded: ${error.message}`);
+    document.getElementById("views").hidden = true;
     return false;
   }
 }
 
 document.getElementById("loading").hidden = true;
 if (await isLoaded()) {
-  document.getElementById("views").hidden = false;
   try {
     for (const start of [startMessage, startStream, startLine, startLinks, startEmbedded, startTabs]) start();
     document.documentElement.dataset.ready = "yes";

@@ -18,6 +18,15 @@ function kindOf({ message, broken, tooLong, isIdle }) {
   return isIdle ? IDLE : UNFINISHED;
 }
 
+/** Returns the only piece of some bytes, without the sentinels around it; null if there are several. */
+export function onlyPiece(bytes, sentinel) {
+  const front = bytes.findIndex((byte) => byte !== sentinel);
+  if (front < 0) return bytes.subarray(0, 0);
+  const end = bytes.indexOf(sentinel, front);
+  const piece = bytes.subarray(front, end < 0 ? bytes.length : end);
+  return end < 0 || bytes.subarray(end).every((byte) => byte === sentinel) ? piece : null;
+}
+
 /** What a stream decodes to: for each piece where it begins, its first byte that is no sentinel, its end, and its outcome. */
 export class Pieces {
   #codes = { at: -1 };

@@ -1,9 +1,10 @@
-// Encoder and decoder step by step, beside ten lines of code that do the same. These lines explain the format; what the
-// page encodes and decodes elsewhere goes through the module, and the tests hold these to it.
+// Encoder and decoder step by step on the drawing, with ten lines of code that do the same. These lines explain the format;
+// what the page encodes and decodes elsewhere goes through the module, and the tests hold these to it.
 import { printHex } from "./hex.js";
 import { byId, count } from "./inputs.js";
 
 const LONGEST = 300;
+const PACE = 900; // milliseconds of a step that plays
 
 const ENCODER = [
   "out = [0]; at = 0; code = 1",
@@ -30,100 +31,147 @@ const DECODER = [
 export const encoderLines = (sentinel) => (sentinel === 0 ? ENCODER : [...ENCODER, "out = each byte of out XOR the sentinel"]);
 export const decoderLines = (sentinel) => (sentinel === 0 ? DECODER : ["frame = each byte of frame XOR the sentinel", ...DECODER]);
 
-/** Each step of the encoder: its line, the byte that is read, what is out so far, and where the open block's code belongs. */
+/**
+ * Each step of the encoder: its line, what is out so far, a sentence, and `stage`, which `rowPicture` draws: the open block's code
+ * is counted at its place, and gets its arc once the block is closed.
+ */
 export function encoderSteps(message, sentinel = 0) {
   const steps = [];
   const out = [0];
   let at = 0;
   let code = 1;
-  const step = (line, read, said) => steps.push({ line, read, out: out.slice(), at, said });
+  const step = (line, now, said, isClosed = false) => {
+    const stage = { frame: out.length, over: Infinity, arcs: isClosed ? at + 1 : at, open: isClosed ? -1 : at, count: code, fresh: isClosed ? at : -1, now, seen: now < 0 ? out.length - 1 : now, isOver: true, isPlain: true };
+    steps.push({ line, out: out.slice(), said, stage });
+  };
   step(0, -1, "The first code is open: its place is kept.");
   for (const [i, byte] of message.entries()) {
     if (byte !== 0) {
       out.push(byte);
       code++;
-      step(3, i, `The byte is copied. The open code is ${code} so far.`);
+      step(3, out.length - 1, `The byte is copied. The open code is ${code} so far.`);
     }
     if (byte === 0 || (code === 255 && i + 1 < message.length)) {
       out[at] = code;
-      step(5, i, byte === 0 ? `A zero: the open code becomes ${code}, the way to this place.` : "The block is full: its code is 255, which stands for no zero.");
+      const place = byte === 0 ? out.length : out.length - 1;
+      step(5, place, byte === 0 ? `A zero: the open code becomes ${code}, the distance to this place.` : "The block is full: its code is 255, which stands for no zero.", true);
       at = out.length;
       out.push(0);
       code = 1;
-      step(6, i, byte === 0 ? "The place of the zero is that of the next code." : "The next code begins.");
+      step(6, out.length - 1, byte === 0 ? "The place of the zero is that of the next code." : "The next code begins.");
     }
   }
   out[at] = code;
-  step(7, -1, `The end: the last code becomes ${code}.`);
-  if (sentinel !== 0) steps.push({ line: 8, read: -1, out: out.map((byte) => byte ^ sentinel), at: -1, said: `Each byte is XORed with ${printHex([sentinel])}: since none was 00, none is ${printHex([sentinel])} now.` });
+  step(7, -1, `The end: the last code becomes ${code}, the distance to the sentinel.`, true);
+  if (sentinel !== 0) steps.push({ line: 8, out: out.map((byte) => byte ^ sentinel), stage: null, said: `Each byte is XORed with ${printHex([sentinel])}: since none was 00, none is ${printHex([sentinel])} now.` });
   return steps;
 }
 
-/** Each step of the decoder of a whole frame. `input` is what is read, once it is XORed with the sentinel. */
+/** Each step of the decoder of a whole frame, as of the encoder: the message comes out over the frame. */
 export function decoderSteps(given, sentinel = 0) {
   const steps = [];
   const out = [];
   const frame = given.map((byte) => byte ^ sentinel);
   let at = 0;
-  const step = (line, read, said) => steps.push({ line: sentinel === 0 ? line : line + 1, read, out: out.slice(), at: -1, input: line < 0 ? given : frame, said });
-  if (sentinel !== 0) step(-1, -1, `Each byte is XORed with ${printHex([sentinel])}.`);
-  step(0, -1, "Nothing is out yet.");
+  const step = (line, now, said, { over, arcs }) => {
+    const stage = { frame: Infinity, over, arcs, open: -1, fresh: arcs > at ? at : -1, now, seen: Infinity, isOver: false, isPlain: true };
+    steps.push({ line: sentinel === 0 ? line : line + 1, out: out.slice(), said, stage });
+  };
+  if (sentinel !== 0) step(-1, -1, `Each byte is XORed with ${printHex([sentinel])}.`, { over: 0, arcs: 0 });
+  step(0, -1, "Nothing is out yet.", { over: 0, arcs: 0 });
   while (at < frame.length) {
     const code = frame[at];
-    step(2, at, `The code is ${code}.`);
+    step(2, at, `The code is ${code}.`, { over: at + 1, arcs: at });
     out.push(...frame.subarray(at + 1, at + code));
-    step(3, at, `${code - 1} bytes are copied.`);
+    step(3, at, code === 1 ? "No bytes are before the next code." : `${code === 2 ? "One byte is" : `${code - 1} bytes are`} copied.`, { over: at + code, arcs: at + 1 });
     at += code;
     if (code < 255 && at < frame.length) {
       out.push(0);
-      step(6, at, "The place of the next code was a zero.");
+      step(6, at, "The place of the next code was a zero.", { over: at + 1, arcs: at });
     }
   }
-  step(1, -1, "The end of the frame: this is the message.");
+  step(1, -1, "The end of the frame: this is the message.", { over: Infinity, arcs: Infinity });
   return steps;
 }
 
+let given = { message: null, frame: null, sentinel: 0 };
 let steps = [];
-let input = new Uint8Array();
-let now = 0;
+let now = -1; // the step that is shown; -1 while the drawing is whole
+let canvas;
+let timer = 0;
 
-function cells(place, bytes, marked) {
-  place.replaceChildren(...Array.from(bytes, (byte, i) => Object.assign(document.createElement("span"), { className: i === marked ? "on" : "", textContent: printHex([byte]) })));
-}
+const isShown = () => now >= 0;
 
-function show() {
-  const { line, read, out, at, said, input: changed } = steps[now];
+function show(to) {
+  now = Math.min(steps.length - 1, Math.max(0, to));
+  const { line, said, stage } = steps[now];
+  canvas.stage(stage);
   for (const [i, element] of [...byId("steps-code").children].entries()) element.className = i === line ? "on" : "";
-  cells(byId("steps-in"), changed ?? input, read);
-  cells(byId("steps-out"), out, at);
   byId("steps-said").textContent = `Step ${count(now + 1)} of ${count(steps.length)}: ${said}`;
   byId("steps-back").disabled = now === 0;
   byId("steps-next").disabled = now === steps.length - 1;
   byId("steps-at").max = steps.length - 1;
   byId("steps-at").value = now;
+  if (now === steps.length - 1) pause();
 }
 
-/** Begins with a message and its frame. */
+/** Takes a message and its frame; the message is null if what is drawn isn't its frame. While steps are shown, the first one is. */
 export function setSteps(message, frame, sentinel) {
-  const isDecoder = byId("steps-which").value === "decoder";
-  const isShown = message.length <= LONGEST;
-  byId("steps-long").hidden = isShown;
-  byId("steps-all").hidden = !isShown;
-  if (!isShown) return;
-  input = isDecoder ? frame : message;
-  steps = isDecoder ? decoderSteps(frame, sentinel) : encoderSteps(message, sentinel);
-  now = 0;
-  byId("steps-code").replaceChildren(...(isDecoder ? decoderLines : encoderLines)(sentinel).map((text) => Object.assign(document.createElement("li"), { textContent: text })));
-  show();
+  given = { message, frame, sentinel };
+  if (isShown()) begin();
 }
 
-export function startSteps(changed) {
-  const go = (to) => {
-    now = Math.min(steps.length - 1, Math.max(0, to));
-    show();
-  };
-  byId("steps-which").addEventListener("change", changed);
-  byId("steps-next").addEventListener("click", () => go(now + 1));
-  byId("steps-back").addEventListener("click", () => go(now - 1));
-  byId("steps-at").addEventListener("input", (event) => go(event.target.valueAsNumber));
+function begin() {
+  pause();
+  const { message, frame, sentinel } = given;
+  const isDecoder = byId("steps-which").value === "decoder";
+  const isPossible = message !== null && message.length <= LONGEST;
+  byId("steps-long").hidden = isPossible;
+  for (const id of ["steps-all", "steps-lines", "steps-said"]) byId(id).hidden = !isPossible;
+  if (!isPossible) return;
+  steps = isDecoder ? decoderSteps(frame, sentinel) : encoderSteps(message, sentinel);
+  byId("steps-code").replaceChildren(...(isDecoder ? decoderLines : encoderLines)(sentinel).map((text) => Object.assign(document.createElement("li"), { textContent: text })));
+  show(0);
+}
+
+function pause() {
+  clearInterval(timer);
+  timer = 0;
+  byId("steps-play").textContent = "Play";
+}
+
+function play() {
+  if (timer !== 0) return pause();
+  if (now === steps.length - 1) show(0);
+  timer = setInterval(() => show(now + 1), PACE);
+  byId("steps-play").textContent = "Pause";
+}
+
+/** Shows the steps, or the whole drawing again. */
+function toggle() {
+  const isOpening = !isShown();
+  pause();
+  now = isOpening ? 0 : -1;
+  byId("message-steps").hidden = byId("steps-lines").hidden = !isOpening;
+  byId("steps-open").setAttribute("aria-expanded", String(isOpening));
+  if (isOpening) begin();
+  else canvas.stage(null);
+  byId(isOpening ? "steps-next" : "steps-open").focus();
+  if (isOpening) byId("message-drawing").scrollIntoView({ block: "nearest" });
+}
+
+/** `drawing` is the canvas that shows the steps. */
+export function startSteps(drawing) {
+  canvas = drawing;
+  for (const id of ["steps-open", "steps-close"]) byId(id).addEventListener("click", toggle);
+  byId("steps-which").addEventListener("change", begin);
+  byId("steps-play").addEventListener("click", play);
+  for (const [name, by] of [["back", -1], ["next", 1]]) byId(`steps-${name}`).addEventListener("click", () => {
+    pause();
+    show(now + by);
+  });
+  byId("steps-at").addEventListener("input", (event) => {
+    pause();
+    show(event.target.valueAsNumber);
+  });
 }

@@ -29,11 +29,16 @@ let placeholder; // of the field while no file is shown
 let isTyped = false; // whether the change under way is by a key in the field
 let fromFile = null; // `{bytes}`, or `{entries}` of a log
 let readAs = "";
+let reading; // the reading that was chosen for the field's bytes, if they have several
 
 /** The bytes of the field or the file, or null with a complaint. A log of Line stands for the frames of its rows. */
 function readStream(sentinel) {
   const log = fromFile ? fromFile.entries && fromFile : isLog(field.text) && readLog(field.text);
-  const { bytes, error, said, as } = log ? (log.error ? log : streamOf(log.entries, sentinel)) : (fromFile ?? parseBytes(field.text));
+  const { bytes, error, said, as, other } = log ? (log.error ? log : streamOf(log.entries, sentinel)) : (fromFile ?? parseBytes(field.text, reading));
+  byId("stream-reading").hidden = other === undefined;
+  byId("stream-read").textContent = error ? "" : `Read as ${as}.`;
+  byId("stream-other").textContent = `Read as ${other}`;
+  byId("stream-other").dataset.as = other ?? "";
   readAs = said ? ` ${said}` : as && as !== "hex" ? ` Read as ${as}.` : "";
   field.complain(error ? `${error} The pieces below are of the last good input.` : null, byId("stream-error"));
   return bytes ?? null;
@@ -66,10 +71,11 @@ function setDamage(text) {
 }
 
 /** Shows what the view held before. */
-function restore({ text, file, sentinel, room, damage: changes }) {
+function restore({ text, reading: chosen, file, sentinel, room, damage: changes }) {
   byId("stream-sentinel").value = printHex([sentinel]);
   byId("stream-room").value = room;
   field.text = text;
+  reading = chosen;
   fromFile = file;
   if (update()) setDamage(changes);
 }
@@ -83,13 +89,13 @@ function applyDamage() {
   hurt = [...damage.keys()].sort((a, b) => a - b);
   pieces = damage.size > 0 ? new Pieces(stream, before) : before;
   byId("stream-mend").disabled = damage.size === 0;
-  undo?.note({ text: field.text, file: fromFile, sentinel: before.sentinel, room: before.maxLength, damage: damageText(hurt.length) }, isTyped);
+  undo?.note({ text: field.text, reading, file: fromFile, sentinel: before.sentinel, room: before.maxLength, damage: damageText(hurt.length) }, isTyped);
   isTyped = false;
   keepState("stream", {
     hex: printHex(original.subarray(0, LINKED + 1)).replaceAll(" ", ""),
     sentinel: printHex([before.sentinel]),
     room: before.maxLength,
-    ...(hurt.length > 0 ? { damage: damageText(LINKED) } : {}),
+    ...(hurt.length > 0 ? { damage: damageText(hurt.length) } : {}),
   });
   byId("stream-copied").textContent = "";
   byId("stream-empty").hidden = stream.length > 0;
@@ -102,8 +108,10 @@ function applyDamage() {
 export function setStream(values) {
   byId("stream-sentinel").value = values.get("sentinel") ?? "00";
   byId("stream-room").value = values.get("room") ?? "64";
-  forgetFile();
-  field.text = values.get("hex").replaceAll(" ", "").replace(/..(?=.)/g, "$& ");
+  if (values.has("hex")) {
+    forgetFile();
+    field.text = values.get("hex").replaceAll(" ", "").replace(/..(?=.)/g, "$& ");
+  }
   if (!update()) return;
   setDamage(values.get("damage") ?? "");
   if (values.has("at")) canvas.open(Number(values.get("at")));
@@ -134,11 +142,12 @@ function forgetFile() {
 async function copy() {
   const form = byId("stream-form").value;
   const isLink = form === "link";
-  const isLong = isLink && original.length > LINKED;
+  const link = linkOf("stream", canvas.active > 0 ? { at: canvas.active } : {});
+  const isLong = isLink && link === null;
   const isEmpty = !isLink && stream.length === 0;
-  const isCopied = !isLong && !isEmpty && (await toClipboard(FORMS[form](stream, { name: "stream", link: linkOf("stream", canvas.active > 0 ? { at: canvas.active } : {}) })));
+  const isCopied = !isLong && !isEmpty && (await toClipboard(FORMS[form](stream, { name: "stream", link })));
   const refused = `The browser refused the clipboard${isLink ? "; the address holds the link" : ""}.`;
-  byId("stream-copied").textContent = isEmpty ? "There is nothing to copy." : isLong ? "The stream is too long for a link." : !isCopied ? refused : isLink ? "The link is copied." : `${counted(stream.length, "byte")} copied.`;
+  byId("stream-copied").textContent = isEmpty ? "There is nothing to copy." : isLong ? `The stream${damage.size > 0 ? " with its damage" : ""} is too long for a link.` : !isCopied ? refused : isLink ? "The link is copied." : `${counted(stream.length, "byte")} copied.`;
 }
 
 const status = statusOf("stream", 250);
@@ -151,7 +160,8 @@ function say() {
   text += readAs;
   if (damage.size > 0) {
     const kept = before.ended - before.changedFrom(pieces, hurt).length;
-    text += ` ${counted(damage.size, "byte")} damaged: ${count(kept)} of the ${counted(before.ended, "piece")} came through as before.`;
+    const came = before.ended === 1 ? `the piece ${kept === 1 ? "came" : "didn't come"} through as before` : `${count(kept)} of the ${counted(before.ended, "piece")} came through as before`;
+    text += ` ${counted(damage.size, "byte")} damaged: ${came}.`;
     const altered = pieces.changedFrom(before, hurt).filter((at) => pieces.kinds[at] === MESSAGE).length;
     if (altered > 0) text += ` ${counted(altered, "message")} that nobody sent: COBS doesn't notice such damage, a CRC in the message does.`;
   }
@@ -255,9 +265,15 @@ function startDrop() {
 
 export function startStream() {
   const asked = once(update);
-  field = new Field(byId("stream-input"), (isByKey) => {
+  const changed = (isByKey) => {
     isTyped = isByKey;
+    if (!isByKey) reading = undefined;
     forgetFile();
+    asked();
+  };
+  field = new Field(byId("stream-input"), changed);
+  byId("stream-other").addEventListener("click", ({ target }) => {
+    reading = target.dataset.as;
     asked();
   });
   const mark = (i) => (damage.has(i) ? `, was ${printHex(original, i, i + 1)}` : "");

@@ -26,8 +26,13 @@ export function textOf(bytes) {
   }
 }
 
-/** Whether a text is surely bytes in some form, and no text to be sent as such. */
+/** Whether a text that is pasted is surely bytes in the form `as`, and no text to be sent as such. */
 export function isBytes(text, as) {
-  if (as === "hex") return /^\s*(0x)?[0-9a-f]{2}([\s,:-]+(0x)?[0-9a-f]{2}){2,}\s*,?\s*$/i.test(text) || /0x|fromhex/i.test(text);
+  if (as === "hex") return /^(0x)?[0-9a-f]{2}([\s,:-]+(0x)?[0-9a-f]{2}){2,}$/i.test(text.trim().replace(/,$/, "").trimEnd()) || /0x|fromhex/i.test(text);
   return as !== undefined && !["base64", "a string", "decimal numbers"].includes(as) || (as === "decimal numbers" && /[[{(]/.test(text));
+}
+
+/** Whether a text may be bytes in the form `as`, `length` of them, so that it is worth to ask. */
+export function mayBeBytes(text, as, length) {
+  return length > 1 && (as !== "base64" || (length > 4 && /[\d+/=]/.test(text)));
 }

@@ -2,22 +2,22 @@
 
 /** Calls `act` with two functions: the pages of the memory of the module that was made last, and how many were made. */
 export async function memoryOf(act) {
-  const { Instance } = WebAssembly;
+  const { Instance, instantiate } = WebAssembly;
   let last;
   let count = 0;
-  WebAssembly.Instance = new Proxy(Instance, {
-    construct(target, args) {
-      last = new target(...args);
-      count++;
-      return last;
-    },
-  });
+  const note = (instance) => {
+    last = instance;
+    count++;
+    return instance;
+  };
+  WebAssembly.Instance = new Proxy(Instance, { construct: (target, args) => note(new target(...args)) });
+  WebAssembly.instantiate = async (...args) => note(await instantiate(...args));
   try {
     await act(
       () => last.exports.memory.buffer.byteLength / 65536,
       () => count,
     );
   } finally {
-    WebAssembly.Instance = Instance;
+    Object.assign(WebAssembly, { Instance, instantiate });
   }
 }

@@ -61,6 +61,48 @@ for (const [name, given] of Object.entries({
     equal(own.encode(MESSAGE), FRAME, "the frame");
   });
 }
+await check("loadSync loads before it returns, and load after it changes nothing", () => memoryOf(async (pages, made) => {
+  for (const given of [undefined, wasm, await WebAssembly.compile(wasm)]) {
+    const own = await fresh();
+    const before = made();
+    own.loadSync(given);
+    equal(own.encode(MESSAGE), FRAME, "the frame");
+    own.loadSync();
+    await own.load();
+    equal(made() - before, 1, "instances");
+  }
+  const both = await fresh();
+  const loading = both.load();
+  both.loadSync();
+  const decoder = new both.FrameDecoder();
+  await loading;
+  const seen = [];
+  decoder.push(bytes(...FRAME, 0), ({ message }) => seen.push(message));
+  decoder.close();
+  equal([seen, both.encode(MESSAGE)], [[MESSAGE], FRAME], "with one decoder from before a load ended");
+}));
+await check("loadSync refuses what needs a promise, and what is no module", async () => {
+  const own = await fresh();
+  for (const given of ["cobs.wasm", new URL("https://example.org/cobs.wasm"), new Response(wasm), null]) await throws(() => own.loadSync(given), (error) => error instanceof TypeError && /load fetches/.test(error.message), `${given}`);
+  await throws(() => own.loadSync(bytes(0, 0x61, 0x73, 0x6d, 1, 0, 0, 0)), (error) => /isn't this version's cobs.wasm/.test(error.message), "an empty module");
+  own.loadSync();
+  equal(own.encode(MESSAGE), FRAME, "the frame");
+});
+await check("a page of an engine that makes no long instance at once, as Chrome before 115, loads all the same", async () => {
+  const { Instance } = WebAssembly;
+  WebAssembly.Instance = class {
+    constructor() {
+      throw new RangeError("WebAssembly.Instance is disallowed on the main thread, if the buffer size is larger than 4KB");
+    }
+  };
+  try {
+    const own = await fresh();
+    await own.load(wasm);
+    equal(own.encode(MESSAGE), FRAME, "the frame");
+  } finally {
+    WebAssembly.Instance = Instance;
+  }
+});
 await cobs.load(wasm);
 await check("lengths that a 32-bit memory doesn't hold are refused before the call", async () => {
   const own = await fresh();
@@ -85,13 +127,22 @@ await check("every kind of bytes is taken", () => {
   equal(cobs.encode(new DataView(padded.buffer, 2, 4)), FRAME, "of a view");
   equal(cobs.encode(MESSAGE.buffer), FRAME, "of a buffer");
 });
-await check("bytes that are another thread's by now are refused", () => {
+await check("bytes that are gone are refused: another thread has them, or their buffer was made shorter", async () => {
   const decoder = new cobs.FrameDecoder();
-  const gone = Uint8Array.from(FRAME);
-  structuredClone(gone, { transfer: [gone.buffer] });
-  for (const call of [cobs.decode, cobs.encode, cobs.frames, (chunk) => decoder.push(chunk, () => {})]) {
-    throws(() => call(gone), (error) => error instanceof TypeError, "it");
+  const moved = Uint8Array.from(FRAME);
+  const ofMoved = new DataView(moved.buffer);
+  structuredClone(moved, { transfer: [moved.buffer] });
+  const shrunk = new ArrayBuffer(16, { maxByteLength: 16 });
+  const cut = [new Uint8Array(shrunk, 8), new Uint16Array(shrunk, 4, 4), new Uint8Array(shrunk, 4, 8), new DataView(shrunk, 8, 4)];
+  const [following] = cut; // has no length of its own
+  shrunk.resize(6);
+  for (const gone of [moved, ofMoved, ...cut]) {
+    for (const call of [cobs.decode, cobs.encode, cobs.frames, (chunk) => decoder.push(chunk, () => {})]) {
+      await throws(() => call(gone), (error) => error instanceof TypeError && /gone|detached/.test(error.message), "it");
+    }
   }
+  shrunk.resize(8);
+  equal(cobs.encode(following), bytes(1), "of a view that begins where its buffer ends by now");
   decoder.close();
 });
 await check("what is no bytes is refused", async () => {
@@ -194,7 +245,10 @@ await check("a message in pieces has the frame of the whole", async () => {
   }
   encoder.push(new Uint8Array(60_000));
   await throws(() => encoder.push(new Uint8Array(40_001)), (error) => error instanceof RangeError, "a message that is too long");
-  equal(encoder.finish(), cobs.encode(new Uint8Array(60_000)), "the frame of what was taken");
+  equal(encoder.length, 60_000, "the length after it");
+  encoder.push(new Uint8Array(40_000));
+  equal(encoder.length, 100_000, "the length once it is full");
+  equal(encoder.finish(), cobs.encode(new Uint8Array(100_000)), "the frame of what was taken");
   encoder.close();
   encoder.close();
   await throws(() => encoder.push(bytes(1)), (error) => /closed/.test(error.message), "a push after close");

@@ -83,6 +83,41 @@ await check("memory doesn't grow with a stream, nor with the number of streams",
     holds(pages() <= before + 3, `memory had ${before} pages and has ${pages()}`);
   });
 });
+await check("a decoder that is closed within a visit gives its memory back", () => memoryOf(async (pages) => {
+  const cobs = await fresh();
+  await cobs.load(wasm);
+  const before = pages();
+  for (let i = 0; i < 200; i++) {
+    const decoder = new cobs.FrameDecoder({ maxLength: 200_000 });
+    decoder.push(bytes(...FRAME, 0, ...FRAME, 0), () => decoder.close());
+    await throws(() => decoder.push(FRAME, () => {}), (error) => /closed/.test(error.message), "a push after it");
+  }
+  holds(pages() <= before + 4, `memory had ${before} pages and has ${pages()}`);
+}));
+await check("calls about as long as the memory that they share leave an open decoder as it is", async () => {
+  const cobs = await fresh();
+  await cobs.load(wasm);
+  const shared = 1 << 22;
+  const message = new Uint8Array(100_000).fill(1);
+  const frame = cobs.encode(message, { terminated: true });
+  const calls = {
+    // each with the bytes that it puts into the memory for so many of its own
+    decode: [(given) => cobs.decode(given), 2, (length) => new Uint8Array(length).fill(1)],
+    encode: [(given) => cobs.encode(given), 2 + 1 / 128, (length) => new Uint8Array(length)],
+    frameKind: [(given) => cobs.frameKind(given), 1, (length) => new Uint8Array(length).fill(1)],
+  };
+  for (const [name, [call, times, make]] of Object.entries(calls)) {
+    for (const more of [-2048, -1024, -64, 0, 64, 1024, 1100, 2048, 4096]) {
+      const decoder = new cobs.FrameDecoder({ maxLength: message.length });
+      const seen = [];
+      decoder.push(frame.subarray(0, 50_000), () => {});
+      call(make(Math.floor((shared + more) / times)));
+      decoder.push(frame.subarray(50_000), (outcome) => seen.push(outcome));
+      decoder.close();
+      holds(seen.length === 1 && seen[0].message && Buffer.compare(seen[0].message, message) === 0, `${name} of ${more} bytes more than the memory has`);
+    }
+  }
+});
 await check("places that lie together serve a longer one when they are given back, in any order", () => memoryOf(async (pages) => {
   const cobs = await fresh();
   await cobs.load(wasm);

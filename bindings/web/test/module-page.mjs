@@ -20,16 +20,37 @@ await check("the steps of encoder and decoder end in what the module gives, for 
     }
   }
 });
-await check("the curve of overhead has its steps where the greatest length has them", () => {
+await check("the curve of overhead is as high as the greatest length says, at each length", () => {
   const most = (length) => cobs.maxEncodedLength(length) - length;
   for (const length of [0, 254, 255, 5000]) {
     const svg = curve({ most, length, overhead: most(length) });
     const range = Math.max(1016, Math.ceil((length + 1) / 254) * 254);
+    const numberAt = ([, x, y]) => ({ x: Number(x), y: Number(y) });
+    // what stands at the axes says which place is which number
+    const marks = [...svg.matchAll(/<text class="at" x="([\d.]+)" y="([\d.]+)">([\d,]+)<\/text>/g)].map((found) => ({ ...numberAt(found), number: Number(found[3].replaceAll(",", "")) }));
+    const below = marks.filter(({ y }) => y === marks[0].y);
+    const beside = marks.filter(({ x }) => x === marks.at(-1).x);
+    const scale = (of, name) => (place) => of[0].number + ((place - of[0][name]) / (of.at(-1)[name] - of[0][name])) * (of.at(-1).number - of[0].number);
+    const [bytesAt, overheadAt] = [scale(below, "x"), scale(beside.map((mark) => ({ ...mark, y: mark.y - 4 })), "y")];
+    equal(beside.map(({ number }) => number), [1, most(range)], "the numbers beside the curve");
     const [, path] = svg.match(/class="most" d="([^"]+)"/);
-    const steps = [...path.matchAll(/H([\d.]+)V/g)].map(([, x]) => Math.round(((Number(x) - 34) / (560 - 34 - 30)) * range));
-    const wanted = Array.from({ length: range }, (_, at) => at).filter((at) => at > 0 && most(at + 1) > most(at));
-    equal(steps.map((at, i) => Math.abs(at - wanted[i]) <= range / 1000), wanted.map(() => true), `the steps ${steps} of ${range} bytes`);
-    holds(svg.includes(`A message of ${length} bytes has ${most(length)} bytes of overhead, of at most ${most(length)}`), "what it is called");
+    let [, , at, height] = path.match(/(M)([\d.]+) ([\d.]+)/);
+    let from = 0;
+    for (const [, kind, place] of path.matchAll(/([HV])([\d.]+)/g)) {
+      if (kind === "V") {
+        height = place;
+        continue;
+      }
+      const to = bytesAt(Number(place));
+      for (const inside of [from + 3 * range / 1000, (from + to) / 2, to - 3 * range / 1000]) equal(Math.round(overheadAt(Number(height))), most(Math.round(inside)), `the height at ${Math.round(inside)} of ${range} bytes`);
+      [at, from] = [place, to];
+    }
+    holds(Math.abs(bytesAt(Number(at)) - range) <= range / 1000, "it goes on to the end");
+    const dot = numberAt(svg.match(/<circle class="here" cx="([\d.]+)" cy="([\d.]+)"/));
+    holds(Math.abs(bytesAt(dot.x) - length) <= range / 1000, `the dot is at ${length} bytes`);
+    equal(Math.round(overheadAt(dot.y)), most(length), "its height");
+    const bytes = (number) => `${number} byte${number === 1 ? "" : "s"}`;
+    holds(svg.includes(`A message of ${bytes(length)} has ${bytes(most(length))} of overhead, of at most ${most(length)}`), "what it is called");
   }
 });
 await check("a frame is copied for a program", () => {

@@ -2,4 +2,5 @@
 import { report } from "./tally.mjs";
 
 for (const part of ["calls", "streams", "memory", "page", "forms"]) await import(`./module-${part}.mjs`);
+await import("./browsers.mjs");
 report("module");

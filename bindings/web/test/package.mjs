@@ -21,8 +21,8 @@ const has = (command) => {
   }
 };
 const skip = (part, why) => console.log(`skipped: ${part}: ${why}`);
-const DIST = ["auto.js", "auto.node.js", "integrity.json", "jcobs.cjs", "jcobs.d.cts", "jcobs.js", "node.js"];
-const TOP = ["LICENSE-APACHE", "LICENSE-MIT", "README.md", "cobs.wasm", "examples/first.js", "examples/serial.js", "jcobs.d.ts", "jcobs.js", "machine.js", "package.json", "serialport.cjs", "serialport.d.cts"];
+const DIST = ["auto.cjs", "auto.js", "auto.node.js", "integrity.json", "jcobs.cjs", "jcobs.d.cts", "jcobs.js", "node.js", "serialport.cjs", "serialport.d.cts"];
+const TOP = ["LICENSE-APACHE", "LICENSE-MIT", "README.md", "examples/first.js", "examples/serial.js", "jcobs.d.ts", "package.json", "serialport.d.ts", "serialport.js"];
 const PACKED = [...TOP, ...DIST.map((name) => `dist/${name}`)].sort();
 const SAID = "3 10 11 2 12\n10 11 0 12\n3 10 11 2 12 0\n9 0 1 8 6\n";
 
@@ -110,19 +110,30 @@ try {
       console.log(imported.CobsError === required.CobsError, required.encode(Uint8Array.of(0)).join());`);
     equal(run("node", "both.mjs"), "true 1,1\n", "what it prints");
   });
-  await check("jcobs/auto needs no load, and jcobs/external has its file beside it", async () => {
-    await writeFile(join(folder, "auto.mjs"), 'import { encode } from "jcobs/auto";\nconsole.log(encode(Uint8Array.of(7, 0)).join());\n');
-    equal(run("node", "auto.mjs"), "2,7,1\n", "what it prints");
+  await check("jcobs/auto needs no load, by import and by require, and is the module that jcobs is", async () => {
+    const print = "console.log(encode(Uint8Array.of(7, 0)).join());\n";
+    await writeFile(join(folder, "auto.mjs"), `import { encode } from "jcobs/auto";\n${print}`);
+    await writeFile(join(folder, "auto.cjs"), `const { encode } = require("jcobs/auto");\n${print}`);
+    for (const name of ["auto.mjs", "auto.cjs"]) equal(run("node", name), "2,7,1\n", `what ${name} prints`);
+    await writeFile(join(folder, "autos.mjs"), 'import { encode } from "jcobs/auto";\nimport * as jcobs from "jcobs";\nconsole.log(encode === jcobs.encode, jcobs.encode(Uint8Array.of(0)).join());\n');
+    equal(run("node", "autos.mjs"), "true 1,1\n", "what it prints");
+  });
+  await check("jcobs/external, the name of a form with its file beside it, is jcobs by now", async () => {
     await writeFile(join(folder, "external.mjs"), first.replace('"jcobs"', '"jcobs/external"'));
     equal(run("node", "external.mjs"), SAID, "what it prints");
+  });
+  await check("a program of CommonJS has frames without a promise", async () => {
+    await writeFile(join(folder, "sync.cjs"), first.replace(/^import (.*) from "jcobs";/, 'const $1 = require("jcobs");').replace(/load\b/, "loadSync").replace("load().then(() => {\n", "loadSync();\n").replace(/\}\);\n$/, ""));
+    equal(run("node", "sync.cjs"), SAID, "what it prints");
+  });
+  await check("the package has the module once for import and once for require", async () => {
+    const base64 = await readFile(join(web, "cobs.wasm"), "base64");
+    const texts = await Promise.all(PACKED.map(async (name) => [name, await readFile(join(web, name), "utf8")]));
+    equal(texts.filter(([, text]) => text.includes(base64)).map(([name]) => name), ["dist/jcobs.cjs", "dist/jcobs.js"], "the files that have it");
   });
   await check("the sums of integrity.json are those of the files", async () => {
     const sums = JSON.parse(await readFile(join(web, "dist/integrity.json"), "utf8"));
     for (const [name, sum] of Object.entries(sums)) equal(`sha384-${createHash("sha384").update(await readFile(join(web, "dist", name))).digest("base64")}`, sum, name);
-  });
-  await check("the README has at most 700 words", async () => {
-    const words = (await readFile(join(web, "README.md"), "utf8")).trim().split(/\s+/).length;
-    holds(words <= 700, `it has ${words}`);
   });
   await check("the serial example talks and closes", async () => {
     const { talk } = await import(pathToFileURL(join(folder, "serial.js")));
@@ -151,14 +162,45 @@ try {
   if (has("tsc")) {
     await check("the examples compile in strict TypeScript", () =>
       run("tsc", "--noEmit", "--strict", "--allowJs", "--checkJs", "--target", "es2022", "--module", "node16", "--moduleResolution", "node16", "--lib", "es2022,dom", "first.js", "serial.js"));
+    await writeFile(join(folder, "paths.ts"), 'import { decode } from "jcobs";\nimport { encode } from "jcobs/auto";\nimport { FrameDecoderTransform } from "jcobs/serialport";\nexport { load } from "jcobs/external";\nexport const use = (bytes: Uint8Array): Uint8Array => decode(encode(bytes));\nexport type Kept = FrameDecoderTransform["skipped"];\nexport const none: Kept = 0;\n');
+    await mkdir(join(folder, "node_modules/@types/node"), { recursive: true }); // what of Node's types these files use
+    await writeFile(join(folder, "node_modules/@types/node/index.d.ts"), 'declare module "node:stream" { export class Transform { constructor(options?: object); } }\n');
+    for (const [resolution, module] of [["node", "es2022"], ["node16", "node16"], ["nodenext", "nodenext"]]) {
+      await check(`each path of the package has its types with the module resolution ${resolution}`, () =>
+        run("tsc", "--noEmit", "--strict", "--target", "es2022", "--module", module, "--moduleResolution", resolution, "--lib", "es2022,dom", "--types", "node", "paths.ts"));
+    }
   } else skip("the examples' types", "tsc is not there: install Debian's node-typescript");
+  const sending = "const sender = new FrameEncoderTransform();\nsender.on('data', (frame) => console.log([...frame.subarray(0, 3)].join()));\nsender.write(Uint8Array.of(7, 0));\n";
+  await writeFile(join(folder, "serialport.mjs"), `import { FrameEncoderTransform } from "jcobs/serialport";\n${sending}`);
+  await writeFile(join(folder, "serialport.cjs"), `const { FrameEncoderTransform } = require("jcobs/serialport");\n${sending}`);
+  await check("jcobs/serialport is imported and required", () => {
+    for (const name of ["serialport.mjs", "serialport.cjs"]) equal(run("node", name), "2,7,1\n", `what ${name} prints`);
+  });
+  await check("a transform that is destroyed gives its memory back", async () => {
+    await writeFile(join(folder, "destroyed.mjs"), `import { once } from "node:events";
+      import { memoryOf } from ${JSON.stringify(new URL("memory.mjs", import.meta.url).href)};
+      import { FrameDecoderTransform } from "jcobs/serialport";
+      await memoryOf(async (pages) => {
+        const use = async () => {
+          const transform = new FrameDecoderTransform({ maxLength: 1 << 20 });
+          transform.write(Uint8Array.of(2, 7, 0));
+          await once(transform, "data");
+          await once(transform.destroy(), "close");
+        };
+        await use();
+        const before = pages();
+        for (let i = 0; i < 20; i++) await use();
+        console.log(pages() - before);
+      });`);
+    equal(run("node", "destroyed.mjs"), "0\n", "how many pages of memory it takes");
+  });
   if (has("esbuild")) {
     const required = "required.cjs";
-    for (const [platform, format, source] of [["browser", "esm", "later.js"], ["browser", "iife", "later.js"], ["neutral", "esm", "later.js"], ["node", "esm", "later.js"], ["node", "cjs", "later.js"], ["node", "cjs", required], ["browser", "iife", required], ["node", "esm", "auto.mjs"], ["browser", "esm", "auto.mjs"]]) {
+    for (const [platform, format, source] of [["browser", "esm", "later.js"], ["browser", "iife", "later.js"], ["neutral", "esm", "later.js"], ["node", "esm", "later.js"], ["node", "cjs", "later.js"], ["node", "cjs", required], ["browser", "iife", required], ["node", "esm", "auto.mjs"], ["browser", "esm", "auto.mjs"], ["node", "cjs", "auto.mjs"], ["node", "cjs", "auto.cjs"], ["node", "esm", "serialport.mjs"], ["node", "cjs", "serialport.cjs"]]) {
       await check(`esbuild bundles it: ${platform}, ${format}, ${source}`, async () => {
         const name = `bundle-${platform}-${format}-${source}`.replace(/\.\w+$/, format === "esm" ? ".mjs" : ".cjs");
         equal(run("esbuild", "--bundle", `--platform=${platform}`, `--format=${format}`, "--log-level=warning", `--outfile=bundled/${name}`, source), "", "warnings");
-        equal(execFileSync("node", [name], { cwd: join(folder, "bundled"), encoding: "utf8" }), source === "auto.mjs" ? "2,7,1\n" : SAID, "what it prints");
+        equal(execFileSync("node", [name], { cwd: join(folder, "bundled"), encoding: "utf8" }), source.startsWith("auto") || source.startsWith("serialport") ? "2,7,1\n" : SAID, "what it prints");
       });
     }
   } else skip("esbuild", "it is not there: install Debian's esbuild");

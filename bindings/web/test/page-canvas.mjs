@@ -111,6 +111,24 @@ await check("canvas: the arrow keys go through frame and message", () => on("mes
   await explained(page, "message", "Byte 255, 2f: a code after a full block, for no zero of the message.");
 }));
 
+await check("canvas: Page Down and Page Up go as many lines as are in sight, to the same column", () => on("message", async (page) => {
+  await chooseHex(page);
+  await page.fill("#message-input", "01 00 ".repeat(1500));
+  await page.until('document.getElementById("message-length").dataset.bytes === "3000"');
+  const [columns, lines] = await page.value(`(() => {
+    const box = document.getElementById("message-drawing");
+    const [first, second] = [...box.querySelectorAll(".row")].map((row) => row.getBoundingClientRect().top);
+    return [box.querySelector(".row .frame").children.length, Math.floor(box.clientHeight / (second - first))];
+  })()`);
+  holds(columns > 8 && lines > 3, `${columns} columns and ${lines} lines`);
+  await page.value('document.getElementById("message-drawing").focus()');
+  await page.press("ArrowRight");
+  for (const [key, line] of [["PageDown", lines], ["PageDown", 2 * lines], ["PageUp", lines], ["PageUp", 0]]) {
+    await page.press(key);
+    equal(await cursor(page, "message-drawing"), `message-byte-${line * columns + 1}`, `where ${key} leads`);
+  }
+}));
+
 await check("canvas: a screen reader hears the byte at the cursor, what it is for, and why it can't be changed", () => on("message", async (page) => {
   await page.value('document.getElementById("message-drawing").focus()');
   await page.press("Home");
@@ -188,7 +206,7 @@ await check("canvas: a frame that is none is shown as it is, and the way back", 
   await page.click("#message-byte-2");
   await page.type("00"); // a sentinel: two pieces
   await page.until('document.querySelectorAll("#message-drawing .badge").length === 2');
-  holds((await page.text("#message-frame-error")).startsWith("A frame has no sentinel 00"), "what is said");
+  holds((await page.text("#message-frame-error")).startsWith("These are several pieces, with the sentinel 00 between them"), "what is said");
   await page.fill("#message-input", "07");
   await isFrame(page, "02 07");
   equal(await page.value("document.getElementById('message-frame-error').hidden"), true, "no complaint");

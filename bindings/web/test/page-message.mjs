@@ -1,7 +1,7 @@
 // The view of a message, in Chromium.
 import { encode as plainEncode } from "./plain.js";
 import { equal, holds } from "./tally.mjs";
-import { READY, browser, check, chooseHex, chooseText, hex, number, on, summary, timed } from "./page-setup.mjs";
+import { BY_HAND, READY, browser, check, chooseHex, chooseText, hex, number, on, summary, timed } from "./page-setup.mjs";
 
 const facts = async (page) => {
   const read = (name) => page.text(`#message-${name}`);
@@ -15,15 +15,6 @@ await check("message: text that is typed", () => on("message", async (page) => {
   equal(await facts(page), [5, 6, 6, 1, 0], "the lengths");
   await page.until('document.getElementById("message-status").textContent.includes("5 bytes in a frame of 6 bytes: one block")');
 }));
-
-/** Holds back what the page does later until `doLater` is called, so that no clock decides what comes before it. */
-const BY_HAND = `{
-  const later = new Map();
-  let number = 0;
-  globalThis.setTimeout = (act) => (later.set(++number, act), number);
-  globalThis.clearTimeout = (timer) => void later.delete(timer);
-  globalThis.doLater = () => [...later].forEach(([timer, act]) => (later.delete(timer), act()));
-}`;
 
 await check("message: the status is in sight at once, and spoken when it has settled", () => on("message", async (page) => {
   const texts = () => page.value('["length", "status", "spoken"].map((name) => document.getElementById(`message-${name}`).textContent)');
@@ -212,7 +203,7 @@ await check("message: a frame that is edited changes its message", () => on("mes
     equal(await page.value('document.getElementById("message-input").value'), "0a 0b 00 0d", "the message stays");
     await page.until('document.querySelector("#message-drawing .badge").textContent === "broken" && document.querySelectorAll("#message-drawing .arc.bad").length === 1');
     await page.fill("#message-frame-edit", `a0 ${sentinel} a1`);
-    await page.until('document.getElementById("message-frame-error").textContent.includes("has no sentinel")');
+    await page.until('document.getElementById("message-frame-error").textContent.includes("several pieces")');
     await page.until('document.querySelectorAll("#message-drawing .badge").length === 2');
     await page.fill("#message-frame-edit", "0");
     await page.until('document.getElementById("message-frame-error").textContent.includes("one digit")');
@@ -266,32 +257,63 @@ await check("message: the address is written once for changes that follow each o
   equal(await page.value("[written, (doLater(), written)]"), [0, 1], "how often it was written, before and after the page is still");
 }, { before: BY_HAND }));
 
-await check("message: step by step", () => on("message", async (page) => {
-  await page.click("#message-steps summary");
-  const bytes = (name) => page.value(`document.getElementById("steps-${name}").textContent`);
-  const last = async () => {
-    for (let i = 0; i < 12; i++) if (!(await page.value('document.getElementById("steps-next").disabled'))) await page.click("#steps-next");
+await check("message: step by step, on the drawing", () => on("message", async (page) => {
+  const drawn = () => page.value(`(() => {
+    const svg = document.querySelector("#message-drawing svg");
+    const texts = (selector) => [...svg.querySelectorAll(selector)].map((each) => each.textContent);
+    return { codes: texts("text.on"), open: texts("text.open"), zeros: texts("text.zero"), todo: svg.querySelectorAll(".todo").length, arcs: svg.querySelectorAll(".arc").length };
+  })()`);
+  const said = () => page.text("#steps-said");
+  const line = () => page.text("#steps-code .on");
+  const steps = async (number) => {
+    for (let i = 0; i < number; i++) await page.click("#steps-next");
   };
-  equal(await bytes("in"), "0a0b000c", "the message");
-  await page.click("#steps-next");
-  equal([await bytes("out"), await page.text("#steps-code .on")], ["000a", "    out.push(byte); code += 1"], "after a step");
-  await last();
-  equal(await bytes("out"), "030a0b020c", "the frame");
-  await page.value('(() => { const which = document.getElementById("steps-which"); which.value = "decoder"; which.dispatchEvent(new Event("change")); })()');
-  equal([await bytes("in"), await bytes("out")], ["030a0b020c", ""], "the decoder");
-  await last();
-  equal(await bytes("out"), "0a0b000c", "the message");
-  await page.click('[data-run="255"]');
-  await page.until('document.getElementById("steps-in").textContent.length === 2 * 257');
-  await chooseHex(page);
-  await page.fill("#message-input", "0a 0b 00 0c");
+  const choose = (which) => page.value(`(() => { const choice = document.getElementById("steps-which"); choice.value = "${which}"; choice.dispatchEvent(new Event("change")); })()`);
+  const whole = { codes: ["03", "02"], open: [], zeros: ["0"], todo: 0, arcs: 2 };
+  equal(await drawn(), whole, "the whole drawing");
+  await page.click("#steps-open");
+  equal([await drawn(), await said(), await page.value("document.activeElement.id")], [{ codes: [], open: ["01"], zeros: [], todo: 4, arcs: 0 }, "Step 1 of 7: The first code is open: its place is kept.", "steps-next"], "the first step");
+  await steps(2);
+  equal([await drawn(), await line()], [{ codes: [], open: ["03"], zeros: [], todo: 2, arcs: 0 }, "    out.push(byte); code += 1"], "after two bytes");
+  await steps(1);
+  equal([await drawn(), await said()], [{ codes: ["03"], open: [], zeros: ["0"], todo: 2, arcs: 1 }, "Step 4 of 7: A zero: the open code becomes 3, the distance to this place."], "at the zero");
+  equal(await page.value('[...document.querySelectorAll("#message-drawing .fresh")].map((each) => each.getAttribute("class"))'), ["on fresh", "arc fresh"], "what appears");
+  await steps(1);
+  equal(await drawn(), { codes: ["03"], open: ["01"], zeros: ["0"], todo: 1, arcs: 1 }, "after it");
+  await page.click("#steps-back");
+  holds((await said()).startsWith("Step 4"), "Back goes back");
+  await steps(3);
+  equal([await drawn(), await page.value('[document.getElementById("steps-next").disabled, document.getElementById("steps-at").value]')], [whole, [true, "6"]], "the last step");
+  await choose("decoder");
+  equal([await drawn(), await said()], [{ codes: ["03", "02"], open: [], zeros: [], todo: 0, arcs: 0 }, "Step 1 of 7: Nothing is out yet."], "the decoder");
+  const over = () => page.value('[...document.querySelectorAll("#message-drawing text:is(.over, .zero)")].map((each) => each.textContent).slice(0, -1)'); // and the sentinel
+  await steps(2);
+  equal([await over(), await said()], [["0a", "0b"], "Step 3 of 7: 2 bytes are copied."], "what has come out");
+  await steps(1);
+  equal(await over(), ["0a", "0b", "0"], "and its zero");
+  await page.fill("#message-input", "01 02");
+  await page.until('document.getElementById("steps-said").textContent.startsWith("Step 1 of 4")');
   await page.fill("#message-sentinel", "aa");
-  await page.until('document.getElementById("steps-in").textContent === "a9a0a1a8a6"');
-  await last();
-  equal(await bytes("out"), "0a0b000c", "the message, of a frame for another sentinel");
-  await page.value('(() => { const which = document.getElementById("steps-which"); which.value = "encoder"; which.dispatchEvent(new Event("change")); })()');
-  for (let i = 0; i < 12; i++) await last();
-  equal([await bytes("out"), await page.text("#steps-code .on")], ["a9a0a1a8a6", "out = each byte of out XOR the sentinel"], "the frame for it");
+  await page.until('document.getElementById("steps-said").textContent === "Step 1 of 5: Each byte is XORed with aa."');
+  equal((await drawn()).codes, ["03"], "the code before it is XORed");
+  await choose("encoder");
+  await steps(4);
+  equal([(await drawn()).codes, await line()], [["a9"], "out = each byte of out XOR the sentinel"], "the frame for another sentinel");
+  await page.fill("#message-sentinel", "00");
+  await page.click("#steps-play");
+  await page.until('document.getElementById("steps-said").textContent.startsWith("Step 4 of 4") && document.getElementById("steps-play").textContent === "Play"');
+  await page.fill("#message-frame-edit", "09 01");
+  await page.until('!document.getElementById("steps-long").hidden && document.getElementById("steps-all").hidden');
+  await page.click("#steps-close");
+  await page.click("#message-back");
+  await page.click('[data-run="255"]');
+  await page.until('document.getElementById("message-full").textContent === "1"');
+  await page.click("#steps-open");
+  await page.value('(() => { const at = document.getElementById("steps-at"); at.value = 254; at.dispatchEvent(new Event("input")); })()');
+  await page.until('document.getElementById("steps-said").textContent.includes("The byte is copied. The open code is 255 so far.")');
+  await page.until('document.querySelector("#message-drawing .now")');
+  await page.click("#steps-close");
+  equal(await page.value('[document.getElementById("message-steps").hidden, document.querySelector("#message-drawing .todo") === null, document.activeElement.id]'), [true, true, "steps-open"], "the whole drawing again");
 }));
 
 await check("message: the line ends of pasted text are kept, whatever its length", () => on("message", async (page) => {

@@ -58,6 +58,15 @@ export async function timed(page, act) {
   return { pause: await page.value("(watch.isOn = false, watch.longest)"), busy: (await busy()) - before };
 }
 
+/** Holds back what the page does later until `doLater` is called, so that no clock decides what comes before it. */
+export const BY_HAND = `{
+  const later = new Map();
+  let number = 0;
+  globalThis.setTimeout = (act) => (later.set(++number, act), number);
+  globalThis.clearTimeout = (timer) => void later.delete(timer);
+  globalThis.doLater = () => [...later].forEach(([timer, act]) => (later.delete(timer), act()));
+}`;
+
 export const summary = (page, words) => page.until(`document.getElementById("stream-status").textContent.includes(${JSON.stringify(words)})`);
 
 export const chooseHex = (page) => page.click('input[name="message-kind"][value="hex"]');

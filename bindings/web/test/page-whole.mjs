@@ -1,7 +1,7 @@
 // The page as a whole, in Chromium.
 import { execFileSync, spawnSync } from "node:child_process";
 import { existsSync } from "node:fs";
-import { mkdtemp, readFile, readdir, rm, stat, writeFile } from "node:fs/promises";
+import { cp, mkdtemp, readFile, readdir, rm, stat, writeFile } from "node:fs/promises";
 import { tmpdir } from "node:os";
 import { dirname, join, relative } from "node:path";
 import { fileURLToPath, pathToFileURL } from "node:url";
@@ -144,7 +144,7 @@ await check("page: the folder that build.sh makes serves it, under its content s
     equal([...named].filter((name) => !files.includes(name)), [], "links to files that aren't there");
     equal(files.filter((name) => !named.has(name) && name !== "index.html"), [], "files that nothing links to");
     const size = (await Promise.all(files.map(async (name) => (await stat(join(folder, name))).size))).reduce((sum, each) => sum + each, 0);
-    holds(size < 400_000, `the site has ${size} bytes`);
+    holds(size < 450_000, `the site has ${size} bytes`);
     const policy = await page.value(`document.querySelector("meta[http-equiv]").content`);
     holds(!policy.includes("unsafe-inline") && policy.startsWith("default-src 'none'"), "the policy is strict");
     equal(page.faults, [], "what the page complained of on its console");
@@ -222,11 +222,47 @@ await check("page: a page that is opened as a file, with dist/jcobs.cjs", async 
   }
 });
 
-await check("page: opened as a file it says why nothing is there", async () => {
+await check("page: opened as a file it says why nothing is there, and so it does if a file is missing", async () => {
+  const seen = 'document.getElementById("unsupported").getClientRects().length > 0 && document.getElementById("loading").getClientRects().length === 0';
   const page = await browser.open(new URL("../index.html", import.meta.url).href);
-  await page.until('document.getElementById("loading")?.getClientRects().length === 1');
-  holds((await page.text("#loading")).includes("opened as a file"), "it says why");
+  await page.until(seen);
+  holds((await page.text("#unsupported")).includes("opened as a file"), "it says why");
   await page.close();
+  const folder = await mkdtemp(join(tmpdir(), "jcobs-part-"));
+  const web = fileURLToPath(new URL("..", import.meta.url));
+  await cp(join(web, "index.html"), join(folder, "index.html"));
+  await cp(join(web, "page"), join(folder, "page"), { recursive: true });
+  const { server: own, address: there } = await serve(0, { part: folder });
+  try {
+    const part = await browser.open(`${there}part/index.html`);
+    await part.until(seen);
+    holds((await part.text("#unsupported")).startsWith("This page could not be started."), "it says so");
+    await part.close();
+  } finally {
+    own.close();
+    own.closeAllConnections();
+    await rm(folder, { recursive: true });
+  }
+});
+
+await check("page: without scripts it is its idea and the first drawing, which are what scripts show first", async () => {
+  const shown = `["message-input", "message-frame-edit"].map((id) => document.getElementById(id).value)
+    .concat(["message-read", "message-length", "message-frame-length", "message-greatest", "message-blocks", "message-full"].map((id) => document.getElementById(id).textContent))`;
+  const cells = (id) => `[...document.querySelectorAll("#${id} svg :is(text, path, rect)")].map((each) => each.outerHTML)`;
+  const still = await browser.open("about:blank", { width: 1000 });
+  await still.send("Emulation.setScriptExecutionDisabled", { value: true });
+  await still.go(address);
+  const inSight = await still.value('["h1", ".idea", "noscript p", "#message-first svg", ".legend", "#loading", "[role=tablist]", "textarea", ".samples", "#message-help", "footer"].map((each) => document.querySelector(each).getClientRects().length)');
+  equal(inSight, [1, 1, 1, 1, 1, 0, 0, 0, 0, 0, 1], "what is in sight");
+  const page = await browser.open(address, { width: 1000 });
+  await page.until(READY);
+  await page.drawn();
+  equal(await still.value(shown), await page.value(shown), "what the fields and lengths say");
+  equal(await still.value(cells("message-first")), await page.value(cells("message-drawing")), "the drawing");
+  for (const each of [still, page]) {
+    equal(each.faults, [], "what the page complained of on its console");
+    await each.close();
+  }
 });
 
 await check("page: in forced colours", () => on("stream", async (page) => {

@@ -1,5 +1,5 @@
-// COBS in plain JavaScript, written for speed: what the figures of PAGE.md compare the module with. A run is found by `indexOf` and
-// copied by `set` if it is long, and byte by byte if it is short.
+// COBS in plain JavaScript, written for speed: the figures of PAGE.md compare the module with it. A run is found by `indexOf` and
+// copied by `set` if it is long, and byte by byte if it is short. A result is a copy of its own, as the module's are.
 
 const SHORT = 24; // bytes of a run that a loop copies faster
 const BLOCK = 254;
@@ -20,7 +20,7 @@ export function encode(message) {
     at = copyRun(message, i, end, frame, at, end === length);
     i = end + 1;
   }
-  return frame.subarray(0, at);
+  return frame.slice(0, at);
 }
 
 /** Writes the blocks of a run, and returns the place after them. */
@@ -55,7 +55,7 @@ export function decode(frame) {
     } else while (at < end) message[length++] = frame[at++];
     if (code < 255 && at < frame.length) message[length++] = 0;
   }
-  return message.subarray(0, length);
+  return message.slice(0, length);
 }
 
 /** The same outcomes as `FrameDecoderStream`'s, by a loop over the runs. */

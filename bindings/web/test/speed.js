@@ -82,10 +82,10 @@ const ways = {
   plainStream: (kind, size) => throughStream(new plain.PlainDecoderStream({ maxLength: MAX_LENGTH }), frames[kind], size),
   push: async (kind, size) => throughDecoder(new FrameDecoder({ maxLength: MAX_LENGTH }), frames[kind], size),
   plainPush: async (kind, size) => throughDecoder(new plain.PlainDecoder(MAX_LENGTH), frames[kind], size),
-  encode: async (kind) => repeated(kind, () => encode(messages[kind])),
-  plainEncode: async (kind) => repeated(kind, () => plain.encode(messages[kind])),
-  decode: async (kind) => repeated(kind, () => decode(encodedOnce(kind))),
-  plainDecode: async (kind) => repeated(kind, () => plain.decode(encodedOnce(kind))),
+  encode: async (kind) => called(kind, encode, messages[kind]),
+  plainEncode: async (kind) => called(kind, plain.encode, messages[kind]),
+  decode: async (kind) => called(kind, decode, encodedOnce(kind)),
+  plainDecode: async (kind) => called(kind, plain.decode, encodedOnce(kind)),
 };
 
 const frames = {};
@@ -93,16 +93,22 @@ const messages = {};
 const encoded = {};
 const encodedOnce = (kind) => (encoded[kind] ??= encode(messages[kind]));
 
-/** Makes a call about as often as takes as long as that of 16 MiB, and gives what it returned and how many bytes that was of. */
-function repeated(kind, act) {
-  const times = Math.round(STREAM / (messages[kind].length + CALL));
+/** Makes a call about as often as takes as long as that of 1 MiB, and gives what it returned and how many bytes that was of. */
+function called(kind, act, bytes) {
+  const times = Math.ceil(MIB / (messages[kind].length + CALL));
   let sum = 0;
-  for (let i = 0; i < times; i++) sum += act().length;
-  return { sum, times, bytes: times * messages[kind].length };
+  for (let i = 0; i < times; i++) sum += act(bytes).length;
+  return { sum, bytes: times * messages[kind].length };
 }
 
 let pages;
-globalThis.run = (way, kind, size) => ways[way](kind, size);
+
+/** Goes a way so often, and returns what it saw each time. */
+globalThis.run = async (way, kind, size, times = 1) => {
+  let seen;
+  for (let i = 0; i < times; i++) seen = await ways[way](kind, size);
+  return seen;
+};
 
 /** The memory of the module and of JavaScript, in bytes. */
 globalThis.memory = () => {
@@ -117,7 +123,7 @@ memoryOf(async (pagesNow) => {
   frames["1,000 bytes, 2 % zeros"] = framesOf(1000, 20);
   frames["1,000 bytes, 30 % zeros"] = framesOf(1000, 300);
   frames["60 bytes, 10 % zeros"] = framesOf(60, 100);
-  for (const [name, length] of [["8 bytes", 8], ["64 bytes", 64], ["1 KiB", 1024], ["1 MiB", MIB]]) {
+  for (const [name, length] of [["8 bytes", 8], ["64 bytes", 64], ["1,500 bytes", 1500], ["64 KiB", 65536], ["1 MiB", MIB]]) {
     for (const [kind, zeros] of [["no zeros", 0], ["2 % zeros", 20], ["30 % zeros", 300]]) messages[`${name}, ${kind}`] = bytes(length, zeros, 3);
   }
   messages["1 MiB, zeros alone"] = new Uint8Array(MIB);

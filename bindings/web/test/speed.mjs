@@ -1,15 +1,21 @@
-// The figures of PAGE.md, measured in Chromium: node speed.mjs [messages]
+// The figures of PAGE.md, measured in Chromium: node speed.mjs [--write] [messages]
 //
-// A figure is megabytes for each second of the page's processor time, so that other work on the machine counts little;
-// the best of some rounds, in which the ways take turns. Ways that are compared must have seen the same.
+// A figure is megabytes for each second of the page's processor time, so that other work on the machine counts little. The clock
+// of that time has ticks of 10 ms, so each way is gone as often as takes LEAST seconds. The figure is the best of some rounds,
+// in which the ways take turns. Ways that are compared must have seen the same. With --write the tables of PAGE.md are written;
+// with "messages" that of whole messages is measured alone.
+import { readFile, writeFile } from "node:fs/promises";
 import { cpus } from "node:os";
 import { serve } from "../serve.mjs";
 import { Browser } from "./chromium.mjs";
 
-const MIB = 1 << 20;
-const SIZE = 16 * MIB;
+const SIZE = 16 << 20; // bytes of a stream
+const LEAST = 0.5;
 const ROUNDS = 3;
-const CHUNKS = [64, 512, 4096, "mixed"];
+const CHUNKS = [64, 4096];
+const PAGE = new URL("../PAGE.md", import.meta.url);
+const MESSAGES = "| message | `encode` | plain | times | `decode` | plain | times |";
+const STREAMS = "| messages | chunks | `FrameDecoderStream` | plain stream | `FrameDecoder` | plain loop |";
 
 const { server, address } = await serve();
 const browser = await Browser.start(process.env.CHROMIUM ?? "chromium", ["--js-flags=--expose-gc", "--enable-precise-memory-info"]);
@@ -20,15 +26,27 @@ async function processorTime() {
   return processInfo.filter(({ type }) => type === "renderer").reduce((sum, { cpuTime }) => sum + cpuTime, 0);
 }
 
+/** Goes a way so often, and returns the seconds that it took and what it saw. */
+async function run(page, times, ...how) {
+  const begun = await processorTime();
+  const seen = await page.value(`run(${[...how, times].map((each) => JSON.stringify(each) ?? "undefined").join()})`);
+  return { seconds: (await processorTime()) - begun, seen };
+}
+
+/** The best megabytes a second of each way. */
 async function compare(page, ways, kind, size) {
   const best = ways.map(() => 0);
+  const times = ways.map(() => 1);
   const seen = new Set();
   for (let round = 0; round < ROUNDS; round++) {
     for (const [i, way] of ways.entries()) {
-      const begun = await processorTime();
-      const found = await page.value(`run(${JSON.stringify(way)}, ${JSON.stringify(kind)}, ${JSON.stringify(size)})`);
-      seen.add(JSON.stringify(found));
-      best[i] = Math.max(best[i], (found.bytes ?? SIZE) / 1e6 / ((await processorTime()) - begun));
+      let found = await run(page, times[i], way, kind, size);
+      while (found.seconds < LEAST) {
+        times[i] = Math.ceil(times[i] * Math.min(16, Math.max(1.2, (1.2 * LEAST) / Math.max(found.seconds, 0.01))));
+        found = await run(page, times[i], way, kind, size);
+      }
+      seen.add(JSON.stringify(found.seen));
+      best[i] = Math.max(best[i], ((found.seen.bytes && !found.seen.messages ? found.seen.bytes : SIZE) * times[i]) / 1e6 / found.seconds);
     }
   }
   if (ways.length > 1 && seen.size !== 1) throw new Error(`they differ: ${[...seen].join(" and ")}`);
@@ -36,35 +54,64 @@ async function compare(page, ways, kind, size) {
 }
 
 const printed = (figures) => figures.map((figure) => (figure < 10 ? figure.toFixed(1) : String(Math.round(figure)))).join(" | ");
-const isAll = process.argv[2] !== "messages";
+const isWriting = process.argv.includes("--write");
+const isAll = !process.argv.includes("messages");
+
+/** Prints a table as its rows are measured, and returns its lines. */
+async function table(header, rows) {
+  const lines = [header, header.replace(/[^|]+/g, "---")];
+  console.log(`\n${lines.join("\n")}`);
+  for await (const row of rows) {
+    lines.push(row);
+    console.log(row);
+  }
+  return lines;
+}
+
+async function* streams(page, kinds) {
+  for (const kind of kinds) {
+    for (const size of CHUNKS) {
+      const figures = await compare(page, ["stream", "plainStream", "push", "plainPush"], kind, size);
+      yield `| ${kind} | ${size.toLocaleString("en")} | ${printed(figures)} |`;
+    }
+  }
+}
+
+async function* wholes(page, kinds) {
+  for (const kind of kinds) {
+    const [encoding, decoding] = [await compare(page, ["encode", "plainEncode"], kind), await compare(page, ["decode", "plainDecode"], kind)];
+    const times = ([module, plain]) => (module / plain).toFixed(2);
+    yield `| ${kind} | ${printed(encoding)} | ${times(encoding)} | ${printed(decoding)} | ${times(decoding)} |`;
+  }
+}
+
+/** A document with the lines of a table in place of those below the same header. */
+function withTable(text, lines) {
+  const at = text.indexOf(`${lines[0]}\n`);
+  if (at < 0) throw new Error(`PAGE.md has no table ${lines[0]}`);
+  const end = text.indexOf("\n\n", at);
+  return `${text.slice(0, at)}${lines.join("\n")}${end < 0 ? "\n" : text.slice(end)}`;
+}
 
 try {
   const page = await browser.open(`${address}test/speed.html`);
   await page.until("globalThis.kinds !== undefined", 120_000);
   const { frames, messages, error } = await page.value("kinds");
   if (error) throw new Error(error);
-  console.log(`${await browser.version()}, ${cpus()[0].model}\n`);
-
-  if (isAll) console.log("| after | module | JavaScript |\n|---|---|---|");
-  for (let i = 1; isAll && i <= 5; i++) {
-    await page.value(`run("stream", ${JSON.stringify(frames[0])}, "mixed")`);
-    const { module, heap } = await page.value("memory()");
-    console.log(`| ${i * 16} MiB | ${module.toLocaleString("en")} | ${heap.toLocaleString("en")} |`);
-  }
-
-  if (isAll) console.log("\n| messages | chunks | `FrameDecoderStream` | plain stream | `FrameDecoder` | plain loop |\n|---|---|---|---|---|---|");
-  for (const kind of isAll ? frames : []) {
-    for (const size of CHUNKS) {
-      const figures = await compare(page, ["stream", "plainStream", "push", "plainPush"], kind, size);
-      console.log(`| ${kind} | ${size === "mixed" ? "64 to 4,096" : size.toLocaleString("en")} | ${printed(figures)} |`);
+  const where = `${await browser.version()} on an ${cpus()[0].model.trim()}`;
+  console.log(where);
+  const tables = [await table(MESSAGES, wholes(page, messages))];
+  if (isAll) {
+    for (let i = 1; i <= 3; i++) {
+      await page.value(`run("stream", ${JSON.stringify(frames[0])}, 4096)`);
+      const { module, heap } = await page.value("memory()");
+      console.log(`${i === 1 ? "\n" : ""}after ${i * 16} MiB the module has ${module.toLocaleString("en")} bytes of memory, and JavaScript ${heap.toLocaleString("en")}`);
     }
+    tables.push(await table(STREAMS, streams(page, frames)));
   }
-
-  console.log("\n| message | `encode` | plain | times | `decode` | plain | times |\n|---|---|---|---|---|---|---|");
-  for (const kind of messages) {
-    const [encoding, decoding] = [await compare(page, ["encode", "plainEncode"], kind), await compare(page, ["decode", "plainDecode"], kind)];
-    const times = ([module, plain]) => (module / plain).toFixed(2);
-    console.log(`| ${kind} | ${printed(encoding)} | ${times(encoding)} | ${printed(decoding)} | ${times(decoding)} |`);
+  if (isWriting) {
+    const text = (await readFile(PAGE, "utf8")).replace(/in Chrome\/[\d.]+ on an .*? that others/, `in ${where} that others`);
+    await writeFile(PAGE, tables.reduce(withTable, text));
   }
 } finally {
   await browser.close();

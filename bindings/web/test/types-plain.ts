@@ -1,8 +1,9 @@
 // Without the types of a browser or of Node, as `lib` without `dom` has it.
-import { FrameDecoder, FrameEncoder, type Outcome, decode, encode, load } from "../jcobs.js";
+import { FrameDecoder, FrameEncoder, type Outcome, decode, encode, load, loadSync } from "../jcobs.js";
 
 export async function use(bytes: Uint8Array): Promise<number> {
   await load(bytes);
+  loadSync(bytes);
   const decoder = new FrameDecoder({ maxLength: 10 });
   const seen: Outcome[] = [];
   decoder.push(encode(bytes, { terminated: true }), (outcome) => seen.push(outcome));

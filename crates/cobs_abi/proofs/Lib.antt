@@ -1,5 +1,6 @@
 mod BlockLemmas
 mod BlockSteps
+mod ByteSteps
 mod CoderLaws
 pub mod FinishLemmas
 mod OpenSteps

@@ -2,7 +2,7 @@
 ghost use Rattle.std.specs.Prelude.{◌≡◌, ◌≢◌, ◌<◌, ◌≤◌, ◌+◌, ◌++◌, ◌↔◌, [], IsTrue, ℕ, List, length, drop};
 ghost use Rattle.cobs.specs.OpenBlock.{CobsEncoderAfter, end_of};
 ghost use Rattle.cobs.specs.Fields.Encoders.{reached_at};
-ghost use Rattle.cobs.specs.Length.{open_len};
+ghost use Rattle.cobs.specs.Length.{max_encoded_len, open_len};
 
 use cobs::EncoderProgress;
 use cobs::laws::{law_4, law_15, law_16};
@@ -11,7 +11,7 @@ use cobs::laws::{law_4, law_15, law_16};
 const FULL: u8 = 255;
 
 /// Whether `room` bytes, from the code of an open block, are enough once the block has taken these bytes.
-pub(crate) fn fits(code: u8, bytes: &[u8], room: usize) -> bool
+fn fits(code: u8, bytes: &[u8], room: usize) -> bool
     requires some { 0 < code }
     requires open_block { code < 255 }
     ensures fits { IsTrue result ↔ (open_len code bytes.now ≤ room) }
@@ -38,6 +38,32 @@ pub(crate) fn fits(code: u8, bytes: &[u8], room: usize) -> bool
         }
     }
     code as usize <= left
+}
+
+/// Returns true only if `spare` bytes cover the overhead of every message of `len` bytes. It divides by 128 instead of 254,
+/// because small processors shift but don't divide. So it may return false if `spare` is just enough.
+#[inline(always)]
+fn covers_overhead(len: usize, spare: usize) -> bool
+    requires some { 0 < spare }
+    ensures { IsTrue result → max_encoded_len len ≤ len + spare }
+{
+    len < FULL as usize || len / 128 < spare
+}
+
+/// Whether `room` bytes, from the code of an open block, are enough once the block has taken these bytes. It reads the
+/// bytes only if their number doesn't decide that.
+pub(crate) fn has_room(code: u8, bytes: &[u8], room: usize) -> bool
+    requires some { 0 < code }
+    requires open_block { code < 255 }
+    ensures fits { IsTrue result ↔ (open_len code bytes.now ≤ room) }
+{
+    law_4();
+    let held = code as usize - 1;
+    if room <= held || room - held <= bytes.len() {
+        return false;
+    }
+    let spare = room - held - bytes.len();
+    covers_overhead(held + bytes.len(), spare) || fits(code, bytes, room)
 }
 
 /// Takes some bytes into the frame that the buffer holds as far as `start` says, and returns how far it has come then.

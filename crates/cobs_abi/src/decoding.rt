@@ -1,5 +1,5 @@
 //! The streaming decoder by a step for each byte.
-ghost use Rattle.std.specs.Prelude.{◌≡◌, ◌≢◌, ℕ, List, length};
+ghost use Rattle.std.specs.Prelude.{◌≡◌, ◌≢◌, ℕ, List, [], ◌∷◌, length};
 ghost use Rattle.cobs.specs.FeedPiece.{TakesPiece, end_reported};
 ghost use Rattle.cobs.specs.Step.{end_result, next_buffer, next_phase};
 ghost use Rattle.cobs.specs.Sentinel.{xor_each};
@@ -118,15 +118,38 @@ fn take_each(
         buffer.new (phase_in decoder.new) }
 {
     law_17();
-    'by_byte: for (i, coded) in bytes.iter().enumerate() {
-        let byte = *coded ^ sentinel;
-        if byte != 0 {
-            take_byte(decoder, buffer, byte);
-        } else if let Some(end) = piece_end(decoder, buffer.len()) {
-            *decoder = DECODER_START;
-            return Some((end, i + 1));
+    // In a local, as compilers read the fields again after each byte that is written to the buffer.
+    let mut state = *decoder;
+    let mut i = 0;
+    if state.too_long == 0 {
+        'by_byte: while i < bytes.len() {
+            let byte = bytes[i] ^ sentinel;
+            i += 1;
+            if byte != 0 {
+                take_byte(&mut state, buffer, byte);
+                if state.too_long != 0 {
+                    break;
+                }
+            } else if let Some(end) = piece_end(&state, buffer.len()) {
+                *decoder = DECODER_START;
+                return Some((end, i));
+            }
         }
     }
+    // If the message is too long, only its end counts.
+    'to_end: while i < bytes.len() {
+        let byte = bytes[i] ^ sentinel;
+        if byte == 0 {
+            *decoder = DECODER_START;
+            return Some((PieceEnd::TooLong, i + 1));
+        }
+        i += 1;
+    }
+    // Field by field: a copy of the struct would have its padding too, which has no name in C.
+    decoder.written = state.written;
+    decoder.lacking = state.lacking;
+    decoder.joint = state.joint;
+    decoder.too_long = state.too_long;
     None
 }
 
@@ -138,4 +161,23 @@ pub fn decode_each(decoder: &mut Decoder, buffer: &mut [u8], bytes: &[u8], senti
 {
     let found = take_each(decoder, buffer, bytes, sentinel);
     result_of(decoder, found, bytes.len(), buffer.len())
+}
+
+/// Takes the next byte of a stream of frames, whose sentinel is zero.
+#[inline(always)]
+pub fn decode_byte(decoder: &mut Decoder, buffer: &mut [u8], byte: u8) -> Answer
+    ensures decodes { DecodesNext decoder.old buffer.old (byte ∷ []) result
+        decoder.new buffer.new }
+{
+    law_17();
+    let room = buffer.len();
+    if byte != 0 {
+        take_byte(decoder, buffer, byte);
+        return result_of(decoder, None, 1, room);
+    }
+    let Some(end) = piece_end(decoder, room) else {
+        return result_of(decoder, None, 1, room);
+    };
+    *decoder = DECODER_START;
+    result_of(decoder, Some((end, 1)), 1, room)
 }

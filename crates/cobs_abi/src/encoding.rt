@@ -1,5 +1,5 @@
 //! The streaming encoder by a step for each byte, and a message that is encoded in its own buffer.
-ghost use Rattle.std.specs.Prelude.{◌≡◌, ◌↔◌, IfSome, IsTrue, None};
+ghost use Rattle.std.specs.Prelude.{◌≡◌, ◌↔◌, [], ◌∷◌, IfSome, IsTrue, None};
 ghost use Rattle.cobs.specs.Fields.Encoders.{IsPlaceIn};
 ghost use Rattle.cobs_abi.specs.Encode.{EncodesInPlace};
 ghost use Rattle.cobs_abi.specs.Frames.{IsFrameOnWire, IsTerminatedFrame};
@@ -7,9 +7,9 @@ ghost use Rattle.cobs_abi.specs.State.{reached_in};
 ghost use Rattle.cobs_abi.specs.Stream.{EncodesNext, Finishes};
 
 use crate::answer::{Answer, OK, done, too_small};
-use crate::block::{append, append_open, fits};
+use crate::block::{append, append_open, has_room};
 use crate::encoder::{ENCODER_START, Encoder, end_of};
-use cobs::laws::{law_1, law_2, law_13, law_16};
+use cobs::laws::{law_1, law_2, law_4, law_13, law_16};
 use cobs::{EncoderProgress, encode_in_place, max_encoding_overhead};
 
 /// Whether this progress is possible in a buffer of `room` bytes.
@@ -39,12 +39,50 @@ pub fn encode_each(encoder: &mut Encoder, buffer: &mut [u8], bytes: &[u8]) -> An
     if bytes.is_empty() {
         return done(0, end_of(start));
     }
-    if !fits(start.code, bytes, room - start.index) {
+    if !has_room(start.code, bytes, room - start.index) {
         return too_small();
     }
     let progress = append(bytes, buffer, start);
     *encoder = Encoder::at(progress);
     done(bytes.len(), end_of(progress))
+}
+
+/// Takes the next byte of a message, if the frame of all that was taken fits the buffer.
+#[inline]
+pub fn encode_byte(encoder: &mut Encoder, buffer: &mut [u8], byte: u8) -> Answer
+    ensures encodes { EncodesNext encoder.old buffer.old (byte ∷ []) result
+        encoder.new buffer.new }
+{
+    law_4();
+    law_13();
+    law_16();
+    let room = buffer.len();
+    let index = encoder.index;
+    let taken = encoder.taken;
+    if 253 < taken || room < index || room - index <= taken as usize + 1 {
+        return too_small();
+    }
+    let code = taken + 1;
+    let next = index + code as usize;
+    if byte == 0 {
+        buffer[index] = code;
+        encoder.index = next;
+        encoder.taken = 0;
+        encoder.full = 0;
+        return done(1, next + 1);
+    }
+    buffer[next] = byte;
+    if code == 254 {
+        // The block is full.
+        buffer[index] = 255;
+        encoder.index = next + 1;
+        encoder.taken = 0;
+        encoder.full = 1;
+    } else {
+        encoder.taken = code;
+        encoder.full = 0;
+    }
+    done(1, next + 1)
 }
 
 /// So few bytes are taken one after another: a record that is pushed field by field comes in such pieces. Fields of 4 bytes

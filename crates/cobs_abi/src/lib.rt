@@ -11,14 +11,18 @@ mod decoding;
 mod encoder;
 mod encoding;
 mod kind;
+mod message;
 mod source;
 mod text;
 
 pub use answer::{Answer, BROKEN, EMPTY, MORE, OK, TOO_SMALL, done, result_by, too_small};
 pub use decoder::{DECODER_START, Decoder};
-pub use decoding::{decode_each, piece_end, result_of};
+pub use decoding::{decode_byte, decode_each, piece_end, result_of};
 pub use encoder::{ENCODER_START, Encoder, end_of};
-pub use encoding::{encode_each, encode_short, encode_within, finish, finish_terminated};
+pub use encoding::{
+    encode_byte, encode_each, encode_short, encode_within, finish, finish_terminated,
+};
 pub use kind::{CANONICAL, LONGER, NOT_A_FRAME};
+pub use message::encode_message;
 pub use source::leading_zeros;
 pub use text::{VERSION, words};

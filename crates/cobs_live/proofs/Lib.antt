@@ -4,6 +4,7 @@ pub mod TimeLemmas
 pub mod PartLemmas
 pub mod ShowLemmas
 pub mod SkipLemmas
+pub mod LineLemmas
 pub mod DumpLemmas
 pub mod RunLemmas
 pub mod SendLemmas

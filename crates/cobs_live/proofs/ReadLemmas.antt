@@ -1,62 +1,64 @@
 -- Lemmas on reads beside an output.
 use Rattle.std.proofs.Common.{◌≡◌, ℕ, List, [], ◌∷◌, ◌++◌, refl, sym, ap, ◌∙◌, subst, append-nil, append_assoc, Option}
 use Rattle.std.proofs.lemmas.List.{map-append}
-use Rattle.std.proofs.lemmas.List.Folds.{concat-append}
-use Rattle.std.specs.List.{concat}
-use Rattle.cobs_live.specs.Reads.{HeldWhileNothing, Read, IsLive, IsLiveAfter, ReadsOnce, Runs, came}
+use Rattle.cobs_live.specs.Reads.{HeldWhileNothing, Read, IsLive, IsLiveAfter, ReadsOnce, Runs, came, joined}
 
 -- reads behind others
-pub Runs-append : {S : Type 0} (step : S → Read → S → Type 0) (a b c : S) (xs ys : List Read) → Runs step a xs b → Runs step b ys c → Runs step a (xs ++ ys) c
+pub Runs-append : {S A : Type 0} (step : S → Read A → S → Type 0) (a b c : S) (xs ys : List (Read A)) → Runs step a xs b → Runs step b ys c → Runs step a (xs ++ ys) c
 Runs-append step a b c [] ys r s = subst (λ from. Runs step from ys c) (sym r) s
 Runs-append step a b c (x ∷ xs) ys r s = (r.0, r.1, Runs-append step r.0 b c xs ys r.2 s)
 
-pub live-append : (IsRight : List (List ℕ) → Option (List ℕ) → Type 0) (gone : List (List ℕ)) (xs ys : List Read) → IsLiveAfter IsRight gone xs → IsLiveAfter IsRight (gone ++ came xs) ys → IsLiveAfter IsRight gone (xs ++ ys)
-live-append IsRight gone [] ys l m = subst (λ (g : List (List ℕ)). IsLiveAfter IsRight g ys) (append-nil gone) m
-live-append IsRight gone (x ∷ xs) ys l m = (l.0, l.1, live-append IsRight (gone ++ x.came ∷ []) xs ys l.2 (subst (λ (g : List (List ℕ)). IsLiveAfter IsRight g ys) (sym (append_assoc gone (x.came ∷ []) (came xs))) m))
+pub live-append : {A : Type 0} (IsRight : List (List A) → Option (List ℕ) → Type 0) (gone : List (List A)) (xs ys : List (Read A)) → IsLiveAfter IsRight gone xs → IsLiveAfter IsRight (gone ++ came xs) ys → IsLiveAfter IsRight gone (xs ++ ys)
+live-append {A} IsRight gone [] ys l m = subst (λ (g : List (List A)). IsLiveAfter IsRight g ys) (append-nil gone) m
+live-append {A} IsRight gone (x ∷ xs) ys l m = (l.0, l.1, live-append IsRight (gone ++ x.came ∷ []) xs ys l.2 (subst (λ (g : List (List A)). IsLiveAfter IsRight g ys) (sym (append_assoc gone (x.came ∷ []) (came xs))) m))
 
 -- what is right beside some bytes is right behind others
-pub live-behind : (P Q : List (List ℕ) → Option (List ℕ) → Type 0) (front gone : List (List ℕ)) (reads : List Read)
-    → ((given : List (List ℕ)) (held : Option (List ℕ)) → P given held → Q (front ++ given) held) → IsLiveAfter P gone reads → IsLiveAfter Q (front ++ gone) reads
+pub live-behind : {A : Type 0} (P Q : List (List A) → Option (List ℕ) → Type 0) (front gone : List (List A)) (reads : List (Read A))
+    → ((given : List (List A)) (held : Option (List ℕ)) → P given held → Q (front ++ given) held) → IsLiveAfter P gone reads → IsLiveAfter Q (front ++ gone) reads
 live-behind P Q front gone [] h l = tt
-live-behind P Q front gone (read ∷ reads) h l = (l.0, h gone read.written l.1, subst (λ (g : List (List ℕ)). IsLiveAfter Q g reads) (sym (append_assoc front gone (read.came ∷ []))) (live-behind P Q front (gone ++ read.came ∷ []) reads h l.2))
+live-behind {A} P Q front gone (read ∷ reads) h l = (l.0, h gone read.written l.1, subst (λ (g : List (List A)). IsLiveAfter Q g reads) (sym (append_assoc front gone (read.came ∷ []))) (live-behind P Q front (gone ++ read.came ∷ []) reads h l.2))
+
+pub joined-append : {A : Type 0} (xs ys : List (List A)) → joined (xs ++ ys) ≡ joined xs ++ joined ys
+joined-append [] ys = refl
+joined-append {A} (x ∷ xs) ys = ap (λ (l : List A). x ++ l) (joined-append xs ys) ∙ sym (append_assoc x (joined xs) (joined ys))
 
 -- the bytes that came
-pub came-more : {S : Type 0} {step : S → Read → S → Type 0} {mid source' : S} {written : Option (List ℕ)} {bytes : List ℕ} (a : List Read) (b : ReadsOnce step mid source' written bytes) → concat (came (a ++ b.live.reads)) ≡ concat (came a) ++ bytes
-came-more a b = ap concat (map-append (λ (r : Read). r.came) a b.live.reads) ∙ concat-append (came a) (came b.live.reads) ∙ ap (λ (x : List ℕ). concat (came a) ++ x) b.given
+pub came-more : {S A : Type 0} {step : S → Read A → S → Type 0} {mid source' : S} {written : Option (List ℕ)} {bytes : List A} (a : List (Read A)) (b : ReadsOnce step mid source' written bytes) → joined (came (a ++ b.live.reads)) ≡ joined (came a) ++ bytes
+came-more {A = A} a b = ap joined (map-append (λ (r : Read A). r.came) a b.live.reads) ∙ joined-append (came a) (came b.live.reads) ∙ ap (λ (x : List A). joined (came a) ++ x) b.given
 
-module _ {S : Type 0} {step : S → Read → S → Type 0} {source mid source' : S} {written : Option (List ℕ)} {bytes : List ℕ} where
+module _ {S A : Type 0} {step : S → Read A → S → Type 0} {source mid source' : S} {written : Option (List ℕ)} {bytes : List A} where
   -- the same behind reads of a run
-  abbrev pub live-more : {P : List (List ℕ) → Option (List ℕ) → Type 0} (a : IsLive step source mid P) → ReadsOnce step mid source' written bytes
-      → ((nothing : List (List ℕ)) → concat nothing ≡ [] → P (came a.reads ++ nothing) written) → IsLive step source source' P
+  abbrev pub live-more : {P : List (List A) → Option (List ℕ) → Type 0} (a : IsLive step source mid P) → ReadsOnce step mid source' written bytes
+      → ((nothing : List (List A)) → joined nothing ≡ [] → P (came a.reads ++ nothing) written) → IsLive step source source' P
   live-more {P} a b right = record {
     reads = a.reads ++ b.live.reads;
     runs = Runs-append step source mid source' a.reads b.live.reads a.runs b.live.runs;
     live = live-append P [] a.reads b.live.reads a.live
-        (subst (λ (g : List (List ℕ)). IsLiveAfter P g b.live.reads) (append-nil (came a.reads))
+        (subst (λ (g : List (List A)). IsLiveAfter P g b.live.reads) (append-nil (came a.reads))
         (live-behind (HeldWhileNothing written) P (came a.reads) [] b.live.reads (λ gone held h. subst (P (came a.reads ++ gone)) (sym h.1) (right gone h.0)) b.live.live));
   }
 
 -- no read yet
-abbrev pub live-none : {S : Type 0} (step : S → Read → S → Type 0) (source : S) (P : List (List ℕ) → Option (List ℕ) → Type 0) → IsLive step source source P
+abbrev pub live-none : {S A : Type 0} (step : S → Read A → S → Type 0) (source : S) (P : List (List A) → Option (List ℕ) → Type 0) → IsLive step source source P
 live-none step source P = record { reads = []; runs = refl; live = tt }
 
-pub once-none : {S : Type 0} (step : S → Read → S → Type 0) (source : S) (written : Option (List ℕ)) → ReadsOnce step source source written []
+pub once-none : {S A : Type 0} (step : S → Read A → S → Type 0) (source : S) (written : Option (List ℕ)) → ReadsOnce step source source written []
 once-none step source written = record { live = live-none step source (HeldWhileNothing written); given = refl }
 
 -- one more read, where none has given bytes
-pub once-more : {S : Type 0} {step : S → Read → S → Type 0} {source mid source' : S} {written : Option (List ℕ)} (read : Read)
+pub once-more : {S A : Type 0} {step : S → Read A → S → Type 0} {source mid source' : S} {written : Option (List ℕ)} (read : Read A)
     → ReadsOnce step source mid written [] → step mid read source' → read.back ≡ [] → read.written ≡ written → ReadsOnce step source source' written read.came
-once-more {step = step} {source = source} {mid = mid} {source' = source'} {written = written} read a s back same = record {
+once-more {A = A} {step = step} {source = source} {mid = mid} {source' = source'} {written = written} read a s back same = record {
   live = record {
     reads = a.live.reads ++ read ∷ [];
     runs = Runs-append step source mid source' a.live.reads (read ∷ []) a.live.runs (source', s, refl);
     live = live-append (HeldWhileNothing written) [] a.live.reads (read ∷ []) a.live.live (back, (a.given, same), tt);
   };
-  given = ap concat (map-append (λ (r : Read). r.came) a.live.reads (read ∷ [])) ∙ concat-append (came a.live.reads) (read.came ∷ []) ∙ ap (λ (x : List ℕ). x ++ (read.came ++ [])) a.given ∙ append-nil read.came;
+  given = ap joined (map-append (λ (r : Read A). r.came) a.live.reads (read ∷ [])) ∙ joined-append (came a.live.reads) (read.came ∷ []) ∙ ap (λ (x : List A). x ++ (read.came ++ [])) a.given ∙ append-nil read.came;
 }
 
 -- one read of a run
-abbrev pub live-push : {S : Type 0} {step : S → Read → S → Type 0} {source mid source' : S} {P : List (List ℕ) → Option (List ℕ) → Type 0} (read : Read)
+abbrev pub live-push : {S A : Type 0} {step : S → Read A → S → Type 0} {source mid source' : S} {P : List (List A) → Option (List ℕ) → Type 0} (read : Read A)
     → (a : IsLive step source mid P) → step mid read source' → read.back ≡ [] → P (came a.reads) read.written → IsLive step source source' P
 live-push {step = step} {source = source} {mid = mid} {source' = source'} {P = P} read a s back right = record {
   reads = a.reads ++ read ∷ [];
@@ -64,5 +66,5 @@ live-push {step = step} {source = source} {mid = mid} {source' = source'} {P = P
   live = live-append P [] a.reads (read ∷ []) a.live (back, right, tt);
 }
 
-pub came-push : (reads : List Read) (read : Read) → came (reads ++ read ∷ []) ≡ came reads ++ read.came ∷ []
-came-push reads read = map-append (λ (r : Read). r.came) reads (read ∷ [])
+pub came-push : {A : Type 0} (reads : List (Read A)) (read : Read A) → came (reads ++ read ∷ []) ≡ came reads ++ read.came ∷ []
+came-push {A} reads read = map-append (λ (r : Read A). r.came) reads (read ∷ [])

@@ -1,6 +1,7 @@
 -- Lemmas on a run of `show`.
-use Rattle.std.proofs.Common.{◌≡◌, ◌≢◌, ◌≤◌, ◌+◌, ◌↔◌, ℕ, Bool, true, false, List, [], ◌∷◌, ◌++◌, length, refl, sym, ap, ◌∙◌, subst, arith, append-nil, length-append, zero-add, Option, Some, None, Result, Ok, Err}
-use Rattle.std.specs.Prelude.{IsErrAnd}
+use Rattle.std.proofs.Common.{◌≡◌, ◌≢◌, ◌≤◌, ◌+◌, ◌↔◌, ℕ, Bool, true, false, List, [], ◌∷◌, ◌++◌, length, map, take, drop, refl, sym, ap, ◌∙◌, subst, arith, append-nil, append_assoc, length-append, Option, Some, None, Result, Ok, Err}
+use Rattle.std.specs.Prelude.{IfSome, IsErrAnd}
+use Rattle.std.proofs.Math.Seq.{take-append_seam}
 use Rattle.std.proofs.lemmas.List.{map-append}
 use Rattle.std.proofs.lemmas.List.Elements.{All-nil}
 use Rattle.std.proofs.KnownBytes.{Appends-nil, Appends-trans, Consumes-nil, Consumes-trans, Consumes-kept}
@@ -16,29 +17,36 @@ use Rattle.cobs_live.proofs.ShowLemmas.{shown_from-append, shown_from-none}
 use Rattle.cobs_live.proofs.SkipLemmas.{begun-append, begun-none, skips_on-append, skips_on-none}
 use Rattle.cobs_live.proofs.TimeLemmas.{extended, IsReadAt-extended, IsTimeline-extended, shown_from-extended}
 use Rattle.cobs_live.specs.Counted.{IsTallyOf}
-use Rattle.std.specs.List.{concat}
-use Rattle.cobs_live.proofs.ReadLemmas.{came-more, live-more, live-none}
-use Rattle.std.proofs.lemmas.List.Folds.{concat-append}
-use Rattle.cobs_live.specs.Reads.{IsLive, Read, ReadsOnce, came}
-use Rattle.cobs_live.specs.Live.{HasShownSoFar, HoldsText, IsLiveSoFar, ShowsNext}
+use Rattle.cobs_live.proofs.ReadLemmas.{came-more, joined-append, live-more, live-none}
+use Rattle.cobs_live.specs.Reads.{IsLive, Read, ReadsOnce, Takes, came, given, joined}
+use Rattle.cobs_live.specs.declared.input.Came.{Came}
+use Rattle.cobs_live.specs.declared.input.Came.TheVariants.{Bytes, HungUp}
+use Rattle.cobs_live.specs.Live.{BeginsAnew, HasShownSoFar, HoldsText, IsLiveSoFar, ShowsHangUp, ShowsNext}
 use Rattle.cobs_live.specs.Seen.{all_ended}
-use Rattle.cobs_live.specs.Shown.{shown_from, shown_pieces, shown_end}
+use Rattle.cobs_live.specs.Shown.{outcomes_of, shown_end, shown_from, shown_gone, shown_hang_up}
 use Rattle.cobs_live.specs.Timed.{IsReadAt}
 use Rattle.cobs_live.specs.declared.clock.Moment.{Moment}
 use Rattle.cobs_live.specs.declared.clock.Times.{Times}
 use Rattle.cobs_live.specs.declared.show.Watch.{Watch}
 use Rattle.cobs_live.specs.declared.shown.Settings.{Settings}
-use Rattle.cobs_live.specs.Watched.{HasShown, HasShownAll, HasWritten, begun, skips_on, stream_of}
+use Rattle.cobs_live.specs.Watched.{HasShown, HasShownAll, HasWritten, all_outcomes, begun, count_bytes, gone_streams, letters_of, open_stream, shown_lines, skips_behind, skips_on, stream_of}
+use Rattle.cobs_live.specs.declared.shown.View.{View}
+use Rattle.cobs_live.proofs.LineLemmas.{count_bytes-gone, outcomes_of-gone, shown_gone-extended, shown_gone-gone, skips_behind-gone, streams_of-gone}
 use Rattle.cobs_live.specs.declared.fault.WatchFault.{WatchFault}
 use Rattle.cobs_live.specs.declared.fault.WatchFault.TheVariants.{ReadFailed}
 use Rattle.cobs_live.specs.declared.tally.Tally.{Tally}
 
 -- a decoder that is idle has taken no bytes of a piece
-begun-after : (p : List ℕ) (n : ℕ) (phase : Phase) (begun : Bool) → phase ≡ phase_after p n → ((begun ≡ false) ↔ (phase ≡ Idle)) → begun ≡ is_nonempty p
+pub begun-after : (p : List ℕ) (n : ℕ) (phase : Phase) (begun : Bool) → phase ≡ phase_after p n → ((begun ≡ false) ↔ (phase ≡ Idle)) → begun ≡ is_nonempty p
 unfolding phase_after
 begun-after [] n phase begun is idle = idle.1 is
 begun-after (b ∷ bs) n phase true is idle = refl
 begun-after (b ∷ bs) n phase false is idle = absurd (let e = sym (idle.0 refl) ∙ is in grind (arith, e))
+
+-- whatever is known of a reader
+pub whatever : (from : Option (List ℕ)) (P : Type 0) → P → IfSome from (λ _. P)
+whatever None P p = tt
+whatever (Some xs) P p = p
 
 -- before the first read
 pub HasShownSoFar-start : (law : StreamLaw) (settings : Settings) (from before : Option (List ℕ)) (watch : Watch) → DecoderAfter watch.message.items (phase_of watch.decoder) []
@@ -49,9 +57,11 @@ HasShownSoFar-start law settings from before watch idle none first len same skip
     let no_outcomes : stream_outcomes (begun settings.skip_first []) settings.length ≡ [] = ap (λ (t : List ℕ). stream_outcomes t settings.length) (begun-none settings.skip_first) ∙ law.none [] settings.length no_zero in
     record {
       ended = record {
+        gone = [];
         bytes = [];
         times = λ number. watch.clock.last;
         timeline = record { start = first; rises = λ number. omega arith };
+        alone = whatever from _ refl;
         read = Consumes-nil from;
         written = rw (all_ended-none (begun settings.skip_first []) settings.length no_outcomes, shown_from-none settings.view (λ number. watch.clock.last) 0) (Appends-nil before);
       };
@@ -64,17 +74,18 @@ HasShownSoFar-start law settings from before watch idle none first len same skip
     }
 
 -- the text of what had ended, as far as bytes had come
-pub HoldsText-so_far : {settings : Settings} {from to before after : Option (List ℕ)} {watch : Watch} (s : HasShownSoFar settings from to before after watch) (came : List (List ℕ)) → concat came ≡ s.ended.bytes → HoldsText settings before came after
-HoldsText-so_far s came e = record { times = s.ended.times; timeline = s.ended.timeline; written = rw e s.ended.written }
+pub HoldsText-so_far : {settings : Settings} {from to before after : Option (List ℕ)} {watch : Watch} (s : HasShownSoFar settings from to before after watch) (came : List (List (Option ℕ))) → joined came ≡ letters_of s.ended.gone s.ended.bytes → HoldsText settings before came after
+HoldsText-so_far s came e = record { gone = s.ended.gone; bytes = s.ended.bytes; lines = e; times = s.ended.times; timeline = s.ended.timeline; written = s.ended.written }
 
 -- before the first read a run is live
-pub HasShownSoFar-live : {S : Type 0} (step : S → Read → S → Type 0) (source : S) {settings : Settings} (from : Option (List ℕ)) {before : Option (List ℕ)} {watch : Watch} → HasShownSoFar settings (Some []) (Some []) before before watch
+pub HasShownSoFar-live : {S : Type 0} (step : S → Read (Option ℕ) → S → Type 0) (source : S) {settings : Settings} (from : Option (List ℕ)) {before : Option (List ℕ)} {watch : Watch} → HasShownSoFar settings (Some []) (Some []) before before watch
     → IsLiveSoFar step source source settings from from before before watch
 HasShownSoFar-live step source from s =
     let none : s.ended.bytes ≡ [] = sym (append-nil s.ended.bytes) ∙ sym s.ended.read in
+    let first : s.ended.gone ≡ [] = s.ended.alone in
     record {
       so_far = record {
-        ended = record { bytes = s.ended.bytes; times = s.ended.times; timeline = s.ended.timeline; read = rw none (Consumes-nil from); written = s.ended.written };
+        ended = record { gone = s.ended.gone; bytes = s.ended.bytes; times = s.ended.times; timeline = s.ended.timeline; alone = whatever from _ first; read = rw none (Consumes-nil from); written = s.ended.written };
         taken = s.taken;
         tallied = s.tallied;
         len = s.len;
@@ -83,16 +94,16 @@ HasShownSoFar-live step source from s =
         skips = s.skips;
       };
       live = live-none step source _;
-      given = sym none;
+      given = sym (ap (letters_of s.ended.gone) none ∙ ap (λ (g : List (List ℕ)). letters_of g []) first);
     }
 
-module _ {S : Type 0} {step : S → Read → S → Type 0} {source mid source' : S} {settings : Settings} {from to before after : Option (List ℕ)} {watch : Watch} {bytes : List ℕ} where
+module _ {S : Type 0} {step : S → Read (Option ℕ) → S → Type 0} {source mid source' : S} {settings : Settings} {from to before after : Option (List ℕ)} {watch : Watch} {letters : List (Option ℕ)} where
   -- a run is live behind its next read
-  abbrev pub live-next : IsLiveSoFar step source mid settings from to before after watch → ReadsOnce step mid source' after bytes → IsLive step source source' (HoldsText settings before)
-  live-next s r = live-more s.live r (λ nothing none. HoldsText-so_far s.so_far (came s.live.reads ++ nothing) (concat-append (came s.live.reads) nothing ∙ ap (λ (x : List ℕ). concat (came s.live.reads) ++ x) none ∙ append-nil _ ∙ s.given))
+  abbrev pub live-next : IsLiveSoFar step source mid settings from to before after watch → ReadsOnce step mid source' after letters → IsLive step source source' (HoldsText settings before)
+  live-next s r = live-more s.live r (λ nothing none. HoldsText-so_far s.so_far (came s.live.reads ++ nothing) (joined-append (came s.live.reads) nothing ∙ ap (λ (x : List (Option ℕ)). joined (came s.live.reads) ++ x) none ∙ append-nil _ ∙ s.given))
 
-  pub given-next : (s : IsLiveSoFar step source mid settings from to before after watch) (r : ReadsOnce step mid source' after bytes) → concat (came (live-next s r).reads) ≡ s.so_far.ended.bytes ++ bytes
-  given-next s r = came-more s.live.reads r ∙ ap (λ (x : List ℕ). x ++ bytes) s.given
+  pub given-next : (s : IsLiveSoFar step source mid settings from to before after watch) (r : ReadsOnce step mid source' after letters) → joined (came (live-next s r).reads) ≡ letters_of s.so_far.ended.gone s.so_far.ended.bytes ++ letters
+  given-next s r = came-more s.live.reads r ∙ ap (λ (x : List (Option ℕ)). x ++ letters) s.given
 
 -- a tally is one for equal settings
 pub same-tallied : (a b : Settings) (tally : Tally) (outcomes : List Outcome) (read : ℕ) → a ≡ b → IsTallyOf a.view.checksum tally outcomes read → IsTallyOf b.view.checksum tally outcomes read
@@ -104,47 +115,81 @@ flushed-Appends None inner' held held' text none none' w = tt
 flushed-Appends (Some xs) None held held' text none none' w = absurd w
 flushed-Appends (Some xs) (Some ys) held held' text none none' w = sym (append-nil ys) ∙ ap (λ (l : List ℕ). ys ++ l) (sym none') ∙ w ∙ ap (λ (l : List ℕ). l ++ text) (ap (λ (l : List ℕ). xs ++ l) none ∙ append-nil xs)
 
+-- an input that hangs up is one of whose bytes nothing is known
+pub unknown-alone : (from to : Option (List ℕ)) (bytes : List ℕ) (P : Type 0) → to ≡ None → Consumes from to bytes → IfSome from (λ _. P)
+unknown-alone None to bytes P none c = tt
+unknown-alone (Some xs) to bytes P none c = absurd (subst (λ (t : Option (List ℕ)). Consumes (Some xs) t bytes) none c)
+
+pub unknown-read : (from to to' : Option (List ℕ)) (bytes : List ℕ) → to ≡ None → Consumes from to bytes → Consumes from to' []
+unknown-read None to to' bytes none c = tt
+unknown-read (Some xs) to to' bytes none c = absurd (subst (λ (t : Option (List ℕ)). Consumes (Some xs) t bytes) none c)
+
 module _ (law : StreamLaw) {settings : Settings} {from to before after : Option (List ℕ)} {watch : Watch} (s : HasShownSoFar settings from to before after watch) where
+  -- whether the begin of the open line is skipped
+  abbrev pub skip : Bool
+  skip = skips_behind settings.skip_first s.ended.gone
+
+  -- the streams of the lines that hung up, the outcomes of their pieces, and the stream of the open line
+  abbrev pub streams : List (List ℕ)
+  streams = gone_streams settings s.ended.gone
+
+  abbrev pub before_open : List Outcome
+  before_open = outcomes_of streams settings.length
+
+  abbrev pub opened : List ℕ
+  opened = open_stream settings s.ended.gone s.ended.bytes
+
   -- the stream that more bytes are, behind those before them
   abbrev pub newly : List ℕ → List ℕ
   newly more = begun watch.skipping (xor_each watch.settings.now.sentinel more)
 
   -- with more bytes, a stream leaves what the decoder leaves of them, and has the outcomes that it reports
-  pub more-stream : (more : List ℕ) → stream_of settings (s.ended.bytes ++ more) ≡ stream_of settings s.ended.bytes ++ newly more
+  pub more-stream : (more : List ℕ) → open_stream settings s.ended.gone (s.ended.bytes ++ more) ≡ opened ++ newly more
   more-stream more =
-      ap (begun settings.skip_first) (map-append (λ b. bit_xor b settings.sentinel) s.ended.bytes more)
-      ∙ begun-append settings.skip_first (xor_each settings.sentinel s.ended.bytes) (xor_each settings.sentinel more)
-      ∙ ap (λ (w : Settings). stream_of settings s.ended.bytes ++ begun (skips_on settings.skip_first (xor_each settings.sentinel s.ended.bytes)) (xor_each w.sentinel more)) (sym s.same)
-      ∙ ap (λ (b : Bool). stream_of settings s.ended.bytes ++ begun b (xor_each watch.settings.now.sentinel more)) (sym s.skips)
+      ap (begun skip) (map-append (λ b. bit_xor b settings.sentinel) s.ended.bytes more)
+      ∙ begun-append skip (xor_each settings.sentinel s.ended.bytes) (xor_each settings.sentinel more)
+      ∙ ap (λ (w : Settings). opened ++ begun (skips_on skip (xor_each settings.sentinel s.ended.bytes)) (xor_each w.sentinel more)) (sym s.same)
+      ∙ ap (λ (b : Bool). opened ++ begun b (xor_each watch.settings.now.sentinel more)) (sym s.skips)
 
-  pub more-skips : (more : List ℕ) → skips_on watch.skipping (xor_each watch.settings.now.sentinel more) ≡ skips_on settings.skip_first (xor_each settings.sentinel (s.ended.bytes ++ more))
+  pub more-skips : (more : List ℕ) → skips_on watch.skipping (xor_each watch.settings.now.sentinel more) ≡ skips_on skip (xor_each settings.sentinel (s.ended.bytes ++ more))
   more-skips more = sym (
-      ap (skips_on settings.skip_first) (map-append (λ b. bit_xor b settings.sentinel) s.ended.bytes more)
-      ∙ skips_on-append settings.skip_first (xor_each settings.sentinel s.ended.bytes) (xor_each settings.sentinel more)
-      ∙ ap (λ (w : Settings). skips_on (skips_on settings.skip_first (xor_each settings.sentinel s.ended.bytes)) (xor_each w.sentinel more)) (sym s.same)
+      ap (skips_on skip) (map-append (λ b. bit_xor b settings.sentinel) s.ended.bytes more)
+      ∙ skips_on-append skip (xor_each settings.sentinel s.ended.bytes) (xor_each settings.sentinel more)
+      ∙ ap (λ (w : Settings). skips_on (skips_on skip (xor_each settings.sentinel s.ended.bytes)) (xor_each w.sentinel more)) (sym s.same)
       ∙ ap (λ (b : Bool). skips_on b (xor_each watch.settings.now.sentinel more)) (sym s.skips))
 
-  pub more-left : (more : List ℕ) → unended (stream_of settings (s.ended.bytes ++ more)) ≡ unended (unended (stream_of settings s.ended.bytes) ++ newly more)
-  more-left more = ap unended (more-stream more) ∙ law.left (stream_of settings s.ended.bytes) (newly more)
+  pub more-left : (more : List ℕ) → unended (open_stream settings s.ended.gone (s.ended.bytes ++ more)) ≡ unended (unended opened ++ newly more)
+  more-left more = ap unended (more-stream more) ∙ law.left opened (newly more)
 
-  pub more-outcomes : (more : List ℕ) → stream_outcomes (stream_of settings (s.ended.bytes ++ more)) settings.length
-      ≡ stream_outcomes (stream_of settings s.ended.bytes) settings.length ++ stream_outcomes (unended (stream_of settings s.ended.bytes) ++ newly more) (length watch.message.items)
-  more-outcomes more = ap (λ (t : List ℕ). stream_outcomes t settings.length) (more-stream more) ∙ law.cut (stream_of settings s.ended.bytes) (newly more) settings.length
-      ∙ ap (λ (k : ℕ). stream_outcomes (stream_of settings s.ended.bytes) settings.length ++ stream_outcomes (unended (stream_of settings s.ended.bytes) ++ newly more) k) (sym s.len)
+  -- the outcomes of the pieces that end in more bytes
+  abbrev pub new_outcomes : List ℕ → List Outcome
+  new_outcomes more = stream_outcomes (unended opened ++ newly more) (length watch.message.items)
 
-  pub more-pieces : (more : List ℕ) → all_ended (stream_of settings (s.ended.bytes ++ more)) settings.length
-      ≡ all_ended (stream_of settings s.ended.bytes) settings.length ++ all_ended (unended (stream_of settings s.ended.bytes) ++ newly more) (length watch.message.items)
-  more-pieces more = ap (λ (t : List ℕ). all_ended t settings.length) (more-stream more) ∙ all_ended-append law (stream_of settings s.ended.bytes) (newly more) settings.length
-      ∙ ap (λ (k : ℕ). all_ended (stream_of settings s.ended.bytes) settings.length ++ all_ended (unended (stream_of settings s.ended.bytes) ++ newly more) k) (sym s.len)
+  pub more-outcomes : (more : List ℕ) → all_outcomes settings s.ended.gone (s.ended.bytes ++ more) ≡ all_outcomes settings s.ended.gone s.ended.bytes ++ new_outcomes more
+  more-outcomes more =
+      ap (λ (t : List ℕ). before_open ++ stream_outcomes t settings.length) (more-stream more)
+      ∙ ap (λ (l : List Outcome). before_open ++ l) (law.cut opened (newly more) settings.length)
+      ∙ ap (λ (k : ℕ). before_open ++ (stream_outcomes opened settings.length ++ stream_outcomes (unended opened ++ newly more) k)) (sym s.len)
+      ∙ sym (append_assoc before_open (stream_outcomes opened settings.length) (new_outcomes more))
+
+  pub more-pieces : (more : List ℕ) → all_ended (open_stream settings s.ended.gone (s.ended.bytes ++ more)) settings.length
+      ≡ all_ended opened settings.length ++ all_ended (unended opened ++ newly more) (length watch.message.items)
+  more-pieces more = ap (λ (t : List ℕ). all_ended t settings.length) (more-stream more) ∙ all_ended-append law opened (newly more) settings.length
+      ∙ ap (λ (k : ℕ). all_ended opened settings.length ++ all_ended (unended opened ++ newly more) k) (sym s.len)
+
+  more-count : (more : List ℕ) → count_bytes s.ended.gone (s.ended.bytes ++ more) ≡ count_bytes s.ended.gone s.ended.bytes + length more
+  more-count more = omega (arith, length-append s.ended.bytes more)
 
   pub more-tallied : (tally : Tally) (more : List ℕ)
-      → IsTallyOf watch.settings.now.view.checksum tally (stream_outcomes (stream_of settings s.ended.bytes) settings.length ++ stream_outcomes (unended (stream_of settings s.ended.bytes) ++ newly more) (length watch.message.items)) (length s.ended.bytes + length more)
-      → IsTallyOf settings.view.checksum tally (stream_outcomes (stream_of settings (s.ended.bytes ++ more)) settings.length) (length (s.ended.bytes ++ more))
-  more-tallied tally more t = rw (more-outcomes more, length-append s.ended.bytes more) (same-tallied _ _ _ _ _ s.same t)
+      → IsTallyOf watch.settings.now.view.checksum tally (all_outcomes settings s.ended.gone s.ended.bytes ++ new_outcomes more) (count_bytes s.ended.gone s.ended.bytes + length more)
+      → IsTallyOf settings.view.checksum tally (all_outcomes settings s.ended.gone (s.ended.bytes ++ more)) (count_bytes s.ended.gone (s.ended.bytes ++ more))
+  more-tallied tally more t =
+      subst (λ (os : List Outcome). IsTallyOf settings.view.checksum tally os (count_bytes s.ended.gone (s.ended.bytes ++ more))) (sym (more-outcomes more))
+      (subst (λ (k : ℕ). IsTallyOf settings.view.checksum tally (all_outcomes settings s.ended.gone s.ended.bytes ++ new_outcomes more) k) (sym (more-count more)) (same-tallied _ _ _ _ _ s.same t))
 
   -- how many pieces had ended
   abbrev pub known : ℕ
-  known = length (stream_outcomes (stream_of settings s.ended.bytes) settings.length)
+  known = length (all_outcomes settings s.ended.gone s.ended.bytes)
 
   -- the times of all pieces, if the next ones are read now
   abbrev pub more-times : Moment → ℕ → Moment
@@ -154,25 +199,48 @@ module _ (law : StreamLaw) {settings : Settings} {from to before after : Option 
   more-read clock same = IsReadAt-extended s.ended.times known clock.next clock (same ∙ s.timed) refl
 
   pub more-timed : (clock : Times) (now : Moment) (more : List ℕ)
-      → IsReadAt (more-times now) (length (stream_outcomes (stream_of settings s.ended.bytes) settings.length ++ stream_outcomes (unended (stream_of settings s.ended.bytes) ++ newly more) (length watch.message.items))) clock
-      → clock.last ≡ more-times now (length (stream_outcomes (stream_of settings (s.ended.bytes ++ more)) settings.length))
-  more-timed clock now more r = rw (more-outcomes more) r.last
+      → IsReadAt (more-times now) (length (all_outcomes settings s.ended.gone s.ended.bytes ++ new_outcomes more)) clock
+      → clock.last ≡ more-times now (length (all_outcomes settings s.ended.gone (s.ended.bytes ++ more)))
+  more-timed clock now more r = r.last ∙ ap (λ (os : List Outcome). more-times now (length os)) (sym (more-outcomes more))
+
+  -- the text of the pieces that end in more bytes, behind that of all others
+  abbrev pub new_text : View → Moment → List ℕ → List ℕ
+  new_text view now more = shown_from view (more-times now) known (all_ended (unended opened ++ newly more) (length watch.message.items))
+
+  pub more-text : (now : Moment) (more : List ℕ) → shown_lines settings (more-times now) s.ended.gone (s.ended.bytes ++ more)
+      ≡ shown_lines settings s.ended.times s.ended.gone s.ended.bytes ++ new_text settings.view now more
+  more-text now more =
+      let first : ℕ = length before_open in
+      let old = all_ended opened settings.length in
+      let new = all_ended (unended opened ++ newly more) (length watch.message.items) in
+      let gone : (ℕ → Moment) → List ℕ = λ times. shown_gone settings.view times settings.length 0 streams in
+      let size : known ≡ first + length old = omega (arith, length-append before_open (stream_outcomes opened settings.length), length-all_ended opened settings.length) in
+      ap (λ pieces. gone (more-times now) ++ shown_from settings.view (more-times now) first pieces) (more-pieces more)
+      ∙ ap (λ (l : List ℕ). gone (more-times now) ++ l) (shown_from-append settings.view (more-times now) first old new)
+      ∙ sym (append_assoc (gone (more-times now)) (shown_from settings.view (more-times now) first old) (shown_from settings.view (more-times now) (first + length old) new))
+      ∙ ap (λ (l : List ℕ). (l ++ shown_from settings.view (more-times now) first old) ++ shown_from settings.view (more-times now) (first + length old) new)
+      (shown_gone-extended s.ended.times known now settings.view settings.length 0 streams (omega (arith, size)))
+      ∙ ap (λ (l : List ℕ). (gone s.ended.times ++ l) ++ shown_from settings.view (more-times now) (first + length old) new)
+      (shown_from-extended s.ended.times known now settings.view first old (omega (arith, size)))
+      ∙ ap (λ (k : ℕ). (gone s.ended.times ++ shown_from settings.view s.ended.times first old) ++ shown_from settings.view (more-times now) k new) (sym size)
 
   abbrev pub more-ended : {to' after' : Option (List ℕ)} (more : List ℕ) (now : Moment) → watch.clock.last.millis ≤ now.millis → Consumes to to' more
-      → Appends after after' (shown_from watch.settings.now.view (more-times now) known (all_ended (unended (stream_of settings s.ended.bytes) ++ newly more) (length watch.message.items)))
-      → HasWritten (λ times bytes. shown_pieces settings.view times settings.length (stream_of settings bytes)) from to' before after'
+      → Appends after after' (new_text watch.settings.now.view now more)
+      → HasWritten (shown_lines settings) from to' before after'
   more-ended {to' = to'} {after' = after'} more now later r written = record {
+    gone = s.ended.gone;
     bytes = s.ended.bytes ++ more;
     times = more-times now;
     timeline = IsTimeline-extended s.ended.times known now s.ended.timeline (omega (arith, later, ap (λ (m : Moment). m.millis) s.timed));
+    alone = s.ended.alone;
     read = Consumes-trans from to to' s.ended.bytes more s.ended.read r;
-    written = rw (more-pieces more, shown_from-append settings.view (more-times now) 0 (all_ended (stream_of settings s.ended.bytes) settings.length) (all_ended (unended (stream_of settings s.ended.bytes) ++ newly more) (length watch.message.items)), zero-add, length-all_ended (stream_of settings s.ended.bytes) settings.length, shown_from-extended s.ended.times known now settings.view 0 (all_ended (stream_of settings s.ended.bytes) settings.length) (omega (arith, length-all_ended (stream_of settings s.ended.bytes) settings.length)))
-        (Appends-trans before after after' _ _ s.ended.written (subst (λ (w : Settings). Appends after after' (shown_from w.view (more-times now) known (all_ended (unended (stream_of settings s.ended.bytes) ++ newly more) (length watch.message.items)))) s.same written));
+    written = subst (Appends before after') (sym (more-text now more))
+        (Appends-trans before after after' _ _ s.ended.written (subst (λ (w : Settings). Appends after after' (new_text w.view now more)) s.same written));
   }
 
   -- the next read failed
   pub shown-failed : {to' : Option (List ℕ)} → Keeps to to' → HasShown settings (Err ReadFailed) from to' before after
-  shown-failed {to' = to'} kept = record { bytes = s.ended.bytes; times = s.ended.times; timeline = s.ended.timeline; read = Consumes-kept from to to' s.ended.bytes s.ended.read kept; written = s.ended.written }
+  shown-failed {to' = to'} kept = record { gone = s.ended.gone; bytes = s.ended.bytes; times = s.ended.times; timeline = s.ended.timeline; alone = s.ended.alone; read = Consumes-kept from to to' s.ended.bytes s.ended.read kept; written = s.ended.written }
 
   pub next-failed : (to' : Option (List ℕ)) (result : Result Bool WatchFault) (fault : WatchFault) → IsErrAnd result (λ found. found ≡ fault) → fault ≡ ReadFailed → Keeps to to' → ShowsNext settings result from to' before after watch
   next-failed to' (Err found) fault e is kept = subst (λ (f : WatchFault). HasShown settings (Err f) from to' before after) (sym (e ∙ is)) (shown-failed kept)
@@ -182,19 +250,96 @@ module _ (law : StreamLaw) {settings : Settings} {from to before after : Option 
   pub shown-all : {to' after' : Option (List ℕ)} (begun : Bool) → ((begun ≡ false) ↔ (phase_of watch.decoder ≡ Idle)) → Consumes to to' [] → IsAtEnd to'
       → Appends after after' (shown_end watch.settings.now.view begun) → HasShownAll settings watch.tally from to' before after'
   shown-all {to' = to'} {after' = after'} begun idle r end written =
-      let t = stream_of settings s.ended.bytes in
-      let is : begun ≡ is_nonempty (unended t) = begun-after (unended t) (length watch.message.items) (phase_of watch.decoder) begun s.taken.phased.phase_is idle in
+      let is : begun ≡ is_nonempty (unended opened) = begun-after (unended opened) (length watch.message.items) (phase_of watch.decoder) begun s.taken.phased.phase_is idle in
       record {
         all = record {
+          gone = s.ended.gone;
           bytes = s.ended.bytes;
           times = s.ended.times;
           timeline = s.ended.timeline;
+          alone = s.ended.alone;
           read = subst (Consumes from to') (append-nil s.ended.bytes) (Consumes-trans from to to' s.ended.bytes [] s.ended.read r);
           written = Appends-trans before after after' _ _ s.ended.written (rw (s.same, is) at written);
         };
         tallied = s.tallied;
         end = end;
       }
+
+  -- THE LINE HUNG UP
+
+  -- no byte of the next one has come
+  pub not_begun : (b : Bool) → stream_of settings b [] ≡ []
+  not_begun b = begun-none b
+
+  no_outcomes : (b : Bool) → stream_outcomes (stream_of settings b []) settings.length ≡ []
+  no_outcomes b = ap (λ (t : List ℕ). stream_outcomes t settings.length) (not_begun b) ∙ law.none [] settings.length (All-nil (λ (b : ℕ). b ≢ 0))
+
+  gone-streams : gone_streams settings (s.ended.gone ++ s.ended.bytes ∷ []) ≡ streams ++ opened ∷ []
+  gone-streams = streams_of-gone settings settings.skip_first s.ended.gone s.ended.bytes
+
+  pub gone-outcomes : all_outcomes settings (s.ended.gone ++ s.ended.bytes ∷ []) [] ≡ all_outcomes settings s.ended.gone s.ended.bytes
+  gone-outcomes =
+      let next : Bool = skips_behind settings.skip_first (s.ended.gone ++ s.ended.bytes ∷ []) in
+      ap (λ (l : List Outcome). outcomes_of (gone_streams settings (s.ended.gone ++ s.ended.bytes ∷ [])) settings.length ++ l) (no_outcomes next)
+      ∙ append-nil (outcomes_of (gone_streams settings (s.ended.gone ++ s.ended.bytes ∷ [])) settings.length)
+      ∙ ap (λ (ts : List (List ℕ)). outcomes_of ts settings.length) gone-streams
+      ∙ outcomes_of-gone streams opened settings.length
+
+  pub gone-text : shown_lines settings s.ended.times (s.ended.gone ++ s.ended.bytes ∷ []) []
+      ≡ shown_lines settings s.ended.times s.ended.gone s.ended.bytes ++ shown_hang_up settings.view (is_nonempty (unended opened))
+  gone-text =
+      let next : Bool = skips_behind settings.skip_first (s.ended.gone ++ s.ended.bytes ∷ []) in
+      let all : List (List ℕ) = gone_streams settings (s.ended.gone ++ s.ended.bytes ∷ []) in
+      let gone : List (List ℕ) → List ℕ = λ ts. shown_gone settings.view s.ended.times settings.length 0 ts in
+      let at : ℕ = length (outcomes_of all settings.length) in
+      let nothing : shown_from settings.view s.ended.times at (all_ended (stream_of settings next []) settings.length) ≡ [] =
+      ap (shown_from settings.view s.ended.times at) (all_ended-none (stream_of settings next []) settings.length (no_outcomes next)) ∙ shown_from-none settings.view s.ended.times at in
+      let first : 0 + length before_open ≡ length before_open = omega arith in
+      ap (λ (l : List ℕ). gone all ++ l) nothing
+      ∙ append-nil (gone all)
+      ∙ ap gone gone-streams
+      ∙ shown_gone-gone settings.view s.ended.times settings.length 0 streams opened
+      ∙ ap (λ (k : ℕ). gone streams ++ (shown_from settings.view s.ended.times k (all_ended opened settings.length) ++ shown_hang_up settings.view (is_nonempty (unended opened)))) first
+      ∙ sym (append_assoc (gone streams) (shown_from settings.view s.ended.times (length before_open) (all_ended opened settings.length)) (shown_hang_up settings.view (is_nonempty (unended opened))))
+
+  abbrev pub hung-up : {to' after' : Option (List ℕ)} {watch' : Watch} → to ≡ None → ShowsHangUp (phase_of watch.decoder) watch.settings.now.view after after' → BeginsAnew watch watch'
+      → HasShownSoFar settings from to' before after' watch'
+  hung-up {to' = to'} {after' = after'} {watch' = watch'} unknown shows anew =
+      let is : shows.begun ≡ is_nonempty (unended opened) = begun-after (unended opened) (length watch.message.items) (phase_of watch.decoder) shows.begun s.taken.phased.phase_is shows.idle in
+      record {
+        ended = record {
+          gone = s.ended.gone ++ s.ended.bytes ∷ [];
+          bytes = [];
+          times = s.ended.times;
+          timeline = s.ended.timeline;
+          alone = unknown-alone from to s.ended.bytes _ unknown s.ended.read;
+          read = unknown-read from to to' s.ended.bytes unknown s.ended.read;
+          written = subst (Appends before after') (sym gone-text) (Appends-trans before after after' _ _ s.ended.written (rw (s.same, is) at shows.written));
+        };
+        taken = rw (not_begun (skips_behind settings.skip_first (s.ended.gone ++ s.ended.bytes ∷ [])), law.same [] (All-nil (λ (b : ℕ). b ≢ 0))) anew.taken;
+        tallied = rw (gone-outcomes, count_bytes-gone s.ended.gone s.ended.bytes, anew.tally) s.tallied;
+        len = ap (λ message. length message.items) anew.message ∙ s.len;
+        timed = ap (λ (c : Times). c.last) anew.clock ∙ s.timed ∙ ap (λ (os : List Outcome). s.ended.times (length os)) (sym gone-outcomes);
+        same = ap (λ settings. settings.now) anew.settings ∙ s.same;
+        skips = anew.awaited ∙ sym (skips_on-none (skips_behind settings.skip_first (s.ended.gone ++ s.ended.bytes ∷ [])) ∙ skips_behind-gone settings.skip_first s.ended.gone s.ended.bytes);
+      }
+
+-- a vector whose items were written as a slice
+pub whole-message : (message items : List ℕ) (len : ℕ) → len ≡ length items → length message ≡ length items → take len (message ++ drop (length message) items) ≡ message
+whole-message message items len is same = ap (λ (k : ℕ). take k (message ++ drop (length message) items)) (is ∙ sym same) ∙ take-append_seam message (drop (length message) items)
+
+-- a read that gave bytes, or a hang-up
+pub takes-bytes : (from to : Option (List ℕ)) (gave : Came) (n : ℕ) (chunk : List ℕ) → gave ≡ Bytes n → Takes from to gave chunk → Takes from to (Bytes n) chunk
+takes-bytes from to gave n chunk is h = subst (λ (c : Came). Takes from to c chunk) is h
+
+pub takes-hang_up : (from to : Option (List ℕ)) (gave : Came) (chunk : List ℕ) → gave ≡ HungUp → Takes from to gave chunk → Takes from to HungUp chunk
+takes-hang_up from to gave chunk is h = subst (λ (c : Came). Takes from to c chunk) is h
+
+pub given-bytes : (E : Type 0) (gave : Came) (n : ℕ) (chunk : List ℕ) → gave ≡ Bytes n → given {E = E} (Ok gave) chunk ≡ map Some (take n chunk)
+given-bytes E gave n chunk is = ap (λ (c : Came). given {E = E} (Ok c) chunk) is
+
+pub given-hang_up : (E : Type 0) (gave : Came) (chunk : List ℕ) → gave ≡ HungUp → given {E = E} (Ok gave) chunk ≡ None ∷ []
+given-hang_up E gave chunk is = ap (λ (c : Came). given {E = E} (Ok c) chunk) is
 
 -- a run ends with the fault of its last read
 pub shown-fault : (settings : Settings) (from to before after : Option (List ℕ)) (result : Result Tally WatchFault) (fault : WatchFault) → IsErrAnd result (λ found. found ≡ fault)

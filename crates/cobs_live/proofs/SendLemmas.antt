@@ -127,13 +127,13 @@ module _ {settings : Settings} {all_sent : Bool} {from to to' before after after
   SentSoFar-skipped flag none missing = SentSoFar-with flag (rw none (flag_lost (λ l. IsSendable settings (text_of l)) s.lines line missing))
 
 -- a run so far that is live, whose reads gave the lines that were sent
-pub record IsLiveSoFar {S : Type 0} (step : S → Read → S → Type 0) (source source' : S) (settings : Settings) (all_sent : Bool) (from to before after : Option (List ℕ)) : Type 0 where
+pub record IsLiveSoFar {S : Type 0} (step : S → Read ℕ → S → Type 0) (source source' : S) (settings : Settings) (all_sent : Bool) (from to before after : Option (List ℕ)) : Type 0 where
   pub so_far : SentSoFar settings all_sent from to before after
   pub live : IsLive step source source' (HoldsFrames settings before)
   pub same : came live.reads ≡ so_far.lines
 
 -- the next read of it
-abbrev pub live-read : {S : Type 0} {step : S → Read → S → Type 0} {source mid source' : S} {settings : Settings} {all_sent : Bool} {from to before after : Option (List ℕ)} (read : Read)
+abbrev pub live-read : {S : Type 0} {step : S → Read ℕ → S → Type 0} {source mid source' : S} {settings : Settings} {all_sent : Bool} {from to before after : Option (List ℕ)} (read : Read ℕ)
     → IsLiveSoFar step source mid settings all_sent from to before after → step mid read source' → read.back ≡ [] → read.written ≡ after → IsLive step source source' (HoldsFrames settings before)
 live-read {settings = settings} {before = before} read s r back same = live-push read s.live r back
     (record { sent = s.so_far.sent; each = rw s.same s.so_far.each; written = rw same s.so_far.written })

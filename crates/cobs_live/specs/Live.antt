@@ -1,16 +1,15 @@
 -- A stream that is shown read by read.
-use Rattle.std.specs.Prelude.{ℕ, ◌≡◌, ◌++◌, Bool, true, false, List, length, Option, Result, Ok, Err}
+use Rattle.std.specs.Prelude.{ℕ, ◌≡◌, ◌↔◌, ◌++◌, Bool, true, false, List, [], length, Option, Result, Ok, Err}
 use Rattle.std.specs.Io.KnownBytes.{Appends}
-use Rattle.cobs.specs.Feed.{DecoderAfter, Phase}
+use Rattle.cobs.specs.Feed.{DecoderAfter, Idle, Phase}
 use Rattle.cobs.specs.Fields.Decoders.{phase_of}
 use Rattle.cobs.specs.Stream.{Outcome, stream_outcomes, unended}
 use Rattle.cobs_live.specs.Counted.{IsTallyOf}
 use Rattle.cobs_live.specs.Seen.{all_ended}
-use Rattle.cobs_live.specs.Shown.{shown_from, shown_pieces}
+use Rattle.cobs_live.specs.Shown.{shown_from, shown_hang_up}
 use Rattle.cobs.specs.Sentinel.{xor_each}
-use Rattle.cobs_live.specs.Watched.{HasShown, HasWritten, skips_on, stream_of}
-use Rattle.std.specs.List.{concat}
-use Rattle.cobs_live.specs.Reads.{IsLive, Read, came}
+use Rattle.cobs_live.specs.Watched.{HasShown, HasWritten, all_outcomes, count_bytes, letters_of, open_stream, shown_lines, skips_behind, skips_on}
+use Rattle.cobs_live.specs.Reads.{IsLive, Read, came, joined}
 use Rattle.cobs_live.specs.Timed.{IsReadAt, IsTimeline}
 use Rattle.cobs_live.specs.declared.clock.Moment.{Moment}
 use Rattle.cobs_live.specs.declared.clock.Times.{Times}
@@ -22,26 +21,29 @@ use Rattle.cobs_live.specs.declared.tally.Tally.{Tally}
 
 -- a run so far: the text of every piece that ended in the bytes that were read is written, and the decoder has taken them
 pub record HasShownSoFar (settings : Settings) (from to before after : Option (List ℕ)) (watch : Watch) : Type 0 where
-  pub ended : HasWritten (λ times bytes. shown_pieces settings.view times settings.length (stream_of settings bytes)) from to before after
-  pub taken : DecoderAfter watch.message.items (phase_of watch.decoder) (unended (stream_of settings ended.bytes))
-  pub tallied : IsTallyOf settings.view.checksum watch.tally (stream_outcomes (stream_of settings ended.bytes) settings.length) (length ended.bytes)
+  pub ended : HasWritten (shown_lines settings) from to before after
+  pub taken : DecoderAfter watch.message.items (phase_of watch.decoder) (unended (open_stream settings ended.gone ended.bytes))
+  pub tallied : IsTallyOf settings.view.checksum watch.tally (all_outcomes settings ended.gone ended.bytes) (count_bytes ended.gone ended.bytes)
   pub len : length watch.message.items ≡ settings.length
-  pub timed : watch.clock.last ≡ ended.times (length (stream_outcomes (stream_of settings ended.bytes) settings.length))
+  pub timed : watch.clock.last ≡ ended.times (length (all_outcomes settings ended.gone ended.bytes))
   pub same : watch.settings.now ≡ settings
   -- whether the first sentinel is still awaited
-  pub skips : watch.skipping ≡ skips_on settings.skip_first (xor_each settings.sentinel ended.bytes)
+  pub skips : watch.skipping ≡ skips_on (skips_behind settings.skip_first ended.gone) (xor_each settings.sentinel ended.bytes)
 
--- what was written is the text of every piece that ended in the bytes that came, chunk by chunk
-pub record HoldsText (settings : Settings) (before : Option (List ℕ)) (came : List (List ℕ)) (after : Option (List ℕ)) : Type 0 where
+-- what was written is the text of all pieces and hang-ups in what came, read by read
+pub record HoldsText (settings : Settings) (before : Option (List ℕ)) (came : List (List (Option ℕ))) (after : Option (List ℕ)) : Type 0 where
+  pub gone : List (List ℕ)
+  pub bytes : List ℕ
+  pub lines : joined came ≡ letters_of gone bytes
   pub times : ℕ → Moment
   pub timeline : IsTimeline times
-  pub written : Appends before after (shown_pieces settings.view times settings.length (stream_of settings (concat came)))
+  pub written : Appends before after (shown_lines settings times gone bytes)
 
--- a run so far that is live, whose reads gave the bytes that are shown
-pub record IsLiveSoFar {S : Type 0} (step : S → Read → S → Type 0) (source source' : S) (settings : Settings) (from to before after : Option (List ℕ)) (watch : Watch) : Type 0 where
+-- a run so far that is live, whose reads gave what is shown
+pub record IsLiveSoFar {S : Type 0} (step : S → Read (Option ℕ) → S → Type 0) (source source' : S) (settings : Settings) (from to before after : Option (List ℕ)) (watch : Watch) : Type 0 where
   pub so_far : HasShownSoFar settings from to before after watch
   pub live : IsLive step source source' (HoldsText settings before)
-  pub given : concat (came live.reads) ≡ so_far.ended.bytes
+  pub given : joined (came live.reads) ≡ letters_of so_far.ended.gone so_far.ended.bytes
 
 -- what the next read comes to: the run goes on, or it has ended
 abbrev pub ShowsNext : Settings → Result Bool WatchFault → (from to before after : Option (List ℕ)) → Watch → Type 0
@@ -57,3 +59,18 @@ pub record ShowsBytes (view : View) (times : ℕ → Moment) (n : ℕ) (p bytes 
   pub tallied : IsTallyOf view.checksum tally (gone ++ stream_outcomes (p ++ bytes) n) read
   pub timed : IsReadAt times (length (gone ++ stream_outcomes (p ++ bytes) n)) clock
   pub len : length buffer ≡ n
+
+-- a line hung up: whether a piece had begun is shown, and the hang-up
+pub record ShowsHangUp (phase : Phase) (view : View) (before after : Option (List ℕ)) : Type 0 where
+  pub begun : Bool
+  pub idle : (begun ≡ false) ↔ (phase ≡ Idle)
+  pub written : Appends before after (shown_hang_up view begun)
+
+-- behind a hang-up no piece has begun, and the first sentinel is awaited; all else is as it was
+pub record BeginsAnew (old new : Watch) : Type 0 where
+  pub taken : DecoderAfter new.message.items (phase_of new.decoder) []
+  pub awaited : new.skipping ≡ true
+  pub message : new.message ≡ old.message
+  pub tally : new.tally ≡ old.tally
+  pub clock : new.clock ≡ old.clock
+  pub settings : new.settings ≡ old.settings

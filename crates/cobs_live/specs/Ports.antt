@@ -1,6 +1,6 @@
 -- Readers and writers that wait, and writers with a log.
-use Rattle.std.specs.Prelude.{ℕ, ◌≡◌, List, [], ◌∷◌, Option, Some, None}
-use Rattle.std.specs.Io.KnownBytes.{Consumes}
+use Rattle.std.specs.Prelude.{ℕ, ◌≡◌, ◌⊎◌, List, [], ◌∷◌, Option, Some, None}
+use Rattle.cobs_live.specs.Reads.{GivesBytes}
 use Rattle.cobs_live.specs.declared.port.Port.{Port}
 use Rattle.cobs_live.specs.declared.port.Logged.{Logged}
 
@@ -17,9 +17,10 @@ abbrev pub log_contents : {L : Type 0} → (L → Option (List ℕ)) → Option 
 log_contents contents None = None
 log_contents contents (Some log) = contents log
 
--- what a read gives of a line that is opened again: where it stays open, bytes of the line, or of one that was opened for the
--- read; where it hangs up, a sentinel
-abbrev pub GivesNext : {R : Type 0} → (R → Option (List ℕ)) → ℕ → Option R → Option R → List ℕ → Type 0
-GivesNext remaining sentinel (Some line) (Some line') bytes = Consumes (remaining line) (remaining line') bytes
-GivesNext {R} remaining sentinel None (Some line') bytes = (opened : R) × Consumes (remaining opened) (remaining line') bytes
-GivesNext remaining sentinel line None bytes = bytes ≡ sentinel ∷ []
+-- what a read gives of a line that is opened again: if it stays open, bytes of the line, or of one that was opened for the
+-- read; else a hang-up, or nothing if none could be opened
+abbrev pub GivesNext : {R : Type 0} → (R → Option (List ℕ)) → Option R → Option R → List (Option ℕ) → Type 0
+GivesNext remaining (Some line) (Some line') came = GivesBytes (remaining line) (remaining line') came
+GivesNext {R} remaining None (Some line') came = (opened : R) × GivesBytes (remaining opened) (remaining line') came
+GivesNext remaining (Some line) None came = came ≡ None ∷ []
+GivesNext remaining None None came = (came ≡ None ∷ []) ⊎ (came ≡ [])

@@ -5,7 +5,7 @@ use Rattle.std.specs.List.{list_all, starts_with}
 use Rattle.std.specs.Str.{chars}
 use Rattle.std.specs.Str.Lossy.{utf8_valid_len}
 use Rattle.cobs_live.specs.Escaped.{is_hidden}
-use Rattle.cobs.specs.Stream.{is_nonempty, unended}
+use Rattle.cobs.specs.Stream.{Outcome, is_nonempty, stream_outcomes, unended}
 use Rattle.cobs_lines.specs.Lines.{spaced_digits}
 use Rattle.cobs_live.specs.Counted.{counted}
 use Rattle.cobs_live.specs.Dump.{dump}
@@ -109,10 +109,6 @@ unfoldable pub shown_from : View → (ℕ → Moment) → ℕ → List Ended →
 shown_from view times index [] = []
 shown_from view times index (piece ∷ pieces) = shown view times index piece ++ shown_from view times (index + 1) pieces
 
--- what is shown of all pieces that have ended in a stream, over a buffer of n bytes
-abbrev pub shown_pieces : View → (ℕ → Moment) → ℕ → List ℕ → List ℕ
-shown_pieces view times n stream = shown_from view times 0 (all_ended stream n)
-
 -- that a piece has begun, by style
 abbrev pub unfinished_in : Style → List ℕ
 unfinished_in Hex = codes "unfinished\n"
@@ -127,9 +123,29 @@ unfinished_in Pcap = []
 abbrev pub shown_end : View → Bool → List ℕ
 shown_end view begun = if begun && view.filter.unfinished then unfinished_in view.style else []
 
--- what is shown of a stream that has come to its end
-abbrev pub shown_stream : View → (ℕ → Moment) → ℕ → List ℕ → List ℕ
-shown_stream view times n stream = shown_pieces view times n stream ++ shown_end view (is_nonempty (unended stream))
+-- that a line hung up, by style
+abbrev pub hung_up_in : Style → List ℕ
+hung_up_in Hex = codes "hung up\n"
+hung_up_in Text = codes "hung up\n"
+hung_up_in Raw = []
+hung_up_in Hexdump = codes "hung up\n"
+hung_up_in Json = codes "{\"kind\":\"hung-up\"}\n"
+hung_up_in Bytes = []
+hung_up_in Pcap = []
+
+-- what is shown after the stream of a line that hung up: whether a piece has begun, which the hang-up doesn't end, and the hang-up
+abbrev pub shown_hang_up : View → Bool → List ℕ
+shown_hang_up view begun = shown_end view begun ++ (if view.filter.unfinished then hung_up_in view.style else [])
+
+-- the outcomes of the pieces that have ended in streams, over a buffer of n bytes
+abbrev pub outcomes_of : List (List ℕ) → ℕ → List Outcome
+outcomes_of [] n = []
+outcomes_of (t ∷ ts) n = stream_outcomes t n ++ outcomes_of ts n
+
+-- what is shown of the streams of lines that hung up, whose pieces this many others have gone before
+abbrev pub shown_gone : View → (ℕ → Moment) → (n index : ℕ) → List (List ℕ) → List ℕ
+shown_gone view times n index [] = []
+shown_gone view times n index (t ∷ ts) = shown_from view times index (all_ended t n) ++ (shown_hang_up view (is_nonempty (unended t)) ++ shown_gone view times n (index + length (stream_outcomes t n)) ts)
 
 -- the text of how much came; where messages are to end with checksums, how many were wrong too
 abbrev pub tally_text : Tally → List ℕ

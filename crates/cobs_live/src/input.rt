@@ -1,12 +1,23 @@
 //! Inputs that are read beside an output.
 ghost use Rattle.std.specs.Prelude.{◌≡◌, ◌+◌, ◌++◌, List, Option, ℕ, IfOk, OnOk, IfSome, vec_len};
-ghost use Rattle.std.specs.Io.{ReadsAtMost, StopsAt, appended_bytes};
+ghost use Rattle.std.specs.Prelude.{length};
+ghost use Rattle.std.specs.Io.{StopsAt, appended_bytes};
 ghost use Rattle.std.specs.Io.BufRead.{take_through, DropsThrough};
 ghost use Rattle.std.specs.Io.Buffered.{writer_buffer, writer_inner};
-ghost use Rattle.std.specs.Io.KnownBytes.{Consumes, IsAtEnd, ReadConsumes};
-ghost use Rattle.cobs_live.specs.Reads.{Read as ReadEvent, given};
+ghost use Rattle.std.specs.Io.KnownBytes.{Consumes, IsAtEnd};
+ghost use Rattle.cobs_live.specs.Reads.{Read as ReadEvent, ReadTakes, given};
 
 use std::io::{self, BufRead, BufWriter, Read, Write};
+
+/// The result of a read.
+#[derive(Debug, PartialEq, Eq, Clone, Copy)]
+pub enum Came {
+    /// This many bytes came. 0 is the end of the input.
+    Bytes(usize),
+
+    /// The line hung up. Later reads give the bytes of its next connection.
+    HungUp,
+}
 
 /// An input that is read while an output waits.
 ///
@@ -17,12 +28,12 @@ pub trait LiveInput<W: Write + Drop> {
     ghost remaining: { Self → Option (List ℕ) };
 
     /// Whether this read may take the input from the one state to the other.
-    ghost step: { Self → ReadEvent → Self → Type 0 };
+    ghost step: { Self → ReadEvent (Option ℕ) → Self → Type 0 };
 
-    /// Reads once, as `Read::read` does.
-    fn read_beside(&mut self, output: &BufWriter<W>, chunk: &mut [u8]) -> io::Result<usize>
-        ensures bound { ReadsAtMost result chunk.new }
-        ensures bytes { ReadConsumes (remaining self.old) (remaining self.new) result chunk.new }
+    /// Reads once, as `Read::read` does, or says that the line hung up.
+    fn read_beside(&mut self, output: &BufWriter<W>, chunk: &mut [u8]) -> io::Result<Came>
+        ensures len { length chunk.new ≡ length chunk.old }
+        ensures bytes { ReadTakes (remaining self.old) (remaining self.new) result chunk.new }
         ensures step { step self.old (record {
           back = writer_buffer output.now;
           written = W.contents (writer_inner output.now);
@@ -36,7 +47,7 @@ pub trait LiveLines<W: Write + Drop> {
     ghost remaining: { Self → Option (List ℕ) };
 
     /// Whether this read may take the input from the one state to the other.
-    ghost step: { Self → ReadEvent → Self → Type 0 };
+    ghost step: { Self → ReadEvent ℕ → Self → Type 0 };
 
     /// Reads through the next newline, or to the end, and puts the bytes behind those of `line`, as `BufRead::read_until` does.
     fn read_line_beside(&mut self, output: &BufWriter<W>, line: &mut Vec<u8>) -> io::Result<usize>
@@ -55,7 +66,7 @@ pub trait LiveLines<W: Write + Drop> {
         }) self.new };
 }
 
-/// Any reader as an input: a read is one of the reader's own, whatever the output holds.
+/// Any reader as an input that never hangs up.
 #[derive(Drop)]
 pub struct AnyInput<R> {
     reader: R,
@@ -74,15 +85,17 @@ impl<R> AnyInput<R> {
 }
 
 impl<R: Read, W: Write + Drop> LiveInput<W> for AnyInput<R> {
-    ghost use Rattle.std.specs.Io.KnownBytes.{Consumes};
-    ghost use Rattle.cobs_live.specs.Reads.{reader_of};
+    ghost use Rattle.cobs_live.specs.Reads.{GivesBytes, reader_of};
 
     ghost remaining = { λ input. R.remaining (reader_of input) };
 
-    ghost step = { λ from read to. Consumes (R.remaining (reader_of from)) (R.remaining (reader_of to)) read.came };
+    ghost step = { λ from read to. GivesBytes (R.remaining (reader_of from)) (R.remaining (reader_of to)) read.came };
 
-    fn read_beside(&mut self, _output: &BufWriter<W>, chunk: &mut [u8]) -> io::Result<usize> {
-        self.reader.read(chunk)
+    fn read_beside(&mut self, _output: &BufWriter<W>, chunk: &mut [u8]) -> io::Result<Came> {
+        match self.reader.read(chunk) {
+            Ok(count) => Ok(Came::Bytes(count)),
+            Err(error) => Err(error),
+        }
     }
 }
 

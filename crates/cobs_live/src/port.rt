@@ -1,7 +1,8 @@
 //! Readers and writers that wait, that are opened again, that note why they fail, and that are written twice.
 
+use crate::input::{Came, LiveInput};
 use std::cell::Cell;
-use std::io::{self, ErrorKind, Read, Write};
+use std::io::{self, BufWriter, ErrorKind, Read, Write};
 use std::rt::Clock;
 use std::thread;
 use std::time::Duration;
@@ -98,38 +99,33 @@ pub trait Opener<R> {
     fn open(&self) -> io::Result<R>;
 }
 
-/// A line that is opened again where it hung up: where it ended, or a read of it failed. For a hang-up it gives a sentinel,
-/// so that a piece that was cut off ends there, and doesn't go on in the bytes of the next connection.
+/// A line that is opened again each time that it hung up: that it ended, or a read of it failed.
 #[derive(Drop)]
 pub struct Reopened<C, O, R> {
     clock: C,
     opener: O,
-    sentinel: u8,
 
     /// The line, while it is open.
     line: Option<R>,
 }
 
 impl<C: Clock + Drop, O: Opener<R> + Drop, R: Read + Drop> Reopened<C, O, R> {
-    ghost use Rattle.std.specs.Prelude.{◌≡◌, IsSome, Some};
+    ghost use Rattle.std.specs.Prelude.{◌≡◌, IsSome};
 
-    /// This line, which is open.
-    pub fn new(clock: C, opener: O, sentinel: u8, line: R) -> Self
-        ensures line { result.line ≡ Some line }
-        ensures sentinel { result.sentinel ≡ sentinel }
+    /// Makes an input of this line, if it is open already.
+    pub fn new(clock: C, opener: O, line: Option<R>) -> Self
+        ensures line { result.line ≡ line }
     {
         Reopened {
             clock,
             opener,
-            sentinel,
-            line: Some(line),
+            line,
         }
     }
 
     /// Waits until the line is open.
     fn wait(&mut self)
         ensures stays { IsSome self.old.line → self.new.line ≡ self.old.line }
-        ensures sentinel { self.new.sentinel ≡ self.old.sentinel }
     {
         'by_try: for _again in 0..usize::MAX {
             if self.line.is_some() {
@@ -141,30 +137,30 @@ impl<C: Clock + Drop, O: Opener<R> + Drop, R: Read + Drop> Reopened<C, O, R> {
     }
 }
 
-impl<C: Clock + Drop, O: Opener<R> + Drop, R: Read + Drop> Read for Reopened<C, O, R> {
-    ghost use Rattle.std.specs.Prelude.{IfOk, None, take};
-    ghost use Rattle.std.specs.Io.{ReadsAtMost};
+impl<C: Clock + Drop, O: Opener<R> + Drop, R: Read + Drop, W: Write + Drop> LiveInput<W>
+    for Reopened<C, O, R> {
+    ghost use Rattle.std.specs.Prelude.{None};
     ghost use Rattle.cobs_live.specs.Ports.{GivesNext};
 
     ghost remaining = { λ _. None };
 
-    /// Reads from the line, or gives a sentinel where it hangs up.
-    fn read(&mut self, buf: &mut [u8]) -> io::Result<usize>
-        ensures bound { ReadsAtMost result buf.new }
-        ensures gives { IfOk result
-            (λ count. GivesNext R.remaining self.old.sentinel self.old.line self.new.line (take count buf.new)) }
-    {
+    ghost step = { λ from read to. GivesNext R.remaining from.line to.line read.came };
+
+    /// Waits until the line is open, and reads from it, or says that it hung up.
+    fn read_beside(&mut self, _output: &BufWriter<W>, chunk: &mut [u8]) -> io::Result<Came> {
         self.wait();
         let Some(line) = &mut self.line else {
             return Err(ErrorKind::NotConnected.into());
         };
-        let given = line.read(buf);
-        if buf.is_empty() || !is_hang_up(&given) {
-            return given;
+        let given = line.read(chunk);
+        if !chunk.is_empty() && is_hang_up(&given) {
+            self.line = None;
+            return Ok(Came::HungUp);
         }
-        self.line = None;
-        buf[0] = self.sentinel;
-        Ok(1)
+        match given {
+            Ok(count) => Ok(Came::Bytes(count)),
+            Err(error) => Err(error),
+        }
     }
 }
 

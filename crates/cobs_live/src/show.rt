@@ -1,6 +1,6 @@
 //! Showing a stream as it comes.
-ghost use Rattle.std.specs.Prelude.{◌≡◌, ◌≢◌, ◌≤◌, ◌<◌, ◌↔◌, ℕ, List, [], length, take, OnOk, IfOk, IfErr, IsTrue, Option, Ok, Err, false};
-ghost use Rattle.std.specs.Io.KnownBytes.{Consumes, IsAtEnd, Keeps};
+ghost use Rattle.std.specs.Prelude.{◌≡◌, ◌≢◌, ◌<◌, ◌↔◌, ℕ, List, [], length, take, OnOk, IfOk, IfErr, IsTrue, Option, Ok, Err, false};
+ghost use Rattle.std.specs.Io.KnownBytes.{Keeps};
 ghost use Rattle.std.specs.Io.Buffered.{writer_buffer, writer_inner};
 ghost use Rattle.cobs.specs.Feed.{DecoderAfter, Idle};
 ghost use Rattle.cobs.specs.Fields.Decoders.{phase_at, phase_of};
@@ -10,14 +10,14 @@ ghost use Rattle.cobs_live.specs.Counted.{IsTallyOf};
 ghost use Rattle.cobs_live.specs.declared.clock.Moment.{Moment};
 ghost use Rattle.cobs_live.specs.declared.shown.Settings.{Settings};
 ghost use Rattle.cobs_live.specs.Live.{HoldsText, ShowsBytes};
-ghost use Rattle.cobs_live.specs.Reads.{IsLive, ReadsOnce, given};
+ghost use Rattle.cobs_live.specs.Reads.{IsLive, ReadsOnce, Takes, given};
 ghost use Rattle.cobs_live.specs.Timed.{IsReadAt};
 ghost use Rattle.cobs_live.specs.Watched.{HasShown, IsFlushed, begun, skips_on};
 
 use crate::clock::{Timer, Times};
 use crate::fault::WatchFault;
-use crate::input::LiveInput;
-use crate::shown::{Settings, View, show_end, show_piece, sight_of, with_part};
+use crate::input::{Came, LiveInput};
+use crate::shown::{Settings, View, show_end, show_hang_up, show_piece, sight_of, with_part};
 use crate::tally::{Counting, Tally};
 use cobs::laws::{law_6, law_9, law_12};
 use cobs::{DecoderPhase, UnbufferedDecoder};
@@ -28,7 +28,9 @@ use std::rt::Clock;
 /// How many bytes are read at once, 64 KiB. What a read gives less is shown at once.
 pub const CHUNK_LEN: usize = 65_536;
 
-/// Shows each piece of the input as its sentinel comes, and at the end of the input whether a piece has begun.
+/// Shows each piece of the input as its sentinel comes, and at the end of the input whether a piece has begun. A hang-up of
+/// the line ends no piece: it is shown, and before it whether one has begun, and the bytes that follow are skipped up to the
+/// first sentinel.
 ///
 /// This is one [`Watch::show_next`] after another: each reads once, and before it the output has been flushed. So
 /// whatever has ended in the bytes that came has left the program while the next ones are waited for. Memory is
@@ -97,7 +99,7 @@ pub struct Watch<'a> {
 }
 
 impl<'a> Watch<'a> {
-    ghost use Rattle.cobs_live.specs.Live.{HasShownSoFar, HoldsText, IsLiveSoFar, ShowsNext};
+    ghost use Rattle.cobs_live.specs.Live.{BeginsAnew, HasShownSoFar, HoldsText, IsLiveSoFar, ShowsHangUp, ShowsNext};
     ghost use Rattle.cobs_live.specs.Reads.{IsLive};
 
     /// Shows nothing yet.
@@ -121,7 +123,7 @@ impl<'a> Watch<'a> {
     }
 
     /// Reads once into `chunk`, shows each piece that ended in the bytes that came, flushes the output, and returns whether
-    /// the input goes on. At its end, shows whether a piece has begun that no sentinel ended.
+    /// the input goes on. At its end, shows whether a piece has begun that no sentinel ended; and if the line hung up, that too.
     ///
     /// Nothing is written before the read, and when it begins the output holds nothing back (`flushed`): what had ended
     /// has been shown. An interrupted read is tried again.
@@ -157,7 +159,11 @@ impl<'a> Watch<'a> {
         ensures len { length chunk.new ≡ length chunk.old }
     {
         law_9();
-        let count = read_chunk(input, output, chunk)?;
+        let came = read_chunk(input, output, chunk)?;
+        let Came::Bytes(count) = came else {
+            self.hang_up(output)?;
+            return Ok(true);
+        };
         if count == 0 {
             let unfinished = has_begun(self.decoder.phase());
             show_end(output, &self.settings.view, unfinished)?;
@@ -181,21 +187,36 @@ impl<'a> Watch<'a> {
         output.flush()?;
         Ok(true)
     }
+
+    /// Shows that the line hung up, and before it whether a piece has begun, which has no end. The bytes of the next
+    /// connection are skipped up to its first sentinel: it may begin in the middle of a frame.
+    fn hang_up<W: Write + Drop>(&mut self, output: &mut BufWriter<W>) -> Result<(), WatchFault>
+        requires flushed { writer_buffer output.old ≡ [] }
+        ensures shown { OnOk result (ShowsHangUp (phase_of self.old.decoder) self.old.settings.now.view
+            (W.contents (writer_inner output.old)) (W.contents (writer_inner output.new))) }
+        ensures anew { OnOk result (BeginsAnew self.old self.new) }
+        ensures flushed { IsFlushed result (writer_buffer output.new) }
+        ensures fault { IfErr result
+            (λ fault. (fault ≢ WatchFault.ReadFailed) × (fault ≢ WatchFault.OutOfMemory)) }
+    {
+        let unfinished = has_begun(self.decoder.phase());
+        show_hang_up(output, &self.settings.view, unfinished)?;
+        output.flush()?;
+        self.decoder.reset();
+        self.skipping = true;
+        Ok(())
+    }
 }
 
-/// Reads once into the chunk, and again if the read was interrupted, and returns how many bytes came, 0 at the end of the
-/// input. Every read of a run is made here, where the output holds nothing back.
+/// Reads once into the chunk, and again if the read was interrupted, and returns what came. Every read of a run is made here,
+/// where the output holds nothing back.
 fn read_chunk<S: LiveInput<W>, W: Write + Drop>(
     input: &mut S,
     output: &BufWriter<W>,
     chunk: &mut [u8],
-) -> Result<usize, WatchFault>
+) -> Result<Came, WatchFault>
     requires flushed { writer_buffer output.now ≡ [] }
-    ensures within { IfOk result (λ n. n ≤ length chunk.new) }
-    ensures read { IfOk result
-        (λ n. Consumes (S.remaining input.old) (S.remaining input.new) (take n chunk.new)) }
-    ensures end { IfOk result
-        (λ n. n ≡ 0 → 0 < length chunk.old → IsAtEnd (S.remaining input.new)) }
+    ensures takes { IfOk result (λ came. Takes (S.remaining input.old) (S.remaining input.new) came chunk.new) }
     ensures failed { IfErr result (λ fault. (fault ≡ WatchFault.ReadFailed)
         × Keeps (S.remaining input.old) (S.remaining input.new)) }
     ensures once { ReadsOnce S.step input.old input.new (W.contents (writer_inner output.now))
@@ -204,7 +225,7 @@ fn read_chunk<S: LiveInput<W>, W: Write + Drop>(
 {
     'by_try: for _again in 0..usize::MAX {
         match input.read_beside(output, chunk) {
-            Ok(count) => return Ok(count),
+            Ok(came) => return Ok(came),
             Err(error) => {
                 if error.kind() != ErrorKind::Interrupted {
                     return Err(WatchFault::ReadFailed);

@@ -1,12 +1,12 @@
 //! What is shown of a stream, and in which style.
-ghost use Rattle.std.specs.Prelude.{◌≡◌, OnOk, length, List, ℕ, Some};
+ghost use Rattle.std.specs.Prelude.{◌≡◌, OnOk, length, List, [], ℕ, Some, if◌then◌else◌};
 ghost use Rattle.std.specs.Io.KnownBytes.{Appends};
 ghost use Rattle.cobs.specs.FeedPiece.{IsWithin, outcome_at};
 ghost use Rattle.cobs_live.specs.Checksum.{with_sum};
 ghost use Rattle.cobs_live.specs.declared.checksum.Checksum.{Checksum};
 ghost use Rattle.cobs_live.specs.declared.seen.Kind.TheVariants.{Message};
 ghost use Rattle.cobs_live.specs.Seen.{held, seen_in, seen_message, seen_of, whole, with_part};
-ghost use Rattle.cobs_live.specs.Shown.{has_kind, in_front, in_view, passes, shown_end};
+ghost use Rattle.cobs_live.specs.Shown.{has_kind, hung_up_in, in_front, in_view, passes, shown_end, shown_hang_up};
 
 use crate::checksum::Checksum;
 use crate::clock::{Stamp, Times};
@@ -55,7 +55,7 @@ pub struct Filter {
     /// Whether messages with a wrong checksum are shown.
     pub bad_crc: bool,
 
-    /// Whether it is shown that a piece has begun that no sentinel ended.
+    /// Whether it is shown that a piece has begun that no sentinel ended, and that the line hung up.
     pub unfinished: bool,
 
     /// The least and the greatest number of bytes that a piece decodes to, if it is shown. A piece that is too long is
@@ -104,7 +104,8 @@ pub struct Settings {
     /// The byte that ends each frame.
     pub sentinel: u8,
 
-    /// Whether all bytes up to the first sentinel are skipped: the reader may have come in the middle of a frame.
+    /// Whether all bytes up to the first sentinel are skipped: the reader may have come in the middle of a frame. After a
+    /// hang-up they always are.
     pub skip_first: bool,
 }
 
@@ -247,6 +248,30 @@ pub fn show_end<W: Write>(output: &mut W, view: &View, unfinished: bool) -> io::
     match view.style {
         Style::Hex | Style::Text | Style::Hexdump => output.write_all(b"unfinished\n"),
         Style::Json => output.write_all(b"{\"kind\":\"unfinished\"}\n"),
+        Style::Raw | Style::Bytes | Style::Pcap => Ok(()),
+    }
+}
+
+/// Shows that a line hung up, given whether a piece has begun that no zero ended.
+pub fn show_hang_up<W: Write>(output: &mut W, view: &View, unfinished: bool) -> io::Result<()>
+    ensures shown { OnOk result (Appends (W.contents output.old) (W.contents output.new)
+        (shown_hang_up view.now unfinished)) }
+{
+    show_end(output, view, unfinished)?;
+    write_hung_up(output, view)
+}
+
+/// Writes that a line hung up.
+fn write_hung_up<W: Write>(output: &mut W, view: &View) -> io::Result<()>
+    ensures written { OnOk result (Appends (W.contents output.old) (W.contents output.new)
+        (if view.now.filter.unfinished then hung_up_in view.now.style else [])) }
+{
+    if !view.filter.unfinished {
+        return Ok(());
+    }
+    match view.style {
+        Style::Hex | Style::Text | Style::Hexdump => output.write_all(b"hung up\n"),
+        Style::Json => output.write_all(b"{\"kind\":\"hung-up\"}\n"),
         Style::Raw | Style::Bytes | Style::Pcap => Ok(()),
     }
 }

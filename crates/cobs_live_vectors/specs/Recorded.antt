@@ -6,6 +6,6 @@ abbrev pub len_of : Option (List ℕ) → ℕ
 len_of (Some bytes) = length bytes
 len_of None = 0
 
--- nothing was read, or at the last read what was written was right for the bytes that the earlier ones gave, and this long
-abbrev pub IsRightAtLast : {S : Type 0} → S → S → ℕ → (List (List ℕ) → Option (List ℕ) → Type 0) → Type 0
-IsRightAtLast from to len IsRight = (to ≡ from) ⊎ ((gone : List (List ℕ)) × (held : Option (List ℕ)) × IsRight gone held × (len ≡ len_of held))
+-- nothing was read, or at the last read what was written was right for what the earlier ones gave, and this long
+abbrev pub IsRightAtLast : {S A : Type 0} → S → S → ℕ → (List (List A) → Option (List ℕ) → Type 0) → Type 0
+IsRightAtLast {A = A} from to len IsRight = (to ≡ from) ⊎ ((gone : List (List A)) × (held : Option (List ℕ)) × IsRight gone held × (len ≡ len_of held))

@@ -7,7 +7,7 @@ ghost use Rattle.cobs_live_vectors.specs.Recorded.{IsRightAtLast, len_of};
 
 use cobs_live::clock::Timer;
 use cobs_live::fault::WatchFault;
-use cobs_live::input::{LiveInput, LiveLines};
+use cobs_live::input::{Came, LiveInput, LiveLines};
 use cobs_live::send::{self, run_send};
 use cobs_live::show::run_show;
 use cobs_live::shown::Settings;
@@ -30,9 +30,12 @@ impl LiveInput<Vec<u8>> for Recorder<'_> {
 
     ghost step = { λ from read to. to.written ≡ len_of read.written };
 
-    fn read_beside(&mut self, output: &BufWriter<Vec<u8>>, chunk: &mut [u8]) -> io::Result<usize> {
+    fn read_beside(&mut self, output: &BufWriter<Vec<u8>>, chunk: &mut [u8]) -> io::Result<Came> {
         self.written = output.get_ref().len();
-        self.bytes.read(chunk)
+        match self.bytes.read(chunk) {
+            Ok(count) => Ok(Came::Bytes(count)),
+            Err(error) => Err(error),
+        }
     }
 }
 

@@ -206,13 +206,14 @@ fn timer(stamp: Stamp) -> io::Result<Timer<'static, StepClock>> {
 }
 
 fn timer_in(stamp: Stamp, zone: TimeZone<'_>) -> io::Result<Timer<'_, StepClock>> {
-    Timer::new(
-        StepClock {
-            readings: Cell::new(3),
-        },
-        stamp,
-        zone,
-    )
+    Timer::new(clock(), stamp, zone)
+}
+
+/// Sleeps for no time, and is 250 ms later at each reading.
+fn clock() -> StepClock {
+    StepClock {
+        readings: Cell::new(3),
+    }
 }
 
 fn reader(bytes: &[u8], failing: usize, fault: ErrorKind) -> ByteReader<'_> {

@@ -3,7 +3,7 @@ ghost use Rattle.std.specs.Prelude.{[], ◌∷◌};
 ghost use Rattle.cobs_abi.specs.Stream.{DecodesNext, IsFreshDecoder, ReportsIdle};
 
 use cobs::UnbufferedDecoder;
-use cobs_abi::{Answer, Decoder, decode_each};
+use cobs_abi::{Answer, Decoder, decode_byte, decode_each};
 
 /// Makes the decoder one that has taken nothing, even if its state is corrupt.
 #[unsafe(no_mangle)]
@@ -41,5 +41,5 @@ pub extern "C" fn jcobs_decoder_feed(decoder: &mut Decoder, buffer: &mut [u8], b
     ensures decodes { DecodesNext decoder.old buffer.old (byte ∷ []) result
         decoder.new buffer.new }
 {
-    jcobs_decoder_push(decoder, buffer, &[byte])
+    decode_byte(decoder, buffer, byte)
 }

@@ -3,10 +3,8 @@ ghost use Rattle.std.specs.Prelude.{◌≡◌, ◌≤◌, ◌<◌, ◌^◌};
 ghost use Rattle.cobs.specs.Length.{max_encoded_len};
 ghost use Rattle.cobs_abi.specs.Encode.{Encodes, EncodesInPlace, EncodesTerminated};
 
-use crate::encoder::{jcobs_encoder_finish, jcobs_encoder_push};
-use cobs::laws::{law_13, law_16};
 use cobs::max_encoding_overhead;
-use cobs_abi::{Answer, ENCODER_START, OK, done, encode_within, too_small};
+use cobs_abi::{Answer, OK, done, encode_message, encode_within, too_small};
 
 /// Returns how many bytes the longest frame of a message of `message_len` bytes has, or 0 if that number doesn't fit.
 #[unsafe(no_mangle)]
@@ -24,18 +22,7 @@ pub extern "C" fn jcobs_max_length(message_len: usize) -> usize
 pub extern "C" fn jcobs_encode(message: &[u8], frame: &mut [u8]) -> Answer
     ensures encodes { Encodes message.now frame.old result frame.new }
 {
-    law_13();
-    law_16();
-    if frame.is_empty() {
-        return too_small();
-    }
-    let mut encoder = ENCODER_START;
-    let pushed = jcobs_encoder_push(&mut encoder, frame, message);
-    if pushed.status != OK {
-        return pushed;
-    }
-    let finished = jcobs_encoder_finish(&mut encoder, frame);
-    done(message.len(), finished.length)
+    encode_message(message, frame)
 }
 
 /// Writes the frame of the message and a zero after it to the front of the buffer `frame`, if both fit. Otherwise nothing

@@ -4,7 +4,7 @@ ghost use Rattle.cobs_abi.specs.Frames.{IsFrameOnWire, IsTerminatedFrame};
 ghost use Rattle.cobs_abi.specs.Stream.{EncodesNext, Finishes, IsFreshEncoder};
 
 use cobs::UnbufferedEncoder;
-use cobs_abi::{Answer, Encoder, encode_each, finish, finish_terminated};
+use cobs_abi::{Answer, Encoder, encode_byte, encode_each, finish, finish_terminated};
 
 /// Makes the encoder one that has taken nothing, even if its state is corrupt.
 #[unsafe(no_mangle)]
@@ -34,7 +34,7 @@ pub extern "C" fn jcobs_encoder_feed(encoder: &mut Encoder, buffer: &mut [u8], b
     ensures encodes { EncodesNext encoder.old buffer.old (byte ∷ []) result
         encoder.new buffer.new }
 {
-    jcobs_encoder_push(encoder, buffer, &[byte])
+    encode_byte(encoder, buffer, byte)
 }
 
 /// Ends the message, if its frame fits the buffer. Even if the state is corrupt, the buffer keeps its length, and the

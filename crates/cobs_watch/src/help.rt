@@ -12,7 +12,7 @@ pub(crate) fn of(name: &str) -> &'static str {
         "number" => "Begin each line with its piece's number; pieces that aren't shown count too",
         "partial" => "Show what was decoded of broken and too long pieces, behind the word partial",
         "time" => "Begin each line with its time: since the start, since the last piece, or a date",
-        "color" => "Colour each kind of piece; auto: on a terminal, without NO_COLOR and TERM=dumb",
+        "color" => "Colour each kind of piece; auto: on a terminal, without NO_COLOR or a log",
         "only" => "Show pieces of this kind, or of these with commas between them",
         "min" => "Show pieces of at least N decoded bytes",
         "max" => "Show pieces of at most N decoded bytes",
@@ -21,11 +21,11 @@ pub(crate) fn of(name: &str) -> &'static str {
         "crc-order" => "Its first byte: highest or lowest; without this lowest if it is reflected",
         "length" => "The longest message, in bytes",
         "sentinel" => "The byte that ends each frame",
-        "skip-first" => "Skip all bytes up to the first sentinel, the end of a begun frame",
-        "count" => "At the end, also at a fault, count pieces and bytes on standard error",
+        "skip-first" => "Skip all bytes up to the first sentinel, as after each hang-up",
+        "count" => "At the end, not at Ctrl-C, count pieces and bytes on standard error",
         "count-every" => "Count so far, each time that bytes come SECONDS after the last count",
-        "path" => "The device, FIFO or file that is shown, in place of standard input",
-        "reconnect" => "After a hang-up of the device or FIFO, wait and open it again",
+        "path" => "The device, FIFO or file that is shown; - or none is standard input",
+        "reconnect" => "Wait for the path, and open it again after a hang-up; no stty is run",
         "log" => "Append what is shown to this file too",
         "hex" => "Each line is the hexadecimal digits of a message",
         _ => "",
@@ -39,6 +39,7 @@ pub(crate) const SHOW_EXAMPLES: &str = "Examples:
   cobs_watch --crc crc-16-modbus --only bad-crc --hexdump < /dev/ttyUSB0
 
 Set a serial line first: stty -F /dev/ttyUSB0 raw -echo 115200
+A device that is unplugged needs that each time: the manual has a loop for it.
 A second program sends while the first one shows: cobs_watch send > /dev/ttyUSB0
 
 Checksums: crc-8, crc-16-ccitt-false, crc-16-modbus, crc-16-xmodem, crc-16-kermit,

@@ -21,13 +21,13 @@ use clap::error::ErrorKind as CommandErrorKind;
 use cobs_live::capture::write_capture_head;
 use cobs_live::clock::Timer;
 use cobs_live::fault::WatchFault;
-use cobs_live::input::AnyInput;
+use cobs_live::input::{AnyInput, LiveInput};
 use cobs_live::port::{Logged, Opener, Port, Reopened};
 use cobs_live::send::{self, run_send};
 use cobs_live::show::run_show;
 use cobs_live::shown::Style;
 use jiff_tz::{SystemTimeZone, TimeZone, TimeZoneDatabase};
-use options::{ShowTask, Task, task_of};
+use options::{STDIN, ShowTask, Task, task_of};
 use std::alloc::AllocError;
 use std::cell::Cell;
 use std::env::{self, VarError};
@@ -115,7 +115,7 @@ fn auto_color(rt: &HostRuntime) -> bool {
     };
     let dumb = match env::var(rt, "TERM") {
         Ok(value) => value.as_str() == "dumb",
-        Err(_) => false,
+        Err(error) => error == VarError::NotPresent,
     };
     !no_color && !dumb && rt.stdout().is_terminal()
 }
@@ -167,14 +167,22 @@ fn show(rt: &HostRuntime, task: &ShowTask<'_>, zone: TimeZone<'_>) -> anyhow::Re
         return Ok(show_faulted(rt, task, error.into(), &reasons));
     }
     match &task.path {
-        None => show_input(rt, task, zone, rt.stdin(), &reasons, &mut output),
+        None => show_reader(rt, task, zone, rt.stdin(), &reasons, &mut output),
+        Some(path) if *path == STDIN => {
+            show_reader(rt, task, zone, rt.stdin(), &reasons, &mut output)
+        }
+        Some(path) if task.reconnect => {
+            let device = Device {
+                rt,
+                path,
+                reason: &reasons.stream,
+            };
+            let line = first_line(rt, &device);
+            let mut input = Reopened::new(rt, device, line);
+            show_input(rt, task, zone, &mut input, &reasons, &mut output)
+        }
         Some(path) => match File::open(rt, path) {
-            Ok(file) if task.reconnect => {
-                let sentinel = task.settings.sentinel;
-                let line = Reopened::new(rt, Device { rt, path }, sentinel, file);
-                show_input(rt, task, zone, line, &reasons, &mut output)
-            }
-            Ok(file) => show_input(rt, task, zone, file, &reasons, &mut output),
+            Ok(file) => show_reader(rt, task, zone, file, &reasons, &mut output),
             Err(error) => Ok(not_opened(rt, path, &error)),
         },
     }
@@ -192,11 +200,27 @@ fn open_log(rt: &HostRuntime, path: &str) -> io::Result<File> {
 struct Device<'a> {
     rt: &'a HostRuntime,
     path: &'a str,
+    reason: &'a Reason,
 }
 
-impl Opener<File> for Device<'_> {
-    fn open(&self) -> io::Result<File> {
-        File::open(self.rt, self.path)
+/// A device or FIFO that is open.
+type Line<'a> = Port<'a, &'a HostRuntime, File>;
+
+impl<'a> Opener<Line<'a>> for Device<'a> {
+    fn open(&self) -> io::Result<Line<'a>> {
+        let file = File::open(self.rt, self.path)?;
+        Ok(Port::new(self.rt, file, self.reason))
+    }
+}
+
+/// Opens a line that is to be opened again after a hang-up. If it can't be opened yet, that is said, and it is waited for.
+fn first_line<'a>(rt: &HostRuntime, device: &Device<'a>) -> Option<Line<'a>> {
+    match device.open() {
+        Ok(line) => Some(line),
+        Err(error) => {
+            let _ = eprintln!(rt; "cobs_watch: {}: {error}: waiting for it", device.path);
+            None
+        }
     }
 }
 
@@ -213,11 +237,26 @@ fn begin<W: Write + Drop>(output: &mut BufWriter<W>, style: Style) -> io::Result
 }
 
 /// Shows what a reader gives, and returns the status.
-fn show_input<R: Read + Drop, W: Write + Drop>(
+fn show_reader<R: Read + Drop, W: Write + Drop>(
     rt: &HostRuntime,
     task: &ShowTask<'_>,
     zone: TimeZone<'_>,
-    input: R,
+    reader: R,
+    reasons: &Reasons,
+    output: &mut BufWriter<W>,
+) -> anyhow::Result<ExitCode>
+    requires flushed { writer_buffer output.old ≡ [] }
+{
+    let mut input = AnyInput::new(Port::new(rt, reader, &reasons.stream));
+    show_input(rt, task, zone, &mut input, reasons, output)
+}
+
+/// Shows what an input gives, and returns the status.
+fn show_input<S: LiveInput<W>, W: Write + Drop>(
+    rt: &HostRuntime,
+    task: &ShowTask<'_>,
+    zone: TimeZone<'_>,
+    input: &mut S,
     reasons: &Reasons,
     output: &mut BufWriter<W>,
 ) -> anyhow::Result<ExitCode>
@@ -229,7 +268,7 @@ fn show_input<R: Read + Drop, W: Write + Drop>(
         &task.settings,
         task.counting,
         &timer,
-        &mut AnyInput::new(Port::new(rt, input, &reasons.stream)),
+        input,
         output,
         &mut rt.stderr(),
     ) {
@@ -254,6 +293,10 @@ fn send(rt: &HostRuntime, settings: &send::Settings) -> anyhow::Result<ExitCode>
     ) {
         Ok(true) => Ok(ExitCode::SUCCESS),
         Ok(false) => Ok(ExitCode::FAILURE),
+        // A read that fails for the system's sake has a reason: memory ran out for a line.
+        Err(WatchFault::ReadFailed) if reason.get().is_none() => {
+            Ok(faulted(rt, WatchFault::OutOfMemory, None))
+        }
         Err(fault) => Ok(faulted(rt, fault, reason.get())),
     }
 }

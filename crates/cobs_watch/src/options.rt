@@ -4,7 +4,7 @@ ghost use Rattle.clap.specs.Matches.{first_value, found_of};
 ghost use Rattle.cobs_watch.specs.Options.{HasPaths, IsOffered};
 
 use crate::help;
-use crate::values::{checksum_of, filter_of, number_of, sentinel_of};
+use crate::values::{checksum_of, filter_of, number_of, sentinel_of, wrong};
 use clap::{Arg, ArgAction, ArgMatches, Command, Error};
 use cobs_live::clock::Stamp;
 use cobs_live::send;
@@ -14,6 +14,9 @@ use std::alloc::{AllocError, Global};
 
 /// The length in bytes of the longest message that may be asked for, 16 MiB.
 const MAX_LENGTH: u64 = 16_777_216;
+
+/// The path that stands for standard input.
+pub(crate) const STDIN: &str = "-";
 
 /// The version of the release, that of the file VERSION.
 const VERSION: &str = "1.0.0";
@@ -58,7 +61,9 @@ pub(crate) fn task_of<'a>(
 ) -> Result<Task<'a>, Error>
     ensures offered { IfOk result IsOffered }
 {
-    let show = Command::new(alloc, "show").about("Show the frames that come on standard input");
+    let show = Command::new(alloc, "show").about(
+        "Show the frames of a line that has a path, or of standard input",
+    );
     let show = with_show_options(alloc, show)?;
     let send = Command::new(alloc, "send")
         .about("Send each line of standard input as a frame")
@@ -202,6 +207,38 @@ fn stamp_of(matches: &ArgMatches<'_>) -> Stamp {
     }
 }
 
+/// Whether lines have colours. Beside a log they have none, since it gets the same bytes.
+///
+/// # Errors
+/// An error if colours were asked for, and a log.
+fn color_of(alloc: Global, matches: &ArgMatches<'_>, auto_color: bool) -> Result<bool, Error> {
+    let color = matches.get_str("color");
+    if matches.get_str("log").is_none() {
+        return Ok(color == Some("always") || auto_color && color != Some("never"));
+    }
+    if color == Some("always") {
+        return wrong(
+            alloc,
+            "a log has no colours: '--color always' can't be used with '--log <FILE>'",
+        );
+    }
+    Ok(false)
+}
+
+/// Whether the line is opened again after a hang-up.
+///
+/// # Errors
+/// An error if it is standard input, which can't be.
+fn reconnect_of(alloc: Global, matches: &ArgMatches<'_>) -> Result<bool, Error> {
+    if matches.get_flag("reconnect") && matches.get_str("path") == Some(STDIN) {
+        return wrong(
+            alloc,
+            "'--reconnect' needs a path that can be opened again, and '-' is standard input",
+        );
+    }
+    Ok(matches.get_flag("reconnect"))
+}
+
 /// The task of showing a stream, by its options.
 fn show_task<'a>(
     alloc: Global,
@@ -213,13 +250,12 @@ fn show_task<'a>(
         (first_value (found_of matches.now) (codes "log"))) }
 {
     let length = number_of(alloc, matches, "length", MAX_LENGTH)?.unwrap_or(0);
-    let color = matches.get_str("color");
     let every = number_of(alloc, matches, "count-every", u32::MAX.into())?;
     Ok(Task::Show(ShowTask {
         settings: Settings {
             view: View {
                 style: style_of(matches),
-                color: color == Some("always") || auto_color && color != Some("never"),
+                color: color_of(alloc, matches, auto_color)?,
                 number: matches.get_flag("number"),
                 stamp: stamp_of(matches),
                 filter: filter_of(alloc, matches)?,
@@ -236,7 +272,7 @@ fn show_task<'a>(
         },
         local: matches.get_str("time") == Some("local"),
         path: matches.get_str("path"),
-        reconnect: matches.get_flag("reconnect"),
+        reconnect: reconnect_of(alloc, matches)?,
         log: matches.get_str("log"),
     }))
 }

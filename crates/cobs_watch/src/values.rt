@@ -72,6 +72,10 @@ pub(crate) fn checksum_of(
     Ok(Some(Checksum::new(params, little)))
 }
 
+/// The names of checks.
+const NAMES: &str =
+    "crc-8, crc-16-ccitt-false, crc-16-modbus, crc-16-xmodem, crc-16-kermit, crc-16-arc, crc-32, crc-32c";
+
 /// The check that has this name.
 fn crc_of(name: &str) -> Option<Crc> {
     match name {
@@ -90,19 +94,20 @@ fn crc_of(name: &str) -> Option<Crc> {
 /// The parameters of a check as they are written, which are those of the catalogue.
 #[derive(Drop)]
 struct Written {
-    width: u64,
-    poly: u64,
-    init: u64,
-    xorout: u64,
+    width: Option<u64>,
+    poly: Option<u64>,
+    init: Option<u64>,
+    xorout: Option<u64>,
     reflected: bool,
 }
 
 impl Written {
-    /// Takes a parameter, as `poly=0x1021`, and returns whether it is one.
+    /// Takes a parameter, as `poly=0x1021`, and returns whether it is one that wasn't given before.
     fn take(&mut self, part: &str) -> bool {
         if part == "reflected" {
+            let first = !self.reflected;
             self.reflected = true;
-            return true;
+            return first;
         }
         let Some((name, value)) = part.split_once('=') else {
             return false;
@@ -111,13 +116,12 @@ impl Written {
             return false;
         };
         match name {
-            "width" => self.width = number,
-            "poly" => self.poly = number,
-            "init" => self.init = number,
-            "xorout" => self.xorout = number,
-            _ => return false,
+            "width" => self.width.replace(number).is_none(),
+            "poly" => self.poly.replace(number).is_none(),
+            "init" => self.init.replace(number).is_none(),
+            "xorout" => self.xorout.replace(number).is_none(),
+            _ => false,
         }
-        true
     }
 }
 
@@ -129,10 +133,10 @@ fn params_of(alloc: Global, text: &str) -> Result<Params, Error>
         return Ok(crc.params());
     }
     let mut written = Written {
-        width: 16,
-        poly: 0,
-        init: 0,
-        xorout: 0,
+        width: None,
+        poly: None,
+        init: None,
+        xorout: None,
         reflected: false,
     };
     for part in text.split(',') {
@@ -140,7 +144,7 @@ fn params_of(alloc: Global, text: &str) -> Result<Params, Error>
             return wrong(
                 alloc,
                 &format!(in alloc;
-                    "'{part}' of '--crc' is neither the name of a checksum nor poly=N, width=N, init=N, xorout=N or reflected"
+                    "'{part}' of '--crc' is neither the name of a checksum ({NAMES}) nor poly=N, width=N, init=N, xorout=N or reflected, each given once"
                 )?,
             );
         }
@@ -158,7 +162,7 @@ fn params_of(alloc: Global, text: &str) -> Result<Params, Error>
 fn sized(written: &Written) -> Option<Params>
     ensures sized { IfSome result (λ params. (0 < params.size) × (params.size ≤ 4)) }
 {
-    let size: usize = match written.width {
+    let size: usize = match written.width.unwrap_or(16) {
         8 => 1,
         16 => 2,
         24 => 3,
@@ -166,9 +170,9 @@ fn sized(written: &Written) -> Option<Params>
         _ => return None,
     };
     let spare = 32 - 8 * size;
-    let poly = u32::try_from(written.poly).ok()?;
-    let init = u32::try_from(written.init).ok()?;
-    let xorout = u32::try_from(written.xorout).ok()?;
+    let poly = u32::try_from(written.poly.unwrap_or(0)).ok()?;
+    let init = u32::try_from(written.init.unwrap_or(0)).ok()?;
+    let xorout = u32::try_from(written.xorout.unwrap_or(0)).ok()?;
     let max = u32::MAX >> spare;
     if poly == 0 || poly > max || init > max || xorout > max {
         return None;
@@ -204,7 +208,9 @@ pub(crate) fn filter_of(alloc: Global, matches: &ArgMatches<'_>) -> Result<Filte
             "the value of '--min <N>' is above that of '--max <N>'",
         );
     }
-    let is_whole = min == 0 && max == u64::MAX && prefix.is_empty();
+    let is_whole = ["min", "max", "prefix"]
+        .iter()
+        .all(|name| matches.get_str(name).is_none());
     Ok(Filter {
         messages: kinds.is_empty() || kinds.contains(&"message"),
         broken: kinds.is_empty() || kinds.contains(&"broken"),

@@ -1,4 +1,5 @@
-/* How many instructions a byte each call takes in QEMU, beside plain.c; on an AVR in simavr, how many cycles. */
+/* How many instructions a byte each call takes in QEMU, beside plain.c, and a call for each byte; on an AVR in simavr, how many
+ * cycles. */
 #include "plain.h"
 
 #include <stdio.h>
@@ -82,6 +83,30 @@ static void plain_terminated(void)
     frame_len = plain_encode_terminated(message, sizeof message, frame, sizeof frame).length;
 }
 
+static void decode_bytes(void)
+{
+    size_t i;
+
+    for (i = 0; i < frame_len; i++) {
+        jcobs_answer fed = jcobs_decoder_feed(&decoder, decoded, sizeof decoded, frame[i]);
+
+        if (fed.status == JCOBS_OK)
+            frame_len = i;
+    }
+}
+static void push_bytes(void)
+{
+    size_t i;
+
+    for (i = 0; i < sizeof message; i++) {
+        jcobs_answer fed = jcobs_encoder_feed(&encoder, frame, sizeof frame, message[i]);
+
+        if (fed.status != JCOBS_OK)
+            return;
+    }
+    answer = jcobs_encoder_finish(&encoder, frame, sizeof frame);
+}
+
 static unsigned long ticks(void (*call)(void))
 {
     unsigned long before = now();
@@ -97,6 +122,13 @@ static void compare(const char *name, void (*call)(void), void (*plain)(void))
 
     printf("instructions %s %lu.%02lu plain %lu.%02lu percent %lu\n", name, mine / 100, mine % 100, theirs / 100,
            theirs % 100, mine * 100 / theirs);
+}
+
+static void count(const char *name, void (*call)(void))
+{
+    unsigned long mine = ticks(call) * EACH * 100 / LONG;
+
+    printf("feed %s %lu.%02lu\n", name, mine / 100, mine % 100);
 }
 
 int main(void)
@@ -117,6 +149,12 @@ int main(void)
         compare(name, decode, plain_decode);
         sprintf(name, "push-%s", kinds[kind]);
         compare(name, push, plain_push);
+        if (memcmp(message, decoded, sizeof message) != 0)
+            return 1;
+        memset(decoded, 0, sizeof decoded);
+        memset(frame, 0, sizeof frame);
+        count("encoder", push_bytes);
+        count("decoder", decode_bytes);
         if (memcmp(message, decoded, sizeof message) != 0)
             return 1;
     }

@@ -48,7 +48,7 @@ LIMITS = {
     ("archive", "Cortex-M4"): {
         "decoder": 450, "encoder": 700, "decoder and encode_terminated": 1000, "all": 2900, "stack": 96,
     },
-    ("archive", "Cortex-M0+"): {"stack": 96},
+    ("archive", "Cortex-M0+"): {"stack": 104},
     ("archive", "RV32IMAC"): {"stack": 96},
 }  # fmt: skip
 

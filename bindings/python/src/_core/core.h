@@ -13,6 +13,17 @@
 
 #include "jcobs.h"
 
+/* Reference counts are changed by calls. Headers before 3.12 do it inline, and know nothing of the objects that never
+ * die, which 3.12 shares between interpreters: with a GIL for each interpreter two of them would count at once. */
+#undef Py_INCREF
+#undef Py_DECREF
+#undef Py_XDECREF
+#undef Py_RETURN_NONE
+#define Py_INCREF(object) Py_IncRef((PyObject *)(object))
+#define Py_DECREF(object) Py_DecRef((PyObject *)(object))
+#define Py_XDECREF(object) Py_DecRef((PyObject *)(object)) /* which takes NULL */
+#define Py_RETURN_NONE return Py_IncRef(Py_None), Py_None
+
 /* From this length on a call releases the GIL. A shorter one takes a few microseconds. */
 #define LONG 32768
 
@@ -25,24 +36,25 @@
 #endif
 #define FAST(function) ((PyCFunction)(void (*)(void))(function))
 
-/* Of the old interface to buffers, which the stable ABI of 3.9 has alone. Headers from 3.13 on don't declare it. */
-PyAPI_FUNC(int) PyObject_AsWriteBuffer(PyObject *view, void **start, Py_ssize_t *len);
-
 /* Returns an argument as a bytes object. Bytes are taken as they are; anything else with a buffer is copied, so that
  * no other thread or process can change the bytes while a call reads them. */
 PyObject *bytes_of(PyObject *data, const char *name);
 
-/* Says where the bytes of a writable object are, and returns an object that keeps them there while no Python code runs,
- * or NULL with an error. */
-PyObject *writable_of(PyObject *data, const char *name, void **start, Py_ssize_t *len);
+/* The arguments of a call by name. The first one may be passed by its place too, and must be passed. */
+typedef struct {
+    const char *call;
+    Py_ssize_t count;
+    const char *names[3];
+} Signature;
 
-/* Raises TypeError unless a call has this many arguments. */
-int has_count(Py_ssize_t count, Py_ssize_t wanted);
+/* Sorts the arguments of a call into `found`, NULL for each one that isn't passed, or returns 0 with TypeError. */
+int arguments_of(const Signature *signature, PyObject *const *args, Py_ssize_t count, PyObject *names,
+                 PyObject **found);
 
 /* Returns the bytes of a bytes object, for libjcobs. */
 unsigned char *start_of(PyObject *bytes);
 
-/* Converts an argument to a sentinel, or returns 0 with an error. */
+/* Converts an argument to a sentinel, 0 if there is none, or returns 0 with an error. */
 int sentinel_of(PyObject *number, unsigned char *result);
 
 /* Converts an argument to a length, or returns 0 with an error. */
@@ -63,6 +75,9 @@ PyObject *room_of(size_t len);
 /* Shortens a bytes object that room_of returned, and returns it. The stable ABI has no call for that, but it has the
  * size of an object. The rest of the memory stays unused: here at most 1 byte in 254. */
 PyObject *cut(PyObject *bytes, size_t len);
+
+/* Writes bytes, each XORed with the sentinel, to another place or to the same one. */
+void xor_each(unsigned char *to, const unsigned char *from, size_t len, unsigned char sentinel);
 
 /* Pushes bytes of a stream of frames for any sentinel. */
 jcobs_answer push(jcobs_decoder *decoder, unsigned char *buffer, size_t room, const unsigned char *bytes, size_t len,

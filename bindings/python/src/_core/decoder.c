@@ -82,7 +82,7 @@ static int have_turn(clock_t *turn)
 static PyObject *decoder_outcomes(Decoder *self, PyObject *chunk, PyObject *classes)
 {
     size_t at = 0, stop = TURN, len = (size_t)PyBytes_Size(chunk);
-    clock_t turn = clock();
+    clock_t turn = len > TURN ? clock() : 0; /* a system call, which a shorter chunk needn't pay */
     const unsigned char *bytes = start_of(chunk);
     PyObject *list = PyList_New(0);
 
@@ -102,20 +102,27 @@ static PyObject *decoder_outcomes(Decoder *self, PyObject *chunk, PyObject *clas
 }
 
 /* feed(chunk, classes): a list of objects of the three classes. An error comes at the end of a frame, so the decoder
- * is then as new; the rest of the chunk is dropped. */
+ * is then as new; the rest of the chunk is dropped. It is as new too if there is no memory for a copy of the chunk. */
 static PyObject *decoder_feed(PyObject *object, PyObject *const *args, Py_ssize_t count)
 {
     Decoder *self = (Decoder *)object;
     PyObject *chunk, *list = NULL;
 
-    if (!has_count(count, 2))
+    if (count != 2) {
+        PyErr_SetString(PyExc_TypeError, "feed() takes a chunk and the classes");
         return NULL;
+    }
     chunk = bytes_of(args[0], "chunk");
-    if (chunk != NULL && buffer_take(&self->buffer, "decoder")) {
+    if (chunk == NULL) {
+        if (!self->buffer.busy && PyErr_ExceptionMatches(PyExc_MemoryError))
+            jcobs_decoder_reset(&self->state);
+        return NULL;
+    }
+    if (buffer_take(&self->buffer, "decoder")) {
         list = decoder_outcomes(self, chunk, args[1]);
         self->buffer.busy = 0;
     }
-    Py_XDECREF(chunk);
+    Py_DECREF(chunk);
     return list;
 }
 

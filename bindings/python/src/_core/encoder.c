@@ -62,8 +62,9 @@ static PyObject *encoder_feed(PyObject *object, PyObject *data)
     if (fits) {
         const unsigned char *bytes = start_of(piece);
         PyThreadState *thread = release(len);
-        (void)jcobs_encoder_push(&self->state, self->buffer.start, self->buffer.len, bytes, len);
+        jcobs_answer answer = jcobs_encoder_push(&self->state, self->buffer.start, self->buffer.len, bytes, len);
         restore(thread);
+        (void)answer; /* there is always room for max_length bytes */
         self->taken += len;
     } else {
         PyErr_Format(PyExc_ValueError, "the message is longer than max_length=%zu", self->max_length);
@@ -82,7 +83,6 @@ static PyObject *encoder_finish(PyObject *object, PyObject *args)
     PyObject *frame;
     jcobs_answer answer;
     int terminated;
-    size_t i;
 
     if (!PyArg_ParseTuple(args, "p:finish", &terminated) || !buffer_take(&self->buffer, "encoder"))
         return NULL;
@@ -90,8 +90,7 @@ static PyObject *encoder_finish(PyObject *object, PyObject *args)
     frame = room_of(answer.length + (size_t)terminated);
     if (frame != NULL) {
         unsigned char *to = start_of(frame);
-        for (i = 0; i < answer.length; i++)
-            to[i] = self->buffer.start[i] ^ self->sentinel;
+        xor_each(to, self->buffer.start, answer.length, self->sentinel);
         if (terminated)
             to[answer.length] = self->sentinel;
     }

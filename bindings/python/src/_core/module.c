@@ -39,54 +39,28 @@ static PyObject *encoded(PyObject *message, unsigned char sentinel, int terminat
     return cut(frame, answer.length);
 }
 
-/* encode(data, sentinel, terminated) */
-static PyObject *core_encode(PyObject *module, PyObject *const *args, Py_ssize_t count)
+static const Signature of_encode = {"encode", 3, {"data", "sentinel", "terminated"}};
+static const Signature of_decode = {"decode", 2, {"frame", "sentinel", NULL}};
+static const Signature of_frame_kind = {"frame_kind", 2, {"frame", "sentinel", NULL}};
+
+static PyObject *core_encode(PyObject *module, PyObject *const *args, Py_ssize_t count, PyObject *names)
 {
-    PyObject *message, *frame;
+    PyObject *found[3], *message, *frame;
     unsigned char sentinel;
     int terminated;
 
     (void)module;
-    if (!has_count(count, 3) || !sentinel_of(args[1], &sentinel))
+    if (!arguments_of(&of_encode, args, count, names, found) || !sentinel_of(found[1], &sentinel))
         return NULL;
-    terminated = PyObject_IsTrue(args[2]);
+    terminated = found[2] == NULL ? 0 : PyObject_IsTrue(found[2]);
     if (terminated < 0)
         return NULL;
-    message = bytes_of(args[0], "data");
+    message = bytes_of(found[0], "data");
     if (message == NULL)
         return NULL;
     frame = encoded(message, sentinel, terminated);
     Py_DECREF(message);
     return frame;
-}
-
-/* encode_in_place(buffer, length, sentinel): the frame's length. No other thread runs while the bytes change. */
-static PyObject *core_encode_in_place(PyObject *module, PyObject *const *args, Py_ssize_t count)
-{
-    PyObject *held, *frame_len = NULL;
-    unsigned char sentinel;
-    jcobs_answer answer;
-    Py_ssize_t room;
-    size_t len, i;
-    void *start;
-
-    (void)module;
-    if (!has_count(count, 3) || !length_of(args[1], "length", &len) || !sentinel_of(args[2], &sentinel))
-        return NULL;
-    held = writable_of(args[0], "buffer", &start, &room);
-    if (held == NULL)
-        return NULL;
-    answer = jcobs_encode_in_place(start, (size_t)room, len);
-    if (answer.status == JCOBS_OK) {
-        for (i = 0; i < answer.length; i++)
-            ((unsigned char *)start)[i] ^= sentinel;
-        frame_len = PyLong_FromSize_t(answer.length);
-    } else {
-        PyErr_Format(PyExc_ValueError, "buffer must have max_length(%zu) = %zu bytes at least, not %zd", len,
-                     jcobs_max_length(len), room);
-    }
-    Py_DECREF(held);
-    return frame_len;
 }
 
 /* Decodes the first frame of the source to a new bytes object, or returns NULL with MemoryError. */
@@ -115,27 +89,39 @@ static PyObject *decoded(PyObject *source, unsigned char sentinel, unsigned int 
     return cut(message, answer.length);
 }
 
-/* decode(frame, sentinel, error): raises error(kind, data) if there is no message. */
-static PyObject *core_decode(PyObject *module, PyObject *const *args, Py_ssize_t count)
+/* Raises jcobs.DecodeError, which is a class in Python. */
+static void raise_decode_error(const char *kind, PyObject *data)
 {
-    PyObject *frame, *message, *raised;
+    PyObject *frames = PyImport_ImportModule("jcobs._frames"), *class = NULL, *raised = NULL;
+
+    if (frames != NULL)
+        class = PyObject_GetAttrString(frames, "DecodeError");
+    if (class != NULL)
+        raised = PyObject_CallFunction(class, "sO", kind, data);
+    if (raised != NULL)
+        PyErr_SetObject(class, raised);
+    Py_XDECREF(raised);
+    Py_XDECREF(class);
+    Py_XDECREF(frames);
+}
+
+static PyObject *core_decode(PyObject *module, PyObject *const *args, Py_ssize_t count, PyObject *names)
+{
+    PyObject *found[2], *frame, *message;
     unsigned int status = JCOBS_OK;
     unsigned char sentinel;
 
     (void)module;
-    if (!has_count(count, 3) || !sentinel_of(args[1], &sentinel))
+    if (!arguments_of(&of_decode, args, count, names, found) || !sentinel_of(found[1], &sentinel))
         return NULL;
-    frame = bytes_of(args[0], "frame");
+    frame = bytes_of(found[0], "frame");
     if (frame == NULL)
         return NULL;
     message = decoded(frame, sentinel, &status);
     Py_DECREF(frame);
     if (message == NULL || status == JCOBS_OK)
         return message;
-    raised = PyObject_CallFunction(args[2], "sO", status == JCOBS_EMPTY ? "empty" : "broken", message);
-    if (raised != NULL)
-        PyErr_SetObject((PyObject *)Py_TYPE(raised), raised);
-    Py_XDECREF(raised);
+    raise_decode_error(status == JCOBS_EMPTY ? "empty" : "broken", message);
     Py_DECREF(message);
     return NULL;
 }
@@ -143,9 +129,7 @@ static PyObject *core_decode(PyObject *module, PyObject *const *args, Py_ssize_t
 /* Returns the bytes XORed with the sentinel, as a new reference. */
 static PyObject *xored(PyObject *bytes, unsigned char sentinel)
 {
-    size_t i, len = (size_t)PyBytes_Size(bytes);
-    const unsigned char *from = start_of(bytes);
-    unsigned char *to;
+    size_t len = (size_t)PyBytes_Size(bytes);
     PyObject *result;
 
     if (sentinel == 0) {
@@ -153,26 +137,25 @@ static PyObject *xored(PyObject *bytes, unsigned char sentinel)
         return bytes;
     }
     result = room_of(len);
-    if (result == NULL)
-        return NULL;
-    to = start_of(result);
-    for (i = 0; i < len; i++)
-        to[i] = from[i] ^ sentinel;
+    if (result != NULL)
+        xor_each(start_of(result), start_of(bytes), len, sentinel);
     return result;
 }
 
-/* frame_kind(frame, sentinel): one of enum jcobs_kind. */
-static PyObject *core_frame_kind(PyObject *module, PyObject *const *args, Py_ssize_t count)
+static PyObject *core_frame_kind(PyObject *module, PyObject *const *args, Py_ssize_t count, PyObject *names)
 {
-    PyObject *frame, *zero_frame;
+    static const char *const kinds[] = {"not_a_frame", "canonical", "longer"};
+    PyObject *found[2], *frame, *zero_frame;
+    const unsigned char *from;
+    PyThreadState *thread;
     unsigned char sentinel;
     unsigned int kind;
     size_t len;
 
     (void)module;
-    if (!has_count(count, 2) || !sentinel_of(args[1], &sentinel))
+    if (!arguments_of(&of_frame_kind, args, count, names, found) || !sentinel_of(found[1], &sentinel))
         return NULL;
-    frame = bytes_of(args[0], "frame");
+    frame = bytes_of(found[0], "frame");
     if (frame == NULL)
         return NULL;
     zero_frame = xored(frame, sentinel);
@@ -180,31 +163,67 @@ static PyObject *core_frame_kind(PyObject *module, PyObject *const *args, Py_ssi
     if (zero_frame == NULL)
         return NULL;
     len = (size_t)PyBytes_Size(zero_frame);
-    {
-        const unsigned char *from = start_of(zero_frame);
-        PyThreadState *thread = release(len);
-        kind = jcobs_frame_kind(from, len);
-        restore(thread);
-    }
+    from = start_of(zero_frame);
+    thread = release(len);
+    kind = jcobs_frame_kind(from, len);
+    restore(thread);
     Py_DECREF(zero_frame);
-    return PyLong_FromUnsignedLong(kind);
+    return PyUnicode_InternFromString(kinds[kind]);
 }
 
-/* max_length(length) */
-static PyObject *core_max_length(PyObject *module, PyObject *number)
+static PyObject *core_max_length(PyObject *module, PyObject *const *args, Py_ssize_t count, PyObject *names)
 {
+    static const Signature of_max_length = {"max_length", 1, {"length", NULL, NULL}};
+    PyObject *found[1];
     size_t len;
 
     (void)module;
-    return length_of(number, "length", &len) ? PyLong_FromSize_t(jcobs_max_length(len)) : NULL;
+    if (!arguments_of(&of_max_length, args, count, names, found) || !length_of(found[0], "length", &len))
+        return NULL;
+    return PyLong_FromSize_t(jcobs_max_length(len));
 }
 
+/* The documents of the functions, after a line from which inspect.signature takes the arguments. Those in _plain.py are
+ * the same; the tests compare them. */
+static const char encode_document[] =
+    "encode(data, *, sentinel=0, terminated=False)\n--\n\n"
+    "Encodes a message, and returns its frame, with the sentinel after it if `terminated` is true.\n\n"
+    ">>> jcobs.encode(b\"hello\")\n"
+    "b'\\x06hello'\n"
+    ">>> jcobs.encode(b\"hello\", sentinel=10, terminated=True)\n"
+    "b'\\x0cboffe\\n'";
+static const char decode_document[] =
+    "decode(frame, *, sentinel=0)\n--\n\n"
+    "Decodes a frame, and returns its message.\n\n"
+    "The frame ends at the first sentinel after it, or with the bytes. Sentinels in front of it are skipped, and "
+    "bytes\n"
+    "after its sentinel are ignored: use a `Decoder` for more than one frame.\n\n"
+    "Raises `DecodeError` if the frame breaks off inside a block, or if there is no frame.\n\n"
+    ">>> jcobs.decode(b\"\\x06hello\")\n"
+    "b'hello'\n"
+    ">>> jcobs.decode(b\"\\x06hello\\x00\")\n"
+    "b'hello'";
+static const char frame_kind_document[] =
+    "frame_kind(frame, *, sentinel=0)\n--\n\n"
+    "Returns whether bytes are a frame, without sentinels around it, and which one of its message.\n\n"
+    "\"canonical\" is the frame that `encode` returns for its message. \"longer\" is that frame with one needless "
+    "block\n"
+    "after it, which decoders accept too. Anything else is \"not_a_frame\".\n\n"
+    ">>> jcobs.frame_kind(b\"\\x06hello\")\n"
+    "'canonical'\n"
+    ">>> jcobs.frame_kind(b\"\\x06hel\")\n"
+    "'not_a_frame'";
+static const char max_length_document[] =
+    "max_length(length)\n--\n\n"
+    "Returns the length of the longest frame of a message of `length` bytes, without a sentinel.\n\n"
+    ">>> jcobs.max_length(254), jcobs.max_length(255)\n"
+    "(255, 257)";
+
 static PyMethodDef functions[] = {
-    {"encode", FAST(core_encode), METH_FASTCALL, NULL},
-    {"encode_in_place", FAST(core_encode_in_place), METH_FASTCALL, NULL},
-    {"decode", FAST(core_decode), METH_FASTCALL, NULL},
-    {"frame_kind", FAST(core_frame_kind), METH_FASTCALL, NULL},
-    {"max_length", core_max_length, METH_O, NULL},
+    {"encode", FAST(core_encode), METH_FASTCALL | METH_KEYWORDS, encode_document},
+    {"decode", FAST(core_decode), METH_FASTCALL | METH_KEYWORDS, decode_document},
+    {"frame_kind", FAST(core_frame_kind), METH_FASTCALL | METH_KEYWORDS, frame_kind_document},
+    {"max_length", FAST(core_max_length), METH_FASTCALL | METH_KEYWORDS, max_length_document},
     {NULL, NULL, 0, NULL},
 };
 
@@ -230,6 +249,7 @@ static int add_type(PyObject *module, const char *name, PyType_Spec *spec)
 static int fill(PyObject *module)
 {
     return PyModule_AddStringConstant(module, "backend", BACKEND) < 0 ||
+                   PyModule_AddStringConstant(module, "version", JCOBS_PACKAGE) < 0 ||
                    add_type(module, "Outcome", &outcome_spec) < 0 || add_type(module, "Decoder", &decoder_spec) < 0 ||
                    add_type(module, "Encoder", &encoder_spec) < 0
                ? -1

@@ -1,23 +1,32 @@
 /* What the functions and the types share. */
 #include "core.h"
 
-/* Raises TypeError for an argument. */
-static void raise_type(const char *name, const char *wanted, PyObject *given)
+/* Says of a TypeError which argument was wrong, if it is Python's own: its text begins so. One that a method of the
+ * argument has raised stays. */
+static void wrong_type(const char *name, const char *wanted, PyObject *given, const char *text)
 {
-    PyObject *type = PyObject_GetAttrString((PyObject *)Py_TYPE(given), "__name__");
+    PyObject *type, *value, *trace, *said = NULL, *begin = NULL, *class = NULL;
 
-    if (type != NULL)
-        PyErr_Format(PyExc_TypeError, "%s must be %s, not %U", name, wanted, type);
-    Py_XDECREF(type);
-}
-
-/* Says of a TypeError which argument was wrong. */
-static void wrong_type(const char *name, const char *wanted, PyObject *given)
-{
     if (!PyErr_ExceptionMatches(PyExc_TypeError))
         return;
-    PyErr_Clear();
-    raise_type(name, wanted, given);
+    PyErr_Fetch(&type, &value, &trace);
+    if (value != NULL)
+        said = PyObject_Str(value);
+    if (said != NULL)
+        begin = PyUnicode_FromString(text);
+    if (begin != NULL && PyUnicode_Find(said, begin, 0, PY_SSIZE_T_MAX, 1) >= 0)
+        class = PyObject_GetAttrString((PyObject *)Py_TYPE(given), "__name__");
+    Py_XDECREF(begin);
+    Py_XDECREF(said);
+    if (class == NULL) {
+        PyErr_Restore(type, value, trace);
+        return;
+    }
+    PyErr_Format(PyExc_TypeError, "%s must be %s, not %U", name, wanted, class);
+    Py_DECREF(class);
+    Py_XDECREF(type);
+    Py_XDECREF(value);
+    Py_XDECREF(trace);
 }
 
 PyObject *bytes_of(PyObject *data, const char *name)
@@ -32,7 +41,7 @@ PyObject *bytes_of(PyObject *data, const char *name)
         return PyBytes_FromStringAndSize(PyByteArray_AsString(data), PyByteArray_Size(data));
     view = PyMemoryView_FromObject(data);
     if (view == NULL) {
-        wrong_type(name, "a bytes-like object", data);
+        wrong_type(name, "a bytes-like object", data, "a bytes-like object is required");
         return NULL;
     }
     contiguous = PyObject_GetAttrString(view, "c_contiguous");
@@ -45,64 +54,59 @@ PyObject *bytes_of(PyObject *data, const char *name)
     return bytes;
 }
 
-#ifdef __GNUC__
-#pragma GCC diagnostic ignored "-Wdeprecated-declarations" /* PyObject_AsWriteBuffer: the view holds what it returns */
-#endif
-
-PyObject *writable_of(PyObject *data, const char *name, void **start, Py_ssize_t *len)
-{
-    static const char wanted[] = "a read-write bytes-like object";
-    PyObject *view, *contiguous, *readonly = NULL;
-    int done = 0;
-
-    if (PyByteArray_Check(data)) {
-        *start = PyByteArray_AsString(data);
-        *len = PyByteArray_Size(data);
-        Py_INCREF(data);
-        return data;
-    }
-    view = PyMemoryView_FromObject(data);
-    if (view == NULL) {
-        wrong_type(name, wanted, data);
-        return NULL;
-    }
-    contiguous = PyObject_GetAttrString(view, "c_contiguous");
-    if (contiguous != NULL)
-        readonly = PyObject_GetAttrString(view, "readonly");
-    if (contiguous == Py_False)
-        PyErr_Format(PyExc_BufferError, "%s is not contiguous", name);
-    else if (readonly == Py_True)
-        raise_type(name, wanted, data);
-    else if (readonly != NULL)
-        done = PyObject_AsWriteBuffer(view, start, len) == 0;
-    Py_XDECREF(readonly);
-    Py_XDECREF(contiguous);
-    if (!done)
-        Py_CLEAR(view);
-    return view;
-}
-
 unsigned char *start_of(PyObject *bytes)
 {
     return (unsigned char *)PyBytes_AsString(bytes);
 }
 
-int has_count(Py_ssize_t count, Py_ssize_t wanted)
+/* Puts an argument that is passed by name where it belongs, or returns 0 with TypeError. */
+static int place(const Signature *signature, PyObject *name, PyObject *value, PyObject **found)
 {
-    if (count != wanted)
-        PyErr_Format(PyExc_TypeError, "expected %zd arguments, got %zd", wanted, count);
-    return count == wanted;
+    Py_ssize_t i = 0;
+
+    while (i < signature->count && PyUnicode_CompareWithASCIIString(name, signature->names[i]) != 0)
+        i++;
+    if (i == signature->count)
+        PyErr_Format(PyExc_TypeError, "%s() got an unexpected keyword argument '%U'", signature->call, name);
+    else if (found[i] != NULL)
+        PyErr_Format(PyExc_TypeError, "%s() got multiple values for argument '%U'", signature->call, name);
+    else
+        found[i] = value;
+    return !PyErr_Occurred();
+}
+
+int arguments_of(const Signature *signature, PyObject *const *args, Py_ssize_t count, PyObject *names, PyObject **found)
+{
+    Py_ssize_t i, named = names == NULL ? 0 : PyTuple_Size(names);
+
+    for (i = 0; i < signature->count; i++)
+        found[i] = NULL;
+    if (count > 1) {
+        PyErr_Format(PyExc_TypeError, "%s() takes 1 positional argument but %zd were given", signature->call, count);
+        return 0;
+    }
+    if (count == 1)
+        found[0] = args[0];
+    for (i = 0; i < named; i++)
+        if (!place(signature, PyTuple_GetItem(names, i), args[count + i], found))
+            return 0;
+    if (found[0] == NULL)
+        PyErr_Format(PyExc_TypeError, "%s() missing 1 required positional argument: '%s'", signature->call,
+                     signature->names[0]);
+    return found[0] != NULL;
 }
 
 int sentinel_of(PyObject *number, unsigned char *result)
 {
     int overflow = 0;
-    long value = PyLong_Check(number) ? PyLong_AsLongAndOverflow(number, &overflow) : -1;
+    long value = 0;
 
-    if (!PyLong_Check(number)) {
+    if (number != NULL && PyLong_Check(number)) {
+        value = PyLong_AsLongAndOverflow(number, &overflow);
+    } else if (number != NULL) {
         PyObject *index = PyNumber_Index(number);
         if (index == NULL) {
-            wrong_type("sentinel", "an integer", number);
+            wrong_type("sentinel", "an integer", number, "cannot be interpreted as an integer");
             return 0;
         }
         value = PyLong_AsLongAndOverflow(index, &overflow);
@@ -122,7 +126,7 @@ int length_of(PyObject *number, const char *name, size_t *result)
     Py_ssize_t value;
 
     if (index == NULL) {
-        wrong_type(name, "an integer", number);
+        wrong_type(name, "an integer", number, "cannot be interpreted as an integer");
         return 0;
     }
     value = PyNumber_AsSsize_t(index, NULL); /* the nearest one */
@@ -166,6 +170,14 @@ PyObject *cut(PyObject *bytes, size_t len)
     return bytes;
 }
 
+void xor_each(unsigned char *to, const unsigned char *from, size_t len, unsigned char sentinel)
+{
+    size_t i;
+
+    for (i = 0; i < len; i++)
+        to[i] = from[i] ^ sentinel;
+}
+
 jcobs_answer push(jcobs_decoder *decoder, unsigned char *buffer, size_t room, const unsigned char *bytes, size_t len,
                   unsigned char sentinel)
 {
@@ -176,9 +188,8 @@ jcobs_answer push(jcobs_decoder *decoder, unsigned char *buffer, size_t room, co
     if (sentinel == 0)
         return jcobs_decoder_push(decoder, buffer, room, bytes, len);
     while (answer.status == JCOBS_MORE && taken < len) {
-        size_t i, n = len - taken < sizeof xored ? len - taken : sizeof xored;
-        for (i = 0; i < n; i++)
-            xored[i] = bytes[taken + i] ^ sentinel;
+        size_t n = len - taken < sizeof xored ? len - taken : sizeof xored;
+        xor_each(xored, bytes + taken, n, sentinel);
         answer = jcobs_decoder_push(decoder, buffer, room, xored, n);
         taken += answer.consumed;
     }
@@ -211,7 +222,7 @@ int buffer_make(Buffer *buffer, size_t len)
 int buffer_take(Buffer *buffer, const char *coder)
 {
     if (buffer->busy) {
-        PyErr_Format(PyExc_RuntimeError, "the %s is in use by another thread", coder);
+        PyErr_Format(PyExc_RuntimeError, "the %s is in use by another call", coder);
         return 0;
     }
     buffer->busy = 1;

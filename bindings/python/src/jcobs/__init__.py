@@ -16,9 +16,12 @@ b'\\x06hello\\x06world\\x00'
 mmap. Each function and method raises TypeError for other objects, and BufferError if the bytes aren't contiguous.
 """
 
+__version__ = "1.0.0"  # which the modules below compare with the extension's
+
+from jcobs._async import AsyncFrameReader
 from jcobs._backend import backend
 from jcobs._frames import DecodeError, decode, encode, encode_in_place, frame_kind, max_length
-from jcobs._readers import AsyncFrameReader, FrameReader
+from jcobs._readers import FrameReader, frames
 from jcobs._streams import Broken, Decoder, Encoder, Message, Outcome, TooLong
 
 __all__ = [
@@ -36,6 +39,6 @@ __all__ = [
     "encode",
     "encode_in_place",
     "frame_kind",
+    "frames",
     "max_length",
 ]
-__version__ = "1.0.0"

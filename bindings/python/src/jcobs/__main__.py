@@ -13,7 +13,7 @@ import jcobs
 from jcobs import Message, Outcome
 
 if TYPE_CHECKING:
-    from jcobs._readers import Readable
+    from jcobs._files import Readable
 
 NAMES = {jcobs.Message: "message", jcobs.Broken: "broken", jcobs.TooLong: "too long"}
 
@@ -33,7 +33,7 @@ def arguments() -> argparse.ArgumentParser:
     style.add_argument("--hex", action="store_true", help="messages as hexadecimal digits")
     style.add_argument("--json", action="store_true", help="a JSON object a line, with the digits as its member hex")
     parser = argparse.ArgumentParser("python -m jcobs", description=__doc__, parents=[common])
-    parser.add_argument("--version", action="version", version=jcobs.__version__)
+    parser.add_argument("--version", action="version", version=f"jcobs {jcobs.__version__}, backend {jcobs.backend}")
     parser.add_argument("--max-length", metavar="N", type=int, default=65536, help="the longest message that is shown")
     parser.add_argument("command", nargs="?", choices=["show", "send"], default="show", help="(default: %(default)s)")
     return parser
@@ -107,6 +107,8 @@ def run(options: argparse.Namespace) -> None:
     else:
         if isinstance(sys.stdout, io.TextIOWrapper):
             sys.stdout.reconfigure(errors="backslashreplace")  # what the terminal has no characters for
+        if port is None and sys.stdin.isatty():
+            print(f"jcobs {jcobs.__version__}, backend {jcobs.backend}: waits for frames, as typed", file=sys.stderr)
         show(port or cast("Readable", sys.stdin.buffer), sys.stdout, options)
 
 

@@ -1,13 +1,30 @@
 """Which code does the work: the extension `_core` if it can be loaded, or else `_plain`, which is in Python.
 
 With "python" in the environment variable JCOBS_BACKEND it is the latter. With anything else there, an extension that
-can't be loaded is an ImportError.
+can't be loaded is an ImportError. One of another version, which an installation may have left behind, isn't used.
 """
 
 from __future__ import annotations
 
 import os
+import warnings
 from typing import TYPE_CHECKING, Literal
+
+from jcobs import __version__
+
+
+def is_other(found: object) -> bool:
+    """Whether an extension is of another version of the package, and warns of it."""
+    version = getattr(found, "version", "an older version")
+    if version == __version__:
+        return False
+    warnings.warn(
+        f"jcobs {__version__} has an extension of {version}, and works in plain Python: install it again",
+        RuntimeWarning,
+        stacklevel=2,
+    )
+    return True
+
 
 if TYPE_CHECKING:
     from jcobs import _core as core
@@ -21,6 +38,8 @@ else:
     except ImportError:
         if os.environ.get("JCOBS_BACKEND"):
             raise
+        from jcobs import _plain as core
+    if is_other(core):
         from jcobs import _plain as core
 
 Backend = Literal["prebuilt", "compiled", "python"]

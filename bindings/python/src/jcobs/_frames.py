@@ -2,24 +2,24 @@
 
 from __future__ import annotations
 
-from typing import TYPE_CHECKING, Literal, Tuple
+import operator
+from typing import TYPE_CHECKING, Literal
 
 from jcobs._backend import core
 
 if TYPE_CHECKING:
-    from _typeshed import ReadableBuffer, WriteableBuffer
+    from _typeshed import WriteableBuffer
 
-ErrorKind = Literal["broken", "empty"]
+ErrorKind = Literal["broken", "empty", "too_long"]
 FrameKind = Literal["not_a_frame", "canonical", "longer"]
-_KINDS: Tuple[FrameKind, ...] = ("not_a_frame", "canonical", "longer")
-_encode, _decode = core.encode, core.decode
 
 
 class DecodeError(ValueError):
-    """Raised by `decode` if there is no message.
+    """Raised by `decode` if there is no message, and by `request` of a reader if there is none in the reply.
 
-    `kind` is "broken" if the frame breaks off inside a block, or "empty" if there are no bytes, or only sentinels.
-    `data` is what the frame decodes to, up to where it ends.
+    `kind` is "broken" if the frame breaks off inside a block, or "empty" if there are no bytes, or only sentinels. For a
+    reader it is "too_long" if the message is longer than `max_length`. `data` is what the frame decodes to, up to where
+    it ends, or to `max_length` bytes.
 
     >>> try:
     ...     jcobs.decode(b"\\x06hel")
@@ -39,26 +39,24 @@ class DecodeError(ValueError):
     def __str__(self) -> str:
         if self.kind == "empty":
             return "there is no frame"
+        if self.kind == "too_long":
+            return f"the message is longer than max_length={len(self.data)}"
         return f"the frame breaks off inside a block, after {len(self.data)} decoded bytes"
 
 
-def encode(data: ReadableBuffer, *, sentinel: int = 0, terminated: bool = False) -> bytes:
-    """Encodes a message, and returns its frame, with the sentinel after it if `terminated` is true.
-
-    >>> jcobs.encode(b"hello")
-    b'\\x06hello'
-    >>> jcobs.encode(b"hello", sentinel=10, terminated=True)
-    b'\\x0cboffe\\n'
-    """
-    return _encode(data, sentinel, terminated)
+encode = core.encode
+decode = core.decode
+frame_kind = core.frame_kind
+max_length = core.max_length
 
 
 def encode_in_place(buffer: WriteableBuffer, length: int, *, sentinel: int = 0) -> int:
     """Encodes a message in its own buffer, and returns the length of its frame.
 
     The message's `length` bytes are in `buffer` after the first `max_length(length) - length`, whose contents don't
-    matter. Then `buffer` begins with the frame, and its bytes after that stay as they were. Nothing else may change
-    them during the call, which keeps the GIL.
+    matter. Then `buffer` begins with the frame, and its bytes after that stay as they were.
+
+    This is no faster than `encode`, which it calls for a copy of the message. It remains for scripts that use it.
 
     `buffer` is a contiguous bytes-like object that can be written to. Raises ValueError if it has less than
     `max_length(length)` bytes, and is then as it was.
@@ -69,43 +67,20 @@ def encode_in_place(buffer: WriteableBuffer, length: int, *, sentinel: int = 0) 
     >>> buffer
     bytearray(b'\\x06hello..')
     """
-    return core.encode_in_place(buffer, length, sentinel)
-
-
-def decode(frame: ReadableBuffer, *, sentinel: int = 0) -> bytes:
-    """Decodes a frame, and returns its message.
-
-    The frame ends at the first sentinel after it, or with the bytes. Sentinels in front of it are skipped, and bytes
-    after its sentinel are ignored: use a `Decoder` for more than one frame.
-
-    Raises `DecodeError` if the frame breaks off inside a block, or if there is no frame.
-
-    >>> jcobs.decode(b"\\x06hello")
-    b'hello'
-    >>> jcobs.decode(b"\\x06hello\\x00")
-    b'hello'
-    """
-    return _decode(frame, sentinel, DecodeError)
-
-
-def max_length(length: int) -> int:
-    """Returns the length of the longest frame of a message of `length` bytes, without a sentinel.
-
-    >>> jcobs.max_length(254), jcobs.max_length(255)
-    (255, 257)
-    """
-    return core.max_length(length)
-
-
-def frame_kind(frame: ReadableBuffer, *, sentinel: int = 0) -> FrameKind:
-    """Returns whether bytes are a frame, without sentinels around it, and which one of its message.
-
-    "canonical" is the frame that `encode` returns for its message. "longer" is that frame with one needless block
-    after it, which decoders accept too. Anything else is "not_a_frame".
-
-    >>> jcobs.frame_kind(b"\\x06hello")
-    'canonical'
-    >>> jcobs.frame_kind(b"\\x06hel")
-    'not_a_frame'
-    """
-    return _KINDS[core.frame_kind(frame, sentinel)]
+    needed = max_length(length)
+    wrong = f"buffer must be a read-write bytes-like object, not {type(buffer).__name__}"
+    try:
+        view = memoryview(buffer)
+    except TypeError:
+        raise TypeError(wrong) from None
+    with view:
+        if not view.c_contiguous:
+            raise BufferError("buffer is not contiguous")
+        if view.readonly:
+            raise TypeError(wrong)
+        if view.nbytes < needed:
+            raise ValueError(f"buffer must have max_length({length}) = {needed} bytes at least, not {view.nbytes}")
+        with view.cast("B") as data:
+            frame = encode(data[needed - operator.index(length) : needed], sentinel=sentinel)
+            data[: len(frame)] = frame
+    return len(frame)

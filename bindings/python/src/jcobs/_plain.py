@@ -5,19 +5,24 @@ Frames for another sentinel are XORed with it, so all loops are about the sentin
 
 from __future__ import annotations
 
-import io
+import functools
 import operator
 import sys
-from typing import TYPE_CHECKING, Any, Callable, List, Tuple, Type, TypeVar
+from typing import TYPE_CHECKING, Any, Callable, Dict, List, Tuple, Type, TypeVar
+
+from jcobs import __version__ as version
+from jcobs._alone import alone
 
 if TYPE_CHECKING:
-    from _typeshed import ReadableBuffer, WriteableBuffer
+    from _typeshed import ReadableBuffer
+
+    from jcobs._frames import FrameKind
 
 _T = TypeVar("_T")
 
+__all__ = ["Decoder", "Encoder", "Outcome", "backend", "decode", "encode", "frame_kind", "max_length", "version"]
 backend = "python"
 FULL = 254
-IN_USE = "the %s is in use by another thread"
 
 
 def bytes_of(data: ReadableBuffer, name: str) -> bytes:
@@ -28,7 +33,9 @@ def bytes_of(data: ReadableBuffer, name: str) -> bytes:
         return bytes(data)
     try:
         view = memoryview(data)
-    except TypeError:
+    except TypeError as error:
+        if hasattr(type(data), "__buffer__") and "a bytes-like object is required" not in str(error):
+            raise  # by the object's own method
         raise TypeError(f"{name} must be a bytes-like object, not {type(data).__name__}") from None
     with view:
         if not view.c_contiguous:
@@ -39,7 +46,9 @@ def bytes_of(data: ReadableBuffer, name: str) -> bytes:
 def index_of(number: Any, name: str) -> int:
     try:
         return operator.index(number)
-    except TypeError:
+    except TypeError as error:
+        if "cannot be interpreted as an integer" not in str(error) and hasattr(number, "__index__"):
+            raise  # by the object's own method
         raise TypeError(f"{name} must be an integer, not {type(number).__name__}") from None
 
 
@@ -59,8 +68,13 @@ def length_of(number: Any, name: str) -> int:
     return length
 
 
+@functools.lru_cache(256)
+def table(sentinel: int) -> bytes:
+    return bytes(byte ^ sentinel for byte in range(256))
+
+
 def xored(data: bytes, sentinel: int) -> bytes:
-    return data.translate(bytes(byte ^ sentinel for byte in range(256))) if sentinel else data
+    return data.translate(table(sentinel)) if sentinel else data
 
 
 def frame_of(message: bytes) -> bytes:
@@ -78,50 +92,80 @@ def frame_of(message: bytes) -> bytes:
     return bytes(frame)
 
 
-def encode(data: ReadableBuffer, sentinel: int, terminated: bool) -> bytes:
-    message, sentinel = bytes_of(data, "data"), sentinel_of(sentinel)
-    return xored(frame_of(message) + b"\0" * bool(terminated), sentinel)
+def output(piece: bytes) -> Tuple[bool, bytes]:
+    """Returns whether a piece breaks off inside a block, and what it decodes to."""
+    data, at, size = bytearray(), 0, len(piece)
+    while at < size:
+        code = piece[at]
+        data += piece[at + 1 : at + code]
+        at += code
+        if code <= FULL and at < size:
+            data.append(0)
+    return at > size, bytes(data)
 
 
-def encode_in_place(buffer: WriteableBuffer, length: int, sentinel: int) -> int:
-    """Copies the message, and writes its frame back."""
-    length, sentinel = length_of(length, "length"), sentinel_of(sentinel)
-    wrong = f"buffer must be a read-write bytes-like object, not {type(buffer).__name__}"
-    try:
-        view = memoryview(buffer)
-    except TypeError:
-        raise TypeError(wrong) from None
-    with view:
-        if not view.c_contiguous:
-            raise BufferError("buffer is not contiguous")
-        if view.readonly:
-            raise TypeError(wrong)
-        room, needed = view.nbytes, max_length(length)
-        if room < needed:
-            raise ValueError(f"buffer must have max_length({length}) = {needed} bytes at least, not {room}")
-        frame = encode(view.tobytes()[needed - length : needed], sentinel, False)
-        return io.BytesIO(frame).readinto(view)
+def encode(data: ReadableBuffer, *, sentinel: int = 0, terminated: bool = False) -> bytes:
+    """Encodes a message, and returns its frame, with the sentinel after it if `terminated` is true.
+
+    >>> jcobs.encode(b"hello")
+    b'\\x06hello'
+    >>> jcobs.encode(b"hello", sentinel=10, terminated=True)
+    b'\\x0cboffe\\n'
+    """
+    sentinel = sentinel_of(sentinel)
+    return xored(frame_of(bytes_of(data, "data")) + b"\0" * bool(terminated), sentinel)
 
 
-def decode(frame: ReadableBuffer, sentinel: int, error: Callable[[str, bytes], Exception]) -> bytes:
-    source, sentinel = bytes_of(frame, "frame"), sentinel_of(sentinel)
-    piece = xored(source, sentinel).lstrip(b"\0").partition(b"\0")[0]
-    kind, data = Decoder(len(piece), 0).of_piece(piece)
-    if not piece or kind:
-        raise error("broken" if piece else "empty", data)
+def decode(frame: ReadableBuffer, *, sentinel: int = 0) -> bytes:
+    """Decodes a frame, and returns its message.
+
+    The frame ends at the first sentinel after it, or with the bytes. Sentinels in front of it are skipped, and bytes
+    after its sentinel are ignored: use a `Decoder` for more than one frame.
+
+    Raises `DecodeError` if the frame breaks off inside a block, or if there is no frame.
+
+    >>> jcobs.decode(b"\\x06hello")
+    b'hello'
+    >>> jcobs.decode(b"\\x06hello\\x00")
+    b'hello'
+    """
+    sentinel = sentinel_of(sentinel)
+    piece = xored(bytes_of(frame, "frame"), sentinel)
+    if 0 in piece:
+        piece = piece.lstrip(b"\0").partition(b"\0")[0]
+    broken, data = output(piece)
+    if broken or not piece:
+        from jcobs._frames import DecodeError
+
+        raise DecodeError("broken" if piece else "empty", data)
     return data
 
 
-def frame_kind(frame: ReadableBuffer, sentinel: int) -> int:
-    data, sentinel = bytes_of(frame, "frame"), sentinel_of(sentinel)
-    piece = xored(data, sentinel)
+def frame_kind(frame: ReadableBuffer, *, sentinel: int = 0) -> FrameKind:
+    """Returns whether bytes are a frame, without sentinels around it, and which one of its message.
+
+    "canonical" is the frame that `encode` returns for its message. "longer" is that frame with one needless block
+    after it, which decoders accept too. Anything else is "not_a_frame".
+
+    >>> jcobs.frame_kind(b"\\x06hello")
+    'canonical'
+    >>> jcobs.frame_kind(b"\\x06hel")
+    'not_a_frame'
+    """
+    sentinel = sentinel_of(sentinel)
+    piece = xored(bytes_of(frame, "frame"), sentinel)
     if not piece or 0 in piece:
-        return 0
-    broken, message = Decoder(len(piece), 0).of_piece(piece)
-    return 0 if broken else 1 if frame_of(message) == piece else 2
+        return "not_a_frame"
+    broken, message = output(piece)
+    return "not_a_frame" if broken else "canonical" if frame_of(message) == piece else "longer"
 
 
 def max_length(length: int) -> int:
+    """Returns the length of the longest frame of a message of `length` bytes, without a sentinel.
+
+    >>> jcobs.max_length(254), jcobs.max_length(255)
+    (255, 257)
+    """
     length = length_of(length, "length")
     return length + max(1, -(-length // FULL))
 
@@ -162,17 +206,14 @@ class Outcome:
 
 
 class Decoder:
-    """A streaming decoder with its buffer.
+    """A streaming decoder with its buffer."""
 
-    `_busy` is tested and set by statements between which CPython runs neither another thread nor a signal handler.
-    """
-
-    __slots__ = ("_buffer", "_busy", "_begun", "_joint", "_lacking", "_sentinel", "_too_long", "_written")
+    __slots__ = ("_begun", "_buffer", "_calls", "_joint", "_lacking", "_sentinel", "_too_long", "_written")
 
     def __init__(self, max_length: int, sentinel: int) -> None:
         self._buffer = bytearray(length_of(max_length, "max_length"))
         self._sentinel = sentinel_of(sentinel)
-        self._busy = False
+        self._calls: Dict[str, object] = {}
         self._clear()
 
     def _clear(self) -> None:
@@ -205,15 +246,14 @@ class Decoder:
         self._clear()
         return found
 
-    def of_piece(self, piece: bytes) -> Tuple[int, bytes]:
-        self._take(piece)
-        return self._end()
-
+    @alone("decoder")
     def feed(self, chunk: ReadableBuffer, classes: Tuple[Callable[[bytes], _T], ...]) -> List[_T]:
-        data, outcomes, at = bytes_of(chunk, "chunk"), [], 0
-        if self._busy:
-            raise RuntimeError(IN_USE % "decoder")
-        self._busy = True
+        outcomes, at = [], 0
+        try:
+            data = bytes_of(chunk, "chunk")
+        except MemoryError:
+            self._clear()
+            raise
         try:
             while at < len(data):
                 end = data.find(self._sentinel, at)
@@ -227,53 +267,47 @@ class Decoder:
         except BaseException:
             self._clear()
             raise
-        finally:
-            self._busy = False
         return outcomes
 
+    @alone("decoder")
     def reset(self) -> None:
-        if self._busy:
-            raise RuntimeError(IN_USE % "decoder")
         self._clear()
 
     @property
     def unfinished(self) -> bool:
-        if self._busy:
-            raise RuntimeError(IN_USE % "decoder")
+        return self._is_unfinished()
+
+    @alone("decoder")
+    def _is_unfinished(self) -> bool:
         return self._begun
 
 
 class Encoder:
-    """A message that comes in pieces. Only `finish` is at work for long enough to be interrupted."""
+    """A message that comes in pieces."""
 
-    __slots__ = ("_busy", "_message", "_sentinel", "_taken")
+    __slots__ = ("_calls", "_message", "_sentinel", "_taken")
 
     def __init__(self, max_length: int, sentinel: int) -> None:
         self._message = bytearray(length_of(max_length, "max_length"))
         self._sentinel = sentinel_of(sentinel)
-        self._busy = False
+        self._calls: Dict[str, object] = {}
         self._taken = 0
 
+    @alone("encoder")
     def feed(self, data: ReadableBuffer) -> None:
         piece = bytes_of(data, "data")
-        if self._busy:
-            raise RuntimeError(IN_USE % "encoder")
         if len(piece) > len(self._message) - self._taken:
             raise ValueError(f"the message is longer than max_length={len(self._message)}")
         self._message[self._taken : self._taken + len(piece)] = piece
         self._taken += len(piece)
 
+    @alone("encoder")
     def finish(self, terminated: bool) -> bytes:
-        if self._busy:
-            raise RuntimeError(IN_USE % "encoder")
-        self._busy = True
         try:
-            return encode(self._message[: self._taken], self._sentinel, terminated)
+            return encode(self._message[: self._taken], sentinel=self._sentinel, terminated=terminated)
         finally:
             self._taken = 0
-            self._busy = False
 
+    @alone("encoder")
     def reset(self) -> None:
-        if self._busy:
-            raise RuntimeError(IN_USE % "encoder")
         self._taken = 0

@@ -1,171 +1,157 @@
-"""Frames from files, serial ports, sockets and asyncio streams, and messages to them."""
+"""Frames from files, serial ports, sockets and the streams of asyncio, trio and anyio, and messages to them."""
 
 from __future__ import annotations
 
-import errno
-import io
 import operator
-import os
-import select
-import socket
-import sys
 import time
 from collections import deque
-from typing import TYPE_CHECKING, Any, AsyncIterator, Callable, Deque, Iterator, Optional, Protocol, Union
+from itertools import chain, compress, starmap
+from typing import TYPE_CHECKING, Any, Callable, Deque, Dict, Iterator, List, Optional, Union
 
-from jcobs._frames import encode
-from jcobs._streams import Coder, Decoder, Message, Outcome
+from jcobs._alone import alone
+from jcobs._files import GAP, Readable, Receivable, read_of, send
+from jcobs._frames import DecodeError, encode
+from jcobs._streams import CLASSES, Broken, Coder, Decoder, Message, Outcome
 
 if TYPE_CHECKING:
-    from asyncio import StreamReader, StreamWriter
+    from types import TracebackType
+    from typing import Type
 
     from _typeshed import ReadableBuffer
 
-CHUNK = 65536
 # A wait in seconds that every system takes.
 LONGEST = 2_000_000.0
+IN_USE = "the reader is in use by another call"
+# How long `discard` takes at most, in seconds, on a line that never rests.
+LONGEST_DISCARD = 1.0
 
 
-class Readable(Protocol):
-    """An object with `read`, as a binary file or a `serial.Serial`."""
+def closing(count: int, sentinel: int) -> bytes:
+    """Returns bytes that end a frame which was cut, and that no decoder takes for the end of a message.
 
-    def read(self, size: int, /) -> Optional[bytes]:
-        """Returns at most `size` bytes: none at the end, or None if there are none now."""
-
-
-class Receivable(Protocol):
-    """An object with `recv`, as a socket."""
-
-    def recv(self, size: int, /) -> bytes:
-        """Returns at most `size` bytes, or none at the end."""
+    A sentinel alone would make a shorter message of a frame that was cut between two of its blocks. If k bytes of a
+    block are missing, fewer than `count`, the first k of these complete it. The next one is a code of 255, and fewer than
+    254 bytes follow it. Up to 254 bytes of a block can be missing: for a `count` of 255 the first of these is the code of
+    an empty block, as the code of a full one would be followed by 254 bytes.
+    """
+    spoiling = b"\xff" * count if count < 255 else b"\x01" + b"\xff" * 254
+    return bytes(byte ^ sentinel for byte in spoiling + b"\0")
 
 
-class _Frames(Coder):
-    """A decoder, and the outcomes that were decoded and not yet handed out."""
-
-    def __init__(self, max_length: int, sentinel: int) -> None:
-        self._decoder = Decoder(max_length, sentinel)
-        self._pending: Deque[Outcome] = deque()
-        self._sentinel = sentinel
-
-    @property
-    def unfinished(self) -> bool:
-        """Whether a frame has begun and not ended: at the end of a file, whether its last frame was cut off."""
-        return self._decoder.unfinished
-
-    def _end(self) -> EOFError:
-        return EOFError("the stream ended inside a frame" if self.unfinished else "the stream ended")
+def reply_of(outcome: Optional[Outcome]) -> bytes:
+    """Returns the message that a request is replied with, or raises what came instead."""
+    if outcome is None:
+        raise TimeoutError("no reply came in time")
+    if not isinstance(outcome, Message):
+        raise DecodeError("broken" if isinstance(outcome, Broken) else "too_long", outcome.data)
+    return outcome.data
 
 
-class _Deadline:
+class Deadline:
     """The end of a time in seconds, if there is one."""
 
     def __init__(self, timeout: Optional[float]) -> None:
+        if isinstance(timeout, (str, bytes)) or not (timeout is None or hasattr(timeout, "__float__")):
+            raise TypeError(f"timeout must be a number of seconds or None, not {type(timeout).__name__}")
         if timeout is not None and not timeout >= 0:
             raise ValueError("timeout must not be negative")
-        self._end = None if timeout is None else time.monotonic() + timeout
+        self._end = None if timeout is None else time.monotonic() + float(timeout)
 
     def left(self) -> Optional[float]:
         return None if self._end is None else min(max(0.0, self._end - time.monotonic()), LONGEST)
 
 
-def _ready(file: Any, timeout: float) -> bool:
-    """Waits until a file or socket has bytes or has ended, and returns whether that came in time."""
-    try:
-        descriptor = file.fileno()
-    except AttributeError:
-        kind = type(file).__name__
-        raise TypeError(f"a timeout needs a serial port, a socket or a file: {kind} has no fileno") from None
-    except io.UnsupportedOperation:
-        return True  # bytes in memory
-    if hasattr(file, "pending") and file.pending():
-        return True  # a socket of pyOpenSSL has decrypted some already
-    if not hasattr(select, "poll"):
-        return bool(select.select([descriptor], [], [], timeout)[0])
-    poll = select.poll()
-    poll.register(descriptor, select.POLLIN)
-    return bool(poll.poll(timeout * 1000))
+class Frames(Coder):
+    """A decoder, what it is to decode, and the outcomes that were decoded and not yet handed out."""
 
+    def __init__(self, max_length: int, sentinel: int, sync: bool) -> None:
+        self._decoder = Decoder(max_length, sentinel)
+        self._feed: Callable[[bytes, Any], List[Outcome]] = self._decoder._core.feed
+        self._sentinel = operator.index(sentinel)
+        self._pending: Deque[Outcome] = deque()
+        self._arrived: Deque[bytes] = deque()  # a chunk that was read and isn't decoded
+        self._headless = False  # whether the next bytes are the rest of a frame whose beginning is lost
+        self._lead = bytes([self._sentinel]) if sync else b""  # what is sent in front of the first frame
+        self._cut = 0  # how many bytes it takes to end a frame that was cut, or none
+        self._calls: Dict[str, object] = {}
 
-def _read_port(port: Any, timeout: Optional[float]) -> Optional[bytes]:
-    """Reads what a serial port has, or the next byte; None at the timeout, or else at the port's own."""
-    waiting = port.in_waiting
-    if waiting or timeout is None:
-        return port.read(min(max(waiting, 1), CHUNK)) or None
-    own = port.timeout
-    port.timeout = timeout
-    try:
-        return port.read(1) or None
-    finally:
-        port.timeout = own
+    @property
+    def unfinished(self) -> bool:
+        """Whether a frame has begun and not ended: at the end of a file, whether its last frame was cut off."""
+        return self._headless or self._decoder.unfinished
 
+    def _end(self) -> EOFError:
+        return EOFError("the stream ended inside a frame" if self.unfinished else "the stream ended")
 
-def _read_ssl(sock: Any, timeout: Optional[float]) -> Optional[bytes]:
-    """Reads what an SSL socket has, or waits for it: what makes it readable may be a record without data."""
-    from ssl import SSLWantReadError
+    def _lose(self, begun: bool) -> None:
+        """Has the decoder begin anew. If a frame had begun, its rest is to be dropped."""
+        self._decoder.reset()
+        self._headless = self._headless or begun
 
-    own = sock.gettimeout()
-    try:
-        if timeout is not None:
-            sock.settimeout(timeout)
-        return _read_socket(sock, None)
-    except SSLWantReadError:
-        return None
-    finally:
-        if timeout is not None:
-            sock.settimeout(own)
+    def _check_arrived(self) -> None:
+        """Drops what a read that ended by an exception left, unless it is bytes."""
+        if self._arrived and (not self._arrived[0] or self._arrived[0] is GAP):
+            if self._arrived.popleft() is GAP:
+                self._lose(True)
 
+    def _without_rest(self, chunk: bytes) -> bytes:
+        """Drops the rest of a frame whose beginning is lost, and reports that frame at its end."""
+        after = chunk.find(self._sentinel) + 1
+        self._arrived[0] = chunk[after:] if after else b""
+        if after:
+            self._headless = False
+            self._pending.append(Broken(b""))
+        return self._arrived[0]
 
-def _read_socket(sock: Any, timeout: Optional[float]) -> Optional[bytes]:
-    """Reads what a socket has, or waits for it; None at the timeout, or else at the socket's own."""
-    if timeout is not None and not _ready(sock, timeout):
-        return None
-    try:
-        chunk: bytes = sock.recv(CHUNK)
+    def _decode(self) -> bytes:
+        """Decodes the chunk that has arrived, and returns it.
+
+        If an exception ends this, by a signal handler or if memory runs out, the chunk stays for the next call, with
+        all its frames but one that had begun before it. To decode, to keep the outcomes and to drop the chunk is one
+        step of C, as in `keep`.
+        """
+        chunk = self._arrived[0]
+        left = self._without_rest(chunk) if self._headless else chunk
+        begun = self._decoder.unfinished
+        outcomes = chain.from_iterable(map(self._feed, (left,), (CLASSES,)))
+        dropped: Iterator[Any] = compress(starmap(self._arrived.popleft, ((),)), (0,))
+        step: Iterator[Outcome] = chain(outcomes, dropped)
+        try:
+            self._pending.extend(step)
+        except BaseException:
+            if self._arrived:
+                self._lose(begun)
+            raise
         return chunk
-    except BlockingIOError:
-        return None
-    except socket.timeout as error:
-        if error.errno == errno.ETIMEDOUT:
-            raise  # the connection is lost
-        return None
+
+    def _out(self, message: ReadableBuffer) -> bytes:
+        """Returns what to send of a message. Until `_sent` it is taken for cut."""
+        frame = encode(message, sentinel=self._sentinel, terminated=True)
+        lead = closing(self._cut, self._sentinel) if self._cut else self._lead
+        # of a block fewer bytes are missing than the frame has; of one that was cut before, any number up to 254
+        self._cut = 255 if lead else min(len(frame), 255)
+        return lead + frame
+
+    def _sent(self) -> None:
+        """The last message was sent whole."""
+        self._lead, self._cut = b"", 0
 
 
-def _waits(file: Any) -> bool:
-    """Whether a read of a file waits for bytes."""
-    try:
-        return os.get_blocking(file.fileno())
-    except (AttributeError, io.UnsupportedOperation):
-        return True  # no descriptor, or Windows
-
-
-def _read_file(file: Any, timeout: Optional[float]) -> Optional[bytes]:
-    """Reads what a file has, or waits for it; None at the timeout, or if it has none now and doesn't wait."""
-    if timeout is not None and not _ready(file, timeout):
-        return None
-    chunk: Optional[bytes] = getattr(file, "read1", file.read)(CHUNK)
-    if not chunk and hasattr(file, "raw") and not _waits(file):
-        # no bytes from `read1` are the end, or up to Python 3.13 none now; then the buffer is empty
-        chunk = file.raw.read(CHUNK)
-    return chunk
-
-
-def _read_of(file: Any) -> Callable[[Any, Optional[float]], Optional[bytes]]:
-    """The read for what a file is."""
-    if hasattr(file, "in_waiting"):
-        return _read_port
-    if not hasattr(file, "recv"):
-        return _read_file
-    ssl = sys.modules.get("ssl")
-    return _read_ssl if ssl and isinstance(file, ssl.SSLSocket) else _read_socket
-
-
-class FrameReader(_Frames):
+class FrameReader(Frames):
     """Reads frames from a serial port, a socket, a pipe or a file, and sends messages to it.
 
     `read` returns the outcome of one frame: a `Message`, `Broken` or `TooLong`. Iterating yields each one, as soon as
     its frame ends, until the stream ends or a timeout of the port or socket passes. Reading can go on after that, and no
-    byte is lost if the read of the file raises an exception; if a signal handler does, those of one read may be.
+    byte is lost if the read of the file raises an exception.
+
+    If a signal handler raises an exception, no byte of a socket, a pipe or a file is lost. pyserial may lose some of a
+    port, and the `makefile` of a socket some of that: then the frames that they belong to are reported as one `Broken`.
+
+    With `sync` a sentinel is sent in front of the first frame. It ends what the line has of an earlier sender or of
+    noise.
+
+    One thread at a time may read, and one may write, which may be another one. A call raises RuntimeError while another
+    one of the same kind is at work.
 
     >>> import io
     >>> reader = jcobs.FrameReader(io.BytesIO(b"\\x03hi\\x00\\x06hello\\x00\\x05by"))
@@ -181,17 +167,40 @@ class FrameReader(_Frames):
     what there is, none at the end, and None if there is nothing now.
     """
 
-    def __init__(self, file: Union[Readable, Receivable], max_length: int = 65536, sentinel: int = 0) -> None:
-        super().__init__(max_length, sentinel)
+    def __init__(
+        self,
+        file: Union[Readable, Receivable],
+        max_length: int = 65536,
+        sentinel: int = 0,
+        *,
+        sync: bool = False,
+    ) -> None:
+        self._read = read_of(file)
         self._file: Any = file
-        self._read = _read_of(file)
+        super().__init__(max_length, sentinel, sync)
+
+    def __repr__(self) -> str:
+        name = getattr(self._file, "name", None)
+        return f"<{type(self).__name__} of {self._file if name is None else name!r}>"
+
+    def __enter__(self) -> FrameReader:
+        return self
+
+    def __exit__(
+        self, kind: Optional[Type[BaseException]], error: Optional[BaseException], trace: Optional[TracebackType]
+    ) -> None:
+        self.close()
+
+    def close(self) -> None:
+        """Closes the port, the socket or the file. `with` does so at its end."""
+        self._file.close()
 
     def _take(self, timeout: Optional[float]) -> Optional[bytes]:
         """Decodes the bytes of one read, and returns them: none at the end, or None at a timeout."""
-        chunk = self._read(self._file, timeout)
-        if chunk:
-            self._pending.extend(self._decoder.feed(chunk))
-        return chunk
+        self._check_arrived()
+        if not self._arrived and not self._read(self._file, timeout, self._arrived):
+            return None
+        return self._decode()
 
     def read(self, timeout: Optional[float] = None) -> Optional[Outcome]:
         """Returns the outcome of the next frame, or None if it hasn't ended after `timeout` seconds.
@@ -200,7 +209,8 @@ class FrameReader(_Frames):
         nothing now and doesn't wait. Raises EOFError at the end of the stream.
 
         A timeout doesn't count what something else has read into a file's own buffer, as `readline` does: open the file
-        with `buffering=0`, or give such bytes to a `Decoder`.
+        with `buffering=0`, or give such bytes to a `Decoder`. If a socket has a timeout, pass the socket itself: its
+        `makefile` raises TimeoutError, and can't be read any more then.
 
         On Windows only serial ports and sockets can have a timeout.
 
@@ -211,24 +221,49 @@ class FrameReader(_Frames):
             ...
         EOFError: the stream ended
         """
-        deadline = _Deadline(timeout)
-        while not self._pending:
-            left = deadline.left()
-            chunk = self._take(left)
-            if chunk is None or (left == 0 and chunk and not self._pending):
-                return None
-            if not chunk:
-                raise self._end()
-        return self._pending.popleft()
+        deadline = Deadline(timeout)
+        mine = object()  # as in `alone`, by which the outcome would be the value of a call: see below
+        try:
+            if self._calls.setdefault("reader", mine) is not mine:
+                raise RuntimeError(IN_USE)
+            while not self._pending:
+                left = deadline.left()
+                chunk = self._take(left)
+                if chunk is None or (left == 0 and chunk and not self._pending):
+                    return None
+                if not chunk and not self._pending:
+                    raise self._end()
+            # not by `popleft`: after a call a signal handler may raise an exception, which drops the call's value
+            outcome = self._pending[0]
+            del self._pending[0]
+            return outcome
+        finally:
+            try:
+                if self._calls["reader"] is mine:
+                    del self._calls["reader"]
+            except KeyError:
+                pass
 
     def __iter__(self) -> FrameReader:
         return self
 
     def __next__(self) -> Outcome:
-        while not self._pending:
-            if not self._take(None):
-                raise StopIteration
-        return self._pending.popleft()
+        mine = object()  # as in `read`
+        try:
+            if self._calls.setdefault("reader", mine) is not mine:
+                raise RuntimeError(IN_USE)
+            while not self._pending:
+                if not self._take(None) and not self._pending:
+                    raise StopIteration
+            outcome = self._pending[0]
+            del self._pending[0]
+            return outcome
+        finally:
+            try:
+                if self._calls["reader"] is mine:
+                    del self._calls["reader"]
+            except KeyError:
+                pass
 
     def messages(self) -> Iterator[bytes]:
         """Yields the bytes of each message, and skips broken and too long frames.
@@ -237,10 +272,39 @@ class FrameReader(_Frames):
         >>> list(jcobs.FrameReader(io.BytesIO(b"\\x03hi\\x00\\x05a\\x00\\x06hello\\x00")).messages())
         [b'hi', b'hello']
         """
-        return map(operator.attrgetter("data"), filter(lambda outcome: isinstance(outcome, Message), self))
+        return map(operator.attrgetter("data"), filter(Message.__instancecheck__, self))
 
+    @alone("reader")
+    def discard(self, quiet: float = 0.05) -> None:
+        """Drops what was sent so far: outcomes that weren't read, the frame that has begun, and the bytes that wait.
+
+        If those end inside a frame, its rest is dropped too, until nothing has come for `quiet` seconds. On a line that
+        never rests this ends after a second, and the next outcome is that of the frame that has begun then.
+
+        A file in memory or on a disk is read to its end.
+
+        >>> import io
+        >>> reader = jcobs.FrameReader(io.BytesIO(b"\\x03hi\\x00\\x06hello\\x00\\x05by"))
+        >>> reader.discard()
+        >>> reader.unfinished
+        False
+        """
+        end = time.monotonic() + LONGEST_DISCARD
+        while self._take(Deadline(quiet).left() if self.unfinished else 0):
+            self._pending.clear()
+            if time.monotonic() > end:
+                return
+        self._pending.clear()
+        self._headless = False
+        self._decoder.reset()
+
+    @alone("writer")
     def write(self, message: ReadableBuffer) -> None:
         """Sends a message: its frame, and the sentinel after it.
+
+        If this fails, or ends by an exception of a signal handler, a part of the frame may have been sent. The next
+        message is then sent after bytes that end it, and the receiver reports at most one `Broken` or `TooLong` for
+        both. A port may still be sending when this returns: its own `flush` waits for it.
 
         >>> import io
         >>> file = io.BytesIO()
@@ -248,118 +312,57 @@ class FrameReader(_Frames):
         >>> file.getvalue()
         b'\\x06hello\\x00'
         """
-        frame = encode(message, sentinel=self._sentinel, terminated=True)
-        if hasattr(self._file, "sendall"):
-            self._file.sendall(frame)
-            return
-        raw = isinstance(self._file, io.RawIOBase)
-        while frame:
-            count = self._file.write(frame)
-            if count is None and raw:
-                raise BlockingIOError(errno.EAGAIN, f"the file took no more, with {len(frame)} bytes of the frame left")
-            frame = frame[count:] if count is not None else b""
-        if not raw and hasattr(self._file, "flush"):
-            self._file.flush()
+        data = self._out(message)
+        send(self._file, data)
+        self._sent()
+
+    @alone("reader", "request")
+    def request(self, message: ReadableBuffer, timeout: Optional[float], *, discard: bool = False) -> bytes:
+        """Sends a message, and returns the next one that comes, its reply.
+
+        Raises TimeoutError if none has come after `timeout` seconds, and `DecodeError` if it is damaged or too long.
+        After that its reply, or the rest of it, may still come. With `discard` what has come so far is dropped first, so
+        that it isn't taken for the reply to this message.
+
+        A reply that comes even later is taken for it, as COBS doesn't say which reply belongs to which request. If that
+        can be, number them.
+        """
+        Deadline(timeout)
+        if discard:
+            self.discard()
+        self.write(message)
+        return reply_of(self.read(timeout))
 
 
-class AsyncFrameReader(_Frames):
-    """Reads frames from an `asyncio.StreamReader`, and sends messages to its `writer`.
+def frames(
+    source: Union[Readable, Receivable, ReadableBuffer], max_length: int = 65536, sentinel: int = 0
+) -> FrameReader:
+    """Returns an iterator over the outcomes of the frames in bytes, or in a binary file, as a log.
 
-    `read` returns the outcome of one frame: a `Message`, `Broken` or `TooLong`. `async for` yields each one, as soon as
-    its frame ends, until the stream ends. If a read is cancelled, as by a timeout, no byte is lost, and reading goes on.
+    They are decoded as they are asked for. It is a `FrameReader`, so `unfinished` says at the end whether the last frame
+    was cut off, and `messages` skips damaged ones.
 
-    >>> import asyncio
-    >>> async def show() -> None:
-    ...     stream = asyncio.StreamReader()
-    ...     stream.feed_data(b"\\x03hi\\x00\\x06hello\\x00")
-    ...     stream.feed_eof()
-    ...     reader = jcobs.AsyncFrameReader(stream)
-    ...     print(await reader.read(timeout=0.5))
-    ...     async for outcome in reader:
-    ...         print(outcome)
-    >>> asyncio.run(show())
+    >>> for outcome in jcobs.frames(b"\\x03hi\\x00\\x05a\\x00\\x06hello\\x00"):
+    ...     print(outcome)
     Message(b'hi')
+    Broken(b'a')
     Message(b'hello')
     """
+    if not hasattr(source, "read") and not hasattr(source, "recv"):
+        source = InMemory(source)
+    return FrameReader(source, max_length, sentinel)
 
-    def __init__(
-        self,
-        stream: StreamReader,
-        max_length: int = 65536,
-        sentinel: int = 0,
-        *,
-        writer: Optional[StreamWriter] = None,
-    ) -> None:
-        super().__init__(max_length, sentinel)
-        self._stream = stream
-        self._writer = writer
 
-    async def _take(self) -> bytes:
-        """Decodes the bytes of one read, and returns them: none at the end. Between the two nothing is awaited."""
-        chunk = await self._stream.read(CHUNK)
-        self._pending.extend(self._decoder.feed(chunk))
-        return chunk
+class InMemory:
+    """Reads bytes as a file, without a copy of them all."""
 
-    async def _take_within(self, timeout: float) -> Optional[bytes]:
-        """Does the same, or returns None at the timeout. `asyncio.wait_for` would swallow a cancellation up to 3.11."""
-        import asyncio
-
-        taking = asyncio.ensure_future(self._take())
+    def __init__(self, data: Any) -> None:
         try:
-            await asyncio.wait({taking}, timeout=timeout)
-        finally:
-            if not taking.done():
-                taking.cancel()
-                await asyncio.wait({taking})
-        return None if taking.cancelled() else taking.result()
+            self._left = memoryview(data).cast("B")
+        except TypeError:
+            kind = type(data).__name__
+            raise TypeError(f"source must be a contiguous bytes-like object or a binary file, not {kind}") from None
 
-    async def read(self, timeout: Optional[float] = None) -> Optional[Outcome]:
-        """Returns the outcome of the next frame, or None if it hasn't ended after `timeout` seconds.
-
-        Raises EOFError at the end of the stream.
-        """
-        deadline = _Deadline(timeout)
-        while not self._pending:
-            left = deadline.left()
-            chunk = await self._take() if left is None else await self._take_within(left)
-            if chunk is None or (left == 0 and chunk and not self._pending):
-                return None
-            if not chunk:
-                raise self._end()
-        return self._pending.popleft()
-
-    def __aiter__(self) -> AsyncFrameReader:
-        return self
-
-    async def __anext__(self) -> Outcome:
-        while not self._pending:
-            if not await self._take():
-                raise StopAsyncIteration
-        return self._pending.popleft()
-
-    def messages(self) -> AsyncIterator[bytes]:
-        """Yields the bytes of each message, and skips broken and too long frames."""
-        return _AsyncMessages(self)
-
-    async def write(self, message: ReadableBuffer) -> None:
-        """Sends a message: its frame, and the sentinel after it. Raises TypeError if there is no `writer`."""
-        if self._writer is None:
-            raise TypeError("to write, pass the stream's writer: AsyncFrameReader(stream, writer=writer)")
-        self._writer.write(encode(message, sentinel=self._sentinel, terminated=True))
-        await self._writer.drain()
-
-
-class _AsyncMessages:
-    """The messages of a reader. A generator would end if it is cancelled."""
-
-    def __init__(self, reader: AsyncFrameReader) -> None:
-        self._reader = reader
-
-    def __aiter__(self) -> _AsyncMessages:
-        return self
-
-    async def __anext__(self) -> bytes:
-        while True:
-            outcome = await self._reader.__anext__()
-            if isinstance(outcome, Message):
-                return outcome.data
+    def read(self, size: int, /) -> bytes:
+        chunk, self._left = bytes(self._left[:size]), self._left[size:]
+        return chunk

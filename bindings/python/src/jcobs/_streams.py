@@ -11,14 +11,24 @@ if TYPE_CHECKING:
 
 
 class Message(core.Outcome):
-    """A message, `data`.
+    """A message, `data`. It is true even if it has no bytes.
 
-    >>> jcobs.Message(b"hi").data
-    b'hi'
+    >>> message = jcobs.Message(b"hi")
+    >>> message.data, bytes(message), len(message)
+    (b'hi', b'hi', 2)
     """
 
     __slots__ = ()
     __match_args__ = ("data",)
+
+    def __bytes__(self) -> bytes:
+        return self.data
+
+    def __len__(self) -> int:
+        return len(self.data)
+
+    def __bool__(self) -> bool:
+        return True
 
 
 class Broken(core.Outcome):
@@ -35,7 +45,7 @@ class TooLong(core.Outcome):
     __match_args__ = ("data",)
 
 
-_CLASSES = (Message, Broken, TooLong)
+CLASSES = (Message, Broken, TooLong)
 Outcome = Union[Message, Broken, TooLong]
 
 
@@ -54,7 +64,8 @@ class Decoder(Coder):
     `max_length` is the length of the longest message; the decoder allocates so much memory at once. A broken or too
     long frame never affects the next one.
 
-    A decoder is for one thread at a time: while a call is at work, each method raises RuntimeError in other threads.
+    A decoder is for one thread at a time: while a call is at work, each method raises RuntimeError in other threads, and
+    in signal handlers.
     """
 
     __slots__ = ("_core",)
@@ -75,7 +86,7 @@ class Decoder(Coder):
         Broken(b'hel')
         TooLong(b'hello')
         """
-        return self._core.feed(chunk, _CLASSES)
+        return self._core.feed(chunk, CLASSES)
 
     @property
     def unfinished(self) -> bool:

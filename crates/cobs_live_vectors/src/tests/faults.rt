@@ -2,17 +2,17 @@
 ghost use Rattle.std.specs.Prelude.{◌≡◌, []};
 ghost use Rattle.std.specs.Io.Buffered.{writer_buffer};
 
-use super::{ByteReader, SHOWN, SILENT, STREAM, reader, settings, timer, written_after};
+use super::{ByteReader, SHOWN, SILENT, STREAM, clock, reader, settings, timer, written_after};
 use cobs_live::clock::Stamp;
 use cobs_live::fault::WatchFault;
-use cobs_live::input::AnyInput;
+use cobs_live::input::{AnyInput, LiveInput};
 use cobs_live::port::{Opener, Reopened};
 use cobs_live::show::run_show;
 use cobs_live::shown::Style;
 use cobs_live::tally::Tally;
 use std::alloc::Global;
 use std::cell::Cell;
-use std::io::{self, BufWriter, ErrorKind, Read, Write};
+use std::io::{self, BufWriter, ErrorKind, Write};
 use std::test::Fail;
 
 /// Takes one byte a write. The write numbered `failing`, from 0 on, fails.
@@ -52,9 +52,9 @@ fn writer(alloc: Global, failing: usize, fault: ErrorKind) -> ByteWriter {
 }
 
 /// Shows each piece as hexadecimal digits, without times.
-fn show<R: Read, W: Write + Drop>(
+fn show<S: LiveInput<W>, W: Write + Drop>(
     alloc: Global,
-    input: &mut AnyInput<R>,
+    input: &mut S,
     output: &mut BufWriter<W>,
 ) -> Result<Result<Tally, WatchFault>, Fail>
     requires flushed { writer_buffer output.old ≡ [] }
@@ -130,7 +130,7 @@ impl<'a> Opener<ByteReader<'a>> for Plug<'a> {
         let number = self.opened.get();
         self.opened.set(number.saturating_add(1));
         match number {
-            1 | 3 => Ok(reader(self.bytes, 5, ErrorKind::BrokenPipe)),
+            1 | 3 => Ok(reader(self.bytes, 8, ErrorKind::BrokenPipe)),
             5 => Ok(reader(self.bytes, 0, ErrorKind::WouldBlock)),
             _ => Err(ErrorKind::NotFound.into()),
         }
@@ -138,21 +138,91 @@ impl<'a> Opener<ByteReader<'a>> for Plug<'a> {
 }
 
 #[test]
-fn a_line_is_opened_again_behind_a_sentinel(rt: HostRuntime) -> Result<(), Fail> {
+fn a_line_is_opened_again_after_a_hang_up(rt: HostRuntime) -> Result<(), Fail> {
     let alloc = rt.alloc();
     let plug = Plug {
-        bytes: b"\x03hi\x00\x03h",
+        bytes: b"\x03b\x00\x03hi\x00\x03h",
         opened: Cell::new(0),
     };
     // The first line ends, and the others fail.
     let first = reader(b"\x02a\x00\x03b", usize::MAX, ErrorKind::Other);
-    let mut input = AnyInput::new(Reopened::new(&rt, plug, 0, first));
+    let mut input = Reopened::new(clock(), plug, Some(first));
     let mut output = BufWriter::new(alloc, Vec::new(alloc))?;
     let shown = show(alloc, &mut input, &mut output)?;
     assert_eq!(rt; shown, Err(WatchFault::ReadFailed));
     assert_eq!(rt;
         output.get_ref().as_slice(),
-        b"message 1 61\nbroken 1\nmessage 2 6869\nbroken 0\nmessage 2 6869\nbroken 0\n".as_slice()
+        b"message 1 61\nunfinished\nhung up\nmessage 2 6869\nunfinished\nhung up\n\
+        message 2 6869\nunfinished\nhung up\n"
+            .as_slice()
     );
+    Ok(())
+}
+
+/// A frame, at each of whose bytes the line may hang up.
+const CUT: &[u8] = b"\x03ab\x05cdef\x00";
+
+/// How a hang-up is shown by style: nothing had begun, or a frame had.
+const HUNG_UP: [(Style, &[u8], &[u8]); 7] = [
+    (Style::Hex, b"hung up\n", b"unfinished\nhung up\n"),
+    (Style::Text, b"hung up\n", b"unfinished\nhung up\n"),
+    (Style::Raw, b"", b""),
+    (Style::Bytes, b"", b""),
+    (Style::Pcap, b"", b""),
+    (Style::Hexdump, b"hung up\n", b"unfinished\nhung up\n"),
+    (
+        Style::Json,
+        b"{\"kind\":\"hung-up\"}\n",
+        b"{\"kind\":\"unfinished\"}\n{\"kind\":\"hung-up\"}\n",
+    ),
+];
+
+/// Opens a line once that gives these bytes.
+#[derive(Drop)]
+struct Rest<'a> {
+    bytes: &'a [u8],
+    opened: Cell<bool>,
+}
+
+impl<'a> Opener<ByteReader<'a>> for Rest<'a> {
+    fn open(&self) -> io::Result<ByteReader<'a>> {
+        if self.opened.get() {
+            return Ok(reader(b"", 0, ErrorKind::WouldBlock));
+        }
+        self.opened.set(true);
+        Ok(reader(self.bytes, usize::MAX, ErrorKind::Other))
+    }
+}
+
+#[test]
+fn a_frame_that_a_hang_up_cuts_is_no_message(rt: HostRuntime) -> Result<(), Fail> {
+    let alloc = rt.alloc();
+    for (style, idle, begun) in HUNG_UP {
+        for cut in 0..CUT.len() {
+            let rest = Rest {
+                bytes: &CUT[cut..],
+                opened: Cell::new(false),
+            };
+            let first = reader(&CUT[..cut], usize::MAX, ErrorKind::Other);
+            let mut input = Reopened::new(clock(), rest, Some(first));
+            let mut output = BufWriter::new(alloc, Vec::new(alloc))?;
+            let settings = settings(alloc, style, Stamp::Untimed);
+            let shown = run_show(
+                alloc,
+                &settings,
+                SILENT,
+                &timer(Stamp::Untimed)?,
+                &mut input,
+                &mut output,
+                &mut Vec::new(alloc),
+            );
+            assert_eq!(rt; shown, Err(WatchFault::ReadFailed));
+            // The end of the second line is a hang-up too.
+            let before = if cut == 0 { idle } else { begun };
+            let text = output.get_ref().as_slice();
+            assert!(rt; text.starts_with(before) && text.ends_with(idle));
+            assert_eq!(rt; text.len(), before.len() + idle.len());
+        }
+    }
     Ok(())
 }

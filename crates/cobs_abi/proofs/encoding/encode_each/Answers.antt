@@ -49,19 +49,19 @@ returns-then-is_empty c = record {
   };
 }
 
-pub returns-then-not-fits : goal.returns-then-not-fits
-returns-then-not-fits c = record {
+pub returns-then-not-has_room : goal.returns-then-not-has_room
+returns-then-not-has_room c = record {
   encodes = record {
     fits = λ m h.
         let h' = subst (λ (r : Reached). CobsEncoderAfter c.args.buffer.now r m) (sym c.progress-start.ensures) h in
         let some = something c.args.bytes.now (eqb-false _ 0 (sym c.is_empty.ensures ∙ c.if-is_empty.false)) in
         let place = c.law_16.ensures.place c.args.buffer.now m _ h' in
         let e = after-len c.law_16.ensures.goes_on c.args.buffer.now m c.args.bytes.now (reached_at c.progress-start.result) place.some some h' in
-        let no = c.if-not-fits.true in
-        let small = ap status_of c.too_small-then-not-fits.ensures in
-        (λ t. absurd cc, λ le. let yes = c.fits.ensures.fits.1 (omega arith) in absurd cc);
+        let no = c.if-not-has_room.true in
+        let small = ap status_of c.too_small-then-not-has_room.ensures in
+        (λ t. absurd cc, λ le. let yes = c.has_room.ensures.fits.1 (omega arith) in absurd cc);
     taken = search rules;
-    counted = λ ok. absurd (omega (arith, ok, ap status_of c.too_small-then-not-fits.ensures));
+    counted = λ ok. absurd (omega (arith, ok, ap status_of c.too_small-then-not-has_room.ensures));
     returned = search rules;
     too_small = search rules;
     rejected = search rules;
@@ -79,7 +79,7 @@ returns c = record {
         let some = something c.args.bytes.now (eqb-false _ 0 (sym c.is_empty.ensures ∙ c.if-is_empty.false)) in
         let place = c.law_16.ensures.place c.args.buffer.now m _ h' in
         let e = after-len c.law_16.ensures.goes_on c.args.buffer.now m c.args.bytes.now (reached_at c.progress-start.result) place.some some h' in
-        let enough = c.fits.ensures.fits.0 c.if-not-fits.false in
+        let enough = c.has_room.ensures.fits.0 c.if-not-has_room.false in
         (λ t. omega arith, λ le. ap status_of c.done-2.ensures);
     taken = λ _ m h.
         let h' = subst (λ (r : Reached). CobsEncoderAfter c.args.buffer.now r m) (sym c.progress-start.ensures) h in

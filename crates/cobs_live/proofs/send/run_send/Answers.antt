@@ -38,7 +38,7 @@ by_line-preserved g c =
     let consumed : Consumes (g.S.LiveLines.remaining c.by_line.input) (g.S.LiveLines.remaining c.read_line_beside.new.self) line = rw start at c.in-Ok.ensures.none_lost in
     let written = rw (c.without_newline.ensures.text, c.deref.ensures.value) at sent.1 in
     let returned = rw (c.without_newline.ensures.text, c.deref.ensures.value) at c.in_ok-send_text.ensures.returned in
-    let read : Read = record { back = writer_buffer c.by_line.output; written = g.W.Write.contents (writer_inner c.by_line.output); came = line } in
+    let read : Read ℕ = record { back = writer_buffer c.by_line.output; written = g.W.Write.contents (writer_inner c.by_line.output); came = line } in
     let step : g.S.LiveLines.step c.by_line.input read c.read_line_beside.new.self = rw start at c.in-Ok.ensures.step in
     let live = live-read read c.by_line.invariant.live step c.by_line.invariant.flushed refl in
     let same : came live.reads ≡ c.by_line.invariant.live.so_far.lines ++ line ∷ [] = came-push c.by_line.invariant.live.live.reads read ∙ ap (λ (ls : List (List ℕ)). ls ++ line ∷ []) c.by_line.invariant.live.same in

@@ -4,7 +4,4 @@ use Rattle.cobs_live.proofs.port.Reopened.wait.Given as goal
 
 -- the line was opened here, if it wasn't open
 abbrev pub invariant-by_try : goal.invariant-by_try
-invariant-by_try g l = record {
-  stays : IsSome l.fn.self.line → l.self.line ≡ l.fn.self.line;
-  sentinel : l.self.sentinel ≡ l.fn.self.sentinel;
-}
+invariant-by_try g l = IsSome l.fn.self.line → l.self.line ≡ l.fn.self.line

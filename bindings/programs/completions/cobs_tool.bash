@@ -1,0 +1,2 @@
+# bash completion for cobs_tool
+complete -W 'show encode decode' cobs_tool

@@ -1,0 +1,32 @@
+# bash completion for cobs_watch
+_cobs_watch() {
+    local cur=${COMP_WORDS[COMP_CWORD]} prev=${COMP_WORDS[COMP_CWORD - 1]} words
+    local show='--text --raw --hexdump --json --bytes --pcap --partial --number --time --color --only --min --max --prefix
+        --crc --crc-order --length --sentinel --skip-first --count --count-every --reconnect --log --help'
+    local send='--hex --sentinel --crc --crc-order --help'
+    local checks='crc-8 crc-16-ccitt-false crc-16-modbus crc-16-xmodem crc-16-kermit crc-16-arc crc-32 crc-32c'
+    COMPREPLY=()
+    case $prev in
+    -t | --time) words='start last utc local' ;;
+    --color) words='auto always never' ;;
+    -o | --only) words='message broken too-long bad-crc unfinished' ;;
+    --crc) words=$checks ;;
+    --crc-order) words='big little' ;;
+    --log) compopt -o default && return ;;
+    --min | --max | --prefix | --length | --sentinel | --count-every) return ;;
+    *)
+        case $cur:${COMP_WORDS[1]} in
+        -*:send) words=$send ;;
+        -*:show) words=$show ;;
+        -*) words="$show --version" ;;
+        *:send) return ;;
+        *)
+            compopt -o default
+            [ "$COMP_CWORD" != 1 ] || words='show send'
+            ;;
+        esac
+        ;;
+    esac
+    mapfile -t COMPREPLY < <(compgen -W "$words" -- "$cur")
+}
+complete -F _cobs_watch cobs_watch

@@ -1,0 +1,239 @@
+"""Frames from the streams of asyncio, trio and anyio, and messages to them."""
+
+from __future__ import annotations
+
+import importlib
+import time
+from typing import TYPE_CHECKING, Any, AsyncIterator, Optional, Protocol, Union
+
+from jcobs._files import CHUNK
+from jcobs._readers import LONGEST_DISCARD, Deadline, Frames, reply_of
+from jcobs._streams import Message, Outcome
+
+if TYPE_CHECKING:
+    from asyncio import StreamReader, StreamWriter
+    from types import TracebackType
+    from typing import Type
+
+    from _typeshed import ReadableBuffer
+
+# The shortest wait in seconds for a stream of trio or anyio. These look for a cancellation before they look for bytes.
+SHORTEST = 0.01
+
+
+class ReceivesSome(Protocol):
+    """A stream of trio."""
+
+    async def receive_some(self, max_bytes: Any = None) -> Any:
+        """Returns at most `max_bytes` bytes, none at the end."""
+
+
+class Receives(Protocol):
+    """A stream of anyio."""
+
+    async def receive(self, max_bytes: int = CHUNK) -> bytes:
+        """Returns at most `max_bytes` bytes, or raises `anyio.EndOfStream`."""
+
+
+class AsyncFrameReader(Frames):
+    """Reads frames from a stream of asyncio, trio or anyio, and sends messages.
+
+    `read` returns the outcome of one frame: a `Message`, `Broken` or `TooLong`. `async for` yields each one, as soon as
+    its frame ends, until the stream ends. If a read is cancelled, as by a timeout, no byte is lost, and reading goes on.
+
+    The stream is an `asyncio.StreamReader`, and `writer` its `StreamWriter`; or an object with `receive_some`, as those
+    of trio; or one with `receive`, as those of anyio. Messages are sent to the latter two by their `send_all` and `send`,
+    or to those of `writer`.
+
+    With `sync` a sentinel is sent in front of the first frame. It ends what the line has of an earlier sender or of
+    noise.
+
+    >>> import asyncio
+    >>> async def show() -> None:
+    ...     stream = asyncio.StreamReader()
+    ...     stream.feed_data(b"\\x03hi\\x00\\x06hello\\x00")
+    ...     stream.feed_eof()
+    ...     reader = jcobs.AsyncFrameReader(stream)
+    ...     print(await reader.read(timeout=0.5))
+    ...     async for outcome in reader:
+    ...         print(outcome)
+    >>> asyncio.run(show())
+    Message(b'hi')
+    Message(b'hello')
+    """
+
+    def __init__(
+        self,
+        stream: Union[StreamReader, ReceivesSome, Receives],
+        max_length: int = 65536,
+        sentinel: int = 0,
+        *,
+        writer: Union[StreamWriter, Any, None] = None,
+        sync: bool = False,
+    ) -> None:
+        names = [name for name in ("receive_some", "receive", "read") if hasattr(stream, name)]
+        if not names:
+            raise TypeError(f"stream must be one of asyncio, trio or anyio, not {type(stream).__name__}")
+        super().__init__(max_length, sentinel, sync)
+        self._stream: Any = stream
+        self._name = names[0]
+        self._writer: Any = stream if writer is None and self._name != "read" else writer
+
+    def __repr__(self) -> str:
+        return f"<{type(self).__name__} of {self._stream!r}>"
+
+    async def __aenter__(self) -> AsyncFrameReader:
+        return self
+
+    async def __aexit__(
+        self, kind: Optional[Type[BaseException]], error: Optional[BaseException], trace: Optional[TracebackType]
+    ) -> None:
+        await self.close()
+
+    async def close(self) -> None:
+        """Closes the stream, or the writer if there is one. `async with` does so at its end."""
+        if hasattr(self._writer, "aclose"):
+            await self._writer.aclose()
+        elif self._writer is not None:
+            self._writer.close()
+            await self._writer.wait_closed()
+        if self._stream is not self._writer and hasattr(self._stream, "aclose"):
+            await self._stream.aclose()
+
+    async def _receive(self) -> bytes:
+        """Reads what the stream has, or waits for it."""
+        if self._name != "receive":
+            chunk: bytes = await getattr(self._stream, self._name)(CHUNK)
+            return chunk
+        import anyio
+
+        try:
+            received: bytes = await self._stream.receive(CHUNK)
+            return received
+        except anyio.EndOfStream:
+            return b""
+
+    async def _take(self) -> bytes:
+        """Decodes the bytes of one read, and returns them: none at the end. Between the two nothing is awaited."""
+        if not self._arrived:
+            self._arrived.append(await self._receive())
+        return self._decode()
+
+    async def _take_within(self, timeout: float) -> Optional[bytes]:
+        """Does the same, or returns None at the timeout."""
+        if self._name == "read":
+            return await self._take_by_a_task(timeout)
+        library: Any = importlib.import_module("trio" if self._name == "receive_some" else "anyio")
+        with library.move_on_after(max(timeout, SHORTEST)):
+            return await self._take()
+        return None
+
+    async def _take_by_a_task(self, timeout: float) -> Optional[bytes]:
+        """Does so over asyncio. `asyncio.wait_for` would swallow a cancellation up to 3.11."""
+        import asyncio
+
+        taking = asyncio.ensure_future(self._take())
+        try:
+            await asyncio.wait({taking}, timeout=timeout)
+        finally:
+            if not taking.done():
+                taking.cancel()
+                await asyncio.wait({taking})
+        return None if taking.cancelled() else taking.result()
+
+    async def read(self, timeout: Optional[float] = None) -> Optional[Outcome]:
+        """Returns the outcome of the next frame, or None if it hasn't ended after `timeout` seconds.
+
+        Raises EOFError at the end of the stream.
+        """
+        deadline = Deadline(timeout)
+        while not self._pending:
+            left = deadline.left()
+            chunk = await self._take() if left is None else await self._take_within(left)
+            if chunk is None or (left == 0 and chunk and not self._pending):
+                return None
+            if not chunk and not self._pending:
+                raise self._end()
+        return self._pending.popleft()
+
+    def __aiter__(self) -> AsyncFrameReader:
+        return self
+
+    async def __anext__(self) -> Outcome:
+        while not self._pending:
+            if not await self._take() and not self._pending:
+                raise StopAsyncIteration
+        return self._pending.popleft()
+
+    def messages(self) -> AsyncIterator[bytes]:
+        """Yields the bytes of each message, and skips broken and too long frames."""
+        return AsyncMessages(self)
+
+    async def discard(self, quiet: float = 0.05) -> None:
+        """Drops what was sent so far: outcomes that weren't read, the frame that has begun, and the bytes that wait.
+
+        If those end inside a frame, its rest is dropped too, until nothing has come for `quiet` seconds. On a line that
+        never rests this ends after a second, and the next outcome is that of the frame that has begun then.
+        """
+        end = time.monotonic() + LONGEST_DISCARD
+        while await self._take_within(Deadline(quiet).left() or 0.0 if self.unfinished else 0.0):
+            self._pending.clear()
+            if time.monotonic() > end:
+                return
+        self._pending.clear()
+        self._headless = False
+        self._decoder.reset()
+
+    async def write(self, message: ReadableBuffer) -> None:
+        """Sends a message: its frame, and the sentinel after it. Raises TypeError if there is no `writer`.
+
+        If this is cancelled, or fails, a stream of trio or anyio may have sent a part of the frame. The next message is
+        then sent after bytes that end it, and the receiver reports at most one `Broken` or `TooLong` for both.
+        """
+        if self._writer is None:
+            raise TypeError("to write, pass the stream's writer: AsyncFrameReader(stream, writer=writer)")
+        if not hasattr(self._writer, "drain"):
+            await self._send(message)
+            return
+        self._writer.write(self._out(message))
+        self._sent()  # the writer has all of it, and sends it even if this call is cancelled
+        await self._writer.drain()
+
+    async def _send(self, message: ReadableBuffer) -> None:
+        """Sends a message to a stream of trio or anyio."""
+        mine = object()
+        if self._calls.setdefault("writer", mine) is not mine:
+            raise RuntimeError("the writer is in use by another call")
+        try:
+            await getattr(self._writer, "send_all" if hasattr(self._writer, "send_all") else "send")(self._out(message))
+            self._sent()
+        finally:
+            del self._calls["writer"]
+
+    async def request(self, message: ReadableBuffer, timeout: Optional[float], *, discard: bool = False) -> bytes:
+        """Sends a message, and returns the next one that comes, its reply.
+
+        Raises TimeoutError if none has come after `timeout` seconds, and `DecodeError` if it is damaged or too long.
+        With `discard` what has come so far is dropped first, as the late reply to another request.
+        """
+        Deadline(timeout)
+        if discard:
+            await self.discard()
+        await self.write(message)
+        return reply_of(await self.read(timeout))
+
+
+class AsyncMessages:
+    """The messages of a reader. A generator would end if it is cancelled."""
+
+    def __init__(self, reader: AsyncFrameReader) -> None:
+        self._reader = reader
+
+    def __aiter__(self) -> AsyncMessages:
+        return self
+
+    async def __anext__(self) -> bytes:
+        while True:
+            outcome = await self._reader.__anext__()
+            if isinstance(outcome, Message):
+                return outcome.data

@@ -1,0 +1,220 @@
+"""How the bytes of serial ports, sockets, pipes and files are read and written."""
+
+from __future__ import annotations
+
+import errno
+import io
+import os
+import select
+import socket
+import sys
+from typing import Any, Callable, Deque, Iterable, Optional, Protocol
+
+CHUNK = 65536
+# Stands for bytes that were read and are lost. It differs from other bytes by its identity.
+GAP = bytes(bytearray(b"gap"))
+
+Kept = Deque[bytes]
+# Reads what a file has, or waits for it up to a number of seconds, and keeps the bytes: none at the end of the stream.
+# Returns whether it did. If not, that time is over, or without one the timeout of the file itself.
+Read = Callable[[Any, Optional[float], Kept], bool]
+
+
+class Readable(Protocol):
+    """An object with `read`, as a binary file or a `serial.Serial`."""
+
+    def read(self, size: int, /) -> Optional[bytes]:
+        """Returns at most `size` bytes: none at the end, or None if there are none now."""
+
+
+class Receivable(Protocol):
+    """An object with `recv`, as a socket."""
+
+    def recv(self, size: int, /) -> bytes:
+        """Returns at most `size` bytes, or none at the end."""
+
+
+def keep(kept: Kept, read: Callable[[int], Optional[bytes]], size: int, in_python: bool = False) -> bool:
+    """Reads, and keeps the bytes, unless there are none now.
+
+    No bytecode runs between the two if `read` is a function in C. So a signal handler that raises an exception can't
+    make bytes vanish that were read. One `in_python` may have dropped them: then a GAP is kept.
+    """
+    try:
+        kept.extend(map(read, (size,)))  # type: ignore[arg-type]
+    except OSError:
+        raise
+    except BaseException:
+        if in_python and not kept:
+            kept.append(GAP)
+        raise
+    if kept[-1] is None:
+        kept.pop()
+        return False
+    return True
+
+
+def descriptor_of(file: Any) -> Optional[int]:
+    """Returns a file's descriptor, or None if it has none."""
+    try:
+        return int(file.fileno())
+    except (AttributeError, io.UnsupportedOperation):
+        return None
+
+
+def wait(descriptors: Iterable[int], timeout: Optional[float]) -> bool:
+    """Waits until one of the descriptors has bytes or has ended, and returns whether that came in time."""
+    if not hasattr(select, "poll"):
+        return bool(select.select(list(descriptors), [], [], timeout)[0])
+    poll = select.poll()
+    for descriptor in descriptors:
+        poll.register(descriptor, select.POLLIN)
+    return bool(poll.poll(None if timeout is None else timeout * 1000))
+
+
+def is_ready(file: Any, timeout: float) -> bool:
+    """Waits until a file or socket has bytes or has ended, and returns whether that came in time."""
+    if not hasattr(file, "fileno"):
+        kind = type(file).__name__
+        raise TypeError(f"a timeout needs a serial port, a socket or a file: {kind} has no fileno")
+    descriptor = descriptor_of(file)
+    if descriptor is None:
+        return True  # bytes in memory
+    if hasattr(file, "pending") and file.pending():
+        return True  # a socket of pyOpenSSL has decrypted some already
+    return wait([descriptor], timeout)
+
+
+def read_port(port: Any, timeout: Optional[float], kept: Kept) -> bool:
+    """Reads what a serial port has, or waits for the next byte.
+
+    It waits for the descriptor. To set the port's own timeout would configure the port anew, while bytes come in.
+    """
+    waiting = port.in_waiting
+    if not waiting:
+        abort = getattr(port, "pipe_abort_read_r", None)  # readable after port.cancel_read()
+        descriptors = [port.fileno()] if abort is None else [port.fileno(), abort]
+        if not wait(descriptors, port.timeout if timeout is None else timeout):
+            return False
+        waiting = port.in_waiting
+    return keep_some(kept, port, waiting)
+
+
+def read_port_by_its_timeout(port: Any, timeout: Optional[float], kept: Kept) -> bool:
+    """Reads what a serial port without a descriptor has, or waits for the next byte: on Windows, or by rfc2217://."""
+    waiting = port.in_waiting
+    if waiting or timeout is None:
+        return keep_some(kept, port, waiting)
+    own = port.timeout
+    port.timeout = timeout
+    try:
+        return keep_some(kept, port, 1)
+    finally:
+        port.timeout = own
+
+
+def read_port_at_a_socket(port: Any, timeout: Optional[float], kept: Kept) -> bool:
+    """Reads what a port by socket:// has, or waits for it. Its `in_waiting` is 1 for any number of bytes."""
+    own = port.timeout
+    if not wait([port.fileno()], own if timeout is None else timeout):
+        return False
+    port.timeout = 0
+    try:
+        return keep_some(kept, port, CHUNK)
+    finally:
+        port.timeout = own
+
+
+def keep_some(kept: Kept, port: Any, waiting: int) -> bool:
+    """Reads as many bytes as wait, or 1, and keeps them. None are the timeout of a port, which has no end."""
+    keep(kept, port.read, min(max(waiting, 1), CHUNK), in_python=True)
+    if kept[-1]:
+        return True
+    kept.pop()
+    return False
+
+
+def read_socket(sock: Any, timeout: Optional[float], kept: Kept) -> bool:
+    """Reads what a socket has, or waits for it."""
+    if timeout is not None and not is_ready(sock, timeout):
+        return False
+    try:
+        return keep(kept, sock.recv, CHUNK)
+    except BlockingIOError:
+        return False
+    except socket.timeout as error:
+        if error.errno == errno.ETIMEDOUT:
+            raise  # the connection is lost
+        return False
+
+
+def read_ssl(sock: Any, timeout: Optional[float], kept: Kept) -> bool:
+    """Reads what an SSL socket has, or waits for it: what makes it readable may be a record without data."""
+    from ssl import SSLWantReadError
+
+    own = sock.gettimeout()
+    try:
+        if timeout is not None:
+            sock.settimeout(timeout)
+        return read_socket(sock, None, kept)
+    except SSLWantReadError:
+        return False
+    finally:
+        if timeout is not None:
+            sock.settimeout(own)
+
+
+def waits(file: Any) -> bool:
+    """Returns whether a read of a file waits for bytes."""
+    try:
+        return os.get_blocking(file.fileno())
+    except (AttributeError, io.UnsupportedOperation):
+        return True  # no descriptor, or Windows
+
+
+def read_file(file: Any, timeout: Optional[float], kept: Kept) -> bool:
+    """Reads what a file has, or waits for it."""
+    if timeout is not None and not is_ready(file, timeout):
+        return False
+    of_socket = isinstance(getattr(file, "raw", file), socket.SocketIO)
+    found = keep(kept, getattr(file, "read1", file.read), CHUNK, in_python=of_socket)
+    if (not found or not kept[-1]) and hasattr(file, "raw") and not waits(file):
+        # no bytes from `read1` are the end, or up to Python 3.13 none now; then the buffer is empty
+        if found:
+            kept.pop()
+        return keep(kept, file.raw.read, CHUNK)
+    return found
+
+
+def read_of(file: Any) -> Read:
+    """Returns the read for what a file is, or raises TypeError if it can't be one."""
+    if isinstance(file, io.TextIOBase):
+        raise TypeError(f'file must be binary, as by open(path, "rb"), not {type(file).__name__}')
+    if hasattr(file, "in_waiting"):
+        if str(getattr(file, "name", "")).startswith("socket://"):
+            return read_port_at_a_socket
+        return read_port_by_its_timeout if descriptor_of(file) is None else read_port
+    if hasattr(file, "recv"):
+        ssl = sys.modules.get("ssl")
+        return read_ssl if ssl and isinstance(file, ssl.SSLSocket) else read_socket
+    if not hasattr(file, "read") and not hasattr(file, "write"):
+        raise TypeError(f"file must be a serial port, a socket or a binary file, not {type(file).__name__}")
+    return read_file
+
+
+def send(file: Any, data: bytes) -> None:
+    """Writes all of the data to a file, or raises an exception after some of it."""
+    if hasattr(file, "sendall"):
+        file.sendall(data)
+        return
+    raw, port = isinstance(file, io.RawIOBase), hasattr(file, "in_waiting")
+    while data:
+        count = file.write(data)
+        data = data[count:] if count is not None or raw else b""
+        if data and port and getattr(file, "write_timeout", None) != 0:
+            raise OSError(errno.ECANCELED, f"the write was cancelled, with {len(data)} bytes of the frame left")
+        if count is None and raw:
+            raise BlockingIOError(errno.EAGAIN, f"the file took no more, with {len(data)} bytes of the frame left")
+    # A port has no buffer of its own: its flush waits until the bytes are on the wire, however long that takes.
+    if not raw and not port and hasattr(file, "flush"):
+        file.flush()

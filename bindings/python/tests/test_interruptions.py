@@ -1,0 +1,235 @@
+"""Readers that threads share, and exceptions of signal handlers while a reader is at work."""
+
+import os
+import signal
+import socket
+import stat
+import sys
+import threading
+
+import pytest
+
+import jcobs
+from test_readers import KINDS, ends
+
+MESSAGES = [b"%d\0" % number * (number % 7) + b"%d" % number for number in range(20_000)]
+STREAM = b"".join(jcobs.encode(message, terminated=True) for message in MESSAGES)
+
+
+def sent(end):
+    """A thread that sends the stream to a raw file."""
+
+    def send():
+        with end:
+            for at in range(0, len(STREAM), 100):
+                left = STREAM[at : at + 100]
+                while left:
+                    left = left[end.write(left) :]
+            if stat.S_ISSOCK(os.fstat(end.fileno()).st_mode):  # a pipe ends by `close`
+                with socket.socket(fileno=os.dup(end.fileno())) as sock:
+                    sock.shutdown(socket.SHUT_WR)
+
+    sender = threading.Thread(target=send)
+    sender.start()
+    return sender
+
+
+@pytest.mark.parametrize("timeout", [None, 0.2])
+def test_threads_that_share_a_reader(timeout):
+    """Each message is read once, or a read is refused: no bytes are swapped."""
+    found, refused = [], []
+
+    def work(reader):
+        while True:
+            try:
+                outcome = reader.read(timeout)
+            except RuntimeError as error:
+                refused.append(str(error))
+            except EOFError:
+                return
+            else:
+                if outcome is not None:
+                    found.append(outcome)
+
+    with ends("socket") as (here, end):
+        reader = jcobs.FrameReader(here)
+        workers = [threading.Thread(target=work, args=(reader,)) for _ in range(3)]
+        for worker in workers:
+            worker.start()
+        sent(end).join()
+        for worker in workers:
+            worker.join()
+    assert sorted(outcome.data for outcome in found) == sorted(MESSAGES)
+    assert all(type(outcome) is jcobs.Message for outcome in found)
+    assert set(refused) <= {"the reader is in use by another call"}
+
+
+def test_a_second_call_is_refused_while_one_waits():
+    here, there = socket.socketpair()
+    with jcobs.FrameReader(here) as reader, there:
+        waits = threading.Event()
+        own = reader._read
+        reader._read = lambda *words: waits.set() or own(*words)
+        found = []
+        worker = threading.Thread(target=lambda: found.append(reader.read(60)))
+        worker.start()
+        assert waits.wait(60)
+        for call in (reader.read, lambda: next(reader), reader.discard, lambda: reader.request(b"ask", 1)):
+            with pytest.raises(RuntimeError, match="^the reader is in use by another call$"):
+                call()
+        reader.write(b"hello")  # one thread may read while another one writes
+        assert b"\x06hello\0" in there.recv(100)
+        there.sendall(b"\x03hi\0")
+        worker.join()
+        assert found == [jcobs.Message(b"hi")] and reader.read(timeout=0) is None
+
+
+def test_a_second_write_is_refused_while_one_waits():
+    here, there = socket.socketpair()
+    with jcobs.FrameReader(here) as writer, there:
+        worker = threading.Thread(target=writer.write, args=(b"\x01" * 5_000_000,))
+        worker.start()
+        with pytest.raises(RuntimeError, match="^the writer is in use by another call$"):
+            while True:  # until the other thread is in its call, or the limit of time is over
+                if there.recv(1, socket.MSG_PEEK):
+                    writer.write(b"small")
+        found = []
+        reader = jcobs.FrameReader(there, 5_000_000)
+        found.append(reader.read(60))
+        worker.join()
+        writer.write(b"next")
+        assert [*found, reader.read(60)] == [jcobs.Message(b"\x01" * 5_000_000), jcobs.Message(b"next")]
+
+
+class Interruption(Exception):
+    pass
+
+
+class Alarms:
+    """Signals, each of which raises an exception, while a part of a test is at work."""
+
+    def __init__(self):
+        self.before = signal.signal(signal.SIGALRM, self.interrupt)
+        self.at_work = False
+
+    def interrupt(self, number, frame):
+        if self.at_work:
+            self.at_work = False
+            raise Interruption
+
+    def interrupts(self, seconds, work):
+        """Runs the work, and returns whether a signal after so many seconds interrupted it."""
+        signal.setitimer(signal.ITIMER_REAL, seconds, seconds)  # again, if the first one comes before the work begins
+        try:
+            self.at_work = True
+            work()
+            self.at_work = False
+        except Interruption:
+            return True
+        finally:
+            signal.setitimer(signal.ITIMER_REAL, 0)
+        return False
+
+
+@pytest.fixture
+def alarms(limit):
+    made = Alarms()
+    yield made
+    signal.setitimer(signal.ITIMER_REAL, 0)
+    signal.signal(signal.SIGALRM, made.before)
+
+
+@pytest.mark.skipif(not hasattr(signal, "setitimer"), reason="there is no setitimer")
+@pytest.mark.skipif(
+    sys.implementation.name == "pypy",
+    reason="PyPy runs signal handlers between any two steps, also in the clause that ends a use: README.md says so",
+)
+@pytest.mark.parametrize("kind", KINDS)
+def test_an_exception_of_a_signal_handler_makes_no_other_message(kind, alarms):
+    """No message is lost. If the code that reads or decodes is Python, one may be reported as `Broken`."""
+    found, interrupted = [], 0
+    in_python = "as a file" in kind or jcobs.backend == "python" or sys.version_info < (3, 11)
+    with ends(kind) as (here, end):
+        reader = jcobs.FrameReader(here)
+        sender = sent(end)
+        while alarms.interrupts(0.00003 * 1.05**interrupted, lambda: found.extend(reader)):
+            interrupted += 1
+        sender.join()
+    assert interrupted > 5
+    at = 0
+    for outcome in found:
+        if isinstance(outcome, jcobs.Message):
+            at = MESSAGES.index(outcome.data, at) + 1
+        else:
+            assert in_python and outcome == jcobs.Broken(b"")
+    if not in_python:
+        assert [outcome.data for outcome in found] == MESSAGES
+
+
+@pytest.mark.parametrize("cut", range(20))
+def test_a_chunk_that_is_not_decoded_for_want_of_memory_is_decoded_later(cut):
+    stream = b"\x03hi\0\x04a\x03b\0\0\x01\x01\x01\0\x02c\0"[:19]
+    wanted = jcobs.Decoder().feed(stream)
+    here, there = socket.socketpair()
+    with jcobs.FrameReader(here) as reader, there:
+        there.sendall(stream[:cut])
+        found = []
+        while (one := reader.read(timeout=0.001)) is not None:
+            found.append(one)
+        before, begun = len(found), reader.unfinished
+        own = reader._feed
+
+        def fail(chunk, classes):
+            own(chunk, classes)
+            reader._decoder.reset()
+            reader._feed = own
+            raise MemoryError
+
+        reader._feed = fail
+        there.sendall(stream[cut:] + b"\x02d\0")
+        with pytest.raises(MemoryError):
+            reader.read(timeout=60)
+        while (one := reader.read(timeout=0.001)) is not None:
+            found.append(one)
+    lost = [jcobs.Broken(b"")] if begun else []
+    assert found == wanted[:before] + lost + wanted[before + begun :] + [jcobs.Message(b"d")]
+
+
+def test_bytes_that_a_port_loses_make_no_other_message(pair, monkeypatch):
+    """pyserial's read is Python code: an exception of a signal handler drops what was read."""
+    port, end = pair
+    reader = jcobs.FrameReader(port)
+    own, lose = type(port).read, []
+
+    def read(self, size):
+        data = own(self, size)
+        if lose:
+            raise lose.pop()
+        return data
+
+    monkeypatch.setattr(type(port), "read", read)
+    end.write(b"\x03hi\0\x040:\0"[:6])
+    assert reader.read(timeout=60) == jcobs.Message(b"hi")
+    while not reader.unfinished:
+        assert reader.read(timeout=0.01) is None
+    lose.append(Interruption())
+    end.write(b"\0\x03zz\0\x02")  # which ends a frame, and begins another one
+    with pytest.raises(Interruption):
+        reader.read(timeout=60)
+    assert reader.unfinished
+    end.write(b"A\0\x03ok\0")
+    assert [reader.read(timeout=60), reader.read(timeout=60)] == [jcobs.Broken(b""), jcobs.Message(b"ok")]
+    lose.append(OSError("the device is gone"))
+    end.write(b"\x05a")
+    with pytest.raises(OSError, match="the device is gone"):
+        reader.read(timeout=60)
+    assert not reader.unfinished
+
+
+def test_a_reader_works_after_a_read_that_is_interrupted(alarms):
+    here, there = socket.socketpair()
+    with jcobs.FrameReader(here) as reader, there:
+        for _ in range(20):
+            assert alarms.interrupts(0.005, reader.read)
+        there.sendall(b"\x03hi\0")
+        assert reader.read(60) == jcobs.Message(b"hi")

@@ -1,0 +1,50 @@
+// Bytes as od prints them other than in hex: in columns, each byte as an octal number (-b), a decimal one (-t u1, -t d1) or a
+// character (-c), after an offset; and as gdb's x prints decimal ones.
+import { unrolled } from "./dumps.js";
+import { choice } from "./readings.js";
+
+const ESCAPES = { 0: 0, a: 7, b: 8, f: 12, n: 10, r: 13, t: 9, v: 11 };
+const octal = (cell) => parseInt(cell, 8);
+const character = (cell) => (/\d{3}/.test(cell) ? octal(cell) : cell[2] === "\\" ? ESCAPES[cell[3]] : cell.charCodeAt(3));
+
+/** What a column can hold, and its byte. */
+const COLUMNS = [
+  { as: "octal numbers of od", cell: / [0-3][0-7]{2}/g, width: 4, byteOf: octal },
+  { as: "decimal numbers of od", cell: / (?: {2}\d| [1-9]\d|1\d\d|2[0-4]\d|25[0-5])/g, width: 4, byteOf: Number },
+  { as: "numbers with a sign of od", cell: / (?: {3}\d| {2}[1-9]\d| 1[01]\d| 12[0-7]| {2}-[1-9]| -[1-9]\d|-1[01]\d|-12[0-8])/g, width: 5, byteOf: (cell) => Number(cell) & 255 },
+  { as: "characters of od", cell: / (?: {2}[ -~]| \\[0abfnrtv]|[0-3][0-7]{2})/g, width: 4, byteOf: character },
+];
+
+const GDB = /^0x([0-9a-f]+)(?:[ \t]*<[^>]*>)?:((?:\t(?:0|-?[1-9]\d{0,2}))+)$/i;
+
+/** Returns the bytes of lines that begin with an offset of od, seven digits, or an address of gdb; undefined if the text is none. */
+export function parseColumns(text, wanted) {
+  const lines = text.split("\n").filter((line) => line.trim() !== "");
+  if (lines.length > 0 && lines.every((line) => GDB.test(line))) return parseGdb(lines);
+  if (lines.length === 0 || !/^\d{7} /.test(lines[0]) || !lines.every((line) => line === "*" || /^\d{7,}( |$)/.test(line))) return undefined;
+  const readings = COLUMNS.flatMap((column) => readingsOf(lines, column));
+  return readings.length > 0 ? choice(readings, wanted) : undefined;
+}
+
+/** The bytes of the lines if all of their columns are of a kind, and the offsets fit, be they octal or decimal. */
+function readingsOf(lines, { as, cell, width, byteOf }) {
+  const rows = [];
+  for (const line of lines) {
+    const digits = line.match(/^\d*/)[0];
+    const columns = line.slice(digits.length);
+    const padded = columns.padEnd(Math.ceil(columns.length / width) * width); // a space at its end may have got lost
+    const groups = padded.match(cell) ?? [];
+    if (line !== "*" && groups.join("") !== padded) return [];
+    rows.push(line === "*" ? { isStar: true } : { digits, groups });
+  }
+  const bytes = [8, 10].map((base) => unrolled(rows, base, (groups) => groups.map(byteOf))).find((found) => found?.length > 0);
+  return bytes ? [{ bytes: Uint8Array.from(bytes), as }] : [];
+}
+
+function parseGdb(lines) {
+  const rows = lines.map((line) => line.match(GDB)).map(([, digits, columns]) => ({ digits, groups: columns.trim().split("\t") }));
+  const large = rows.flatMap(({ groups }) => groups).find((number) => Number(number) < -128 || Number(number) > 255);
+  if (large) return { error: `“${large}” is no byte: print each byte by itself, as by x/8xb.` };
+  const bytes = unrolled(rows, 16, (groups) => groups.map((number) => Number(number) & 255));
+  return bytes ? { bytes: Uint8Array.from(bytes), as: "decimal numbers of gdb" } : { error: "The addresses don't fit the bytes: bytes are missing, or there are too many." };
+}

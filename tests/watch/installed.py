@@ -1,0 +1,146 @@
+#!/usr/bin/env python3
+"""Installs the programs into a folder, and tries their manuals there and the completions for bash and zsh.
+
+    installed.py WATCH        WATCH is the built program, whose help the completions are compared with.
+
+A shell or `man` that isn't there is skipped by name.
+"""
+
+import fcntl
+import os
+import platform
+import pty
+import re
+import select
+import shutil
+import subprocess
+import sys
+import tempfile
+import termios
+import time
+from pathlib import Path
+
+WATCH = sys.argv[1]
+PROGRAMS = Path(__file__).resolve().parent.parent.parent / "bindings/programs"
+failed = []
+
+
+def part(check):
+    """Runs a check, and says how it ended."""
+    name = check.__name__.replace("_", " ")
+    try:
+        check()
+        print(f"ok: {name}")
+    except (AssertionError, OSError, subprocess.SubprocessError) as error:
+        failed.append(name)
+        print(f"FAILED: {name}: {error!r}")
+
+
+def make(target, room, **variables):
+    words = ["make", "-C", str(PROGRAMS), target, *(f"{name}={value}" for name, value in variables.items())]
+    return subprocess.run(words, cwd=room, capture_output=True, text=True, check=False)
+
+
+def help_options(words):
+    """The options that help names."""
+    said = subprocess.run([WATCH, *words, "--help"], capture_output=True, text=True, check=True).stdout
+    return set(re.findall(r"^ +(?:-\w, )?(--[\w-]+)", said, re.MULTILINE))
+
+
+@part
+def all_files_are_installed_and_removed():
+    with tempfile.TemporaryDirectory() as room:
+        done = make("install", room, DESTDIR=room, PREFIX="/usr")
+        assert done.returncode == 0, done.stderr
+        found = {str(path.relative_to(room)) for path in Path(room).rglob("*") if path.is_file()}
+        wanted = set()
+        for program in ("cobs_tool", "cobs_watch"):
+            wanted |= {f"usr/bin/{program}", f"usr/share/man/man1/{program}.1"}
+            wanted |= {f"usr/share/bash-completion/completions/{program}", f"usr/share/zsh/site-functions/_{program}"}
+        assert found == wanted, found ^ wanted
+        frame = subprocess.run([f"{room}/usr/bin/cobs_tool"], input=b"hi", stdout=subprocess.PIPE, check=True).stdout
+        assert frame == b"03 68 69 00\n", frame
+        assert make("uninstall", room, DESTDIR=room, PREFIX="/usr").returncode == 0
+        assert not [path for path in Path(room).rglob("*") if path.is_file()]
+
+
+@part
+def another_processor_is_named():
+    with tempfile.TemporaryDirectory() as room:
+        done = make("install", room, DESTDIR=room, BUILT="none-linux")
+        assert done.returncode != 0 and "no program is built for none-linux" in done.stderr, done
+        assert not list(Path(room).iterdir())
+
+
+@part
+def the_manuals_are_found():
+    if not shutil.which("man"):
+        print("skipped: man isn't there")
+        return
+    with tempfile.TemporaryDirectory() as room:
+        make("install", room, PREFIX=room)
+        for program in ("cobs_tool", "cobs_watch"):
+            env = {**os.environ, "MANPATH": f"{room}/share/man", "MANPAGER": "cat", "LC_ALL": "C"}
+            done = subprocess.run(["man", program], env=env, capture_output=True, text=True, check=False)
+            assert done.returncode == 0 and program in done.stdout, done
+
+
+@part
+def completions_have_the_options_of_the_help():
+    bash = (PROGRAMS / "completions/cobs_watch.bash").read_text(encoding="ascii")
+    for name, words in (("show", ["show"]), ("send", ["send"])):
+        found = set(re.search(rf"local {name}='([^']*)'", bash)[1].split())
+        assert found == help_options(words), found ^ help_options(words)
+    zsh = (PROGRAMS / "completions/_cobs_watch").read_text(encoding="ascii")
+    found = set(re.findall(r"(?<![\w-])(--[\w-]+)=?\[", zsh)) | set(re.findall(r",(--[\w-]+)=?\}", zsh))
+    assert found == help_options([]) | help_options(["send"]), found ^ (help_options([]) | help_options(["send"]))
+
+
+def completed(words, first, typed):
+    """What a shell shows after a tab behind what was typed."""
+    master, slave = pty.openpty()
+    take = lambda: fcntl.ioctl(0, termios.TIOCSCTTY, 0)
+    env = {**os.environ, "TERM": "vt100", "PS1": "$ "}
+    said = b""
+    with subprocess.Popen(words, env=env, stdin=slave, stdout=slave, stderr=slave, start_new_session=True, preexec_fn=take) as shell:
+        os.close(slave)
+        os.write(master, first.encode() + b"; echo rea''dy\n")
+        end = time.monotonic() + 30
+        while b"ready" not in said.replace(b"echo rea''dy", b"") and time.monotonic() < end:
+            if select.select([master], [], [], 1)[0]:
+                said += os.read(master, 4096)
+        os.write(master, typed.encode() + b"\t")
+        said, end = b"", time.monotonic() + 5
+        while time.monotonic() < end and select.select([master], [], [], 1)[0]:
+            said += os.read(master, 4096)
+        os.killpg(shell.pid, 9)
+    os.close(master)
+    return said
+
+
+@part
+def a_tab_completes_an_option():
+    folder = PROGRAMS / "completions"
+    shells = {
+        "bash": (["bash", "--norc", "--noprofile", "-i"], f". {folder}/cobs_watch.bash"),
+        "zsh": (["zsh", "-f", "-i"], f"fpath=({folder} $fpath); autoload -U compinit; compinit -u -D"),
+    }
+    for name, (words, first) in shells.items():
+        if not shutil.which(name):
+            print(f"skipped: {name} isn't there")
+            continue
+        for typed, rest in (
+            ("cobs_watch --skip", b"-first"),
+            ("cobs_watch --time sta", b"rt"),
+            ("cobs_watch show --crc crc-16-mo", b"dbus"),
+            ("cobs_watch send --se", b"ntinel"),
+            ("cobs_watch -o too", b"-long"),
+        ):
+            said = completed(words, first, typed)
+            assert rest in said.replace(b"\x08", b""), (name, typed, said)
+
+
+if not (PROGRAMS / f"{platform.machine()}-linux").is_dir():
+    print(f"skipped: no program is built for {platform.machine()}")
+print(f"{len(failed)} failed")
+sys.exit(bool(failed))
