@@ -1,0 +1,158 @@
+/* Counts how often the calls of libjcobs.a search by memchr and copy a slice, by the length of the message.
+ *
+ * tests/search.sh links it with the shipped archive. memcpy and memmove are wrapped by the linker, which counts them;
+ * a debugger counts the searches, since memchr is a local function of the archive: it stops there and adds 1 to `searches`.
+ * Copies that the compiler writes as instructions aren't counted, so a slice is a call.
+ */
+#include <stdio.h>
+#include <stdlib.h>
+#include <string.h>
+
+#include "jcobs.h"
+
+enum { LONGEST = 70000 };
+
+volatile unsigned searches;
+static unsigned copies, moves;
+static size_t copied;
+static int failed;
+
+void *__real_memcpy(void *dest, const void *source, size_t size);
+void *__real_memmove(void *dest, const void *source, size_t size);
+
+void *__wrap_memcpy(void *dest, const void *source, size_t size) {
+    copies++;
+    copied += size;
+    return __real_memcpy(dest, source, size);
+}
+
+void *__wrap_memmove(void *dest, const void *source, size_t size) {
+    moves++;
+    copied += size;
+    return __real_memmove(dest, source, size);
+}
+
+static unsigned char message[LONGEST], frame[LONGEST], room[LONGEST];
+
+static void start(void) {
+    searches = 0;
+    copies = moves = 0;
+    copied = 0;
+}
+
+/* Prints a row, and fails if there are fewer searches or slices than this. */
+static void row(const char *call, const char *data, size_t size, unsigned least_searches, unsigned least_slices) {
+    unsigned slices = copies + moves;
+    int short_of = searches < least_searches || slices < least_slices;
+    printf("%s  %-24s %-12s %6zu bytes: %4u searches, %4u slices of %6zu bytes\n", short_of ? "FAILED" : "ok", call,
+           data, size, (unsigned)searches, slices, copied);
+    failed |= short_of;
+}
+
+static void fail(const char *what, size_t size) {
+    printf("FAILED: %s of %zu bytes returns something else\n", what, size);
+    failed = 1;
+}
+
+/* Each way to decode a message of this size: one search a call, and a slice, from 66 bytes on. In place the bytes are moved by
+   instructions that the compiler writes for `copy_within`, so only the search is counted. */
+static void decode_all(const char *data, size_t size) {
+    jcobs_answer encoded = jcobs_encode(message, size, frame, sizeof frame);
+    size_t len = encoded.length;
+    frame[len] = 0;
+    unsigned least = size >= 66 ? 1 : 0;
+
+    start();
+    jcobs_answer whole = jcobs_decode(frame, len + 1, room, sizeof room);
+    row("decode", data, size, least, least);
+    if (whole.status != JCOBS_OK || whole.length != size || memcmp(room, message, size) != 0) {
+        fail("decode", size);
+    }
+
+    jcobs_decoder decoder = JCOBS_DECODER_INIT;
+    start();
+    jcobs_answer pushed = jcobs_decoder_push(&decoder, room, sizeof room, frame, len + 1);
+    row("push, whole", data, size, least, least);
+    if (pushed.status != JCOBS_OK || pushed.length != size || memcmp(room, message, size) != 0) {
+        fail("push", size);
+    }
+
+    jcobs_decoder_reset(&decoder);
+    start();
+    for (size_t at = 0; at < len + 1; at += 64) {
+        size_t piece = len + 1 - at < 64 ? len + 1 - at : 64;
+        pushed = jcobs_decoder_push(&decoder, room, sizeof room, frame + at, piece);
+    }
+    unsigned full = (unsigned)(len / 64);
+    row("push, 64 bytes a call", data, size, least ? full : 0, least);
+    if (pushed.status != JCOBS_OK || pushed.length != size || memcmp(room, message, size) != 0) {
+        fail("push of 64", size);
+    }
+
+    memcpy(room, frame, len + 1);
+    start();
+    jcobs_answer placed = jcobs_decode_in_place(room, len + 1);
+    row("decode_in_place", data, size, least, 0);
+    if (placed.status != JCOBS_OK || placed.length != size || memcmp(room, message, size) != 0) {
+        fail("decode_in_place", size);
+    }
+}
+
+/* Each way to encode the message: from the first full block on, runs are searched and copied as slices. */
+static void encode_all(const char *data, size_t size, unsigned least) {
+    start();
+    jcobs_answer encoded = jcobs_encode(message, size, frame, sizeof frame);
+    row("encode", data, size, least, least);
+    size_t len = encoded.length;
+    jcobs_encoder encoder = JCOBS_ENCODER_INIT;
+    start();
+    jcobs_answer pushed = jcobs_encoder_push(&encoder, room, sizeof room, message, size);
+    jcobs_answer finished = jcobs_encoder_finish(&encoder, room, sizeof room);
+    row("encoder_push, whole", data, size, least, least);
+    if (pushed.status != JCOBS_OK || finished.length != len || memcmp(room, frame, len) != 0) {
+        fail("encoder_push", size);
+    }
+}
+
+static void fill(const char *data, size_t size) {
+    unsigned seed = 12345;
+    for (size_t i = 0; i < size; i++) {
+        seed = seed * 1103515245u + 12345u;
+        unsigned char byte = (unsigned char)(seed >> 16);
+        if (strcmp(data, "ones") == 0) {
+            byte = 1;
+        } else if (strcmp(data, "a zero in 8") == 0) {
+            byte = i % 8 == 7 ? 0 : (unsigned char)(byte | 1);
+        } else if (strcmp(data, "runs of 300") == 0) {
+            byte = i % 301 == 300 ? 0 : 1;
+        } else if (strcmp(data, "runs of 600") == 0) {
+            byte = i % 601 == 600 ? 0 : 1;
+        } else if (strcmp(data, "1000, 0, 1000") == 0) {
+            byte = i == 1000 ? 0 : 1;
+        }
+        message[i] = byte;
+    }
+}
+
+int main(void) {
+    static const size_t sizes[] = {20, 66, 80, 254, 300, 600, 1000, 2001, 7900, 10000, 65536};
+    static const char *const kinds[] = {"ones", "random", "a zero in 8"};
+    for (size_t k = 0; k < sizeof kinds / sizeof *kinds; k++) {
+        for (size_t i = 0; i < sizeof sizes / sizeof *sizes; i++) {
+            fill(kinds[k], sizes[i]);
+            decode_all(kinds[k], sizes[i]);
+        }
+    }
+    fill("ones", 300);
+    encode_all("a run of 300", 300, 1);
+    fill("ones", 600);
+    encode_all("a run of 600", 600, 1);
+    fill("runs of 300", 3010);
+    encode_all("runs of 300", 3010, 10);
+    fill("runs of 600", 6010);
+    encode_all("runs of 600", 6010, 10);
+    fill("1000, 0, 1000", 2001);
+    encode_all("1000, 0, 1000", 2001, 2);
+    decode_all("1000, 0, 1000", 2001);
+    return failed;
+}
