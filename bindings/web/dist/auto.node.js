@@ -1,4 +1,3 @@
 // Written by pack.mjs.
-import { load } from "./node.js";
-export * from "./node.js";
-await load();
+import jcobs from "./auto.cjs";
+export const { CobsError, FrameDecoder, FrameDecoderStream, FrameEncoder, FrameEncoderStream, decode, encode, encodeInto, frameKind, frames, isSupported, load, loadSync, maxEncodedLength } = jcobs;

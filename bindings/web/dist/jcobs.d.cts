@@ -72,11 +72,19 @@ export class CobsError extends Error {
 export function isSupported(): boolean;
 
 /**
- * Loads the module. Every other call needs it. Without an argument it is the file cobs.wasm beside this one.
+ * Loads the module. Every other call needs it. Without an argument it is the module that comes with this file.
  * Once it is loaded, or is being loaded, a further call changes nothing and returns the same promise.
  * @throws CobsError "unsupported"; or what went wrong with the source, after which `load` can be called again
  */
 export function load(source?: Source): Promise<void>;
+
+/**
+ * Loads the module before it returns, for a program that can't wait for a promise. Without an argument it is the module that
+ * comes with this file. Once it is loaded, a further call changes nothing. On a page, outside of a worker, Chrome allows this
+ * from version 115 on.
+ * @throws CobsError "unsupported"; or what is wrong with the source
+ */
+export function loadSync(source?: Bytes | WebAssembly.Module): void;
 
 /** The length of the longest frame of a message of this many bytes, without sentinels. */
 export function maxEncodedLength(length: number): number;

@@ -1,0 +1,4 @@
+// Written by pack.mjs.
+const jcobs = require("./jcobs.cjs");
+jcobs.loadSync();
+module.exports = jcobs;

@@ -1,0 +1,73 @@
+// Written by pack.mjs from serialport.js; edit that.
+// COBS as Node's own streams, as the package serialport pipes them:
+//
+//     port.pipe(new FrameDecoderTransform({ skipFirst: true })).on("data", ({ message }) => ..);
+const { Transform } = require("node:stream");
+const { FrameDecoder, encode, load } = require("./jcobs.cjs");
+
+/** Bytes in, outcomes out: `{message}`, `{broken: n}` or `{tooLong: true}` for each piece that a sentinel ends. */
+class FrameDecoderTransform extends Transform {
+  #options;
+  #decoder;
+
+  constructor(options) {
+    super({ readableObjectMode: true });
+    this.#options = options;
+  }
+
+  _construct(done) {
+    load().then(() => {
+      this.#decoder = new FrameDecoder(this.#options);
+      done();
+    }).catch(done);
+  }
+
+  _transform(chunk, encoding, done) {
+    try {
+      this.#decoder.push(chunk, (outcome) => this.push(outcome));
+      done();
+    } catch (error) {
+      done(error);
+    }
+  }
+
+  _destroy(error, done) {
+    this.#decoder?.close();
+    done(error);
+  }
+
+  /** Whether a frame has begun that no sentinel has ended yet. */
+  get unfinished() {
+    return this.#decoder?.unfinished ?? false;
+  }
+
+  /** How many bytes `skipFirst` has left out, the first sentinel among them. */
+  get skipped() {
+    return this.#decoder?.skipped ?? 0;
+  }
+}
+
+/** Messages in, their frames out, each with a sentinel after it. */
+class FrameEncoderTransform extends Transform {
+  #options;
+
+  constructor({ sentinel = 0, ...others } = {}) {
+    super({ writableObjectMode: true });
+    for (const name of Object.keys(others)) throw new TypeError(`there is no option “${name}” here, but sentinel`);
+    this.#options = { sentinel, terminated: true };
+  }
+
+  _construct(done) {
+    load().then(() => done(), done);
+  }
+
+  _transform(message, encoding, done) {
+    try {
+      done(null, encode(message, this.#options));
+    } catch (error) {
+      done(error);
+    }
+  }
+}
+
+module.exports = { FrameDecoderTransform, FrameEncoderTransform };
