@@ -94,10 +94,10 @@ def test_readme_commands(shell, tmp_path):
     python.write_text(f'#!/bin/sh\nexec "{sys.executable}" "$@"\n')
     python.chmod(0o755)
     blocks = readme_blocks("sh")
-    assert not re.search(r"^\$ |#", "".join(blocks), re.M) and len(blocks) == 2
+    assert not re.search(r"^\$ |#", "".join(blocks), re.M) and len(blocks) == 1
     path = os.pathsep.join([str(tmp_path), os.environ["PATH"]])
     words = [shell, "-f"] if shell == "zsh" else [shell]
     result = subprocess.run(
-        words, input=blocks[1], stdout=subprocess.PIPE, text=True, env={**os.environ, "PATH": path}, timeout=250
+        words, input=blocks[0], stdout=subprocess.PIPE, text=True, env={**os.environ, "PATH": path}, timeout=250
     )
     assert result.stdout == readme_blocks("text")[0]

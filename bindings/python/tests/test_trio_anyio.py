@@ -181,8 +181,9 @@ def test_a_write_that_is_cancelled_makes_no_other_message(over):
 def test_a_second_write_is_refused(over):
     async def test(reader, device):
         async with anyio.create_task_group() as group:
-            group.start_soon(reader.write, b"\x01" * 8_000_000)
-            await anyio.sleep(0.05)
+            group.start_soon(reader.write, b"\x01" * 40_000_000)  # more than the buffers of both ends
+            for _ in range(3):  # so that it has begun
+                await anyio.sleep(0)
             with pytest.raises(RuntimeError, match="^the writer is in use by another call$"):
                 await reader.write(b"small")
             group.cancel_scope.cancel()
