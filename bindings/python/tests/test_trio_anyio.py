@@ -158,9 +158,9 @@ def test_a_write_that_is_cancelled_makes_no_other_message(over):
     """The stream takes some of the frame. What is sent next is received, and nothing else."""
 
     async def test(reader, device):
-        device._decoder = jcobs.AsyncFrameReader(device._stream, 10_000_000)._decoder
+        device._decoder = jcobs.AsyncFrameReader(device._stream, 60_000_000)._decoder
         with anyio.move_on_after(0.05):
-            await reader.write((b"\x01" * 99 + b"\0") * 100_000)
+            await reader.write((b"\x01" * 99 + b"\0") * 600_000)
             pytest.fail("it took all of the frame")
 
         async def send():
